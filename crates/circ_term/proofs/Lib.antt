@@ -1,0 +1,3 @@
+pub mod Within
+pub mod Replaced
+pub mod Found

@@ -1,0 +1,26 @@
+use Rattle.std.proofs.Common.{◌≡◌, arith, sym, ap, ◌∙◌, length}
+use Rattle.circ_term.specs.Tree.{trees_of, args_of, trees_of-list_of}
+use Rattle.circ_term.specs.Substitution.{instances}
+use Rattle.circ_term.specs.Subst.{substitution_of}
+use Rattle.circ_term.specs.Laws.{instance-is_ground, length-instances}
+use Rattle.circ_term.proofs.Within.{depth_at}
+use Rattle.circ_term.proofs.bindings.Subst.+apply.Goals as goal
+
+pub apply-returns-then-is_ground : goal.apply-returns-then-is_ground
+apply-returns-then-is_ground t c =
+    rw (instance-is_ground (substitution_of c.args.self.now) c.args.term.now (sym c.is_ground.ensures ∙ c.if-is_ground.true))
+    (c.in_ok-share.ensures.same, c.in_ok-share.ensures.within)
+
+pub apply-app-requires : goal.apply-app-requires
+apply-app-requires t c =
+    let there = ap (λ u. length (args_of u)) c.in-Application.ensures.value in
+    omega (arith, ap length c.in-Ok.ensures.0, length-instances (substitution_of c.args.self.now) (trees_of c.in-Application.args.now), there, c.in-Application.ensures.few)
+
+pub apply-returns-in-Ok : goal.apply-returns-in-Ok
+apply-returns-in-Ok t c =
+    let all = instances (substitution_of c.args.self.now) (trees_of c.in-Application.args.now) in
+    let same : trees_of c.in-Ok.args.items ≡ all = ap trees_of c.in-Ok.ensures.0 ∙ trees_of-list_of all in
+    rw (← c.in-Application.ensures.value, ← same) c.app.ensures
+
+pub apply_all-apply-requires : goal.apply_all-apply-requires
+apply_all-apply-requires t c = (omega (arith, depth_at c.args.terms.now c.loop-term.term-index c.term-item.result (omega arith) c.term-item.is), tt)

@@ -1,0 +1,10 @@
+pub mod Tree
+pub mod Code
+pub mod Limits
+pub mod Substitution
+pub mod Nodes
+pub mod Falls
+pub mod Kind
+pub mod Subst
+pub mod Bindings
+pub mod Laws

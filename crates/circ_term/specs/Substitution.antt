@@ -1,0 +1,35 @@
+-- Substitutions: functions on variables, which act at all places at once. A variable that is given itself stays.
+use Rattle.std.specs.Prelude.{◌≡◌, ℕ, refl}
+use Rattle.std.proofs.Common.{ap, ◌∙◌}
+use Rattle.circ_term.specs.Tree.{Tree, Trees, Var, App, none, more, sort_of}
+
+-- from a variable's number and sort to the term in its place
+abbrev pub Substitution : Type 0
+Substitution = (number sort : ℕ) → Tree
+
+-- each variable is given a term of its sort
+abbrev pub KeepsSorts : Substitution → Type 0
+KeepsSorts σ = (number sort : ℕ) → sort_of (σ number sort) ≡ sort
+
+-- the instance of a term under a substitution
+abbrev mutual
+  pub instance : Substitution → Tree → Tree
+  instance σ (Var n s) = σ n s
+  instance σ (App f s ts) = App f s (instances σ ts)
+
+  pub instances : Substitution → Trees → Trees
+  instances σ none = none
+  instances σ (more t ts) = more (instance σ t) (instances σ ts)
+
+-- first σ, then τ
+abbrev pub after : Substitution → Substitution → Substitution
+after τ σ = λ n s. instance τ (σ n s)
+
+mutual
+  pub instance-instance : (τ σ : Substitution) (t : Tree) → instance τ (instance σ t) ≡ instance (after τ σ) t
+  instance-instance τ σ (Var n s) = refl
+  instance-instance τ σ (App f s ts) = ap (App f s) (instances-instances τ σ ts)
+
+  pub instances-instances : (τ σ : Substitution) (ts : Trees) → instances τ (instances σ ts) ≡ instances (after τ σ) ts
+  instances-instances τ σ none = refl
+  instances-instances τ σ (more t ts) = ap (λ x. more x (instances τ (instances σ ts))) (instance-instance τ σ t) ∙ ap (more (instance (after τ σ) t)) (instances-instances τ σ ts)

@@ -1,0 +1,339 @@
+//! A term: a variable, or an operator on terms, whose nodes are shared.
+ghost use Rattle.std.specs.Prelude.{◌≡◌, ◌≤◌, ◌<◌, ◌↔◌, IsTrue, length, slice_set, IfOk};
+ghost use Rattle.std.specs.List.{slice_get};
+ghost use Rattle.std.specs.Option.{option_copied};
+ghost use Rattle.circ_term.specs.Tree.{at, replaced, Var, App, trees_of, size_of, depth_of, sort_of, variable_number, operator_number, args_of, is_ground};
+ghost use Rattle.circ_term.specs.Kind.{tree_of_kind};
+ghost use Rattle.circ_term.specs.Limits.{Builds, BuildsSome, IsWithinLimits};
+
+use crate::fault::TermFault;
+use crate::{MOST_ARGS, MOST_DEPTH, MOST_NODES};
+use std::alloc::{AllocError, Global};
+use std::marker::Model;
+use std::rc::Rc;
+
+/// A variable, or an operator on terms. Two variables are the same where number and sort are equal.
+#[cycle(term)]
+#[derive(Drop)]
+pub struct Term {
+    shape: Shape,
+}
+
+#[cycle(term)]
+#[derive(Drop)]
+enum Shape {
+    Variable { number: u32, sort: u32 },
+    Application(Rc<Node>),
+}
+
+// An application, with its size, its depth and whether it has no variable, so that nothing is counted twice.
+#[cycle(term)]
+#[derive(Drop)]
+struct Node {
+    op: u32,
+    sort: u32,
+    size: u64,
+    depth: u64,
+    is_ground: bool,
+    args: Vec<Term>,
+}
+
+impl Model for Term {
+    ghost use Rattle.circ_term.specs.Tree.{Tree, depth_of};
+    ghost use Rattle.circ_term.specs.Code.{tree_code};
+
+    ghost Value = { Tree };
+
+    ghost coded = { tree_code };
+
+    ghost use Rattle.circ_term.specs.Nodes.{tree_of, HasKept};
+
+    ghost view = { λ a. tree_of a.shape };
+
+    ghost invariant = { λ a. HasKept a.shape };
+
+    ghost size = { depth_of };
+
+    ghost use Rattle.circ_term.specs.Falls.{deep_le-depth};
+
+    ghost size_decreases = { λ a h. deep_le-depth a.shape };
+}
+
+/// A term taken apart by one node.
+#[derive(Clone, Copy)]
+pub enum Kind<'a> {
+    /// A variable, by its number and its sort.
+    Variable {
+        number: u32,
+        sort: u32,
+    },
+    /// An operator's number, the sort of its result, and its arguments.
+    Application {
+        op: u32,
+        sort: u32,
+        args: &'a [Term],
+    },
+}
+
+impl Term {
+    /// The variable of this number and sort.
+    pub fn var(id: u32, sort: u32) -> Term
+        ensures { result ≡ Var id sort }
+    {
+        Term {
+            shape: Shape::Variable { number: id, sort },
+        }
+    }
+
+    /// The operator on these arguments, which are given up on a refusal. Costs as much as there are arguments.
+    pub fn app(alloc: Global, op: u32, sort: u32, args: Vec<Term>) -> Result<Term, TermFault>
+        requires { length args.items ≤ MOST_ARGS }
+        ensures { Builds result (App op sort (trees_of args.items)) }
+    {
+        let mut size: u64 = 1;
+        let mut depth: u64 = 0;
+        let mut is_ground = true;
+        for arg in &args {
+            size += arg.size();
+            depth = depth.max(arg.depth());
+            is_ground &= arg.is_ground();
+        }
+        let depth = depth + 1;
+        if size > MOST_NODES {
+            return Err(TermFault::TooBig { nodes: size });
+        }
+        if depth > MOST_DEPTH {
+            return Err(TermFault::TooDeep { depth });
+        }
+        let node = Node {
+            op,
+            sort,
+            size,
+            depth,
+            is_ground,
+            args,
+        };
+        let node = Rc::new(alloc, node).map_err(AllocError::from)?;
+        Ok(Term {
+            shape: Shape::Application(node),
+        })
+    }
+
+    /// The root of the term, to be matched on.
+    #[tactic(auto, using(crate::proofs::Within::rows))]
+    pub fn kind(&self) -> Kind<'_>
+        ensures value { tree_of_kind result ≡ self.now }
+        ensures few { length (args_of self.now) ≤ MOST_ARGS }
+    {
+        match &self.shape {
+            Shape::Variable { number, sort } => Kind::Variable {
+                number: *number,
+                sort: *sort,
+            },
+            Shape::Application(node) => Kind::Application {
+                op: node.op,
+                sort: node.sort,
+                args: node.args.as_slice(),
+            },
+        }
+    }
+
+    /// Does nothing. Its contract is the law that each term is within the limits.
+    pub fn known(&self)
+        ensures { IsWithinLimits self.now }
+    {
+        let _ = &self.shape;
+    }
+
+    /// The sort of a variable, or of an operator's result.
+    pub fn sort(&self) -> u32
+        ensures { result ≡ sort_of self.now }
+    {
+        match &self.shape {
+            Shape::Variable { sort, .. } => *sort,
+            Shape::Application(node) => node.sort,
+        }
+    }
+
+    /// The number of nodes, counted as a tree.
+    pub fn size(&self) -> u64
+        ensures exact { result ≡ size_of self.now }
+        ensures small { result ≤ MOST_NODES }
+    {
+        match &self.shape {
+            Shape::Variable { .. } => 1,
+            Shape::Application(node) => node.size,
+        }
+    }
+
+    /// The depth: 1 for a variable and for a constant.
+    pub fn depth(&self) -> u64
+        ensures exact { result ≡ depth_of self.now }
+        ensures shallow { result ≤ MOST_DEPTH }
+    {
+        match &self.shape {
+            Shape::Variable { .. } => 1,
+            Shape::Application(node) => node.depth,
+        }
+    }
+
+    /// Whether the term has no variable.
+    pub fn is_ground(&self) -> bool
+        ensures { result ≡ is_ground self.now }
+    {
+        match &self.shape {
+            Shape::Variable { .. } => false,
+            Shape::Application(node) => node.is_ground,
+        }
+    }
+
+    /// A variable's number.
+    pub fn var_number(&self) -> Option<u32>
+        ensures { result ≡ variable_number self.now }
+    {
+        match &self.shape {
+            Shape::Variable { number, .. } => Some(*number),
+            Shape::Application(_) => None,
+        }
+    }
+
+    /// An application's operator.
+    pub fn op_number(&self) -> Option<u32>
+        ensures { result ≡ operator_number self.now }
+    {
+        match &self.shape {
+            Shape::Variable { .. } => None,
+            Shape::Application(node) => Some(node.op),
+        }
+    }
+
+    /// The arguments. A variable has none.
+    #[tactic(auto, using(crate::proofs::Within::rows))]
+    pub fn args(&self) -> &[Term]
+        ensures value { result.now ≡ args_of self.now }
+        ensures few { length result.now ≤ MOST_ARGS }
+    {
+        match &self.shape {
+            Shape::Variable { .. } => &[],
+            Shape::Application(node) => node.args.as_slice(),
+        }
+    }
+
+    /// The argument at a place, from 0.
+    pub fn arg(&self, place: usize) -> Option<&Term>
+        ensures { option_copied result ≡ slice_get (args_of self.now) place }
+    {
+        self.args().get(place)
+    }
+
+    /// The same term once more. Its nodes are shared, and none is copied.
+    pub fn share(&self) -> Result<Term, AllocError>
+        ensures same { IfOk result (λ t. t ≡ self.now) }
+        ensures within { IsWithinLimits self.now }
+    {
+        match &self.shape {
+            Shape::Variable { number, sort } => Ok(Term::var(*number, *sort)),
+            Shape::Application(node) => Ok(Term {
+                shape: Shape::Application(node.clone()?),
+            }),
+        }
+    }
+
+    /// The subterm at a path.
+    #[tactic(auto, using(crate::proofs::Within::rows))]
+    pub fn at(&self, path: &[u16]) -> Option<&Term>
+        ensures { option_copied result ≡ at self.now path.now }
+    {
+        let mut here = self;
+        for place in path {
+            match here.arg(*place as usize) {
+                Some(arg) => here = arg,
+                None => return None,
+            }
+        }
+        Some(here)
+    }
+
+    /// Whether both are the same tree.
+    #[tactic(auto, using(crate::proofs::Within::rows))]
+    #[cycle(same)]
+    pub fn same(&self, other: &Term) -> bool
+        ensures { IsTrue result ↔ (self.now ≡ other.now) }
+    {
+        match (&self.shape, &other.shape) {
+            (
+                Shape::Variable { number, sort },
+                Shape::Variable {
+                    number: other_number,
+                    sort: other_sort,
+                },
+            ) => *number == *other_number && *sort == *other_sort,
+            (Shape::Application(a), Shape::Application(b)) => {
+                if a.op != b.op || a.sort != b.sort || a.size != b.size || a.depth != b.depth {
+                    return false;
+                }
+                same_all(a.args.as_slice(), b.args.as_slice())
+            }
+            _ => false,
+        }
+    }
+
+    /// The term with `new` at the path in place of the subterm there. The term itself stays as it is. Only the nodes on
+    /// the path are made anew.
+    #[tactic(auto, using(crate::proofs::Within::rows))]
+    pub fn replace(
+        &self,
+        alloc: Global,
+        path: &[u16],
+        new: &Term,
+    ) -> Result<Option<Term>, TermFault>
+        ensures { BuildsSome result (replaced self.now path.now new.now) }
+    {
+        let Some((place, rest)) = path.split_first() else {
+            return Ok(Some(new.share()?));
+        };
+        let place = *place as usize;
+        let Shape::Application(node) = &self.shape else {
+            return Ok(None);
+        };
+        let Some(arg) = self.arg(place) else {
+            return Ok(None);
+        };
+        match arg.replace(alloc, rest, new) {
+            Err(fault) => Err(fault),
+            Ok(None) => Ok(None),
+            Ok(Some(arg)) => {
+                let args = with_arg(alloc, self.args(), place, arg)?;
+                let term = Term::app(alloc, node.op, node.sort, args)?;
+                Ok(Some(term))
+            }
+        }
+    }
+}
+
+fn with_arg(alloc: Global, args: &[Term], place: usize, arg: Term) -> Result<Vec<Term>, AllocError>
+    requires { place < length args.now }
+    ensures { IfOk result (λ v. v.items ≡ slice_set args.now place arg) }
+{
+    let mut copy = Vec::with_capacity(alloc, args.len())?;
+    for old in args {
+        copy.push(old.share()?)?;
+    }
+    copy[place] = arg;
+    Ok(copy)
+}
+
+#[cycle(same)]
+fn same_all(a: &[Term], b: &[Term]) -> bool
+    ensures { IsTrue result ↔ (a.now ≡ b.now) }
+{
+    if a.len() != b.len() {
+        return false;
+    }
+    for i in 0..a.len() {
+        if !a[i].same(&b[i]) {
+            return false;
+        }
+    }
+    true
+}
