@@ -1,0 +1,54 @@
+//! The program `circ` over real files and standard output.
+#![tactic(auto)]
+
+use circ_outer::{HostShelf, HostSink};
+use circ_top::{Status, circ};
+use std::env;
+use std::io::ErrorKind;
+use std::process::ExitCode;
+
+/// The number with which the program ends where the system does not give its words.
+const NO_WORDS: u8 = 14;
+
+/// Says on standard error what no text on standard output can say.
+fn complain(rt: &impl Eprint, status: &Status) {
+    let _ = match status {
+        Status::ReadFault { .. } => eprintln!(rt; "circ: read fault"),
+        Status::WriteFault { .. } => eprintln!(rt; "circ: write fault"),
+        Status::Memory => eprintln!(rt; "circ: out of memory"),
+        _ => Ok(()),
+    };
+}
+
+/// The words of the command line, or the number with which the program ends.
+fn words(rt: &HostRuntime) -> Result<Vec<String>, u8> {
+    match env::args(rt) {
+        Ok(args) => args.collect(rt.alloc()).map_err(|_| out_of_memory(rt)),
+        Err(error) if error.kind() == ErrorKind::OutOfMemory => Err(out_of_memory(rt)),
+        Err(_) => {
+            let _ = eprintln!(rt; "circ: no words");
+            Err(NO_WORDS)
+        }
+    }
+}
+
+fn out_of_memory(rt: &HostRuntime) -> u8 {
+    complain(rt, &Status::Memory);
+    Status::Memory.number()
+}
+
+fn run(rt: &HostRuntime) -> u8 {
+    let words = match words(rt) {
+        Ok(words) => words,
+        Err(number) => return number,
+    };
+    let mut shelf = HostShelf::new(*rt);
+    let mut sink = HostSink::new(*rt);
+    let status = circ(rt.alloc(), &words, &mut shelf, &mut sink);
+    complain(rt, &status);
+    status.number()
+}
+
+fn main(rt: HostRuntime) -> ExitCode {
+    ExitCode::from(run(&rt))
+}

@@ -1,0 +1,124 @@
+-- Theories with one part more are well-formed.
+use Rattle.std.proofs.Common.{◌≡◌, ◌<◌, ◌+◌, ℕ, List, [], ◌∷◌, ◌++◌, length, Some, ◌⊎◌, inl, inr, refl, subst, arith}
+use Rattle.std.specs.List.{slice_get, Contains}
+use Rattle.std.proofs.lemmas.List.Elements.{Contains-push_cases}
+use Rattle.circ_term.specs.Tree.{Tree, Trees, Var, App, none, more}
+use Rattle.circ_theory.specs.declared.parts.Equation.{Equation}
+use Rattle.circ_theory.specs.declared.TheConstants.{MOST_SORTS, MOST_OPS, MOST_EQUATIONS}
+use Rattle.circ_theory.specs.Signature.{Signature, Operator, IsSort, IsWellSorted, HaveSorts}
+use Rattle.circ_theory.specs.Theory.{Theory, Derivative, CaseList, IsWellSortedPair, pair_of}
+use Rattle.circ_theory.specs.Variables.{IsInOrder}
+use Rattle.circ_theory.specs.Operators.{IsOperator}
+use Rattle.circ_theory.specs.WellFormed.{IsDerivative, IsCaseList, IsWellFormed}
+use Rattle.circ_theory.specs.Adding.{with_sort, with_op, with_equation}
+use Rattle.circ_theory.proofs.Lists.{slice_get-front}
+
+-- what is a sort or an operator of a signature is one of the other
+pub record Extends (a b : Signature) : Type 0 where
+  pub sorts : (s : ℕ) → IsSort a s → IsSort b s
+  pub ops : (f : ℕ) (o : Operator) → slice_get a.ops f ≡ Some o → slice_get b.ops f ≡ Some o
+
+mutual
+  stays_sorted : (a b : Signature) → Extends a b → (t : Tree) → IsWellSorted a t → IsWellSorted b t
+  stays_sorted a b e (Var n s) h = e.sorts s h
+  stays_sorted a b e (App f s ts) h = (h.0, e.ops f h.0 h.1, h.2, keep_sorts a b e ts h.0.args h.3)
+
+  keep_sorts : (a b : Signature) → Extends a b → (ts : Trees) (ss : List ℕ) → HaveSorts a ts ss → HaveSorts b ts ss
+  keep_sorts a b e none [] h = h
+  keep_sorts a b e none (s ∷ ss) h = h
+  keep_sorts a b e (more t ts) [] h = h
+  keep_sorts a b e (more t ts) (s ∷ ss) h = (h.0, stays_sorted a b e t h.1, keep_sorts a b e ts ss h.2)
+
+pair_stays : (a b : Signature) → Extends a b → (e : Equation) → IsWellSortedPair a (pair_of e) → IsWellSortedPair b (pair_of e)
+pair_stays a b x e h = record { left = stays_sorted a b x e.left h.left; right = stays_sorted a b x e.right h.right; same_sort = h.same_sort }
+
+operator_stays : (a b : Signature) → Extends a b → (o : Operator) → IsOperator a o → IsOperator b o
+operator_stays a b x o h = record { is_form = h.is_form; args = λ s c. x.sorts s (h.args s c); result = x.sorts o.result h.result; few = h.few; fits = h.fits; marked = h.marked }
+
+derivative_stays : (a b : Signature) → Extends a b → (d : Derivative) → IsDerivative a d → IsDerivative b d
+derivative_stays a b x d h = record {
+  hole = x.sorts d.hole h.hole;
+  body = stays_sorted a b x d.body h.body;
+  parameters = h.parameters;
+  numbered = h.numbered;
+  once = h.once;
+  few = h.few;
+}
+
+case_list_stays : (th u : Theory) → Extends th.signature u.signature → u.derivatives ≡ th.derivatives → (l : CaseList) → IsCaseList th l → IsCaseList u l
+case_list_stays th u x e l h = record {
+  visible = λ i. h.visible (record { derivative = i.derivative; listed = (let P : List Derivative → Type 0 = λ ds. Contains ds i.derivative in subst P e i.listed); hole = i.hole });
+  some = h.some;
+  different = h.different;
+  constants = λ c k. let o = h.constants c k in (o.0, (x.ops c o.0 o.1.0, o.1.1, o.1.2));
+  few = h.few;
+}
+
+length-push : {X : Type 0} (xs : List X) (x : X) → length (xs ++ x ∷ []) ≡ length xs + 1
+length-push [] x = refl
+length-push (y ∷ xs) x = let e = length-push xs x in omega arith
+
+pub sort_grows : (th : Theory) (name : List ℕ) → IsWellFormed th → length th.signature.sorts < MOST_SORTS → IsWellFormed (with_sort th name)
+sort_grows th name h room =
+    let b : Signature = (with_sort th name).signature in
+    let l = length-push th.signature.sorts name in
+    let x : Extends th.signature b = record { sorts = λ s i. omega arith; ops = λ f o g. g } in
+    record {
+      equations = λ e c. pair_stays th.signature b x e (h.equations e c);
+      in_order = h.in_order;
+      operators = λ o c. operator_stays th.signature b x o (h.operators o c);
+      derivatives = λ d c. derivative_stays th.signature b x d (h.derivatives d c);
+      cases = λ m c. case_list_stays th (with_sort th name) x refl m (h.cases m c);
+      one_list = h.one_list;
+      few_sorts = omega arith;
+      few_ops = h.few_ops;
+      few_equations = h.few_equations;
+      few_derivatives = h.few_derivatives;
+    }
+
+pub op_grows : (th : Theory) (o : Operator) → IsWellFormed th → IsOperator th.signature o → length th.signature.ops < MOST_OPS → IsWellFormed (with_op th o)
+op_grows th o h new room =
+    let b : Signature = (with_op th o).signature in
+    let l = length-push th.signature.ops o in
+    let x : Extends th.signature b = record { sorts = λ s i. i; ops = λ f p g. slice_get-front th.signature.ops (o ∷ []) f p g } in
+    record {
+      equations = λ e c. pair_stays th.signature b x e (h.equations e c);
+      in_order = h.in_order;
+      operators = λ p c. either x p (Contains-push_cases th.signature.ops o p c);
+      derivatives = λ d c. derivative_stays th.signature b x d (h.derivatives d c);
+      cases = λ m c. case_list_stays th (with_op th o) x refl m (h.cases m c);
+      one_list = h.one_list;
+      few_sorts = h.few_sorts;
+      few_ops = omega arith;
+      few_equations = h.few_equations;
+      few_derivatives = h.few_derivatives;
+    }
+  where
+    either : Extends th.signature (with_op th o).signature → (p : Operator) → Contains th.signature.ops p ⊎ (o ≡ p) → IsOperator (with_op th o).signature p
+    either x p (inl c) = operator_stays th.signature (with_op th o).signature x p (h.operators p c)
+    either x p (inr e) = let P : Operator → Type 0 = IsOperator (with_op th o).signature in subst P e (operator_stays th.signature (with_op th o).signature x o new)
+
+pub equation_grows : (th : Theory) (e : Equation) → IsWellFormed th → IsWellSortedPair th.signature (pair_of e) → IsInOrder (pair_of e) → length th.equations < MOST_EQUATIONS
+    → IsWellFormed (with_equation th e)
+equation_grows th e h sorted order room =
+    let l = length-push th.equations e in
+    record {
+      equations = λ d c. either d (Contains-push_cases th.equations e d c);
+      in_order = λ d c. ordered d (Contains-push_cases th.equations e d c);
+      operators = h.operators;
+      derivatives = h.derivatives;
+      cases = λ m c. case_list_stays th (with_equation th e) (record { sorts = λ s i. i; ops = λ f p g. g }) refl m (h.cases m c);
+      one_list = h.one_list;
+      few_sorts = h.few_sorts;
+      few_ops = h.few_ops;
+      few_equations = omega arith;
+      few_derivatives = h.few_derivatives;
+    }
+  where
+    either : (d : Equation) → Contains th.equations d ⊎ (e ≡ d) → IsWellSortedPair th.signature (pair_of d)
+    either d (inl c) = h.equations d c
+    either d (inr q) = let P : Equation → Type 0 = λ x. IsWellSortedPair th.signature (pair_of x) in subst P q sorted
+
+    ordered : (d : Equation) → Contains th.equations d ⊎ (e ≡ d) → IsInOrder (pair_of d)
+    ordered d (inl c) = h.in_order d c
+    ordered d (inr q) = let P : Equation → Type 0 = λ x. IsInOrder (pair_of x) in subst P q order

@@ -1,0 +1,5 @@
+use Rattle.circ_theory.specs.Behaviour.{derivable_behaves}
+use Rattle.circ_theory.proofs.laws.derivable_pairs_behave.Goals as goal
+
+pub returns : goal.returns
+returns c = derivable_behaves

@@ -1,0 +1,15 @@
+use Rattle.std.proofs.Common.{◌≡◌, ◌+◌, ◌*◌, drop}
+use Rattle.circ_term.specs.Tree.{depth_of, depths_of, trees_of}
+use Rattle.circ_theory.specs.Variables.{seen_in_all}
+use Rattle.circ_theory.specs.Numbering.{numbered}
+use Rattle.circ_theory.proofs.order.+visit.Given as goal
+
+abbrev pub invariant-visit_all-loop-term : goal.invariant-visit_all-loop-term
+invariant-visit_all-loop-term l =
+    seen_in_all (trees_of (drop l.term-index l.terms)) (numbered 0 l.sorts.items) ≡ seen_in_all (trees_of l.terms) (numbered 0 l.initial.sorts.items)
+
+abbrev pub decreases-visit : goal.decreases-visit
+decreases-visit l = 2 * depth_of l.term.now
+
+abbrev pub decreases-visit_all : goal.decreases-visit_all
+decreases-visit_all l = 2 * depths_of (trees_of l.terms.now) + 1

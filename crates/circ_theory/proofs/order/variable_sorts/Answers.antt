@@ -1,0 +1,18 @@
+use Rattle.std.proofs.Common.{◌≡◌, [], map, sym, ap, ◌∙◌}
+use Rattle.std.specs.Bool.{⊤}
+use Rattle.std.proofs.lemmas.Bool.Decides.{when_true}
+use Rattle.circ_theory.specs.Variables.{seen_in}
+use Rattle.circ_theory.specs.Numbering.{numbered, sorts-numbered, seen_in_before}
+use Rattle.circ_theory.proofs.order.variable_sorts.Goals as goal
+
+pub returns : goal.returns
+returns c =
+    let l = c.args.left.now in
+    let r = c.args.right.now in
+    let answer = rw c.new-sorts.ensures.items at c.in_ok-visit.ensures.answer in
+    let seen = rw c.new-sorts.ensures.items at c.in_ok-visit.ensures.seen in
+    let first : numbered 0 c.visit.new.sorts.items ≡ seen_in l [] = when_true _ ⊤ (answer.1 (seen_in_before r (seen_in l []) c.requires)) seen in
+    let answer-2 = rw first at c.in_ok-visit-2.ensures.answer in
+    let seen-2 = rw first at c.in_ok-visit-2.ensures.seen in
+    let both : numbered 0 c.visit-2.new.sorts.items ≡ seen_in r (seen_in l []) = when_true _ ⊤ (answer-2.1 c.requires) seen-2 in
+    sym (sorts-numbered 0 c.visit-2.new.sorts.items) ∙ ap (map (λ v. v.sort)) both

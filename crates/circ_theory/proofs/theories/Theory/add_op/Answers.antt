@@ -1,0 +1,41 @@
+use Rattle.std.proofs.Common.{◌≡◌, List, ◌∷◌, ◌++◌, [], map, ap, sym, subst, ◌∙◌}
+use Rattle.std.specs.List.{AllByRecursion}
+use Rattle.circ_theory.specs.Signature.{Operator}
+use Rattle.circ_theory.specs.Theory.{Theory}
+use Rattle.circ_theory.specs.Operators.{operator_of}
+use Rattle.circ_theory.specs.WellFormed.{IsWellFormed}
+use Rattle.circ_theory.specs.Inside.{theory_of, IsEntry}
+use Rattle.circ_theory.proofs.Lists.{entry_last, map-push, all_push}
+use Rattle.circ_theory.proofs.Keys.{key_position}
+use Rattle.circ_theory.proofs.Growing.{op_grows}
+use Rattle.circ_theory.proofs.Faults.{IsNew, new_operator}
+use Rattle.circ_theory.proofs.theories.Theory.add_op.Goals as goal
+use Rattle.circ_theory.proofs.theories.Theory.add_op.Goals.{Joined-branch-3}
+
+is_new : (c : Joined-branch-3) → IsNew (theory_of c.self.inside) (operator_of c.args.decl)
+is_new c = new_operator (theory_of c.self.inside) (operator_of c.args.decl) c.in_ok-key.ensures.is_form (rw (← c.self.view_is) at (sym c.op_fault.ensures ∙ c.in_default.is))
+
+grown : (c : Joined-branch-3) → c.insert.new.self.entries ≡ c.self.inside.ops.entries ++ (c.in_ok-key.key, c.args.decl) ∷ []
+grown c =
+    c.in_ok-insert.ensures.entries
+    ∙ entry_last _ c.self.inside.ops.entries c.in_ok-key.key c.args.decl
+    (key_position c.in_ok-key.key (operator_of c.args.decl) c.self.inside.ops.entries c.in_ok-key.ensures c.self.invariant.entries ∙ (is_new c).number)
+
+ops_grown : (c : Joined-branch-3) → map (λ e. operator_of e.1) c.insert.new.self.entries ≡ (theory_of c.self.inside).signature.ops ++ operator_of c.args.decl ∷ []
+ops_grown c = ap (map (λ e. operator_of e.1)) (grown c) ∙ map-push (λ e. operator_of e.1) c.self.inside.ops.entries (c.in_ok-key.key, c.args.decl)
+
+pub invariant_of-self-2 : goal.invariant_of-self-2
+invariant_of-self-2 c =
+    let th : Theory = theory_of c.self.inside in
+    let new : IsNew th (operator_of c.args.decl) = is_new c in
+    let P : List Operator → Type 0 = λ os. IsWellFormed (record th { signature = record th.signature { ops = os } }) in
+    record {
+      well_formed = subst P (sym (ops_grown c)) (op_grows th (operator_of c.args.decl) c.self.invariant.well_formed new.operator new.room);
+      entries = subst (AllByRecursion IsEntry) (sym (grown c)) (all_push IsEntry c.self.inside.ops.entries (c.in_ok-key.key, c.args.decl) c.self.invariant.entries c.in_ok-key.ensures);
+      listed = c.self.invariant.listed;
+    }
+
+pub returns-clause-added : goal.returns-clause-added
+returns-clause-added c =
+    let th : Theory = theory_of c.self.inside in
+    rw (← c.self.view_is) (ap (λ os. record th { signature = record th.signature { ops = os } }) (ops_grown c))

@@ -1,0 +1,73 @@
+-- Adding a part to a theory: when it is refused, and what is there afterwards.
+use Rattle.std.specs.Prelude.{◌≡◌, ℕ, ◌+◌, List, [], ◌∷◌, ◌++◌, Bool, not, nat_eq, nat_lt, if◌then◌else◌, length, map, position, find, Option, Some, None, Result, Ok, Err}
+use Rattle.std.specs.List.{slice_get}
+use Rattle.std.specs.Option.{option_map, option_or, option_and_then}
+use Rattle.std.specs.Cmp.Lexicographic.{pointwise}
+use Rattle.circ_term.specs.Tree.{Tree, App, sort_of, trees_of}
+use Rattle.circ_theory.specs.declared.parts.Equation.{Equation}
+use Rattle.circ_theory.specs.declared.fault.TheoryFault.{TheoryFault}
+use Rattle.circ_theory.specs.declared.fault.TheoryFault.TheVariants.{Twice, UnknownSort, IllSorted, Limit, Memory}
+use Rattle.circ_theory.specs.declared.TheConstants.{MOST_SORTS, MOST_OPS, MOST_EQUATIONS, MOST_ARGS}
+use Rattle.circ_theory.specs.Signature.{Signature, Operator}
+use Rattle.circ_theory.specs.Theory.{Theory}
+use Rattle.circ_theory.specs.Operators.{is_same_operator, is_ill_sorted}
+
+-- the number of the sort of this name
+abbrev pub sort_number : Signature → List ℕ → Option ℕ
+sort_number sig name = position (pointwise nat_eq name) sig.sorts
+
+-- one part more would be too many
+abbrev pub count_fault : (most count : ℕ) → Option TheoryFault
+count_fault most count = if nat_lt most (count + 1) then Some (Limit (count + 1)) else None
+
+-- why a sort is not added
+abbrev pub sort_fault : Theory → List ℕ → Option TheoryFault
+sort_fault th name = option_or (option_map Twice (sort_number th.signature name)) (count_fault MOST_SORTS (length th.signature.sorts))
+
+abbrev pub is_no_sort : Signature → ℕ → Bool
+is_no_sort sig s = not (nat_lt s (length sig.sorts))
+
+-- the first argument sort or else the result sort that the signature lacks
+abbrev pub unknown_sort : Signature → Operator → Option ℕ
+unknown_sort sig o = find (is_no_sort sig) (o.args ++ o.result ∷ [])
+
+-- the number of the operator of this form and these argument sorts
+abbrev pub op_number : Signature → Operator → Option ℕ
+op_number sig o = position (is_same_operator o) sig.ops
+
+-- why an operator is not added
+abbrev pub op_fault : Theory → Operator → Option TheoryFault
+op_fault th o =
+    option_or (option_map Twice (op_number th.signature o))
+    (option_or (option_map UnknownSort (unknown_sort th.signature o))
+    (option_or (if is_ill_sorted o then Some (IllSorted (length th.signature.ops)) else None)
+    (option_or (if nat_lt MOST_ARGS (length o.args) then Some (Limit (length o.args)) else None)
+    (count_fault MOST_OPS (length th.signature.ops)))))
+
+-- why an equation is not added
+abbrev pub equation_fault : Theory → Option TheoryFault
+equation_fault th = count_fault MOST_EQUATIONS (length th.equations)
+
+abbrev pub with_sort : Theory → List ℕ → Theory
+with_sort th name = record th { signature = record th.signature { sorts = th.signature.sorts ++ name ∷ [] } }
+
+abbrev pub with_op : Theory → Operator → Theory
+with_op th o = record th { signature = record th.signature { ops = th.signature.ops ++ o ∷ [] } }
+
+abbrev pub with_equation : Theory → Equation → Theory
+with_equation th e = record th { equations = th.equations ++ e ∷ [] }
+
+-- the fault is the first one that there is, or memory ran out
+abbrev pub IsFirst : TheoryFault → Option TheoryFault → Type 0
+IsFirst Memory o = Unit {0}
+IsFirst f o = o ≡ Some f
+
+-- the new part has this number where there is no fault
+abbrev pub Numbers : Result ℕ TheoryFault → Option TheoryFault → ℕ → Type 0
+Numbers (Ok n) o number = (o ≡ None) × (n ≡ number)
+Numbers (Err f) o number = IsFirst f o
+
+-- the operator on these terms, where there is such an operator and it takes their sorts
+abbrev pub application : Signature → ℕ → List Tree → Option Tree
+application sig f ts =
+    option_and_then (λ o. if pointwise nat_eq (map sort_of ts) o.args then Some (App f o.result (trees_of ts)) else None) (slice_get sig.ops f)

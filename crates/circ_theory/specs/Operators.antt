@@ -1,0 +1,63 @@
+-- Declared operators, and when two of them are the same.
+use Rattle.std.specs.Prelude.{◌≡◌, ℕ, ◌≤◌, List, [], ◌∷◌, Bool, true, false, ◌==◌, ◌&&◌, ◌||◌, not, nat_eq, length}
+use Rattle.std.specs.List.{count_by, Contains}
+use Rattle.std.specs.Cmp.Lexicographic.{pointwise}
+use Rattle.circ_theory.specs.declared.forms.Piece.{Piece}
+use Rattle.circ_theory.specs.declared.forms.Piece.TheVariants.{Hole, Word}
+use Rattle.circ_theory.specs.declared.parts.OpDecl.{OpDecl}
+use Rattle.circ_theory.specs.declared.TheConstants.{MOST_ARGS}
+use Rattle.circ_theory.specs.Form.{IsForm}
+use Rattle.circ_theory.specs.Signature.{Signature, Operator, IsSort}
+
+-- the operator that a declaration declares
+abbrev pub operator_of : OpDecl → Operator
+operator_of d = record {
+  form = d.form;
+  args = d.args.items;
+  result = d.result;
+  prec = d.prec;
+  side = d.side;
+  assoc = d.assoc;
+  comm = d.comm;
+  idem = d.idem;
+}
+
+abbrev pub is_same_piece : Piece → Piece → Bool
+is_same_piece Hole Hole = true
+is_same_piece Hole (Word w) = false
+is_same_piece (Word v) Hole = false
+is_same_piece (Word v) (Word w) = pointwise nat_eq v w
+
+-- the same form, and the same argument sorts
+abbrev pub is_same_operator : Operator → Operator → Bool
+is_same_operator o p = pointwise is_same_piece o.form p.form && pointwise nat_eq o.args p.args
+
+abbrev pub is_hole_piece : Piece → Bool
+is_hole_piece Hole = true
+is_hole_piece (Word w) = false
+
+abbrev pub hole_count : List Piece → ℕ
+hole_count ps = count_by is_hole_piece ps
+
+-- A form has a hole for each argument, or no hole.
+abbrev pub form_fits : Operator → Bool
+form_fits o = (hole_count o.form == 0) || (hole_count o.form == length o.args)
+
+abbrev pub has_mark : Operator → Bool
+has_mark o = o.assoc || o.comm || o.idem
+
+-- both argument sorts and the result sort are one
+abbrev pub is_binary : Operator → Bool
+is_binary o = pointwise nat_eq o.args (o.result ∷ o.result ∷ [])
+
+abbrev pub is_ill_sorted : Operator → Bool
+is_ill_sorted o = not (form_fits o) || (has_mark o && not (is_binary o))
+
+-- An operator of a theory: it has a form, its sorts exist, it has at most 16 arguments, and form and marks fit these.
+pub record IsOperator (sig : Signature) (o : Operator) : Type 0 where
+  pub is_form : IsForm o.form
+  pub args : (s : ℕ) → Contains o.args s → IsSort sig s
+  pub result : IsSort sig o.result
+  pub few : length o.args ≤ MOST_ARGS
+  pub fits : form_fits o ≡ true
+  pub marked : has_mark o ≡ true → o.args ≡ o.result ∷ o.result ∷ []

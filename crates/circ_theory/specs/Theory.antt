@@ -1,0 +1,68 @@
+-- Theories: a signature with equations, derivatives and case lists (behavioural specifications, CALCO 2009, section 3).
+use Rattle.std.specs.Prelude.{◌≡◌, ℕ, List, Some, true}
+use Rattle.std.specs.List.{slice_get, Contains}
+use Rattle.circ_term.specs.Tree.{Tree, Var, App, none, more, sort_of}
+use Rattle.circ_theory.specs.Signature.{Signature, Operator, IsWellSorted}
+use Rattle.circ_theory.specs.declared.parts.Equation.{Equation}
+
+pub record Pair : Type 0 where
+  pub left : Tree
+  pub right : Tree
+
+-- a term with a hole, which is variable 0 of this sort; the other variables are its parameters
+pub record Derivative : Type 0 where
+  pub hole : ℕ
+  pub body : Tree
+
+-- all the values of a visible sort, by their constants' operator numbers
+pub record CaseList : Type 0 where
+  pub sort : ℕ
+  pub constants : List ℕ
+
+pub record Declared : Type 0 where
+  pub name : List ℕ
+  pub sort : ℕ
+
+-- The parts of each kind are numbered from 0, in order of declaration.
+pub record Theory : Type 0 where
+  pub name : List ℕ
+  pub signature : Signature
+  pub variables : List Declared
+  pub equations : List Equation
+  pub derivatives : List Derivative
+  pub cases : List CaseList
+
+abbrev pub pair_of : Equation → Pair
+pair_of e = record { left = e.left; right = e.right }
+
+-- f applied to two terms, where both arguments and the result have one sort
+abbrev pub twice : (op sort : ℕ) → Tree → Tree → Tree
+twice f k s t = App f k (more s (more t none))
+
+-- The equations of a theory: the listed ones, whether rules or not, and the usual one for each mark of an operator.
+pub data IsEquation (th : Theory) : Pair → Type 0 where
+  listed : (e : Equation) → Contains th.equations e → IsEquation th (pair_of e)
+  associative : (f : ℕ) (o : Operator) → slice_get th.signature.ops f ≡ Some o → o.assoc ≡ true
+      → IsEquation th (record {
+        left = twice f o.result (twice f o.result (Var 0 o.result) (Var 1 o.result)) (Var 2 o.result);
+        right = twice f o.result (Var 0 o.result) (twice f o.result (Var 1 o.result) (Var 2 o.result));
+      })
+  commutative : (f : ℕ) (o : Operator) → slice_get th.signature.ops f ≡ Some o → o.comm ≡ true
+      → IsEquation th (record { left = twice f o.result (Var 0 o.result) (Var 1 o.result); right = twice f o.result (Var 1 o.result) (Var 0 o.result) })
+  idempotent : (f : ℕ) (o : Operator) → slice_get th.signature.ops f ≡ Some o → o.idem ≡ true
+      → IsEquation th (record { left = twice f o.result (Var 0 o.result) (Var 0 o.result); right = Var 0 o.result })
+
+-- A sort is hidden exactly where it is the hole's sort of a derivative, and visible otherwise.
+pub record IsHidden (th : Theory) (s : ℕ) : Type 0 where
+  pub derivative : Derivative
+  pub listed : Contains th.derivatives derivative
+  pub hole : derivative.hole ≡ s
+
+abbrev pub IsVisible : Theory → ℕ → Type 0
+IsVisible th s = IsHidden th s → ⊥
+
+-- both sides are well-sorted, of one sort
+pub record IsWellSortedPair (sig : Signature) (p : Pair) : Type 0 where
+  pub left : IsWellSorted sig p.left
+  pub right : IsWellSorted sig p.right
+  pub same_sort : sort_of p.right ≡ sort_of p.left

@@ -1,0 +1,57 @@
+//! What is proved of derivations and experiments, and examples that try their definitions. The functions do nothing: a law is
+//! a contract.
+ghost use Rattle.std.specs.Prelude.{◌≡◌, ℕ, List, [], ◌∷◌, codes, Some, None, map};
+ghost use Rattle.circ_term.specs.Tree.{Tree, Var, App, none, more, sort_of};
+ghost use Rattle.circ_term.specs.Substitution.{Substitution, instance};
+ghost use Rattle.circ_theory.specs.declared.forms.Piece.TheVariants.{Hole, Word};
+ghost use Rattle.circ_theory.specs.declared.forms.FormFault.TheVariants.{NoWord, BadWord};
+ghost use Rattle.circ_theory.specs.Form.{pieces_of, form_fault};
+ghost use Rattle.circ_theory.specs.Signature.{IsWellSorted, IsSubstitution};
+ghost use Rattle.circ_theory.specs.Theory.{Theory, Pair};
+ghost use Rattle.circ_theory.specs.Variables.{IsInOrder};
+ghost use Rattle.circ_theory.specs.Derivable.{Derivable};
+ghost use Rattle.circ_theory.specs.Experiment.{Fits, on, Behaves};
+ghost use Rattle.circ_theory.specs.WellFormed.{IsWellFormed};
+ghost use Rattle.circ_theory.specs.Instances.{instance_pair};
+ghost use Rattle.circ_theory.specs.Examples.{bits, zero_bit, negation, streams, head, swapped, on_variables, pair};
+
+/// An instance of what is derivable is derivable from the instances of the premises.
+pub fn derivable_instances()
+    ensures { (th : Theory) (H : List Pair) (s t : Tree) (σ : Substitution) → IsSubstitution th.signature σ → Derivable th H s t → Derivable th (map (instance_pair σ) H) (instance σ s) (instance σ t) }
+{}
+
+/// Well-sorted terms of one sort that are derivable from one another behave alike, whatever their sort.
+pub fn derivable_pairs_behave()
+    ensures { (th : Theory) → IsWellFormed th → (s t : Tree) → IsWellSorted th.signature s → IsWellSorted th.signature t → sort_of t ≡ sort_of s → Derivable th [] s t → Behaves th s t }
+{}
+
+/// With `not(0) = 1` and `not(1) = 0`, `not(not(0)) = 0` is derivable.
+pub fn double_negation()
+    ensures { Derivable bits [] (negation (negation zero_bit)) zero_bit }
+{}
+
+/// The experiment that takes the head fits streams, and gives the head of a term.
+pub fn head_of_a_stream()
+    ensures fits { Fits streams (head ∷ []) 1 }
+    ensures result { (t : Tree) → on (head ∷ []) t ≡ App 0 0 (more t none) }
+{}
+
+/// A substitution acts at all places at once.
+pub fn swap_at_once()
+    ensures { instance swapped (on_variables 0 1) ≡ on_variables 1 0 }
+{}
+
+/// Variables are numbered by first occurrence, the left side first.
+pub fn numbered_left_first()
+    ensures in_order { IsInOrder (pair (on_variables 0 1) (on_variables 1 0)) }
+    ensures out_of_order { IsInOrder (pair (on_variables 1 0) (on_variables 0 1)) → ⊥ }
+{}
+
+/// A form is cut at its holes, and each bracket is a word by itself.
+pub fn forms_are_cut()
+    ensures plus { pieces_of (codes "_+_") ≡ Hole ∷ Word (codes "+") ∷ Hole ∷ [] }
+    ensures brackets { pieces_of (codes "a[_]") ≡ Word (codes "a") ∷ Word (codes "[") ∷ Hole ∷ Word (codes "]") ∷ [] }
+    ensures no_word { form_fault (codes "__") ≡ Some NoWord }
+    ensures bad_word { form_fault (codes "_=_") ≡ Some BadWord }
+    ensures good { form_fault (codes "_==_") ≡ None }
+{}

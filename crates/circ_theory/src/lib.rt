@@ -1,0 +1,35 @@
+//! Theories of many-sorted behavioural algebra, and what follows from them.
+//!
+//! A [`Theory`] holds sorts, operators and equations, and only well-sorted parts. [`follow`] replays one recorded step of
+//! rewriting. What is derivable, what an experiment is and which terms behave alike is defined in `specs`, and [`laws`]
+//! states what is proved of these notions.
+#![tactic(auto)]
+
+mod fault;
+mod forms;
+pub mod laws;
+mod order;
+mod parts;
+mod replay;
+#[cfg(test)]
+mod tests;
+mod theories;
+
+pub use fault::TheoryFault;
+pub use forms::{Form, FormFault, Piece, Text};
+pub use order::in_order;
+pub use parts::{Equation, Goal, OpDecl, Script, Side};
+pub use replay::{Link, Way, follow};
+pub use theories::Theory;
+
+/// The most sorts of a theory.
+pub const MOST_SORTS: usize = 4_096;
+
+/// The most operators of a theory.
+pub const MOST_OPS: usize = 65_536;
+
+/// The most equations of a theory.
+pub const MOST_EQUATIONS: usize = 65_536;
+
+/// The most arguments of an operator.
+pub const MOST_ARGS: usize = 16;

@@ -1,0 +1,77 @@
+//! The numbering of variables.
+ghost use Rattle.std.specs.Prelude.{◌≡◌, ◌↔◌, ◌∷◌, [], IsTrue, IfOk};
+ghost use Rattle.std.specs.Bool.{OnTrue};
+ghost use Rattle.circ_term.specs.Tree.{trees_of};
+ghost use Rattle.circ_theory.specs.Variables.{IsInOrder, AreNumberedFrom, seen, seen_in, seen_in_all, sorts_of};
+ghost use Rattle.circ_theory.specs.Numbering.{numbered};
+
+use circ_term::{Kind, Term};
+use std::alloc::{AllocError, Global};
+
+/// Whether the two terms are numbered in order: the variables have the numbers 0, 1 and so on by their first occurrence, the
+/// left term first. Costs as much as the terms have nodes.
+pub fn in_order(alloc: Global, left: &Term, right: &Term) -> Result<bool, AllocError>
+    ensures { IfOk result (λ b. IsTrue b ↔ IsInOrder (record { left = left.now; right = right.now })) }
+{
+    let mut sorts = Vec::new(alloc);
+    if !visit(left, &mut sorts)? {
+        return Ok(false);
+    }
+    visit(right, &mut sorts)
+}
+
+// The sorts of the variables of two terms that are numbered in order.
+pub(crate) fn variable_sorts(
+    alloc: Global,
+    left: &Term,
+    right: &Term,
+) -> Result<Vec<u32>, AllocError>
+    requires { IsInOrder (record { left = left.now; right = right.now }) }
+    ensures { IfOk result (λ v. v.items ≡ sorts_of (record { left = left.now; right = right.now })) }
+{
+    let mut sorts = Vec::new(alloc);
+    visit(left, &mut sorts)?;
+    visit(right, &mut sorts)?;
+    Ok(sorts)
+}
+
+// Adds the sorts of the term's variables to those of the variables seen so far, which have the numbers from 0. Answers
+// whether the numbering goes on in order.
+#[cycle(visit)]
+fn visit(term: &Term, sorts: &mut Vec<u32>) -> Result<bool, AllocError>
+    ensures answer { IfOk result (λ b. IsTrue b ↔ AreNumberedFrom 0 (seen_in term.now (numbered 0 sorts.old.items))) }
+    ensures seen { IfOk result (λ b. OnTrue b (numbered 0 sorts.new.items ≡ seen_in term.now (numbered 0 sorts.old.items))) }
+{
+    match term.kind() {
+        Kind::Variable { number, sort } => note(number, sort, sorts),
+        Kind::Application { args, .. } => visit_all(args, sorts),
+    }
+}
+
+#[cycle(visit)]
+fn visit_all(terms: &[Term], sorts: &mut Vec<u32>) -> Result<bool, AllocError>
+    ensures answer { IfOk result (λ b. IsTrue b ↔ AreNumberedFrom 0 (seen_in_all (trees_of terms.now) (numbered 0 sorts.old.items))) }
+    ensures seen { IfOk result (λ b. OnTrue b (numbered 0 sorts.new.items ≡ seen_in_all (trees_of terms.now) (numbered 0 sorts.old.items))) }
+{
+    for term in terms {
+        if !visit(term, sorts)? {
+            return Ok(false);
+        }
+    }
+    Ok(true)
+}
+
+fn note(number: u32, sort: u32, sorts: &mut Vec<u32>) -> Result<bool, AllocError>
+    ensures answer { IfOk result (λ b. IsTrue b ↔ AreNumberedFrom 0 (seen (record { number = number; sort = sort }) (numbered 0 sorts.old.items))) }
+    ensures seen { IfOk result (λ b. OnTrue b (numbered 0 sorts.new.items ≡ seen (record { number = number; sort = sort }) (numbered 0 sorts.old.items))) }
+{
+    let number = number as usize;
+    if number < sorts.len() {
+        return Ok(sorts[number] == sort);
+    }
+    if number > sorts.len() {
+        return Ok(false);
+    }
+    sorts.push(sort)?;
+    Ok(true)
+}

@@ -1,0 +1,64 @@
+//! Parts of theories and of what is proved in them.
+use crate::forms::Form;
+use circ_term::Term;
+
+/// Where an operator whose form begins and ends with a hole groups.
+#[derive(Clone, Copy, PartialEq, Eq, Debug)]
+pub enum Side {
+    /// To neither side.
+    Neither,
+    /// To the left.
+    Left,
+    /// To the right.
+    Right,
+}
+
+/// An operator as it is declared. Sorts go by their numbers.
+#[derive(Drop)]
+pub struct OpDecl {
+    /// How the operator is written.
+    pub form: Form,
+    /// The sorts of the arguments.
+    pub args: Vec<u32>,
+    /// The sort of the result.
+    pub result: u32,
+    /// The precedence. A smaller one binds tighter.
+    pub prec: u8,
+    /// The side to which it groups.
+    pub side: Side,
+    /// Whether it is associative.
+    pub assoc: bool,
+    /// Whether it is commutative.
+    pub comm: bool,
+    /// Whether it is idempotent.
+    pub idem: bool,
+}
+
+/// An equation of a theory: two terms of one sort.
+#[derive(Drop)]
+pub struct Equation {
+    /// The left side.
+    pub left: Term,
+    /// The right side.
+    pub right: Term,
+    /// Whether it may be used as a rewrite rule. One that may not still counts in derivations.
+    pub exec: bool,
+}
+
+/// What is to be proved: two terms of one sort.
+#[derive(Drop)]
+pub struct Goal {
+    /// The left side.
+    pub left: Term,
+    /// The right side.
+    pub right: Term,
+}
+
+/// What a script asks for.
+#[derive(Drop)]
+pub struct Script {
+    /// The goals, in the blocks that are proved one after another.
+    pub blocks: Vec<Vec<Goal>>,
+    /// The terms to be reduced.
+    pub terms: Vec<Term>,
+}

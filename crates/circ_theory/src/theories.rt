@@ -1,0 +1,390 @@
+//! Theories: sorts, operators and equations, each kind numbered from 0 in order of declaration.
+ghost use Rattle.std.specs.Prelude.{◌≡◌, ◌↔◌, ◌≤◌, [], map, IsTrue, IfOk, OnOk, OnErr, IfSome, nat_lt, nat_eq, not, find, length};
+ghost use Rattle.std.specs.List.{slice_get, AllByRecursion};
+ghost use Rattle.std.specs.Option.{option_copied, option_map};
+ghost use Rattle.std.specs.Cmp.Lexicographic.{pointwise};
+ghost use Rattle.circ_term.specs.Tree.{trees_of, sort_of};
+ghost use Rattle.circ_term.specs.Limits.{BuildsSome};
+ghost use Rattle.circ_theory.specs.Signature.{IsWellSorted, HaveSorts};
+ghost use Rattle.circ_theory.specs.Theory.{pair_of, IsWellSortedPair};
+ghost use Rattle.circ_theory.specs.Variables.{IsInOrder, sorts_of};
+ghost use Rattle.circ_theory.specs.Operators.{operator_of, is_ill_sorted, hole_count};
+ghost use Rattle.circ_theory.specs.WellFormed.{IsWellFormed};
+ghost use Rattle.circ_theory.specs.Adding.{Numbers, sort_number, sort_fault, op_fault, equation_fault, count_fault, unknown_sort, with_sort, with_op, with_equation, application};
+ghost use Rattle.circ_theory.specs.Inside.{IsKeyOf};
+
+use crate::fault::TheoryFault;
+use crate::forms::{Piece, Text};
+use crate::order::variable_sorts;
+use crate::parts::{Equation, OpDecl};
+use crate::{MOST_ARGS, MOST_EQUATIONS, MOST_OPS, MOST_SORTS};
+use circ_term::{Kind, Term, TermFault};
+use indexmap::{IndexMap, IndexSet};
+use std::alloc::{AllocError, Global};
+use std::marker::Model;
+
+// By what operators are told apart: the text of the form, and the argument sorts.
+#[derive(PartialEq, Eq, Hash, Drop)]
+struct OpKey {
+    form: Vec<u8>,
+    args: Vec<u32>,
+}
+
+// An equation, with the sorts of its variables by number.
+#[derive(Drop)]
+struct Listed {
+    equation: Equation,
+    sorts: Vec<u32>,
+}
+
+/// A theory, whose parts are well-sorted.
+#[derive(Drop)]
+pub struct Theory {
+    alloc: Global,
+    name: Text,
+    sorts: IndexSet<Vec<u8>>,
+    ops: IndexMap<OpKey, OpDecl>,
+    equations: Vec<Listed>,
+}
+
+impl Model for Theory {
+    ghost use Rattle.circ_theory.specs.Theory.{Theory as TheTheory};
+    ghost use Rattle.circ_theory.specs.Code.{theory_code};
+
+    ghost Value = { TheTheory };
+
+    ghost coded = { theory_code };
+
+    ghost use Rattle.circ_theory.specs.Inside.{theory_of, IsKept};
+
+    ghost view = { theory_of };
+
+    ghost invariant = { IsKept };
+}
+
+impl Theory {
+    /// The theory of this name without parts.
+    pub fn new(alloc: Global, name: &[u8]) -> Result<Theory, AllocError>
+        ensures { IfOk result (λ th. th ≡ record { name = name.now; signature = record { sorts = []; ops = [] }; variables = []; equations = []; derivatives = []; cases = [] }) }
+    {
+        Ok(Theory {
+            alloc,
+            name: Text::of(alloc, name)?,
+            sorts: IndexSet::new(alloc),
+            ops: IndexMap::new(alloc),
+            equations: Vec::new(alloc),
+        })
+    }
+
+    /// Does nothing. Its contract is the law of each theory: its parts are well-sorted.
+    pub fn known(&self)
+        ensures { IsWellFormed self.now }
+    {
+        let _ = &self.name;
+    }
+
+    /// Adds a sort, and answers its number. `Twice` carries the number of the sort that has the name.
+    pub fn add_sort(&mut self, name: &[u8]) -> Result<u32, TheoryFault>
+        ensures number { Numbers result (sort_fault self.old name.now) (length self.old.signature.sorts) }
+        ensures added { OnOk result (self.new ≡ with_sort self.old name.now) }
+        ensures err { OnErr result (self.new ≡ self.old) }
+    {
+        if let Some(number) = self.sort_named(name) {
+            return Err(TheoryFault::Twice { number });
+        }
+        let number = self.sort_count();
+        if let Some(fault) = count_fault(number, MOST_SORTS) {
+            return Err(fault);
+        }
+        let copy = Vec::from_slice(self.alloc, name)?;
+        self.sorts.insert(copy)?;
+        Ok(number)
+    }
+
+    /// Adds an operator, and answers its number. `Twice` carries the number of the operator that has the form and the
+    /// argument sorts, `UnknownSort` the first sort that does not exist, arguments first, and `IllSorted` the number that
+    /// the operator would get: its holes are not as many as its arguments, or a mark stands on an operator that is not
+    /// binary over one sort.
+    pub fn add_op(&mut self, decl: OpDecl) -> Result<u32, TheoryFault>
+        ensures number { Numbers result (op_fault self.old (operator_of decl)) (length self.old.signature.ops) }
+        ensures added { OnOk result (self.new ≡ with_op self.old (operator_of decl)) }
+        ensures err { OnErr result (self.new ≡ self.old) }
+    {
+        let key = key_of(self.alloc, &decl)?;
+        if let Some(fault) = self.op_fault(&key, &decl) {
+            return Err(fault);
+        }
+        let number = self.op_count();
+        self.ops.insert(key, decl)?;
+        Ok(number)
+    }
+
+    /// Adds an equation, and answers its number.
+    pub fn add_equation(&mut self, left: Term, right: Term, exec: bool) -> Result<u32, TheoryFault>
+        requires sorted { IsWellSortedPair self.old.signature (record { left = left; right = right }) }
+        requires in_order { IsInOrder (record { left = left; right = right }) }
+        ensures number { Numbers result (equation_fault self.old) (length self.old.equations) }
+        ensures added { OnOk result (self.new ≡ with_equation self.old (record { left = left; right = right; exec = exec })) }
+        ensures err { OnErr result (self.new ≡ self.old) }
+    {
+        let number = self.equation_count();
+        if let Some(fault) = count_fault(number, MOST_EQUATIONS) {
+            return Err(fault);
+        }
+        let sorts = variable_sorts(self.alloc, &left, &right)?;
+        let equation = Equation { left, right, exec };
+        self.equations.push(Listed { equation, sorts })?;
+        Ok(number)
+    }
+
+    /// The operator on these terms. None where there is no such operator, or its argument sorts are others. The terms are
+    /// given up where none is built.
+    pub fn app(&self, op: u32, args: Vec<Term>) -> Result<Option<Term>, TermFault>
+        ensures built { BuildsSome result (application self.now.signature op args.items) }
+        ensures well_sorted { AllByRecursion (IsWellSorted self.now.signature) args.items → IfOk result (λ o. IfSome o (IsWellSorted self.now.signature)) }
+    {
+        let Some(decl) = self.op(op) else {
+            return Ok(None);
+        };
+        if !are_of_sorts(args.as_slice(), decl.args.as_slice()) {
+            return Ok(None);
+        }
+        match Term::app(self.alloc, op, decl.result, args) {
+            Ok(term) => Ok(Some(term)),
+            Err(fault) => Err(fault),
+        }
+    }
+
+    /// Whether each variable of the term has a sort of the theory, and each application an operator with its sorts.
+    #[cycle(well_sorted)]
+    pub fn well_sorted(&self, term: &Term) -> bool
+        ensures { IsTrue result ↔ IsWellSorted self.now.signature term.now }
+    {
+        match term.kind() {
+            Kind::Variable { sort, .. } => sort < self.sort_count(),
+            Kind::Application { op, sort, args } => {
+                let Some(decl) = self.op(op) else {
+                    return false;
+                };
+                if decl.result != sort {
+                    return false;
+                }
+                self.have_sorts(args, decl.args.as_slice())
+            }
+        }
+    }
+
+    #[cycle(well_sorted)]
+    fn have_sorts(&self, terms: &[Term], sorts: &[u32]) -> bool
+        ensures { IsTrue result ↔ HaveSorts self.now.signature (trees_of terms.now) sorts.now }
+    {
+        if terms.len() != sorts.len() {
+            return false;
+        }
+        for i in 0..terms.len() {
+            if terms[i].sort() != sorts[i] {
+                return false;
+            }
+            if !self.well_sorted(&terms[i]) {
+                return false;
+            }
+        }
+        true
+    }
+
+    /// The theory's name.
+    pub fn name(&self) -> &[u8]
+        ensures { result.now ≡ self.now.name }
+    {
+        self.name.bytes()
+    }
+
+    /// The number of sorts.
+    pub fn sort_count(&self) -> u32
+        ensures count { result ≡ length self.now.signature.sorts }
+        ensures few { result ≤ MOST_SORTS }
+    {
+        self.sorts.len() as u32
+    }
+
+    /// The name of a sort.
+    pub fn sort_name(&self, n: u32) -> Option<&[u8]>
+        ensures { option_copied result ≡ slice_get self.now.signature.sorts n }
+    {
+        match self.sorts.get_index(n as usize) {
+            Some(name) => Some(name.as_slice()),
+            None => None,
+        }
+    }
+
+    /// The number of the sort of a name.
+    pub fn sort_named(&self, name: &[u8]) -> Option<u32>
+        ensures { result ≡ sort_number self.now.signature name.now }
+    {
+        match self.sorts.get_index_of(name) {
+            Some(number) => Some(number as u32),
+            None => None,
+        }
+    }
+
+    /// The number of operators.
+    pub fn op_count(&self) -> u32
+        ensures count { result ≡ length self.now.signature.ops }
+        ensures few { result ≤ MOST_OPS }
+    {
+        self.ops.len() as u32
+    }
+
+    /// The operator of a number.
+    pub fn op(&self, n: u32) -> Option<&OpDecl>
+        ensures { option_map (λ d. operator_of d.now) result ≡ slice_get self.now.signature.ops n }
+    {
+        match self.ops.get_index(n as usize) {
+            Some((_, decl)) => Some(decl),
+            None => None,
+        }
+    }
+
+    /// The number of equations.
+    pub fn equation_count(&self) -> u32
+        ensures count { result ≡ length self.now.equations }
+        ensures few { result ≤ MOST_EQUATIONS }
+    {
+        self.equations.len() as u32
+    }
+
+    fn listed(&self, n: u32) -> Option<&Listed>
+        ensures equation { option_map (λ l. l.now.equation) result ≡ slice_get self.now.equations n }
+        ensures sorts { IfSome result (λ l. l.now.sorts.items ≡ sorts_of (pair_of l.now.equation)) }
+    {
+        self.equations.get(n as usize)
+    }
+
+    /// The equation of a number.
+    pub fn equation(&self, n: u32) -> Option<&Equation>
+        ensures { option_copied result ≡ slice_get self.now.equations n }
+    {
+        match self.listed(n) {
+            Some(listed) => Some(&listed.equation),
+            None => None,
+        }
+    }
+
+    /// The sorts of an equation's variables, by the variables' numbers.
+    pub fn equation_sorts(&self, n: u32) -> Option<&[u32]>
+        ensures { option_copied result ≡ option_map (λ e. sorts_of (pair_of e)) (slice_get self.now.equations n) }
+    {
+        match self.listed(n) {
+            Some(listed) => Some(listed.sorts.as_slice()),
+            None => None,
+        }
+    }
+
+    fn op_fault(&self, key: &OpKey, decl: &OpDecl) -> Option<TheoryFault>
+        requires { IsKeyOf key.now (operator_of decl.now) }
+        ensures { result ≡ op_fault self.now (operator_of decl.now) }
+    {
+        if let Some(number) = self.ops.get_index_of(key) {
+            return Some(TheoryFault::Twice {
+                number: number as u32,
+            });
+        }
+        if let Some(number) = self.unknown_sort(decl) {
+            return Some(TheoryFault::UnknownSort { number });
+        }
+        let number = self.op_count();
+        if is_ill_sorted(decl) {
+            return Some(TheoryFault::IllSorted { operator: number });
+        }
+        if decl.args.len() > MOST_ARGS {
+            return Some(TheoryFault::Limit {
+                count: decl.args.len() as u64,
+            });
+        }
+        count_fault(number, MOST_OPS)
+    }
+
+    fn unknown_sort(&self, decl: &OpDecl) -> Option<u32>
+        ensures { result ≡ unknown_sort self.now.signature (operator_of decl.now) }
+    {
+        let count = self.sort_count();
+        if let Some(sort) = first_from(count, decl.args.as_slice()) {
+            return Some(sort);
+        }
+        if decl.result < count {
+            None
+        } else {
+            Some(decl.result)
+        }
+    }
+}
+
+fn first_from(count: u32, sorts: &[u32]) -> Option<u32>
+    ensures { result ≡ find (λ s. not (nat_lt s count)) sorts.now }
+{
+    sorts.iter().copied().find(|sort| !(*sort < count))
+}
+
+fn count_fault(count: u32, most: usize) -> Option<TheoryFault>
+    ensures { result ≡ count_fault most count }
+{
+    if (count as usize) < most {
+        None
+    } else {
+        Some(TheoryFault::Limit {
+            count: count as u64 + 1,
+        })
+    }
+}
+
+fn key_of(alloc: Global, decl: &OpDecl) -> Result<OpKey, AllocError>
+    ensures { IfOk result (λ k. IsKeyOf k (operator_of decl.now)) }
+{
+    decl.form.known();
+    Ok(OpKey {
+        form: decl.form.spell(alloc)?,
+        args: Vec::from_slice(alloc, decl.args.as_slice())?,
+    })
+}
+
+fn are_of_sorts(terms: &[Term], sorts: &[u32]) -> bool
+    ensures { result ≡ pointwise nat_eq (map sort_of terms.now) sorts.now }
+{
+    if terms.len() != sorts.len() {
+        return false;
+    }
+    for i in 0..terms.len() {
+        if terms[i].sort() != sorts[i] {
+            return false;
+        }
+    }
+    true
+}
+
+fn holes(pieces: &[Piece]) -> usize
+    ensures { result ≡ hole_count pieces.now }
+{
+    pieces
+        .iter()
+        .filter(|piece| match piece {
+            Piece::Hole => true,
+            Piece::Word(_) => false,
+        })
+        .count()
+}
+
+fn is_ill_sorted(decl: &OpDecl) -> bool
+    ensures { result ≡ is_ill_sorted (operator_of decl.now) }
+{
+    let holes = holes(decl.form.pieces());
+    if holes != 0 && holes != decl.args.len() {
+        return true;
+    }
+    if !(decl.assoc || decl.comm || decl.idem) {
+        return false;
+    }
+    match decl.args.as_slice() {
+        [first, second] => *first != decl.result || *second != decl.result,
+        _ => true,
+    }
+}

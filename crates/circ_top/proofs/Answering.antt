@@ -1,0 +1,111 @@
+-- What the answers of parts of a run say of the whole.
+use Rattle.std.proofs.Common.{◌≡◌, ℕ, List, Option, Bool, true, sym, ◌∙◌, subst, inl, inr, Result, Ok, Err}
+use Rattle.std.specs.Prelude.{IfOk, IfErr}
+use Rattle.circ_outer.specs.Count.{Rose}
+use Rattle.circ_outer.specs.Shelf.{Fault, IsQuiet}
+use Rattle.circ_theory.specs.Theory.{Theory}
+use Rattle.circ_top.specs.Proof.{Proof}
+use Rattle.circ_top.specs.Outcome.{Held, IsRefused, ReadsTheory, ReadsProof, outside, Outside, Output, IsNoTheory, IsNoProof, IsUnread, IsFileFault, Fails, RefusesCheck, theory_fault, proof_fault, step_fails, Refuses, no_command, no_check, Due, success, refusal, Prints, Delivers, whole, write_failed, memory_wanted, Answers, Accepts, Rejects}
+use Rattle.circ_top.specs.Texts.{refusal_text}
+use Rattle.circ_top.specs.declared.status.Status.{Status}
+use Rattle.circ_top.specs.declared.status.Status.TheVariants.{Refused, Unreadable, TooLong, ReadFault, Memory}
+use Rattle.circ_top.specs.declared.status.Status.TheVariants as status
+use Rattle.circ_top.specs.declared.status.Cause.{Cause}
+use Rattle.circ_top.specs.declared.status.Cause.TheVariants as cause
+
+-- a fault after a quiet call is one since before it
+pub quiet_fault : (t u : Bool) (h k : Held) (b m a : ℕ) (lb lm la : Option Fault) (file : ℕ) (name : List ℕ) (c : Cause) (P : List ℕ → Type 0) (s : Status)
+    → u ≡ t → k name ≡ h name → IsQuiet b m lb lm → IsFileFault (outside u k m a lm la) file name c P s → IsFileFault (outside t h b a lb la) file name c P s
+quiet_fault t u h k b m a lb lm la file name c P (ReadFault n) et eh q f = (f.0, unread f.1)
+  where
+    unread : IsUnread (outside u k m a lm la) name → IsUnread (outside t h b a lb la) name
+    unread (inl s) = let R : ℕ → Type 0 = λ x. Rose x a in inl (record { rose = subst R q.count s.rose; named = s.named })
+    unread (inr s) = inr (record {
+      told = sym et ∙ s.told;
+      nothing = sym eh ∙ s.nothing;
+      quiet = record { count = s.quiet.count ∙ q.count; last = s.quiet.last ∙ q.last };
+      below = rw (sym q.count) s.below;
+    })
+quiet_fault t u h k b m a lb lm la file name c P (TooLong g n) et eh q f = (
+  f.0,
+  record {
+    past = f.1.past;
+    within_piece = f.1.within_piece;
+    within_file = λ e. let r = f.1.within_file (et ∙ e) in (r.0, (sym eh ∙ r.1.0, r.1.1));
+  },
+)
+quiet_fault t u h k b m a lb lm la file name c P (Unreadable g p d) et eh q f =
+    (f.0, f.1, f.2, λ e. let r = f.3 (et ∙ e) in (r.0, (sym eh ∙ r.1.0, r.1.1, r.1.2)))
+quiet_fault t u h k b m a lb lm la file name c P Memory et eh q f = tt
+quiet_fault t u h k b m a lb lm la file name c P s et eh q f = absurd f
+
+-- what a file held after a call it held before
+pub held_before : (h k : Held) (name : List ℕ) (th : Theory) (p : Proof) → k name ≡ h name → ReadsProof k name th p → ReadsProof h name th p
+held_before h k name th p e r = record { bytes = r.bytes; bytes_are = sym e ∙ r.bytes_are; short = r.short; reads = r.reads }
+
+pub if_ok : {T E : Type 0} (P Q : T → Type 0) (r : Result T E) → IfOk r P → ((x : T) → P x → Q x) → IfOk r Q
+if_ok P Q (Ok x) h f = f x h
+if_ok P Q (Err e) h f = tt
+
+pub if_err : {T E : Type 0} (P Q : E → Type 0) (r : Result T E) → IfErr r P → ((e : E) → P e → Q e) → IfErr r Q
+if_err P Q (Ok x) h f = tt
+if_err P Q (Err e) h f = f e h
+
+-- a step that fails, or want of memory, refuses a `check` whose files read
+pub fails_refuses : (o : Outside) (theory proof : List ℕ) (th : Theory) (p : Proof) → (o.tells ≡ true → ReadsTheory o.held theory th) → (o.tells ≡ true → ReadsProof o.held proof th p)
+    → (s : Status) → Fails th p s → RefusesCheck o theory proof s
+fails_refuses o theory proof th p rt rp (Refused n) f = step_fails n (record { th = th; p = p; fails = f; reads_theory = rt; reads_proof = rp })
+fails_refuses o theory proof th p rt rp Memory f = theory_fault Memory tt
+fails_refuses o theory proof th p rt rp s f = absurd f
+
+-- no refusal is a success
+file_fault_not_ok : (o : Outside) (file : ℕ) (name : List ℕ) (c : Cause) (P : List ℕ → Type 0) (s : Status) → s ≡ status.Ok → IsFileFault o file name c P s → ⊥
+file_fault_not_ok o file name c P s e f = let Q : Status → Type 0 = IsFileFault o file name c P in subst Q e f
+
+check_not_ok : (o : Outside) (theory proof : List ℕ) (s : Status) → RefusesCheck o theory proof s → s ≡ status.Ok → ⊥
+check_not_ok o theory proof s (theory_fault _ f) e = file_fault_not_ok o 1 theory cause.Shape IsNoTheory s e f
+check_not_ok o theory proof s (proof_fault _ th r f) e = file_fault_not_ok o 2 proof cause.Line (IsNoProof th) s e f
+check_not_ok o theory proof _ (step_fails n f) e = cc
+
+refusal_not_ok : (words : List (List ℕ)) (o : Outside) (s : Status) → Refuses words o s → s ≡ status.Ok → ⊥
+refusal_not_ok words o _ (no_command n) e = cc
+refusal_not_ok words o s (no_check _ t p i r) e = check_not_ok o t p s r e
+
+due_accepted : (words : List (List ℕ)) (o : Outside) (out : Output) (s : Status) (text : List ℕ) → Due words o s text → s ≡ status.Ok → Prints out text → Accepts words o out
+due_accepted words o out _ _ (success theory proof text i a) e p = record { theory = theory; proof = proof; text = text; command = i; accepted = a; prints = p }
+due_accepted words o out s _ (refusal _ f) e p = absurd (refusal_not_ok words o s f e)
+
+pub answers_accepted : (words : List (List ℕ)) (o : Outside) (out : Output) (s : Status) → Answers words o out s → s ≡ status.Ok → Accepts words o out
+answers_accepted words o out s a e = go a.answer a.text a.due s a.delivered e
+  where
+    go : (r : Status) (text : List ℕ) → Due words o r text → (s : Status) → Delivers out text r s → s ≡ status.Ok → Accepts words o out
+    go r text d _ (whole p) e = due_accepted words o out r text d e p
+    go r text d _ (write_failed n i rose p) e = absurd (cc)
+    go r text d _ (memory_wanted q p) e = absurd (cc)
+
+-- only a step that fails refuses at a step
+file_fault_not_refused : (o : Outside) (file : ℕ) (name : List ℕ) (c : Cause) (P : List ℕ → Type 0) (s : Status) (n : ℕ) → s ≡ Refused n → IsFileFault o file name c P s → ⊥
+file_fault_not_refused o file name c P s n e f = let Q : Status → Type 0 = IsFileFault o file name c P in subst Q e f
+
+same_step : (n m : ℕ) → Refused n ≡ Refused m → n ≡ m
+same_step n m e = cc
+
+check_refused : (o : Outside) (theory proof : List ℕ) (s : Status) (n : ℕ) → RefusesCheck o theory proof s → s ≡ Refused n → IsRefused o theory proof n
+check_refused o theory proof s n (theory_fault _ f) e = absurd (file_fault_not_refused o 1 theory cause.Shape IsNoTheory s n e f)
+check_refused o theory proof s n (proof_fault _ th r f) e = absurd (file_fault_not_refused o 2 proof cause.Line (IsNoProof th) s n e f)
+check_refused o theory proof _ n (step_fails m f) e = let P : ℕ → Type 0 = IsRefused o theory proof in subst P (same_step m n e) f
+
+due_refused : (words : List (List ℕ)) (o : Outside) (out : Output) (s : Status) (text : List ℕ) (n : ℕ) → Due words o s text → s ≡ Refused n → Prints out text → Rejects words o out n
+due_refused words o out _ _ n (success theory proof text i a) e p = absurd (cc)
+due_refused words o out _ _ n (refusal _ (no_command c)) e p = absurd (cc)
+due_refused words o out s _ n (refusal _ (no_check _ theory proof i r)) e p =
+    let P : Status → Type 0 = λ x. Prints out (refusal_text x) in
+    record { theory = theory; proof = proof; command = i; refused = check_refused o theory proof s n r e; prints = subst P e p }
+
+pub answers_refused : (words : List (List ℕ)) (o : Outside) (out : Output) (s : Status) (n : ℕ) → Answers words o out s → s ≡ Refused n → Rejects words o out n
+answers_refused words o out s n a e = go a.answer a.text a.due s a.delivered e
+  where
+    go : (r : Status) (text : List ℕ) → Due words o r text → (s : Status) → Delivers out text r s → s ≡ Refused n → Rejects words o out n
+    go r text d _ (whole p) e = due_refused words o out r text n d e p
+    go r text d _ (write_failed m i rose p) e = absurd (cc)
+    go r text d _ (memory_wanted q p) e = absurd (cc)

@@ -1,0 +1,186 @@
+-- What a run of the program answers, from its words and what the named files hold (`Outcome`).
+use Rattle.std.specs.Prelude.{◌≡◌, ◌<◌, ◌≤◌, ◌+◌, ◌⊎◌, ℕ, List, [], ◌∷◌, ◌++◌, Option, Some, Bool, true, false, codes, length}
+use Rattle.std.specs.List.{Contains}
+use Rattle.circ_outer.specs.Count.{Rose}
+use Rattle.circ_outer.specs.Shelf.{Fault, Struck, Missing}
+use Rattle.circ_theory.specs.Theory.{Theory, Pair}
+use Rattle.circ_theory.specs.Experiment.{Behaves}
+use Rattle.circ_top.specs.TheoryText.{ReadsAs}
+use Rattle.circ_top.specs.Proof.{Proof, goals_of}
+use Rattle.circ_top.specs.ProofText.{ReadsAsProof}
+use Rattle.circ_top.specs.Accepted.{Accepted, FirstFail}
+use Rattle.circ_top.specs.Texts.{accepted_text, refusal_text}
+use Rattle.circ_top.specs.declared.status.Status.{Status}
+use Rattle.circ_top.specs.declared.status.Status.TheVariants as status
+use Rattle.circ_top.specs.declared.status.Cause.{Cause}
+use Rattle.circ_top.specs.declared.status.Cause.TheVariants as cause
+use Rattle.circ_top.specs.declared.files.TheConstants.{MOST_BYTES, PIECE}
+
+-- The words are those of `check`: the program's name, the command, a theory and a proof.
+pub record IsCheck (words : List (List ℕ)) (theory proof : List ℕ) : Type 0 where
+  pub program : List ℕ
+  pub words_are : words ≡ program ∷ codes "check" ∷ theory ∷ proof ∷ []
+
+abbrev pub IsNoCheck : List (List ℕ) → Type 0
+IsNoCheck words = (theory proof : List ℕ) → IsCheck words theory proof → ⊥
+
+-- what each name holds
+abbrev pub Held : Type 0
+Held = List ℕ → Option (List ℕ)
+
+-- The named theory file reads as th.
+pub record ReadsTheory (held : Held) (name : List ℕ) (th : Theory) : Type 0 where
+  pub bytes : List ℕ
+  pub bytes_are : held name ≡ Some bytes
+  pub short : length bytes ≤ MOST_BYTES
+  pub reads : ReadsAs bytes th
+
+-- The named proof file reads as p.
+pub record ReadsProof (held : Held) (name : List ℕ) (th : Theory) (p : Proof) : Type 0 where
+  pub bytes : List ℕ
+  pub bytes_are : held name ≡ Some bytes
+  pub short : length bytes ≤ MOST_BYTES
+  pub reads : ReadsAsProof th bytes p
+
+-- Every step is an instance of its rule, every goal behaves, and the text names the goals.
+pub record Proves (th : Theory) (p : Proof) (text : List ℕ) : Type 0 where
+  pub accepted : Accepted th p
+  pub behave : (g : Pair) → Contains (goals_of p) g → Behaves th g.left g.right
+  pub text_is : text ≡ accepted_text th.signature (goals_of p)
+
+-- The status names the first step that is no instance of its rule, or memory ran out.
+abbrev pub Fails : Theory → Proof → Status → Type 0
+Fails th p (status.Refused n) = FirstFail th p n
+Fails th p status.Memory = Unit {0}
+Fails th p _ = ⊥
+
+-- What is known of a shelf before and after a run.
+pub record Outside : Type 0 where
+  pub tells : Bool
+  pub held : Held
+  pub faults_before : ℕ
+  pub faults_after : ℕ
+  pub last_before : Option Fault
+  pub last_after : Option Fault
+
+abbrev pub outside : Bool → Held → (faults_before faults_after : ℕ) → (last_before last_after : Option Fault) → Outside
+outside t h b a lb la = record { tells = t; held = h; faults_before = b; faults_after = a; last_before = lb; last_after = la }
+
+-- A theory and a proof that is accepted, with the text of this. Where the shelf tells, the two files read as these.
+pub record IsAccepted (o : Outside) (theory proof text : List ℕ) : Type 0 where
+  pub th : Theory
+  pub p : Proof
+  pub proves : Proves th p text
+  pub reads_theory : o.tells ≡ true → ReadsTheory o.held theory th
+  pub reads_proof : o.tells ≡ true → ReadsProof o.held proof th p
+
+-- A theory and a proof of which step n is the first that is no instance of its rule. Where the shelf tells, the two files read as these.
+pub record IsRefused (o : Outside) (theory proof : List ℕ) (n : ℕ) : Type 0 where
+  pub th : Theory
+  pub p : Proof
+  pub fails : FirstFail th p n
+  pub reads_theory : o.tells ≡ true → ReadsTheory o.held theory th
+  pub reads_proof : o.tells ≡ true → ReadsProof o.held proof th p
+
+-- The file was not read: the outside failed at this name, or the shelf tells that it holds nothing.
+abbrev pub IsUnread : Outside → (name : List ℕ) → Type 0
+IsUnread o name =
+    Struck o.faults_before o.faults_after o.last_after name false
+    ⊎ Missing o.tells (o.held name) o.faults_before o.faults_after o.last_before o.last_after
+
+-- More than the limit was taken of the file: at most one piece more, and no more than the file holds.
+pub record IsTooLong (o : Outside) (name : List ℕ) (count : ℕ) : Type 0 where
+  pub past : MOST_BYTES < count
+  pub within_piece : count ≤ MOST_BYTES + PIECE
+  pub within_file : o.tells ≡ true → (bytes : List ℕ) × ((o.held name ≡ Some bytes) × (count ≤ length bytes))
+
+-- The file of this number and name was not taken: it was not read, or it is too long, or memory ran out.
+abbrev pub IsUntaken : Outside → (file : ℕ) → (name : List ℕ) → Status → Type 0
+IsUntaken o file name (status.ReadFault n) = (n ≡ o.faults_after) × IsUnread o name
+IsUntaken o file name (status.TooLong f n) = (f ≡ file) × IsTooLong o name n
+IsUntaken o file name status.Memory = Unit {0}
+IsUntaken o file name _ = ⊥
+
+-- The file gives nothing: it was not taken, or its bytes are not what they should be.
+abbrev pub IsFileFault : Outside → (file : ℕ) → (name : List ℕ) → Cause → (List ℕ → Type 0) → Status → Type 0
+IsFileFault o file name c IsNone (status.Unreadable f place d) =
+    (f ≡ file) × (place ≡ 0) × (d ≡ c) × (o.tells ≡ true → (bytes : List ℕ) × ((o.held name ≡ Some bytes) × (length bytes ≤ MOST_BYTES) × IsNone bytes))
+IsFileFault o file name c IsNone s = IsUntaken o file name s
+
+abbrev pub IsNoTheory : List ℕ → Type 0
+IsNoTheory bytes = (th : Theory) → ReadsAs bytes th → ⊥
+
+abbrev pub IsNoProof : Theory → List ℕ → Type 0
+IsNoProof th bytes = (p : Proof) → ReadsAsProof th bytes p → ⊥
+
+abbrev pub IsTheoryFault : Outside → (name : List ℕ) → Status → Type 0
+IsTheoryFault o name = IsFileFault o 1 name cause.Shape IsNoTheory
+
+abbrev pub IsProofFault : Outside → (name : List ℕ) → Theory → Status → Type 0
+IsProofFault o name th = IsFileFault o 2 name cause.Line (IsNoProof th)
+
+-- Why a `check` of two files is refused: the theory file is at fault; or it reads, and the proof file is at fault; or both read, and a step fails.
+pub data RefusesCheck (o : Outside) (theory proof : List ℕ) : Status → Type 0 where
+  theory_fault : (s : Status) → IsTheoryFault o theory s → RefusesCheck o theory proof s
+  proof_fault : (s : Status) (th : Theory) → (o.tells ≡ true → ReadsTheory o.held theory th) → IsProofFault o proof th s → RefusesCheck o theory proof s
+  step_fails : (n : ℕ) → IsRefused o theory proof n → RefusesCheck o theory proof (status.Refused n)
+
+-- Why a run is refused: its words are no command, or its `check` is refused.
+pub data Refuses (words : List (List ℕ)) (o : Outside) : Status → Type 0 where
+  no_command : IsNoCheck words → Refuses words o status.Usage
+  no_check : (s : Status) (theory proof : List ℕ) → IsCheck words theory proof → RefusesCheck o theory proof s → Refuses words o s
+
+-- The answer that is due to a run, with its text: its words are a `check` that is accepted, or it is refused.
+pub data Due (words : List (List ℕ)) (o : Outside) : Status → List ℕ → Type 0 where
+  success : (theory proof text : List ℕ) → IsCheck words theory proof → IsAccepted o theory proof text → Due words o status.Ok text
+  refusal : (s : Status) → Refuses words o s → Due words o s (refusal_text s)
+
+-- What is known of a sink before and after a run.
+pub record Output : Type 0 where
+  pub tells : Bool
+  pub before : List ℕ
+  pub after : List ℕ
+  pub faults_before : ℕ
+  pub faults_after : ℕ
+
+abbrev pub output : Bool → (before after : List ℕ) → (faults_before faults_after : ℕ) → Output
+output t b a fb fa = record { tells = t; before = b; after = a; faults_before = fb; faults_after = fa }
+
+-- the sink got exactly this text, without a fault
+pub record Prints (out : Output) (text : List ℕ) : Type 0 where
+  pub quiet : out.faults_after ≡ out.faults_before
+  pub printed : out.tells ≡ true → out.after ≡ out.before ++ text
+
+-- the sink got the first bytes of this text
+abbrev pub PrintsPart : Output → List ℕ → Type 0
+PrintsPart out text = out.tells ≡ true → (part : List ℕ) × ((rest : List ℕ) × ((text ≡ part ++ rest) × (out.after ≡ out.before ++ part)))
+
+-- Writing a text for a status: it is printed, or a part of it and the answer says why.
+pub data Delivers (out : Output) (text : List ℕ) (s : Status) : Status → Type 0 where
+  whole : Prints out text → Delivers out text s s
+  write_failed : (n : ℕ) → n ≡ out.faults_after → Rose out.faults_before out.faults_after → PrintsPart out text → Delivers out text s (status.WriteFault n)
+  memory_wanted : out.faults_after ≡ out.faults_before → PrintsPart out text → Delivers out text s status.Memory
+
+-- What a run answers: the answer that is due, with its text printed; or a part of the text, and that the sink failed or memory ran out.
+pub record Answers (words : List (List ℕ)) (o : Outside) (out : Output) (s : Status) : Type 0 where
+  pub answer : Status
+  pub text : List ℕ
+  pub due : Due words o answer text
+  pub delivered : Delivers out text answer s
+
+-- The words are a `check` whose files read, whose proof is accepted and whose every goal behaves, and the text of this was printed.
+pub record Accepts (words : List (List ℕ)) (o : Outside) (out : Output) : Type 0 where
+  pub theory : List ℕ
+  pub proof : List ℕ
+  pub text : List ℕ
+  pub command : IsCheck words theory proof
+  pub accepted : IsAccepted o theory proof text
+  pub prints : Prints out text
+
+-- The words are a `check` whose files read, and step n is the first that is no instance of its rule.
+pub record Rejects (words : List (List ℕ)) (o : Outside) (out : Output) (n : ℕ) : Type 0 where
+  pub theory : List ℕ
+  pub proof : List ℕ
+  pub command : IsCheck words theory proof
+  pub refused : IsRefused o theory proof n
+  pub prints : Prints out (refusal_text (status.Refused n))

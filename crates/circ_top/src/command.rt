@@ -1,0 +1,214 @@
+//! The call `circ`: the program over any shelf and any sink.
+ghost use Rattle.std.specs.Prelude.{◌≡◌, ◌≤◌, ℕ, List, true, Some, length, map, string_bytes, IfOk, IfErr, OnOk, MatchOption};
+ghost use Rattle.circ_outer.specs.Shelf.{IsQuiet};
+ghost use Rattle.circ_top.specs.Plain.{plain_proof};
+ghost use Rattle.circ_top.specs.Proof.{ProofFor};
+ghost use Rattle.circ_top.specs.Outcome.{outside, output, IsCheck, IsNoCheck, Proves, Fails, Accepts, Rejects, ReadsTheory, ReadsProof, IsAccepted, IsUntaken, IsTheoryFault, IsProofFault, RefusesCheck, Refuses, Due, Delivers, Answers};
+
+use crate::check::{Verdict, check};
+use crate::files::{FileFault, MOST_BYTES, read_file};
+use crate::proof::Proof;
+use crate::proof_text::read_proof;
+use crate::status::{Cause, Status};
+use crate::texts::{accepted, refusal};
+use crate::theory_text::read_theory;
+use circ_outer::{OuterFault, Shelf, Sink, write_all};
+use circ_theory::Theory;
+use std::alloc::Global;
+
+/// The bytes of a file, or why there are none.
+fn take_file<S: Shelf>(
+    alloc: Global,
+    shelf: &mut S,
+    file: u8,
+    name: &str,
+) -> Result<Vec<u8>, Status>
+    ensures content { IfOk result (λ v. S.tells shelf.old ≡ true → S.holds shelf.old name.now ≡ Some v.items) }
+    ensures short { IfOk result (λ v. length v.items ≤ MOST_BYTES) }
+    ensures fault { IfErr result (IsUntaken (outside (S.tells shelf.old) (S.holds shelf.old) (S.fault_count shelf.old) (S.fault_count shelf.new) (S.last_fault shelf.old) (S.last_fault shelf.new)) file name.now) }
+    ensures quiet { OnOk result (IsQuiet (S.fault_count shelf.old) (S.fault_count shelf.new) (S.last_fault shelf.old) (S.last_fault shelf.new)) }
+    ensures tells { S.tells shelf.new ≡ S.tells shelf.old }
+    ensures holds { (n : List ℕ) → S.holds shelf.new n ≡ S.holds shelf.old n }
+{
+    match read_file(alloc, shelf, name) {
+        Ok(bytes) => Ok(bytes),
+        Err(FileFault::Failed) => Err(Status::ReadFault {
+            count: shelf.faults(),
+        }),
+        Err(FileFault::TooLong { count }) => Err(Status::TooLong { file, count }),
+        Err(FileFault::Memory) => Err(Status::Memory),
+    }
+}
+
+/// The theory that a file reads as, or why there is none.
+fn take_theory<S: Shelf>(alloc: Global, shelf: &mut S, name: &str) -> Result<Theory, Status>
+    ensures reads { IfOk result (λ th. S.tells shelf.old ≡ true → ReadsTheory (S.holds shelf.old) name.now th) }
+    ensures fault { IfErr result (IsTheoryFault (outside (S.tells shelf.old) (S.holds shelf.old) (S.fault_count shelf.old) (S.fault_count shelf.new) (S.last_fault shelf.old) (S.last_fault shelf.new)) name.now) }
+    ensures quiet { OnOk result (IsQuiet (S.fault_count shelf.old) (S.fault_count shelf.new) (S.last_fault shelf.old) (S.last_fault shelf.new)) }
+    ensures tells { S.tells shelf.new ≡ S.tells shelf.old }
+    ensures holds { (n : List ℕ) → S.holds shelf.new n ≡ S.holds shelf.old n }
+{
+    let bytes = match take_file(alloc, shelf, 1, name) {
+        Ok(bytes) => bytes,
+        Err(status) => return Err(status),
+    };
+    match read_theory(alloc, bytes.as_slice()) {
+        Ok(Some(theory)) => Ok(theory),
+        Ok(None) => Err(Status::Unreadable {
+            file: 1,
+            place: 0,
+            cause: Cause::Shape,
+        }),
+        Err(_) => Err(Status::Memory),
+    }
+}
+
+/// The proof that a file reads as, or why there is none.
+fn take_proof<S: Shelf>(
+    alloc: Global,
+    shelf: &mut S,
+    name: &str,
+    theory: &Theory,
+) -> Result<Proof, Status>
+    ensures reads { IfOk result (λ p. S.tells shelf.old ≡ true → ReadsProof (S.holds shelf.old) name.now theory.now (plain_proof p)) }
+    ensures fits { IfOk result (λ p. ProofFor theory.now (plain_proof p)) }
+    ensures fault { IfErr result (IsProofFault (outside (S.tells shelf.old) (S.holds shelf.old) (S.fault_count shelf.old) (S.fault_count shelf.new) (S.last_fault shelf.old) (S.last_fault shelf.new)) name.now theory.now) }
+    ensures quiet { OnOk result (IsQuiet (S.fault_count shelf.old) (S.fault_count shelf.new) (S.last_fault shelf.old) (S.last_fault shelf.new)) }
+    ensures tells { S.tells shelf.new ≡ S.tells shelf.old }
+    ensures holds { (n : List ℕ) → S.holds shelf.new n ≡ S.holds shelf.old n }
+{
+    let bytes = match take_file(alloc, shelf, 2, name) {
+        Ok(bytes) => bytes,
+        Err(status) => return Err(status),
+    };
+    match read_proof(alloc, theory, bytes.as_slice()) {
+        Ok(Some(proof)) => Ok(proof),
+        Ok(None) => Err(Status::Unreadable {
+            file: 2,
+            place: 0,
+            cause: Cause::Line,
+        }),
+        Err(_) => Err(Status::Memory),
+    }
+}
+
+/// The text of a proof that is accepted, or the number of its first step that is no instance of its rule.
+fn judge(alloc: Global, theory: &Theory, proof: &Proof) -> Result<Vec<u8>, Status>
+    requires { ProofFor theory.now (plain_proof proof.now) }
+    ensures accepted { IfOk result (λ v. Proves theory.now (plain_proof proof.now) v.items) }
+    ensures refused { IfErr result (Fails theory.now (plain_proof proof.now)) }
+{
+    theory.known();
+    match check(alloc, theory, proof) {
+        Ok(Verdict::Accepted) => match accepted(alloc, theory, proof) {
+            Ok(text) => Ok(text),
+            Err(_) => Err(Status::Memory),
+        },
+        Ok(Verdict::Refused { step }) => Err(Status::Refused { step }),
+        Err(_) => Err(Status::Memory),
+    }
+}
+
+/// Checks a proof file against a theory file: the text of a proof that is accepted, or the answer in its place.
+fn check_files<S: Shelf>(
+    alloc: Global,
+    shelf: &mut S,
+    theory: &str,
+    proof: &str,
+) -> Result<Vec<u8>, Status>
+    ensures accepted { IfOk result (λ v. IsAccepted (outside (S.tells shelf.old) (S.holds shelf.old) (S.fault_count shelf.old) (S.fault_count shelf.new) (S.last_fault shelf.old) (S.last_fault shelf.new)) theory.now proof.now v.items) }
+    ensures refused { IfErr result (RefusesCheck (outside (S.tells shelf.old) (S.holds shelf.old) (S.fault_count shelf.old) (S.fault_count shelf.new) (S.last_fault shelf.old) (S.last_fault shelf.new)) theory.now proof.now) }
+    ensures tells { S.tells shelf.new ≡ S.tells shelf.old }
+    ensures holds { (n : List ℕ) → S.holds shelf.new n ≡ S.holds shelf.old n }
+{
+    let theory = match take_theory(alloc, shelf, theory) {
+        Ok(theory) => theory,
+        Err(status) => return Err(status),
+    };
+    let proof = match take_proof(alloc, shelf, proof, &theory) {
+        Ok(proof) => proof,
+        Err(status) => return Err(status),
+    };
+    judge(alloc, &theory, &proof)
+}
+
+/// The theory and the proof that the words name, where they are a `check`.
+fn operands(words: &[String]) -> Option<(&str, &str)>
+    ensures { MatchOption result (IsNoCheck (map string_bytes words.now)) (λ o. IsCheck (map string_bytes words.now) o.0.now o.1.now) }
+{
+    if words.len() != 4 {
+        return None;
+    }
+    if words[1].as_bytes() != b"check".as_slice() {
+        return None;
+    }
+    Some((words[2].as_str(), words[3].as_str()))
+}
+
+/// The text that a run prints where it ends with 0, or the answer in its place.
+fn run<S: Shelf>(alloc: Global, words: &[String], shelf: &mut S) -> Result<Vec<u8>, Status>
+    ensures succeeds { IfOk result (λ v. Due (map string_bytes words.now) (outside (S.tells shelf.old) (S.holds shelf.old) (S.fault_count shelf.old) (S.fault_count shelf.new) (S.last_fault shelf.old) (S.last_fault shelf.new)) Status.Ok v.items) }
+    ensures refuses { IfErr result (Refuses (map string_bytes words.now) (outside (S.tells shelf.old) (S.holds shelf.old) (S.fault_count shelf.old) (S.fault_count shelf.new) (S.last_fault shelf.old) (S.last_fault shelf.new))) }
+    ensures tells { S.tells shelf.new ≡ S.tells shelf.old }
+    ensures holds { (n : List ℕ) → S.holds shelf.new n ≡ S.holds shelf.old n }
+{
+    match operands(words) {
+        None => Err(Status::Usage),
+        Some((theory, proof)) => check_files(alloc, shelf, theory, proof),
+    }
+}
+
+/// Writes the text of an answer. Where this fails, the answer is that it does.
+fn deliver<K: Sink>(out: &mut K, status: Status, text: &[u8]) -> Status
+    ensures delivers { Delivers (output (K.tells out.old) (K.written out.old) (K.written out.new) (K.fault_count out.old) (K.fault_count out.new)) text.now status result }
+    ensures tells { K.tells out.new ≡ K.tells out.old }
+{
+    match write_all(out, text) {
+        Ok(()) => status,
+        Err(OuterFault::Failed) => Status::WriteFault {
+            count: out.faults(),
+        },
+        Err(OuterFault::Memory) => Status::Memory,
+    }
+}
+
+/// Runs the program with its words, and says what came of it.
+fn answer<S: Shelf, K: Sink>(alloc: Global, words: &[String], shelf: &mut S, out: &mut K) -> Status
+    ensures answers { Answers (map string_bytes words.now) (outside (S.tells shelf.old) (S.holds shelf.old) (S.fault_count shelf.old) (S.fault_count shelf.new) (S.last_fault shelf.old) (S.last_fault shelf.new)) (output (K.tells out.old) (K.written out.old) (K.written out.new) (K.fault_count out.old) (K.fault_count out.new)) result }
+    ensures shelf_tells { S.tells shelf.new ≡ S.tells shelf.old }
+    ensures holds { (n : List ℕ) → S.holds shelf.new n ≡ S.holds shelf.old n }
+    ensures sink_tells { K.tells out.new ≡ K.tells out.old }
+{
+    let status = match run(alloc, words, shelf) {
+        Ok(text) => return deliver(out, Status::Ok, text.as_slice()),
+        Err(status) => status,
+    };
+    match refusal(alloc, &status) {
+        Ok(text) => deliver(out, status, text.as_slice()),
+        Err(_) => Status::Memory,
+    }
+}
+
+/// The program: `words` are its name and then `check THEORY PROOF`. The files are taken from the
+/// shelf, and the text of the answer is written to the sink, whole.
+pub fn circ<S: Shelf, K: Sink>(
+    alloc: Global,
+    words: &Vec<String>,
+    shelf: &mut S,
+    out: &mut K,
+) -> Status
+    // Status 0: the proof is accepted, so that every goal behaves. Status 1: which step is the first that is no instance
+    // of its rule. Where the shelf tells what the files hold, they read as this theory and this proof.
+    ensures accepted { result ≡ Status.Ok → Accepts (map string_bytes words.now.items) (outside (S.tells shelf.old) (S.holds shelf.old) (S.fault_count shelf.old) (S.fault_count shelf.new) (S.last_fault shelf.old) (S.last_fault shelf.new)) (output (K.tells out.old) (K.written out.old) (K.written out.new) (K.fault_count out.old) (K.fault_count out.new)) }
+    ensures refused { (n : ℕ) → result ≡ Status.Refused n → Rejects (map string_bytes words.now.items) (outside (S.tells shelf.old) (S.holds shelf.old) (S.fault_count shelf.old) (S.fault_count shelf.new) (S.last_fault shelf.old) (S.last_fault shelf.new)) (output (K.tells out.old) (K.written out.old) (K.written out.new) (K.fault_count out.old) (K.fault_count out.new)) n }
+
+    // Each answer has its cause and its text.
+    ensures answers { Answers (map string_bytes words.now.items) (outside (S.tells shelf.old) (S.holds shelf.old) (S.fault_count shelf.old) (S.fault_count shelf.new) (S.last_fault shelf.old) (S.last_fault shelf.new)) (output (K.tells out.old) (K.written out.old) (K.written out.new) (K.fault_count out.old) (K.fault_count out.new)) result }
+
+    // No name changes what it holds.
+    ensures holds { (n : List ℕ) → S.holds shelf.new n ≡ S.holds shelf.old n }
+    ensures shelf_tells { S.tells shelf.new ≡ S.tells shelf.old }
+    ensures sink_tells { K.tells out.new ≡ K.tells out.old }
+{
+    answer(alloc, words.as_slice(), shelf, out)
+}

@@ -1,0 +1,20 @@
+//! Laws on the definitions behind the clauses of `circ`.
+ghost use Rattle.std.specs.Prelude.{◌≡◌};
+ghost use Rattle.circ_term.specs.declared.TheConstants.{MOST_NODES, MOST_DEPTH};
+ghost use Rattle.circ_theory.specs.declared.TheConstants.{MOST_SORTS, MOST_OPS, MOST_EQUATIONS, MOST_ARGS};
+ghost use Rattle.circ_top.specs.declared.files.TheConstants.{MOST_BYTES, PIECE};
+ghost use Rattle.circ_top.specs.declared.TheConstants.{MOST_TOKENS};
+
+/// The limits in numbers: bytes of a file and of a piece, nodes and levels of a term, sorts,
+/// operators, their arguments and equations of a theory, words of a side of an equation.
+pub fn limits()
+    ensures bytes { MOST_BYTES ≡ 67108864 }
+    ensures piece { PIECE ≡ 65536 }
+    ensures nodes { MOST_NODES ≡ 1000000 }
+    ensures depth { MOST_DEPTH ≡ 1000 }
+    ensures sorts { MOST_SORTS ≡ 4096 }
+    ensures operators { MOST_OPS ≡ 65536 }
+    ensures args { MOST_ARGS ≡ 16 }
+    ensures equations { MOST_EQUATIONS ≡ 65536 }
+    ensures words { MOST_TOKENS ≡ 256 }
+{}

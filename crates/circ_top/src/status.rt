@@ -1,0 +1,127 @@
+//! What the program answers.
+ghost use Rattle.std.specs.Prelude.{◌≡◌};
+ghost use Rattle.circ_top.specs.Status.{number_of};
+
+use circ_theory::Text;
+
+/// Why a text was not read, in the order in which the causes of one statement are tested.
+#[derive(Drop)]
+pub enum Cause {
+    /// A byte of 128 or more, and the number of bytes before it.
+    NotAscii { place: u64 },
+    /// A byte that is no text, and the number of bytes before it.
+    Control { place: u64 },
+    /// Something that the program leaves out.
+    LeftOut { word: Text },
+    /// A departure from the form of the text.
+    Shape,
+    /// The name of no library theory.
+    UnknownTheory,
+    /// The name of no sort.
+    UnknownSort,
+    /// A term of too many tokens, and their number.
+    TooLong { count: u64 },
+    /// Tokens that spell no term.
+    NoParse,
+    /// Tokens with two readings, of which two are shown.
+    Ambiguous { first: Text, second: Text },
+    /// A part that is there already, by its number.
+    Twice { number: u32 },
+    /// An operator that does not fit its sorts.
+    IllSorted { operator: u32 },
+    /// A derivative's parameter that occurs twice.
+    NotLinear { variable: u32 },
+    /// The number of a derivative's holes, which is not 1.
+    HoleCount { count: u32 },
+    /// A case list without a constant.
+    NoConstant,
+    /// A case list of a hidden sort.
+    NotVisible { sort: u32 },
+    /// A derivative of a sort with a case list.
+    NowHidden { sort: u32 },
+    /// More parts than the limit, and their number.
+    Limit { count: u64 },
+    /// A script or block without a goal.
+    NoGoal,
+    /// Goals that no `coinduction` closes.
+    Unclosed,
+    /// A line that departs from the form of a proof file.
+    Line,
+    /// A line of a proof file that passes a limit.
+    LineLimit,
+}
+
+/// How a run of the program ended. File 1 is the theory, file 2 the proof or script that is read,
+/// and file 3 the proof that is to be stored.
+#[derive(Drop)]
+pub enum Status {
+    /// The work is done, and its text was written.
+    Ok,
+    /// The first step that is no instance of its rule, counted from 1.
+    Refused {
+        step: u64,
+    },
+    /// A text that was not read: its file, the statement or line, and the cause.
+    Unreadable {
+        file: u8,
+        place: u64,
+        cause: Cause,
+    },
+    /// The words are no command.
+    Usage,
+    /// A file of more than 67,108,864 bytes, and how many bytes of it were taken.
+    TooLong {
+        file: u8,
+        count: u64,
+    },
+    /// A goal that the search cannot do: its block, and its place in the block, both counted from 1.
+    Stuck {
+        block: u32,
+        goal: u64,
+    },
+    /// A budget that is used up, and the steps that were made.
+    Spent {
+        rewrites: u64,
+        derives: u64,
+        steps: u64,
+    },
+    /// A file was not read; the shelf's count of faults.
+    ReadFault {
+        count: u64,
+    },
+    /// A file was not stored, or the text not written; the count of faults of what failed.
+    WriteFault {
+        count: u64,
+    },
+    /// No memory was left.
+    Memory,
+    /// A term of too many nodes, and their number.
+    TooBig {
+        nodes: u64,
+    },
+    /// A term of too many levels, and their number.
+    TooDeep {
+        depth: u64,
+    },
+}
+
+impl Status {
+    /// The number with which the program ends.
+    pub fn number(&self) -> u8
+        ensures { result ≡ number_of self.now }
+    {
+        match self {
+            Status::Ok => 0,
+            Status::Refused { .. } => 1,
+            Status::Unreadable { .. } => 2,
+            Status::Usage => 3,
+            Status::TooLong { .. } => 4,
+            Status::Stuck { .. } => 5,
+            Status::Spent { .. } => 6,
+            Status::ReadFault { .. } => 7,
+            Status::WriteFault { .. } => 8,
+            Status::Memory => 9,
+            Status::TooBig { .. } | Status::TooDeep { .. } => 10,
+        }
+    }
+}

@@ -1,0 +1,254 @@
+//! The printed texts: terms, goals and answers.
+ghost use Rattle.std.specs.Prelude.{◌≡◌, ◌++◌, [], OnOk, IfOk, codes, decimal, slice_get, unwrap_or};
+ghost use Rattle.std.specs.List.{AllByRecursion};
+ghost use Rattle.circ_term.specs.Tree.{trees_of};
+ghost use Rattle.circ_top.specs.Proof.{IsNameFor, goal_of, goals_of};
+ghost use Rattle.circ_top.specs.Plain.{plain_name, plain_proof};
+ghost use Rattle.circ_top.specs.Texts.{piece_text, further_piece, pieces_text, operator_text, term_text, args_text, further_text, goal_line, accepted_text, cause_text, place_text, refusal_text};
+ghost use Rattle.circ_top.specs.ProofText.{texts};
+
+use crate::proof::{Name, Proof, term_at};
+use crate::status::{Cause, Status};
+use circ_term::{Kind, Term};
+use circ_theory::{Piece, Theory};
+use itoa::Buffer;
+use std::alloc::{AllocError, Global};
+
+fn push_number(out: &mut Vec<u8>, number: u64) -> Result<(), AllocError>
+    ensures { OnOk result (out.new.items ≡ out.old.items ++ decimal number) }
+{
+    let mut buffer = Buffer::new();
+    out.extend_from_slice(buffer.format(number).as_bytes())
+}
+
+fn push_piece(out: &mut Vec<u8>, piece: &Piece) -> Result<(), AllocError>
+    ensures { OnOk result (out.new.items ≡ out.old.items ++ piece_text piece.now) }
+{
+    match piece {
+        Piece::Hole => out.extend_from_slice(b"_"),
+        Piece::Word(word) => out.extend_from_slice(word.bytes()),
+    }
+}
+
+fn push_further_piece(out: &mut Vec<u8>, piece: &Piece) -> Result<(), AllocError>
+    ensures { OnOk result (out.new.items ≡ out.old.items ++ further_piece piece.now) }
+{
+    out.extend_from_slice(b" ")?;
+    push_piece(out, piece)
+}
+
+fn push_further_pieces(out: &mut Vec<u8>, pieces: &[Piece]) -> Result<(), AllocError>
+    ensures { OnOk result (out.new.items ≡ out.old.items ++ texts further_piece pieces.now) }
+{
+    for piece in pieces {
+        push_further_piece(out, piece)?;
+    }
+    Ok(())
+}
+
+fn push_pieces(out: &mut Vec<u8>, pieces: &[Piece]) -> Result<(), AllocError>
+    ensures { OnOk result (out.new.items ≡ out.old.items ++ pieces_text pieces.now) }
+{
+    let Some((first, rest)) = pieces.split_first() else {
+        return Ok(());
+    };
+    push_piece(out, first)?;
+    push_further_pieces(out, rest)
+}
+
+fn push_operator(out: &mut Vec<u8>, theory: &Theory, op: u32) -> Result<(), AllocError>
+    ensures { OnOk result (out.new.items ≡ out.old.items ++ operator_text (slice_get theory.now.signature.ops op)) }
+{
+    match theory.op(op) {
+        None => Ok(()),
+        Some(decl) => push_pieces(out, decl.form.pieces()),
+    }
+}
+
+fn push_variable(
+    out: &mut Vec<u8>,
+    theory: &Theory,
+    number: u32,
+    sort: u32,
+) -> Result<(), AllocError>
+    ensures { OnOk result (out.new.items ≡ out.old.items ++ (codes "V" ++ decimal number ++ codes ":" ++ unwrap_or (slice_get theory.now.signature.sorts sort) [])) }
+{
+    out.extend_from_slice(b"V")?;
+    push_number(out, number as u64)?;
+    out.extend_from_slice(b":")?;
+    match theory.sort_name(sort) {
+        None => Ok(()),
+        Some(name) => out.extend_from_slice(name),
+    }
+}
+
+/// Appends a term's text.
+#[cycle(print)]
+pub(crate) fn push_term(out: &mut Vec<u8>, theory: &Theory, term: &Term) -> Result<(), AllocError>
+    ensures { OnOk result (out.new.items ≡ out.old.items ++ term_text theory.now.signature term.now) }
+{
+    match term.kind() {
+        Kind::Variable { number, sort } => push_variable(out, theory, number, sort),
+        Kind::Application { op, args, .. } => {
+            push_operator(out, theory, op)?;
+            push_args(out, theory, args)
+        }
+    }
+}
+
+#[cycle(print)]
+fn push_args(out: &mut Vec<u8>, theory: &Theory, args: &[Term]) -> Result<(), AllocError>
+    ensures { OnOk result (out.new.items ≡ out.old.items ++ args_text theory.now.signature (trees_of args.now)) }
+{
+    let Some((first, rest)) = args.split_first() else {
+        return Ok(());
+    };
+    out.extend_from_slice(b"(")?;
+    push_term(out, theory, first)?;
+    push_further_args(out, theory, rest)?;
+    out.extend_from_slice(b")")
+}
+
+#[cycle(print)]
+fn push_further_args(out: &mut Vec<u8>, theory: &Theory, args: &[Term]) -> Result<(), AllocError>
+    ensures { OnOk result (out.new.items ≡ out.old.items ++ further_text theory.now.signature (trees_of args.now)) }
+{
+    for arg in args {
+        out.extend_from_slice(b", ")?;
+        push_term(out, theory, arg)?;
+    }
+    Ok(())
+}
+
+fn push_goal(
+    out: &mut Vec<u8>,
+    theory: &Theory,
+    table: &[Term],
+    name: &Name,
+) -> Result<(), AllocError>
+    requires { IsNameFor table.now (plain_name name.now) }
+    ensures { OnOk result (out.new.items ≡ out.old.items ++ goal_line theory.now.signature (goal_of table.now (plain_name name.now))) }
+{
+    out.extend_from_slice(b"goal: ")?;
+    push_term(out, theory, term_at(table, name.left))?;
+    out.extend_from_slice(b" = ")?;
+    push_term(out, theory, term_at(table, name.right))?;
+    out.extend_from_slice(b"\n")
+}
+
+/// The text of an accepted proof: its goals, one a line.
+pub(crate) fn accepted(alloc: Global, theory: &Theory, proof: &Proof) -> Result<Vec<u8>, AllocError>
+    requires { AllByRecursion (IsNameFor (plain_proof proof.now).table) (plain_proof proof.now).names }
+    ensures { IfOk result (λ v. v.items ≡ accepted_text theory.now.signature (goals_of (plain_proof proof.now))) }
+{
+    let table = proof.table.as_slice();
+    let mut out = Vec::from_slice(alloc, b"accepted\n")?;
+    for name in &proof.names {
+        push_goal(&mut out, theory, table, name)?;
+    }
+    Ok(out)
+}
+
+fn push_numbered(out: &mut Vec<u8>, text: &[u8], number: u64) -> Result<(), AllocError>
+    ensures { OnOk result (out.new.items ≡ out.old.items ++ (text.now ++ decimal number)) }
+{
+    out.extend_from_slice(text)?;
+    push_number(out, number)
+}
+
+#[tactic(auto, using(crate::proofs::Rules::joins))]
+fn push_readings(out: &mut Vec<u8>, first: &[u8], second: &[u8]) -> Result<(), AllocError>
+    ensures { OnOk result (out.new.items ≡ out.old.items ++ (codes "ambiguous: " ++ first.now ++ codes " | " ++ second.now)) }
+{
+    out.extend_from_slice(b"ambiguous: ")?;
+    out.extend_from_slice(first)?;
+    out.extend_from_slice(b" | ")?;
+    out.extend_from_slice(second)
+}
+
+fn push_cause(out: &mut Vec<u8>, cause: &Cause) -> Result<(), AllocError>
+    ensures { OnOk result (out.new.items ≡ out.old.items ++ cause_text cause.now) }
+{
+    match cause {
+        Cause::NotAscii { place } => push_numbered(out, b"not ascii at ", *place),
+        Cause::Control { place } => push_numbered(out, b"control at ", *place),
+        Cause::LeftOut { word } => {
+            out.extend_from_slice(b"left out: ")?;
+            out.extend_from_slice(word.bytes())
+        }
+        Cause::Shape => out.extend_from_slice(b"shape"),
+        Cause::UnknownTheory => out.extend_from_slice(b"unknown theory"),
+        Cause::UnknownSort => out.extend_from_slice(b"unknown sort"),
+        Cause::TooLong { count } => {
+            push_numbered(out, b"too long: ", *count)?;
+            out.extend_from_slice(b" tokens")
+        }
+        Cause::NoParse => out.extend_from_slice(b"no parse"),
+        Cause::Ambiguous { first, second } => push_readings(out, first.bytes(), second.bytes()),
+        Cause::Twice { number } => push_numbered(out, b"twice: ", u64::from(*number)),
+        Cause::IllSorted { operator } => push_numbered(out, b"ill sorted: ", u64::from(*operator)),
+        Cause::NotLinear { variable } => push_numbered(out, b"not linear: ", u64::from(*variable)),
+        Cause::HoleCount { count } => push_numbered(out, b"holes: ", u64::from(*count)),
+        Cause::NoConstant => out.extend_from_slice(b"no constant"),
+        Cause::NotVisible { sort } => push_numbered(out, b"not visible: ", u64::from(*sort)),
+        Cause::NowHidden { sort } => push_numbered(out, b"now hidden: ", u64::from(*sort)),
+        Cause::Limit { count } => push_numbered(out, b"limit: ", *count),
+        Cause::NoGoal => out.extend_from_slice(b"no goal"),
+        Cause::Unclosed => out.extend_from_slice(b"unclosed"),
+        Cause::Line => out.extend_from_slice(b"form"),
+        Cause::LineLimit => out.extend_from_slice(b"limit"),
+    }
+}
+
+fn place_words(file: u8) -> &'static [u8]
+    ensures { result.now ≡ place_text file }
+{
+    if file == 2 {
+        b", line "
+    } else {
+        b", statement "
+    }
+}
+
+#[tactic(auto, using(crate::proofs::Rules::joins))]
+fn push_place(out: &mut Vec<u8>, file: u8, place: u64) -> Result<(), AllocError>
+    ensures { OnOk result (out.new.items ≡ out.old.items ++ (codes "unreadable: file " ++ decimal file ++ place_text file ++ decimal place ++ codes ", ")) }
+{
+    push_numbered(out, b"unreadable: file ", u64::from(file))?;
+    push_numbered(out, place_words(file), place)?;
+    out.extend_from_slice(b", ")
+}
+
+#[tactic(auto, using(crate::proofs::Rules::joins))]
+fn push_refusal(out: &mut Vec<u8>, status: &Status) -> Result<(), AllocError>
+    ensures { OnOk result (out.new.items ≡ out.old.items ++ refusal_text status.now) }
+{
+    match status {
+        Status::Refused { step } => {
+            push_numbered(out, b"refused at ", *step)?;
+            out.extend_from_slice(b"\n")
+        }
+        Status::Unreadable { file, place, cause } => {
+            push_place(out, *file, *place)?;
+            push_cause(out, cause)?;
+            out.extend_from_slice(b"\n")
+        }
+        Status::Usage => out.extend_from_slice(
+            b"usage: circ [--steps N] [--derives N] COMMAND WORD...\n",
+        ),
+        Status::TooLong { file, .. } => {
+            push_numbered(out, b"too long: file ", u64::from(*file))?;
+            out.extend_from_slice(b"\n")
+        }
+        _ => Ok(()),
+    }
+}
+
+/// The text of a refusal: nothing for the answers that have a text of their own, or none.
+pub(crate) fn refusal(alloc: Global, status: &Status) -> Result<Vec<u8>, AllocError>
+    ensures { IfOk result (λ v. v.items ≡ refusal_text status.now) }
+{
+    let mut out = Vec::new(alloc);
+    push_refusal(&mut out, status)?;
+    Ok(out)
+}
