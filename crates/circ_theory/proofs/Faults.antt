@@ -8,12 +8,12 @@ use Rattle.std.proofs.lemmas.List.Elements.{Contains-push, Contains-append_left}
 use Rattle.std.proofs.lemmas.Grind.{common_steps}
 use Rattle.circ_theory.specs.declared.fault.TheoryFault.{TheoryFault}
 use Rattle.circ_theory.specs.declared.fault.TheoryFault.TheVariants.{Twice, UnknownSort, IllSorted, Limit}
-use Rattle.circ_theory.specs.declared.TheConstants.{MOST_ARGS, MOST_OPS}
+use Rattle.circ_theory.specs.declared.TheConstants.{MOST_ARGS, MOST_OPS, MOST_VARS}
 use Rattle.circ_theory.specs.Form.{IsForm}
 use Rattle.circ_theory.specs.Signature.{Signature, Operator, IsSort}
 use Rattle.circ_theory.specs.Theory.{Theory}
 use Rattle.circ_theory.specs.Operators.{form_fits, has_mark, is_binary, is_ill_sorted, IsOperator}
-use Rattle.circ_theory.specs.Adding.{count_fault, is_no_sort, unknown_sort, op_number, op_fault}
+use Rattle.circ_theory.specs.Adding.{count_fault, is_no_sort, new_var_fault, unknown_sort, op_number, op_fault}
 
 -- the first fault, from what each test answers
 pub op_fault_by : (th : Theory) (o : Operator) (a b : Option ℕ) (v w : Bool) (f : Option TheoryFault)
@@ -102,3 +102,9 @@ new_operator th o is_form e =
       };
       room = room_left MOST_OPS (length th.signature.ops) d.1;
     }
+
+-- a new variable without a fault has a sort, and there is room for it
+pub new_variable : (th : Theory) (s : ℕ) → new_var_fault th s ≡ None → IsSort th.signature s × (length th.variables < MOST_VARS)
+new_variable th s e =
+    let parts = option_or_none (if is_no_sort th.signature s then Some (UnknownSort s) else None) (count_fault MOST_VARS (length th.variables)) e in
+    (known_sort th.signature s (only_if (is_no_sort th.signature s) (UnknownSort s) parts.0), room_left MOST_VARS (length th.variables) parts.1)

@@ -4,9 +4,9 @@ use Rattle.std.specs.List.{slice_get, Contains}
 use Rattle.std.proofs.lemmas.List.Elements.{Contains-push_cases}
 use Rattle.circ_term.specs.Tree.{Tree, Trees, Var, App, none, more}
 use Rattle.circ_theory.specs.declared.parts.Equation.{Equation}
-use Rattle.circ_theory.specs.declared.TheConstants.{MOST_SORTS, MOST_OPS, MOST_EQUATIONS}
+use Rattle.circ_theory.specs.declared.TheConstants.{MOST_SORTS, MOST_VARS, MOST_OPS, MOST_EQUATIONS}
 use Rattle.circ_theory.specs.Signature.{Signature, Operator, IsSort, IsWellSorted, HaveSorts}
-use Rattle.circ_theory.specs.Theory.{Theory, Derivative, CaseList, IsWellSortedPair, pair_of}
+use Rattle.circ_theory.specs.Theory.{Theory, Declared, declared, Derivative, CaseList, IsWellSortedPair, pair_of}
 use Rattle.circ_theory.specs.Variables.{IsInOrder}
 use Rattle.circ_theory.specs.Operators.{IsOperator}
 use Rattle.circ_theory.specs.WellFormed.{IsDerivative, IsCaseList, IsWellFormed}
@@ -66,15 +66,39 @@ sort_grows th name h room =
     record {
       equations = λ e c. pair_stays th.signature b x e (h.equations e c);
       in_order = h.in_order;
+      variables = λ d c. x.sorts d.sort (h.variables d c);
       operators = λ o c. operator_stays th.signature b x o (h.operators o c);
       derivatives = λ d c. derivative_stays th.signature b x d (h.derivatives d c);
       cases = λ m c. case_list_stays th (with_sort th name) x refl m (h.cases m c);
       one_list = h.one_list;
       few_sorts = omega arith;
+      few_variables = h.few_variables;
       few_ops = h.few_ops;
       few_equations = h.few_equations;
       few_derivatives = h.few_derivatives;
     }
+
+pub var_grows : (th : Theory) (d : Declared) → IsWellFormed th → IsSort th.signature d.sort → length th.variables < MOST_VARS → IsWellFormed (record th { variables = th.variables ++ d ∷ [] })
+var_grows th d h sort room =
+    let l = length-push th.variables d in
+    record {
+      equations = h.equations;
+      in_order = h.in_order;
+      variables = λ e c. either e (Contains-push_cases th.variables d e c);
+      operators = h.operators;
+      derivatives = h.derivatives;
+      cases = λ m c. case_list_stays th (record th { variables = th.variables ++ d ∷ [] }) (record { sorts = λ s i. i; ops = λ f o g. g }) refl m (h.cases m c);
+      one_list = h.one_list;
+      few_sorts = h.few_sorts;
+      few_variables = omega arith;
+      few_ops = h.few_ops;
+      few_equations = h.few_equations;
+      few_derivatives = h.few_derivatives;
+    }
+  where
+    either : (e : Declared) → Contains th.variables e ⊎ (d ≡ e) → IsSort th.signature e.sort
+    either e (inl c) = h.variables e c
+    either e (inr q) = let P : Declared → Type 0 = λ x. IsSort th.signature x.sort in subst P q sort
 
 pub op_grows : (th : Theory) (o : Operator) → IsWellFormed th → IsOperator th.signature o → length th.signature.ops < MOST_OPS → IsWellFormed (with_op th o)
 op_grows th o h new room =
@@ -84,11 +108,13 @@ op_grows th o h new room =
     record {
       equations = λ e c. pair_stays th.signature b x e (h.equations e c);
       in_order = h.in_order;
+      variables = h.variables;
       operators = λ p c. either x p (Contains-push_cases th.signature.ops o p c);
       derivatives = λ d c. derivative_stays th.signature b x d (h.derivatives d c);
       cases = λ m c. case_list_stays th (with_op th o) x refl m (h.cases m c);
       one_list = h.one_list;
       few_sorts = h.few_sorts;
+      few_variables = h.few_variables;
       few_ops = omega arith;
       few_equations = h.few_equations;
       few_derivatives = h.few_derivatives;
@@ -105,11 +131,13 @@ equation_grows th e h sorted order room =
     record {
       equations = λ d c. either d (Contains-push_cases th.equations e d c);
       in_order = λ d c. ordered d (Contains-push_cases th.equations e d c);
+      variables = h.variables;
       operators = h.operators;
       derivatives = h.derivatives;
       cases = λ m c. case_list_stays th (with_equation th e) (record { sorts = λ s i. i; ops = λ f p g. g }) refl m (h.cases m c);
       one_list = h.one_list;
       few_sorts = h.few_sorts;
+      few_variables = h.few_variables;
       few_ops = h.few_ops;
       few_equations = omega arith;
       few_derivatives = h.few_derivatives;

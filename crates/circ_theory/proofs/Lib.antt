@@ -2,6 +2,8 @@ pub mod Cutting
 pub mod Lists
 pub mod Growing
 pub mod Keys
+pub mod Declaring
 pub mod Binding
 pub mod Faults
 pub mod Sorted
+pub mod Gathering

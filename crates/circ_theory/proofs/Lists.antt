@@ -77,7 +77,7 @@ insert_entry-last eq (e ∷ es) k v h = go (λ g. insert_entry-last eq es k v g)
     go ih true f = absurd (let z = rw f at h in cc)
     go ih false f = rw f (ap (λ l. e ∷ l) (ih (rw f at h)))
 
-list_any-map : {X Y : Type 0} (p : Y → Bool) (f : X → Y) (xs : List X) → list_any p (map f xs) ≡ list_any (λ x. p (f x)) xs
+pub list_any-map : {X Y : Type 0} (p : Y → Bool) (f : X → Y) (xs : List X) → list_any p (map f xs) ≡ list_any (λ x. p (f x)) xs
 list_any-map p f [] = refl
 list_any-map p f (x ∷ xs) = ap (λ b. p (f x) || b) (list_any-map p f xs)
 

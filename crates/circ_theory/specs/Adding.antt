@@ -1,5 +1,5 @@
 -- Adding a part to a theory: when it is refused, and what is there afterwards.
-use Rattle.std.specs.Prelude.{◌≡◌, ℕ, ◌+◌, List, [], ◌∷◌, ◌++◌, Bool, not, nat_eq, nat_lt, if◌then◌else◌, length, map, position, find, Option, Some, None, Result, Ok, Err}
+use Rattle.std.specs.Prelude.{◌≡◌, ℕ, ◌+◌, List, [], ◌∷◌, ◌++◌, Bool, not, ◌==◌, nat_eq, nat_lt, if◌then◌else◌, length, map, position, find, Option, Some, None, is_some, unwrap_or, Result, Ok, Err}
 use Rattle.std.specs.List.{slice_get}
 use Rattle.std.specs.Option.{option_map, option_or, option_and_then}
 use Rattle.std.specs.Cmp.Lexicographic.{pointwise}
@@ -7,9 +7,9 @@ use Rattle.circ_term.specs.Tree.{Tree, App, sort_of, trees_of}
 use Rattle.circ_theory.specs.declared.parts.Equation.{Equation}
 use Rattle.circ_theory.specs.declared.fault.TheoryFault.{TheoryFault}
 use Rattle.circ_theory.specs.declared.fault.TheoryFault.TheVariants.{Twice, UnknownSort, IllSorted, Limit, Memory}
-use Rattle.circ_theory.specs.declared.TheConstants.{MOST_SORTS, MOST_OPS, MOST_EQUATIONS, MOST_ARGS}
+use Rattle.circ_theory.specs.declared.TheConstants.{MOST_SORTS, MOST_VARS, MOST_OPS, MOST_EQUATIONS, MOST_ARGS}
 use Rattle.circ_theory.specs.Signature.{Signature, Operator}
-use Rattle.circ_theory.specs.Theory.{Theory}
+use Rattle.circ_theory.specs.Theory.{Theory, declared}
 use Rattle.circ_theory.specs.Operators.{is_same_operator, is_ill_sorted}
 
 -- the number of the sort of this name
@@ -31,6 +31,22 @@ is_no_sort sig s = not (nat_lt s (length sig.sorts))
 abbrev pub unknown_sort : Signature → Operator → Option ℕ
 unknown_sort sig o = find (is_no_sort sig) (o.args ++ o.result ∷ [])
 
+-- the number of the declared variable of this name
+abbrev pub var_number : Theory → List ℕ → Option ℕ
+var_number th name = position (λ d. pointwise nat_eq name d.name) th.variables
+
+-- why variable n is not declared with this sort again: it has another
+abbrev pub old_var_fault : Theory → (sort n : ℕ) → Option TheoryFault
+old_var_fault th sort n = option_and_then (λ d. if d.sort == sort then None else Some (Twice n)) (slice_get th.variables n)
+
+-- why a variable of a new name is not added
+abbrev pub new_var_fault : Theory → (sort : ℕ) → Option TheoryFault
+new_var_fault th sort = option_or (if is_no_sort th.signature sort then Some (UnknownSort sort) else None) (count_fault MOST_VARS (length th.variables))
+
+-- why a variable is not declared
+abbrev pub var_fault : Theory → List ℕ → (sort : ℕ) → Option TheoryFault
+var_fault th name sort = unwrap_or (option_map (old_var_fault th sort) (var_number th name)) (new_var_fault th sort)
+
 -- the number of the operator of this form and these argument sorts
 abbrev pub op_number : Signature → Operator → Option ℕ
 op_number sig o = position (is_same_operator o) sig.ops
@@ -50,6 +66,10 @@ equation_fault th = count_fault MOST_EQUATIONS (length th.equations)
 
 abbrev pub with_sort : Theory → List ℕ → Theory
 with_sort th name = record th { signature = record th.signature { sorts = th.signature.sorts ++ name ∷ [] } }
+
+-- the theory in which the variable is declared, as it may be already
+abbrev pub with_var : Theory → List ℕ → (sort : ℕ) → Theory
+with_var th name sort = if is_some (var_number th name) then th else record th { variables = th.variables ++ declared name sort ∷ [] }
 
 abbrev pub with_op : Theory → Operator → Theory
 with_op th o = record th { signature = record th.signature { ops = th.signature.ops ++ o ∷ [] } }

@@ -7,7 +7,7 @@ use Rattle.circ_theory.specs.declared.theories.Listed.{Listed}
 use Rattle.circ_theory.specs.declared.theories.Theory.TheInside.{Inside}
 use Rattle.circ_theory.specs.Form.{text_of, IsForm}
 use Rattle.circ_theory.specs.Signature.{Operator}
-use Rattle.circ_theory.specs.Theory.{Theory, pair_of}
+use Rattle.circ_theory.specs.Theory.{Theory, declared, pair_of}
 use Rattle.circ_theory.specs.Variables.{sorts_of}
 use Rattle.circ_theory.specs.Operators.{operator_of}
 use Rattle.circ_theory.specs.WellFormed.{IsWellFormed}
@@ -30,7 +30,7 @@ abbrev pub theory_of : Inside → Theory
 theory_of a = record {
   name = a.name;
   signature = record { sorts = map (λ k. k.items) a.sorts.keys; ops = map (λ e. operator_of e.1) a.ops.entries };
-  variables = [];
+  variables = map (λ e. declared e.0.items e.1) a.vars.entries;
   equations = map (λ l. l.equation) a.equations.items;
   derivatives = [];
   cases = [];

@@ -16,3 +16,5 @@ pub mod Behaviour
 pub mod Numbering
 pub mod Rewriting
 pub mod Examples
+pub mod Renumbering
+pub mod Occurring

@@ -114,7 +114,7 @@ any_absent k n s (t ∷ ss) h = go (any_absent (k + 1) n s ss (λ i e g. h (suc 
     go rest false e = rest
 
 -- a variable that was seen
-seen_there : (n s : ℕ) (ss : List ℕ) → slice_get ss n ≡ Some s → seen (record { number = n; sort = s }) (numbered 0 ss) ≡ numbered 0 ss
+pub seen_there : (n s : ℕ) (ss : List ℕ) → slice_get ss n ≡ Some s → seen (record { number = n; sort = s }) (numbered 0 ss) ≡ numbered 0 ss
 seen_there n s ss g =
     let z : 0 + n ≡ n = omega arith in
     let P : ℕ → Type 0 = λ m. list_any (is_variable (record { number = m; sort = s })) (numbered 0 ss) ≡ true in

@@ -9,6 +9,9 @@ pub record Pair : Type 0 where
   pub left : Tree
   pub right : Tree
 
+abbrev pub pair_with : Tree → Tree → Pair
+pair_with s t = record { left = s; right = t }
+
 -- a term with a hole, which is variable 0 of this sort; the other variables are its parameters
 pub record Derivative : Type 0 where
   pub hole : ℕ
@@ -19,9 +22,13 @@ pub record CaseList : Type 0 where
   pub sort : ℕ
   pub constants : List ℕ
 
+-- a declared variable
 pub record Declared : Type 0 where
   pub name : List ℕ
   pub sort : ℕ
+
+abbrev pub declared : List ℕ → ℕ → Declared
+declared name sort = record { name = name; sort = sort }
 
 -- The parts of each kind are numbered from 0, in order of declaration.
 pub record Theory : Type 0 where

@@ -10,6 +10,7 @@ mod forms;
 pub mod laws;
 mod order;
 mod parts;
+mod renumber;
 mod replay;
 #[cfg(test)]
 mod tests;
@@ -19,11 +20,15 @@ pub use fault::TheoryFault;
 pub use forms::{Form, FormFault, Piece, Text};
 pub use order::in_order;
 pub use parts::{Equation, Goal, OpDecl, Script, Side};
+pub use renumber::renumbered;
 pub use replay::{Link, Way, follow};
 pub use theories::Theory;
 
 /// The most sorts of a theory.
 pub const MOST_SORTS: usize = 4_096;
+
+/// The most declared variables of a theory.
+pub const MOST_VARS: usize = 65_536;
 
 /// The most operators of a theory.
 pub const MOST_OPS: usize = 65_536;

@@ -1,5 +1,6 @@
 use crate::{
     Form, FormFault, Link, OpDecl, Side, Text, Theory, TheoryFault, Way, follow, in_order,
+    renumbered,
 };
 use circ_term::Term;
 use smallvec::SmallVec;
@@ -163,6 +164,40 @@ fn is_same(found: Option<Term>, wanted: &Term) -> bool {
         Some(term) => term.same(wanted),
         None => false,
     }
+}
+
+// Whether the variable of this number has this name and this sort, and the name this number.
+fn has_var(theory: &Theory, number: u32, name: &[u8], sort: u32) -> bool {
+    match theory.var(number) {
+        Some((found, of)) => found == name && of == sort && theory.var_named(name) == Some(number),
+        None => false,
+    }
+}
+
+// Whether the variables 7 and 3 of the two terms become 0 and 1.
+fn is_renumbered(alloc: Global) -> Result<bool, Fail> {
+    let (left, right) = renumbered(alloc, &Term::var(7, 0), &Term::var(3, 0))?;
+    Ok(left.same(&Term::var(0, 0)) && right.same(&Term::var(1, 0)))
+}
+
+#[test]
+fn variables(rt: HostRuntime) -> Result<(), Fail> {
+    let alloc = rt.alloc();
+    let mut theory = negation(alloc)?;
+    assert_eq!(rt; theory.add_var(b"X", 0), Ok(0));
+    assert_eq!(rt; theory.add_var(b"X", 0), Ok(0));
+    assert_eq!(rt;
+        theory.add_var(b"X", 1),
+        Err(TheoryFault::Twice { number: 0 })
+    );
+    assert_eq!(rt;
+        theory.add_var(b"Y", 1),
+        Err(TheoryFault::UnknownSort { number: 1 })
+    );
+    assert!(rt; has_var(&theory, 0, b"X", 0));
+    assert_eq!(rt; theory.var_count(), 1);
+    assert!(rt; is_renumbered(alloc)?);
+    Ok(())
 }
 
 #[test]

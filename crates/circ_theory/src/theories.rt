@@ -1,23 +1,23 @@
 //! Theories: sorts, operators and equations, each kind numbered from 0 in order of declaration.
-ghost use Rattle.std.specs.Prelude.{◌≡◌, ◌↔◌, ◌≤◌, [], map, IsTrue, IfOk, OnOk, OnErr, IfSome, nat_lt, nat_eq, not, find, length};
+ghost use Rattle.std.specs.Prelude.{◌≡◌, ◌↔◌, ◌≤◌, [], map, IsTrue, IfOk, OnOk, OnErr, IfSome, nat_lt, nat_eq, not, find, length, unwrap_or};
 ghost use Rattle.std.specs.List.{slice_get, AllByRecursion};
 ghost use Rattle.std.specs.Option.{option_copied, option_map};
 ghost use Rattle.std.specs.Cmp.Lexicographic.{pointwise};
 ghost use Rattle.circ_term.specs.Tree.{trees_of, sort_of};
 ghost use Rattle.circ_term.specs.Limits.{BuildsSome};
 ghost use Rattle.circ_theory.specs.Signature.{IsWellSorted, HaveSorts};
-ghost use Rattle.circ_theory.specs.Theory.{pair_of, IsWellSortedPair};
+ghost use Rattle.circ_theory.specs.Theory.{pair_of, declared, IsWellSortedPair};
 ghost use Rattle.circ_theory.specs.Variables.{IsInOrder, sorts_of};
 ghost use Rattle.circ_theory.specs.Operators.{operator_of, is_ill_sorted, hole_count};
 ghost use Rattle.circ_theory.specs.WellFormed.{IsWellFormed};
-ghost use Rattle.circ_theory.specs.Adding.{Numbers, sort_number, sort_fault, op_fault, equation_fault, count_fault, unknown_sort, with_sort, with_op, with_equation, application};
+ghost use Rattle.circ_theory.specs.Adding.{Numbers, sort_number, sort_fault, op_fault, equation_fault, var_number, old_var_fault, new_var_fault, var_fault, count_fault, unknown_sort, with_sort, with_var, with_op, with_equation, application};
 ghost use Rattle.circ_theory.specs.Inside.{IsKeyOf};
 
 use crate::fault::TheoryFault;
 use crate::forms::{Piece, Text};
 use crate::order::variable_sorts;
 use crate::parts::{Equation, OpDecl};
-use crate::{MOST_ARGS, MOST_EQUATIONS, MOST_OPS, MOST_SORTS};
+use crate::{MOST_ARGS, MOST_EQUATIONS, MOST_OPS, MOST_SORTS, MOST_VARS};
 use circ_term::{Kind, Term, TermFault};
 use indexmap::{IndexMap, IndexSet};
 use std::alloc::{AllocError, Global};
@@ -43,6 +43,7 @@ pub struct Theory {
     alloc: Global,
     name: Text,
     sorts: IndexSet<Vec<u8>>,
+    vars: IndexMap<Vec<u8>, u32>,
     ops: IndexMap<OpKey, OpDecl>,
     equations: Vec<Listed>,
 }
@@ -71,6 +72,7 @@ impl Theory {
             alloc,
             name: Text::of(alloc, name)?,
             sorts: IndexSet::new(alloc),
+            vars: IndexMap::new(alloc),
             ops: IndexMap::new(alloc),
             equations: Vec::new(alloc),
         })
@@ -98,6 +100,25 @@ impl Theory {
         }
         let copy = Vec::from_slice(self.alloc, name)?;
         self.sorts.insert(copy)?;
+        Ok(number)
+    }
+
+    /// Declares a variable, and answers its number. A name that is declared with this sort already keeps its number;
+    /// `Twice` carries the number of the variable that has the name and another sort.
+    pub fn add_var(&mut self, name: &[u8], sort: u32) -> Result<u32, TheoryFault>
+        ensures number { Numbers result (var_fault self.old name.now sort) (unwrap_or (var_number self.old name.now) (length self.old.variables)) }
+        ensures added { OnOk result (self.new ≡ with_var self.old name.now sort) }
+        ensures err { OnErr result (self.new ≡ self.old) }
+    {
+        if let Some(number) = self.var_named(name) {
+            return self.same_var(number, sort);
+        }
+        if let Some(fault) = self.new_var_fault(sort) {
+            return Err(fault);
+        }
+        let number = self.var_count();
+        let copy = Vec::from_slice(self.alloc, name)?;
+        self.vars.insert(copy, sort)?;
         Ok(number)
     }
 
@@ -227,6 +248,34 @@ impl Theory {
         }
     }
 
+    /// The number of declared variables.
+    pub fn var_count(&self) -> u32
+        ensures count { result ≡ length self.now.variables }
+        ensures few { result ≤ MOST_VARS }
+    {
+        self.vars.len() as u32
+    }
+
+    /// The name and the sort of a declared variable.
+    pub fn var(&self, n: u32) -> Option<(&[u8], u32)>
+        ensures { option_map (λ d. declared d.0.now d.1) result ≡ slice_get self.now.variables n }
+    {
+        match self.vars.get_index(n as usize) {
+            Some((name, sort)) => Some((name.as_slice(), *sort)),
+            None => None,
+        }
+    }
+
+    /// The number of the declared variable of a name.
+    pub fn var_named(&self, name: &[u8]) -> Option<u32>
+        ensures { result ≡ var_number self.now name.now }
+    {
+        match self.vars.get_index_of(name) {
+            Some(number) => Some(number as u32),
+            None => None,
+        }
+    }
+
     /// The number of operators.
     pub fn op_count(&self) -> u32
         ensures count { result ≡ length self.now.signature.ops }
@@ -277,6 +326,25 @@ impl Theory {
         match self.listed(n) {
             Some(listed) => Some(listed.sorts.as_slice()),
             None => None,
+        }
+    }
+
+    fn same_var(&self, number: u32, sort: u32) -> Result<u32, TheoryFault>
+        ensures { Numbers result (old_var_fault self.now sort number) number }
+    {
+        match self.var(number) {
+            Some((_, declared)) if declared != sort => Err(TheoryFault::Twice { number }),
+            _ => Ok(number),
+        }
+    }
+
+    fn new_var_fault(&self, sort: u32) -> Option<TheoryFault>
+        ensures { result ≡ new_var_fault self.now sort }
+    {
+        if sort < self.sort_count() {
+            count_fault(self.var_count(), MOST_VARS)
+        } else {
+            Some(TheoryFault::UnknownSort { number: sort })
         }
     }
 

@@ -4,7 +4,7 @@ use Rattle.std.specs.Prelude.{IfOk, IfErr}
 use Rattle.circ_outer.specs.Count.{Rose}
 use Rattle.circ_outer.specs.Shelf.{Fault, IsQuiet}
 use Rattle.circ_theory.specs.Theory.{Theory}
-use Rattle.circ_top.specs.Proof.{Proof}
+use Rattle.circ_file.specs.Proof.{Proof}
 use Rattle.circ_top.specs.Outcome.{Held, IsRefused, ReadsTheory, ReadsProof, outside, Outside, Output, IsNoTheory, IsNoProof, IsUnread, IsFileFault, Fails, RefusesCheck, theory_fault, proof_fault, step_fails, Refuses, no_command, no_check, Due, success, refusal, Prints, Delivers, whole, write_failed, memory_wanted, Answers, Accepts, Rejects}
 use Rattle.circ_top.specs.Texts.{refusal_text}
 use Rattle.circ_top.specs.declared.status.Status.{Status}

@@ -5,7 +5,7 @@ use Rattle.std.specs.Option.{option_map}
 use Rattle.std.proofs.lemmas.Option.{slice_get_within, get_or_from_slice_get}
 use Rattle.circ_term.specs.Laws.{drop_read}
 use Rattle.circ_theory.proofs.Lists.{all_at}
-use Rattle.circ_top.specs.ProofText.{texts}
+use Rattle.circ_file.specs.ProofText.{texts}
 
 pub drop-map : {X Y : Type 0} (f : X → Y) (i : ℕ) (xs : List X) → drop i (map f xs) ≡ map f (drop i xs)
 drop-map f zero xs = refl

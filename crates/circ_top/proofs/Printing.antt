@@ -6,11 +6,11 @@ use Rattle.std.specs.List.{slice_get}
 use Rattle.circ_outer.specs.Sink.{AppendsPrefix}
 use Rattle.circ_term.specs.Tree.{Tree}
 use Rattle.circ_theory.specs.Signature.{Signature}
-use Rattle.circ_top.specs.Proof.{goal_of}
-use Rattle.circ_top.specs.Plain.{plain_name}
+use Rattle.circ_file.specs.Proof.{goal_of}
+use Rattle.circ_file.specs.Plain.{plain_name}
 use Rattle.circ_top.specs.Texts.{goal_line}
-use Rattle.circ_top.specs.ProofText.{texts}
-use Rattle.circ_top.specs.declared.proof.Name.{Name}
+use Rattle.circ_file.specs.ProofText.{texts}
+use Rattle.circ_file.specs.declared.proof.Name.{Name}
 use Rattle.circ_top.proofs.Lists.{drop_there}
 
 pub prefix_part : (old new text : List ℕ) → AppendsPrefix old new text → (part : List ℕ) × ((rest : List ℕ) × ((text ≡ part ++ rest) × (new ≡ old ++ part)))

@@ -8,7 +8,7 @@ use Rattle.circ_theory.specs.Variables.{variables_of, sorted, given}
 use Rattle.circ_theory.specs.Link.{PlainLink, Equation_link, Leads, named, to_side}
 use Rattle.circ_theory.specs.declared.parts.Equation.{Equation}
 use Rattle.std.specs.List.{slice_get}
-use Rattle.circ_top.specs.Proof.{Proof, Name, Chain, goal_of}
+use Rattle.circ_file.specs.Proof.{Proof, Name, Chain, goal_of}
 use Rattle.circ_top.specs.Accepted.{LeadAll, Justified, Step, Reduce, Done, StepOf, FirstFailOf, FirstFail, Accepted}
 use Rattle.circ_top.specs.Verdict.{goals_from, steps_from, StandsAt}
 use Rattle.circ_top.proofs.Lists.{drop_there, drop_past}

@@ -3,7 +3,7 @@ use Rattle.std.specs.Prelude.{◌≡◌, ◌+◌, ℕ, List, [], ◌∷◌, ◌+
 use Rattle.circ_term.specs.Tree.{Tree}
 use Rattle.circ_theory.specs.Theory.{Theory, Pair}
 use Rattle.circ_theory.specs.Link.{PlainLink, Leads}
-use Rattle.circ_top.specs.Proof.{Proof, Chain, goals_of}
+use Rattle.circ_file.specs.Proof.{Proof, Chain, goals_of}
 
 -- the links lead from t to u, one after the other
 abbrev pub LeadAll : Theory → List Tree → List PlainLink → Tree → Tree → Type 0

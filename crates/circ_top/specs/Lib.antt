@@ -1,15 +1,3 @@
-pub mod Words
-pub mod Slices
-pub mod Cutting
-pub mod TheoryText
-pub mod Reading
-pub mod Proof
-pub mod ProofText
-pub mod Front
-pub mod Lines
-pub mod Body
-pub mod Plain
-pub mod Table
 pub mod Accepted
 pub mod Verdict
 pub mod Status

@@ -5,9 +5,9 @@ use Rattle.circ_outer.specs.Count.{Rose}
 use Rattle.circ_outer.specs.Shelf.{Fault, Struck, Missing}
 use Rattle.circ_theory.specs.Theory.{Theory, Pair}
 use Rattle.circ_theory.specs.Experiment.{Behaves}
-use Rattle.circ_top.specs.TheoryText.{ReadsAs}
-use Rattle.circ_top.specs.Proof.{Proof, goals_of}
-use Rattle.circ_top.specs.ProofText.{ReadsAsProof}
+use Rattle.circ_read.specs.TheoryText.{ReadsAs}
+use Rattle.circ_file.specs.Proof.{Proof, goals_of}
+use Rattle.circ_file.specs.ProofText.{ReadsAsProof}
 use Rattle.circ_top.specs.Accepted.{Accepted, FirstFail}
 use Rattle.circ_top.specs.Texts.{accepted_text, refusal_text}
 use Rattle.circ_top.specs.declared.status.Status.{Status}

@@ -7,7 +7,7 @@ use Rattle.circ_theory.specs.Signature.{Signature, Operator}
 use Rattle.circ_theory.specs.Theory.{Pair}
 use Rattle.circ_theory.specs.declared.forms.Piece.{Piece}
 use Rattle.circ_theory.specs.declared.forms.Piece.TheVariants.{Hole, Word}
-use Rattle.circ_top.specs.ProofText.{texts}
+use Rattle.circ_file.specs.ProofText.{texts}
 use Rattle.circ_top.specs.declared.status.Cause.{Cause}
 use Rattle.circ_top.specs.declared.status.Cause.TheVariants as cause
 use Rattle.circ_top.specs.declared.status.Status.{Status}

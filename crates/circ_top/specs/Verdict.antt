@@ -3,7 +3,7 @@ use Rattle.std.specs.Prelude.{ℕ, ◌+◌, List, [], ◌∷◌, ◌++◌, map, 
 use Rattle.circ_term.specs.Tree.{Tree}
 use Rattle.circ_theory.specs.Theory.{Theory, Pair}
 use Rattle.circ_theory.specs.Link.{PlainLink}
-use Rattle.circ_top.specs.Proof.{Proof, goal_of}
+use Rattle.circ_file.specs.Proof.{Proof, goal_of}
 use Rattle.circ_top.specs.Accepted.{LeadAll, Step, Reduce, Done, StepsOf, FirstFailOf, Accepted, FirstFail}
 use Rattle.circ_top.specs.declared.check.Verdict.{Verdict}
 use Rattle.circ_top.specs.declared.check.Verdict.TheVariants as verdict

@@ -3,12 +3,13 @@ ghost use Rattle.std.specs.Prelude.{◌≡◌, ◌↔◌, ℕ, IsTrue, IfOk, IfS
 ghost use Rattle.std.specs.List.{AllByRecursion};
 ghost use Rattle.circ_theory.specs.Signature.{IsWellSorted};
 ghost use Rattle.circ_theory.specs.Link.{plain_link, IsInTable};
-ghost use Rattle.circ_top.specs.Proof.{IsChainFor, ProofFor};
-ghost use Rattle.circ_top.specs.Plain.{plain_chain, plain_proof};
+ghost use Rattle.circ_file.specs.Proof.{IsChainFor, ProofFor};
+ghost use Rattle.circ_file.specs.Plain.{plain_chain, plain_proof};
 ghost use Rattle.circ_top.specs.Accepted.{Justified};
 ghost use Rattle.circ_top.specs.Verdict.{LeadsTo, Decides};
 
-use crate::proof::{Chain, Proof, name_at, term_at};
+use crate::goals::{name_at, term_at};
+use circ_file::{Chain, Proof};
 use circ_term::Term;
 use circ_theory::{Link, Theory, follow};
 use std::alloc::{AllocError, Global};

@@ -1,18 +1,17 @@
 //! The call `circ`: the program over any shelf and any sink.
 ghost use Rattle.std.specs.Prelude.{◌≡◌, ◌≤◌, ℕ, List, true, Some, length, map, string_bytes, IfOk, IfErr, OnOk, MatchOption};
 ghost use Rattle.circ_outer.specs.Shelf.{IsQuiet};
-ghost use Rattle.circ_top.specs.Plain.{plain_proof};
-ghost use Rattle.circ_top.specs.Proof.{ProofFor};
+ghost use Rattle.circ_file.specs.Plain.{plain_proof};
+ghost use Rattle.circ_file.specs.Proof.{ProofFor};
 ghost use Rattle.circ_top.specs.Outcome.{outside, output, IsCheck, IsNoCheck, Proves, Fails, Accepts, Rejects, ReadsTheory, ReadsProof, IsAccepted, IsUntaken, IsTheoryFault, IsProofFault, RefusesCheck, Refuses, Due, Delivers, Answers};
 
 use crate::check::{Verdict, check};
 use crate::files::{FileFault, MOST_BYTES, read_file};
-use crate::proof::Proof;
-use crate::proof_text::read_proof;
 use crate::status::{Cause, Status};
 use crate::texts::{accepted, refusal};
-use crate::theory_text::read_theory;
+use circ_file::{Proof, read_proof};
 use circ_outer::{OuterFault, Shelf, Sink, write_all};
+use circ_read::read_theory;
 use circ_theory::Theory;
 use std::alloc::Global;
 

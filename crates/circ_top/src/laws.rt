@@ -3,7 +3,7 @@ ghost use Rattle.std.specs.Prelude.{◌≡◌};
 ghost use Rattle.circ_term.specs.declared.TheConstants.{MOST_NODES, MOST_DEPTH};
 ghost use Rattle.circ_theory.specs.declared.TheConstants.{MOST_SORTS, MOST_OPS, MOST_EQUATIONS, MOST_ARGS};
 ghost use Rattle.circ_top.specs.declared.files.TheConstants.{MOST_BYTES, PIECE};
-ghost use Rattle.circ_top.specs.declared.TheConstants.{MOST_TOKENS};
+ghost use Rattle.circ_read.specs.declared.TheConstants.{MOST_TOKENS};
 
 /// The limits in numbers: bytes of a file and of a piece, nodes and levels of a term, sorts,
 /// operators, their arguments and equations of a theory, words of a side of an equation.

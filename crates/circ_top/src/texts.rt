@@ -2,13 +2,14 @@
 ghost use Rattle.std.specs.Prelude.{◌≡◌, ◌++◌, [], OnOk, IfOk, codes, decimal, slice_get, unwrap_or};
 ghost use Rattle.std.specs.List.{AllByRecursion};
 ghost use Rattle.circ_term.specs.Tree.{trees_of};
-ghost use Rattle.circ_top.specs.Proof.{IsNameFor, goal_of, goals_of};
-ghost use Rattle.circ_top.specs.Plain.{plain_name, plain_proof};
+ghost use Rattle.circ_file.specs.Proof.{IsNameFor, goal_of, goals_of};
+ghost use Rattle.circ_file.specs.Plain.{plain_name, plain_proof};
 ghost use Rattle.circ_top.specs.Texts.{piece_text, further_piece, pieces_text, operator_text, term_text, args_text, further_text, goal_line, accepted_text, cause_text, place_text, refusal_text};
-ghost use Rattle.circ_top.specs.ProofText.{texts};
+ghost use Rattle.circ_file.specs.ProofText.{texts};
 
-use crate::proof::{Name, Proof, term_at};
+use crate::goals::term_at;
 use crate::status::{Cause, Status};
+use circ_file::{Name, Proof};
 use circ_term::{Kind, Term};
 use circ_theory::{Piece, Theory};
 use itoa::Buffer;

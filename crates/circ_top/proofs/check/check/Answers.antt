@@ -3,13 +3,13 @@ use Rattle.std.specs.List.{slice_get, AllByRecursion}
 use Rattle.std.specs.Option.{option_map}
 use Rattle.std.proofs.lemmas.Option.{slice_get_past}
 use Rattle.circ_theory.specs.Rewriting.{named_well_sorted}
-use Rattle.circ_top.specs.Proof.{IsNameFor, IsChainFor}
-use Rattle.circ_top.specs.Plain.{plain_proof, plain_name, plain_chain}
+use Rattle.circ_file.specs.Proof.{IsNameFor, IsChainFor}
+use Rattle.circ_file.specs.Plain.{plain_proof, plain_name, plain_chain}
 use Rattle.circ_top.proofs.Lists.{slice_get-map, slice_get_read, slice_get_below, all_map_at}
 use Rattle.circ_top.proofs.Steps.{no_goal_fails, unjustified_fails, done_fails, done_accepts, stands_next}
-use Rattle.circ_top.specs.declared.proof.Proof.{Proof}
-use Rattle.circ_top.specs.declared.proof.Name.{Name}
-use Rattle.circ_top.specs.declared.proof.Chain.{Chain}
+use Rattle.circ_file.specs.declared.proof.Proof.{Proof}
+use Rattle.circ_file.specs.declared.proof.Name.{Name}
+use Rattle.circ_file.specs.declared.proof.Chain.{Chain}
 use Rattle.circ_top.proofs.check.check.Goals as goal
 
 -- what stands at a place in memory stands there in the plain proof

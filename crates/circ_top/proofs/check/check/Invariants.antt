@@ -1,4 +1,4 @@
-use Rattle.circ_top.specs.Plain.{plain_proof}
+use Rattle.circ_file.specs.Plain.{plain_proof}
 use Rattle.circ_top.specs.Verdict.{StandsAt}
 use Rattle.circ_top.proofs.check.check.Given as goal
 

@@ -1,5 +1,5 @@
 use Rattle.std.proofs.Common.{length}
-use Rattle.circ_top.specs.Plain.{plain_chain}
+use Rattle.circ_file.specs.Plain.{plain_chain}
 use Rattle.circ_top.proofs.Sound.{recorded_in_table}
 use Rattle.circ_top.proofs.Steps.{justified_both}
 use Rattle.circ_top.proofs.check.justified.Goals as goal

@@ -1,4 +1,4 @@
-use Rattle.circ_top.specs.Plain.{plain_proof}
+use Rattle.circ_file.specs.Plain.{plain_proof}
 use Rattle.std.proofs.Common.{◌∙◌}
 use Rattle.circ_top.specs.Outcome.{outside, IsNoProof, Fails, RefusesCheck, theory_fault, proof_fault}
 use Rattle.circ_top.specs.declared.status.Cause.TheVariants as cause

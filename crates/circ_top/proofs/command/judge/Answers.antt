@@ -1,4 +1,4 @@
-use Rattle.circ_top.specs.Plain.{plain_proof}
+use Rattle.circ_file.specs.Plain.{plain_proof}
 use Rattle.circ_top.proofs.Sound.{accepted_behave}
 use Rattle.circ_top.proofs.command.judge.Goals as goal
 

@@ -1,7 +1,7 @@
 use Rattle.std.proofs.Common.{◌≡◌, get_or, Some}
 use Rattle.std.specs.List.{slice_get}
-use Rattle.circ_top.specs.Proof.{IsNameFor, goals_of}
-use Rattle.circ_top.specs.Plain.{plain_name, plain_proof}
+use Rattle.circ_file.specs.Proof.{IsNameFor, goals_of}
+use Rattle.circ_file.specs.Plain.{plain_name, plain_proof}
 use Rattle.circ_top.specs.Texts.{accepted_text}
 use Rattle.circ_top.proofs.Lists.{slice_get_or, all_map_at}
 use Rattle.circ_top.proofs.Printing.{goals_step}

@@ -1,8 +1,8 @@
 use Rattle.std.proofs.Common.{◌≡◌, ◌++◌, drop, map}
 use Rattle.circ_top.specs.Texts.{goal_line, accepted_text}
-use Rattle.circ_top.specs.ProofText.{texts}
-use Rattle.circ_top.specs.Proof.{goal_of, goals_of}
-use Rattle.circ_top.specs.Plain.{plain_name, plain_proof}
+use Rattle.circ_file.specs.ProofText.{texts}
+use Rattle.circ_file.specs.Proof.{goal_of, goals_of}
+use Rattle.circ_file.specs.Plain.{plain_name, plain_proof}
 use Rattle.circ_top.proofs.texts.accepted.Given as goal
 
 abbrev pub invariant-loop-name : goal.invariant-loop-name

@@ -1,0 +1,9 @@
+pub mod Many
+pub mod Parts
+pub mod Decimals
+pub mod Read
+pub mod Terms
+pub mod Kept
+pub mod Args
+pub mod Adding
+pub mod Whole

@@ -1,0 +1,7 @@
+pub mod Proof
+pub mod ProofText
+pub mod Front
+pub mod Lines
+pub mod Body
+pub mod Plain
+pub mod Table

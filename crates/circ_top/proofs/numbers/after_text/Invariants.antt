@@ -1,6 +1,0 @@
-use Rattle.std.proofs.Common.{◌≡◌, drop}
-use Rattle.circ_top.specs.Front.{after}
-use Rattle.circ_top.proofs.numbers.after_text.Given as goal
-
-abbrev pub invariant-loop-c : goal.invariant-loop-c
-invariant-loop-c l = after (drop l.c-index l.text) l.rest ≡ after l.text l.bytes
