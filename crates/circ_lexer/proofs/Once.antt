@@ -52,29 +52,29 @@ scan_line (b ∷ c) bs at h e =
     let place : at + 1 + length c ≡ at + suc (length c) = omega arith in
     rw (not_true (b == 10) test.0) (scan_line c bs (at + 1) test.1 e ∙ ap (λ (m : ℕ). scan bs m between) place)
 
--- a run is found
-scan_run : (w bs : List ℕ) (at from : ℕ) → list_all is_plain w ≡ true → ends_run bs ≡ true
-    → scan (w ++ bs) at (inside from) ≡ put (span from (at + length w)) (scan bs (at + length w) between)
-scan_run [] [] at from h e = rw add-zero refl
-scan_run [] (b ∷ bs) at from h e = rw add-zero (go (is_blank b) refl (is_special b) refl)
+-- the plain bytes of a run are passed over
+scan_run : (w bs : List ℕ) (at from : ℕ) → list_all is_plain w ≡ true → scan (w ++ bs) at (inside from) ≡ scan bs (at + length w) (inside from)
+scan_run [] bs at from h = rw add-zero refl
+scan_run (b ∷ w) bs at from h =
+    let test = and_true (is_plain b) (list_all is_plain w) h in
+    let place : at + 1 + length w ≡ at + suc (length w) = omega arith in
+    rw (plain_bad b test.0, plain_blank b test.0, plain_special b test.0) (scan_run w bs (at + 1) from test.1 ∙ ap (λ (m : ℕ). scan bs m (inside from)) place)
+
+scan_token : (b : ℕ) (w bs : List ℕ) (at : ℕ) → list_all is_plain (b ∷ w) ≡ true → begins_comment (b ∷ (w ++ bs)) ≡ false → scan (b ∷ (w ++ bs)) at between ≡ scan bs (at + suc (length w)) (inside at)
+scan_token b w bs at h k =
+    let test = and_true (is_plain b) (list_all is_plain w) h in
+    let place : at + 1 + length w ≡ at + suc (length w) = omega arith in
+    rw (plain_bad b test.0, plain_blank b test.0, plain_special b test.0, k) (scan_run w bs (at + 1) at test.1 ∙ ap (λ (m : ℕ). scan bs m (inside at)) place)
+
+-- a run is over
+run_over : (bs : List ℕ) (at from : ℕ) → ends_run bs ≡ true → scan bs at (inside from) ≡ put (span from at) (scan bs at between)
+run_over [] at from e = refl
+run_over (b ∷ bs) at from e = go (is_blank b) refl (is_special b) refl
   where
     go : (v : Bool) → is_blank b ≡ v → (u : Bool) → is_special b ≡ u → scan (b ∷ bs) at (inside from) ≡ put (span from at) (scan (b ∷ bs) at between)
     go true x u y = rw x refl
     go false x true y = rw (x, y) refl
     go false x false y = absurd (let no : false ≡ true = rw (x, y) at e in cc)
-scan_run (b ∷ w) bs at from h e =
-    let test = and_true (is_plain b) (list_all is_plain w) h in
-    let place : at + 1 + length w ≡ at + suc (length w) = omega arith in
-    rw (plain_bad b test.0, plain_blank b test.0, plain_special b test.0)
-    (scan_run w bs (at + 1) from test.1 e ∙ ap (λ (m : ℕ). put (span from m) (scan bs m between)) place)
-
--- a bad byte in a run is found
-scan_bad : (w : List ℕ) (b : ℕ) (bs : List ℕ) (at from : ℕ) → list_all is_plain w ≡ true → is_bad b ≡ true → scan (w ++ b ∷ bs) at (inside from) ≡ ([], Some (fault_of b (at + length w)))
-scan_bad [] b bs at from h e = rw (add-zero, e, bad_blank b e, bad_special b e) refl
-scan_bad (c ∷ w) b bs at from h e =
-    let test = and_true (is_plain c) (list_all is_plain w) h in
-    let place : at + 1 + length w ≡ at + suc (length w) = omega arith in
-    rw (plain_bad c test.0, plain_blank c test.0, plain_special c test.0) (scan_bad w b bs (at + 1) from test.1 e ∙ ap (λ (m : ℕ). ([], Some (fault_of b m))) place)
 
 no_comment_ends : (bs : List ℕ) → begins_comment bs ≡ true → ends_line bs ≡ true → ⊥
 no_comment_ends [] h e = cc
@@ -92,16 +92,9 @@ scan_cut (comment at (b ∷ w) bs ss o k c) =
     (scan_line w bs (at + 1) (and_true (is_in_line b) (list_all is_in_line w) k.in_line).1 k.whole ∙ ap (λ (m : ℕ). scan bs m between) place ∙ scan_cut c)
 scan_cut (run at [] bs ss o r c) = absurd (r.some refl)
 scan_cut (run at (b ∷ w) bs ss o r c) =
-    let test = and_true (is_plain b) (list_all is_plain w) r.plain in
-    let place : at + 1 + length w ≡ at + suc (length w) = omega arith in
-    rw (plain_bad b test.0, plain_blank b test.0, plain_special b test.0, r.no_comment)
-    (scan_run w bs (at + 1) at test.1 r.whole ∙ ap (λ (m : ℕ). put (span at m) (scan bs m between)) place ∙ ap (put (span at (at + suc (length w)))) (scan_cut c))
+    scan_token b w bs at r.plain r.no_comment ∙ run_over bs (at + suc (length w)) at r.whole ∙ ap (put (span at (at + suc (length w)))) (scan_cut c)
 scan_cut (bad at [] b bs k) = rw (add-zero, k.bad, bad_blank b k.bad, bad_special b k.bad) refl
-scan_cut (bad at (d ∷ w) b bs k) =
-    let test = and_true (is_plain d) (list_all is_plain w) k.plain in
-    let place : at + 1 + length w ≡ at + suc (length w) = omega arith in
-    rw (plain_bad d test.0, plain_blank d test.0, plain_special d test.0, k.no_comment)
-    (scan_bad w b bs (at + 1) at test.1 k.bad ∙ ap (λ (m : ℕ). ([], Some (fault_of b m))) place)
+scan_cut (bad at (d ∷ w) b bs k) = scan_token d w (b ∷ bs) at k.plain k.no_comment ∙ rw (k.bad, bad_blank b k.bad, bad_special b k.bad) refl
 
 -- two cuts of some bytes are one
 pub once : {at : ℕ} {a : List ℕ} {ss us : List Span} {o p : Option LexFault} → Cuts at a ss o → Cuts at a us p → (us ≡ ss) × (p ≡ o)
