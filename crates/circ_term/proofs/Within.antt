@@ -1,7 +1,10 @@
 -- Lists of terms, as the loops over arguments read them.
-use Rattle.std.proofs.Common.{◌≡◌, ℕ, ◌≤◌, ◌<◌, Bool, IsTrue, ◌↔◌, List, [], ◌∷◌, zero, suc, length, get_or, ap, sym, ◌∙◌, arith}
+use Rattle.std.proofs.Common.{◌≡◌, ℕ, ◌≤◌, ◌<◌, Bool, IsTrue, ◌↔◌, List, [], ◌∷◌, zero, suc, length, drop, min, get_or, refl, ap, sym, ◌∙◌, arith}
+use Rattle.std.proofs.lemmas.Bool.Decides.{nat_tests}
+use Rattle.std.specs.Ordering.{nat_cmp}
 use Rattle.circ_term.specs.Tree.{Tree, App, depth_of, depths_of, list_of, list_of-trees_of, trees_of-list_of, trees_of}
 use Rattle.circ_term.specs.Laws.{walk_none}
+use Rattle.circ_term.specs.Order.{trees_cmp}
 
 pub ruleset rows = (list_of-trees_of, trees_of-list_of, walk_none)
 
@@ -18,3 +21,17 @@ pub same_apps : (r : Bool) (f s g k : ℕ) (xs ys : List Tree) → f ≡ g → s
     → IsTrue r ↔ (App f s (trees_of xs) ≡ App g k (trees_of ys))
 same_apps r f s g k xs ys p q h =
     (λ t. let e = h.0 t in cc, λ e. h.1 (trees_of_same xs ys (cc)))
+
+next_cmp : (n m : ℕ) → nat_cmp n m ≡ nat_cmp (suc n) (suc m)
+next_cmp n m = grind (arith, nat_tests)
+
+-- behind the shorter of two lists the lengths decide
+pub cmp_rest : (xs ys : List Tree) (i : ℕ) → i ≤ length xs → i ≤ length ys → min (length xs) (length ys) ≤ i
+    → nat_cmp (length xs) (length ys) ≡ trees_cmp (trees_of (drop i xs)) (trees_of (drop i ys))
+cmp_rest [] [] zero a b h = refl
+cmp_rest [] (y ∷ ys) zero a b h = grind (arith, nat_tests)
+cmp_rest (x ∷ xs) [] zero a b h = grind (arith, nat_tests)
+cmp_rest (x ∷ xs) (y ∷ ys) zero a b h = absurd (omega arith)
+cmp_rest [] ys (suc i) a b h = absurd (omega arith)
+cmp_rest (x ∷ xs) [] (suc i) a b h = absurd (omega arith)
+cmp_rest (x ∷ xs) (y ∷ ys) (suc i) a b h = sym (next_cmp (length xs) (length ys)) ∙ cmp_rest xs ys i (omega arith) (omega arith) (omega arith)

@@ -8,3 +8,4 @@ pub mod Kind
 pub mod Subst
 pub mod Bindings
 pub mod Laws
+pub mod Order

@@ -4,11 +4,13 @@ ghost use Rattle.std.specs.List.{slice_get};
 ghost use Rattle.std.specs.Option.{option_copied};
 ghost use Rattle.circ_term.specs.Tree.{at, replaced, Var, App, trees_of, size_of, depth_of, sort_of, variable_number, operator_number, args_of, is_ground};
 ghost use Rattle.circ_term.specs.Kind.{tree_of_kind};
+ghost use Rattle.circ_term.specs.Order.{tree_cmp, trees_cmp};
 ghost use Rattle.circ_term.specs.Limits.{Builds, BuildsSome, IsWithinLimits};
 
 use crate::fault::TermFault;
 use crate::{MOST_ARGS, MOST_DEPTH, MOST_NODES};
 use std::alloc::{AllocError, Global};
+use std::cmp::Ordering;
 use std::marker::Model;
 use std::rc::Rc;
 
@@ -278,6 +280,36 @@ impl Term {
         }
     }
 
+    /// How the term stands to another: variables come before applications, variables go by number, then by sort, and
+    /// applications by operator, then by arguments from the left, a shorter list first, then by sort.
+    #[cycle(cmp)]
+    pub fn cmp(&self, other: &Term) -> Ordering
+        ensures { result ≡ tree_cmp self.now other.now }
+    {
+        match (self.kind(), other.kind()) {
+            (
+                Kind::Variable { number, sort },
+                Kind::Variable {
+                    number: other_number,
+                    sort: other_sort,
+                },
+            ) => number.cmp(&other_number).then(sort.cmp(&other_sort)),
+            (Kind::Variable { .. }, Kind::Application { .. }) => Ordering::Less,
+            (Kind::Application { .. }, Kind::Variable { .. }) => Ordering::Greater,
+            (
+                Kind::Application { op, sort, args },
+                Kind::Application {
+                    op: other_op,
+                    sort: other_sort,
+                    args: other_args,
+                },
+            ) => match op.cmp(&other_op) {
+                Ordering::Equal => cmp_all(args, other_args).then(sort.cmp(&other_sort)),
+                apart => apart,
+            },
+        }
+    }
+
     /// The term with `new` at the path in place of the subterm there. The term itself stays as it is. Only the nodes on
     /// the path are made anew.
     #[tactic(auto, using(crate::proofs::Within::rows))]
@@ -336,4 +368,17 @@ fn same_all(a: &[Term], b: &[Term]) -> bool
         }
     }
     true
+}
+
+#[cycle(cmp)]
+fn cmp_all(a: &[Term], b: &[Term]) -> Ordering
+    ensures { result ≡ trees_cmp (trees_of a.now) (trees_of b.now) }
+{
+    for i in 0..a.len().min(b.len()) {
+        match a[i].cmp(&b[i]) {
+            Ordering::Equal => {}
+            apart => return apart,
+        }
+    }
+    a.len().cmp(&b.len())
 }

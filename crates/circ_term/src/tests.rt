@@ -1,6 +1,7 @@
 use crate::{Kind, Path, Subst, Term, TermFault};
 use smallvec::SmallVec;
 use std::alloc::Global;
+use std::cmp::Ordering;
 use std::test::Fail;
 
 // `f(left, right)`, of sort 0.
@@ -76,6 +77,31 @@ fn parts(rt: HostRuntime) -> Result<(), Fail> {
         assert_eq!(rt; seen(term), wanted);
         assert_eq!(rt; counts(term), args);
         assert!(rt; term.share()?.same(term));
+    }
+    Ok(())
+}
+
+// A term, another, and how the first stands to the second.
+#[test]
+fn orders(rt: HostRuntime) -> Result<(), Fail> {
+    let x = Term::var(0, 5);
+    let y = Term::var(1, 0);
+    let c = constant(rt.alloc())?;
+    let first = pair(rt.alloc(), &x, &c)?;
+    let second = pair(rt.alloc(), &y, &x)?;
+    let short = Term::app(rt.alloc(), 7, 0, vec![in rt.alloc(); x.share()?]?)?;
+    let table = [
+        (&x, &y, Ordering::Less),
+        (&x, &Term::var(0, 4), Ordering::Greater),
+        (&y, &c, Ordering::Less),
+        (&c, &first, Ordering::Greater),
+        (&first, &second, Ordering::Less),
+        (&first, &short, Ordering::Greater),
+        (&first, &first, Ordering::Equal),
+    ];
+    for (left, right, wanted) in table {
+        assert_eq!(rt; left.cmp(right), wanted);
+        assert_eq!(rt; right.cmp(left), wanted.reverse());
     }
     Ok(())
 }
