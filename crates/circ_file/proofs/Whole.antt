@@ -225,6 +225,19 @@ module _ (th : Theory) (w : IsWellFormed th) (bytes : List ℕ) (p : Proof) (r :
   no_more start table rest header t b left e =
       ap (λ z. z.1) (same_Some {A = (List Name × List Chain) × List ℕ} (b, left) ((p.names, p.chains), []) (e ∙ body_is start table rest header t))
 
+-- bytes are the text of one proof at most
+pub one_proof : (th : Theory) → IsWellFormed th → (bytes : List ℕ) (p q : Proof) → ReadsAsProof th bytes p → ReadsAsProof th bytes q → q ≡ p
+one_proof th w bytes p q r s =
+    let start : List ℕ = texts entry_text s.entries ++ body_text (q.names, q.chains) in
+    let header : Some start ≡ after (codes "circproof 1\n") bytes = sym (reads_header th w bytes q s) in
+    let t : ReadsTable th.signature start (Some (q.table, body_text (q.names, q.chains))) =
+    (s.entries, record { run = run th w bytes q s; terms = s.table; good = good_terms th.signature q.table s.fits.sorted s.fits.within; few = s.fits.short_table }, refl) in
+    let P : List ℕ → Type 0 = λ x. ReadsTable th.signature x (Some (q.table, body_text (q.names, q.chains))) in
+    let table : q.table ≡ p.table = (reads_table th w bytes p r q.table (body_text (q.names, q.chains)) (subst P (sym (starts th w bytes p r start header)) t)).0 in
+    let parts = same_Some {A = (List Name × List Chain) × List ℕ} ((q.names, q.chains), []) ((p.names, p.chains), [])
+    (sym (reads_body th w bytes q s) ∙ body_is th w bytes p r start q.table (body_text (q.names, q.chains)) header t) in
+    rw (table, ap (λ z. z.0.0) parts, ap (λ z. z.0.1) parts) refl
+
 pub nothing_left : (bs : List ℕ) → true ≡ (length bs == 0) → bs ≡ []
 nothing_left [] e = refl
 nothing_left (b ∷ bs) e = absurd (omega (arith, eqb-true (length (b ∷ bs)) 0 (sym e)))

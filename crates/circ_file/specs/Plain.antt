@@ -1,5 +1,5 @@
 -- What contracts see of a proof that was read.
-use Rattle.std.specs.Prelude.{ℕ, List, map, Option, Some, None}
+use Rattle.std.specs.Prelude.{◌≡◌, ℕ, List, map, Option, Some, None}
 use Rattle.circ_theory.specs.Link.{plain_link}
 use Rattle.circ_theory.specs.Theory.{Theory}
 use Rattle.circ_file.specs.Proof.{Proof, Chain, Name}
@@ -23,7 +23,7 @@ abbrev pub plain_entry : Key → Entry
 plain_entry (Variable number sort) = v number sort
 plain_entry (Application op args) = a op args.items
 
--- the proof that the bytes are the text of, or that they are the text of none
+-- the one proof that the bytes are the text of, or that they are the text of none
 abbrev pub ReadsBytes : Theory → List ℕ → Option ReadProof → Type 0
-ReadsBytes th bytes (Some p) = ReadsAsProof th bytes (plain_proof p)
+ReadsBytes th bytes (Some p) = ReadsAsProof th bytes (plain_proof p) × ((q : Proof) → ReadsAsProof th bytes q → q ≡ plain_proof p)
 ReadsBytes th bytes None = (p : Proof) → ReadsAsProof th bytes p → ⊥

@@ -2,7 +2,7 @@ use Rattle.std.proofs.Common.{◌≡◌, Some, List, ℕ, map, subst}
 use Rattle.circ_file.specs.Proof.{Name, Chain}
 use Rattle.circ_file.specs.Body.{body_at}
 use Rattle.circ_file.specs.Plain.{plain_name, plain_chain}
-use Rattle.circ_file.proofs.Whole.{reads, no_table, no_body, no_more, nothing_left, something_left}
+use Rattle.circ_file.proofs.Whole.{reads, no_table, no_body, no_more, one_proof, nothing_left, something_left}
 use Rattle.circ_file.proofs.proof_text.read_proof.Goals as goal
 
 pub returns-in_default-2 : goal.returns-in_default-2
@@ -30,5 +30,6 @@ returns c =
     let body = rw (c.in-Some-3.is, c.as_slice.ensures.value) at c.in_ok-parts.ensures in
     let b : List Name × List Chain = (map plain_name c.in-Some-3.parts.0.items, map plain_chain c.in-Some-3.parts.1.items) in
     let P : List ℕ → Type 0 = λ left. Some (b, left) ≡ body_at c.in-Some-2.table.items c.in-Some-2.rest.now in
-    reads c.args.theory.now c.args.bytes.now c.in-Some.rest.now c.in-Some-2.table.items c.in-Some-2.rest.now b c.in-Some.ensures t
-    (subst P (nothing_left c.in-Some-3.rest.now c.if-not-is_empty.ensures) body)
+    let is = reads c.args.theory.now c.args.bytes.now c.in-Some.rest.now c.in-Some-2.table.items c.in-Some-2.rest.now b c.in-Some.ensures t
+    (subst P (nothing_left c.in-Some-3.rest.now c.if-not-is_empty.ensures) body) in
+    (is, λ q s. one_proof c.args.theory.now c.known.ensures c.args.bytes.now _ q is s)
