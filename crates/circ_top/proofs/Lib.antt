@@ -5,3 +5,5 @@ pub mod Sound
 pub mod Printing
 pub mod Answering
 pub mod Operands
+pub mod Verdicts
+pub mod Outcomes
