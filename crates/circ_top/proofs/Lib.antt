@@ -7,3 +7,4 @@ pub mod Answering
 pub mod Operands
 pub mod Verdicts
 pub mod Outcomes
+pub mod NoFaults

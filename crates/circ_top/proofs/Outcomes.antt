@@ -97,7 +97,7 @@ holds_held : (held : Held) (name : List ℕ) (P : List ℕ → Type 0) → Holds
 holds_held held name P h e = let never : Some h.bytes ≡ None = sym h.bytes_are ∙ e in cc
 
 -- a file that holds something is not read only where the shelf's count rose
-unread_rose : (o : Outside) (name : List ℕ) → (o.held name ≡ None → ⊥) → IsUnread o name → Rose o.faults_before o.faults_after
+pub unread_rose : (o : Outside) (name : List ℕ) → (o.held name ≡ None → ⊥) → IsUnread o name → Rose o.faults_before o.faults_after
 unread_rose o name held (inl s) = s.rose
 unread_rose o name held (inr m) = absurd (held m.nothing)
 

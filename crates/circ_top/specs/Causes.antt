@@ -1,5 +1,5 @@
 -- When each answer comes, by the outcome of the run and the faults of the outside.
-use Rattle.std.specs.Prelude.{◌≡◌, ◌⊎◌, ℕ, List, [], true}
+use Rattle.std.specs.Prelude.{◌≡◌, ◌⊎◌, ◌++◌, ℕ, List, [], true, IsSome}
 use Rattle.circ_outer.specs.Count.{Rose}
 use Rattle.circ_theory.specs.Theory.{Theory}
 use Rattle.circ_file.specs.Proof.{Proof}
@@ -62,3 +62,12 @@ pub record IsWriteFault (words : List (List ℕ)) (o : Outside) (out : Output) (
   pub rose : Rose out.faults_before out.faults_after
   pub counted : count ≡ out.faults_after
   pub part : PrintsPart out text
+
+-- Both files of a `check` hold something.
+abbrev pub HoldsFiles : List (List ℕ) → Held → Type 0
+HoldsFiles words held = (theory proof : List ℕ) → IsCheck words theory proof → IsSome (held theory) × IsSome (held proof)
+
+-- The answer is an outcome, whose text was appended; or memory ran out.
+abbrev pub Appends : List (List ℕ) → Held → (before after : List ℕ) → Status → Type 0
+Appends words held before after status.Memory = Unit {0}
+Appends words held before after s = (text : List ℕ) × (Outcome words held s text × (after ≡ before ++ text))
