@@ -1,17 +1,36 @@
 -- What the answers of parts of a run say of the whole.
-use Rattle.std.proofs.Common.{◌≡◌, ℕ, List, Option, Bool, true, sym, ◌∙◌, subst, inl, inr, Result, Ok, Err}
+use Rattle.std.proofs.Common.{◌≡◌, ◌≤◌, ℕ, List, length, Option, Some, Bool, true, sym, ◌∙◌, subst, inl, inr, Result, Ok, Err}
 use Rattle.std.specs.Prelude.{IfOk, IfErr}
+use Rattle.std.proofs.lemmas.Option.{same_Some}
 use Rattle.circ_outer.specs.Count.{Rose}
 use Rattle.circ_outer.specs.Shelf.{Fault, IsQuiet}
 use Rattle.circ_theory.specs.Theory.{Theory}
 use Rattle.circ_file.specs.Proof.{Proof}
-use Rattle.circ_top.specs.Outcome.{Held, IsRefused, ReadsTheory, ReadsProof, outside, Outside, Output, IsNoTheory, IsNoProof, IsUnread, IsFileFault, Fails, RefusesCheck, theory_fault, proof_fault, step_fails, Refuses, no_command, no_check, Due, success, refusal, Prints, Delivers, whole, write_failed, memory_wanted, Answers, Accepts, Rejects}
+use Rattle.circ_top.specs.Outcome.{Held, Holds, IsRefused, ReadsTheory, ReadsProof, outside, Outside, Output, IsNoTheory, IsNoProof, IsUnread, IsFileFault, Fails, RefusesCheck, theory_fault, proof_fault, step_fails, Refuses, no_command, no_check, Due, success, refusal, Prints, Delivers, whole, write_failed, memory_wanted, Answers, Accepts, Rejects}
+use Rattle.circ_read.specs.Reading.{Only}
+use Rattle.circ_top.specs.declared.files.TheConstants.{MOST_BYTES}
 use Rattle.circ_top.specs.Texts.{refusal_text}
 use Rattle.circ_top.specs.declared.status.Status.{Status}
 use Rattle.circ_top.specs.declared.status.Status.TheVariants.{Refused, Unreadable, TooLong, ReadFault, Memory}
 use Rattle.circ_top.specs.declared.status.Status.TheVariants as status
 use Rattle.circ_top.specs.declared.status.Cause.{Cause}
 use Rattle.circ_top.specs.declared.status.Cause.TheVariants as cause
+
+-- what a file held after a call it held before
+moved : (h k : Held) (name : List ℕ) (P : List ℕ → Type 0) → k name ≡ h name → Holds k name P → Holds h name P
+moved h k name P e r = record { bytes = r.bytes; bytes_are = sym e ∙ r.bytes_are; short = r.short; are = r.are }
+
+pub held_before : {X : Type 0} (h k : Held) (name : List ℕ) (R : List ℕ → X → Type 0) (x : X) → k name ≡ h name
+    → Only (Some x) (λ y. Holds k name (λ bytes. R bytes y)) → Only (Some x) (λ y. Holds h name (λ bytes. R bytes y))
+held_before h k name R x e r = (moved h k name (λ bytes. R bytes x) e r.0, λ y t. r.1 y (moved k h name (λ bytes. R bytes y) (sym e) t))
+
+-- what bytes alone read as, a file that holds them reads as
+pub only_read : {X : Type 0} (h : Held) (name bytes : List ℕ) (R : List ℕ → X → Type 0) (x : X) → h name ≡ Some bytes → length bytes ≤ MOST_BYTES
+    → R bytes x × ((y : X) → R bytes y → y ≡ x) → Only (Some x) (λ y. Holds h name (λ bytes. R bytes y))
+only_read h name bytes R x held short r = (
+  record { bytes = bytes; bytes_are = held; short = short; are = r.0 },
+  λ y t. r.1 y (subst (λ bs. R bs y) (same_Some t.bytes bytes (sym t.bytes_are ∙ held)) t.are),
+)
 
 -- a fault after a quiet call is one since before it
 pub quiet_fault : (t u : Bool) (h k : Held) (b m a : ℕ) (lb lm la : Option Fault) (file : ℕ) (name : List ℕ) (c : Cause) (P : List ℕ → Type 0) (s : Status)
@@ -35,13 +54,9 @@ quiet_fault t u h k b m a lb lm la file name c P (TooLong g n) et eh q f = (
   },
 )
 quiet_fault t u h k b m a lb lm la file name c P (Unreadable g p d) et eh q f =
-    (f.0, f.1, f.2, λ e. let r = f.3 (et ∙ e) in (r.0, (sym eh ∙ r.1.0, r.1.1, r.1.2)))
+    (f.0, f.1, f.2, λ e. moved h k name P eh (f.3 (et ∙ e)))
 quiet_fault t u h k b m a lb lm la file name c P Memory et eh q f = tt
 quiet_fault t u h k b m a lb lm la file name c P s et eh q f = absurd f
-
--- what a file held after a call it held before
-pub held_before : (h k : Held) (name : List ℕ) (th : Theory) (p : Proof) → k name ≡ h name → ReadsProof k name th p → ReadsProof h name th p
-held_before h k name th p e r = record { bytes = r.bytes; bytes_are = sym e ∙ r.bytes_are; short = r.short; reads = r.reads }
 
 pub if_ok : {T E : Type 0} (P Q : T → Type 0) (r : Result T E) → IfOk r P → ((x : T) → P x → Q x) → IfOk r Q
 if_ok P Q (Ok x) h f = f x h
@@ -52,7 +67,8 @@ if_err P Q (Ok x) h f = tt
 if_err P Q (Err e) h f = f e h
 
 -- a step that fails, or want of memory, refuses a `check` whose files read
-pub fails_refuses : (o : Outside) (theory proof : List ℕ) (th : Theory) (p : Proof) → (o.tells ≡ true → ReadsTheory o.held theory th) → (o.tells ≡ true → ReadsProof o.held proof th p)
+pub fails_refuses : (o : Outside) (theory proof : List ℕ) (th : Theory) (p : Proof) → (o.tells ≡ true → Only (Some th) (ReadsTheory o.held theory))
+    → (o.tells ≡ true → Only (Some p) (ReadsProof o.held proof th))
     → (s : Status) → Fails th p s → RefusesCheck o theory proof s
 fails_refuses o theory proof th p rt rp (Refused n) f = step_fails n (record { th = th; p = p; fails = f; reads_theory = rt; reads_proof = rp })
 fails_refuses o theory proof th p rt rp Memory f = theory_fault Memory tt
@@ -80,7 +96,7 @@ answers_accepted words o out s a e = go a.answer a.text a.due s a.delivered e
   where
     go : (r : Status) (text : List ℕ) → Due words o r text → (s : Status) → Delivers out text r s → s ≡ status.Ok → Accepts words o out
     go r text d _ (whole p) e = due_accepted words o out r text d e p
-    go r text d _ (write_failed n i rose p) e = absurd (cc)
+    go r text d _ (write_failed n some i rose p) e = absurd (cc)
     go r text d _ (memory_wanted q p) e = absurd (cc)
 
 -- only a step that fails refuses at a step
@@ -107,5 +123,5 @@ answers_refused words o out s n a e = go a.answer a.text a.due s a.delivered e
   where
     go : (r : Status) (text : List ℕ) → Due words o r text → (s : Status) → Delivers out text r s → s ≡ Refused n → Rejects words o out n
     go r text d _ (whole p) e = due_refused words o out r text n d e p
-    go r text d _ (write_failed m i rose p) e = absurd (cc)
+    go r text d _ (write_failed m some i rose p) e = absurd (cc)
     go r text d _ (memory_wanted q p) e = absurd (cc)

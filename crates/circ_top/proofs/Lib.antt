@@ -5,3 +5,6 @@ pub mod Sound
 pub mod Printing
 pub mod Answering
 pub mod Operands
+pub mod Verdicts
+pub mod Outcomes
+pub mod NoFaults

@@ -3,4 +3,5 @@ pub mod Verdict
 pub mod Status
 pub mod Texts
 pub mod Outcome
+pub mod Causes
 pub mod Files

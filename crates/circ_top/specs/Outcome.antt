@@ -1,11 +1,12 @@
 -- What a run of the program answers, from its words and what the named files hold (`Outcome`).
-use Rattle.std.specs.Prelude.{◌≡◌, ◌<◌, ◌≤◌, ◌+◌, ◌⊎◌, ℕ, List, [], ◌∷◌, ◌++◌, Option, Some, Bool, true, false, codes, length}
+use Rattle.std.specs.Prelude.{◌≡◌, ◌≢◌, ◌<◌, ◌≤◌, ◌+◌, ◌⊎◌, ℕ, List, [], ◌∷◌, ◌++◌, Option, Some, Bool, true, false, codes, length}
 use Rattle.std.specs.List.{Contains}
 use Rattle.circ_outer.specs.Count.{Rose}
 use Rattle.circ_outer.specs.Shelf.{Fault, Struck, Missing}
 use Rattle.circ_theory.specs.Theory.{Theory, Pair}
 use Rattle.circ_theory.specs.Experiment.{Behaves}
 use Rattle.circ_read.specs.TheoryText.{ReadsAs}
+use Rattle.circ_read.specs.Reading.{Only}
 use Rattle.circ_file.specs.Proof.{Proof, goals_of}
 use Rattle.circ_file.specs.ProofText.{ReadsAsProof}
 use Rattle.circ_top.specs.Accepted.{Accepted, FirstFail}
@@ -28,19 +29,55 @@ IsNoCheck words = (theory proof : List ℕ) → IsCheck words theory proof → �
 abbrev pub Held : Type 0
 Held = List ℕ → Option (List ℕ)
 
--- The named theory file reads as th.
-pub record ReadsTheory (held : Held) (name : List ℕ) (th : Theory) : Type 0 where
+-- The named file holds bytes within the limit, of which this is true.
+pub record Holds (held : Held) (name : List ℕ) (P : List ℕ → Type 0) : Type 0 where
   pub bytes : List ℕ
   pub bytes_are : held name ≡ Some bytes
   pub short : length bytes ≤ MOST_BYTES
-  pub reads : ReadsAs bytes th
+  pub are : P bytes
+
+-- The named file holds more bytes than the limit. Of these n were taken, at most one piece past it.
+pub record HoldsMore (held : Held) (name : List ℕ) (n : ℕ) : Type 0 where
+  pub bytes : List ℕ
+  pub bytes_are : held name ≡ Some bytes
+  pub past : MOST_BYTES < n
+  pub within_piece : n ≤ MOST_BYTES + PIECE
+  pub within_file : n ≤ length bytes
+
+-- The named theory file reads as th.
+abbrev pub ReadsTheory : Held → (name : List ℕ) → Theory → Type 0
+ReadsTheory held name th = Holds held name (λ bytes. ReadsAs bytes th)
 
 -- The named proof file reads as p.
-pub record ReadsProof (held : Held) (name : List ℕ) (th : Theory) (p : Proof) : Type 0 where
-  pub bytes : List ℕ
-  pub bytes_are : held name ≡ Some bytes
-  pub short : length bytes ≤ MOST_BYTES
-  pub reads : ReadsAsProof th bytes p
+abbrev pub ReadsProof : Held → (name : List ℕ) → Theory → Proof → Type 0
+ReadsProof held name th p = Holds held name (λ bytes. ReadsAsProof th bytes p)
+
+abbrev pub IsNoTheory : List ℕ → Type 0
+IsNoTheory bytes = (th : Theory) → ReadsAs bytes th → ⊥
+
+abbrev pub IsNoProof : Theory → List ℕ → Type 0
+IsNoProof th bytes = (p : Proof) → ReadsAsProof th bytes p → ⊥
+
+-- The named file refuses a `check`: it is too long, or its bytes are not what they should be.
+abbrev pub RefusesFile : Held → (file : ℕ) → (name : List ℕ) → Cause → (List ℕ → Type 0) → Status → Type 0
+RefusesFile held file name c IsNone (status.TooLong f n) = (f ≡ file) × HoldsMore held name n
+RefusesFile held file name c IsNone (status.Unreadable f place d) = (f ≡ file) × (place ≡ 0) × (d ≡ c) × Holds held name IsNone
+RefusesFile held file name c IsNone _ = ⊥
+
+-- The outcome of a `check` of two files, with its text: the theory file refuses it; or this reads, and the proof file refuses it; or both read, and step n is
+-- the first that is no instance of its rule; or both read, and every step is one.
+pub data CheckOutcome (held : Held) (theory proof : List ℕ) : Status → List ℕ → Type 0 where
+  no_theory : (s : Status) → RefusesFile held 1 theory cause.Shape IsNoTheory s → CheckOutcome held theory proof s (refusal_text s)
+  no_proof : (s : Status) (th : Theory) → ReadsTheory held theory th → RefusesFile held 2 proof cause.Line (IsNoProof th) s → CheckOutcome held theory proof s (refusal_text s)
+  refused : (n : ℕ) (th : Theory) (p : Proof) → ReadsTheory held theory th → ReadsProof held proof th p → FirstFail th p n
+      → CheckOutcome held theory proof (status.Refused n) (refusal_text (status.Refused n))
+  accepted : (th : Theory) (p : Proof) → ReadsTheory held theory th → ReadsProof held proof th p → Accepted th p
+      → CheckOutcome held theory proof status.Ok (accepted_text th.signature (goals_of p))
+
+-- What a run comes to, with its text, by its words and what the named files hold, where nothing of the outside fails and memory is left.
+pub data Outcome (words : List (List ℕ)) (held : Held) : Status → List ℕ → Type 0 where
+  usage : IsNoCheck words → Outcome words held status.Usage (refusal_text status.Usage)
+  check : (theory proof : List ℕ) (s : Status) (text : List ℕ) → IsCheck words theory proof → CheckOutcome held theory proof s text → Outcome words held s text
 
 -- Every step is an instance of its rule, every goal behaves, and the text names the goals.
 pub record Proves (th : Theory) (p : Proof) (text : List ℕ) : Type 0 where
@@ -66,21 +103,21 @@ pub record Outside : Type 0 where
 abbrev pub outside : Bool → Held → (faults_before faults_after : ℕ) → (last_before last_after : Option Fault) → Outside
 outside t h b a lb la = record { tells = t; held = h; faults_before = b; faults_after = a; last_before = lb; last_after = la }
 
--- A theory and a proof that is accepted, with the text of this. Where the shelf tells, the two files read as these.
+-- A theory and a proof that is accepted, with the text of this. Where the shelf tells, the two files read as these and no others.
 pub record IsAccepted (o : Outside) (theory proof text : List ℕ) : Type 0 where
   pub th : Theory
   pub p : Proof
   pub proves : Proves th p text
-  pub reads_theory : o.tells ≡ true → ReadsTheory o.held theory th
-  pub reads_proof : o.tells ≡ true → ReadsProof o.held proof th p
+  pub reads_theory : o.tells ≡ true → Only (Some th) (ReadsTheory o.held theory)
+  pub reads_proof : o.tells ≡ true → Only (Some p) (ReadsProof o.held proof th)
 
--- A theory and a proof of which step n is the first that is no instance of its rule. Where the shelf tells, the two files read as these.
+-- A theory and a proof of which step n is the first that is no instance of its rule. Where the shelf tells, the two files read as these and no others.
 pub record IsRefused (o : Outside) (theory proof : List ℕ) (n : ℕ) : Type 0 where
   pub th : Theory
   pub p : Proof
   pub fails : FirstFail th p n
-  pub reads_theory : o.tells ≡ true → ReadsTheory o.held theory th
-  pub reads_proof : o.tells ≡ true → ReadsProof o.held proof th p
+  pub reads_theory : o.tells ≡ true → Only (Some th) (ReadsTheory o.held theory)
+  pub reads_proof : o.tells ≡ true → Only (Some p) (ReadsProof o.held proof th)
 
 -- The file was not read: the outside failed at this name, or the shelf tells that it holds nothing.
 abbrev pub IsUnread : Outside → (name : List ℕ) → Type 0
@@ -104,14 +141,8 @@ IsUntaken o file name _ = ⊥
 -- The file gives nothing: it was not taken, or its bytes are not what they should be.
 abbrev pub IsFileFault : Outside → (file : ℕ) → (name : List ℕ) → Cause → (List ℕ → Type 0) → Status → Type 0
 IsFileFault o file name c IsNone (status.Unreadable f place d) =
-    (f ≡ file) × (place ≡ 0) × (d ≡ c) × (o.tells ≡ true → (bytes : List ℕ) × ((o.held name ≡ Some bytes) × (length bytes ≤ MOST_BYTES) × IsNone bytes))
+    (f ≡ file) × (place ≡ 0) × (d ≡ c) × (o.tells ≡ true → Holds o.held name IsNone)
 IsFileFault o file name c IsNone s = IsUntaken o file name s
-
-abbrev pub IsNoTheory : List ℕ → Type 0
-IsNoTheory bytes = (th : Theory) → ReadsAs bytes th → ⊥
-
-abbrev pub IsNoProof : Theory → List ℕ → Type 0
-IsNoProof th bytes = (p : Proof) → ReadsAsProof th bytes p → ⊥
 
 abbrev pub IsTheoryFault : Outside → (name : List ℕ) → Status → Type 0
 IsTheoryFault o name = IsFileFault o 1 name cause.Shape IsNoTheory
@@ -122,7 +153,7 @@ IsProofFault o name th = IsFileFault o 2 name cause.Line (IsNoProof th)
 -- Why a `check` of two files is refused: the theory file is at fault; or it reads, and the proof file is at fault; or both read, and a step fails.
 pub data RefusesCheck (o : Outside) (theory proof : List ℕ) : Status → Type 0 where
   theory_fault : (s : Status) → IsTheoryFault o theory s → RefusesCheck o theory proof s
-  proof_fault : (s : Status) (th : Theory) → (o.tells ≡ true → ReadsTheory o.held theory th) → IsProofFault o proof th s → RefusesCheck o theory proof s
+  proof_fault : (s : Status) (th : Theory) → (o.tells ≡ true → Only (Some th) (ReadsTheory o.held theory)) → IsProofFault o proof th s → RefusesCheck o theory proof s
   step_fails : (n : ℕ) → IsRefused o theory proof n → RefusesCheck o theory proof (status.Refused n)
 
 -- Why a run is refused: its words are no command, or its `check` is refused.
@@ -158,7 +189,7 @@ PrintsPart out text = out.tells ≡ true → (part : List ℕ) × ((rest : List 
 -- Writing a text for a status: it is printed, or a part of it and the answer says why.
 pub data Delivers (out : Output) (text : List ℕ) (s : Status) : Status → Type 0 where
   whole : Prints out text → Delivers out text s s
-  write_failed : (n : ℕ) → n ≡ out.faults_after → Rose out.faults_before out.faults_after → PrintsPart out text → Delivers out text s (status.WriteFault n)
+  write_failed : (n : ℕ) → text ≢ [] → n ≡ out.faults_after → Rose out.faults_before out.faults_after → PrintsPart out text → Delivers out text s (status.WriteFault n)
   memory_wanted : out.faults_after ≡ out.faults_before → PrintsPart out text → Delivers out text s status.Memory
 
 -- What a run answers: the answer that is due, with its text printed; or a part of the text, and that the sink failed or memory ran out.

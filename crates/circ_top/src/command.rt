@@ -1,9 +1,14 @@
 //! The call `circ`: the program over any shelf and any sink.
 ghost use Rattle.std.specs.Prelude.{◌≡◌, ◌≤◌, ℕ, List, true, Some, length, map, string_bytes, IfOk, IfErr, OnOk, MatchOption};
 ghost use Rattle.circ_outer.specs.Shelf.{IsQuiet};
+ghost use Rattle.circ_read.specs.Reading.{Only};
 ghost use Rattle.circ_file.specs.Plain.{plain_proof};
-ghost use Rattle.circ_file.specs.Proof.{ProofFor};
-ghost use Rattle.circ_top.specs.Outcome.{outside, output, IsCheck, IsNoCheck, Proves, Fails, Accepts, Rejects, ReadsTheory, ReadsProof, IsAccepted, IsUntaken, IsTheoryFault, IsProofFault, RefusesCheck, Refuses, Due, Delivers, Answers};
+ghost use Rattle.circ_theory.specs.Theory.{Theory};
+ghost use Rattle.circ_file.specs.Proof.{Proof as PlainProof, ProofFor, goals_of};
+ghost use Rattle.circ_top.specs.Accepted.{Accepted, FirstFail};
+ghost use Rattle.circ_top.specs.Texts.{refusal_text, accepted_text};
+ghost use Rattle.circ_top.specs.Causes.{IsOutcome, Comes, FilesRead, IsPastLimit, IsReadFault, IsWriteFault};
+ghost use Rattle.circ_top.specs.Outcome.{outside, output, Outcome, PrintsPart, IsCheck, IsNoCheck, Proves, Fails, Accepts, Rejects, ReadsTheory, ReadsProof, IsAccepted, IsUntaken, IsTheoryFault, IsProofFault, RefusesCheck, Refuses, Due, Delivers, Answers};
 
 use crate::check::{Verdict, check};
 use crate::files::{FileFault, MOST_BYTES, read_file};
@@ -41,7 +46,7 @@ fn take_file<S: Shelf>(
 
 /// The theory that a file reads as, or why there is none.
 fn take_theory<S: Shelf>(alloc: Global, shelf: &mut S, name: &str) -> Result<Theory, Status>
-    ensures reads { IfOk result (λ th. S.tells shelf.old ≡ true → ReadsTheory (S.holds shelf.old) name.now th) }
+    ensures reads { IfOk result (λ th. S.tells shelf.old ≡ true → Only (Some th) (ReadsTheory (S.holds shelf.old) name.now)) }
     ensures fault { IfErr result (IsTheoryFault (outside (S.tells shelf.old) (S.holds shelf.old) (S.fault_count shelf.old) (S.fault_count shelf.new) (S.last_fault shelf.old) (S.last_fault shelf.new)) name.now) }
     ensures quiet { OnOk result (IsQuiet (S.fault_count shelf.old) (S.fault_count shelf.new) (S.last_fault shelf.old) (S.last_fault shelf.new)) }
     ensures tells { S.tells shelf.new ≡ S.tells shelf.old }
@@ -69,7 +74,7 @@ fn take_proof<S: Shelf>(
     name: &str,
     theory: &Theory,
 ) -> Result<Proof, Status>
-    ensures reads { IfOk result (λ p. S.tells shelf.old ≡ true → ReadsProof (S.holds shelf.old) name.now theory.now (plain_proof p)) }
+    ensures reads { IfOk result (λ p. S.tells shelf.old ≡ true → Only (Some (plain_proof p)) (ReadsProof (S.holds shelf.old) name.now theory.now)) }
     ensures fits { IfOk result (λ p. ProofFor theory.now (plain_proof p)) }
     ensures fault { IfErr result (IsProofFault (outside (S.tells shelf.old) (S.holds shelf.old) (S.fault_count shelf.old) (S.fault_count shelf.new) (S.last_fault shelf.old) (S.last_fault shelf.new)) name.now theory.now) }
     ensures quiet { OnOk result (IsQuiet (S.fault_count shelf.old) (S.fault_count shelf.new) (S.last_fault shelf.old) (S.last_fault shelf.new)) }
@@ -203,6 +208,21 @@ pub fn circ<S: Shelf, K: Sink>(
 
     // Each answer has its cause and its text.
     ensures answers { Answers (map string_bytes words.now.items) (outside (S.tells shelf.old) (S.holds shelf.old) (S.fault_count shelf.old) (S.fault_count shelf.new) (S.last_fault shelf.old) (S.last_fault shelf.new)) (output (K.tells out.old) (K.written out.old) (K.written out.new) (K.fault_count out.old) (K.fault_count out.new)) result }
+
+    // Where the shelf tells, no other answer comes than the outcome of the words and the files, with exactly its text, and
+    // it comes unless a count of faults rose or memory ran out.
+    ensures outcome { S.tells shelf.old ≡ true → IsOutcome (map string_bytes words.now.items) (S.holds shelf.old) (output (K.tells out.old) (K.written out.old) (K.written out.new) (K.fault_count out.old) (K.fault_count out.new)) result }
+    ensures complete { S.tells shelf.old ≡ true → (s : Status) (text : List ℕ) → Outcome (map string_bytes words.now.items) (S.holds shelf.old) s text → Comes (outside (S.tells shelf.old) (S.holds shelf.old) (S.fault_count shelf.old) (S.fault_count shelf.new) (S.last_fault shelf.old) (S.last_fault shelf.new)) (output (K.tells out.old) (K.written out.old) (K.written out.new) (K.fault_count out.old) (K.fault_count out.new)) s text result }
+
+    // Where the files read, the first step that fails is answered, and where none does, the text of the goals.
+    ensures first_failure { S.tells shelf.old ≡ true → (th : Theory) (p : PlainProof) (n : ℕ) → FilesRead (map string_bytes words.now.items) (S.holds shelf.old) th p → FirstFail th p n → Comes (outside (S.tells shelf.old) (S.holds shelf.old) (S.fault_count shelf.old) (S.fault_count shelf.new) (S.last_fault shelf.old) (S.last_fault shelf.new)) (output (K.tells out.old) (K.written out.old) (K.written out.new) (K.fault_count out.old) (K.fault_count out.new)) (Status.Refused n) (refusal_text (Status.Refused n)) result }
+    ensures accepted_text { S.tells shelf.old ≡ true → (th : Theory) (p : PlainProof) → FilesRead (map string_bytes words.now.items) (S.holds shelf.old) th p → Accepted th p → Comes (outside (S.tells shelf.old) (S.holds shelf.old) (S.fault_count shelf.old) (S.fault_count shelf.new) (S.last_fault shelf.old) (S.last_fault shelf.new)) (output (K.tells out.old) (K.written out.old) (K.written out.new) (K.fault_count out.old) (K.fault_count out.new)) Status.Ok (accepted_text th.signature (goals_of p)) result }
+
+    // A file that is too long, faults of the outside, want of memory: when they come, and what was printed then.
+    ensures file_limit { (file n : ℕ) → result ≡ Status.TooLong file n → IsPastLimit (map string_bytes words.now.items) (outside (S.tells shelf.old) (S.holds shelf.old) (S.fault_count shelf.old) (S.fault_count shelf.new) (S.last_fault shelf.old) (S.last_fault shelf.new)) file n }
+    ensures read_fault { (n : ℕ) → result ≡ Status.ReadFault n → IsReadFault (map string_bytes words.now.items) (outside (S.tells shelf.old) (S.holds shelf.old) (S.fault_count shelf.old) (S.fault_count shelf.new) (S.last_fault shelf.old) (S.last_fault shelf.new)) (output (K.tells out.old) (K.written out.old) (K.written out.new) (K.fault_count out.old) (K.fault_count out.new)) n }
+    ensures write_fault { (n : ℕ) → result ≡ Status.WriteFault n → IsWriteFault (map string_bytes words.now.items) (outside (S.tells shelf.old) (S.holds shelf.old) (S.fault_count shelf.old) (S.fault_count shelf.new) (S.last_fault shelf.old) (S.last_fault shelf.new)) (output (K.tells out.old) (K.written out.old) (K.written out.new) (K.fault_count out.old) (K.fault_count out.new)) n }
+    ensures memory { result ≡ Status.Memory → S.tells shelf.old ≡ true → (s : Status) (text : List ℕ) → Outcome (map string_bytes words.now.items) (S.holds shelf.old) s text → PrintsPart (output (K.tells out.old) (K.written out.old) (K.written out.new) (K.fault_count out.old) (K.fault_count out.new)) text }
 
     // No name changes what it holds.
     ensures holds { (n : List ℕ) → S.holds shelf.new n ≡ S.holds shelf.old n }

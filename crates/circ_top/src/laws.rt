@@ -1,5 +1,8 @@
 //! Laws on the definitions behind the clauses of `circ`.
-ghost use Rattle.std.specs.Prelude.{◌≡◌};
+ghost use Rattle.std.specs.Prelude.{◌≡◌, ℕ};
+ghost use Rattle.circ_theory.specs.Theory.{Theory};
+ghost use Rattle.circ_file.specs.Proof.{Proof};
+ghost use Rattle.circ_top.specs.Accepted.{Accepted, FirstFail};
 ghost use Rattle.circ_term.specs.declared.TheConstants.{MOST_NODES, MOST_DEPTH};
 ghost use Rattle.circ_theory.specs.declared.TheConstants.{MOST_SORTS, MOST_OPS, MOST_EQUATIONS, MOST_ARGS};
 ghost use Rattle.circ_top.specs.declared.files.TheConstants.{MOST_BYTES, PIECE};
@@ -17,4 +20,10 @@ pub fn limits()
     ensures args { MOST_ARGS ≡ 16 }
     ensures equations { MOST_EQUATIONS ≡ 65536 }
     ensures words { MOST_TOKENS ≡ 256 }
+{}
+
+/// A proof whose every step is an instance of its rule has no first failing step, and no proof has two.
+pub fn one_verdict()
+    ensures not_both { (th : Theory) (p : Proof) (n : ℕ) → Accepted th p → FirstFail th p n → ⊥ }
+    ensures one_failure { (th : Theory) (p : Proof) (n m : ℕ) → FirstFail th p n → FirstFail th p m → n ≡ m }
 {}

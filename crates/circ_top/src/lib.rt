@@ -7,6 +7,7 @@ mod files;
 mod goals;
 pub mod laws;
 mod status;
+pub mod sure;
 #[cfg(test)]
 mod tests;
 mod texts;

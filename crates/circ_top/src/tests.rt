@@ -1,20 +1,68 @@
 //! The call `circ` over memory objects, with ample memory.
 use crate::command::circ;
-use circ_outer::{SureShelf, SureSink};
+use crate::status::Status;
+use crate::sure::circ_in_memory;
+use circ_outer::{MemoryShelf, MemorySink, SureShelf, SureSink};
 use std::alloc::{AllocError, Global};
 use std::test::Fail;
 
 const NOT: &[u8] =
     b"theory NOT is sort Bit . ops 0 1 : -> Bit . op not : Bit -> Bit . eq not(0) = 1 . eq not(1) = 0 . endtheory";
 
+const DOUBLE_NEGATION: &[u8] =
+    b"circproof 1\na 0\na 2 0\na 2 1\nblock\ngoal 2 0\nreduce\nleft equation > 0 0\nleft equation > 1 -\nsame\ndone\nend\n";
+
+const ACCEPTED: &[u8] = b"accepted\ngoal: not(not(0)) = 0\n";
+
+const USAGE: &[u8] = b"usage: circ [--steps N] [--derives N] COMMAND WORD...\n";
+
 /// A theory, a proof, the number of the answer, and its text.
-#[derive(Drop)]
+#[derive(Clone, Copy)]
 struct Case {
     theory: &'static [u8],
     proof: &'static [u8],
     number: u8,
     text: &'static [u8],
 }
+
+const CASES: [Case; 6] = [
+    Case {
+        theory: NOT,
+        proof: DOUBLE_NEGATION,
+        number: 0,
+        text: ACCEPTED,
+    },
+    Case {
+        theory: NOT,
+        proof: b"circproof 1\na 0\na 2 0\na 2 1\nblock\ngoal 2 0\nreduce\nleft equation > 1 -\nsame\ndone\nend\n",
+        number: 1,
+        text: b"refused at 1\n",
+    },
+    Case {
+        theory: NOT,
+        proof: b"circproof 1\na 0\nblock\ngoal 0 0\ngoal 0 0\nreduce\nsame\ndone\nend\n",
+        number: 1,
+        text: b"refused at 2\n",
+    },
+    Case {
+        theory: NOT,
+        proof: b"circproof 1\na 0\nblock\ngoal 0 0\nreduce\nsame\nreduce\nsame\ndone\nend\n",
+        number: 1,
+        text: b"refused at 2\n",
+    },
+    Case {
+        theory: NOT,
+        proof: b"circproof 1\nend\n",
+        number: 2,
+        text: b"unreadable: file 2, line 0, form\n",
+    },
+    Case {
+        theory: b"",
+        proof: b"",
+        number: 2,
+        text: b"unreadable: file 1, statement 0, shape\n",
+    },
+];
 
 fn words(alloc: Global, texts: &[&str]) -> Result<Vec<String>, AllocError> {
     let mut words = Vec::new(alloc);
@@ -25,82 +73,118 @@ fn words(alloc: Global, texts: &[&str]) -> Result<Vec<String>, AllocError> {
 }
 
 /// Whether the words give this number and this text over a theory `t` and a proof `p`.
-fn gives(alloc: Global, texts: &[&str], case: &Case) -> Result<bool, AllocError> {
+fn gives(alloc: Global, texts: &[&str], case: Case) -> Result<bool, AllocError> {
     let mut shelf = SureShelf::new(alloc, 65_536);
     shelf.add("t", case.theory)?;
     shelf.add("p", case.proof)?;
     let mut out = SureSink::new(alloc, 4);
-    let status = circ(alloc, &words(alloc, texts)?, &mut shelf, &mut out);
+    let status = circ_in_memory(alloc, &words(alloc, texts)?, &mut shelf, &mut out);
     Ok(status.number() == case.number && out.bytes() == case.text)
+}
+
+/// Checks the double negation, over a shelf and a sink of which calls may be about to fail.
+fn check_double_negation(
+    alloc: Global,
+    shelf: &mut MemoryShelf,
+    out: &mut MemorySink,
+) -> Result<Status, AllocError> {
+    shelf.add("t", NOT)?;
+    shelf.add("p", DOUBLE_NEGATION)?;
+    Ok(circ(
+        alloc,
+        &words(alloc, &["circ", "check", "t", "p"])?,
+        shelf,
+        out,
+    ))
+}
+
+fn blanks(alloc: Global, count: usize) -> Result<Vec<u8>, AllocError> {
+    vec![in alloc; b' '; count]
 }
 
 #[test]
 fn checks_two_files(rt: HostRuntime) -> Result<(), Fail> {
-    let cases = [
-        Case {
-            theory: NOT,
-            proof: b"circproof 1\na 0\na 2 0\na 2 1\nblock\ngoal 2 0\nreduce\nleft equation > 0 0\nleft equation > 1 -\nsame\ndone\nend\n",
-            number: 0,
-            text: b"accepted\ngoal: not(not(0)) = 0\n",
-        },
-        Case {
-            theory: NOT,
-            proof: b"circproof 1\na 0\na 2 0\na 2 1\nblock\ngoal 2 0\nreduce\nleft equation > 1 -\nsame\ndone\nend\n",
-            number: 1,
-            text: b"refused at 1\n",
-        },
-        Case {
-            theory: NOT,
-            proof: b"circproof 1\na 0\nblock\ngoal 0 0\ngoal 0 0\nreduce\nsame\ndone\nend\n",
-            number: 1,
-            text: b"refused at 2\n",
-        },
-        Case {
-            theory: NOT,
-            proof: b"circproof 1\na 0\nblock\ngoal 0 0\nreduce\nsame\nreduce\nsame\ndone\nend\n",
-            number: 1,
-            text: b"refused at 2\n",
-        },
-        Case {
-            theory: NOT,
-            proof: b"circproof 1\nend\n",
-            number: 2,
-            text: b"unreadable: file 2, line 0, form\n",
-        },
-        Case {
-            theory: b"",
-            proof: b"",
-            number: 2,
-            text: b"unreadable: file 1, statement 0, shape\n",
-        },
-    ];
-    for case in &cases {
-        assert!(rt; gives(rt.alloc(), &["circ", "check", "t", "p"], case)?);
+    for case in &CASES {
+        assert!(rt; gives(rt.alloc(), &["circ", "check", "t", "p"], *case)?);
     }
     Ok(())
 }
 
 #[test]
 fn refuses_other_words(rt: HostRuntime) -> Result<(), Fail> {
-    let case = Case {
+    let usage = Case {
         theory: NOT,
-        proof: b"",
+        proof: DOUBLE_NEGATION,
         number: 3,
-        text: b"usage: circ [--steps N] [--derives N] COMMAND WORD...\n",
+        text: USAGE,
     };
-    assert!(rt; gives(rt.alloc(), &["circ", "check", "t"], &case)?);
-    assert!(rt; gives(rt.alloc(), &["circ", "prove", "t", "p"], &case)?);
+    assert!(rt; gives(rt.alloc(), &["circ", "check", "b.circ"], usage)?);
+    assert!(rt; gives(rt.alloc(), &["circ", "check", "t", "p", "p"], usage)?);
+    assert!(rt; gives(rt.alloc(), &["circ", "prove", "t", "p"], usage)?);
     Ok(())
 }
 
 #[test]
-fn names_no_file(rt: HostRuntime) -> Result<(), Fail> {
-    let case = Case {
+fn absent_files_are_read_faults(rt: HostRuntime) -> Result<(), Fail> {
+    let absent = Case {
         theory: NOT,
-        proof: b"",
+        proof: DOUBLE_NEGATION,
         number: 7,
         text: b"",
     };
-    assert!(rt; gives(rt.alloc(), &["circ", "check", "absent", "p"], &case)?);
+    assert!(rt; gives(rt.alloc(), &["circ", "check", "absent", "p"], absent)?);
+    assert!(rt; gives(rt.alloc(), &["circ", "check", "t", "absent"], absent)?);
+    Ok(())
+}
+
+#[test]
+fn each_call_of_the_shelf_fails(rt: HostRuntime) -> Result<(), Fail> {
+    for call in 1..=7 {
+        let mut shelf = MemoryShelf::new(rt.alloc(), 65_536);
+        shelf.fail_at(call)?;
+        let mut out = MemorySink::new(rt.alloc(), 65_536);
+        let status = check_double_negation(rt.alloc(), &mut shelf, &mut out)?;
+        let failed = matches!(status, Status::ReadFault { count: 1 });
+        assert_eq!(rt; failed, call < 7, "call {call}");
+        assert_eq!(rt; status.number() == 0, call == 7, "call {call}");
+        assert_eq!(rt; out.bytes().is_empty(), call < 7, "call {call}");
+    }
+    Ok(())
+}
+
+#[test]
+fn each_write_of_the_sink_fails(rt: HostRuntime) -> Result<(), Fail> {
+    for call in 1..=9 {
+        let mut shelf = MemoryShelf::new(rt.alloc(), 65_536);
+        let mut out = MemorySink::new(rt.alloc(), 4);
+        out.fail_at(call)?;
+        let status = check_double_negation(rt.alloc(), &mut shelf, &mut out)?;
+        let failed = matches!(status, Status::WriteFault { count: 1 });
+        assert_eq!(rt; failed, call < 9, "call {call}");
+        assert_eq!(rt; status.number() == 0, call == 9, "call {call}");
+        let written = ACCEPTED.len().min(4 * (call as usize - 1));
+        assert_eq!(rt; Some(out.bytes()), ACCEPTED.get(..written), "call {call}");
+    }
+    Ok(())
+}
+
+#[test]
+fn files_end_at_the_limit(rt: HostRuntime) -> Result<(), Fail> {
+    for (size, piece, number) in [
+        (67_108_865, 1, 4),
+        (67_108_865, 65_536, 4),
+        (67_108_864, 65_536, 2),
+    ] {
+        let mut shelf = SureShelf::new(rt.alloc(), piece);
+        shelf.add("t", blanks(rt.alloc(), size)?.as_slice())?;
+        let mut out = SureSink::new(rt.alloc(), 65_536);
+        let words = words(rt.alloc(), &["circ", "check", "t", "p"])?;
+        let status = circ(rt.alloc(), &words, &mut shelf, &mut out);
+        assert_eq!(rt; status.number(), number, "{size} in pieces of {piece}");
+        if let Status::TooLong { file, count } = status {
+            assert_eq!(rt; (file, count), (1, size as u64), "in pieces of {piece}");
+            assert_eq!(rt; out.bytes(), b"too long: file 1\n".as_slice());
+        }
+    }
     Ok(())
 }

@@ -1,0 +1,73 @@
+-- When each answer comes, by the outcome of the run and the faults of the outside.
+use Rattle.std.specs.Prelude.{◌≡◌, ◌⊎◌, ◌++◌, ℕ, List, [], true, IsSome}
+use Rattle.circ_outer.specs.Count.{Rose}
+use Rattle.circ_theory.specs.Theory.{Theory}
+use Rattle.circ_file.specs.Proof.{Proof}
+use Rattle.circ_top.specs.Outcome.{Held, IsCheck, ReadsTheory, ReadsProof, Outcome, Outside, IsUnread, IsTooLong, Output, Prints, PrintsPart}
+use Rattle.circ_top.specs.declared.status.Status.{Status}
+use Rattle.circ_top.specs.declared.status.Status.TheVariants as status
+
+-- The answer is an outcome with exactly its text; or it is a fault of the outside or want of memory.
+abbrev pub IsOutcome : List (List ℕ) → Held → Output → Status → Type 0
+IsOutcome words held out (status.ReadFault n) = Unit {0}
+IsOutcome words held out (status.WriteFault n) = Unit {0}
+IsOutcome words held out status.Memory = Unit {0}
+IsOutcome words held out s = (text : List ℕ) × (Outcome words held s text × Prints out text)
+
+-- the same answer; of a file that is too long, the counts may differ
+abbrev pub IsLike : Status → Status → Type 0
+IsLike (status.TooLong f n) (status.TooLong g m) = f ≡ g
+IsLike s r = s ≡ r
+
+-- What is answered where the outcome is s with this text: s, with the text printed; or that a count of faults rose or memory ran out, with a part of it printed.
+pub data Comes (o : Outside) (out : Output) (s : Status) (text : List ℕ) : Status → Type 0 where
+  printed : (r : Status) → IsLike s r → Prints out text → Comes o out s text r
+  not_read : (n : ℕ) → Rose o.faults_before o.faults_after → Prints out [] → Comes o out s text (status.ReadFault n)
+  not_written : (n : ℕ) → Rose out.faults_before out.faults_after → PrintsPart out text → Comes o out s text (status.WriteFault n)
+  no_memory : PrintsPart out text → Comes o out s text status.Memory
+
+-- The words are a `check` of two files that read as the theory and the proof.
+pub record FilesRead (words : List (List ℕ)) (held : Held) (th : Theory) (p : Proof) : Type 0 where
+  pub theory : List ℕ
+  pub proof : List ℕ
+  pub command : IsCheck words theory proof
+  pub reads_theory : ReadsTheory held theory th
+  pub reads_proof : ReadsProof held proof th p
+
+-- The theory file has the fact; or it reads, and the proof file has the fact.
+abbrev pub AtFile : Outside → (theory proof : List ℕ) → (ℕ → List ℕ → Type 0) → Type 0
+AtFile o theory proof P = P 1 theory ⊎ ((th : Theory) × ((o.tells ≡ true → ReadsTheory o.held theory th) × P 2 proof))
+
+-- The words are a `check`, of which a file was taken past the limit.
+pub record IsPastLimit (words : List (List ℕ)) (o : Outside) (file count : ℕ) : Type 0 where
+  pub theory : List ℕ
+  pub proof : List ℕ
+  pub command : IsCheck words theory proof
+  pub past : AtFile o theory proof (λ f name. (f ≡ file) × IsTooLong o name count)
+
+-- The words are a `check`, of which a file was not read. The shelf's count is given, and the sink got nothing.
+pub record IsReadFault (words : List (List ℕ)) (o : Outside) (out : Output) (count : ℕ) : Type 0 where
+  pub theory : List ℕ
+  pub proof : List ℕ
+  pub command : IsCheck words theory proof
+  pub unread : AtFile o theory proof (λ f name. IsUnread o name)
+  pub counted : count ≡ o.faults_after
+  pub nothing : Prints out []
+
+-- A text was not written whole. The sink's count rose and is given, and the sink got a part of the text, which is the outcome's where the shelf tells.
+pub record IsWriteFault (words : List (List ℕ)) (o : Outside) (out : Output) (count : ℕ) : Type 0 where
+  pub outcome : Status
+  pub text : List ℕ
+  pub due : o.tells ≡ true → Outcome words o.held outcome text
+  pub rose : Rose out.faults_before out.faults_after
+  pub counted : count ≡ out.faults_after
+  pub part : PrintsPart out text
+
+-- Both files of a `check` hold something.
+abbrev pub HoldsFiles : List (List ℕ) → Held → Type 0
+HoldsFiles words held = (theory proof : List ℕ) → IsCheck words theory proof → IsSome (held theory) × IsSome (held proof)
+
+-- The answer is an outcome, whose text was appended; or memory ran out.
+abbrev pub Appends : List (List ℕ) → Held → (before after : List ℕ) → Status → Type 0
+Appends words held before after status.Memory = Unit {0}
+Appends words held before after s = (text : List ℕ) × (Outcome words held s text × (after ≡ before ++ text))
