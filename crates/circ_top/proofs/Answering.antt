@@ -6,8 +6,10 @@ use Rattle.circ_outer.specs.Count.{Rose}
 use Rattle.circ_outer.specs.Shelf.{Fault, IsQuiet}
 use Rattle.circ_theory.specs.Theory.{Theory}
 use Rattle.circ_file.specs.Proof.{Proof}
-use Rattle.circ_top.specs.Outcome.{Held, Holds, IsRefused, ReadsTheory, ReadsProof, outside, Outside, Output, IsNoTheory, IsNoProof, IsUnread, IsFileFault, Fails, RefusesCheck, theory_fault, proof_fault, step_fails, Refuses, no_command, no_check, Due, success, refusal, Prints, Delivers, whole, write_failed, memory_wanted, Answers, Accepts, Rejects}
+use Rattle.circ_top.specs.Outcome.{Held, Holds, AreBytes, IsRefused, ReadsTheory, ReadsProof, outside, Outside, Output, IsNoTheory, IsNoProof, IsUnread, IsFileFault, Fails, RefusesCheck, theory_fault, proof_fault, step_fails, Refuses, no_command, no_check, Due, success, refusal, Prints, Delivers, whole, write_failed, memory_wanted, Answers, Accepts, Rejects}
 use Rattle.circ_read.specs.Reading.{Only}
+use Rattle.circ_read.specs.TheoryText.{ReadsAs}
+use Rattle.circ_file.specs.ProofText.{ReadsAsProof}
 use Rattle.circ_top.specs.declared.files.TheConstants.{MOST_BYTES}
 use Rattle.circ_top.specs.Texts.{refusal_text}
 use Rattle.circ_top.specs.declared.status.Status.{Status}
@@ -69,10 +71,12 @@ if_err P Q (Err e) h f = f e h
 -- a step that fails, or want of memory, refuses a `check` whose files read
 pub fails_refuses : (o : Outside) (theory proof : List ℕ) (th : Theory) (p : Proof) → (o.tells ≡ true → Only (Some th) (ReadsTheory o.held theory))
     → (o.tells ≡ true → Only (Some p) (ReadsProof o.held proof th))
+    → AreBytes (λ bytes. ReadsAs bytes th) → AreBytes (λ bytes. ReadsAsProof th bytes p)
     → (s : Status) → Fails th p s → RefusesCheck o theory proof s
-fails_refuses o theory proof th p rt rp (Refused n) f = step_fails n (record { th = th; p = p; fails = f; reads_theory = rt; reads_proof = rp })
-fails_refuses o theory proof th p rt rp Memory f = theory_fault Memory tt
-fails_refuses o theory proof th p rt rp s f = absurd f
+fails_refuses o theory proof th p rt rp bt bp (Refused n) f =
+    step_fails n (record { th = th; p = p; fails = f; theory_bytes = bt; proof_bytes = bp; reads_theory = rt; reads_proof = rp })
+fails_refuses o theory proof th p rt rp bt bp Memory f = theory_fault Memory tt
+fails_refuses o theory proof th p rt rp bt bp s f = absurd f
 
 -- no refusal is a success
 file_fault_not_ok : (o : Outside) (file : ℕ) (name : List ℕ) (c : Cause) (P : List ℕ → Type 0) (s : Status) → s ≡ status.Ok → IsFileFault o file name c P s → ⊥

@@ -36,6 +36,12 @@ pub record Holds (held : Held) (name : List ℕ) (P : List ℕ → Type 0) : Typ
   pub short : length bytes ≤ MOST_BYTES
   pub are : P bytes
 
+-- There are bytes within the limit of which this is true.
+pub record AreBytes (P : List ℕ → Type 0) : Type 0 where
+  pub bytes : List ℕ
+  pub short : length bytes ≤ MOST_BYTES
+  pub are : P bytes
+
 -- The named file holds more bytes than the limit. Of these n were taken, at most one piece past it.
 pub record HoldsMore (held : Held) (name : List ℕ) (n : ℕ) : Type 0 where
   pub bytes : List ℕ
@@ -103,19 +109,25 @@ pub record Outside : Type 0 where
 abbrev pub outside : Bool → Held → (faults_before faults_after : ℕ) → (last_before last_after : Option Fault) → Outside
 outside t h b a lb la = record { tells = t; held = h; faults_before = b; faults_after = a; last_before = lb; last_after = la }
 
--- A theory and a proof that is accepted, with the text of this. Where the shelf tells, the two files read as these and no others.
+-- Bytes that read as a theory, and bytes that read as a proof that is accepted, with the text of this. Where the shelf tells, the two files hold them,
+-- and read as these and no others.
 pub record IsAccepted (o : Outside) (theory proof text : List ℕ) : Type 0 where
   pub th : Theory
   pub p : Proof
   pub proves : Proves th p text
+  pub theory_bytes : AreBytes (λ bytes. ReadsAs bytes th)
+  pub proof_bytes : AreBytes (λ bytes. ReadsAsProof th bytes p)
   pub reads_theory : o.tells ≡ true → Only (Some th) (ReadsTheory o.held theory)
   pub reads_proof : o.tells ≡ true → Only (Some p) (ReadsProof o.held proof th)
 
--- A theory and a proof of which step n is the first that is no instance of its rule. Where the shelf tells, the two files read as these and no others.
+-- Bytes that read as a theory, and bytes that read as a proof of which step n is the first that is no instance of its rule. Where the shelf tells, the
+-- two files hold them, and read as these and no others.
 pub record IsRefused (o : Outside) (theory proof : List ℕ) (n : ℕ) : Type 0 where
   pub th : Theory
   pub p : Proof
   pub fails : FirstFail th p n
+  pub theory_bytes : AreBytes (λ bytes. ReadsAs bytes th)
+  pub proof_bytes : AreBytes (λ bytes. ReadsAsProof th bytes p)
   pub reads_theory : o.tells ≡ true → Only (Some th) (ReadsTheory o.held theory)
   pub reads_proof : o.tells ≡ true → Only (Some p) (ReadsProof o.held proof th)
 

@@ -2,13 +2,15 @@
 ghost use Rattle.std.specs.Prelude.{◌≡◌, ◌≤◌, ℕ, List, true, Some, length, map, string_bytes, IfOk, IfErr, OnOk, MatchOption};
 ghost use Rattle.circ_outer.specs.Shelf.{IsQuiet};
 ghost use Rattle.circ_read.specs.Reading.{Only};
+ghost use Rattle.circ_read.specs.TheoryText.{ReadsAs};
+ghost use Rattle.circ_file.specs.ProofText.{ReadsAsProof};
 ghost use Rattle.circ_file.specs.Plain.{plain_proof};
 ghost use Rattle.circ_theory.specs.Theory.{Theory};
 ghost use Rattle.circ_file.specs.Proof.{Proof as PlainProof, ProofFor, goals_of};
 ghost use Rattle.circ_top.specs.Accepted.{Accepted, FirstFail};
 ghost use Rattle.circ_top.specs.Texts.{refusal_text, accepted_text};
 ghost use Rattle.circ_top.specs.Causes.{IsOutcome, Comes, FilesRead, IsPastLimit, IsReadFault, IsWriteFault};
-ghost use Rattle.circ_top.specs.Outcome.{outside, output, Outcome, PrintsPart, IsCheck, IsNoCheck, Proves, Fails, Accepts, Rejects, ReadsTheory, ReadsProof, IsAccepted, IsUntaken, IsTheoryFault, IsProofFault, RefusesCheck, Refuses, Due, Delivers, Answers};
+ghost use Rattle.circ_top.specs.Outcome.{outside, output, AreBytes, Outcome, PrintsPart, IsCheck, IsNoCheck, Proves, Fails, Accepts, Rejects, ReadsTheory, ReadsProof, IsAccepted, IsUntaken, IsTheoryFault, IsProofFault, RefusesCheck, Refuses, Due, Delivers, Answers};
 
 use crate::check::{Verdict, check};
 use crate::files::{FileFault, MOST_BYTES, read_file};
@@ -31,6 +33,7 @@ fn take_file<S: Shelf>(
     ensures short { IfOk result (λ v. length v.items ≤ MOST_BYTES) }
     ensures fault { IfErr result (IsUntaken (outside (S.tells shelf.old) (S.holds shelf.old) (S.fault_count shelf.old) (S.fault_count shelf.new) (S.last_fault shelf.old) (S.last_fault shelf.new)) file name.now) }
     ensures quiet { OnOk result (IsQuiet (S.fault_count shelf.old) (S.fault_count shelf.new) (S.last_fault shelf.old) (S.last_fault shelf.new)) }
+    ensures count { S.fault_count shelf.old ≤ S.fault_count shelf.new }
     ensures tells { S.tells shelf.new ≡ S.tells shelf.old }
     ensures holds { (n : List ℕ) → S.holds shelf.new n ≡ S.holds shelf.old n }
 {
@@ -47,8 +50,10 @@ fn take_file<S: Shelf>(
 /// The theory that a file reads as, or why there is none.
 fn take_theory<S: Shelf>(alloc: Global, shelf: &mut S, name: &str) -> Result<Theory, Status>
     ensures reads { IfOk result (λ th. S.tells shelf.old ≡ true → Only (Some th) (ReadsTheory (S.holds shelf.old) name.now)) }
+    ensures bytes { IfOk result (λ th. AreBytes (λ bytes. ReadsAs bytes th)) }
     ensures fault { IfErr result (IsTheoryFault (outside (S.tells shelf.old) (S.holds shelf.old) (S.fault_count shelf.old) (S.fault_count shelf.new) (S.last_fault shelf.old) (S.last_fault shelf.new)) name.now) }
     ensures quiet { OnOk result (IsQuiet (S.fault_count shelf.old) (S.fault_count shelf.new) (S.last_fault shelf.old) (S.last_fault shelf.new)) }
+    ensures count { S.fault_count shelf.old ≤ S.fault_count shelf.new }
     ensures tells { S.tells shelf.new ≡ S.tells shelf.old }
     ensures holds { (n : List ℕ) → S.holds shelf.new n ≡ S.holds shelf.old n }
 {
@@ -75,9 +80,11 @@ fn take_proof<S: Shelf>(
     theory: &Theory,
 ) -> Result<Proof, Status>
     ensures reads { IfOk result (λ p. S.tells shelf.old ≡ true → Only (Some (plain_proof p)) (ReadsProof (S.holds shelf.old) name.now theory.now)) }
+    ensures bytes { IfOk result (λ p. AreBytes (λ bytes. ReadsAsProof theory.now bytes (plain_proof p))) }
     ensures fits { IfOk result (λ p. ProofFor theory.now (plain_proof p)) }
     ensures fault { IfErr result (IsProofFault (outside (S.tells shelf.old) (S.holds shelf.old) (S.fault_count shelf.old) (S.fault_count shelf.new) (S.last_fault shelf.old) (S.last_fault shelf.new)) name.now theory.now) }
     ensures quiet { OnOk result (IsQuiet (S.fault_count shelf.old) (S.fault_count shelf.new) (S.last_fault shelf.old) (S.last_fault shelf.new)) }
+    ensures count { S.fault_count shelf.old ≤ S.fault_count shelf.new }
     ensures tells { S.tells shelf.new ≡ S.tells shelf.old }
     ensures holds { (n : List ℕ) → S.holds shelf.new n ≡ S.holds shelf.old n }
 {
@@ -122,6 +129,7 @@ fn check_files<S: Shelf>(
 ) -> Result<Vec<u8>, Status>
     ensures accepted { IfOk result (λ v. IsAccepted (outside (S.tells shelf.old) (S.holds shelf.old) (S.fault_count shelf.old) (S.fault_count shelf.new) (S.last_fault shelf.old) (S.last_fault shelf.new)) theory.now proof.now v.items) }
     ensures refused { IfErr result (RefusesCheck (outside (S.tells shelf.old) (S.holds shelf.old) (S.fault_count shelf.old) (S.fault_count shelf.new) (S.last_fault shelf.old) (S.last_fault shelf.new)) theory.now proof.now) }
+    ensures count { S.fault_count shelf.old ≤ S.fault_count shelf.new }
     ensures tells { S.tells shelf.new ≡ S.tells shelf.old }
     ensures holds { (n : List ℕ) → S.holds shelf.new n ≡ S.holds shelf.old n }
 {
@@ -153,6 +161,7 @@ fn operands(words: &[String]) -> Option<(&str, &str)>
 fn run<S: Shelf>(alloc: Global, words: &[String], shelf: &mut S) -> Result<Vec<u8>, Status>
     ensures succeeds { IfOk result (λ v. Due (map string_bytes words.now) (outside (S.tells shelf.old) (S.holds shelf.old) (S.fault_count shelf.old) (S.fault_count shelf.new) (S.last_fault shelf.old) (S.last_fault shelf.new)) Status.Ok v.items) }
     ensures refuses { IfErr result (Refuses (map string_bytes words.now) (outside (S.tells shelf.old) (S.holds shelf.old) (S.fault_count shelf.old) (S.fault_count shelf.new) (S.last_fault shelf.old) (S.last_fault shelf.new))) }
+    ensures count { S.fault_count shelf.old ≤ S.fault_count shelf.new }
     ensures tells { S.tells shelf.new ≡ S.tells shelf.old }
     ensures holds { (n : List ℕ) → S.holds shelf.new n ≡ S.holds shelf.old n }
 {
@@ -179,6 +188,7 @@ fn deliver<K: Sink>(out: &mut K, status: Status, text: &[u8]) -> Status
 /// Runs the program with its words, and says what came of it.
 fn answer<S: Shelf, K: Sink>(alloc: Global, words: &[String], shelf: &mut S, out: &mut K) -> Status
     ensures answers { Answers (map string_bytes words.now) (outside (S.tells shelf.old) (S.holds shelf.old) (S.fault_count shelf.old) (S.fault_count shelf.new) (S.last_fault shelf.old) (S.last_fault shelf.new)) (output (K.tells out.old) (K.written out.old) (K.written out.new) (K.fault_count out.old) (K.fault_count out.new)) result }
+    ensures shelf_count { S.fault_count shelf.old ≤ S.fault_count shelf.new }
     ensures shelf_tells { S.tells shelf.new ≡ S.tells shelf.old }
     ensures holds { (n : List ℕ) → S.holds shelf.new n ≡ S.holds shelf.old n }
     ensures sink_tells { K.tells out.new ≡ K.tells out.old }
@@ -226,6 +236,7 @@ pub fn circ<S: Shelf, K: Sink>(
 
     // No name changes what it holds.
     ensures holds { (n : List ℕ) → S.holds shelf.new n ≡ S.holds shelf.old n }
+    ensures shelf_count { S.fault_count shelf.old ≤ S.fault_count shelf.new }
     ensures shelf_tells { S.tells shelf.new ≡ S.tells shelf.old }
     ensures sink_tells { K.tells out.new ≡ K.tells out.old }
 {

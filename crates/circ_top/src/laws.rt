@@ -3,19 +3,21 @@ ghost use Rattle.std.specs.Prelude.{◌≡◌, ℕ};
 ghost use Rattle.circ_theory.specs.Theory.{Theory};
 ghost use Rattle.circ_file.specs.Proof.{Proof};
 ghost use Rattle.circ_top.specs.Accepted.{Accepted, FirstFail};
-ghost use Rattle.circ_term.specs.declared.TheConstants.{MOST_NODES, MOST_DEPTH};
-ghost use Rattle.circ_theory.specs.declared.TheConstants.{MOST_SORTS, MOST_OPS, MOST_EQUATIONS, MOST_ARGS};
+ghost use Rattle.circ_term.specs.declared.TheConstants.{MOST_NODES, MOST_DEPTH, MOST_ARGS as MOST_TERM_ARGS};
+ghost use Rattle.circ_theory.specs.declared.TheConstants.{MOST_SORTS, MOST_VARS, MOST_OPS, MOST_EQUATIONS, MOST_ARGS};
 ghost use Rattle.circ_top.specs.declared.files.TheConstants.{MOST_BYTES, PIECE};
 ghost use Rattle.circ_read.specs.declared.TheConstants.{MOST_TOKENS};
 
-/// The limits in numbers: bytes of a file and of a piece, nodes and levels of a term, sorts,
+/// The limits in numbers: bytes of a file and of a piece, nodes, levels and arguments of a term, sorts, variables,
 /// operators, their arguments and equations of a theory, words of a side of an equation.
 pub fn limits()
     ensures bytes { MOST_BYTES ≡ 67108864 }
     ensures piece { PIECE ≡ 65536 }
     ensures nodes { MOST_NODES ≡ 1000000 }
     ensures depth { MOST_DEPTH ≡ 1000 }
+    ensures term_args { MOST_TERM_ARGS ≡ 65536 }
     ensures sorts { MOST_SORTS ≡ 4096 }
+    ensures variables { MOST_VARS ≡ 65536 }
     ensures operators { MOST_OPS ≡ 65536 }
     ensures args { MOST_ARGS ≡ 16 }
     ensures equations { MOST_EQUATIONS ≡ 65536 }

@@ -28,6 +28,8 @@ returns-clause-accepted g c =
       th = c.in-Ok.theory;
       p = p;
       proves = proves;
+      theory_bytes = c.in-Ok.ensures.bytes;
+      proof_bytes = c.in-Ok-take_proof.ensures.bytes;
       reads_theory = c.in-Ok.ensures.reads;
       reads_proof = λ t. held_before (g.S.Shelf.holds c.args.shelf.now) (g.S.Shelf.holds c.take_theory.new.shelf) c.args.proof.now (ReadsAsProof c.in-Ok.theory) p
           (c.in-Ok.ensures.holds c.args.proof.now) (c.in-Ok-take_proof.ensures.reads (c.in-Ok.ensures.tells ∙ t));
@@ -41,4 +43,5 @@ returns-clause-refused g c =
     if_err (Fails c.in-Ok.theory p) (RefusesCheck o c.args.theory.now c.args.proof.now) c.judge.result c.judge.ensures.refused
     (fails_refuses o c.args.theory.now c.args.proof.now c.in-Ok.theory p c.in-Ok.ensures.reads
     (λ t. held_before (g.S.Shelf.holds c.args.shelf.now) (g.S.Shelf.holds c.take_theory.new.shelf) c.args.proof.now (ReadsAsProof c.in-Ok.theory) p
-    (c.in-Ok.ensures.holds c.args.proof.now) (c.in-Ok-take_proof.ensures.reads (c.in-Ok.ensures.tells ∙ t))))
+    (c.in-Ok.ensures.holds c.args.proof.now) (c.in-Ok-take_proof.ensures.reads (c.in-Ok.ensures.tells ∙ t)))
+    c.in-Ok.ensures.bytes c.in-Ok-take_proof.ensures.bytes)

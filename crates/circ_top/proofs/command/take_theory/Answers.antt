@@ -15,3 +15,10 @@ returns-in-Ok-None-clause-fault g c = (
   refl,
   λ t. record { bytes = c.in-Ok.bytes.items; bytes_are = c.in-Ok.ensures.content t; short = c.in-Ok.ensures.short; are = rw (c.as_slice.ensures.value, c.in-Ok-None.field-0-is) at c.in-Ok-None.ensures },
 )
+
+pub returns-in-Ok-Some-clause-bytes : goal.returns-in-Ok-Some-clause-bytes
+returns-in-Ok-Some-clause-bytes g c = record {
+  bytes = c.in-Ok.bytes.items;
+  short = c.in-Ok.ensures.short;
+  are = (rw (c.as_slice.ensures.value, c.in-Ok-Some.field-0-is) at c.in-Ok-Some.ensures).0;
+}
