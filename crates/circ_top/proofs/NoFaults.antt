@@ -1,5 +1,5 @@
 -- Answers over a shelf and a sink whose counts of faults stay.
-use Rattle.std.proofs.Common.{◌≡◌, ℕ, List, ◌++◌, ◌⊎◌, inl, inr, true, refl, sym, ◌∙◌, subst, arith, Option, Some, None}
+use Rattle.std.proofs.Common.{◌≡◌, ℕ, List, ◌++◌, ◌⊎◌, inl, inr, true, refl, arith, Option, Some, None}
 use Rattle.std.specs.Prelude.{IsSome}
 use Rattle.circ_outer.specs.Count.{Rose}
 use Rattle.circ_top.specs.Outcome.{Held, Outside, Output, IsUnread}

@@ -1,5 +1,5 @@
 -- What the answer that is due says of the outcome, and the other way.
-use Rattle.std.proofs.Common.{◌≡◌, ◌≢◌, ◌≤◌, ◌<◌, ℕ, List, [], ◌∷◌, ◌++◌, ◌⊎◌, inl, inr, Bool, true, refl, ap, sym, ◌∙◌, subst, arith, append-nil, length, Some, None}
+use Rattle.std.proofs.Common.{◌≡◌, ◌≢◌, ℕ, List, [], ◌∷◌, ◌++◌, inl, inr, true, refl, ap, sym, ◌∙◌, subst, arith, append-nil, length, Some, None}
 use Rattle.std.proofs.lemmas.Option.{same_Some}
 use Rattle.circ_outer.specs.Count.{Rose}
 use Rattle.circ_theory.specs.Theory.{Theory}
@@ -8,7 +8,7 @@ use Rattle.circ_read.specs.Reading.{Only}
 use Rattle.circ_read.specs.TheoryText.{ReadsAs}
 use Rattle.circ_file.specs.ProofText.{ReadsAsProof}
 use Rattle.circ_top.specs.Accepted.{Accepted, FirstFail, steps_of}
-use Rattle.circ_top.specs.Outcome.{Held, Holds, HoldsMore, IsCheck, ReadsTheory, ReadsProof, IsNoTheory, IsNoProof, RefusesFile, CheckOutcome, no_theory, no_proof, refused, accepted, Outcome, usage, check, Outside, IsUnread, IsTooLong, IsFileFault, RefusesCheck, theory_fault, proof_fault, step_fails, Refuses, no_command, no_check, Due, success, refusal, IsAccepted, IsRefused, Output, Prints, PrintsPart, Delivers, whole, write_failed, memory_wanted, Answers}
+use Rattle.circ_top.specs.Outcome.{Held, Holds, HoldsMore, IsCheck, ReadsTheory, ReadsProof, IsNoTheory, IsNoProof, RefusesFile, CheckOutcome, no_theory, no_proof, refused, accepted, Outcome, usage, check, Outside, IsUnread, IsTooLong, IsFileFault, RefusesCheck, theory_fault, proof_fault, step_fails, no_command, no_check, Due, success, refusal, IsAccepted, IsRefused, Output, Prints, PrintsPart, Delivers, whole, write_failed, memory_wanted, Answers}
 use Rattle.circ_top.specs.Causes.{IsOutcome, IsLike, Comes, printed, not_read, not_written, no_memory, FilesRead, AtFile, IsPastLimit, IsReadFault, IsWriteFault}
 use Rattle.circ_top.specs.Texts.{refusal_text, accepted_text}
 use Rattle.circ_top.specs.declared.status.Status.{Status}
