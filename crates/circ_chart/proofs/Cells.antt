@@ -1,10 +1,10 @@
 -- Lemmas on cells and rows.
-use Rattle.std.proofs.Common.{◌≡◌, ◌⊎◌, ◌<◌, ◌+◌, ℕ, List, [], ◌∷◌, length, get_or, drop, inl, inr, sym, ◌∙◌, ap, subst, refl}
+use Rattle.std.proofs.Common.{◌≡◌, ◌⊎◌, ◌<◌, ◌+◌, ℕ, List, ◌∷◌, length, get_or, drop, inl, inr, sym, ◌∙◌, ap, refl}
 use Rattle.std.proofs.lemmas.List.{drop_more}
 use Rattle.circ_term.specs.Tree.{Tree, App, more, trees_of, args_of}
 use Rattle.circ_chart.specs.declared.few.Few.{Few}
 use Rattle.circ_chart.specs.declared.few.Few.TheVariants.{Empty, One, Two}
-use Rattle.circ_chart.specs.Few.{Enough, Differ, Or, enough_chain, enough_or, enough_all}
+use Rattle.circ_chart.specs.Few.{Enough, Or, enough_chain, enough_or, enough_all}
 use Rattle.circ_chart.specs.Cell.{In, IsApart, IsTwo, Adds}
 use Rattle.circ_chart.specs.Chart.{Longer, Extends, Keeps}
 

@@ -11,10 +11,9 @@ use Rattle.circ_chart.specs.declared.few.Few.{Few}
 use Rattle.circ_chart.specs.declared.chart.Edge.{Edge}
 use Rattle.circ_chart.specs.declared.chart.Start.{Start}
 use Rattle.circ_chart.specs.declared.chart.Column.{Column}
-use Rattle.circ_chart.specs.Few.{Enough, Differ, enough_chain}
+use Rattle.circ_chart.specs.Few.{Enough, enough_chain}
 use Rattle.circ_chart.specs.Cell.{In}
 use Rattle.circ_chart.specs.Chart.{row_at, row_in, column_in, tail_in, few_of, MadeBy}
-use Rattle.circ_chart.specs.Reads.{Reads}
 use Rattle.circ_chart.specs.Known.{FromEdges, edges_of, IsStarts, RowsOf, IsColumns}
 use Rattle.circ_chart.specs.Words.{HaveWords}
 use Rattle.circ_chart.specs.Fill.{IsColumn}

@@ -1,11 +1,11 @@
 -- Lemmas on lists of edges.
-use Rattle.std.proofs.Common.{◌≡◌, ◌≤◌, ◌⊎◌, ◌<◌, ◌+◌, ◌++◌, ℕ, zero, suc, arith, List, [], ◌∷◌, length, get_or, drop, inl, inr, sym, ◌∙◌, ap, subst, refl}
+use Rattle.std.proofs.Common.{◌≡◌, ◌⊎◌, ◌<◌, ◌+◌, ◌++◌, ℕ, zero, suc, arith, List, [], ◌∷◌, length, get_or, drop, inl, inr, sym, ◌∙◌, subst}
 use Rattle.std.proofs.lemmas.List.{drop_more}
 use Rattle.circ_term.specs.Tree.{Tree}
 use Rattle.circ_chart.specs.declared.grammar.Variable.{Variable}
 use Rattle.circ_chart.specs.declared.grammar.Rule.{Rule}
 use Rattle.circ_chart.specs.declared.few.Few.{Few}
-use Rattle.circ_chart.specs.declared.few.Few.TheVariants.{Empty, One, Two}
+use Rattle.circ_chart.specs.declared.few.Few.TheVariants.{Two}
 use Rattle.circ_chart.specs.declared.chart.Edge.{Edge}
 use Rattle.circ_chart.specs.declared.chart.Column.{Column}
 use Rattle.circ_chart.specs.Few.{Enough, Differ, Or, enough_all, enough_chain, enough_or, enough_step, differ_in}

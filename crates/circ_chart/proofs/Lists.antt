@@ -1,5 +1,5 @@
 -- Ranges of a token list spell what the lists of their tokens spell.
-use Rattle.std.proofs.Common.{◌≡◌, ◌⊎◌, ◌<◌, ◌≤◌, ◌+◌, ◌++◌, ℕ, zero, suc, List, [], ◌∷◌, length, get_or, drop, sym, ◌∙◌, ap, subst, refl, arith, append_assoc, append-nil}
+use Rattle.std.proofs.Common.{◌≡◌, ◌+◌, ◌++◌, ℕ, zero, suc, List, [], ◌∷◌, length, drop, sym, ◌∙◌, ap, subst, refl, arith, append_assoc, append-nil}
 use Rattle.std.proofs.lemmas.List.{drop_more, drop_all, length-append}
 use Rattle.circ_term.specs.Tree.{Tree, Trees, none, more}
 use Rattle.circ_chart.specs.declared.grammar.Symbol.{Symbol}

@@ -1,22 +1,21 @@
 -- The edges found for one range are its readings.
-use Rattle.std.proofs.Common.{◌≡◌, ◌⊎◌, ◌<◌, ◌≤◌, ◌+◌, ◌-◌, ◌++◌, ℕ, zero, suc, List, [], ◌∷◌, length, get_or, Some, None, Option, true, inl, inr, sym, ◌∙◌, ap, subst, refl, arith}
+use Rattle.std.proofs.Common.{◌≡◌, ◌⊎◌, ◌<◌, ◌≤◌, ◌+◌, ◌++◌, ℕ, zero, suc, List, [], ◌∷◌, Some, inl, inr, sym, ◌∙◌, subst, refl, arith}
 use Rattle.std.specs.List.{slice_get}
 use Rattle.std.proofs.lemmas.Bool.{cases_eq}
-use Rattle.circ_term.specs.Tree.{Tree, Trees, App, Var}
+use Rattle.circ_term.specs.Tree.{Tree}
 use Rattle.circ_chart.specs.declared.grammar.Rule.{Rule}
 use Rattle.circ_chart.specs.declared.grammar.Variable.{Variable}
 use Rattle.circ_chart.specs.declared.grammar.Grammar.{Grammar}
 use Rattle.circ_chart.specs.declared.chart.Edge.{Edge}
 use Rattle.circ_chart.specs.declared.chart.Start.{Start}
 use Rattle.circ_chart.specs.declared.chart.Column.{Column}
-use Rattle.circ_chart.specs.Few.{Enough, Differ, Or, differ_in, enough_all, enough_chain}
-use Rattle.circ_chart.specs.Cell.{In}
-use Rattle.circ_chart.specs.Chart.{row_at, row_in, MadeBy}
-use Rattle.circ_chart.specs.Reads.{IsToken, Reads, Row, by_parentheses, by_variable, by_operator}
-use Rattle.circ_chart.specs.Known.{Hit, FromEdges, edges_of, IsStarts, RowsOf, IsColumns}
+use Rattle.circ_chart.specs.Few.{Enough, Differ, differ_in, enough_chain}
+use Rattle.circ_chart.specs.Chart.{MadeBy}
+use Rattle.circ_chart.specs.Reads.{IsToken, Reads, by_parentheses, by_variable, by_operator}
+use Rattle.circ_chart.specs.Known.{FromEdges, edges_of, IsStarts, RowsOf, IsColumns}
 use Rattle.circ_chart.specs.Words.{HaveWords}
-use Rattle.circ_chart.specs.declared.TheConstants.{OPENING, CLOSING, EVERY}
-use Rattle.circ_chart.specs.Found.{VariableHit, AnyVariable, InnerHit, AnyInner, Parentheses, HeadHit, AnyHead, New}
+use Rattle.circ_chart.specs.declared.TheConstants.{CLOSING, EVERY}
+use Rattle.circ_chart.specs.Found.{VariableHit, AnyVariable, AnyInner, HeadHit, AnyHead, New}
 use Rattle.circ_chart.proofs.Edges.{from_both, from_left, from_right}
 use Rattle.circ_chart.proofs.Rows.{made, long, Source}
 

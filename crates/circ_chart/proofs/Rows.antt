@@ -9,11 +9,11 @@ use Rattle.circ_chart.specs.declared.grammar.Grammar.{Grammar}
 use Rattle.circ_chart.specs.declared.chart.Edge.{Edge}
 use Rattle.circ_chart.specs.declared.chart.Start.{Start}
 use Rattle.circ_chart.specs.declared.chart.Column.{Column}
-use Rattle.circ_chart.specs.Few.{Enough, Differ, Joined, enough_joined, differ_in, enough_all, enough_chain}
+use Rattle.circ_chart.specs.Few.{Enough, Differ, Joined, enough_joined, differ_in, enough_all}
 use Rattle.circ_chart.specs.Cell.{In}
-use Rattle.circ_chart.specs.Chart.{row_at, MadeBy, AnyTaken, Taken, Longer, AfterWord, AtEnd}
+use Rattle.circ_chart.specs.Chart.{row_at, MadeBy, AnyTaken, Taken, AfterWord, AtEnd}
 use Rattle.circ_chart.specs.Reads.{IsToken, Reads, Row, row_end, row_word, row_hole}
-use Rattle.circ_chart.specs.Known.{Hit, FromEdges, edges_of, IsStarts, RowsOf, IsColumns}
+use Rattle.circ_chart.specs.Known.{FromEdges, edges_of, IsStarts, RowsOf, IsColumns}
 use Rattle.circ_chart.specs.Words.{words, HaveWords}
 use Rattle.circ_chart.proofs.Sizes.{reads_forward, row_forward, forward_le}
 

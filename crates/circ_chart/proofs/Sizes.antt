@@ -1,7 +1,6 @@
 -- What a range spells is no larger than the range.
 use Rattle.std.proofs.Common.{◌≡◌, ◌<◌, ◌≤◌, ◌+◌, ℕ, List, [], ◌∷◌, zero, suc, length, get_or, ◌⊎◌, Some, None, Option, inl, inr, ap, subst, refl, sym, ◌∙◌, arith}
-use Rattle.std.specs.List.{slice_get}
-use Rattle.circ_term.specs.Tree.{Tree, Trees, Var, App, none, more, size_of, sizes_of, depth_of, depths_of, trees_of, list_of, args_of, trees_of-list_of}
+use Rattle.circ_term.specs.Tree.{Tree, Trees, Var, App, none, more, size_of, sizes_of, depth_of, depths_of, trees_of, args_of, trees_of-list_of}
 use Rattle.circ_term.specs.Limits.{first_limit, Limit, Big, Deep, Names}
 use Rattle.circ_term.specs.declared.fault.TermFault.{TermFault}
 use Rattle.circ_term.specs.declared.fault.TermFault.TheVariants.{TooBig, TooDeep, Memory}
@@ -11,12 +10,11 @@ use Rattle.circ_chart.specs.declared.few.Few.TheVariants.{Empty, One, Two}
 use Rattle.circ_chart.specs.declared.chart.Edge.{Edge}
 use Rattle.circ_chart.specs.declared.grammar.Symbol.{Symbol}
 use Rattle.circ_chart.specs.declared.grammar.Symbol.TheVariants.{Word, Hole}
-use Rattle.circ_chart.specs.declared.grammar.Rule.{Rule}
 use Rattle.circ_chart.specs.declared.grammar.Grammar.{Grammar}
 use Rattle.circ_chart.specs.declared.TheConstants.{MOST_TOKENS}
-use Rattle.circ_chart.specs.Reads.{IsToken, Reads, Row, by_parentheses, by_variable, by_operator, row_end, row_word, row_hole}
+use Rattle.circ_chart.specs.Reads.{Reads, Row, by_parentheses, by_variable, by_operator, row_end, row_word, row_hole}
 use Rattle.circ_chart.specs.Cell.{In}
-use Rattle.circ_chart.specs.Known.{Hit, FromEdges, RowsOf}
+use Rattle.circ_chart.specs.Known.{FromEdges, RowsOf}
 use Rattle.circ_chart.specs.Words.{words, HaveWords}
 use Rattle.circ_chart.specs.Small.{IsSmall, AreSmall, IsSmallFew}
 

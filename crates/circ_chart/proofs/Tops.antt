@@ -1,5 +1,5 @@
 -- The terms of whole readings, sort by sort.
-use Rattle.std.proofs.Common.{◌≡◌, ◌⊎◌, ◌<◌, ◌≤◌, ◌+◌, ◌++◌, ℕ, List, [], ◌∷◌, Bool, true, false, ◌&&◌, nat_lt, length, inl, inr, sym, ◌∙◌, ap, subst, refl, arith}
+use Rattle.std.proofs.Common.{◌≡◌, ◌⊎◌, ◌<◌, ◌++◌, ℕ, List, [], ◌∷◌, Bool, true, false, ◌&&◌, nat_lt, length, inl, inr, sym, ◌∙◌, ap, subst, refl, arith}
 use Rattle.std.specs.Prelude.{◌==◌, if◌then◌else◌}
 use Rattle.std.proofs.lemmas.Bool.{eqb-true, and_parts}
 use Rattle.std.proofs.lemmas.Bool.Decides.{nat_tests}
@@ -14,7 +14,7 @@ use Rattle.circ_chart.specs.Cell.{In}
 use Rattle.circ_chart.specs.Chart.{Keeps}
 use Rattle.circ_chart.specs.Spells.{Spells, IsSpelled, in_parentheses, a_variable, an_operator}
 use Rattle.circ_chart.specs.Known.{FromEdges, edges_of, IsStarts}
-use Rattle.circ_chart.specs.Tops.{top_of, tops_of, Among, OfSort}
+use Rattle.circ_chart.specs.Tops.{tops_of, Among, OfSort}
 use Rattle.circ_chart.proofs.Lists.{reads_whole, spells_whole}
 
 -- the sort is that of the term

@@ -1,6 +1,6 @@
 -- Sets of which at most two members are kept.
-use Rattle.std.specs.Prelude.{◌≡◌, ◌⊎◌, List, [], ◌∷◌, refl}
-use Rattle.std.proofs.Common.{inl, inr, sym, ◌∙◌, ap, subst}
+use Rattle.std.specs.Prelude.{◌≡◌, ◌⊎◌, refl}
+use Rattle.std.proofs.Common.{inl, inr}
 
 -- two different members
 pub record Differ {X : Type 0} (E : X → Type 0) : Type 0 where

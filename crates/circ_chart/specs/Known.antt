@@ -3,7 +3,6 @@ use Rattle.std.specs.Prelude.{◌≡◌, ◌≤◌, ◌<◌, ◌+◌, ◌-◌, �
 use Rattle.std.specs.List.{slice_get}
 use Rattle.circ_term.specs.Tree.{Tree, Trees, App}
 use Rattle.circ_chart.specs.declared.grammar.Symbol.{Symbol}
-use Rattle.circ_chart.specs.declared.grammar.Symbol.TheVariants.{Word, Hole}
 use Rattle.circ_chart.specs.declared.grammar.Rule.{Rule}
 use Rattle.circ_chart.specs.declared.grammar.Grammar.{Grammar}
 use Rattle.circ_chart.specs.declared.chart.Edge.{Edge}

@@ -25,7 +25,7 @@ fn rules(alloc: Global) -> Result<Vec<Rule>, AllocError> {
         Symbol::Word(12),
         Symbol::Hole { sort: 1, below: 41 },
     ]?;
-    vec![in alloc;
+    Ok(vec![in alloc;
         rule(
             0,
             0,
@@ -51,7 +51,7 @@ fn rules(alloc: Global) -> Result<Vec<Rule>, AllocError> {
         rule(7, 1, 41, pair),
         rule(8, 1, 0, vec![in alloc; Symbol::Word(10)]?),
         rule(9, 1, 0, vec![in alloc; Symbol::Word(8)]?),
-    ]
+    ]?)
 }
 
 // The token 11 is the variable 0 of the sort 0.

@@ -1,4 +1,4 @@
-use Rattle.std.proofs.Common.{◌≡◌, ◌+◌, drop}
+use Rattle.std.proofs.Common.{◌+◌, drop}
 use Rattle.circ_chart.specs.Cell.{In}
 use Rattle.circ_chart.specs.Few.{enough_step}
 use Rattle.circ_chart.specs.Chart.{Taken, AnyTaken}

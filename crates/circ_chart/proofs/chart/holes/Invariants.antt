@@ -1,4 +1,4 @@
-use Rattle.std.proofs.Common.{◌≡◌, drop}
+use Rattle.std.proofs.Common.{drop}
 use Rattle.circ_chart.specs.Cell.{In, IsApart}
 use Rattle.circ_chart.specs.Few.{Enough, Or}
 use Rattle.circ_chart.specs.Chart.{AnyTaken}

@@ -1,4 +1,3 @@
-use Rattle.std.proofs.Common.{◌≡◌}
 use Rattle.circ_chart.proofs.Cells.{extends_two}
 use Rattle.circ_chart.proofs.chart.join_few.Goals as goal
 

@@ -1,6 +1,5 @@
-use Rattle.std.proofs.Common.{◌≡◌, ◌+◌, ◌-◌, ◌++◌, ◌∷◌, [], length, arith, ap, ◌∙◌}
+use Rattle.std.proofs.Common.{◌-◌, ◌∷◌, [], length, arith, ap, ◌∙◌}
 use Rattle.std.proofs.lemmas.List.{length-append}
-use Rattle.circ_chart.specs.Known.{IsStarts, IsColumns}
 use Rattle.circ_chart.proofs.Steps.{first_columns, advance_starts, advance_columns, small_starts, small_found}
 use Rattle.circ_chart.proofs.fill.fill_end.Goals as goal
 

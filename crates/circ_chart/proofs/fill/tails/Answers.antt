@@ -1,4 +1,3 @@
-use Rattle.std.proofs.Common.{◌≡◌, ◌+◌}
 use Rattle.circ_chart.proofs.Steps.{cells_more}
 use Rattle.circ_chart.proofs.fill.tails.Goals as goal
 

@@ -1,5 +1,4 @@
 use Rattle.circ_chart.proofs.Cells.{full_more}
-use Rattle.circ_term.specs.Tree.{Tree}
 use Rattle.std.proofs.Common.{◌≡◌}
 use Rattle.circ_chart.proofs.readings.with_term.Goals as goal
 
