@@ -1,21 +1,19 @@
 -- What the chart's grammar spells is what the signature spells.
-use Rattle.std.proofs.Common.{◌≡◌, ◌≤◌, ◌<◌, ◌++◌, ℕ, zero, suc, List, [], ◌∷◌, map, length, Some, None, Option, Bool, codes, unwrap_or, sym, ◌∙◌, ap, subst, refl, arith}
-use Rattle.std.specs.List.{slice_get, Contains}
+use Rattle.std.proofs.Common.{◌≡◌, ◌≤◌, ◌<◌, ◌++◌, ℕ, List, [], ◌∷◌, length, Some, Bool, codes, unwrap_or, sym, ◌∙◌, ap, subst, refl, arith}
+use Rattle.std.specs.List.{slice_get}
 use Rattle.std.proofs.lemmas.List.{map-append}
 use Rattle.std.proofs.lemmas.Option.{slice_get_within, slice_get-get_or, unwrap_or-slice_get}
 use Rattle.circ_term.specs.Tree.{Tree, Trees, Var, App, none, more}
 use Rattle.circ_chart.specs.declared.grammar.Grammar.{Grammar}
-use Rattle.circ_chart.specs.declared.grammar.Rule.{Rule}
-use Rattle.circ_chart.specs.declared.grammar.Variable as chart_variable
 use Rattle.circ_chart.specs.declared.grammar.Symbol as chart_symbol
 use Rattle.circ_chart.specs.declared.grammar.Symbol.TheVariants as chart
 use Rattle.circ_chart.specs.Spells as chart_spells
-use Rattle.circ_theory.specs.Signature.{Signature, Operator}
+use Rattle.circ_theory.specs.Signature.{Signature}
 use Rattle.circ_theory.specs.Theory.{Declared}
 use Rattle.circ_mixfix.specs.Named.{Named, NamedList, Variable, Applied, no_terms, terms}
-use Rattle.circ_mixfix.specs.Symbols.{Symbol, Word, Hole, every, symbols_of, precedence_of}
+use Rattle.circ_mixfix.specs.Symbols.{Symbol, Word, Hole, every, symbols_of}
 use Rattle.circ_mixfix.specs.Spells.{IsVariable, Spells, SpellsSymbols, in_parentheses, a_variable, an_operator, no_symbol, a_word, a_hole}
-use Rattle.circ_mixfix.specs.Coding.{text_at, texts_at, named_by, all_named_by, AreSymbols, HaveNumbers, IsRuleOf, IsVariableOf, IsGrammarOf}
+use Rattle.circ_mixfix.specs.Coding.{text_at, texts_at, named_by, all_named_by, AreSymbols, HaveNumbers, IsGrammarOf}
 
 text_is : (ws : List (List ℕ)) (n : ℕ) (w : List ℕ) → slice_get ws n ≡ Some w → text_at ws n ≡ w
 text_is ws n w e = ap (λ o. unwrap_or o []) e

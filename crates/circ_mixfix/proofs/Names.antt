@@ -1,11 +1,10 @@
 -- Two spellings of one token list that differ in their variables' names alone are the same, so that numbering the variables keeps different spellings different.
 use Rattle.std.proofs.Common.{◌≡◌, ◌≢◌, ◌+◌, ◌++◌, ◌==◌, ℕ, List, [], ◌∷◌, length, Some, None, Option, option_map, Bool, true, false, codes, cond, sym, ◌∙◌, ap, subst, refl, arith, append_assoc, append-nil, nat_eq}
-use Rattle.std.specs.List.{slice_get, list_any}
+use Rattle.std.specs.List.{slice_get}
 use Rattle.std.specs.Cmp.Lexicographic.{pointwise, bytes_decides}
 use Rattle.std.proofs.lemmas.List.{length-append}
 use Rattle.circ_theory.specs.Signature.{Signature, Operator}
 use Rattle.circ_theory.specs.Theory.{Declared}
-use Rattle.circ_term.specs.Tree.{Tree, Trees, Var, App, none, more}
 use Rattle.circ_mixfix.specs.Named.{Named, NamedList, Variable, Applied, no_terms, terms, numbered, all_numbered}
 use Rattle.circ_mixfix.specs.Symbols.{Symbol, Word, Hole, every, symbols_of}
 use Rattle.circ_mixfix.specs.Spells.{HasNoColon, IsVariable, a_declared_one, a_written_one, the_hole, Spells, SpellsSymbols, in_parentheses, a_variable, an_operator, no_symbol, a_word, a_hole}

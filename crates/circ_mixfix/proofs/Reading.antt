@@ -1,9 +1,9 @@
 -- What the chart keeps of the terms of a token list is enough of its readings.
-use Rattle.std.proofs.Common.{◌≡◌, ◌⊎◌, ◌≤◌, ℕ, List, [], ◌∷◌, Bool, false, inl, inr, sym, ◌∙◌, ap, subst, refl, arith}
+use Rattle.std.proofs.Common.{◌≡◌, ℕ, List, [], Bool, false, sym, ◌∙◌, ap, subst, refl, arith}
 use Rattle.circ_term.specs.Tree.{Tree}
 use Rattle.circ_chart.specs.declared.grammar.Grammar.{Grammar}
 use Rattle.circ_chart.specs.declared.TheConstants.{EVERY}
-use Rattle.circ_chart.specs.Few.{Enough, Differ, Joined, Some_of, enough_all, enough_chain, enough_joined, enough_some}
+use Rattle.circ_chart.specs.Few.{Enough, Joined, Some_of, enough_all, enough_chain, enough_joined, enough_some}
 use Rattle.circ_chart.specs.Tops.{OfSort}
 use Rattle.circ_chart.specs.Spells as chart_spells
 use Rattle.circ_theory.specs.Signature.{Signature}
