@@ -1,0 +1,9 @@
+mod Sizes
+mod Rows
+mod Edges
+mod Ranges
+mod Columns
+mod Steps
+mod Cells
+mod Lists
+mod Tops

@@ -1,0 +1,11 @@
+pub mod Few
+pub mod Spells
+pub mod Reads
+pub mod Cell
+pub mod Chart
+pub mod Words
+pub mod Known
+pub mod Small
+pub mod Found
+pub mod Fill
+pub mod Tops

@@ -1,0 +1,31 @@
+//! Reading token lists by a grammar of mixfix terms.
+//!
+//! A [`Grammar`] has rules, whose symbols are words and holes for terms, and tokens that are variables. What a token list
+//! spells is defined in `specs`, as a relation between lists and terms. [`read`] finds whether a list spells no term, only
+//! one, or several, by a chart of all its ranges.
+#![tactic(auto)]
+
+mod chart;
+mod few;
+mod fill;
+mod found;
+mod grammar;
+mod readings;
+#[cfg(test)]
+mod tests;
+
+pub use few::Few;
+pub use grammar::{Grammar, Rule, Symbol, Variable};
+pub use readings::{read, read_each_sort};
+
+/// The token that is an opening parenthesis.
+pub const OPENING: u32 = 0;
+
+/// The token that is a closing parenthesis.
+pub const CLOSING: u32 = 1;
+
+/// Each precedence is below this one.
+pub const EVERY: u8 = 128;
+
+/// The most tokens of a list that is read.
+pub const MOST_TOKENS: usize = 256;

@@ -1,0 +1,4 @@
+pub mod Names
+pub mod Coded
+pub mod Images
+pub mod Reading

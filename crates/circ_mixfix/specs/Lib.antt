@@ -1,0 +1,6 @@
+pub mod Named
+pub mod Symbols
+pub mod SymbolLists
+pub mod Spells
+pub mod Readings
+pub mod Coding
