@@ -48,14 +48,14 @@ mutual
   row_from_chart sig vars hole ws k g h (p ∷ ps) [] ns args r a = absurd a
   row_from_chart sig vars hole ws k g h (Word w ∷ ps) (chart.Word n ∷ cs) ns args (chart_spells.a_word rest r e) a =
       a_word (texts_at ws rest) (row_from_chart sig vars hole ws k g h ps cs rest args r a.1) (ap (texts_at ws) e ∙ ap (λ x. x ∷ texts_at ws rest) (text_is ws n w a.0))
-  row_from_chart sig vars hole ws k g h (Word w ∷ ps) (chart.Hole s b ∷ cs) ns args r a = absurd a
-  row_from_chart sig vars hole ws k g h (Hole s b ∷ ps) (chart.Word n ∷ cs) ns args r a = absurd a
+  row_from_chart sig vars hole ws k g h (Word w ∷ ps) (chart.Hole s b ∷ cs) ns args r a = absurd a.0
+  row_from_chart sig vars hole ws k g h (Hole s b ∷ ps) (chart.Word n ∷ cs) ns args r a = absurd a.0
   row_from_chart sig vars hole ws k g h (Hole s b ∷ ps) (chart.Hole s2 b2 ∷ cs) ns none r a = elim r [ ]
   row_from_chart sig vars hole ws k g h (Hole s b ∷ ps) (chart.Hole s2 b2 ∷ cs) ns (more t args) (chart_spells.a_hole first rest d r e) a =
       let q = from_chart sig vars hole ws k g h b2 s2 first t d in
       let P : ℕ → Type 0 = λ x. Spells sig vars hole x s2 (texts_at ws first) (named_by ws t) in
       let Q : ℕ → Type 0 = λ x. Spells sig vars hole b x (texts_at ws first) (named_by ws t) in
-      a_hole (texts_at ws first) (texts_at ws rest) (subst Q (sym a.0) (subst P (sym a.1) q)) (row_from_chart sig vars hole ws k g h ps cs rest args r a.3)
+      a_hole (texts_at ws first) (texts_at ws rest) (subst Q (sym a.0.0) (subst P (sym a.0.1) q)) (row_from_chart sig vars hole ws k g h ps cs rest args r a.1)
       (ap (texts_at ws) e ∙ map-append (text_at ws) first rest)
 
 abbrev pub AllBelow : ℕ → List ℕ → Type 0
@@ -118,7 +118,7 @@ have_numbers sig vars hole ws k c (Hole s b2 ∷ ps) us no_terms ns r e b = elim
 have_numbers sig vars hole ws k c (Hole s b2 ∷ ps) us (terms q args) ns (a_hole first rest d r e1) e b =
     let f = texts_parts ws ns first rest (e ∙ e1) in
     let P : List ℕ → Type 0 = AllBelow k in
-    have_numbers sig vars hole ws k c ps rest args f.back r f.second (below_split k f.front f.back (subst P f.is b)).1
+    (tt, have_numbers sig vars hole ws k c ps rest args f.back r f.second (below_split k f.front f.back (subst P f.is b)).1)
 
 -- a term of the chart that stands for the named one
 pub record Found (ws : List (List ℕ)) (g : Grammar) (b s : ℕ) (ns : List ℕ) (q : Named) : Type 0 where
@@ -188,20 +188,20 @@ mutual
       let q = row_to_chart sig vars hole ws k g h ps cs rest qs f.rest r a.1 f.texts m.1 in
       let y = one_number sig vars hole ws k g h f.number n w m.0 f.text a.0 in
       record { args = q.args; spells = chart_spells.a_word f.rest q.spells (f.is ∙ ap (λ x. x ∷ f.rest) y); is = q.is }
-  row_to_chart sig vars hole ws k g h (Word w ∷ ps) (chart.Hole s b ∷ cs) us qs ns r a e l = absurd a
-  row_to_chart sig vars hole ws k g h (Hole s b ∷ ps) (chart.Word n ∷ cs) us qs ns r a e l = absurd a
+  row_to_chart sig vars hole ws k g h (Word w ∷ ps) (chart.Hole s b ∷ cs) us qs ns r a e l = absurd a.0
+  row_to_chart sig vars hole ws k g h (Hole s b ∷ ps) (chart.Word n ∷ cs) us qs ns r a e l = absurd a.0
   row_to_chart sig vars hole ws k g h (Hole s b ∷ ps) (chart.Hole s2 b2 ∷ cs) us no_terms ns r a e l = elim r [ ]
   row_to_chart sig vars hole ws k g h (Hole s b ∷ ps) (chart.Hole s2 b2 ∷ cs) us (terms q qs) ns (a_hole first rest d r e1) a e l =
       let f = texts_parts ws ns first rest (e ∙ e1) in
       let P : List ℕ → Type 0 = AllBelow k in
       let m = below_split k f.front f.back (subst P f.is l) in
-      let x = to_chart sig vars hole ws k g h b s first q f.front d f.first m.0 a.2 in
-      let y = row_to_chart sig vars hole ws k g h ps cs rest qs f.back r a.3 f.second m.1 in
+      let x = to_chart sig vars hole ws k g h b s first q f.front d f.first m.0 a.0.2 in
+      let y = row_to_chart sig vars hole ws k g h ps cs rest qs f.back r a.1 f.second m.1 in
       let S : ℕ → Type 0 = λ v. chart_spells.Spells g v s f.front x.term in
       let T : ℕ → Type 0 = λ v. chart_spells.Spells g b2 v f.front x.term in
       record {
         args = more x.term y.args;
-        spells = chart_spells.a_hole f.front f.back (subst T a.0 (subst S a.1 x.spells)) y.spells f.is;
+        spells = chart_spells.a_hole f.front f.back (subst T a.0.0 (subst S a.0.1 x.spells)) y.spells f.is;
         is = ap (λ v. terms v (all_named_by ws y.args)) x.is ∙ ap (terms q) y.is;
       }
 

@@ -1,5 +1,5 @@
 -- A grammar of the chart that spells what a signature and variables spell: texts go by their numbers in a list of different texts.
-use Rattle.std.specs.Prelude.{◌≡◌, ◌≤◌, ◌<◌, ℕ, List, [], ◌∷◌, map, length, Bool, Some, codes, unwrap_or}
+use Rattle.std.specs.Prelude.{◌≡◌, ◌≤◌, ◌<◌, ℕ, List, [], ◌∷◌, map, length, Bool, Option, Some, None, codes, unwrap_or}
 use Rattle.std.specs.List.{slice_get}
 use Rattle.circ_term.specs.Tree.{Tree, Trees, Var, App, none, more}
 use Rattle.circ_chart.specs.declared.grammar.Grammar.{Grammar}
@@ -12,6 +12,7 @@ use Rattle.circ_theory.specs.Theory.{Declared}
 use Rattle.circ_mixfix.specs.Named.{Named, NamedList, Variable, Applied, no_terms, terms}
 use Rattle.circ_mixfix.specs.Symbols.{Symbol, Word, Hole, every, symbols_of, precedence_of}
 use Rattle.circ_mixfix.specs.Spells.{IsVariable}
+use Rattle.circ_mixfix.specs.WordLists.{AreDifferent}
 
 abbrev pub text_at : List (List ℕ) → ℕ → List ℕ
 text_at ws n = unwrap_or (slice_get ws n) []
@@ -30,27 +31,63 @@ abbrev mutual
   all_named_by ws none = no_terms
   all_named_by ws (more t ts) = terms (named_by ws t) (all_named_by ws ts)
 
--- the chart's symbols are these, word by word and hole by hole
+-- the chart's symbol is this one: a word by its number, or the same hole
+abbrev pub IsSymbol : List (List ℕ) → Symbol → chart_symbol.Symbol → Type 0
+IsSymbol ws (Word w) (chart.Word n) = slice_get ws n ≡ Some w
+IsSymbol ws (Word w) (chart.Hole s b) = ⊥
+IsSymbol ws (Hole s b) (chart.Word n) = ⊥
+IsSymbol ws (Hole s b) (chart.Hole t c) = (s ≡ t) × (b ≡ c) × (b ≤ every)
+
+-- the same for lists, one by one
 abbrev pub AreSymbols : List (List ℕ) → List Symbol → List chart_symbol.Symbol → Type 0
 AreSymbols ws [] [] = Unit {0}
 AreSymbols ws [] (c ∷ cs) = ⊥
 AreSymbols ws (p ∷ ps) [] = ⊥
-AreSymbols ws (Word w ∷ ps) (chart.Word n ∷ cs) = (slice_get ws n ≡ Some w) × AreSymbols ws ps cs
-AreSymbols ws (Word w ∷ ps) (chart.Hole s b ∷ cs) = ⊥
-AreSymbols ws (Hole s b ∷ ps) (chart.Word n ∷ cs) = ⊥
-AreSymbols ws (Hole s b ∷ ps) (chart.Hole t c ∷ cs) = (s ≡ t) × (b ≡ c) × (b ≤ every) × AreSymbols ws ps cs
+AreSymbols ws (p ∷ ps) (c ∷ cs) = IsSymbol ws p c × AreSymbols ws ps cs
 
--- each word has a number
+-- a word has a number
+abbrev pub HasNumber : List (List ℕ) → Symbol → Type 0
+HasNumber ws (Word w) = (n : ℕ) × (slice_get ws n ≡ Some w)
+HasNumber ws (Hole s b) = Unit {0}
+
 abbrev pub HaveNumbers : List (List ℕ) → List Symbol → Type 0
 HaveNumbers ws [] = Unit {0}
-HaveNumbers ws (Word w ∷ ps) = ((n : ℕ) × (slice_get ws n ≡ Some w)) × HaveNumbers ws ps
-HaveNumbers ws (Hole s b ∷ ps) = HaveNumbers ws ps
+HaveNumbers ws (p ∷ ps) = HasNumber ws p × HaveNumbers ws ps
+
+-- the chart's symbol, or none where the word has no number
+abbrev pub GivesSymbol : List (List ℕ) → Symbol → Option chart_symbol.Symbol → Type 0
+GivesSymbol ws p (Some c) = IsSymbol ws p c
+GivesSymbol ws p None = HasNumber ws p → ⊥
+
+abbrev pub GivesSymbols : List (List ℕ) → List Symbol → Option (List chart_symbol.Symbol) → Type 0
+GivesSymbols ws ps (Some cs) = AreSymbols ws ps cs
+GivesSymbols ws ps None = HaveNumbers ws ps → ⊥
+
+-- no hole takes more than every precedence
+abbrev pub IsBelow : Symbol → Type 0
+IsBelow (Word w) = Unit {0}
+IsBelow (Hole s b) = b ≤ every
+
+abbrev pub AreBelow : List Symbol → Type 0
+AreBelow [] = Unit {0}
+AreBelow (p ∷ ps) = IsBelow p × AreBelow ps
 
 pub record IsRuleOf (ws : List (List ℕ)) (f : ℕ) (o : Operator) (r : Rule) : Type 0 where
   pub op : r.op ≡ f
   pub sort : r.sort ≡ o.result
   pub prec : r.prec ≡ precedence_of o
   pub symbols : AreSymbols ws (symbols_of o) r.symbols.items
+
+-- the rule of an operator, or none where nothing below every precedence is spelled by it, or one of its words has no number
+abbrev pub GivesRule : List (List ℕ) → ℕ → Operator → Option Rule → Type 0
+GivesRule ws f o (Some r) = IsRuleOf ws f o r
+GivesRule ws f o None = precedence_of o < every → HaveNumbers ws (symbols_of o) → ⊥
+
+-- the rules are those of the first m operators whose words have numbers
+pub record HasRules (sig : Signature) (ws : List (List ℕ)) (m : ℕ) (rs : List Rule) : Type 0 where
+  pub rules : (n : ℕ) (r : Rule) → slice_get rs n ≡ Some r → (f : ℕ) × (o : Operator) × (slice_get sig.ops f ≡ Some o) × IsRuleOf ws f o r
+  pub all_rules : (f : ℕ) (o : Operator) → f < m → slice_get sig.ops f ≡ Some o → precedence_of o < every → HaveNumbers ws (symbols_of o)
+      → (n : ℕ) × (r : Rule) × (slice_get rs n ≡ Some r) × IsRuleOf ws f o r
 
 pub record IsVariableOf (ws : List (List ℕ)) (name : List ℕ) (k s : ℕ) (v : chart_variable.Variable) : Type 0 where
   pub word : v.word ≡ k
@@ -59,7 +96,7 @@ pub record IsVariableOf (ws : List (List ℕ)) (name : List ℕ) (k s : ℕ) (v 
 
 -- The texts are different, the parentheses first. The grammar has a rule for each operator whose words have numbers, and no other, and a variable for each way in which one of the first k texts is one.
 pub record IsGrammarOf (sig : Signature) (vars : List Declared) (hole : Bool) (ws : List (List ℕ)) (k : ℕ) (g : Grammar) : Type 0 where
-  pub different : (m n : ℕ) (w : List ℕ) → slice_get ws m ≡ Some w → slice_get ws n ≡ Some w → m ≡ n
+  pub different : AreDifferent ws
   pub count : k ≤ length ws
   pub opening : slice_get ws 0 ≡ Some (codes "(")
   pub closing : slice_get ws 1 ≡ Some (codes ")")

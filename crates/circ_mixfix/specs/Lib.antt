@@ -3,4 +3,5 @@ pub mod Symbols
 pub mod SymbolLists
 pub mod Spells
 pub mod Readings
+pub mod WordLists
 pub mod Coding

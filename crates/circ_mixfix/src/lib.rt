@@ -5,9 +5,11 @@
 //! a term with its variables numbered by first occurrence.
 #![tactic(auto)]
 
+mod rules;
 mod spelling;
 #[cfg(test)]
 mod tests;
+mod words;
 
 pub use spelling::{Symbol, precedence, symbols};
 
