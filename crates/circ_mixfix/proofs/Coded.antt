@@ -13,7 +13,7 @@ use Rattle.circ_theory.specs.Theory.{Declared}
 use Rattle.circ_mixfix.specs.Named.{Named, NamedList, Variable, Applied, no_terms, terms}
 use Rattle.circ_mixfix.specs.Symbols.{Symbol, Word, Hole, every, symbols_of}
 use Rattle.circ_mixfix.specs.Spells.{IsVariable, Spells, SpellsSymbols, in_parentheses, a_variable, an_operator, no_symbol, a_word, a_hole}
-use Rattle.circ_mixfix.specs.Coding.{text_at, texts_at, named_by, all_named_by, AreSymbols, HaveNumbers, IsGrammarOf}
+use Rattle.circ_mixfix.specs.Coding.{text_at, texts_at, named_by, all_named_by, AreSymbols, HaveNumbers, IsGrammarOf, AllBelow}
 
 text_is : (ws : List (List ℕ)) (n : ℕ) (w : List ℕ) → slice_get ws n ≡ Some w → text_at ws n ≡ w
 text_is ws n w e = ap (λ o. unwrap_or o []) e
@@ -57,10 +57,6 @@ mutual
       let Q : ℕ → Type 0 = λ x. Spells sig vars hole b x (texts_at ws first) (named_by ws t) in
       a_hole (texts_at ws first) (texts_at ws rest) (subst Q (sym a.0.0) (subst P (sym a.0.1) q)) (row_from_chart sig vars hole ws k g h ps cs rest args r a.1)
       (ap (texts_at ws) e ∙ map-append (text_at ws) first rest)
-
-abbrev pub AllBelow : ℕ → List ℕ → Type 0
-AllBelow k [] = Unit {0}
-AllBelow k (n ∷ ns) = (n < k) × AllBelow k ns
 
 below_split : (k : ℕ) (ms ns : List ℕ) → AllBelow k (ms ++ ns) → AllBelow k ms × AllBelow k ns
 below_split k [] ns h = (tt, h)

@@ -1,7 +1,7 @@
 pub mod Names
 pub mod Coded
 pub mod Images
-pub mod Reading
+pub mod ReadingSets
 pub mod WordLists
 pub mod Below
 pub mod RuleLists

@@ -5,3 +5,7 @@ pub mod Spells
 pub mod Readings
 pub mod WordLists
 pub mod Coding
+pub mod Variables
+pub mod Numbering
+pub mod Found
+pub mod Answers

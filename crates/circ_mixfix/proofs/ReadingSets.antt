@@ -12,9 +12,9 @@ use Rattle.circ_mixfix.specs.Named.{Named, numbered, seen_in, place_from}
 use Rattle.circ_mixfix.specs.Symbols.{every}
 use Rattle.circ_mixfix.specs.Spells.{Spells}
 use Rattle.circ_mixfix.specs.Readings.{numbers_of, reading_of, ReadsOne, ReadsPair}
-use Rattle.circ_mixfix.specs.Coding.{texts_at, named_by, IsGrammarOf}
+use Rattle.circ_mixfix.specs.Coding.{texts_at, named_by, IsGrammarOf, AllBelow}
 use Rattle.circ_mixfix.proofs.Names.{spellings_apart}
-use Rattle.circ_mixfix.proofs.Coded.{AllBelow, from_chart, to_chart, spelled_apart}
+use Rattle.circ_mixfix.proofs.Coded.{from_chart, to_chart, spelled_apart}
 use Rattle.circ_mixfix.proofs.Images.{Image, enough_image}
 
 -- of the named terms of one sort
