@@ -5,3 +5,12 @@ pub mod ReadingSets
 pub mod WordLists
 pub mod Below
 pub mod RuleLists
+pub mod Written
+pub mod TokenNumbers
+pub mod SymbolWords
+pub mod Assembly
+pub mod Order
+pub mod FoundSets
+pub mod NumberNames
+pub mod Kept
+pub mod Telling

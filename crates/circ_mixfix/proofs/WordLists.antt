@@ -1,5 +1,5 @@
 -- Places in lists of different texts.
-use Rattle.std.proofs.Common.{◌≡◌, ◌⊎◌, ◌<◌, ◌≤◌, ◌+◌, ◌++◌, ℕ, zero, suc, List, [], ◌∷◌, map, length, get_or, Bool, true, false, ◌||◌, Some, option_map, nat_eq, inl, inr, sym, ◌∙◌, ap, subst, refl, arith}
+use Rattle.std.proofs.Common.{◌≡◌, ◌⊎◌, ◌<◌, ◌≤◌, ◌+◌, ◌++◌, ℕ, zero, suc, List, [], ◌∷◌, map, length, get_or, Bool, true, false, ◌||◌, Some, option_map, nat_eq, inl, inr, sym, ◌∙◌, ap, subst, refl, arith, codes}
 use Rattle.std.specs.Prelude.{if◌then◌else◌, position}
 use Rattle.std.specs.List.{slice_get, list_any}
 use Rattle.std.specs.Cmp.Lexicographic.{pointwise, bytes_decides}
@@ -9,7 +9,7 @@ use Rattle.std.proofs.lemmas.Bool.{cases_eq}
 use Rattle.std.proofs.lemmas.Option.{slice_get_within, slice_get-get_or, slice_get-map}
 use Rattle.indexmap.specs.IndexSet.{insert_key}
 use Rattle.circ_theory.specs.Names.{AreDifferent}
-use Rattle.circ_mixfix.specs.WordLists.{with_text, GrowsTo}
+use Rattle.circ_mixfix.specs.WordLists.{with_text, GrowsTo, BeginAlike}
 
 -- what is not there has no place
 not_there : (ws : List (List ℕ)) (w : List ℕ) → list_any (pointwise nat_eq w) ws ≡ false → (n : ℕ) → slice_get ws n ≡ Some w → ⊥
@@ -126,3 +126,6 @@ grows_with ws w = go (list_any (pointwise nat_eq w) ws)
     go true = grows_more ws ws 0 1 (omega arith) (grows_none ws)
     go false = let l = length-append ws (w ∷ []) in
         record { kept = λ i v e. get_front ws w i (slice_get_within ws i v e) ∙ e; longer = omega arith; few = omega arith }
+
+pub begin_kept : (ws vs : List (List ℕ)) (n : ℕ) → GrowsTo ws vs n → BeginAlike ws → BeginAlike vs
+begin_kept ws vs n g b = record { opening = g.kept 0 (codes "(") b.opening; closing = g.kept 1 (codes ")") b.closing; hole = g.kept 2 [] b.hole }

@@ -1,5 +1,5 @@
 -- What reading some tokens answers.
-use Rattle.std.specs.Prelude.{◌≡◌, ◌≤◌, ℕ, List, [], ◌∷◌, map, length, nat_lt, if◌then◌else◌, Bool, Option, Some, None, Result, Ok, Err, Ordering}
+use Rattle.std.specs.Prelude.{◌≡◌, ◌≤◌, ℕ, List, [], ◌∷◌, map, length, nat_lt, if◌then◌else◌, Bool, Option, Some, None, Result, Ok, Err}
 use Rattle.std.proofs.Common.{Less}
 use Rattle.std.specs.List.{slice_range, Contains}
 use Rattle.circ_lexer.specs.TokenList.{TokenList, tokens_of}

@@ -1,5 +1,5 @@
 -- Readings that were found, as lists of terms.
-use Rattle.std.specs.Prelude.{◌≡◌, ◌⊎◌, Bool, List, [], ◌∷◌}
+use Rattle.std.specs.Prelude.{◌≡◌, ◌⊎◌, Bool, List, [], ◌∷◌, Result, Ok, Err}
 use Rattle.std.proofs.Common.{Less}
 use Rattle.circ_term.specs.Tree.{Tree, trees_of, sort_of}
 use Rattle.circ_term.specs.Order.{trees_cmp}
@@ -9,6 +9,9 @@ use Rattle.circ_theory.specs.Theory.{Pair, pair_with}
 use Rattle.circ_theory.specs.Variables.{IsInOrder}
 use Rattle.circ_theory.specs.Renumbering.{renumbered}
 use Rattle.circ_mixfix.specs.Numbering.{numbered_anew}
+use Rattle.circ_mixfix.specs.declared.found.Reading.{Reading}
+use Rattle.circ_mixfix.specs.declared.parse.ParseFault.{ParseFault}
+use Rattle.circ_mixfix.specs.declared.parse.ParseFault.TheVariants.{NoParse, Ambiguous}
 use Rattle.circ_mixfix.specs.declared.found.Found.{Found}
 use Rattle.circ_mixfix.specs.declared.found.Found.TheVariants.{Nothing, One, Two}
 
@@ -65,3 +68,9 @@ IsPairInOrder ts = (p : Pair) × (ts ≡ terms_of p) × IsInOrder p
 
 abbrev pub AreInOrder : Found → Type 0
 AreInOrder found = (ts : List Tree) → In found ts → IsPairInOrder ts
+
+-- the answer that tells of what was found
+abbrev pub Tells : Found → Result Reading ParseFault → Type 0
+Tells Nothing r = r ≡ Err NoParse
+Tells (One a) r = r ≡ Ok a
+Tells (Two a b) r = r ≡ Err (Ambiguous a b)

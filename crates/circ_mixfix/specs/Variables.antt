@@ -1,6 +1,7 @@
 -- The chart's variables for the first texts.
-use Rattle.std.specs.Prelude.{◌≡◌, ◌<◌, ◌++◌, ℕ, List, [], ◌∷◌, Bool, true, Option, Some, None}
+use Rattle.std.specs.Prelude.{◌≡◌, ◌<◌, ◌++◌, ℕ, List, [], ◌∷◌, Bool, true, nat_eq, if◌then◌else◌, Option, Some, None}
 use Rattle.std.specs.List.{slice_get, Contains}
+use Rattle.std.specs.Cmp.Lexicographic.{pointwise}
 use Rattle.circ_chart.specs.declared.grammar.Variable as chart_variable
 use Rattle.circ_theory.specs.Signature.{Signature}
 use Rattle.circ_theory.specs.Theory.{Theory, Declared, declared}
@@ -17,6 +18,11 @@ declarations th OfTheory = th.variables
 
 abbrev pub vars_in : Scope → List Declared
 vars_in c = declarations c.theory.now c.declared
+
+-- the variables of this name, by its number
+abbrev pub variables_named : List Declared → ℕ → List ℕ → List chart_variable.Variable
+variables_named [] i w = []
+variables_named (d ∷ ds) i w = if pointwise nat_eq d.name w then record { word = i; number = i; sort = d.sort } ∷ variables_named ds i w else variables_named ds i w
 
 -- the declared variables of this name, by its number
 pub record AreDeclared (vars : List Declared) (i : ℕ) (w : List ℕ) (vs : List chart_variable.Variable) : Type 0 where

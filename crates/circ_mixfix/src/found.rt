@@ -1,6 +1,7 @@
 //! Readings that were found.
-ghost use Rattle.std.specs.Prelude.{◌≡◌, IsTrue, IfOk};
+ghost use Rattle.std.specs.Prelude.{◌≡◌, ◌∷◌, [], IsTrue, IfOk};
 ghost use Rattle.circ_chart.specs.Few.{Or};
+ghost use Rattle.circ_mixfix.specs.Numbering.{numbered_anew};
 ghost use Rattle.circ_mixfix.specs.Found.{In, AreOrdered, IsTwo, Keeps, OneRead, RightRead, BothRead};
 
 use crate::numbering::numbered_anew;
@@ -81,7 +82,10 @@ fn with_pair(
     requires { AreOrdered found }
     ensures { IfOk result (λ f. Keeps f (Or (In found) (RightRead left.now (right.now ∷ [])))) }
 {
-    if is_full(&found) || left.sort() != right.sort() {
+    if is_full(&found) {
+        return Ok(found);
+    }
+    if left.sort() != right.sort() {
         return Ok(found);
     }
     let (left, right) = renumbered(alloc, left, right)?;

@@ -1,10 +1,9 @@
 //! The readings of tokens.
-ghost use Rattle.std.specs.Prelude.{◌≡◌, ◌≤◌, ◌-◌, List, None, false, length, IfOk};
+ghost use Rattle.std.specs.Prelude.{◌≡◌, ◌≤◌, ◌-◌, false, length, IfOk};
 ghost use Rattle.std.specs.Option.{option_or};
-ghost use Rattle.circ_term.specs.Tree.{Tree};
 ghost use Rattle.circ_mixfix.specs.declared.TheConstants.{MOST_TOKENS};
 ghost use Rattle.circ_mixfix.specs.Answers.{declared_by, HaveSorts, tokens_in, IsWithin, too_many, long_count, ReadsOnly, ReadsBoth, GivesReading};
-ghost use Rattle.circ_mixfix.specs.Found.{In, Keeps, IsPairInOrder, AreInOrder};
+ghost use Rattle.circ_mixfix.specs.Found.{Keeps, IsPairInOrder, AreInOrder, Tells};
 ghost use Rattle.circ_mixfix.specs.Variables.{vars_in};
 ghost use Rattle.circ_mixfix.specs.WordLists.{BeginAlike};
 
@@ -69,8 +68,7 @@ fn first_words<'a>(alloc: Global) -> Result<Words<'a>, AllocError>
 
 // The answer that tells of these readings.
 fn answer(found: Found) -> Result<Reading, ParseFault>
-    ensures reading { (P : List Tree → Type 0) → Keeps found P → GivesReading result None P }
-    ensures found { IfOk result (λ r. In found r.terms.items) }
+    ensures { Tells found result }
 {
     match found {
         Found::Nothing => Err(ParseFault::NoParse),

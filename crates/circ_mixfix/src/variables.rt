@@ -4,7 +4,7 @@ ghost use Rattle.std.specs.List.{slice_get, list_any};
 ghost use Rattle.std.specs.Option.{option_map};
 ghost use Rattle.circ_mixfix.specs.Answers.{declared_by};
 ghost use Rattle.circ_mixfix.specs.Spells.{HasNoColon};
-ghost use Rattle.circ_mixfix.specs.Variables.{vars_in, AddsDeclared, IsCut, GivesVariable, AddsVariables, HasVariables};
+ghost use Rattle.circ_mixfix.specs.Variables.{vars_in, variables_named, AddsDeclared, IsCut, GivesVariable, AddsVariables, HasVariables};
 ghost use Rattle.circ_mixfix.specs.WordLists.{GrowsTo};
 
 use crate::words::Words;
@@ -37,7 +37,7 @@ fn push_listed(
     word: u32,
     name: &[u8],
 ) -> Result<(), AllocError>
-    ensures { OnOk result (AddsDeclared (declared_by vars.now) word name.now out.old.items out.new.items) }
+    ensures { OnOk result (out.new.items ≡ out.old.items ++ variables_named (declared_by vars.now) word name.now) }
 {
     for var in vars {
         if var.0.bytes() == name {
@@ -60,6 +60,7 @@ fn push_of_theory(
 ) -> Result<(), AllocError>
     ensures { OnOk result (AddsDeclared theory.now.variables word name.now out.old.items out.new.items) }
 {
+    theory.known_names();
     let Some(number) = theory.var_named(name) else {
         return Ok(());
     };
@@ -90,9 +91,10 @@ fn push_declared(
     ensures { OnOk result (AddsDeclared (vars_in scope.now) word name.now out.old.items out.new.items) }
 {
     match scope.declared {
-        Declarations::Listed(vars) => push_listed(out, vars, word, name),
-        Declarations::OfTheory => push_of_theory(out, scope.theory, word, name),
+        Declarations::Listed(vars) => push_listed(out, vars, word, name)?,
+        Declarations::OfTheory => push_of_theory(out, scope.theory, word, name)?,
     }
+    Ok(())
 }
 
 // What stands before the first colon, and what stands behind it.
@@ -118,9 +120,16 @@ fn written<'a>(scope: &Scope<'_>, name: &'a [u8], sort: &[u8]) -> Option<(&'a [u
     requires { HasNoColon name.now }
     ensures { GivesVariable scope.now.theory.now.signature (vars_in scope.now) scope.now.hole (name.now ++ 58 ∷ sort.now) (option_map (λ r. (r.0.now, r.1)) result) }
 {
-    if name.is_empty() || sort.is_empty() || has_colon(sort) {
+    if name.is_empty() {
         return None;
     }
+    if sort.is_empty() {
+        return None;
+    }
+    if has_colon(sort) {
+        return None;
+    }
+    scope.theory.known_names();
     let number = scope.theory.sort_named(sort)?;
     if name != b"*".as_slice() {
         return Some((name, number));
@@ -166,13 +175,15 @@ fn push_variables<'a>(
     ensures adds { OnOk result (AddsVariables scope.now.theory.now.signature (vars_in scope.now) scope.now.hole words.new word text.now out.old.items out.new.items) }
     ensures grows { OnOk result (GrowsTo words.old words.new 1) }
 {
-    if let Some((name, sort)) = cut(text) {
-        return push_written(out, words, scope, word, name, sort);
+    match cut(text) {
+        Some((name, sort)) => push_written(out, words, scope, word, name, sort)?,
+        None => {
+            if !is_parenthesis(text) {
+                push_declared(out, scope, word, text)?;
+            }
+        }
     }
-    if is_parenthesis(text) {
-        return Ok(());
-    }
-    push_declared(out, scope, word, text)
+    Ok(())
 }
 
 // The variables that the first texts are. Names that are written are added to the texts.

@@ -20,4 +20,5 @@ pub returns-clause-added : goal.returns-clause-added
 returns-clause-added c = rw (← c.self.view_is) (grown c)
 
 pub returns-clause-number : goal.returns-clause-number
-returns-clause-number c = last_added c.args.self.now c.args.text.now c.number.ensures
+returns-clause-number c =
+    rw (grown c, c.self.view_is, c.count-number.ensures.count) (last_added c.args.self.now c.args.text.now (rw c.in_default.is at c.number.ensures))
