@@ -14,3 +14,4 @@ pub mod FoundSets
 pub mod NumberNames
 pub mod Kept
 pub mod Telling
+pub mod WellSorted
