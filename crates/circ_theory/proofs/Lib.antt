@@ -7,3 +7,9 @@ pub mod Binding
 pub mod Faults
 pub mod Sorted
 pub mod Gathering
+pub mod Filling
+pub mod Ruling
+pub mod Casing
+pub mod Noting
+pub mod Linear
+pub mod Observers

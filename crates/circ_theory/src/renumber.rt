@@ -15,9 +15,9 @@ use std::alloc::{AllocError, Global};
 
 // A variable that occurs.
 #[derive(Clone, Copy, PartialEq, Eq, Hash)]
-struct Occurring {
-    number: u32,
-    sort: u32,
+pub(crate) struct Occurring {
+    pub(crate) number: u32,
+    pub(crate) sort: u32,
 }
 
 /// The two terms with their variables numbered anew: they get the numbers 0, 1 and so on by their first occurrence, the left
@@ -40,7 +40,7 @@ pub fn renumbered(alloc: Global, left: &Term, right: &Term) -> Result<(Term, Ter
 
 // Adds the term's variables to those that were seen so far.
 #[cycle(gather)]
-fn gather(term: &Term, variables: &mut IndexSet<Occurring>) -> Result<(), AllocError>
+pub(crate) fn gather(term: &Term, variables: &mut IndexSet<Occurring>) -> Result<(), AllocError>
     ensures { OnOk result (map variable_of variables.new.keys ≡ seen_in term.now (map variable_of variables.old.keys)) }
 {
     match term.kind() {
