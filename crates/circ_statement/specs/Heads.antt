@@ -1,5 +1,5 @@
 -- The parts of an operator's statement, and by which of its words it is left out.
-use Rattle.std.specs.Prelude.{◌≡◌, ◌≢◌, ◌+◌, ◌<◌, ℕ, List, ◌∷◌, ◌++◌, Bool, false, ◌||◌, codes, Some}
+use Rattle.std.specs.Prelude.{◌≡◌, ◌<◌, ℕ, zero, suc, List, [], ◌∷◌, ◌++◌, Bool, false, ◌||◌, codes, Some, unwrap_or}
 use Rattle.std.specs.List.{slice_get}
 use Rattle.circ_statement.specs.Words.{Word, is_word, has_word}
 
@@ -20,11 +20,16 @@ is_listed w =
     is_word w (codes "left") || is_word w (codes "right") || is_word w (codes "assoc") || is_word w (codes "comm") || is_word w (codes "idem")
     || is_word w (codes "prec")
 
--- the word at this place: it may not stand there, and no prec stands directly before it
+-- whether prec stands directly before this place
+abbrev pub follows_prec : List Word → ℕ → Bool
+follows_prec ws zero = false
+follows_prec ws (suc m) = is_word (unwrap_or (slice_get ws m) []) (codes "prec")
+
+-- the word at this place: it may not stand there
 pub record IsForeign (inside : List Word) (n : ℕ) (w : Word) : Type 0 where
   pub there : slice_get inside n ≡ Some w
   pub unlisted : is_listed w ≡ false
-  pub no_number : (m : ℕ) → m + 1 ≡ n → slice_get inside m ≢ Some (codes "prec")
+  pub no_number : follows_prec inside n ≡ false
 
 -- the first such word
 pub record IsFirstForeign (inside : List Word) (w : Word) : Type 0 where

@@ -1,5 +1,5 @@
 -- What the steps of reading a statement answer.
-use Rattle.std.specs.Prelude.{◌≡◌, ◌≢◌, ◌+◌, ◌-◌, ◌*◌, ◌<◌, ◌≤◌, ℕ, codes, if◌then◌else◌, List, [], ◌∷◌, ◌++◌, Bool, true, false, decimal, map, Option, Some, None, Result, Ok, Err}
+use Rattle.std.specs.Prelude.{◌≡◌, ◌≢◌, ◌+◌, ◌-◌, ◌*◌, ◌<◌, ◌==◌, ℕ, codes, if◌then◌else◌, List, [], ◌∷◌, ◌++◌, Bool, true, false, map, Option, Some, None, Result, Ok, Err}
 use Rattle.std.specs.Global.{Vec}
 use Rattle.std.specs.Char.{is_ascii_digit}
 use Rattle.std.specs.Option.{option_map, option_and_then}
@@ -8,7 +8,7 @@ use Rattle.circ_lexer.specs.declared.tokens.Span.{Span}
 use Rattle.circ_theory.specs.declared.forms.Piece.{Piece}
 use Rattle.circ_theory.specs.Form.{pieces_of, form_fault}
 use Rattle.circ_statement.specs.declared.attributes.Attribute.{Attribute}
-use Rattle.circ_statement.specs.declared.attributes.Attribute.TheVariants.{ToLeft, ToRight, Assoc, Comm, Idem}
+use Rattle.circ_statement.specs.declared.attributes.Attribute.TheVariants.{Prec, ToLeft, ToRight, Assoc, Comm, Idem}
 use Rattle.circ_statement.specs.declared.attributes.Attributes.{Attributes}
 use Rattle.circ_statement.specs.declared.places.First.{First}
 use Rattle.circ_statement.specs.declared.heads.Head.{Head}
@@ -16,10 +16,9 @@ use Rattle.circ_statement.specs.declared.statements.Spelling.{Spelling}
 use Rattle.circ_statement.specs.declared.statements.Statement.{Statement}
 use Rattle.circ_statement.specs.declared.fault.StatementFault.{StatementFault}
 use Rattle.circ_statement.specs.declared.fault.StatementFault.TheVariants.{LeftOut, Shape, Memory}
-use Rattle.circ_statement.specs.declared.TheConstants.{MOST_PRECEDENCE}
 use Rattle.circ_statement.specs.Words.{Word, is_word, has_word, is_name, are_names}
 use Rattle.circ_statement.specs.Heads.{IsHead, IsBracket, IsFirstForeign, HasForeign}
-use Rattle.circ_statement.specs.Attributes.{Spelled, words_of, with_attribute, Adds, HasAttributes, IsSpelled, AreSpelled}
+use Rattle.circ_statement.specs.Attributes.{Spelled, Adds, HasAttributes, IsSpelled, AreSpelled}
 use Rattle.circ_statement.specs.Said.{Said, said_of, spelled_of, LiesWithin, IsPlace, token_at}
 use Rattle.circ_statement.specs.Statement.{IsUnmarked, IsOperators, Gives}
 
@@ -75,11 +74,6 @@ GivesForeignMark None ts marks = (inside rest : List Word) (w : Word) → IsBrac
 GivesForeignMark (Some n) ts marks =
     IsPlace ts n × ((inside : List Word) × ((rest : List Word) × (IsBracket (tokens_in ts marks) inside rest × IsFirstForeign inside (token_at ts n))))
 
--- the precedence that digits write
-abbrev pub GivesNumber : Option ℕ → Word → Type 0
-GivesNumber None w = (n : ℕ) → n ≤ MOST_PRECEDENCE → w ≡ decimal n → ⊥
-GivesNumber (Some n) w = w ≡ decimal n
-
 -- the attribute of one word
 abbrev pub flag_of : Word → Option Attribute
 flag_of w =
@@ -96,11 +90,26 @@ digit_of b = if is_ascii_digit b then Some (b - 48) else None
 abbrev pub two_digits : (tens ones : ℕ) → Option ℕ
 two_digits b c = option_and_then (λ tens. option_map (λ ones. 10 * tens + ones) (digit_of c)) (digit_of b)
 
--- the attribute in front, and the tokens after it
+-- the number that at most three digits write, with no zero in front and at most 199
+abbrev pub number_of : Word → Option ℕ
+number_of [] = None
+number_of (c ∷ []) = digit_of c
+number_of (b ∷ (c ∷ [])) = if b == 48 then None else two_digits b c
+number_of (a ∷ (b ∷ (c ∷ []))) = if a == 49 then option_map (λ n. 100 + n) (two_digits b c) else None
+number_of (a ∷ (b ∷ (c ∷ (d ∷ w)))) = None
+
+-- the attribute in front, and the words after it
+abbrev pub prec_in : List Word → Option (Attribute × List Word)
+prec_in [] = None
+prec_in (w ∷ ws) = option_map (λ n. (Prec n, ws)) (number_of w)
+
+abbrev pub attribute_in : List Word → Option (Attribute × List Word)
+attribute_in [] = None
+attribute_in (w ∷ ws) = if is_word w (codes "prec") then prec_in ws else option_map (λ t. (t, ws)) (flag_of w)
+
 abbrev pub GivesAttribute : Option (Attribute × Span) → TokenList → Span → Type 0
-GivesAttribute None ts span =
-    (a b : Attributes) (t : Attribute) (rest : List Word) → tokens_in ts span ≡ words_of t ++ rest → with_attribute a t ≡ Some b → ⊥
-GivesAttribute (Some r) ts span = IsWithin ts r.1 × (span.from < r.1.from) × (tokens_in ts span ≡ words_of r.0 ++ tokens_in ts r.1)
+GivesAttribute None ts span = attribute_in (tokens_in ts span) ≡ None
+GivesAttribute (Some r) ts span = IsWithin ts r.1 × (span.from < r.1.from) × (r.1.to ≡ span.to) × (attribute_in (tokens_in ts span) ≡ Some (r.0, tokens_in ts r.1))
 
 abbrev pub GivesAdded : Option Attributes → Attributes → List Word → Type 0
 GivesAdded None a ws = (b : Attributes) → Adds a ws b → ⊥

@@ -1,5 +1,5 @@
 -- What a statement says.
-use Rattle.std.specs.Prelude.{◌≡◌, ◌<◌, ℕ, List, [], Bool, map, length, unwrap_or}
+use Rattle.std.specs.Prelude.{◌<◌, ℕ, List, [], Bool, map, length, unwrap_or}
 use Rattle.std.specs.List.{slice_get}
 use Rattle.circ_lexer.specs.TokenList.{TokenList, tokens_of, tokens_in, IsWithin}
 use Rattle.circ_statement.specs.declared.statements.Spelling.{Spelling}

@@ -1,5 +1,5 @@
 -- What the words of a statement say.
-use Rattle.std.specs.Prelude.{◌≡◌, ◌≢◌, ℕ, List, [], ◌∷◌, ◌++◌, Bool, true, false, codes, Option, Some, None, Result, Ok, Err, if◌then◌else◌}
+use Rattle.std.specs.Prelude.{◌≡◌, ◌≢◌, List, [], ◌∷◌, ◌++◌, Bool, true, false, codes, Option, Some, None, Result, Ok, Err, if◌then◌else◌}
 use Rattle.circ_lexer.specs.TokenList.{TokenList, tokens_in}
 use Rattle.circ_lexer.specs.declared.tokens.Span.{Span}
 use Rattle.circ_statement.specs.declared.keywords.Keyword.{Keyword}
@@ -8,7 +8,7 @@ use Rattle.circ_statement.specs.declared.attributes.Attributes.{Attributes}
 use Rattle.circ_statement.specs.declared.statements.Statement.{Statement}
 use Rattle.circ_statement.specs.declared.fault.StatementFault.{StatementFault}
 use Rattle.circ_statement.specs.declared.fault.StatementFault.TheVariants.{LeftOut as OutBy, Shape, Memory}
-use Rattle.circ_statement.specs.Words.{Word, has_word, is_name, are_names, keyword_of}
+use Rattle.circ_statement.specs.Words.{Word, has_word, is_name, are_names, are_some_names, keyword_of}
 use Rattle.circ_statement.specs.Heads.{IsHead, HasForeign}
 use Rattle.circ_statement.specs.Attributes.{HasAttributes, Spelled, AreSpelled}
 use Rattle.circ_statement.specs.Said.{Said, inclusion, sorts, operators, variables, equation, derivative, cases, said_of, LiesWithin, IsPlace, token_at}
@@ -22,8 +22,7 @@ pub record IsInclusion (ws : List Word) (said : Said) : Type 0 where
   pub says : said ≡ inclusion name
 
 pub record IsSorts (ws : List Word) (said : Said) : Type 0 where
-  pub some : ws ≢ []
-  pub are_names : are_names ws ≡ true
+  pub are_names : are_some_names ws ≡ true
   pub says : said ≡ sorts ws
 
 -- words joined without blanks
@@ -35,14 +34,10 @@ joined (w ∷ ws) = w ++ joined ws
 abbrev pub forms_of : (is_one : Bool) → List Word → List Word
 forms_of is_one front = if is_one then joined front ∷ [] else front
 
-pub record IsOperators (is_one : Bool) (ws : List Word) (said : Said) : Type 0 where
-  pub front : List Word
-  pub args : List Word
-  pub result : Word
-  pub marks : List Word
+-- what the parts of an operator's statement say
+pub record Declares (is_one : Bool) (front args : List Word) (result : Word) (marks : List Word) (said : Said) : Type 0 where
   pub given : Attributes
   pub forms : List Spelled
-  pub head : IsHead ws front args result marks
   pub some : front ≢ []
   pub are_names : are_names args ≡ true
   pub is_name : is_name result ≡ true
@@ -50,12 +45,19 @@ pub record IsOperators (is_one : Bool) (ws : List Word) (said : Said) : Type 0 w
   pub spelled : AreSpelled given (forms_of is_one front) forms
   pub says : said ≡ operators forms args result given.assoc given.comm given.idem
 
+pub record IsOperators (is_one : Bool) (ws : List Word) (said : Said) : Type 0 where
+  pub front : List Word
+  pub args : List Word
+  pub result : Word
+  pub marks : List Word
+  pub head : IsHead ws front args result marks
+  pub declares : Declares is_one front args result marks said
+
 pub record IsVariables (ws : List Word) (said : Said) : Type 0 where
   pub names : List Word
   pub sort : Word
   pub words : ws ≡ names ++ codes ":" ∷ (sort ∷ [])
-  pub some : names ≢ []
-  pub are_names : are_names names ≡ true
+  pub are_names : are_some_names names ≡ true
   pub is_name : is_name sort ≡ true
   pub says : said ≡ variables names sort
 

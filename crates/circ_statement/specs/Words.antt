@@ -1,5 +1,5 @@
 -- The words that stand in statements.
-use Rattle.std.specs.Prelude.{ℕ, List, [], ◌∷◌, Bool, false, ◌==◌, ◌||◌, not, ◌&&◌, nat_eq, codes, if◌then◌else◌, Option, Some, None}
+use Rattle.std.specs.Prelude.{ℕ, List, [], ◌∷◌, Bool, false, ◌==◌, ◌||◌, not, nat_eq, codes, if◌then◌else◌, Option, Some, None}
 use Rattle.std.specs.List.{list_any, list_all}
 use Rattle.std.specs.Cmp.Lexicographic.{pointwise}
 use Rattle.circ_lexer.specs.Bytes.{is_special}
@@ -36,6 +36,11 @@ is_name w = not (is_special_word w || has_colon w || is_reserved w)
 
 abbrev pub are_names : List Word → Bool
 are_names ws = list_all is_name ws
+
+-- one name at least
+abbrev pub are_some_names : List Word → Bool
+are_some_names [] = false
+are_some_names (w ∷ ws) = are_names (w ∷ ws)
 
 -- the words of statements that are left out
 abbrev pub is_left_out_word : Word → Bool

@@ -2,7 +2,7 @@
 ghost use Rattle.std.specs.Prelude.{◌≡◌, ◌<◌, IfSome};
 ghost use Rattle.circ_lexer.specs.TokenList.{tokens_in, IsWithin};
 ghost use Rattle.circ_statement.specs.Attributes.{is_neither, no_attributes, with_attribute};
-ghost use Rattle.circ_statement.specs.Reading.{flag_of, digit_of, two_digits, GivesNumber, GivesAttribute, GivesAdded, GivesAttributes};
+ghost use Rattle.circ_statement.specs.Reading.{flag_of, digit_of, two_digits, number_of, GivesAttribute, GivesAdded, GivesAttributes};
 
 use crate::MOST_PRECEDENCE;
 use crate::heads::bracket;
@@ -109,8 +109,13 @@ fn added(tokens: &Tokens<'_>, inside: Span) -> Option<Attributes>
     let mut given = no_attributes();
     let mut rest = inside;
     while rest.from < rest.to {
-        let (attribute, after) = attribute_at(tokens, rest)?;
-        given = with_attribute(given, attribute)?;
+        let Some((attribute, after)) = attribute_at(tokens, rest) else {
+            return None;
+        };
+        let Some(with) = with_attribute(given, attribute) else {
+            return None;
+        };
+        given = with;
         rest = after;
     }
     Some(given)
@@ -121,12 +126,12 @@ fn attribute_at(tokens: &Tokens<'_>, span: Span) -> Option<(Attribute, Span)>
     requires { IsWithin tokens.now span }
     ensures { GivesAttribute result tokens.now span }
 {
-    let word = first_of(tokens, span)?;
-    if !is_word(word.word, b"prec") {
-        return Some((flag_of(word.word)?, word.rest));
+    let first = first_of(tokens, span)?;
+    if is_word(first.word, b"prec") {
+        let number = first_of(tokens, first.rest)?;
+        return Some((Attribute::Prec(number_of(number.word)?), number.rest));
     }
-    let number = first_of(tokens, word.rest)?;
-    Some((Attribute::Prec(number_of(number.word)?), number.rest))
+    Some((flag_of(first.word)?, first.rest))
 }
 
 // The attribute of one word.
@@ -153,7 +158,7 @@ fn flag_of(word: &[u8]) -> Option<Attribute>
 
 // The precedence that the digits write, with no zero in front.
 fn number_of(word: &[u8]) -> Option<u8>
-    ensures { GivesNumber result word.now }
+    ensures { result ≡ number_of word.now }
 {
     match word {
         [ones] => digit_of(*ones),

@@ -1,5 +1,5 @@
 //! The parts of an operator's statement.
-ghost use Rattle.std.specs.Prelude.{◌≡◌};
+ghost use Rattle.std.specs.Prelude.{◌≡◌, ◌||◌};
 ghost use Rattle.circ_lexer.specs.TokenList.{IsWithin};
 ghost use Rattle.circ_statement.specs.Heads.{is_listed};
 ghost use Rattle.circ_statement.specs.Reading.{GivesHead, GivesBracket, GivesForeign, GivesForeignMark};
@@ -21,9 +21,15 @@ pub(crate) fn head_of(tokens: &Tokens<'_>, span: Span) -> Option<Head>
     requires { IsWithin tokens.now span }
     ensures { GivesHead result tokens.now span }
 {
-    let (front, sorts) = split(tokens, span, b":")?;
-    let (args, last) = split(tokens, sorts, b"->")?;
-    let last = first_of(tokens, last)?;
+    let Some((front, sorts)) = split(tokens, span, b":") else {
+        return None;
+    };
+    let Some((args, last)) = split(tokens, sorts, b"->") else {
+        return None;
+    };
+    let Some(last) = first_of(tokens, last) else {
+        return None;
+    };
     Some(Head {
         front,
         args,
@@ -57,13 +63,20 @@ fn foreign(tokens: &Tokens<'_>, inside: Span) -> Option<usize>
     let mut rest = inside;
     let mut is_number = false;
     while let Some(first) = first_of(tokens, rest) {
-        if !is_number && !is_listed(first.word) {
+        if !is_allowed(is_number, first.word) {
             return Some(first.place);
         }
         is_number = is_word(first.word, b"prec");
         rest = first.rest;
     }
     None
+}
+
+// Whether the word may stand among attributes, perhaps as a number.
+fn is_allowed(is_number: bool, word: &[u8]) -> bool
+    ensures { result ≡ (is_number || is_listed word.now) }
+{
+    is_number || is_listed(word)
 }
 
 fn is_listed(word: &[u8]) -> bool

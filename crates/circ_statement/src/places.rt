@@ -1,7 +1,7 @@
 //! Where tokens stand in a span of tokens.
 ghost use Rattle.std.specs.Prelude.{◌≡◌, IfOk};
 ghost use Rattle.circ_lexer.specs.TokenList.{tokens_in, IsWithin};
-ghost use Rattle.circ_statement.specs.Words.{is_name, are_names};
+ghost use Rattle.circ_statement.specs.Words.{is_name, are_names, are_some_names};
 ghost use Rattle.circ_statement.specs.Said.{IsPlace, token_at};
 ghost use Rattle.circ_statement.specs.Statement.{joined};
 ghost use Rattle.circ_statement.specs.Reading.{GivesFirst, GivesAfter, GivesName, GivesSplit};
@@ -56,7 +56,10 @@ pub(crate) fn only_name(tokens: &Tokens<'_>, span: Span) -> Option<usize>
     ensures { GivesName result tokens.now span }
 {
     let first = first_of(tokens, span)?;
-    if first.rest.from == first.rest.to && is_name(first.word) {
+    if first.rest.from < first.rest.to {
+        return None;
+    }
+    if is_name(first.word) {
         Some(first.place)
     } else {
         None
@@ -106,6 +109,18 @@ pub(crate) fn are_names(tokens: &Tokens<'_>, span: Span) -> bool
         rest = first.rest;
     }
     true
+}
+
+// The same, and that there is a token.
+pub(crate) fn are_some_names(tokens: &Tokens<'_>, span: Span) -> bool
+    requires { IsWithin tokens.now span }
+    ensures { result ≡ are_some_names (tokens_in tokens.now span) }
+{
+    if span.from < span.to {
+        are_names(tokens, span)
+    } else {
+        false
+    }
 }
 
 // The tokens, joined without blanks.

@@ -8,7 +8,7 @@ ghost use Rattle.circ_statement.specs.Reading.{GivesSaid, GivesOperators, GivesU
 use crate::attributes::attributes_of;
 use crate::heads::{Head, foreign_mark, head_of};
 use crate::keywords::{Keyword, is_name, keyword_of};
-use crate::places::{after, are_names, first_of, is_name_at, only_name, split};
+use crate::places::{after, are_names, are_some_names, first_of, is_name_at, only_name, split};
 use crate::spellings::forms;
 use crate::{Statement, StatementFault};
 use circ_lexer::{Span, Tokens};
@@ -63,7 +63,7 @@ fn sorts(tokens: &Tokens<'_>, names: Span) -> Option<Statement>
     requires { IsWithin tokens.now names }
     ensures { GivesSaid result tokens.now (IsSorts (tokens_in tokens.now names)) }
 {
-    if names.from < names.to && are_names(tokens, names) {
+    if are_some_names(tokens, names) {
         Some(Statement::Sorts { names })
     } else {
         None
@@ -74,9 +74,13 @@ fn variables(tokens: &Tokens<'_>, span: Span) -> Option<Statement>
     requires { IsWithin tokens.now span }
     ensures { GivesSaid result tokens.now (IsVariables (tokens_in tokens.now span)) }
 {
-    let (names, last) = split(tokens, span, b":")?;
-    let sort = only_name(tokens, last)?;
-    if names.from < names.to && are_names(tokens, names) {
+    let Some((names, last)) = split(tokens, span, b":") else {
+        return None;
+    };
+    let Some(sort) = only_name(tokens, last) else {
+        return None;
+    };
+    if are_some_names(tokens, names) {
         Some(Statement::Variables { names, sort })
     } else {
         None
@@ -104,7 +108,9 @@ fn equation(tokens: &Tokens<'_>, span: Span) -> Option<Statement>
     ensures { GivesSaid result tokens.now (IsEquation (tokens_in tokens.now span)) }
 {
     let (sides, exec) = unmarked(tokens, span);
-    let (left, right) = split(tokens, sides, b"=")?;
+    let Some((left, right)) = split(tokens, sides, b"=") else {
+        return None;
+    };
     match split(tokens, right, b"=") {
         Some(_) => None,
         None => Some(Statement::Equation { left, right, exec }),
@@ -144,10 +150,13 @@ fn is_mark(tokens: &Tokens<'_>, span: Span) -> bool
     let Some(rest) = after(tokens, rest, b"nonexec") else {
         return false;
     };
-    match after(tokens, rest, b"]") {
-        Some(rest) => rest.from == rest.to,
-        None => false,
+    let Some(rest) = after(tokens, rest, b"]") else {
+        return false;
+    };
+    if rest.from < rest.to {
+        return false;
     }
+    true
 }
 
 // The operators of a statement, of one form or of a form for each token.
@@ -172,15 +181,17 @@ fn operators(
     if !is_named(tokens, head) {
         return Err(StatementFault::Shape);
     }
-    let forms = forms(alloc, tokens, head.front, is_one, given)?;
-    Ok(Statement::Operators {
-        forms,
-        args: head.args,
-        result: head.result,
-        assoc: given.assoc,
-        comm: given.comm,
-        idem: given.idem,
-    })
+    match forms(alloc, tokens, head.front, is_one, given) {
+        Err(fault) => Err(fault),
+        Ok(forms) => Ok(Statement::Operators {
+            forms,
+            args: head.args,
+            result: head.result,
+            assoc: given.assoc,
+            comm: given.comm,
+            idem: given.idem,
+        }),
+    }
 }
 
 // Whether there is a form, and each sort can be a sort.

@@ -123,7 +123,10 @@ fn spellings(
     let mut forms = Vec::new(alloc);
     let mut rest = front;
     while let Some(first) = first_of(tokens, rest) {
-        forms.push(spelling(alloc, first.word, given)?)?;
+        match spelling(alloc, first.word, given) {
+            Err(fault) => return Err(fault),
+            Ok(form) => forms.push(form)?,
+        }
         rest = first.rest;
     }
     Ok(forms)
