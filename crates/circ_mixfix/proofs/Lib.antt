@@ -5,3 +5,4 @@ pub mod Reading
 pub mod WordLists
 pub mod Below
 pub mod RuleLists
+pub mod TakenBack

@@ -5,3 +5,4 @@ pub mod Spells
 pub mod Readings
 pub mod WordLists
 pub mod Coding
+pub mod Printing

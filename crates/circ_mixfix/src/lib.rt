@@ -5,12 +5,16 @@
 //! a term with its variables numbered by first occurrence.
 #![tactic(auto)]
 
+#[cfg(test)]
+mod print_tests;
+mod printing;
 mod rules;
 mod spelling;
 #[cfg(test)]
 mod tests;
 mod words;
 
+pub use printing::{print, print_derivative, print_pair};
 pub use spelling::{Symbol, precedence, symbols};
 
 /// The most tokens of a list that is read.
