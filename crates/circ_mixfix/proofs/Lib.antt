@@ -6,3 +6,6 @@ pub mod WordLists
 pub mod Below
 pub mod RuleLists
 pub mod TakenBack
+pub mod Cut
+pub mod FormWords
+pub mod Printed

@@ -6,3 +6,4 @@ pub mod Readings
 pub mod WordLists
 pub mod Coding
 pub mod Printing
+pub mod Printed

@@ -7,7 +7,6 @@ use Rattle.circ_theory.specs.Theory.{Pair}
 use Rattle.circ_theory.specs.Operators.{is_hole_piece}
 use Rattle.circ_theory.specs.declared.forms.Piece.{Piece}
 use Rattle.circ_theory.specs.declared.forms.Piece.TheVariants.{Hole, Word}
-use Rattle.circ_mixfix.specs.Named.{Named, NamedList, Variable, Applied, no_terms, terms}
 
 -- texts behind a first one, each after a separator
 abbrev pub further : List ℕ → List (List ℕ) → List ℕ

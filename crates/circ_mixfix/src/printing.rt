@@ -1,7 +1,9 @@
 //! Terms written as text.
 ghost use Rattle.std.specs.Prelude.{◌≡◌, ◌≤◌, ◌++◌, codes, decimal, slice_get, unwrap_or, [], OnOk, OnErr, IfOk, false, true};
 ghost use Rattle.circ_term.specs.Tree.{trees_of, depths_of};
+ghost use Rattle.circ_theory.specs.Signature.{IsWellSorted};
 ghost use Rattle.circ_theory.specs.Operators.{operator_of};
+ghost use Rattle.circ_mixfix.specs.Printed.{IsPrintable, IsSpelling, IsPairSpelling};
 ghost use Rattle.circ_mixfix.specs.Printing.{further, joined, piece_text, left_behind, filled, arguments_text, application_text, operator_text, printed_name, text_of_term, texts_of_terms, text_of_pair, Keeps};
 
 use crate::spelling::has_hole;
@@ -201,7 +203,7 @@ fn put_pair(out: &mut Vec<u8>, theory: &Theory, left: &Term, right: &Term) -> Re
     put_term(out, theory, false, right)
 }
 
-// The text of a term; where it is a derivative's, with the hole.
+// The text of a term, with a hole where it is a derivative's.
 fn print_as(theory: &Theory, hole: bool, term: &Term, out: &mut Vec<u8>) -> Result<(), AllocError>
     ensures text { OnOk result (out.new.items ≡ out.old.items ++ text_of_term theory.now.signature hole term.now) }
     ensures err { OnErr result (out.new.items ≡ out.old.items) }
@@ -211,6 +213,25 @@ fn print_as(theory: &Theory, hole: bool, term: &Term, out: &mut Vec<u8>) -> Resu
         Ok(()) => Ok(()),
         Err(fault) => {
             out.truncate(before);
+            Err(fault)
+        }
+    }
+}
+
+fn print_sides(
+    theory: &Theory,
+    left: &Term,
+    right: &Term,
+    out: &mut Vec<u8>,
+) -> Result<(), AllocError>
+    ensures text { OnOk result (out.new.items ≡ out.old.items ++ text_of_pair theory.now.signature (record { left = left.now; right = right.now })) }
+    ensures err { OnErr result (out.new.items ≡ out.old.items) }
+{
+    let start = out.len();
+    match put_pair(out, theory, left, right) {
+        Ok(()) => Ok(()),
+        Err(fault) => {
+            out.truncate(start);
             Err(fault)
         }
     }
@@ -227,7 +248,9 @@ pub fn print(
 ) -> Result<(), AllocError>
     ensures text { OnOk result (out.new.items ≡ out.old.items ++ text_of_term theory.now.signature false term.now) }
     ensures err { OnErr result (out.new.items ≡ out.old.items) }
+    ensures spelled { IsPrintable theory.now.signature → IsWellSorted theory.now.signature term.now → IsSpelling theory.now.signature false term.now }
 {
+    theory.known();
     print_as(theory, false, term, out)
 }
 
@@ -240,7 +263,9 @@ pub fn print_derivative(
 ) -> Result<(), AllocError>
     ensures text { OnOk result (out.new.items ≡ out.old.items ++ text_of_term theory.now.signature true term.now) }
     ensures err { OnErr result (out.new.items ≡ out.old.items) }
+    ensures spelled { IsPrintable theory.now.signature → IsWellSorted theory.now.signature term.now → IsSpelling theory.now.signature true term.now }
 {
+    theory.known();
     print_as(theory, true, term, out)
 }
 
@@ -254,13 +279,8 @@ pub fn print_pair(
 ) -> Result<(), AllocError>
     ensures text { OnOk result (out.new.items ≡ out.old.items ++ text_of_pair theory.now.signature (record { left = left.now; right = right.now })) }
     ensures err { OnErr result (out.new.items ≡ out.old.items) }
+    ensures spelled { IsPrintable theory.now.signature → IsWellSorted theory.now.signature left.now → IsWellSorted theory.now.signature right.now → IsPairSpelling theory.now.signature (record { left = left.now; right = right.now }) }
 {
-    let before = out.len();
-    match put_pair(out, theory, left, right) {
-        Ok(()) => Ok(()),
-        Err(fault) => {
-            out.truncate(before);
-            Err(fault)
-        }
-    }
+    theory.known();
+    print_sides(theory, left, right, out)
 }

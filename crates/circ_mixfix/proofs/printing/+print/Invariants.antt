@@ -1,4 +1,4 @@
-use Rattle.std.proofs.Common.{◌≡◌, ◌≤◌, ◌++◌, ◌+◌, ◌*◌, List, drop, codes}
+use Rattle.std.proofs.Common.{◌≡◌, ◌≤◌, ◌++◌, ◌+◌, ◌*◌, drop, codes}
 use Rattle.circ_term.specs.Tree.{trees_of, depth_of, depths_of}
 use Rattle.circ_mixfix.specs.Printing.{further, filled, texts_of_terms, Keeps}
 use Rattle.circ_mixfix.proofs.printing.+print.Given as goal

@@ -1,5 +1,5 @@
-use Rattle.circ_mixfix.proofs.TakenBack.{taken_back}
+use Rattle.circ_mixfix.proofs.Printed.{pair_printed}
 use Rattle.circ_mixfix.proofs.printing.print_pair.Goals as goal
 
-pub returns-in-Err-clause-err : goal.returns-in-Err-clause-err
-returns-in-Err-clause-err c = let e = taken_back c.args.out.now.items c.put_pair.new.out.items c.put_pair.ensures.keeps in cc
+pub returns-clause-spelled : goal.returns-clause-spelled
+returns-clause-spelled c = λ print h k. pair_printed c.args.theory.now c.known.ensures print c.args.left.now c.args.right.now h k
