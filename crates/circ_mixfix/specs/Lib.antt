@@ -7,3 +7,4 @@ pub mod WordLists
 pub mod Coding
 pub mod Printing
 pub mod Printed
+pub mod PrintedExamples

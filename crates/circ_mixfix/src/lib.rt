@@ -5,6 +5,7 @@
 //! a term with its variables numbered by first occurrence.
 #![tactic(auto)]
 
+pub mod print_laws;
 #[cfg(test)]
 mod print_tests;
 mod printing;
