@@ -9,3 +9,6 @@ pub mod Variables
 pub mod Numbering
 pub mod Found
 pub mod Answers
+pub mod Printing
+pub mod Printed
+pub mod PrintedExamples

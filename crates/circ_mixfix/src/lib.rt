@@ -9,6 +9,10 @@ mod found;
 mod grammars;
 mod numbering;
 mod parse;
+pub mod print_laws;
+#[cfg(test)]
+mod print_tests;
+mod printing;
 mod rules;
 mod spelling;
 #[cfg(test)]
@@ -19,6 +23,7 @@ mod words;
 
 pub use found::Reading;
 pub use parse::{ParseFault, parse_one, parse_pair};
+pub use printing::{print, print_derivative, print_pair};
 pub use spelling::{Symbol, precedence, symbols};
 
 /// The most tokens of a list that is read.
