@@ -7,8 +7,8 @@ use Rattle.circ_mixfix.proofs.TokenNumbers.{numbers_kept}
 use Rattle.circ_mixfix.proofs.WordLists.{begin_kept}
 use Rattle.circ_mixfix.proofs.parse.read_one.Goals as goal
 
-pub returns : goal.returns
-returns c =
+pub returns-clause-reading : goal.returns-clause-reading
+returns-clause-reading c =
     let count = c.count-count.result in
     let ns = c.in_ok-numbers.numbers.items in
     let old = c.numbers.new.words in
