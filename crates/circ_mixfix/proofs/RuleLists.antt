@@ -1,54 +1,146 @@
--- The rules of the operators, one operator more.
-use Rattle.std.proofs.Common.{◌≡◌, ◌⊎◌, ◌<◌, ◌+◌, ◌++◌, ℕ, List, [], ◌∷◌, length, Some, inl, inr, sym, ◌∙◌, ap, subst, arith}
-use Rattle.std.specs.List.{slice_get}
+-- The rules of the operators, some operators more.
+use Rattle.std.proofs.Common.{◌≡◌, ◌⊎◌, ◌<◌, ◌+◌, ◌++◌, ℕ, zero, suc, List, [], ◌∷◌, length, Bool, true, false, nat_eq, Some, inl, inr, sym, ◌∙◌, ap, subst, refl, arith}
+use Rattle.std.specs.Prelude.{if◌then◌else◌}
+use Rattle.std.specs.List.{slice_get, list_any}
+use Rattle.std.specs.Cmp.Lexicographic.{pointwise, bytes_decides}
 use Rattle.std.proofs.lemmas.Bool.{cases_eq}
 use Rattle.std.proofs.lemmas.List.{length-append}
 use Rattle.std.proofs.lemmas.Option.{slice_get_within}
 use Rattle.circ_chart.specs.declared.grammar.Rule.{Rule}
+use Rattle.circ_theory.specs.declared.forms.Piece.{Piece}
+use Rattle.circ_theory.specs.declared.forms.Piece.TheVariants as piece
+use Rattle.circ_theory.specs.declared.parts.Side.{Side}
+use Rattle.circ_theory.specs.Form.{is_word, first_word}
 use Rattle.circ_theory.specs.Signature.{Signature, Operator}
-use Rattle.circ_mixfix.specs.Symbols.{every, symbols_of, precedence_of}
+use Rattle.circ_theory.specs.Operators.{IsOperator, is_hole_piece, hole_count, places_from, ops_by_word}
+use Rattle.circ_mixfix.specs.Symbols.{Symbol, Word, Hole, every, inner_symbols, form_symbols, arguments, symbols_of, precedence_of}
+use Rattle.circ_mixfix.specs.Coding.{HaveNumbers, IsRuleOf, HasRules, AddsRule, AddsRules, BeginsBefore}
+use Rattle.circ_mixfix.proofs.SymbolWords.{form_word, no_holes, some_hole, fits, one_more}
 use Rattle.circ_mixfix.proofs.WordLists.{get_last, get_front}
-use Rattle.circ_mixfix.specs.Coding.{HaveNumbers, IsRuleOf, HasRules}
 
-pub no_rules : (sig : Signature) (ws : List (List ℕ)) (rs : List Rule) → rs ≡ [] → HasRules sig ws 0 rs
+abbrev Has : Signature → List (List ℕ) → List Rule → ℕ → Operator → Type 0
+Has sig ws rs f o = (n : ℕ) × (r : Rule) × (slice_get rs n ≡ Some r) × IsRuleOf ws f o r
+
+pub no_rules : (sig : Signature) (ws : List (List ℕ)) (rs : List Rule) → rs ≡ [] → HasRules sig ws (BeginsBefore sig ws 0) rs
 no_rules sig ws rs e = record {
   rules = λ n r l. absurd (let w = slice_get_within rs n r l in let len = ap length e in omega arith);
-  all_rules = λ f o l g p h. absurd (omega arith);
+  all_rules = λ f o c l p h. absurd (let z = c.3 in omega arith);
 }
 
--- an operator without a rule
-pub rules_skip : (sig : Signature) (ws : List (List ℕ)) (m : ℕ) (rs : List Rule)
-    → ((o : Operator) → slice_get sig.ops m ≡ Some o → precedence_of o < every → HaveNumbers ws (symbols_of o) → ⊥) → HasRules sig ws m rs → HasRules sig ws (m + 1) rs
-rules_skip sig ws m rs none h = record { rules = h.rules; all_rules = λ f o l g p k. go f o l g p k (cases_eq f m) }
-  where
-    go : (f : ℕ) (o : Operator) → f < m + 1 → slice_get sig.ops f ≡ Some o → precedence_of o < every → HaveNumbers ws (symbols_of o) → ((f ≡ m) ⊎ (f ≡ m → ⊥))
-        → (n : ℕ) × (r : Rule) × (slice_get rs n ≡ Some r) × IsRuleOf ws f o r
-    go f o l g p k (inl e) = absurd (none o (ap (slice_get sig.ops) (sym e) ∙ g) p k)
-    go f o l g p k (inr e) = h.all_rules f o (omega arith) g p k
+pub rules_kept : (sig : Signature) (ws : List (List ℕ)) (C D : ℕ → Type 0) (rs : List Rule) → ((f : ℕ) → D f → C f) → HasRules sig ws C rs → HasRules sig ws D rs
+rules_kept sig ws C D rs le h = record { rules = h.rules; all_rules = λ f o c l p k. h.all_rules f o (le f c) l p k }
 
--- an operator with its rule
-pub rules_more : (sig : Signature) (ws : List (List ℕ)) (m : ℕ) (rs new : List Rule) (o : Operator) (r : Rule)
-    → slice_get sig.ops m ≡ Some o → IsRuleOf ws m o r → new ≡ rs ++ r ∷ [] → HasRules sig ws m rs → HasRules sig ws (m + 1) new
-rules_more sig ws m rs new o r at is e h =
-    let P : List Rule → Type 0 = HasRules sig ws (m + 1) in
-    subst P (sym e) (record { rules = λ n x l. sound n x l (cases_eq n (length rs)); all_rules = λ f p l g b k. go f p l g b k (cases_eq f m) })
+-- one operator more
+rules_more : (sig : Signature) (ws : List (List ℕ)) (C : ℕ → Type 0) (g : ℕ) (rs new : List Rule) → AddsRule sig ws g rs new → HasRules sig ws C rs → HasRules sig ws (λ f. C f ⊎ (f ≡ g)) new
+rules_more sig ws C g rs new (inl a) h =
+    let P : List Rule → Type 0 = HasRules sig ws (λ f. C f ⊎ (f ≡ g)) in
+    subst P (sym a.0) (record { rules = h.rules; all_rules = all })
   where
-    sound : (n : ℕ) (x : Rule) → slice_get (rs ++ r ∷ []) n ≡ Some x → ((n ≡ length rs) ⊎ (n ≡ length rs → ⊥)) → (f : ℕ) × (p : Operator) × (slice_get sig.ops f ≡ Some p) × IsRuleOf ws f p x
+    all : (f : ℕ) (o : Operator) → (C f ⊎ (f ≡ g)) → slice_get sig.ops f ≡ Some o → precedence_of o < every → HaveNumbers ws (symbols_of o) → Has sig ws rs f o
+    all f o (inl c) l p k = h.all_rules f o c l p k
+    all f o (inr e) l p k = absurd (a.1 o (ap (slice_get sig.ops) (sym e) ∙ l) p k)
+rules_more sig ws C g rs new (inr a) h =
+    let P : List Rule → Type 0 = HasRules sig ws (λ f. C f ⊎ (f ≡ g)) in
+    subst P (sym a.4) (record { rules = λ n x l. sound n x l (cases_eq n (length rs)); all_rules = all })
+  where
+    sound : (n : ℕ) (x : Rule) → slice_get (rs ++ a.1 ∷ []) n ≡ Some x → ((n ≡ length rs) ⊎ (n ≡ length rs → ⊥)) → (f : ℕ) × (o : Operator) × (slice_get sig.ops f ≡ Some o) × IsRuleOf ws f o x
     sound n x l (inl w) =
-        let z : Some r ≡ Some x = sym (get_last rs r) ∙ ap (slice_get (rs ++ r ∷ [])) (sym w) ∙ l in
-        let q : r ≡ x = cc z in
-        let P : Rule → Type 0 = IsRuleOf ws m o in
-        (m, o, at, subst P q is)
-    sound n x l (inr w) = let i = slice_get_within (rs ++ r ∷ []) n x l in let len = length-append rs (r ∷ []) in h.rules n x (sym (get_front rs r n (omega arith)) ∙ l)
+        let z : Some a.1 ≡ Some x = sym (get_last rs a.1) ∙ ap (slice_get (rs ++ a.1 ∷ [])) (sym w) ∙ l in
+        let Q : Rule → Type 0 = IsRuleOf ws g a.0 in
+        (g, a.0, a.2, subst Q (cc z) a.3)
+    sound n x l (inr w) = let i = slice_get_within (rs ++ a.1 ∷ []) n x l in let len = length-append rs (a.1 ∷ []) in h.rules n x (sym (get_front rs a.1 n (omega arith)) ∙ l)
 
-    go : (f : ℕ) (p : Operator) → f < m + 1 → slice_get sig.ops f ≡ Some p → precedence_of p < every → HaveNumbers ws (symbols_of p) → ((f ≡ m) ⊎ (f ≡ m → ⊥))
-        → (n : ℕ) × (x : Rule) × (slice_get (rs ++ r ∷ []) n ≡ Some x) × IsRuleOf ws f p x
-    go f p l g b k (inl w) =
-        let z : Some o ≡ Some p = sym at ∙ ap (slice_get sig.ops) (sym w) ∙ g in
-        let q : o ≡ p = cc z in
-        let P : Operator → Type 0 = λ v. IsRuleOf ws m v r in
-        let Q : ℕ → Type 0 = λ v. IsRuleOf ws v p r in
-        (length rs, r, get_last rs r, subst Q (sym w) (subst P q is))
-    go f p l g b k (inr w) =
-        let a = h.all_rules f p (omega arith) g b k in
-        (a.0, a.1, get_front rs r a.0 (slice_get_within rs a.0 a.1 a.2) ∙ a.2, a.3)
+    all : (f : ℕ) (o : Operator) → (C f ⊎ (f ≡ g)) → slice_get sig.ops f ≡ Some o → precedence_of o < every → HaveNumbers ws (symbols_of o) → Has sig ws (rs ++ a.1 ∷ []) f o
+    all f o (inl c) l p k = let r = h.all_rules f o c l p k in (r.0, r.1, get_front rs a.1 r.0 (slice_get_within rs r.0 r.1 r.2) ∙ r.2, r.3)
+    all f o (inr e) l p k =
+        let z : Some a.0 ≡ Some o = sym a.2 ∙ ap (slice_get sig.ops) (sym e) ∙ l in
+        let Q : Operator → Type 0 = λ v. IsRuleOf ws f v a.1 in
+        let R : ℕ → Type 0 = λ v. IsRuleOf ws v a.0 a.1 in
+        (length rs, a.1, get_last rs a.1, subst Q (cc z) (subst R (sym e) a.3))
+
+-- several operators more
+rules_all : (sig : Signature) (ws : List (List ℕ)) (C : ℕ → Type 0) (fs : List ℕ) (rs new : List Rule) → AddsRules sig ws fs rs new → HasRules sig ws C rs
+    → HasRules sig ws (λ f. C f ⊎ ((k : ℕ) × (slice_get fs k ≡ Some f))) new
+rules_all sig ws C [] rs new a h =
+    let P : List Rule → Type 0 = HasRules sig ws (λ f. C f ⊎ ((k : ℕ) × (slice_get [] k ≡ Some f))) in
+    subst P (sym a) (rules_kept sig ws C (λ f. C f ⊎ ((k : ℕ) × (slice_get [] k ≡ Some f))) rs same h)
+  where
+    same : (f : ℕ) → (C f ⊎ ((k : ℕ) × (slice_get [] k ≡ Some f))) → C f
+    same f (inl c) = c
+    same f (inr k) = absurd (let z = k.1 in cc z)
+rules_all sig ws C (g ∷ fs) rs new a h =
+    rules_kept sig ws (λ f. (C f ⊎ (f ≡ g)) ⊎ ((k : ℕ) × (slice_get fs k ≡ Some f))) (λ f. C f ⊎ ((k : ℕ) × (slice_get (g ∷ fs) k ≡ Some f))) new there
+    (rules_all sig ws (λ f. C f ⊎ (f ≡ g)) fs a.0 new a.2 (rules_more sig ws C g rs a.0 a.1 h))
+  where
+    later : (f k : ℕ) → slice_get (g ∷ fs) k ≡ Some f → (C f ⊎ (f ≡ g)) ⊎ ((j : ℕ) × (slice_get fs j ≡ Some f))
+    later f zero e = inl (inr (let z : g ≡ f = cc e in sym z))
+    later f (suc k) e = inr (k, e)
+
+    there : (f : ℕ) → (C f ⊎ ((k : ℕ) × (slice_get (g ∷ fs) k ≡ Some f))) → (C f ⊎ (f ≡ g)) ⊎ ((j : ℕ) × (slice_get fs j ≡ Some f))
+    there f (inl c) = inl (inl c)
+    there f (inr k) = later f k.0 k.1
+
+-- a place that passes is among those that pass
+place_there : {X : Type 0} (p : X → Bool) (b : ℕ) (xs : List X) (g : ℕ) (x : X) → slice_get xs g ≡ Some x → p x ≡ true → (k : ℕ) × (slice_get (places_from p b xs) k ≡ Some (b + g))
+place_there p b [] g x e t = absurd (cc)
+place_there p b (y ∷ xs) zero x e t =
+    let q : y ≡ x = cc e in
+    let s : p y ≡ true = ap p q ∙ t in
+    let z : b ≡ b + 0 = omega arith in
+    (0, rw s (ap (λ n. Some n) z))
+place_there p b (y ∷ xs) (suc g) x e t = go (place_there p (b + 1) xs g x e t) (p y)
+  where
+    z : b + 1 + g ≡ b + suc g
+    z = omega arith
+
+    go : (k : ℕ) × (slice_get (places_from p (b + 1) xs) k ≡ Some (b + 1 + g)) → (c : Bool)
+        → (k : ℕ) × (slice_get (if c then b ∷ places_from p (b + 1) xs else places_from p (b + 1) xs) k ≡ Some (b + suc g))
+    go r true = (suc r.0, r.1 ∙ ap (λ n. Some n) z)
+    go r false = (r.0, r.1 ∙ ap (λ n. Some n) z)
+
+-- the operators with one first word more
+pub rules_step : (sig : Signature) (ws : List (List ℕ)) (m : ℕ) (w : List ℕ) (rs new : List Rule) → slice_get ws m ≡ Some w → AddsRules sig ws (ops_by_word sig w) rs new
+    → HasRules sig ws (BeginsBefore sig ws m) rs → HasRules sig ws (BeginsBefore sig ws (m + 1)) new
+rules_step sig ws m w rs new at a h =
+    rules_kept sig ws (λ f. BeginsBefore sig ws m f ⊎ ((k : ℕ) × (slice_get (ops_by_word sig w) k ≡ Some f))) (BeginsBefore sig ws (m + 1)) new (λ f c. go f c (cases_eq c.1 m))
+    (rules_all sig ws (BeginsBefore sig ws m) (ops_by_word sig w) rs new a h)
+  where
+    go : (f : ℕ) (c : BeginsBefore sig ws (m + 1) f) → ((c.1 ≡ m) ⊎ (c.1 ≡ m → ⊥)) → BeginsBefore sig ws m f ⊎ ((k : ℕ) × (slice_get (ops_by_word sig w) k ≡ Some f))
+    go f c (inl e) =
+        let z : Some w ≡ Some (first_word c.0.form) = sym at ∙ ap (slice_get ws) (sym e) ∙ c.4 in
+        let q : w ≡ first_word c.0.form = cc z in
+        let zero_more : 0 + f ≡ f = omega arith in
+        let r = place_there (λ o. pointwise nat_eq w (first_word o.form)) 0 sig.ops f c.0 c.2 ((bytes_decides w (first_word c.0.form)).1 q) in
+        inr (r.0, r.1 ∙ ap (λ n. Some n) zero_more)
+    go f c (inr e) = let l = c.3 in inl (c.0, c.1, c.2, omega arith, c.4)
+
+-- an operator whose words have numbers begins with one of them
+inner_first : (ws : List (List ℕ)) (p : ℕ) (side : Side) (ps : List Piece) (ss : List ℕ) (qs : List Symbol) → list_any is_word ps ≡ true → hole_count ps < length ss + 1
+    → HaveNumbers ws (inner_symbols p side ps ss ++ qs) → (n : ℕ) × (slice_get ws n ≡ Some (first_word ps))
+inner_first ws p side [] ss qs h l k = absurd (cc)
+inner_first ws p side (piece.Word w ∷ ps) ss qs h l k = k.0
+inner_first ws p side (piece.Hole ∷ ps) [] qs h l k = let e = one_more ps in absurd (omega arith)
+inner_first ws p side (piece.Hole ∷ ps) (s ∷ ss) qs h l k = let e = one_more ps in inner_first ws p side ps ss qs h (omega arith) k.1
+
+no_more : (ps : List Symbol) → ps ++ [] ≡ ps
+no_more [] = refl
+no_more (p ∷ ps) = ap (λ x. p ∷ x) (no_more ps)
+
+form_first : (ws : List (List ℕ)) (p : ℕ) (side : Side) (ps : List Piece) (ss : List ℕ) → list_any is_word ps ≡ true → hole_count ps ≡ length ss → HaveNumbers ws (form_symbols p side ps ss)
+    → (n : ℕ) × (slice_get ws n ≡ Some (first_word ps))
+form_first ws p side [] ss h l k = absurd (cc)
+form_first ws p side (piece.Word w ∷ ps) ss h l k = k.0
+form_first ws p side (piece.Hole ∷ ps) [] h l k = let e = one_more ps in absurd (omega arith)
+form_first ws p side (piece.Hole ∷ ps) (s ∷ ss) h l k =
+    let e = one_more ps in
+    let P : List Symbol → Type 0 = HaveNumbers ws in
+    inner_first ws p side ps ss [] h (omega arith) (subst P (sym (no_more (inner_symbols p side ps ss))) k.1)
+
+pub first_number : (sig : Signature) (ws : List (List ℕ)) (o : Operator) → IsOperator sig o → HaveNumbers ws (symbols_of o) → (n : ℕ) × (slice_get ws n ≡ Some (first_word o.form))
+first_number sig ws o h k = go (list_any is_hole_piece o.form) refl
+  where
+    go : (b : Bool) → list_any is_hole_piece o.form ≡ b → (n : ℕ) × (slice_get ws n ≡ Some (first_word o.form))
+    go true e = form_first ws o.prec o.side o.form o.args (form_word o.form h.is_form) (fits o h.fits (some_hole o.form e)) (rw e at k)
+    go false e =
+        let n = no_holes o.form e in
+        inner_first ws 0 o.side o.form [] (arguments o.args) (form_word o.form h.is_form) (omega arith) (rw e at k)

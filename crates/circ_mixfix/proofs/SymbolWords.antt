@@ -62,7 +62,7 @@ some_hole [] h = absurd (cc)
 some_hole (piece.Hole ∷ ps) h = let e = one_more ps in omega arith
 some_hole (piece.Word w ∷ ps) h = some_hole ps h
 
-form_word : (ps : List Piece) → IsForm ps → list_any is_word ps ≡ true
+pub form_word : (ps : List Piece) → IsForm ps → list_any is_word ps ≡ true
 form_word ps f = go (list_any is_word (pieces_of (text_of ps))) refl f.sound
   where
     go : (b : Bool) → list_any is_word (pieces_of (text_of ps)) ≡ b

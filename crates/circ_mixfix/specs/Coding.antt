@@ -1,5 +1,5 @@
 -- A grammar of the chart that spells what a signature and variables spell: texts go by their numbers in a list of different texts.
-use Rattle.std.specs.Prelude.{◌≡◌, ◌≤◌, ◌<◌, ℕ, List, [], ◌∷◌, map, length, Bool, Option, Some, None, codes, unwrap_or}
+use Rattle.std.specs.Prelude.{◌≡◌, ◌≤◌, ◌<◌, ◌⊎◌, ◌++◌, ℕ, List, [], ◌∷◌, map, length, Bool, Option, Some, None, codes, unwrap_or}
 use Rattle.std.specs.List.{slice_get}
 use Rattle.circ_term.specs.Tree.{Tree, Trees, Var, App, none, more}
 use Rattle.circ_chart.specs.declared.grammar.Grammar.{Grammar}
@@ -7,6 +7,7 @@ use Rattle.circ_chart.specs.declared.grammar.Rule.{Rule}
 use Rattle.circ_chart.specs.declared.grammar.Variable as chart_variable
 use Rattle.circ_chart.specs.declared.grammar.Symbol as chart_symbol
 use Rattle.circ_chart.specs.declared.grammar.Symbol.TheVariants as chart
+use Rattle.circ_theory.specs.Form.{first_word}
 use Rattle.circ_theory.specs.Signature.{Signature, Operator}
 use Rattle.circ_theory.specs.Theory.{Declared}
 use Rattle.circ_mixfix.specs.Named.{Named, NamedList, Variable, Applied, no_terms, terms}
@@ -92,11 +93,26 @@ abbrev pub GivesRule : List (List ℕ) → ℕ → Operator → Option Rule → 
 GivesRule ws f o (Some r) = IsRuleOf ws f o r
 GivesRule ws f o None = precedence_of o < every → HaveNumbers ws (symbols_of o) → ⊥
 
--- the rules are those of the first m operators whose words have numbers
-pub record HasRules (sig : Signature) (ws : List (List ℕ)) (m : ℕ) (rs : List Rule) : Type 0 where
+-- the rules are those of operators, and all those in C whose words have numbers have one
+pub record HasRules (sig : Signature) (ws : List (List ℕ)) (C : ℕ → Type 0) (rs : List Rule) : Type 0 where
   pub rules : (n : ℕ) (r : Rule) → slice_get rs n ≡ Some r → (f : ℕ) × (o : Operator) × (slice_get sig.ops f ≡ Some o) × IsRuleOf ws f o r
-  pub all_rules : (f : ℕ) (o : Operator) → f < m → slice_get sig.ops f ≡ Some o → precedence_of o < every → HaveNumbers ws (symbols_of o)
+  pub all_rules : (f : ℕ) (o : Operator) → C f → slice_get sig.ops f ≡ Some o → precedence_of o < every → HaveNumbers ws (symbols_of o)
       → (n : ℕ) × (r : Rule) × (slice_get rs n ≡ Some r) × IsRuleOf ws f o r
+
+-- the list with the rule of one operator more, where its words have numbers
+abbrev pub AddsRule : Signature → List (List ℕ) → ℕ → (old new : List Rule) → Type 0
+AddsRule sig ws f old new =
+    ((new ≡ old) × ((o : Operator) → slice_get sig.ops f ≡ Some o → precedence_of o < every → HaveNumbers ws (symbols_of o) → ⊥))
+    ⊎ ((o : Operator) × (r : Rule) × (slice_get sig.ops f ≡ Some o) × IsRuleOf ws f o r × (new ≡ old ++ r ∷ []))
+
+-- of several operators, one after another
+abbrev pub AddsRules : Signature → List (List ℕ) → List ℕ → (old new : List Rule) → Type 0
+AddsRules sig ws [] old new = new ≡ old
+AddsRules sig ws (f ∷ fs) old new = (between : List Rule) × AddsRule sig ws f old between × AddsRules sig ws fs between new
+
+-- the operators whose first words are among the first m texts
+abbrev pub BeginsBefore : Signature → List (List ℕ) → ℕ → ℕ → Type 0
+BeginsBefore sig ws m f = (o : Operator) × (n : ℕ) × (slice_get sig.ops f ≡ Some o) × (n < m) × (slice_get ws n ≡ Some (first_word o.form))
 
 pub record IsVariableOf (ws : List (List ℕ)) (name : List ℕ) (k s : ℕ) (v : chart_variable.Variable) : Type 0 where
   pub word : v.word ≡ k

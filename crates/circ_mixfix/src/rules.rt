@@ -1,10 +1,10 @@
 //! Rules of the chart for the operators of a theory.
-ghost use Rattle.std.specs.Prelude.{◌≡◌, ◌≤◌, ◌^◌, ◌+◌, length, IfOk, map};
+ghost use Rattle.std.specs.Prelude.{◌≡◌, ◌≤◌, ◌^◌, ◌+◌, length, IfOk, OnOk, map};
 ghost use Rattle.std.specs.Option.{option_map};
 ghost use Rattle.circ_theory.specs.Operators.{operator_of};
 ghost use Rattle.circ_mixfix.specs.Symbols.{symbols_of, precedence_of};
 ghost use Rattle.circ_mixfix.specs.SymbolLists.{symbol_of};
-ghost use Rattle.circ_mixfix.specs.Coding.{GivesSymbol, GivesSymbols, GivesRule, HasRules, IsBelow, AreBelow};
+ghost use Rattle.circ_mixfix.specs.Coding.{GivesSymbol, GivesSymbols, GivesRule, HasRules, AddsRule, AddsRules, BeginsBefore, IsBelow, AreBelow};
 ghost use Rattle.circ_mixfix.specs.declared.TheConstants.{EVERY};
 
 use crate::EVERY;
@@ -78,39 +78,54 @@ fn rule(
     }
 }
 
-// The rules with that of an operator.
-fn with_rule(
+// Adds the rule of an operator, if each of its words has a number.
+fn push_rule(
     alloc: Global,
-    out: Vec<Rule>,
+    out: &mut Vec<Rule>,
     words: &Words<'_>,
     theory: &Theory,
     number: u32,
-) -> Result<Vec<Rule>, AllocError>
+) -> Result<(), AllocError>
     requires few { length words.now ≤ 2 ^ 32 }
-    requires before { HasRules theory.now.signature words.now number out.items }
-    ensures { IfOk result (λ v. HasRules theory.now.signature words.now (number + 1) v.items) }
+    ensures { OnOk result (AddsRule theory.now.signature words.now number out.old.items out.new.items) }
 {
     let Some(decl) = theory.op(number) else {
-        return Ok(out);
+        return Ok(());
     };
-    match rule(alloc, words, number, decl)? {
-        Some(rule) => {
-            let mut out = out;
-            out.push(rule)?;
-            Ok(out)
-        }
-        None => Ok(out),
-    }
+    let Some(rule) = rule(alloc, words, number, decl)? else {
+        return Ok(());
+    };
+    out.push(rule)?;
+    Ok(())
 }
 
-// The rules of all operators whose words have numbers.
+// Adds the rules of operators, as far as their words have numbers.
+fn push_rules(
+    alloc: Global,
+    out: &mut Vec<Rule>,
+    words: &Words<'_>,
+    theory: &Theory,
+    numbers: &[u32],
+) -> Result<(), AllocError>
+    requires few { length words.now ≤ 2 ^ 32 }
+    ensures { OnOk result (AddsRules theory.now.signature words.now numbers.now out.old.items out.new.items) }
+{
+    for number in numbers {
+        push_rule(alloc, out, words, theory, *number)?;
+    }
+    Ok(())
+}
+
+// The rules of the operators whose words have numbers. No other operator is looked at than those whose first word has one.
 pub fn rules(alloc: Global, words: &Words<'_>, theory: &Theory) -> Result<Vec<Rule>, AllocError>
     requires few { length words.now ≤ 2 ^ 32 }
-    ensures { IfOk result (λ v. HasRules theory.now.signature words.now (length theory.now.signature.ops) v.items) }
+    ensures { IfOk result (λ v. HasRules theory.now.signature words.now (BeginsBefore theory.now.signature words.now (length words.now)) v.items) }
 {
     let mut out = Vec::new(alloc);
-    for number in 0..theory.op_count() {
-        out = with_rule(alloc, out, words, theory, number)?;
+    for number in 0..words.count() {
+        if let Some(word) = words.text(number) {
+            push_rules(alloc, &mut out, words, theory, theory.ops_by_word(word))?;
+        }
     }
     Ok(out)
 }
