@@ -1,53 +1,18 @@
--- The printed texts: terms, goals and answers.
+-- The printed texts: goals and answers.
 use Rattle.std.specs.Prelude.{ℕ, List, [], ◌∷◌, ◌++◌, Option, Some, None, codes, decimal, ◌==◌, if◌then◌else◌}
 use Rattle.std.specs.List.{slice_get}
 use Rattle.std.specs.Option.{unwrap_or}
-use Rattle.circ_term.specs.Tree.{Tree, Trees, Var, App, none, more}
-use Rattle.circ_theory.specs.Signature.{Signature, Operator}
+use Rattle.circ_theory.specs.Signature.{Signature}
 use Rattle.circ_theory.specs.Theory.{Pair}
-use Rattle.circ_theory.specs.declared.forms.Piece.{Piece}
-use Rattle.circ_theory.specs.declared.forms.Piece.TheVariants.{Hole, Word}
+use Rattle.circ_mixfix.specs.Printing.{text_of_pair}
 use Rattle.circ_file.specs.ProofText.{texts}
 use Rattle.circ_top.specs.declared.status.Cause.{Cause}
 use Rattle.circ_top.specs.declared.status.Cause.TheVariants as cause
 use Rattle.circ_top.specs.declared.status.Status.{Status}
 use Rattle.circ_top.specs.declared.status.Status.TheVariants as status
 
-abbrev pub piece_text : Piece → List ℕ
-piece_text Hole = codes "_"
-piece_text (Word w) = w
-
-abbrev pub further_piece : Piece → List ℕ
-further_piece p = codes " " ++ piece_text p
-
--- a form's pieces, joined by one blank
-abbrev pub pieces_text : List Piece → List ℕ
-pieces_text [] = []
-pieces_text (p ∷ ps) = piece_text p ++ texts further_piece ps
-
-abbrev pub operator_text : Option Operator → List ℕ
-operator_text None = []
-operator_text (Some o) = pieces_text o.form
-
--- A variable is written with its number and its sort's name, an application with its operator's words and its arguments in parentheses.
-abbrev mutual
-  pub term_text : Signature → Tree → List ℕ
-  term_text sig (Var n s) = codes "V" ++ decimal n ++ codes ":" ++ unwrap_or (slice_get sig.sorts s) []
-  term_text sig (App f s ts) = operator_text (slice_get sig.ops f) ++ args_text sig ts
-
-  pub args_text : Signature → Trees → List ℕ
-  args_text sig none = []
-  args_text sig (more t ts) = codes "(" ++ term_text sig t ++ further_text sig ts ++ codes ")"
-
-  pub further_text : Signature → Trees → List ℕ
-  further_text sig none = []
-  further_text sig (more t ts) = codes ", " ++ term_text sig t ++ further_text sig ts
-
-abbrev pub pair_text : Signature → Pair → List ℕ
-pair_text sig p = term_text sig p.left ++ codes " = " ++ term_text sig p.right
-
 abbrev pub goal_line : Signature → Pair → List ℕ
-goal_line sig p = codes "goal: " ++ pair_text sig p ++ codes "\n"
+goal_line sig p = codes "goal: " ++ text_of_pair sig p ++ codes "\n"
 
 -- the text of an accepted proof
 abbrev pub accepted_text : Signature → List Pair → List ℕ

@@ -1,17 +1,16 @@
-//! The printed texts: terms, goals and answers.
-ghost use Rattle.std.specs.Prelude.{◌≡◌, ◌++◌, [], OnOk, IfOk, codes, decimal, slice_get, unwrap_or};
+//! The printed texts: goals and answers.
+ghost use Rattle.std.specs.Prelude.{◌≡◌, ◌++◌, [], OnOk, IfOk, codes, decimal};
 ghost use Rattle.std.specs.List.{AllByRecursion};
-ghost use Rattle.circ_term.specs.Tree.{trees_of};
 ghost use Rattle.circ_file.specs.Proof.{IsNameFor, goal_of, goals_of};
 ghost use Rattle.circ_file.specs.Plain.{plain_name, plain_proof};
-ghost use Rattle.circ_top.specs.Texts.{piece_text, further_piece, pieces_text, operator_text, term_text, args_text, further_text, goal_line, accepted_text, cause_text, place_text, refusal_text};
-ghost use Rattle.circ_file.specs.ProofText.{texts};
+ghost use Rattle.circ_top.specs.Texts.{goal_line, accepted_text, cause_text, place_text, refusal_text};
 
 use crate::goals::term_at;
 use crate::status::{Cause, Status};
 use circ_file::{Name, Proof};
-use circ_term::{Kind, Term};
-use circ_theory::{Piece, Theory};
+use circ_mixfix::print_pair;
+use circ_term::Term;
+use circ_theory::Theory;
 use itoa::Buffer;
 use std::alloc::{AllocError, Global};
 
@@ -22,106 +21,8 @@ fn push_number(out: &mut Vec<u8>, number: u64) -> Result<(), AllocError>
     out.extend_from_slice(buffer.format(number).as_bytes())
 }
 
-fn push_piece(out: &mut Vec<u8>, piece: &Piece) -> Result<(), AllocError>
-    ensures { OnOk result (out.new.items ≡ out.old.items ++ piece_text piece.now) }
-{
-    match piece {
-        Piece::Hole => out.extend_from_slice(b"_"),
-        Piece::Word(word) => out.extend_from_slice(word.bytes()),
-    }
-}
-
-fn push_further_piece(out: &mut Vec<u8>, piece: &Piece) -> Result<(), AllocError>
-    ensures { OnOk result (out.new.items ≡ out.old.items ++ further_piece piece.now) }
-{
-    out.extend_from_slice(b" ")?;
-    push_piece(out, piece)
-}
-
-fn push_further_pieces(out: &mut Vec<u8>, pieces: &[Piece]) -> Result<(), AllocError>
-    ensures { OnOk result (out.new.items ≡ out.old.items ++ texts further_piece pieces.now) }
-{
-    for piece in pieces {
-        push_further_piece(out, piece)?;
-    }
-    Ok(())
-}
-
-fn push_pieces(out: &mut Vec<u8>, pieces: &[Piece]) -> Result<(), AllocError>
-    ensures { OnOk result (out.new.items ≡ out.old.items ++ pieces_text pieces.now) }
-{
-    let Some((first, rest)) = pieces.split_first() else {
-        return Ok(());
-    };
-    push_piece(out, first)?;
-    push_further_pieces(out, rest)
-}
-
-fn push_operator(out: &mut Vec<u8>, theory: &Theory, op: u32) -> Result<(), AllocError>
-    ensures { OnOk result (out.new.items ≡ out.old.items ++ operator_text (slice_get theory.now.signature.ops op)) }
-{
-    match theory.op(op) {
-        None => Ok(()),
-        Some(decl) => push_pieces(out, decl.form.pieces()),
-    }
-}
-
-fn push_variable(
-    out: &mut Vec<u8>,
-    theory: &Theory,
-    number: u32,
-    sort: u32,
-) -> Result<(), AllocError>
-    ensures { OnOk result (out.new.items ≡ out.old.items ++ (codes "V" ++ decimal number ++ codes ":" ++ unwrap_or (slice_get theory.now.signature.sorts sort) [])) }
-{
-    out.extend_from_slice(b"V")?;
-    push_number(out, number as u64)?;
-    out.extend_from_slice(b":")?;
-    match theory.sort_name(sort) {
-        None => Ok(()),
-        Some(name) => out.extend_from_slice(name),
-    }
-}
-
-/// Appends a term's text.
-#[cycle(print)]
-pub(crate) fn push_term(out: &mut Vec<u8>, theory: &Theory, term: &Term) -> Result<(), AllocError>
-    ensures { OnOk result (out.new.items ≡ out.old.items ++ term_text theory.now.signature term.now) }
-{
-    match term.kind() {
-        Kind::Variable { number, sort } => push_variable(out, theory, number, sort),
-        Kind::Application { op, args, .. } => {
-            push_operator(out, theory, op)?;
-            push_args(out, theory, args)
-        }
-    }
-}
-
-#[cycle(print)]
-fn push_args(out: &mut Vec<u8>, theory: &Theory, args: &[Term]) -> Result<(), AllocError>
-    ensures { OnOk result (out.new.items ≡ out.old.items ++ args_text theory.now.signature (trees_of args.now)) }
-{
-    let Some((first, rest)) = args.split_first() else {
-        return Ok(());
-    };
-    out.extend_from_slice(b"(")?;
-    push_term(out, theory, first)?;
-    push_further_args(out, theory, rest)?;
-    out.extend_from_slice(b")")
-}
-
-#[cycle(print)]
-fn push_further_args(out: &mut Vec<u8>, theory: &Theory, args: &[Term]) -> Result<(), AllocError>
-    ensures { OnOk result (out.new.items ≡ out.old.items ++ further_text theory.now.signature (trees_of args.now)) }
-{
-    for arg in args {
-        out.extend_from_slice(b", ")?;
-        push_term(out, theory, arg)?;
-    }
-    Ok(())
-}
-
 fn push_goal(
+    alloc: Global,
     out: &mut Vec<u8>,
     theory: &Theory,
     table: &[Term],
@@ -131,9 +32,9 @@ fn push_goal(
     ensures { OnOk result (out.new.items ≡ out.old.items ++ goal_line theory.now.signature (goal_of table.now (plain_name name.now))) }
 {
     out.extend_from_slice(b"goal: ")?;
-    push_term(out, theory, term_at(table, name.left))?;
-    out.extend_from_slice(b" = ")?;
-    push_term(out, theory, term_at(table, name.right))?;
+    let left = term_at(table, name.left);
+    let right = term_at(table, name.right);
+    print_pair(alloc, theory, left, right, out)?;
     out.extend_from_slice(b"\n")
 }
 
@@ -145,7 +46,7 @@ pub(crate) fn accepted(alloc: Global, theory: &Theory, proof: &Proof) -> Result<
     let table = proof.table.as_slice();
     let mut out = Vec::from_slice(alloc, b"accepted\n")?;
     for name in &proof.names {
-        push_goal(&mut out, theory, table, name)?;
+        push_goal(alloc, &mut out, theory, table, name)?;
     }
     Ok(out)
 }

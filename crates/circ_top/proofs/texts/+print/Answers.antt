@@ -1,9 +1,0 @@
-use Rattle.std.proofs.Common.{◌<◌, length, arith}
-use Rattle.circ_term.proofs.Within.{depth_at}
-use Rattle.circ_top.proofs.texts.+print.Goals as goal
-
-pub push_further_args-push_term-requires : goal.push_further_args-push_term-requires
-push_further_args-push_term-requires t c =
-    let h : c.loop-arg.arg-index < length c.args.args.now = omega arith in
-    let d = depth_at c.args.args.now c.loop-arg.arg-index c.arg-item.result h c.arg-item.is in
-    (omega arith, tt)
