@@ -1,0 +1,73 @@
+//! `derivative`.
+ghost use Rattle.std.specs.Prelude.{◌≡◌, IfOk};
+ghost use Rattle.circ_lexer.specs.TokenList.{tokens_in, IsWithin};
+ghost use Rattle.circ_parse.specs.Printing.{IsOne};
+ghost use Rattle.circ_read.specs.Does.{derivative_added, hole_text};
+ghost use Rattle.circ_read.specs.Steps.{Answers, ReadsHole, GivesDerivative};
+
+use crate::cause::{Cause, Fault, done};
+use crate::standin::add_derivative as add;
+use circ_lexer::{Span, Tokens};
+use circ_parse::{ParseFault, Reading, parse_one_declared, print_derivative};
+use circ_term::Term;
+use circ_theory::{Text, Theory};
+use std::alloc::{AllocError, Global};
+
+pub(crate) fn add_derivative(
+    alloc: Global,
+    theory: &mut Theory,
+    tokens: &Tokens<'_>,
+    term: Span,
+) -> Result<(), Fault>
+    requires { IsWithin tokens.now term }
+    ensures { Answers result theory.new (GivesDerivative theory.old (tokens_in tokens.now term)) }
+{
+    let terms = body(alloc, theory, tokens, term)?;
+    add_body(theory, terms)
+}
+
+// The term of a derivative.
+fn body(
+    alloc: Global,
+    theory: &Theory,
+    tokens: &Tokens<'_>,
+    term: Span,
+) -> Result<Vec<Term>, Fault>
+    requires { IsWithin tokens.now term }
+    ensures reads { ReadsHole result theory.now (tokens_in tokens.now term) }
+    ensures sorted { IfOk result (λ v. IsOne theory.now.signature v.items) }
+{
+    let cause = match parse_one_declared(alloc, theory, tokens, term, true) {
+        Ok(reading) => return Ok(reading.terms),
+        Err(ParseFault::TooLong { count }) => Cause::TooLong { count },
+        Err(ParseFault::NoParse) => Cause::NoParse,
+        Err(ParseFault::Ambiguous { first, second }) => Cause::Ambiguous {
+            first: body_text(alloc, theory, &first)?,
+            second: body_text(alloc, theory, &second)?,
+        },
+        Err(ParseFault::Memory) => return Err(Fault::Memory),
+    };
+    Err(Fault::Because { cause })
+}
+
+fn body_text(alloc: Global, theory: &Theory, reading: &Reading) -> Result<Text, AllocError>
+    ensures { IfOk result (λ t. t ≡ hole_text theory.now reading.now.terms.items) }
+{
+    let mut text = Vec::new(alloc);
+    match reading.terms.as_slice() {
+        [term] => print_derivative(theory, term, &mut text)?,
+        _ => {}
+    }
+    Text::of(alloc, text.as_slice())
+}
+
+fn add_body(theory: &mut Theory, terms: Vec<Term>) -> Result<(), Fault>
+    requires { IsOne theory.old.signature terms.items }
+    ensures { Answers result theory.new (λ r. r ≡ derivative_added theory.old terms.items) }
+{
+    let mut terms = terms;
+    match terms.pop() {
+        Some(term) => done(add(theory, term)),
+        None => unreachable!(),
+    }
+}
