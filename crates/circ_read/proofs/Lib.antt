@@ -1,0 +1,6 @@
+mod Tokens
+mod Parts
+mod Stops
+mod Once
+mod TextOnce
+mod StatementOnce

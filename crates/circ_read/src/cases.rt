@@ -24,9 +24,14 @@ pub(crate) fn add_cases(
     requires sort { IsPlace tokens.now sort }
     ensures { Answers result theory.new (λ r. r ≡ after (sort_named theory.old (token_at tokens.now sort)) (λ s. after (constants_named theory.old s (tokens_in tokens.now names)) (λ cs. adds (cases_fault theory.old s cs) (with_cases theory.old s cs)))) }
 {
-    let sort = sort_named(theory, word(tokens, sort))?;
-    let constants = constants_named(alloc, theory, tokens, sort, names)?;
-    done(add(theory, sort, constants))
+    let sort = match sort_named(theory, word(tokens, sort)) {
+        Ok(sort) => sort,
+        Err(fault) => return Err(fault),
+    };
+    match constants_named(alloc, theory, tokens, sort, names) {
+        Ok(constants) => done(add(theory, sort, constants)),
+        Err(fault) => Err(fault),
+    }
 }
 
 fn constants_named(

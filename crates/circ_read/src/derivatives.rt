@@ -22,8 +22,10 @@ pub(crate) fn add_derivative(
     requires { IsWithin tokens.now term }
     ensures { Answers result theory.new (GivesDerivative theory.old (tokens_in tokens.now term)) }
 {
-    let terms = body(alloc, theory, tokens, term)?;
-    add_body(theory, terms)
+    match body(alloc, theory, tokens, term) {
+        Ok(terms) => add_body(theory, terms),
+        Err(fault) => Err(fault),
+    }
 }
 
 // The term of a derivative.

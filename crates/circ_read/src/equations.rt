@@ -24,8 +24,10 @@ pub(crate) fn add_equation(
     requires right { IsWithin tokens.now right }
     ensures { Answers result theory.new (GivesEquation theory.old (tokens_in tokens.now left) (tokens_in tokens.now right) exec) }
 {
-    let terms = sides(alloc, theory, tokens, left, right)?;
-    add_sides(theory, terms, exec)
+    match sides(alloc, theory, tokens, left, right) {
+        Ok(terms) => add_sides(theory, terms, exec),
+        Err(fault) => Err(fault),
+    }
 }
 
 // The terms of two sides.

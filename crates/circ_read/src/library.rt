@@ -38,7 +38,10 @@ fn add_body(
 {
     let mut at = head.body;
     while let Some(stop) = next_stop(tokens, at) {
-        add_tokens(alloc, theory, tokens, Span { from: at, to: stop })?;
+        match add_tokens(alloc, theory, tokens, Span { from: at, to: stop }) {
+            Ok(()) => {}
+            Err(fault) => return Err(fault),
+        }
         at = stop + 1;
     }
     if is_end(tokens, at, head.opened) {

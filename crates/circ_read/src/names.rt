@@ -45,7 +45,14 @@ pub(crate) fn sorts_named(
 {
     let mut sorts = Vec::new(alloc);
     for n in names.from..names.to {
-        sorts.push(sort_named(theory, word(tokens, n))?)?;
+        match theory.sort_named(word(tokens, n)) {
+            Some(sort) => sorts.push(sort)?,
+            None => {
+                return Err(Fault::Because {
+                    cause: Cause::UnknownSort,
+                });
+            }
+        }
     }
     Ok(sorts)
 }

@@ -42,9 +42,14 @@ pub(crate) fn add_operators(
     requires result_sort { IsPlace tokens.now result_sort }
     ensures { Answers result theory.new (λ r. r ≡ after (sorts_named theory.old (tokens_in tokens.now args)) (λ ss. after (sort_named theory.old (token_at tokens.now result_sort)) (λ s. all_added (operator_added ss s marks.assoc marks.comm marks.idem) theory.old (map spelled_of forms.items)))) }
 {
-    let args = sorts_named(alloc, theory, tokens, args)?;
-    let result = sort_named(theory, word(tokens, result_sort))?;
-    add_all(alloc, theory, forms, &Rank { args, result, marks })
+    let args = match sorts_named(alloc, theory, tokens, args) {
+        Ok(args) => args,
+        Err(fault) => return Err(fault),
+    };
+    match sort_named(theory, word(tokens, result_sort)) {
+        Ok(result) => add_all(alloc, theory, forms, &Rank { args, result, marks }),
+        Err(fault) => Err(fault),
+    }
 }
 
 fn add_all(
@@ -56,7 +61,10 @@ fn add_all(
     ensures { Answers result theory.new (λ r. r ≡ all_added (operator_added rank.now.args.items rank.now.result rank.now.marks.assoc rank.now.marks.comm rank.now.marks.idem) theory.old (map spelled_of forms.items)) }
 {
     for form in forms {
-        add_operator(alloc, theory, form, rank)?;
+        match add_operator(alloc, theory, form, rank) {
+            Ok(()) => {}
+            Err(fault) => return Err(fault),
+        }
     }
     Ok(())
 }

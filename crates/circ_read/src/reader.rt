@@ -1,6 +1,7 @@
 //! The reader of a theory text.
 ghost use Rattle.std.specs.Prelude.{◌≡◌, ◌+◌, IfOk, drop, nat_eq, false, Some};
 ghost use Rattle.circ_lexer.specs.TokenList.{tokens_of, tokens_in, IsWithin};
+ghost use Rattle.circ_statement.specs.Said.{said_of, LiesWithin};
 ghost use Rattle.circ_read.specs.Text.{DoTokens};
 ghost use Rattle.circ_read.specs.Includes.{is_included, Includes, DoesIn, text_named};
 ghost use Rattle.circ_read.specs.ReadsAs.{begun, GivesTheory};
@@ -113,7 +114,17 @@ impl Reader {
         requires { IsWithin tokens.now span }
         ensures { Answers result (scope_of self.new) (DoTokens DoesIn (scope_of self.old) (tokens_in tokens.now span)) }
     {
-        match shape(self.alloc, tokens, span)? {
+        match shape(self.alloc, tokens, span) {
+            Ok(statement) => self.add_statement(tokens, statement),
+            Err(fault) => Err(fault),
+        }
+    }
+
+    fn add_statement(&mut self, tokens: &Tokens<'_>, statement: Statement) -> Result<(), Fault>
+        requires { LiesWithin tokens.now statement }
+        ensures { Answers result (scope_of self.new) (DoesIn (scope_of self.old) (said_of tokens.now statement)) }
+    {
+        match statement {
             Statement::Inclusion { name } => self.include(word(tokens, name)),
             statement => add_statement(self.alloc, &mut self.theory, tokens, statement),
         }
@@ -140,7 +151,10 @@ impl Reader {
     {
         let name = Text::of(self.alloc, name)?;
         let vars = take_vars(&mut self.theory)?;
-        add_text(self.alloc, &mut self.theory, text)?;
+        match add_text(self.alloc, &mut self.theory, text) {
+            Ok(()) => {}
+            Err(fault) => return Err(fault),
+        }
         put_vars(&mut self.theory, vars)?;
         self.included.push(name)?;
         Ok(())

@@ -18,7 +18,10 @@ pub(crate) fn add_sorts(
     ensures { Answers result theory.new (λ r. r ≡ all_added sort_added theory.old (tokens_in tokens.now names)) }
 {
     for n in names.from..names.to {
-        add_sort(theory, word(tokens, n))?;
+        match add_sort(theory, word(tokens, n)) {
+            Ok(()) => {}
+            Err(fault) => return Err(fault),
+        }
     }
     Ok(())
 }

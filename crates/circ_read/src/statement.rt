@@ -87,6 +87,8 @@ pub(crate) fn add_tokens(
     requires { IsWithin tokens.now span }
     ensures { Answers result theory.new (DoTokens Does theory.old (tokens_in tokens.now span)) }
 {
-    let statement = shape(alloc, tokens, span)?;
-    add_statement(alloc, theory, tokens, statement)
+    match shape(alloc, tokens, span) {
+        Ok(statement) => add_statement(alloc, theory, tokens, statement),
+        Err(fault) => Err(fault),
+    }
 }

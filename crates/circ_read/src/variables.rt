@@ -20,8 +20,10 @@ pub(crate) fn add_variables(
     requires sort { IsPlace tokens.now sort }
     ensures { Answers result theory.new (λ r. r ≡ after (sort_named theory.old (token_at tokens.now sort)) (λ s. all_added (variable_added s) theory.old (tokens_in tokens.now names))) }
 {
-    let sort = sort_named(theory, word(tokens, sort))?;
-    add_all(theory, tokens, names, sort)
+    match sort_named(theory, word(tokens, sort)) {
+        Ok(sort) => add_all(theory, tokens, names, sort),
+        Err(fault) => Err(fault),
+    }
 }
 
 fn add_all(
@@ -34,7 +36,10 @@ fn add_all(
     ensures { Answers result theory.new (λ r. r ≡ all_added (variable_added sort) theory.old (tokens_in tokens.now names)) }
 {
     for n in names.from..names.to {
-        add_variable(theory, word(tokens, n), sort)?;
+        match add_variable(theory, word(tokens, n), sort) {
+            Ok(()) => {}
+            Err(fault) => return Err(fault),
+        }
     }
     Ok(())
 }
