@@ -1,6 +1,9 @@
 mod Tokens
+mod Places
 mod Parts
 mod Stops
+mod Walk
+mod Texts
 mod Once
 mod TextOnce
 mod StatementOnce

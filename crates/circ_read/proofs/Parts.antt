@@ -1,7 +1,10 @@
 -- Parts added one by one, and words looked up one by one.
-use Rattle.std.proofs.Common.{◌≡◌, ℕ, List, [], ◌∷◌, ◌++◌, Option, Some, None, Result, Ok, Err, refl, ap, sym, ◌∙◌, append_assoc}
+use Rattle.std.proofs.Common.{◌≡◌, ℕ, List, [], ◌∷◌, ◌++◌, Option, Some, None, Result, Ok, Err, refl, ap, sym, ◌∙◌, append_assoc, length, arith}
 use Rattle.std.specs.Option.{option_map}
 use Rattle.std.proofs.lemmas.List.{append-nil}
+use Rattle.std.specs.declared.vec.IntoIter.{IntoIter}
+use Rattle.std.specs.Vec.Iter.{into_iter_len, into_iter_items}
+use Rattle.circ_term.specs.Tree.{Tree}
 use Rattle.circ_theory.specs.Theory.{Theory}
 use Rattle.circ_theory.specs.Adding.{IsFirst, Numbers}
 use Rattle.circ_theory.specs.declared.fault.TheoryFault.{TheoryFault}
@@ -10,7 +13,7 @@ use Rattle.circ_read.specs.declared.cause.Cause.{Cause}
 use Rattle.circ_read.specs.declared.cause.Fault.{Fault}
 use Rattle.circ_read.specs.declared.cause.Fault.TheVariants.{Because, Memory}
 use Rattle.circ_read.specs.Does.{adds, after, all_added, all_numbers, or_cause}
-use Rattle.circ_read.specs.Steps.{Answers, FindsAll, fault_of}
+use Rattle.circ_read.specs.Steps.{Answers, ReadsTerms}
 
 module _ {A : Type 0} (add : Theory → A → Result Theory Cause) (th : Theory) (a : A) (all rest : List A) (first : all ≡ a ∷ rest) (whole : Result Theory Cause) (so_far : all_added add th all ≡ whole) where
   -- one part more is added
@@ -45,3 +48,24 @@ none_yet (Some ns) before e = ap (λ xs. Some (xs ++ ns)) e
 pub all_found : (number : List ℕ → Option ℕ) (ws : List (List ℕ)) (before : List ℕ) (whole : Option (List ℕ)) (c : Cause) → ws ≡ []
     → option_map (λ ns. before ++ ns) (all_numbers number ws) ≡ whole → or_cause whole c ≡ Ok before
 all_found number ws before whole c none e = cc (ap (all_numbers number) none, append-nil before)
+
+module _ {A : Type 0} (Gives : Result A Cause → Type 0) (add : A → Result Theory Cause) where
+  -- what was read is added
+  pub read_then_added : (a : A) (r : Result (Unit {0}) Fault) (u : Theory) → Gives (Ok a) → Answers r u (λ q. q ≡ add a) → Answers r u (λ q. (o : Result A Cause) × Gives o × (q ≡ after o add))
+  read_then_added a (Ok n) u g e = (Ok a, g, e)
+  read_then_added a (Err (Because c)) u g e = (Ok a, g, e)
+  read_then_added a (Err Memory) u g e = tt
+
+-- nothing was read
+pub not_read : (Gives : Result (List Tree) Cause → Type 0) (add : List Tree → Result Theory Cause) (f : Fault) (u : Theory) → ReadsTerms (Err f) Gives
+    → Answers {U = Unit {0}} (Err f) u (λ q. (o : Result (List Tree) Cause) × Gives o × (q ≡ after o add))
+not_read Gives add (Because c) u g = (Err c, g, refl)
+not_read Gives add Memory u g = tt
+
+none_long : {X : Type 0} (xs : List X) → length xs ≡ 0 → xs ≡ []
+none_long [] e = refl
+none_long (x ∷ xs) e = absurd (omega arith)
+
+-- nothing is left to come
+pub none_to_come : {X Z : Type 0} (it : IntoIter X Z) → into_iter_len it ≡ 0 → into_iter_items it ≡ []
+none_to_come it e = none_long it.rest.items (sym it.rest.ok.0 ∙ e)

@@ -1,5 +1,5 @@
 -- What the steps of the reader answer.
-use Rattle.std.specs.Prelude.{◌≡◌, ◌<◌, ◌≤◌, ◌+◌, ℕ, List, [], ◌∷◌, ◌++◌, Bool, false, not, drop, length, codes, nat_eq, if◌then◌else◌, Option, Some, None, Result, Ok, Err}
+use Rattle.std.specs.Prelude.{◌≡◌, ◌<◌, ◌≤◌, ◌+◌, ℕ, List, [], ◌∷◌, ◌++◌, Bool, true, false, not, drop, length, codes, nat_eq, if◌then◌else◌, Option, Some, None, Result, Ok, Err}
 use Rattle.std.specs.List.{slice_range, slice_get}
 use Rattle.std.specs.Option.{option_map_or}
 use Rattle.std.specs.Cmp.Lexicographic.{pointwise}
@@ -17,6 +17,7 @@ use Rattle.circ_read.specs.declared.reader.Reader.{Reader}
 use Rattle.circ_term.specs.Tree.{Tree}
 use Rattle.circ_theory.specs.Theory.{Theory}
 use Rattle.circ_statement.specs.declared.statements.Statement.{Statement}
+use Rattle.circ_statement.specs.Words.{is_name}
 use Rattle.circ_statement.specs.Statement.{IsStatement, IsLeftOut}
 use Rattle.circ_statement.specs.Said.{Said, said_of, LiesWithin, equation, derivative}
 use Rattle.circ_read.specs.declared.cause.ReadFault.{ReadFault}
@@ -66,6 +67,16 @@ pub record IsStopAfter (ws : List (List ℕ)) (at n : ℕ) : Type 0 where
 abbrev pub GivesStop : Option ℕ → List (List ℕ) → (at : ℕ) → Type 0
 GivesStop None ws at = HasNoStop (drop at ws)
 GivesStop (Some n) ws at = IsStopAfter ws at n
+
+-- the name of the head that begins at a place
+pub record IsNameAt (ws : List (List ℕ)) (at : ℕ) (name : List ℕ) : Type 0 where
+  pub is_name : is_name name ≡ true
+  pub words : drop at ws ≡ codes "theory" ∷ name ∷ codes "is" ∷ drop (at + 3) ws
+  pub within : at + 3 ≤ length ws
+
+abbrev pub GivesName : Option (List ℕ) → List (List ℕ) → (at : ℕ) → Type 0
+GivesName None ws at = (name : List ℕ) (body : List (List ℕ)) → is_name name ≡ true → drop at ws ≡ codes "theory" ∷ name ∷ codes "is" ∷ body → ⊥
+GivesName (Some name) ws at = IsNameAt ws at name
 
 -- the head, with the place of the body
 pub record IsHeadOf (ws : List (List ℕ)) (h : Head) : Type 0 where

@@ -6,7 +6,7 @@ ghost use Rattle.circ_read.specs.Does.{adds, sort_named, constant_number, consta
 ghost use Rattle.circ_read.specs.StandIn.{cases_fault, with_cases};
 ghost use Rattle.circ_read.specs.Steps.{Answers, FindsAll};
 
-use crate::cause::{Cause, Fault, done};
+use crate::cause::{Cause, Fault, because, done};
 use crate::names::{sort_named, word};
 use crate::standin::{add_cases as add, constant_number};
 use circ_lexer::{Span, Tokens};
@@ -46,13 +46,10 @@ fn constants_named(
 {
     let mut constants = Vec::new(alloc);
     for n in names.from..names.to {
-        match constant_number(alloc, theory, sort, word(tokens, n))? {
+        let found = constant_number(alloc, theory, sort, word(tokens, n))?;
+        match found {
             Some(number) => constants.push(number)?,
-            None => {
-                return Err(Fault::Because {
-                    cause: Cause::NoParse,
-                });
-            }
+            None => return Err(because(Cause::NoParse)),
         }
     }
     Ok(constants)

@@ -1,5 +1,6 @@
 //! Why a text is refused.
 ghost use Rattle.std.specs.Prelude.{◌≡◌};
+ghost use Rattle.circ_read.specs.declared.cause.Fault.TheVariants.{Because};
 ghost use Rattle.circ_read.specs.Steps.{fault_of, byte_fault, done};
 
 use circ_lexer::LexFault;
@@ -90,6 +91,13 @@ impl<T: Drop> From<AllocFailed<T>> for Fault {
     fn from(_: AllocFailed<T>) -> Fault {
         Fault::Memory
     }
+}
+
+// The step ends for this cause.
+pub(crate) fn because(cause: Cause) -> Fault
+    ensures { result ≡ Because cause }
+{
+    Fault::Because { cause }
 }
 
 // The cause that a fault of a theory is.

@@ -5,7 +5,7 @@ ghost use Rattle.circ_parse.specs.Printing.{IsOne};
 ghost use Rattle.circ_read.specs.Does.{derivative_added, hole_text};
 ghost use Rattle.circ_read.specs.Steps.{Answers, ReadsHole, GivesDerivative};
 
-use crate::cause::{Cause, Fault, done};
+use crate::cause::{Cause, Fault, because, done};
 use crate::standin::add_derivative as add;
 use circ_lexer::{Span, Tokens};
 use circ_parse::{ParseFault, Reading, parse_one_declared, print_derivative};
@@ -39,17 +39,17 @@ fn body(
     ensures reads { ReadsHole result theory.now (tokens_in tokens.now term) }
     ensures sorted { IfOk result (λ v. IsOne theory.now.signature v.items) }
 {
-    let cause = match parse_one_declared(alloc, theory, tokens, term, true) {
-        Ok(reading) => return Ok(reading.terms),
-        Err(ParseFault::TooLong { count }) => Cause::TooLong { count },
-        Err(ParseFault::NoParse) => Cause::NoParse,
-        Err(ParseFault::Ambiguous { first, second }) => Cause::Ambiguous {
-            first: body_text(alloc, theory, &first)?,
-            second: body_text(alloc, theory, &second)?,
-        },
-        Err(ParseFault::Memory) => return Err(Fault::Memory),
-    };
-    Err(Fault::Because { cause })
+    match parse_one_declared(alloc, theory, tokens, term, true) {
+        Ok(reading) => Ok(reading.terms),
+        Err(ParseFault::TooLong { count }) => Err(because(Cause::TooLong { count })),
+        Err(ParseFault::NoParse) => Err(because(Cause::NoParse)),
+        Err(ParseFault::Ambiguous { first, second }) => {
+            let first = body_text(alloc, theory, &first)?;
+            let second = body_text(alloc, theory, &second)?;
+            Err(because(Cause::Ambiguous { first, second }))
+        }
+        Err(ParseFault::Memory) => Err(Fault::Memory),
+    }
 }
 
 fn body_text(alloc: Global, theory: &Theory, reading: &Reading) -> Result<Text, AllocError>

@@ -5,7 +5,7 @@ ghost use Rattle.circ_parse.specs.Printing.{AreSides};
 ghost use Rattle.circ_read.specs.Does.{equation_added, sides_text};
 ghost use Rattle.circ_read.specs.Steps.{Answers, ReadsSides, GivesEquation};
 
-use crate::cause::{Cause, Fault, done};
+use crate::cause::{Cause, Fault, because, done};
 use circ_lexer::{Span, Tokens};
 use circ_parse::{ParseFault, Reading, parse_pair_declared, print_pair};
 use circ_term::Term;
@@ -43,17 +43,17 @@ fn sides(
     ensures reads { ReadsSides result theory.now (tokens_in tokens.now left) (tokens_in tokens.now right) }
     ensures sorted { IfOk result (λ v. AreSides theory.now.signature v.items) }
 {
-    let fault = match parse_pair_declared(alloc, theory, tokens, left, right) {
-        Ok(reading) => return Ok(reading.terms),
-        Err(ParseFault::TooLong { count }) => Cause::TooLong { count },
-        Err(ParseFault::NoParse) => Cause::NoParse,
-        Err(ParseFault::Ambiguous { first, second }) => Cause::Ambiguous {
-            first: sides_text(alloc, theory, &first)?,
-            second: sides_text(alloc, theory, &second)?,
-        },
-        Err(ParseFault::Memory) => return Err(Fault::Memory),
-    };
-    Err(Fault::Because { cause: fault })
+    match parse_pair_declared(alloc, theory, tokens, left, right) {
+        Ok(reading) => Ok(reading.terms),
+        Err(ParseFault::TooLong { count }) => Err(because(Cause::TooLong { count })),
+        Err(ParseFault::NoParse) => Err(because(Cause::NoParse)),
+        Err(ParseFault::Ambiguous { first, second }) => {
+            let first = sides_text(alloc, theory, &first)?;
+            let second = sides_text(alloc, theory, &second)?;
+            Err(because(Cause::Ambiguous { first, second }))
+        }
+        Err(ParseFault::Memory) => Err(Fault::Memory),
+    }
 }
 
 fn sides_text(alloc: Global, theory: &Theory, reading: &Reading) -> Result<Text, AllocError>

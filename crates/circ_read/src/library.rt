@@ -4,7 +4,7 @@ ghost use Rattle.circ_lexer.specs.TokenList.{tokens_of};
 ghost use Rattle.circ_read.specs.Does.{Does};
 ghost use Rattle.circ_read.specs.Steps.{Answers, IsHeadOf, HasBody, HasText};
 
-use crate::cause::{Cause, Fault, byte_fault};
+use crate::cause::{Cause, Fault, because, byte_fault};
 use crate::statement::add_tokens;
 use crate::text::{Head, is_end, next_stop, read_head};
 use circ_lexer::{Span, Tokens};
@@ -15,15 +15,19 @@ use std::alloc::Global;
 pub(crate) fn add_text(alloc: Global, theory: &mut Theory, bytes: &[u8]) -> Result<(), Fault>
     ensures { Answers result theory.new (HasText theory.old bytes.now) }
 {
-    let tokens = match Tokens::of(alloc, bytes) {
-        Ok(tokens) => tokens,
-        Err(fault) => return Err(byte_fault(fault)),
-    };
-    match read_head(&tokens) {
-        Some(head) => add_body(alloc, theory, &tokens, &head),
-        None => Err(Fault::Because {
-            cause: Cause::Shape,
-        }),
+    match Tokens::of(alloc, bytes) {
+        Ok(tokens) => add_all(alloc, theory, &tokens),
+        Err(fault) => Err(byte_fault(fault)),
+    }
+}
+
+fn add_all(alloc: Global, theory: &mut Theory, tokens: &Tokens<'_>) -> Result<(), Fault>
+    ensures { Answers result theory.new (HasText theory.old tokens.now.source) }
+{
+    tokens.known();
+    match read_head(tokens) {
+        Some(head) => add_body(alloc, theory, tokens, &head),
+        None => Err(because(Cause::Shape)),
     }
 }
 
@@ -47,8 +51,6 @@ fn add_body(
     if is_end(tokens, at, head.opened) {
         Ok(())
     } else {
-        Err(Fault::Because {
-            cause: Cause::Shape,
-        })
+        Err(because(Cause::Shape))
     }
 }

@@ -7,7 +7,7 @@ ghost use Rattle.circ_statement.specs.Words.{is_name, is_special_word, has_colon
 ghost use Rattle.circ_read.specs.Does.{sort_named, sorts_named};
 ghost use Rattle.circ_read.specs.Steps.{Finds, FindsAll};
 
-use crate::cause::{Cause, Fault};
+use crate::cause::{Cause, Fault, because};
 use circ_lexer::{Span, Tokens};
 use circ_theory::Theory;
 use std::alloc::Global;
@@ -28,9 +28,7 @@ pub(crate) fn sort_named(theory: &Theory, name: &[u8]) -> Result<u32, Fault>
 {
     match theory.sort_named(name) {
         Some(sort) => Ok(sort),
-        None => Err(Fault::Because {
-            cause: Cause::UnknownSort,
-        }),
+        None => Err(because(Cause::UnknownSort)),
     }
 }
 
@@ -47,11 +45,7 @@ pub(crate) fn sorts_named(
     for n in names.from..names.to {
         match theory.sort_named(word(tokens, n)) {
             Some(sort) => sorts.push(sort)?,
-            None => {
-                return Err(Fault::Because {
-                    cause: Cause::UnknownSort,
-                });
-            }
+            None => return Err(because(Cause::UnknownSort)),
         }
     }
     Ok(sorts)

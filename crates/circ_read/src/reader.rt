@@ -7,7 +7,7 @@ ghost use Rattle.circ_read.specs.Includes.{is_included, Includes, DoesIn, text_n
 ghost use Rattle.circ_read.specs.ReadsAs.{begun, GivesTheory};
 ghost use Rattle.circ_read.specs.Steps.{Answers, IsHeadOf, GivesBody, GivesRead, fault_at, scope_of};
 
-use crate::cause::{Cause, Fault, ReadFault, byte_fault};
+use crate::cause::{Cause, Fault, ReadFault, because, byte_fault};
 use crate::library::add_text;
 use crate::standin::{put_vars, take_vars};
 use crate::statement::{add_statement, shape};
@@ -138,9 +138,7 @@ impl Reader {
         }
         match circ_lib::lookup(name) {
             Some(text) => self.include_text(name, text),
-            None => Err(Fault::Because {
-                cause: Cause::UnknownTheory,
-            }),
+            None => Err(because(Cause::UnknownTheory)),
         }
     }
 

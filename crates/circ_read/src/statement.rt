@@ -7,7 +7,7 @@ ghost use Rattle.circ_read.specs.Does.{Does};
 ghost use Rattle.circ_read.specs.Steps.{Answers, GivesShape};
 
 use crate::cases::add_cases;
-use crate::cause::{Cause, Fault};
+use crate::cause::{Cause, Fault, because};
 use crate::derivatives::add_derivative;
 use crate::equations::add_equation;
 use crate::names::word;
@@ -30,14 +30,11 @@ pub(crate) fn shape(
 {
     match read_statement(alloc, tokens, span) {
         Ok(statement) => Ok(statement),
-        Err(StatementFault::LeftOut { word: n }) => Err(Fault::Because {
-            cause: Cause::LeftOut {
-                word: Text::of(alloc, word(tokens, n))?,
-            },
-        }),
-        Err(StatementFault::Shape) => Err(Fault::Because {
-            cause: Cause::Shape,
-        }),
+        Err(StatementFault::LeftOut { word: n }) => {
+            let word = Text::of(alloc, word(tokens, n))?;
+            Err(because(Cause::LeftOut { word }))
+        }
+        Err(StatementFault::Shape) => Err(because(Cause::Shape)),
         Err(StatementFault::Memory) => Err(Fault::Memory),
     }
 }
@@ -53,9 +50,7 @@ pub(crate) fn add_statement(
     ensures { Answers result theory.new (Does theory.old (said_of tokens.now statement)) }
 {
     match statement {
-        Statement::Inclusion { .. } => Err(Fault::Because {
-            cause: Cause::UnknownTheory,
-        }),
+        Statement::Inclusion { .. } => Err(because(Cause::UnknownTheory)),
         Statement::Sorts { names } => add_sorts(theory, tokens, names),
         Statement::Operators {
             forms,

@@ -1,8 +1,9 @@
 //! The form of a text: its head, its stops and its end.
-ghost use Rattle.std.specs.Prelude.{◌≡◌, ◌≤◌, ◌↔◌, IsTrue, length, drop};
+ghost use Rattle.std.specs.Prelude.{◌≡◌, ◌≤◌, ◌<◌, ◌+◌, ◌^◌, ◌↔◌, IsTrue, IfSome, length, drop};
+ghost use Rattle.std.specs.Option.{option_copied};
 ghost use Rattle.circ_lexer.specs.TokenList.{tokens_of};
 ghost use Rattle.circ_read.specs.Text.{ending};
-ghost use Rattle.circ_read.specs.Steps.{has_word_at, GivesHead, GivesStop};
+ghost use Rattle.circ_read.specs.Steps.{has_word_at, GivesName, GivesHead, GivesStop};
 
 use crate::names::{is_name, is_word};
 use circ_lexer::Tokens;
@@ -20,8 +21,28 @@ pub(crate) struct Head<'a> {
 pub(crate) fn read_head<'a>(tokens: &Tokens<'a>) -> Option<Head<'a>>
     ensures { GivesHead result (tokens_of tokens.now) }
 {
-    let opened = has_word(tokens, 0, b"(");
-    let at = if opened { 1 } else { 0 };
+    if has_word(tokens, 0, b"(") {
+        let name = name_after(tokens, 1)?;
+        Some(Head {
+            opened: true,
+            name,
+            body: 4,
+        })
+    } else {
+        let name = name_after(tokens, 0)?;
+        Some(Head {
+            opened: false,
+            name,
+            body: 3,
+        })
+    }
+}
+
+// The name in the head that stands at a place.
+fn name_after<'a>(tokens: &Tokens<'a>, at: usize) -> Option<&'a [u8]>
+    requires { at ≤ 1 }
+    ensures { GivesName (option_copied result) (tokens_of tokens.now) at }
+{
     if !has_word(tokens, at, b"theory") {
         return None;
     }
@@ -29,20 +50,14 @@ pub(crate) fn read_head<'a>(tokens: &Tokens<'a>) -> Option<Head<'a>>
         return None;
     }
     let name = tokens.token(at + 1)?;
-    if !is_name(name) {
-        return None;
-    }
-    Some(Head {
-        opened,
-        name,
-        body: at + 3,
-    })
+    if is_name(name) { Some(name) } else { None }
 }
 
 // The first stop from a place on.
 pub(crate) fn next_stop(tokens: &Tokens<'_>, at: usize) -> Option<usize>
     requires { at ≤ length (tokens_of tokens.now) }
-    ensures { GivesStop result (tokens_of tokens.now) at }
+    ensures stop { GivesStop result (tokens_of tokens.now) at }
+    ensures fits { IfSome result (λ n. n + 1 < 2 ^ 64) }
 {
     for n in at..tokens.count() {
         if has_word(tokens, n, b".") {
@@ -61,11 +76,10 @@ pub(crate) fn is_end(tokens: &Tokens<'_>, at: usize, opened: bool) -> bool
     if !has_word(tokens, at, b"endtheory") {
         return false;
     }
-    if opened {
-        rest == 2 && has_word(tokens, at + 1, b")")
-    } else {
-        rest == 1
+    if !opened {
+        return rest == 1;
     }
+    rest == 2 && has_word(tokens, at + 1, b")")
 }
 
 fn has_word(tokens: &Tokens<'_>, n: usize, text: &[u8]) -> bool

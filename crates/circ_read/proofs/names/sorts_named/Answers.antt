@@ -18,9 +18,10 @@ loop-n-preserved c =
 
 pub returns-in-None : goal.returns-in-None
 returns-in-None c =
-    ap (λ o. or_cause o UnknownSort)
+    rw c.because.ensures
+    (ap (λ o. or_cause o UnknownSort)
     (no_more (sort_number c.args.theory.now.signature) c.word.result.now _ _ (here_token c.args.tokens.now c.args.names c.loop-n.n c.word.result.now c.requires c.loop-n-test.true c.word.ensures)
-    c.loop-n.sorts.items _ c.loop-n.invariant (sym c.in-None.ensures))
+    c.loop-n.sorts.items _ c.loop-n.invariant (sym c.in-None.ensures)))
 
 pub returns : goal.returns
 returns c = all_found (sort_number c.args.theory.now.signature) _ c.loop-n.sorts.items _ UnknownSort (no_token c.args.tokens.now c.loop-n.n c.args.names.to c.loop-n-test.false) c.loop-n.invariant

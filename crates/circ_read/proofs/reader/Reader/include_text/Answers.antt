@@ -1,0 +1,13 @@
+use Rattle.std.proofs.Common.{sym, ◌∙◌}
+use Rattle.circ_read.specs.Steps.{scope_of}
+use Rattle.circ_read.proofs.Texts.{included_whole, included_broken}
+use Rattle.circ_read.proofs.reader.Reader.include_text.Goals as goal
+
+pub returns-in-Err : goal.returns-in-Err
+returns-in-Err c =
+    included_broken (scope_of c.args.self.now) c.args.name.now c.args.text.now c.requires.new c.requires.text c.take_vars.new._theory c.in_ok-vars.ensures.taken c.in-Err.fault c.add_text.new.theory _ c.in-Err.ensures
+
+pub returns : goal.returns
+returns c =
+    let w = included_whole (scope_of c.args.self.now) c.args.name.now c.args.text.now c.requires.new c.requires.text c.take_vars.new._theory c.in_ok-vars.ensures.taken c.add_text.new.theory c.in-Ok.ensures in
+    rw (c.in_ok-put_vars.ensures, c.in_ok-vars.ensures.kept, c.in_ok-push.ensures.items, c.in_ok-name.ensures) w
