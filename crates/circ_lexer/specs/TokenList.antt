@@ -1,5 +1,5 @@
 -- Tokens as contracts see them.
-use Rattle.std.specs.Prelude.{◌≡◌, ◌≢◌, ℕ, List, [], ◌∷◌, ◌++◌, map, true, false, Option, Some, None, Result, Ok, Err}
+use Rattle.std.specs.Prelude.{◌≡◌, ◌≢◌, ◌≤◌, ℕ, length, List, [], ◌∷◌, ◌++◌, map, true, false, Option, Some, None, Result, Ok, Err}
 use Rattle.std.specs.List.{slice_range, list_all}
 use Rattle.circ_lexer.specs.declared.tokens.Span.{Span}
 use Rattle.circ_lexer.specs.declared.fault.LexFault.{LexFault}
@@ -41,3 +41,12 @@ pub data IsToken : List ℕ → Type 0 where
 abbrev pub spaced : List (List ℕ) → List ℕ
 spaced [] = []
 spaced (w ∷ ws) = w ++ 32 ∷ spaced ws
+
+-- the tokens of a span, which counts tokens
+abbrev pub tokens_in : TokenList → Span → List (List ℕ)
+tokens_in ts span = slice_range (tokens_of ts) span.from span.to
+
+-- The span lies within the tokens.
+pub record IsWithin (ts : TokenList) (span : Span) : Type 0 where
+  pub ahead : span.from ≤ span.to
+  pub within : span.to ≤ length (tokens_of ts)

@@ -1,0 +1,13 @@
+mod WordLists
+mod Ranges
+mod Spans
+mod HeadParts
+mod Foreign
+mod Decimals
+mod Adding
+mod Marks
+mod Holes
+mod Spelt
+mod Equations
+mod Declaring
+mod Once

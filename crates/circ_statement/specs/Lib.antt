@@ -1,0 +1,6 @@
+pub mod Words
+pub mod Heads
+pub mod Attributes
+pub mod Said
+pub mod Statement
+pub mod Reading
