@@ -3,7 +3,6 @@ ghost use Rattle.std.specs.Prelude.{◌≡◌, List, map, nat_eq, IfOk};
 ghost use Rattle.std.specs.Cmp.Lexicographic.{pointwise};
 ghost use Rattle.circ_lexer.specs.TokenList.{tokens_of, tokens_in, IsWithin};
 ghost use Rattle.circ_statement.specs.Said.{token_at, IsPlace};
-ghost use Rattle.circ_statement.specs.Words.{is_name, is_special_word, has_colon, is_reserved};
 ghost use Rattle.circ_read.specs.Does.{sort_named, sorts_named};
 ghost use Rattle.circ_read.specs.Steps.{Finds, FindsAll};
 
@@ -49,37 +48,6 @@ pub(crate) fn sorts_named(
         }
     }
     Ok(sorts)
-}
-
-// Whether a word is a name.
-pub(crate) fn is_name(word: &[u8]) -> bool
-    ensures { result ≡ is_name word.now }
-{
-    !(is_special_word(word) || has_colon(word) || is_reserved(word))
-}
-
-fn is_special_word(word: &[u8]) -> bool
-    ensures { result ≡ is_special_word word.now }
-{
-    match word {
-        [byte] => {
-            let b = *byte;
-            b == b'(' || b == b')' || b == b'[' || b == b']' || b == b'{' || b == b'}' || b == b','
-        }
-        _ => false,
-    }
-}
-
-fn has_colon(word: &[u8]) -> bool
-    ensures { result ≡ has_colon word.now }
-{
-    word.iter().any(|byte| *byte == b':')
-}
-
-fn is_reserved(word: &[u8]) -> bool
-    ensures { result ≡ is_reserved word.now }
-{
-    is_word(word, b".") || is_word(word, b"=") || is_word(word, b"->")
 }
 
 pub(crate) fn is_word(word: &[u8], text: &[u8]) -> bool

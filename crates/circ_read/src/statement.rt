@@ -15,7 +15,7 @@ use crate::operators::{Marks, add_operators};
 use crate::sorts::add_sorts;
 use crate::variables::add_variables;
 use circ_lexer::{Span, Tokens};
-use circ_statement::{Statement, StatementFault, read_statement};
+use circ_statement::{Statement, StatementFault, statement as read_statement};
 use circ_theory::{Text, Theory};
 use std::alloc::Global;
 

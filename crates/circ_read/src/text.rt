@@ -5,8 +5,9 @@ ghost use Rattle.circ_lexer.specs.TokenList.{tokens_of};
 ghost use Rattle.circ_read.specs.Text.{ending};
 ghost use Rattle.circ_read.specs.Steps.{has_word_at, GivesName, GivesHead, GivesStop};
 
-use crate::names::{is_name, is_word};
+use crate::names::is_word;
 use circ_lexer::Tokens;
+use circ_statement::is_name;
 
 // The head of a text.
 #[derive(Drop)]
