@@ -4,6 +4,7 @@ mod Parts
 mod Stops
 mod Walk
 mod Texts
+mod Growing
 mod Once
 mod TextOnce
 mod StatementOnce

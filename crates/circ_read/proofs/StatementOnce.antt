@@ -10,7 +10,7 @@ use Rattle.circ_read.specs.declared.cause.Cause.{Cause}
 use Rattle.circ_read.specs.declared.cause.Cause.TheVariants as cause
 use Rattle.circ_read.specs.Causes.{AreAlike, same, ambiguous}
 use Rattle.circ_read.specs.Does.{Does, Gives, too_many_tokens, no_reading, two_readings, one_reading, after}
-use Rattle.circ_read.specs.Text.{Leads, Fails}
+use Rattle.circ_read.specs.Text.{ReadsTo, FailsAt}
 use Rattle.circ_read.specs.Includes.{Scope, scope, Includes, again, unknown, whole, broken, DoesIn, DoesBy, included_name, in_scope, with_variables}
 use Rattle.circ_read.proofs.Once.{SaidOnce, alike_of, both_ambiguous}
 use Rattle.circ_read.proofs.TextOnce.{CutOnce, leads_once, leads_or_fails, fails_once}
@@ -75,19 +75,19 @@ module _ (cut : CutOnce) (law : SaidOnce) where
   includes_once s name r q (whole text u k e l) (unknown k' e') = absurd (cc)
   includes_once s name r q (whole text u k e l) (whole text' v k' e' l') =
       let t : text' ≡ text = cc in
-      let w = leads_once cut law Does does_once (λ _. with_variables s.theory []) text u v l (subst (λ x. Leads Does (λ _. with_variables s.theory []) x v) t l') in
+      let w = leads_once cut law Does does_once (λ _. with_variables s.theory []) text u v l (subst (λ x. ReadsTo Does (λ _. with_variables s.theory []) x v) t l') in
       subst (λ x. AreAlike r (Ok (scope (with_variables x s.theory.variables) (s.included ++ name ∷ [])))) (sym w) same
   includes_once s name r q (whole text u k e l) (broken text' n c k' e' l') =
       let t : text' ≡ text = cc in
-      absurd (leads_or_fails cut law Does does_once (λ _. with_variables s.theory []) text u n c l (subst (λ x. Fails Does (λ _. with_variables s.theory []) x n c) t l'))
+      absurd (leads_or_fails cut law Does does_once (λ _. with_variables s.theory []) text u n c l (subst (λ x. FailsAt Does (λ _. with_variables s.theory []) x n c) t l'))
   includes_once s name r q (broken text n c k e l) (again h) = absurd (cc)
   includes_once s name r q (broken text n c k e l) (unknown k' e') = absurd (cc)
   includes_once s name r q (broken text n c k e l) (whole text' u k' e' l') =
       let t : text ≡ text' = cc in
-      absurd (leads_or_fails cut law Does does_once (λ _. with_variables s.theory []) text' u n c l' (subst (λ x. Fails Does (λ _. with_variables s.theory []) x n c) t l))
+      absurd (leads_or_fails cut law Does does_once (λ _. with_variables s.theory []) text' u n c l' (subst (λ x. FailsAt Does (λ _. with_variables s.theory []) x n c) t l))
   includes_once s name r q (broken text n c k e l) (broken text' m d k' e' l') =
       let t : text' ≡ text = cc in
-      err_as c d (fails_once cut law Does does_once (λ _. with_variables s.theory []) text n m c d l (subst (λ x. Fails Does (λ _. with_variables s.theory []) x m d) t l')).1
+      err_as c d (fails_once cut law Does does_once (λ _. with_variables s.theory []) text n m c d l (subst (λ x. FailsAt Does (λ _. with_variables s.theory []) x m d) t l')).1
     where
       err_as : (c d : Cause) → AreAlike {A = Theory} (Err c) (Err d) → AreAlike {A = Scope} (Err c) (Err d)
       err_as c d same = same

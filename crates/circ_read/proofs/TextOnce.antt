@@ -7,7 +7,7 @@ use Rattle.circ_lexer.specs.TokenList.{AreTokens}
 use Rattle.circ_statement.specs.Said.{Said}
 use Rattle.circ_read.specs.declared.cause.Cause.{Cause}
 use Rattle.circ_read.specs.Causes.{AreAlike, same, byte_cause}
-use Rattle.circ_read.specs.Text.{IsHead, ending, Reaches, Breaks, Leads, Fails, at_a_byte, at_the_head, in_the_body}
+use Rattle.circ_read.specs.Text.{IsHead, ending, Reaches, Breaks, ReadsTo, FailsAt, at_a_byte, at_the_head, in_the_body}
 use Rattle.circ_read.proofs.Stops.{SameHead, head_once}
 use Rattle.circ_read.proofs.Once.{SaidOnce, ends_once, ends_or_breaks, breaks_once}
 
@@ -37,12 +37,12 @@ module _ (cut : CutOnce) (law : SaidOnce) {A : Type 0} (Does : A → Said → Re
   breaks_as o p n m b d s k c r =
       subst (λ x. Breaks Does (begin n) b x k c) (sym s.opened) (subst (λ x. Breaks Does (begin x) b p k c) (sym s.name) (subst (λ x. Breaks Does (begin m) x p k c) (sym s.body) r))
 
-  pub leads_once : (a b : A) → Leads Does begin bytes a → Leads Does begin bytes b → b ≡ a
+  pub leads_once : (a b : A) → ReadsTo Does begin bytes a → ReadsTo Does begin bytes b → b ≡ a
   leads_once a b h k =
       let heads = head_same cut bytes h.tokens k.tokens h.opened k.opened h.name k.name h.body k.body h.are_tokens k.are_tokens h.head k.head in
       sym (ends_once law Does does_once (begin h.name) h.body h.opened h.count k.count a b h.statements (reaches_as _ _ _ _ _ _ heads k.count b k.statements))
 
-  pub leads_or_fails : (a : A) (n : ℕ) (c : Cause) → Leads Does begin bytes a → Fails Does begin bytes n c → ⊥
+  pub leads_or_fails : (a : A) (n : ℕ) (c : Cause) → ReadsTo Does begin bytes a → FailsAt Does begin bytes n c → ⊥
   leads_or_fails a n c h (at_a_byte f k) = bad_or_tokens cut bytes f h.tokens k h.are_tokens
   leads_or_fails a n c h (at_the_head ws t lacks) = lacks h.opened h.name h.body (subst (λ x. IsHead x h.opened h.name h.body) (cut.tokens bytes ws h.tokens t h.are_tokens) h.head)
   leads_or_fails a n c h (in_the_body ws o m b k d t i e) =
@@ -53,7 +53,7 @@ module _ (cut : CutOnce) (law : SaidOnce) {A : Type 0} (Does : A → Said → Re
       → IsHead vs o m b → ⊥
   no_head_in_body ws vs o m b t u lacks i = lacks o m b (subst (λ x. IsHead x o m b) (cut.tokens bytes ws vs t u) i)
 
-  pub fails_once : (n m : ℕ) (c d : Cause) → Fails Does begin bytes n c → Fails Does begin bytes m d → (m ≡ n) × AreAlike {A = A} (Err c) (Err d)
+  pub fails_once : (n m : ℕ) (c d : Cause) → FailsAt Does begin bytes n c → FailsAt Does begin bytes m d → (m ≡ n) × AreAlike {A = A} (Err c) (Err d)
   fails_once n m c d (at_a_byte f h) (at_a_byte g k) = (refl, subst (λ x. AreAlike {A = A} (Err c) (Err x)) (ap byte_cause (sym (bad_once cut bytes f g h k))) same)
   fails_once n m c d (at_a_byte f h) (at_the_head ws t lacks) = absurd (bad_or_tokens cut bytes f ws h t)
   fails_once n m c d (at_a_byte f h) (in_the_body ws o x b k y t i e) = absurd (bad_or_tokens cut bytes f ws h t)

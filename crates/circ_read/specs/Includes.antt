@@ -7,7 +7,7 @@ use Rattle.circ_theory.specs.Theory.{Theory, Declared}
 use Rattle.circ_statement.specs.Said.{Said, inclusion, sorts, operators, variables, equation, derivative, cases}
 use Rattle.circ_read.specs.declared.cause.Cause.{Cause}
 use Rattle.circ_read.specs.declared.cause.Cause.TheVariants.{UnknownTheory}
-use Rattle.circ_read.specs.Text.{Leads, Fails}
+use Rattle.circ_read.specs.Text.{ReadsTo, FailsAt}
 use Rattle.circ_read.specs.Does.{Does, after}
 
 -- a theory, with the names of the library's theories that were included
@@ -37,9 +37,9 @@ text_named name = library_text name
 pub data Includes (s : Scope) (name : List ℕ) : Result Scope Cause → Type 0 where
   again : is_included s name ≡ true → Includes s name (Ok s)
   unknown : is_included s name ≡ false → text_named name ≡ None → Includes s name (Err UnknownTheory)
-  whole : (text : List ℕ) (u : Theory) → is_included s name ≡ false → text_named name ≡ Some text → Leads Does (λ _. with_variables s.theory []) text u
+  whole : (text : List ℕ) (u : Theory) → is_included s name ≡ false → text_named name ≡ Some text → ReadsTo Does (λ _. with_variables s.theory []) text u
       → Includes s name (Ok (scope (with_variables u s.theory.variables) (s.included ++ name ∷ [])))
-  broken : (text : List ℕ) (n : ℕ) (c : Cause) → is_included s name ≡ false → text_named name ≡ Some text → Fails Does (λ _. with_variables s.theory []) text n c
+  broken : (text : List ℕ) (n : ℕ) (c : Cause) → is_included s name ≡ false → text_named name ≡ Some text → FailsAt Does (λ _. with_variables s.theory []) text n c
       → Includes s name (Err c)
 
 abbrev pub included_name : Said → Option (List ℕ)

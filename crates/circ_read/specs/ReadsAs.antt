@@ -4,7 +4,7 @@ use Rattle.circ_theory.specs.Theory.{Theory}
 use Rattle.circ_read.specs.declared.cause.Cause.{Cause}
 use Rattle.circ_read.specs.declared.cause.ReadFault.{ReadFault}
 use Rattle.circ_read.specs.declared.cause.ReadFault.TheVariants.{Statement, Memory}
-use Rattle.circ_read.specs.Text.{Leads, Fails}
+use Rattle.circ_read.specs.Text.{ReadsTo, FailsAt}
 use Rattle.circ_read.specs.Includes.{Scope, scope, empty_theory, DoesIn}
 
 -- A theory begins without parts, and nothing is included.
@@ -14,11 +14,11 @@ begun name = scope (empty_theory name) []
 -- The bytes are a text whose statements lead to the theory.
 pub record ReadsAs (bytes : List ℕ) (th : Theory) : Type 0 where
   pub included : List (List ℕ)
-  pub leads : Leads DoesIn begun bytes (scope th included)
+  pub leads : ReadsTo DoesIn begun bytes (scope th included)
 
 -- The first cause in the bytes is this one, and stands in this statement.
 abbrev pub FirstCause : (bytes : List ℕ) (number : ℕ) → Cause → Type 0
-FirstCause bytes n c = Fails DoesIn begun bytes n c
+FirstCause bytes n c = FailsAt DoesIn begun bytes n c
 
 -- what reading a theory answers
 abbrev pub GivesTheory : Result Theory ReadFault → List ℕ → Type 0

@@ -5,16 +5,16 @@ use Rattle.circ_theory.specs.declared.fault.TheoryFault.{TheoryFault}
 use Rattle.circ_theory.specs.Theory.{Theory, Declared}
 use Rattle.circ_read.specs.declared.standin.Aside.{Aside}
 
-pub derivative_fault : Theory → Tree → Option TheoryFault
+abbrev pub derivative_fault : Theory → Tree → Option TheoryFault
 derivative_fault th t = None
 
-pub with_derivative : Theory → Tree → Theory
+abbrev pub with_derivative : Theory → Tree → Theory
 with_derivative th t = th
 
-pub cases_fault : Theory → ℕ → List ℕ → Option TheoryFault
+abbrev pub cases_fault : Theory → ℕ → List ℕ → Option TheoryFault
 cases_fault th s cs = None
 
-pub with_cases : Theory → ℕ → List ℕ → Theory
+abbrev pub with_cases : Theory → ℕ → List ℕ → Theory
 with_cases th s cs = th
 
 pub declared_of : Aside → List Declared

@@ -24,7 +24,7 @@ use Rattle.circ_read.specs.declared.cause.ReadFault.{ReadFault}
 use Rattle.circ_read.specs.declared.cause.ReadFault.TheVariants as at
 use Rattle.circ_read.specs.Does.{Does, GivesSides, GivesHole}
 use Rattle.circ_read.specs.Causes.{cause_of, byte_cause}
-use Rattle.circ_read.specs.Text.{HasNoStop, IsHead, IsNoHead, ending, IsNoStatement, Reaches, Breaks, Leads, Fails}
+use Rattle.circ_read.specs.Text.{HasNoStop, IsHead, IsNoHead, ending, IsNoStatement, Reaches, Breaks, ReadsTo, FailsAt}
 use Rattle.circ_read.specs.Includes.{Scope, scope, DoesIn}
 
 -- what a call answers that has an outcome: this value; or a cause; or memory ran out
@@ -134,8 +134,8 @@ pub data HasBody {A : Type 0} (Does : A → Said → Result A Cause → Type 0) 
 
 -- the last theory of a text that is read in a theory, or its first cause
 pub data HasText (th : Theory) (bytes : List ℕ) : Result Theory Cause → Type 0 where
-  text_leads : (u : Theory) → Leads Does (λ _. th) bytes u → HasText th bytes (Ok u)
-  text_fails : (n : ℕ) (c : Cause) → Fails Does (λ _. th) bytes n c → HasText th bytes (Err c)
+  text_reads_to : (u : Theory) → ReadsTo Does (λ _. th) bytes u → HasText th bytes (Ok u)
+  text_fails_at : (n : ℕ) (c : Cause) → FailsAt Does (λ _. th) bytes n c → HasText th bytes (Err c)
 
 -- the same as `HasBody`, with the number of the statement
 abbrev pub GivesBody : Result (Unit {0}) ReadFault → (first last : Scope) → (body : List (List ℕ)) (opened : Bool) → Type 0

@@ -53,7 +53,7 @@ pub data Breaks {A : Type 0} (Does : A → Said → Result A Cause → Type 0) (
   at_the_end : (k : ℕ) (a : A) (left : List (List ℕ)) → Reaches Does first body k a left → HasNoStop left → left ≢ ending opened → Breaks Does first body opened k cause.Shape
 
 -- The bytes are a text, whose statements lead from the value for its name to this one.
-pub record Leads {A : Type 0} (Does : A → Said → Result A Cause → Type 0) (begin : List ℕ → A) (bytes : List ℕ) (last : A) : Type 0 where
+pub record ReadsTo {A : Type 0} (Does : A → Said → Result A Cause → Type 0) (begin : List ℕ → A) (bytes : List ℕ) (last : A) : Type 0 where
   pub tokens : List (List ℕ)
   pub are_tokens : AreTokens bytes tokens
   pub opened : Bool
@@ -64,8 +64,8 @@ pub record Leads {A : Type 0} (Does : A → Said → Result A Cause → Type 0) 
   pub statements : Reaches Does (begin name) body count last (ending opened)
 
 -- The first cause in the bytes, with the number of its statement: 0 for a bad byte, 1 for the head, then each statement, and then the end.
-pub data Fails {A : Type 0} (Does : A → Said → Result A Cause → Type 0) (begin : List ℕ → A) (bytes : List ℕ) : (number : ℕ) → Cause → Type 0 where
-  at_a_byte : (f : LexFault) → IsFirstBad bytes f → Fails Does begin bytes 0 (byte_cause f)
-  at_the_head : (tokens : List (List ℕ)) → AreTokens bytes tokens → IsNoHead tokens → Fails Does begin bytes 1 cause.Shape
+pub data FailsAt {A : Type 0} (Does : A → Said → Result A Cause → Type 0) (begin : List ℕ → A) (bytes : List ℕ) : (number : ℕ) → Cause → Type 0 where
+  at_a_byte : (f : LexFault) → IsFirstBad bytes f → FailsAt Does begin bytes 0 (byte_cause f)
+  at_the_head : (tokens : List (List ℕ)) → AreTokens bytes tokens → IsNoHead tokens → FailsAt Does begin bytes 1 cause.Shape
   in_the_body : (tokens : List (List ℕ)) (opened : Bool) (name : List ℕ) (body : List (List ℕ)) (k : ℕ) (c : Cause) → AreTokens bytes tokens → IsHead tokens opened name body
-      → Breaks Does (begin name) body opened k c → Fails Does begin bytes (k + 2) c
+      → Breaks Does (begin name) body opened k c → FailsAt Does begin bytes (k + 2) c

@@ -147,6 +147,7 @@ impl Reader {
         requires text { text_named name.now ≡ Some text.now }
         ensures { Answers result (scope_of self.new) (Includes (scope_of self.old) name.now) }
     {
+        self.theory.known();
         let name = Text::of(self.alloc, name)?;
         let vars = take_vars(&mut self.theory)?;
         match add_text(self.alloc, &mut self.theory, text) {

@@ -1,8 +1,9 @@
 //! Stand-in for circ_theory.
 ghost use Rattle.std.specs.Prelude.{◌≡◌, IfOk, OnOk, OnErr, length, []};
-ghost use Rattle.circ_theory.specs.Signature.{IsWellSorted};
+ghost use Rattle.std.specs.List.{Contains};
+ghost use Rattle.circ_theory.specs.Signature.{IsWellSorted, IsSort};
+ghost use Rattle.circ_theory.specs.Theory.{Declared};
 ghost use Rattle.circ_theory.specs.Adding.{Numbers};
-ghost use Rattle.circ_theory.specs.Theory.{Theory as TheTheory};
 ghost use Rattle.circ_read.specs.Does.{constant_number};
 ghost use Rattle.circ_read.specs.StandIn.{derivative_fault, with_derivative, cases_fault, with_cases, declared_of};
 ghost use Rattle.circ_read.specs.Includes.{with_variables};
@@ -62,6 +63,7 @@ pub(crate) fn take_vars(_theory: &mut Theory) -> Result<Aside, AllocError>
 }
 
 pub(crate) fn put_vars(_theory: &mut Theory, vars: Aside) -> Result<(), AllocError>
+    requires { (d : Declared) → Contains (declared_of vars) d → IsSort _theory.old.signature d.sort }
     ensures { OnOk result (_theory.new ≡ with_variables _theory.old (declared_of vars)) }
 {
     let _ = vars;

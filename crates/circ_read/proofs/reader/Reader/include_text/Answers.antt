@@ -1,5 +1,7 @@
-use Rattle.std.proofs.Common.{sym, ◌∙◌}
+use Rattle.std.proofs.Common.{◌<◌, length, ap, subst, arith}
+use Rattle.std.specs.List.{Contains}
 use Rattle.circ_read.specs.Steps.{scope_of}
+use Rattle.circ_read.proofs.Growing.{text_grows}
 use Rattle.circ_read.proofs.Texts.{included_whole, included_broken}
 use Rattle.circ_read.proofs.reader.Reader.include_text.Goals as goal
 
@@ -11,3 +13,10 @@ pub returns : goal.returns
 returns c =
     let w = included_whole (scope_of c.args.self.now) c.args.name.now c.args.text.now c.requires.new c.requires.text c.take_vars.new._theory c.in_ok-vars.ensures.taken c.add_text.new.theory c.in-Ok.ensures in
     rw (c.in_ok-put_vars.ensures, c.in_ok-vars.ensures.kept, c.in_ok-push.ensures.items, c.in_ok-name.ensures) w
+
+pub put_vars-requires : goal.put_vars-requires
+put_vars-requires c = λ d h.
+    let g = text_grows c.take_vars.new._theory c.args.text.now c.add_text.new.theory c.in-Ok.ensures in
+    let sort : d.sort < length c.args.self.now.theory.signature.sorts = c.known.ensures.variables d (subst (λ vs. Contains vs d) c.in_ok-vars.ensures.kept h) in
+    let same = ap (λ th. length th.signature.sorts) c.in_ok-vars.ensures.taken in
+    omega arith
