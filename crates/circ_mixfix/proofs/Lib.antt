@@ -5,3 +5,7 @@ pub mod Reading
 pub mod WordLists
 pub mod Below
 pub mod RuleLists
+pub mod TakenBack
+pub mod Cut
+pub mod FormWords
+pub mod Printed

@@ -5,3 +5,6 @@ pub mod Spells
 pub mod Readings
 pub mod WordLists
 pub mod Coding
+pub mod Printing
+pub mod Printed
+pub mod PrintedExamples

@@ -5,12 +5,17 @@
 //! a term with its variables numbered by first occurrence.
 #![tactic(auto)]
 
+pub mod print_laws;
+#[cfg(test)]
+mod print_tests;
+mod printing;
 mod rules;
 mod spelling;
 #[cfg(test)]
 mod tests;
 mod words;
 
+pub use printing::{print, print_derivative, print_pair};
 pub use spelling::{Symbol, precedence, symbols};
 
 /// The most tokens of a list that is read.

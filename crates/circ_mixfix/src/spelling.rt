@@ -18,7 +18,7 @@ pub enum Symbol<'a> {
     Hole { sort: u32, below: u8 },
 }
 
-fn has_hole(pieces: &[Piece]) -> bool
+pub(crate) fn has_hole(pieces: &[Piece]) -> bool
     ensures { result ≡ list_any is_hole_piece pieces.now }
 {
     pieces.iter().any(|piece| match piece {
