@@ -12,7 +12,7 @@ use Rattle.circ_theory.specs.Signature.{Signature, Operator}
 use Rattle.circ_theory.specs.Theory.{Theory}
 use Rattle.circ_theory.specs.Adding.{sort_number, op_number, sort_fault, var_fault, op_fault, equation_fault, with_sort, with_var, with_op, with_equation}
 use Rattle.circ_parse.specs.Answers.{long_count, ReadsOnly, ReadsBoth}
-use Rattle.circ_parse.specs.Printing.{pair_text, derivative_text}
+use Rattle.circ_mixfix.specs.Printing.{text_of_term, text_of_pair}
 use Rattle.circ_statement.specs.Attributes.{Spelled}
 use Rattle.circ_statement.specs.Said.{Said, inclusion, sorts, operators, variables, equation, derivative, cases}
 use Rattle.circ_read.specs.declared.cause.Cause.{Cause}
@@ -82,12 +82,12 @@ pub data Gives (too_long : Option ℕ) (Reads : List Tree → Type 0) (shown : L
 abbrev pub sides_text : Theory → List Tree → List ℕ
 sides_text th [] = []
 sides_text th (t ∷ []) = []
-sides_text th (t ∷ u ∷ []) = pair_text th t u
+sides_text th (t ∷ u ∷ []) = text_of_pair th.signature (record { left = t; right = u })
 sides_text th (t ∷ u ∷ v ∷ ts) = []
 
 abbrev pub hole_text : Theory → List Tree → List ℕ
 hole_text th [] = []
-hole_text th (t ∷ []) = derivative_text th t
+hole_text th (t ∷ []) = text_of_term th.signature true t
 hole_text th (t ∷ u ∷ ts) = []
 
 -- the two sides of an equation, and the term of a derivative

@@ -8,7 +8,8 @@ ghost use Rattle.circ_read.specs.Steps.{Answers, ReadsHole, GivesDerivative};
 use crate::cause::{Cause, Fault, because, done};
 use crate::standin::add_derivative as add;
 use circ_lexer::{Span, Tokens};
-use circ_parse::{ParseFault, Reading, parse_one_declared, print_derivative};
+use circ_mixfix::print_derivative;
+use circ_parse::{ParseFault, Reading, parse_one_declared};
 use circ_term::Term;
 use circ_theory::{Text, Theory};
 use std::alloc::{AllocError, Global};
@@ -57,7 +58,7 @@ fn body_text(alloc: Global, theory: &Theory, reading: &Reading) -> Result<Text, 
 {
     let mut text = Vec::new(alloc);
     match reading.terms.as_slice() {
-        [term] => print_derivative(theory, term, &mut text)?,
+        [term] => print_derivative(alloc, theory, term, &mut text)?,
         _ => {}
     }
     Text::of(alloc, text.as_slice())

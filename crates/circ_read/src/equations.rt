@@ -7,7 +7,8 @@ ghost use Rattle.circ_read.specs.Steps.{Answers, ReadsSides, GivesEquation};
 
 use crate::cause::{Cause, Fault, because, done};
 use circ_lexer::{Span, Tokens};
-use circ_parse::{ParseFault, Reading, parse_pair_declared, print_pair};
+use circ_mixfix::print_pair;
+use circ_parse::{ParseFault, Reading, parse_pair_declared};
 use circ_term::Term;
 use circ_theory::{Text, Theory};
 use std::alloc::{AllocError, Global};
@@ -61,7 +62,7 @@ fn sides_text(alloc: Global, theory: &Theory, reading: &Reading) -> Result<Text,
 {
     let mut text = Vec::new(alloc);
     match reading.terms.as_slice() {
-        [left, right] => print_pair(theory, left, right, &mut text)?,
+        [left, right] => print_pair(alloc, theory, left, right, &mut text)?,
         _ => {}
     }
     Text::of(alloc, text.as_slice())

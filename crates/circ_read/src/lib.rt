@@ -17,6 +17,8 @@ mod reader;
 mod sorts;
 mod standin;
 mod statement;
+#[cfg(test)]
+mod tests;
 mod text;
 mod variables;
 
