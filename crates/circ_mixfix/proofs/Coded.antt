@@ -13,9 +13,9 @@ use Rattle.circ_theory.specs.Theory.{Declared}
 use Rattle.circ_mixfix.specs.Named.{Named, NamedList, Variable, Applied, no_terms, terms}
 use Rattle.circ_mixfix.specs.Symbols.{Symbol, Word, Hole, every, symbols_of}
 use Rattle.circ_mixfix.specs.Spells.{IsVariable, Spells, SpellsSymbols, in_parentheses, a_variable, an_operator, no_symbol, a_word, a_hole}
-use Rattle.circ_mixfix.specs.Coding.{text_at, texts_at, named_by, all_named_by, AreSymbols, HaveNumbers, IsGrammarOf}
+use Rattle.circ_mixfix.specs.Coding.{text_at, texts_at, named_by, all_named_by, AreSymbols, HaveNumbers, IsGrammarOf, AllBelow}
 
-text_is : (ws : List (List ℕ)) (n : ℕ) (w : List ℕ) → slice_get ws n ≡ Some w → text_at ws n ≡ w
+pub text_is : (ws : List (List ℕ)) (n : ℕ) (w : List ℕ) → slice_get ws n ≡ Some w → text_at ws n ≡ w
 text_is ws n w e = ap (λ o. unwrap_or o []) e
 
 mutual
@@ -58,15 +58,11 @@ mutual
       a_hole (texts_at ws first) (texts_at ws rest) (subst Q (sym a.0.0) (subst P (sym a.0.1) q)) (row_from_chart sig vars hole ws k g h ps cs rest args r a.1)
       (ap (texts_at ws) e ∙ map-append (text_at ws) first rest)
 
-abbrev pub AllBelow : ℕ → List ℕ → Type 0
-AllBelow k [] = Unit {0}
-AllBelow k (n ∷ ns) = (n < k) × AllBelow k ns
-
 below_split : (k : ℕ) (ms ns : List ℕ) → AllBelow k (ms ++ ns) → AllBelow k ms × AllBelow k ns
 below_split k [] ns h = (tt, h)
 below_split k (m ∷ ms) ns h = let r = below_split k ms ns h.1 in ((h.0, r.0), r.1)
 
-text_listed : (ws : List (List ℕ)) (n : ℕ) → n < length ws → slice_get ws n ≡ Some (text_at ws n)
+pub text_listed : (ws : List (List ℕ)) (n : ℕ) → n < length ws → slice_get ws n ≡ Some (text_at ws n)
 text_listed ws n l = slice_get-get_or ws n [] l ∙ ap (λ w. Some w) (sym (unwrap_or-slice_get ws n []))
 
 -- numbers whose texts are given
@@ -207,16 +203,16 @@ mutual
 
 -- the variables' numbers are numbers of texts
 abbrev mutual
-  AreKnown : List (List ℕ) → Tree → Type 0
+  pub AreKnown : List (List ℕ) → Tree → Type 0
   AreKnown ws (Var n s) = n < length ws
   AreKnown ws (App f s ts) = AreAllKnown ws ts
 
-  AreAllKnown : List (List ℕ) → Trees → Type 0
+  pub AreAllKnown : List (List ℕ) → Trees → Type 0
   AreAllKnown ws none = Unit {0}
   AreAllKnown ws (more t ts) = AreKnown ws t × AreAllKnown ws ts
 
 mutual
-  chart_known : (sig : Signature) (vars : List Declared) (hole : Bool) (ws : List (List ℕ)) (k : ℕ) (g : Grammar) → IsGrammarOf sig vars hole ws k g
+  pub chart_known : (sig : Signature) (vars : List Declared) (hole : Bool) (ws : List (List ℕ)) (k : ℕ) (g : Grammar) → IsGrammarOf sig vars hole ws k g
       → (b s : ℕ) (ns : List ℕ) (t : Tree) → chart_spells.Spells g b s ns t → AreKnown ws t
   chart_known sig vars hole ws k g h b s ns t (chart_spells.in_parentheses inner lo r e) = chart_known sig vars hole ws k g h _ s inner t r
   chart_known sig vars hole ws k g h b s ns t (chart_spells.a_variable n v lo l e f z) =

@@ -1,12 +1,7 @@
 -- Images of sets of which at most two members are kept.
 use Rattle.std.proofs.Common.{◌≡◌, ◌⊎◌, inl, inr, refl}
 use Rattle.circ_chart.specs.Few.{Enough, Differ}
-
--- the image of a set
-pub record Image {X Y : Type 0} (f : X → Y) (E : X → Type 0) (y : Y) : Type 0 where
-  pub from : X
-  pub has : E from
-  pub is : y ≡ f from
+use Rattle.circ_mixfix.specs.Found.{Image}
 
 pub enough_image : {X Y : Type 0} (f : X → Y) (E P : X → Type 0) → ((x y : X) → P x → P y → f x ≡ f y → x ≡ y) → Enough E P → Enough (Image f E) (Image f P)
 enough_image f E P inj a = record {

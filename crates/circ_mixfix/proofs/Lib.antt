@@ -1,7 +1,7 @@
 pub mod Names
 pub mod Coded
 pub mod Images
-pub mod Reading
+pub mod ReadingSets
 pub mod WordLists
 pub mod Below
 pub mod RuleLists
@@ -9,3 +9,12 @@ pub mod TakenBack
 pub mod Cut
 pub mod FormWords
 pub mod Printed
+pub mod Written
+pub mod TokenNumbers
+pub mod SymbolWords
+pub mod Assembly
+pub mod Order
+pub mod FoundSets
+pub mod NumberNames
+pub mod Kept
+pub mod Telling

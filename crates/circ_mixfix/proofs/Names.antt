@@ -10,7 +10,7 @@ use Rattle.circ_mixfix.specs.Symbols.{Symbol, Word, Hole, every, symbols_of}
 use Rattle.circ_mixfix.specs.Spells.{HasNoColon, IsVariable, a_declared_one, a_written_one, the_hole, Spells, SpellsSymbols, in_parentheses, a_variable, an_operator, no_symbol, a_word, a_hole}
 
 -- the bytes before the first ':', if there is one
-abbrev before_colon : List ℕ → Option (List ℕ)
+abbrev pub before_colon : List ℕ → Option (List ℕ)
 before_colon [] = None
 before_colon (b ∷ w) = cond (b == 58) (Some []) (option_map (λ n. b ∷ n) (before_colon w))
 
@@ -30,7 +30,7 @@ symbols_in (Some o) = symbols_of o
 abbrev forms : Signature → ℕ → List Symbol
 forms sig f = symbols_in (slice_get sig.ops f)
 
-no_colon : (w : List ℕ) → HasNoColon w → before_colon w ≡ None
+pub no_colon : (w : List ℕ) → HasNoColon w → before_colon w ≡ None
 no_colon [] h = refl
 no_colon (b ∷ w) h = go (λ k. no_colon w k) (b == 58) refl h
   where
@@ -38,7 +38,7 @@ no_colon (b ∷ w) h = go (λ k. no_colon w k) (b == 58) refl h
     go ih true e k = absurd (let z = rw e at k in cc)
     go ih false e k = rw e (ap (option_map (λ n. b ∷ n)) (ih (rw e at k)))
 
-colon_at : (n w : List ℕ) → HasNoColon n → before_colon (n ++ 58 ∷ w) ≡ Some n
+pub colon_at : (n w : List ℕ) → HasNoColon n → before_colon (n ++ 58 ∷ w) ≡ Some n
 colon_at [] w h = refl
 colon_at (b ∷ n) w h = go (λ k. colon_at n w k) (b == 58) refl h
   where

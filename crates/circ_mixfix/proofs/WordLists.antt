@@ -1,5 +1,5 @@
 -- Places in lists of different texts.
-use Rattle.std.proofs.Common.{◌≡◌, ◌⊎◌, ◌<◌, ◌++◌, ℕ, zero, suc, List, [], ◌∷◌, map, length, get_or, Bool, true, false, ◌||◌, Some, option_map, nat_eq, inl, inr, sym, ◌∙◌, ap, subst, refl, arith}
+use Rattle.std.proofs.Common.{◌≡◌, ◌⊎◌, ◌<◌, ◌≤◌, ◌+◌, ◌++◌, ℕ, zero, suc, List, [], ◌∷◌, map, length, get_or, Bool, true, false, ◌||◌, Some, option_map, nat_eq, inl, inr, sym, ◌∙◌, ap, subst, refl, arith, codes}
 use Rattle.std.specs.Prelude.{if◌then◌else◌, position}
 use Rattle.std.specs.List.{slice_get, list_any}
 use Rattle.std.specs.Cmp.Lexicographic.{pointwise, bytes_decides}
@@ -8,7 +8,8 @@ use Rattle.std.proofs.lemmas.List.Quantifiers.{position-Some}
 use Rattle.std.proofs.lemmas.Bool.{cases_eq}
 use Rattle.std.proofs.lemmas.Option.{slice_get_within, slice_get-get_or, slice_get-map}
 use Rattle.indexmap.specs.IndexSet.{insert_key}
-use Rattle.circ_mixfix.specs.WordLists.{AreDifferent, with_text}
+use Rattle.circ_theory.specs.Names.{AreDifferent}
+use Rattle.circ_mixfix.specs.WordLists.{with_text, GrowsTo, BeginAlike}
 
 -- what is not there has no place
 not_there : (ws : List (List ℕ)) (w : List ℕ) → list_any (pointwise nat_eq w) ws ≡ false → (n : ℕ) → slice_get ws n ≡ Some w → ⊥
@@ -81,3 +82,50 @@ different_with ws w d = go (list_any (pointwise nat_eq w) ws) refl
     go : (b : Bool) → list_any (pointwise nat_eq w) ws ≡ b → AreDifferent (if list_any (pointwise nat_eq w) ws then ws else ws ++ w ∷ [])
     go true h = rw h d
     go false h = rw h (different_more ws w d h)
+
+-- a text that is there
+pub there : (ws : List (List ℕ)) (w : List ℕ) (n : ℕ) → slice_get ws n ≡ Some w → list_any (pointwise nat_eq w) ws ≡ true
+there [] w n e = absurd (cc)
+there (v ∷ ws) w zero e = let q : v ≡ w = cc in let t = (bytes_decides w v).1 (sym q) in rw t refl
+there (v ∷ ws) w (suc n) e = go (there ws w n e) (pointwise nat_eq w v)
+  where
+    go : list_any (pointwise nat_eq w) ws ≡ true → (b : Bool) → (b || list_any (pointwise nat_eq w) ws) ≡ true
+    go h true = refl
+    go h false = h
+
+-- stays where it is
+pub with_there : (ws : List (List ℕ)) (w : List ℕ) (n : ℕ) → slice_get ws n ≡ Some w → with_text ws w ≡ ws
+with_there ws w n e = rw (there ws w n e) refl
+
+absent : (ws : List (List ℕ)) (w : List ℕ) → ((n : ℕ) → slice_get ws n ≡ Some w → ⊥) → list_any (pointwise nat_eq w) ws ≡ false
+absent [] w h = refl
+absent (v ∷ ws) w h = go (absent ws w (λ n. h (suc n))) (pointwise nat_eq w v) refl
+  where
+    go : list_any (pointwise nat_eq w) ws ≡ false → (b : Bool) → pointwise nat_eq w v ≡ b → (b || list_any (pointwise nat_eq w) ws) ≡ false
+    go rest true e = absurd (h zero (ap (λ x. Some x) (sym ((bytes_decides w v).0 e))))
+    go rest false e = rest
+
+-- a new one goes last
+pub last_added : (ws : List (List ℕ)) (w : List ℕ) → ((n : ℕ) → slice_get ws n ≡ Some w → ⊥) → slice_get (with_text ws w) (length ws) ≡ Some w
+last_added ws w h = rw (absent ws w h) (get_last ws w)
+
+pub grows_none : (ws : List (List ℕ)) → GrowsTo ws ws 0
+grows_none ws = record { kept = λ i w e. e; longer = omega arith; few = omega arith }
+
+pub grows_chain : (us ws vs : List (List ℕ)) (m n : ℕ) → GrowsTo us ws m → GrowsTo ws vs n → GrowsTo us vs (m + n)
+grows_chain us ws vs m n a b = let x = a.longer in let y = b.longer in let p = a.few in let q = b.few in
+    record { kept = λ i w e. b.kept i w (a.kept i w e); longer = omega arith; few = omega arith }
+
+pub grows_more : (ws vs : List (List ℕ)) (m n : ℕ) → m ≤ n → GrowsTo ws vs m → GrowsTo ws vs n
+grows_more ws vs m n l a = let x = a.longer in let p = a.few in record { kept = a.kept; longer = x; few = omega arith }
+
+pub grows_with : (ws : List (List ℕ)) (w : List ℕ) → GrowsTo ws (with_text ws w) 1
+grows_with ws w = go (list_any (pointwise nat_eq w) ws)
+  where
+    go : (b : Bool) → GrowsTo ws (if b then ws else ws ++ w ∷ []) 1
+    go true = grows_more ws ws 0 1 (omega arith) (grows_none ws)
+    go false = let l = length-append ws (w ∷ []) in
+        record { kept = λ i v e. get_front ws w i (slice_get_within ws i v e) ∙ e; longer = omega arith; few = omega arith }
+
+pub begin_kept : (ws vs : List (List ℕ)) (n : ℕ) → GrowsTo ws vs n → BeginAlike ws → BeginAlike vs
+begin_kept ws vs n g b = record { opening = g.kept 0 (codes "(") b.opening; closing = g.kept 1 (codes ")") b.closing; hole = g.kept 2 [] b.hole }

@@ -12,7 +12,7 @@ use Rattle.circ_theory.specs.Theory.{Declared}
 use Rattle.circ_mixfix.specs.Named.{Named, NamedList, Variable, Applied, no_terms, terms}
 use Rattle.circ_mixfix.specs.Symbols.{Symbol, Word, Hole, every, symbols_of, precedence_of}
 use Rattle.circ_mixfix.specs.Spells.{IsVariable}
-use Rattle.circ_mixfix.specs.WordLists.{AreDifferent}
+use Rattle.circ_theory.specs.Names.{AreDifferent}
 
 abbrev pub text_at : List (List ℕ) → ℕ → List ℕ
 text_at ws n = unwrap_or (slice_get ws n) []
@@ -20,6 +20,15 @@ text_at ws n = unwrap_or (slice_get ws n) []
 -- the texts of numbers
 abbrev pub texts_at : List (List ℕ) → List ℕ → List (List ℕ)
 texts_at ws ns = map (text_at ws) ns
+
+abbrev pub AllBelow : ℕ → List ℕ → Type 0
+AllBelow k [] = Unit {0}
+AllBelow k (n ∷ ns) = (n < k) × AllBelow k ns
+
+-- the numbers of these texts
+pub record AreNumbers (ws : List (List ℕ)) (ns : List ℕ) (us : List (List ℕ)) : Type 0 where
+  pub texts : texts_at ws ns ≡ us
+  pub below : AllBelow (length ws) ns
 
 -- the term whose variables have the texts of their numbers as names
 abbrev mutual

@@ -8,3 +8,7 @@ pub mod Coding
 pub mod Printing
 pub mod Printed
 pub mod PrintedExamples
+pub mod Variables
+pub mod Numbering
+pub mod Found
+pub mod Answers

@@ -5,6 +5,10 @@
 //! a term with its variables numbered by first occurrence.
 #![tactic(auto)]
 
+mod found;
+mod grammars;
+mod numbering;
+mod parse;
 pub mod print_laws;
 #[cfg(test)]
 mod print_tests;
@@ -13,8 +17,12 @@ mod rules;
 mod spelling;
 #[cfg(test)]
 mod tests;
+mod tokens;
+mod variables;
 mod words;
 
+pub use found::Reading;
+pub use parse::{ParseFault, parse_one, parse_pair};
 pub use printing::{print, print_derivative, print_pair};
 pub use spelling::{Symbol, precedence, symbols};
 
@@ -23,3 +31,6 @@ pub const MOST_TOKENS: usize = 256;
 
 /// Each precedence is below this one.
 pub const EVERY: u8 = 128;
+
+// The number of the hole's name, which is the empty text, among the texts of tokens.
+const HOLE: u32 = 2;

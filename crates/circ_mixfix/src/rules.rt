@@ -15,7 +15,7 @@ use circ_theory::{OpDecl, Theory};
 use std::alloc::{AllocError, Global};
 
 // The chart's symbol, where a word has a number.
-fn coded_symbol(words: &Words, symbol: &Symbol<'_>) -> Option<ChartSymbol>
+fn coded_symbol(words: &Words<'_>, symbol: &Symbol<'_>) -> Option<ChartSymbol>
     requires few { length words.now ≤ 2 ^ 32 }
     requires below { IsBelow (symbol_of symbol.now) }
     ensures { GivesSymbol words.now (symbol_of symbol.now) result }
@@ -35,7 +35,7 @@ fn coded_symbol(words: &Words, symbol: &Symbol<'_>) -> Option<ChartSymbol>
 // The chart's symbols, where each word has a number.
 fn coded(
     alloc: Global,
-    words: &Words,
+    words: &Words<'_>,
     symbols: &[Symbol<'_>],
 ) -> Result<Option<Vec<ChartSymbol>>, AllocError>
     requires few { length words.now ≤ 2 ^ 32 }
@@ -55,7 +55,7 @@ fn coded(
 // The chart's rule for an operator, where each of its words has a number.
 fn rule(
     alloc: Global,
-    words: &Words,
+    words: &Words<'_>,
     number: u32,
     decl: &OpDecl,
 ) -> Result<Option<Rule>, AllocError>
@@ -82,7 +82,7 @@ fn rule(
 fn with_rule(
     alloc: Global,
     out: Vec<Rule>,
-    words: &Words,
+    words: &Words<'_>,
     theory: &Theory,
     number: u32,
 ) -> Result<Vec<Rule>, AllocError>
@@ -104,7 +104,7 @@ fn with_rule(
 }
 
 // The rules of all operators whose words have numbers.
-pub fn rules(alloc: Global, words: &Words, theory: &Theory) -> Result<Vec<Rule>, AllocError>
+pub fn rules(alloc: Global, words: &Words<'_>, theory: &Theory) -> Result<Vec<Rule>, AllocError>
     requires few { length words.now ≤ 2 ^ 32 }
     ensures { IfOk result (λ v. HasRules theory.now.signature words.now (length theory.now.signature.ops) v.items) }
 {

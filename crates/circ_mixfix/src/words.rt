@@ -1,6 +1,9 @@
 //! Texts by number.
-ghost use Rattle.std.specs.Prelude.{◌≡◌, ◌<◌, ◌^◌, [], length, OnOk, OnErr};
-ghost use Rattle.circ_mixfix.specs.WordLists.{AreDifferent, IsNumber, with_text};
+ghost use Rattle.std.specs.Prelude.{◌≡◌, ◌<◌, ◌^◌, [], Some, length, IfOk, OnOk, OnErr};
+ghost use Rattle.std.specs.List.{slice_get};
+ghost use Rattle.std.specs.Option.{option_copied};
+ghost use Rattle.circ_theory.specs.Names.{AreDifferent};
+ghost use Rattle.circ_mixfix.specs.WordLists.{IsNumber, with_text};
 
 use indexmap::IndexSet;
 use std::alloc::{AllocError, Global};
@@ -8,29 +11,27 @@ use std::marker::Model;
 
 // Different texts, numbered from 0 in the order in which they were added.
 #[derive(Drop)]
-pub struct Words {
-    alloc: Global,
-    texts: IndexSet<Vec<u8>>,
+pub struct Words<'a> {
+    texts: IndexSet<&'a [u8]>,
 }
 
-impl Model for Words {
+impl<'a> Model for Words<'a> {
     ghost use Rattle.std.specs.Prelude.{List, ℕ, map};
-    ghost use Rattle.circ_mixfix.specs.WordLists.{AreDifferent};
+    ghost use Rattle.circ_theory.specs.Names.{AreDifferent};
 
     ghost Value = { List (List ℕ) };
 
-    ghost view = { λ a. map (λ k. k.items) a.texts.keys };
+    ghost view = { λ a. map (λ k. k.now) a.texts.keys };
 
-    ghost invariant = { λ a. AreDifferent (map (λ k. k.items) a.texts.keys) };
+    ghost invariant = { λ a. AreDifferent (map (λ k. k.now) a.texts.keys) };
 }
 
-impl Words {
+impl<'a> Words<'a> {
     // No text.
-    pub fn new(alloc: Global) -> Words
+    pub fn new(alloc: Global) -> Words<'a>
         ensures { result ≡ [] }
     {
         Words {
-            alloc,
             texts: IndexSet::new(alloc),
         }
     }
@@ -50,6 +51,16 @@ impl Words {
         self.texts.len()
     }
 
+    // A text by its number.
+    pub fn text(&self, number: usize) -> Option<&'a [u8]>
+        ensures { option_copied result ≡ slice_get self.now number }
+    {
+        match self.texts.get_index(number) {
+            Some(text) => Some(*text),
+            None => None,
+        }
+    }
+
     // The number of a text.
     pub fn number(&self, text: &[u8]) -> Option<usize>
         ensures { IsNumber self.now text.now result }
@@ -60,13 +71,17 @@ impl Words {
         }
     }
 
-    // Adds a text, if it is not there.
-    pub fn add(&mut self, text: &[u8]) -> Result<(), AllocError>
+    // The number of a text, which is added if it is not there.
+    pub fn add(&mut self, text: &'a [u8]) -> Result<usize, AllocError>
         ensures added { OnOk result (self.new ≡ with_text self.old text.now) }
+        ensures number { IfOk result (λ n. slice_get self.new n ≡ Some text.now) }
         ensures err { OnErr result (self.new ≡ self.old) }
     {
-        let copy = Vec::from_slice(self.alloc, text)?;
-        self.texts.insert(copy)?;
-        Ok(())
+        if let Some(number) = self.number(text) {
+            return Ok(number);
+        }
+        let number = self.count();
+        self.texts.insert(text)?;
+        Ok(number)
     }
 }

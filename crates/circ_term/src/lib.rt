@@ -13,7 +13,7 @@ mod tests;
 
 pub use bindings::Subst;
 pub use fault::TermFault;
-pub use node::{Kind, Term};
+pub use node::{Kind, Term, cmp_all};
 
 /// The most nodes of a term, counted as a tree.
 pub const MOST_NODES: u64 = 1_000_000;

@@ -370,8 +370,9 @@ fn same_all(a: &[Term], b: &[Term]) -> bool
     true
 }
 
+/// How a list of terms stands to another: the first place where they differ decides, and a list comes before its continuations.
 #[cycle(cmp)]
-fn cmp_all(a: &[Term], b: &[Term]) -> Ordering
+pub fn cmp_all(a: &[Term], b: &[Term]) -> Ordering
     ensures { result ≡ trees_cmp (trees_of a.now) (trees_of b.now) }
 {
     for i in 0..a.len().min(b.len()) {

@@ -7,3 +7,4 @@ pub mod Binding
 pub mod Faults
 pub mod Sorted
 pub mod Gathering
+pub mod Distinct

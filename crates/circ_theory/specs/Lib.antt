@@ -18,3 +18,4 @@ pub mod Rewriting
 pub mod Examples
 pub mod Renumbering
 pub mod Occurring
+pub mod Names

@@ -20,7 +20,7 @@ pub use fault::TheoryFault;
 pub use forms::{Form, FormFault, Piece, Text};
 pub use order::in_order;
 pub use parts::{Equation, Goal, OpDecl, Script, Side};
-pub use renumber::renumbered;
+pub use renumber::{Occurring, gather, renumbered};
 pub use replay::{Link, Way, follow};
 pub use theories::Theory;
 

@@ -13,11 +13,11 @@ use circ_term::{Kind, Subst, Term};
 use indexmap::IndexSet;
 use std::alloc::{AllocError, Global};
 
-// A variable that occurs.
+/// A variable that occurs in a term.
 #[derive(Clone, Copy, PartialEq, Eq, Hash)]
-struct Occurring {
-    number: u32,
-    sort: u32,
+pub struct Occurring {
+    pub number: u32,
+    pub sort: u32,
 }
 
 /// The two terms with their variables numbered anew: they get the numbers 0, 1 and so on by their first occurrence, the left
@@ -38,9 +38,9 @@ pub fn renumbered(alloc: Global, left: &Term, right: &Term) -> Result<(Term, Ter
     Ok((left, right))
 }
 
-// Adds the term's variables to those that were seen so far.
+/// Adds the term's variables to those that were seen so far, by first occurrence.
 #[cycle(gather)]
-fn gather(term: &Term, variables: &mut IndexSet<Occurring>) -> Result<(), AllocError>
+pub fn gather(term: &Term, variables: &mut IndexSet<Occurring>) -> Result<(), AllocError>
     ensures { OnOk result (map variable_of variables.new.keys ≡ seen_in term.now (map variable_of variables.old.keys)) }
 {
     match term.kind() {

@@ -12,6 +12,7 @@ ghost use Rattle.circ_theory.specs.Operators.{operator_of, is_ill_sorted, hole_c
 ghost use Rattle.circ_theory.specs.WellFormed.{IsWellFormed};
 ghost use Rattle.circ_theory.specs.Adding.{Numbers, sort_number, sort_fault, op_fault, equation_fault, var_number, old_var_fault, new_var_fault, var_fault, count_fault, unknown_sort, with_sort, with_var, with_op, with_equation, application};
 ghost use Rattle.circ_theory.specs.Inside.{IsKeyOf};
+ghost use Rattle.circ_theory.specs.Names.{AreDifferent, names_of};
 
 use crate::fault::TheoryFault;
 use crate::forms::{Piece, Text};
@@ -83,6 +84,15 @@ impl Theory {
         ensures { IsWellFormed self.now }
     {
         let _ = &self.name;
+    }
+
+    /// Does nothing. Its contract is the law of names: no two sorts have one name, and no two variables.
+    pub fn known_names(&self)
+        ensures sorts { AreDifferent self.now.signature.sorts }
+        ensures variables { AreDifferent (names_of self.now.variables) }
+    {
+        let _ = self.sort_count();
+        let _ = self.var_count();
     }
 
     /// Adds a sort, and answers its number. `Twice` carries the number of the sort that has the name.
@@ -220,10 +230,11 @@ impl Theory {
         self.name.bytes()
     }
 
-    /// The number of sorts.
+    /// The number of sorts, whose names are different.
     pub fn sort_count(&self) -> u32
         ensures count { result ≡ length self.now.signature.sorts }
         ensures few { result ≤ MOST_SORTS }
+        ensures different { AreDifferent self.now.signature.sorts }
     {
         self.sorts.len() as u32
     }
@@ -248,10 +259,11 @@ impl Theory {
         }
     }
 
-    /// The number of declared variables.
+    /// The number of declared variables, whose names are different.
     pub fn var_count(&self) -> u32
         ensures count { result ≡ length self.now.variables }
         ensures few { result ≤ MOST_VARS }
+        ensures different { AreDifferent (names_of self.now.variables) }
     {
         self.vars.len() as u32
     }

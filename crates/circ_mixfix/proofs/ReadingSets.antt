@@ -12,10 +12,11 @@ use Rattle.circ_mixfix.specs.Named.{Named, numbered, seen_in, place_from}
 use Rattle.circ_mixfix.specs.Symbols.{every}
 use Rattle.circ_mixfix.specs.Spells.{Spells}
 use Rattle.circ_mixfix.specs.Readings.{numbers_of, reading_of, ReadsOne, ReadsPair}
-use Rattle.circ_mixfix.specs.Coding.{texts_at, named_by, IsGrammarOf}
+use Rattle.circ_mixfix.specs.Coding.{texts_at, named_by, IsGrammarOf, AllBelow}
 use Rattle.circ_mixfix.proofs.Names.{spellings_apart}
-use Rattle.circ_mixfix.proofs.Coded.{AllBelow, from_chart, to_chart, spelled_apart}
-use Rattle.circ_mixfix.proofs.Images.{Image, enough_image}
+use Rattle.circ_mixfix.proofs.Coded.{from_chart, to_chart, spelled_apart}
+use Rattle.circ_mixfix.specs.Found.{Image}
+use Rattle.circ_mixfix.proofs.Images.{enough_image}
 
 -- of the named terms of one sort
 pub each_sort_named : (sig : Signature) (vars : List Declared) (hole : Bool) (ws : List (List ℕ)) (k : ℕ) (g : Grammar) (ns : List ℕ) (us : List Tree) → IsGrammarOf sig vars hole ws k g → AllBelow k ns
@@ -58,7 +59,7 @@ pub record TwoTrees : Type 0 where
 abbrev pub two_named : Named → Named → TwoNamed
 two_named q r = record { first = q; second = r }
 
-abbrev two_trees : Tree → Tree → TwoTrees
+abbrev pub two_trees : Tree → Tree → TwoTrees
 two_trees t u = record { first = t; second = u }
 
 -- both terms, with their variables numbered over both

@@ -1,0 +1,76 @@
+-- Readings that were found, as lists of terms.
+use Rattle.std.specs.Prelude.{◌≡◌, ◌⊎◌, Bool, List, [], ◌∷◌, Result, Ok, Err}
+use Rattle.std.proofs.Common.{Less}
+use Rattle.circ_term.specs.Tree.{Tree, trees_of, sort_of}
+use Rattle.circ_term.specs.Order.{trees_cmp}
+use Rattle.circ_chart.specs.Few.{Enough, Or}
+use Rattle.circ_chart.specs.Tops.{Among}
+use Rattle.circ_theory.specs.Theory.{Pair, pair_with}
+use Rattle.circ_theory.specs.Variables.{IsInOrder}
+use Rattle.circ_theory.specs.Renumbering.{renumbered}
+use Rattle.circ_mixfix.specs.Numbering.{numbered_anew}
+use Rattle.circ_mixfix.specs.declared.found.Reading.{Reading}
+use Rattle.circ_mixfix.specs.declared.parse.ParseFault.{ParseFault}
+use Rattle.circ_mixfix.specs.declared.parse.ParseFault.TheVariants.{NoParse, Ambiguous}
+use Rattle.circ_mixfix.specs.declared.found.Found.{Found}
+use Rattle.circ_mixfix.specs.declared.found.Found.TheVariants.{Nothing, One, Two}
+
+abbrev pub In : Found → List Tree → Type 0
+In Nothing ts = ⊥
+In (One a) ts = ts ≡ a.terms.items
+In (Two a b) ts = (ts ≡ a.terms.items) ⊎ (ts ≡ b.terms.items)
+
+-- two readings are in order
+abbrev pub AreOrdered : Found → Type 0
+AreOrdered Nothing = Unit {0}
+AreOrdered (One a) = Unit {0}
+AreOrdered (Two a b) = trees_cmp (trees_of a.terms.items) (trees_of b.terms.items) ≡ Less
+
+abbrev pub IsTwo : Found → Type 0
+IsTwo Nothing = ⊥
+IsTwo (One a) = ⊥
+IsTwo (Two a b) = Unit {0}
+
+-- the found ones are all that P is true of, or two of several
+pub record Keeps (found : Found) (P : List Tree → Type 0) : Type 0 where
+  pub enough : Enough (In found) P
+  pub ordered : AreOrdered found
+
+-- the image of a set
+pub record Image {X Y : Type 0} (f : X → Y) (E : X → Type 0) (y : Y) : Type 0 where
+  pub from : X
+  pub has : E from
+  pub is : y ≡ f from
+
+-- one of the terms, with its variables numbered anew
+abbrev pub OneRead : Bool → List Tree → List Tree → Type 0
+OneRead hole us ts = Image (λ t. numbered_anew hole t ∷ []) (Among us) ts
+
+abbrev pub terms_of : Pair → List Tree
+terms_of p = p.left ∷ p.right ∷ []
+
+-- the left term with one of the right ones, of one sort, with their variables numbered anew
+pub record RightRead (left : Tree) (rights : List Tree) (ts : List Tree) : Type 0 where
+  pub right : Tree
+  pub listed : Among rights right
+  pub same_sort : sort_of right ≡ sort_of left
+  pub is : ts ≡ terms_of (renumbered (pair_with left right))
+
+-- one of the left terms with one of the right ones
+pub record BothRead (lefts rights : List Tree) (ts : List Tree) : Type 0 where
+  pub left : Tree
+  pub listed : Among lefts left
+  pub with_right : RightRead left rights ts
+
+-- the terms are a pair that is numbered in order
+abbrev pub IsPairInOrder : List Tree → Type 0
+IsPairInOrder ts = (p : Pair) × (ts ≡ terms_of p) × IsInOrder p
+
+abbrev pub AreInOrder : Found → Type 0
+AreInOrder found = (ts : List Tree) → In found ts → IsPairInOrder ts
+
+-- the answer that tells of what was found
+abbrev pub Tells : Found → Result Reading ParseFault → Type 0
+Tells Nothing r = r ≡ Err NoParse
+Tells (One a) r = r ≡ Ok a
+Tells (Two a b) r = r ≡ Err (Ambiguous a b)

@@ -1,0 +1,51 @@
+//! Terms of the chart, with their variables numbered anew.
+ghost use Rattle.std.specs.Prelude.{◌≡◌, ◌<◌, ◌^◌, map, length, IfOk};
+ghost use Rattle.circ_term.specs.Substitution.{instance};
+ghost use Rattle.circ_term.specs.Subst.{substitution_of};
+ghost use Rattle.circ_theory.specs.Occurring.{variable_of};
+ghost use Rattle.circ_mixfix.specs.Numbering.{numbered_anew, Numbers};
+
+use crate::HOLE;
+use circ_term::{Subst, Term};
+use circ_theory::{Occurring, gather};
+use indexmap::IndexSet;
+use std::alloc::{AllocError, Global};
+
+// Each variable is bound to one that has the next number. Where there is a hole, it has the number 0.
+fn numbering(
+    alloc: Global,
+    variables: &[Occurring],
+    hole: bool,
+) -> Result<Subst, AllocError>
+    requires { length variables.now < 2 ^ 31 }
+    ensures { IfOk result (λ σ. Numbers hole (substitution_of σ) (map variable_of variables.now)) }
+{
+    let mut subst = Subst::new(alloc);
+    let mut next = if hole { 1 } else { 0 };
+    for variable in variables {
+        if hole && variable.number == HOLE {
+            let number = Term::var(0, variable.sort);
+            subst.bind(variable.number, variable.sort, &number)?;
+        } else {
+            let number = Term::var(next, variable.sort);
+            subst.bind(variable.number, variable.sort, &number)?;
+            next += 1;
+        }
+    }
+    Ok(subst)
+}
+
+// The term with its variables numbered by first occurrence, from 0; where there is a hole, it is variable 0 and the others are
+// numbered from 1.
+pub fn numbered_anew(alloc: Global, term: &Term, hole: bool) -> Result<Term, AllocError>
+    ensures { IfOk result (λ t. t ≡ numbered_anew hole term.now) }
+{
+    term.known();
+    let mut variables = IndexSet::new(alloc);
+    gather(term, &mut variables)?;
+    let subst = numbering(alloc, variables.as_slice(), hole)?;
+    match subst.apply(term) {
+        Ok(term) => Ok(term),
+        Err(_) => Err(AllocError),
+    }
+}

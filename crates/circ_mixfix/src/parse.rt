@@ -1,0 +1,206 @@
+//! The readings of tokens.
+ghost use Rattle.std.specs.Prelude.{◌≡◌, ◌≤◌, ◌-◌, false, length, IfOk};
+ghost use Rattle.std.specs.Option.{option_or};
+ghost use Rattle.circ_mixfix.specs.declared.TheConstants.{MOST_TOKENS};
+ghost use Rattle.circ_mixfix.specs.Answers.{declared_by, HaveSorts, tokens_in, IsWithin, too_many, long_count, ReadsOnly, ReadsBoth, GivesReading};
+ghost use Rattle.circ_mixfix.specs.Found.{Keeps, IsPairInOrder, AreInOrder, Tells};
+ghost use Rattle.circ_mixfix.specs.Variables.{vars_in};
+ghost use Rattle.circ_mixfix.specs.WordLists.{BeginAlike};
+
+use crate::MOST_TOKENS;
+use crate::found::{Found, Reading, readings_of_both, readings_of_one};
+use crate::grammars::grammar;
+use crate::tokens::numbers;
+use crate::variables::{Declarations, Scope};
+use crate::words::Words;
+use circ_chart::read_each_sort;
+use circ_lexer::{Span, Tokens};
+use circ_theory::{Text, Theory};
+use std::alloc::{AllocError, Global};
+
+/// Why tokens have no only reading.
+#[derive(Drop)]
+pub enum ParseFault {
+    /// A side has more than [`MOST_TOKENS`](crate::MOST_TOKENS) tokens: how many the first such side has.
+    TooLong { count: u64 },
+    /// The tokens have no reading.
+    NoParse,
+    /// The tokens have several readings: two of them, the lesser first.
+    Ambiguous { first: Reading, second: Reading },
+    /// Memory ran out.
+    Memory,
+}
+
+impl From<AllocError> for ParseFault {
+    ghost use Rattle.std.specs.Prelude.{◌≡◌};
+    ghost use Rattle.circ_mixfix.specs.declared.parse.ParseFault.TheVariants.{Memory};
+
+    ghost from_gives = { λ _ e. e ≡ Memory };
+
+    fn from(_: AllocError) -> ParseFault {
+        ParseFault::Memory
+    }
+}
+
+// How many tokens the span has, where that is too many.
+fn long_count(span: Span) -> Option<u64>
+    requires { span.from ≤ span.to }
+    ensures { result ≡ too_many (span.to - span.from) }
+{
+    let count = span.to - span.from;
+    if count > MOST_TOKENS {
+        return Some(count as u64);
+    }
+    None
+}
+
+// The texts that each list of texts begins with: the parentheses, and the name of the hole.
+fn first_words<'a>(alloc: Global) -> Result<Words<'a>, AllocError>
+    ensures begin { IfOk result BeginAlike }
+    ensures few { IfOk result (λ ws. length ws ≤ 3) }
+{
+    let mut words = Words::new(alloc);
+    words.add(b"(")?;
+    words.add(b")")?;
+    words.add(b"")?;
+    Ok(words)
+}
+
+// The answer that tells of these readings.
+fn answer(found: Found) -> Result<Reading, ParseFault>
+    ensures { Tells found result }
+{
+    match found {
+        Found::Nothing => Err(ParseFault::NoParse),
+        Found::One(reading) => Ok(reading),
+        Found::Two(first, second) => Err(ParseFault::Ambiguous { first, second }),
+    }
+}
+
+fn read_one(
+    alloc: Global,
+    scope: &Scope<'_>,
+    tokens: &Tokens<'_>,
+    span: Span,
+) -> Result<Found, AllocError>
+    requires span { IsWithin tokens.now span }
+    requires few { length (tokens_in tokens.now span) ≤ MOST_TOKENS }
+    ensures { IfOk result (λ f. Keeps f (ReadsOnly scope.now.theory.now.signature (vars_in scope.now) scope.now.hole (tokens_in tokens.now span))) }
+{
+    let mut words = first_words(alloc)?;
+    let numbers = numbers(alloc, &mut words, tokens, span)?;
+    let count = words.count() as u32;
+    let grammar = grammar(alloc, &mut words, scope, count)?;
+    let terms = read_each_sort(alloc, &grammar, &numbers)?;
+    Ok(readings_of_one(alloc, &terms, scope.hole)?)
+}
+
+fn read_both(
+    alloc: Global,
+    scope: &Scope<'_>,
+    tokens: &Tokens<'_>,
+    left: Span,
+    right: Span,
+) -> Result<Found, AllocError>
+    requires hole { scope.now.hole ≡ false }
+    requires left { IsWithin tokens.now left }
+    requires right { IsWithin tokens.now right }
+    requires few_left { length (tokens_in tokens.now left) ≤ MOST_TOKENS }
+    requires few_right { length (tokens_in tokens.now right) ≤ MOST_TOKENS }
+    ensures reading { IfOk result (λ f. Keeps f (ReadsBoth scope.now.theory.now.signature (vars_in scope.now) (tokens_in tokens.now left) (tokens_in tokens.now right))) }
+    ensures in_order { IfOk result AreInOrder }
+{
+    let mut words = first_words(alloc)?;
+    let left = numbers(alloc, &mut words, tokens, left)?;
+    let right = numbers(alloc, &mut words, tokens, right)?;
+    let count = words.count() as u32;
+    let grammar = grammar(alloc, &mut words, scope, count)?;
+    let lefts = read_each_sort(alloc, &grammar, &left)?;
+    let rights = read_each_sort(alloc, &grammar, &right)?;
+    Ok(readings_of_both(alloc, &lefts, &rights)?)
+}
+
+fn one_in(
+    alloc: Global,
+    scope: &Scope<'_>,
+    tokens: &Tokens<'_>,
+    span: Span,
+) -> Result<Reading, ParseFault>
+    requires span { IsWithin tokens.now span }
+    ensures { GivesReading result (long_count (tokens_in tokens.now span)) (ReadsOnly scope.now.theory.now.signature (vars_in scope.now) scope.now.hole (tokens_in tokens.now span)) }
+{
+    if let Some(count) = long_count(span) {
+        return Err(ParseFault::TooLong { count });
+    }
+    let found = read_one(alloc, scope, tokens, span)?;
+    answer(found)
+}
+
+fn pair_in(
+    alloc: Global,
+    scope: &Scope<'_>,
+    tokens: &Tokens<'_>,
+    left: Span,
+    right: Span,
+) -> Result<Reading, ParseFault>
+    requires hole { scope.now.hole ≡ false }
+    requires left { IsWithin tokens.now left }
+    requires right { IsWithin tokens.now right }
+    ensures reading { GivesReading result (option_or (long_count (tokens_in tokens.now left)) (long_count (tokens_in tokens.now right))) (ReadsBoth scope.now.theory.now.signature (vars_in scope.now) (tokens_in tokens.now left) (tokens_in tokens.now right)) }
+    ensures in_order { IfOk result (λ r. IsPairInOrder r.terms.items) }
+{
+    if let Some(count) = long_count(left) {
+        return Err(ParseFault::TooLong { count });
+    }
+    if let Some(count) = long_count(right) {
+        return Err(ParseFault::TooLong { count });
+    }
+    let found = read_both(alloc, scope, tokens, left, right)?;
+    answer(found)
+}
+
+/// The only reading of the span's tokens as one term, of any sort. The variables are those of `vars`, by name and sort, and
+/// those that are written `NAME:SORT`. With `hole`, `*:SORT` is variable 0 and the others are numbered from 1 by first
+/// occurrence; without it they are numbered from 0. The span counts tokens.
+pub fn parse_one(
+    alloc: Global,
+    theory: &Theory,
+    vars: &[(Text, u32)],
+    tokens: &Tokens<'_>,
+    span: Span,
+    hole: bool,
+) -> Result<Reading, ParseFault>
+    requires sorts { HaveSorts theory.now.signature (declared_by vars.now) }
+    requires span { IsWithin tokens.now span }
+    ensures reading { GivesReading result (long_count (tokens_in tokens.now span)) (ReadsOnly theory.now.signature (declared_by vars.now) hole (tokens_in tokens.now span)) }
+{
+    let scope = Scope {
+        theory,
+        declared: Declarations::Listed(vars),
+        hole,
+    };
+    one_in(alloc, &scope, tokens, span)
+}
+
+/// The only reading of two spans' tokens as two terms of one sort. The variables are those of `vars`, by name and sort, and
+/// those that are written `NAME:SORT`, numbered from 0 over both by first occurrence, the left term first. Spans count tokens.
+pub fn parse_pair(
+    alloc: Global,
+    theory: &Theory,
+    vars: &[(Text, u32)],
+    tokens: &Tokens<'_>,
+    left: Span,
+    right: Span,
+) -> Result<Reading, ParseFault>
+    requires sorts { HaveSorts theory.now.signature (declared_by vars.now) }
+    requires left { IsWithin tokens.now left }
+    requires right { IsWithin tokens.now right }
+    ensures reading { GivesReading result (option_or (long_count (tokens_in tokens.now left)) (long_count (tokens_in tokens.now right))) (ReadsBoth theory.now.signature (declared_by vars.now) (tokens_in tokens.now left) (tokens_in tokens.now right)) }
+{
+    let scope = Scope {
+        theory,
+        declared: Declarations::Listed(vars),
+        hole: false,
+    };
+    pair_in(alloc, &scope, tokens, left, right)
+}
