@@ -34,15 +34,15 @@ unknown_by sig o count x e f =
     last true = refl
     last false = refl
 
-option_or_none : {X : Type 0} (a b : Option X) → option_or a b ≡ None → (a ≡ None) × (b ≡ None)
+pub option_or_none : {X : Type 0} (a b : Option X) → option_or a b ≡ None → (a ≡ None) × (b ≡ None)
 option_or_none (Some x) b e = absurd (cc)
 option_or_none None b e = (refl, e)
 
-option_map_none : {X Y : Type 0} (f : X → Y) (o : Option X) → option_map f o ≡ None → o ≡ None
+pub option_map_none : {X Y : Type 0} (f : X → Y) (o : Option X) → option_map f o ≡ None → o ≡ None
 option_map_none f None e = refl
 option_map_none f (Some x) e = absurd (cc)
 
-only_if : {X : Type 0} (b : Bool) (x : X) → (if b then Some x else None) ≡ None → b ≡ false
+pub only_if : {X : Type 0} (b : Bool) (x : X) → (if b then Some x else None) ≡ None → b ≡ false
 only_if true x e = absurd (cc)
 only_if false x e = refl
 
@@ -50,7 +50,7 @@ only_if false x e = refl
 pub room_left : (most count : ℕ) → count_fault most count ≡ None → count < most
 room_left most count e = let full : nat_lt most (count + 1) ≡ false = only_if (nat_lt most (count + 1)) (Limit (count + 1)) e in grind (arith, common_steps)
 
-find_none : (p : ℕ → Bool) (xs : List ℕ) (x : ℕ) → find p xs ≡ None → Contains xs x → p x ≡ false
+pub find_none : {X : Type 0} (p : X → Bool) (xs : List X) (x : X) → find p xs ≡ None → Contains xs x → p x ≡ false
 find_none p [] x e c = absurd (omega (arith, c.1))
 find_none p (y ∷ ys) x e c = go (p y) refl (λ f d. find_none p ys x f d) c
   where
@@ -59,11 +59,11 @@ find_none p (y ∷ ys) x e c = go (p y) refl (λ f d. find_none p ys x f d) c
     go false f ih (zero, h, g) = ap p (sym g) ∙ f
     go false f ih (suc k, h, g) = ih (rw f at e) (k, omega arith, g)
 
-not_false : (b : Bool) → not b ≡ false → b ≡ true
+pub not_false : (b : Bool) → not b ≡ false → b ≡ true
 not_false true e = refl
 not_false false e = absurd (cc)
 
-known_sort : (sig : Signature) (s : ℕ) → is_no_sort sig s ≡ false → IsSort sig s
+pub known_sort : (sig : Signature) (s : ℕ) → is_no_sort sig s ≡ false → IsSort sig s
 known_sort sig s e = let below : nat_lt s (length sig.sorts) ≡ true = not_false (nat_lt s (length sig.sorts)) e in grind (arith, common_steps)
 
 fits_by : (o : Operator) → is_ill_sorted o ≡ false → (form_fits o ≡ true) × (has_mark o ≡ true → is_binary o ≡ true)

@@ -1,10 +1,10 @@
 -- Theories with one part more are well-formed.
-use Rattle.std.proofs.Common.{◌≡◌, ◌<◌, ◌+◌, ℕ, List, [], ◌∷◌, ◌++◌, length, Some, ◌⊎◌, inl, inr, refl, subst, arith}
+use Rattle.std.proofs.Common.{◌≡◌, ◌<◌, ◌≤◌, ◌+◌, ℕ, List, [], ◌∷◌, ◌++◌, length, Some, ◌⊎◌, inl, inr, refl, subst, arith}
 use Rattle.std.specs.List.{slice_get, Contains}
 use Rattle.std.proofs.lemmas.List.Elements.{Contains-push_cases}
 use Rattle.circ_term.specs.Tree.{Tree, Trees, Var, App, none, more}
 use Rattle.circ_theory.specs.declared.parts.Equation.{Equation}
-use Rattle.circ_theory.specs.declared.TheConstants.{MOST_SORTS, MOST_VARS, MOST_OPS, MOST_EQUATIONS}
+use Rattle.circ_theory.specs.declared.TheConstants.{MOST_SORTS, MOST_VARS, MOST_OPS, MOST_EQUATIONS, MOST_DERIVATIVES}
 use Rattle.circ_theory.specs.Signature.{Signature, Operator, IsSort, IsWellSorted, HaveSorts}
 use Rattle.circ_theory.specs.Theory.{Theory, Declared, declared, Derivative, CaseList, IsWellSortedPair, pair_of}
 use Rattle.circ_theory.specs.Variables.{IsInOrder}
@@ -39,14 +39,14 @@ derivative_stays : (a b : Signature) → Extends a b → (d : Derivative) → Is
 derivative_stays a b x d h = record {
   hole = x.sorts d.hole h.hole;
   body = stays_sorted a b x d.body h.body;
-  parameters = h.parameters;
+  one_hole = h.one_hole;
   numbered = h.numbered;
-  once = h.once;
   few = h.few;
 }
 
-case_list_stays : (th u : Theory) → Extends th.signature u.signature → u.derivatives ≡ th.derivatives → (l : CaseList) → IsCaseList th l → IsCaseList u l
+pub case_list_stays : (th u : Theory) → Extends th.signature u.signature → u.derivatives ≡ th.derivatives → (l : CaseList) → IsCaseList th l → IsCaseList u l
 case_list_stays th u x e l h = record {
+  sort = x.sorts l.sort h.sort;
   visible = λ i. h.visible (record { derivative = i.derivative; listed = (let P : List Derivative → Type 0 = λ ds. Contains ds i.derivative in subst P e i.listed); hole = i.hole });
   some = h.some;
   different = h.different;
@@ -54,7 +54,7 @@ case_list_stays th u x e l h = record {
   few = h.few;
 }
 
-length-push : {X : Type 0} (xs : List X) (x : X) → length (xs ++ x ∷ []) ≡ length xs + 1
+pub length-push : {X : Type 0} (xs : List X) (x : X) → length (xs ++ x ∷ []) ≡ length xs + 1
 length-push [] x = refl
 length-push (y ∷ xs) x = let e = length-push xs x in omega arith
 
@@ -78,23 +78,28 @@ sort_grows th name h room =
       few_derivatives = h.few_derivatives;
     }
 
+-- other variables, of sorts that exist
+pub vars_change : (th : Theory) (ds : List Declared) → IsWellFormed th → ((d : Declared) → Contains ds d → IsSort th.signature d.sort) → length ds ≤ MOST_VARS
+    → IsWellFormed (record th { variables = ds })
+vars_change th ds h sorts few = record {
+  equations = h.equations;
+  in_order = h.in_order;
+  variables = sorts;
+  operators = h.operators;
+  derivatives = h.derivatives;
+  cases = λ m c. case_list_stays th (record th { variables = ds }) (record { sorts = λ s i. i; ops = λ f o g. g }) refl m (h.cases m c);
+  one_list = h.one_list;
+  few_sorts = h.few_sorts;
+  few_variables = few;
+  few_ops = h.few_ops;
+  few_equations = h.few_equations;
+  few_derivatives = h.few_derivatives;
+}
+
 pub var_grows : (th : Theory) (d : Declared) → IsWellFormed th → IsSort th.signature d.sort → length th.variables < MOST_VARS → IsWellFormed (record th { variables = th.variables ++ d ∷ [] })
 var_grows th d h sort room =
     let l = length-push th.variables d in
-    record {
-      equations = h.equations;
-      in_order = h.in_order;
-      variables = λ e c. either e (Contains-push_cases th.variables d e c);
-      operators = h.operators;
-      derivatives = h.derivatives;
-      cases = λ m c. case_list_stays th (record th { variables = th.variables ++ d ∷ [] }) (record { sorts = λ s i. i; ops = λ f o g. g }) refl m (h.cases m c);
-      one_list = h.one_list;
-      few_sorts = h.few_sorts;
-      few_variables = omega arith;
-      few_ops = h.few_ops;
-      few_equations = h.few_equations;
-      few_derivatives = h.few_derivatives;
-    }
+    vars_change th (th.variables ++ d ∷ []) h (λ e c. either e (Contains-push_cases th.variables d e c)) (omega arith)
   where
     either : (e : Declared) → Contains th.variables e ⊎ (d ≡ e) → IsSort th.signature e.sort
     either e (inl c) = h.variables e c

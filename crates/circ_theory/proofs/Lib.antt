@@ -8,3 +8,9 @@ pub mod Faults
 pub mod Sorted
 pub mod Gathering
 pub mod Distinct
+pub mod Filling
+pub mod Ruling
+pub mod Casing
+pub mod Noting
+pub mod Linear
+pub mod Observers

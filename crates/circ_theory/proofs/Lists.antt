@@ -68,7 +68,7 @@ none_there p xs e = go (list_any p xs) refl
     go false f = refl
 
 -- a new key goes last
-insert_entry-last : {K V : Type 0} (eq : K → K → Bool) (es : List (K × V)) (k : K) (v : V) → list_any (λ e. eq k e.0) es ≡ false → insert_entry eq es k v ≡ es ++ (k, v) ∷ []
+pub insert_entry-last : {K V : Type 0} (eq : K → K → Bool) (es : List (K × V)) (k : K) (v : V) → list_any (λ e. eq k e.0) es ≡ false → insert_entry eq es k v ≡ es ++ (k, v) ∷ []
 insert_entry-last eq [] k v h = refl
 insert_entry-last eq (e ∷ es) k v h = go (λ g. insert_entry-last eq es k v g) (eq k e.0) refl
   where

@@ -78,6 +78,12 @@ pub record IsForm (ps : List Piece) : Type 0 where
   pub cut : pieces_of (text_of ps) ≡ ps
   pub sound : form_fault (text_of ps) ≡ None
 
+-- the first word of a form
+abbrev pub first_word : List Piece → List ℕ
+first_word [] = []
+first_word (Hole ∷ ps) = first_word ps
+first_word (Word w ∷ ps) = w
+
 -- a text that is one piece
 abbrev pub piece_of : List ℕ → Piece
 piece_of w = if pointwise nat_eq w (95 ∷ []) then Hole else Word w

@@ -1,15 +1,21 @@
 -- How a theory lies in memory.
-use Rattle.std.specs.Prelude.{◌≡◌, [], map}
-use Rattle.std.specs.List.{AllByRecursion}
+use Rattle.std.specs.Prelude.{◌≡◌, ℕ, ◌≤◌, List, [], nat_eq, length, map, Vec}
+use Rattle.std.specs.List.{AllByRecursion, list_any}
+use Rattle.std.specs.Map.{lookup}
+use Rattle.std.specs.Option.{option_map_or}
+use Rattle.std.specs.Cmp.Lexicographic.{pointwise}
 use Rattle.circ_theory.specs.declared.parts.OpDecl.{OpDecl}
 use Rattle.circ_theory.specs.declared.theories.OpKey.{OpKey}
 use Rattle.circ_theory.specs.declared.theories.Listed.{Listed}
+use Rattle.circ_theory.specs.declared.theories.Observer.{Observer}
 use Rattle.circ_theory.specs.declared.theories.Theory.TheInside.{Inside}
 use Rattle.circ_theory.specs.Form.{text_of, IsForm}
 use Rattle.circ_theory.specs.Signature.{Operator}
 use Rattle.circ_theory.specs.Theory.{Theory, declared, pair_of}
 use Rattle.circ_theory.specs.Variables.{sorts_of}
-use Rattle.circ_theory.specs.Operators.{operator_of}
+use Rattle.circ_theory.specs.Operators.{operator_of, ops_by_word}
+use Rattle.circ_theory.specs.Rule.{is_rule}
+use Rattle.circ_theory.specs.Observing.{parameters_in, derivative_with, is_hidden, case_list}
 use Rattle.circ_theory.specs.WellFormed.{IsWellFormed}
 
 -- the key of an operator in the map of operators: the text of its form, which gives the form back, and the argument sorts
@@ -22,9 +28,18 @@ pub record IsKeyOf (k : OpKey) (o : Operator) : Type 0 where
 abbrev pub IsEntry : OpKey × OpDecl → Type 0
 IsEntry e = IsKeyOf e.0 (operator_of e.1)
 
--- the sorts kept with an equation are those of its variables
-abbrev pub IsListed : Listed → Type 0
-IsListed l = l.sorts.items ≡ sorts_of (pair_of l.equation)
+-- what is kept with an equation: the sorts of its variables, and whether it is a rule
+pub record IsListed (l : Listed) : Type 0 where
+  pub sorts : l.sorts.items ≡ sorts_of (pair_of l.equation)
+  pub rule : l.rule ≡ is_rule l.equation
+
+-- the number kept with a derivative is that of its parameters
+abbrev pub IsObserver : Observer → Type 0
+IsObserver o = o.params ≡ length (parameters_in o.term)
+
+-- the numbers kept under a word
+abbrev pub kept_under : {A B : Type 0} → List (Vec ℕ A × Vec ℕ B) → List ℕ → List ℕ
+kept_under es w = option_map_or (λ v. v.items) (lookup (λ k. pointwise nat_eq w k.items) es) []
 
 abbrev pub theory_of : Inside → Theory
 theory_of a = record {
@@ -32,11 +47,14 @@ theory_of a = record {
   signature = record { sorts = map (λ k. k.items) a.sorts.keys; ops = map (λ e. operator_of e.1) a.ops.entries };
   variables = map (λ e. declared e.0.items e.1) a.vars.entries;
   equations = map (λ l. l.equation) a.equations.items;
-  derivatives = [];
-  cases = [];
+  derivatives = map (λ o. derivative_with o.hole o.term) a.derivatives.items;
+  cases = map (λ e. case_list e.0 e.1.items) a.cases.entries;
 }
 
 pub record IsKept (a : Inside) : Type 0 where
   pub well_formed : IsWellFormed (theory_of a)
   pub entries : AllByRecursion IsEntry a.ops.entries
   pub listed : AllByRecursion IsListed a.equations.items
+  pub observers : AllByRecursion IsObserver a.derivatives.items
+  pub hidden : (s : ℕ) → list_any (nat_eq s) a.hidden.keys ≡ is_hidden (theory_of a) s
+  pub by_word : (w : List ℕ) → kept_under a.by_word.entries w ≡ ops_by_word (theory_of a).signature w

@@ -5,6 +5,8 @@ pub mod Variables
 pub mod Derivable
 pub mod Experiment
 pub mod Operators
+pub mod Rule
+pub mod Observing
 pub mod WellFormed
 pub mod Adding
 pub mod Code

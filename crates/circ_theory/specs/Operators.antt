@@ -1,12 +1,12 @@
 -- Declared operators, and when two of them are the same.
-use Rattle.std.specs.Prelude.{◌≡◌, ℕ, ◌≤◌, List, [], ◌∷◌, Bool, true, false, ◌==◌, ◌&&◌, ◌||◌, not, nat_eq, length}
+use Rattle.std.specs.Prelude.{◌≡◌, ℕ, ◌+◌, ◌≤◌, if◌then◌else◌, List, [], ◌∷◌, Bool, true, false, ◌==◌, ◌&&◌, ◌||◌, not, nat_eq, length}
 use Rattle.std.specs.List.{count_by, Contains}
 use Rattle.std.specs.Cmp.Lexicographic.{pointwise}
 use Rattle.circ_theory.specs.declared.forms.Piece.{Piece}
 use Rattle.circ_theory.specs.declared.forms.Piece.TheVariants.{Hole, Word}
 use Rattle.circ_theory.specs.declared.parts.OpDecl.{OpDecl}
 use Rattle.circ_theory.specs.declared.TheConstants.{MOST_ARGS}
-use Rattle.circ_theory.specs.Form.{IsForm}
+use Rattle.circ_theory.specs.Form.{IsForm, first_word}
 use Rattle.circ_theory.specs.Signature.{Signature, Operator, IsSort}
 
 -- the operator that a declaration declares
@@ -61,3 +61,12 @@ pub record IsOperator (sig : Signature) (o : Operator) : Type 0 where
   pub few : length o.args ≤ MOST_ARGS
   pub fits : form_fits o ≡ true
   pub marked : has_mark o ≡ true → o.args ≡ o.result ∷ o.result ∷ []
+
+-- the places of the items that pass the test, the first being k
+abbrev pub places_from : {X : Type 0} → (X → Bool) → (k : ℕ) → List X → List ℕ
+places_from p k [] = []
+places_from p k (x ∷ xs) = if p x then k ∷ places_from p (k + 1) xs else places_from p (k + 1) xs
+
+-- the numbers, increasing, of the operators whose form has this as its first word
+abbrev pub ops_by_word : Signature → List ℕ → List ℕ
+ops_by_word sig w = places_from (λ o. pointwise nat_eq w (first_word o.form)) 0 sig.ops

@@ -1,7 +1,7 @@
 //! Texts, and the forms in which operators are written.
 ghost use Rattle.std.specs.Prelude.{◌≡◌, ◌≤◌, ◌<◌, ◌∷◌, IfOk, length, take, drop, position};
 ghost use Rattle.std.specs.List.{list_any};
-ghost use Rattle.circ_theory.specs.Form.{is_special, is_word, is_bad_byte, is_reserved, is_bad_word, is_bad_piece, pieces_of, text_of, piece_of, IsForm, ReadsForm};
+ghost use Rattle.circ_theory.specs.Form.{is_special, is_word, is_bad_byte, is_reserved, is_bad_word, is_bad_piece, first_word, pieces_of, text_of, piece_of, IsForm, ReadsForm};
 
 use std::alloc::{AllocError, AllocFailed, Global};
 use std::marker::Model;
@@ -126,6 +126,18 @@ impl Form {
         ensures { result.now ≡ self.now }
     {
         self.pieces.as_slice()
+    }
+
+    /// The first word.
+    pub fn first_word(&self) -> &[u8]
+        ensures { result.now ≡ first_word self.now }
+    {
+        for piece in &self.pieces {
+            if let Piece::Word(word) = piece {
+                return word.bytes();
+            }
+        }
+        &[]
     }
 
     /// Does nothing. Its contract is the law of each form: its text spells it.

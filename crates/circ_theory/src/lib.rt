@@ -1,6 +1,6 @@
 //! Theories of many-sorted behavioural algebra, and what follows from them.
 //!
-//! A [`Theory`] holds sorts, operators and equations, and only well-sorted parts. [`follow`] replays one recorded step of
+//! A [`Theory`] holds sorts, operators, equations, derivatives and case lists, and only well-sorted parts. [`follow`] replays one recorded step of
 //! rewriting. What is derivable, what an experiment is and which terms behave alike is defined in `specs`, and [`laws`]
 //! states what is proved of these notions.
 #![tactic(auto)]
@@ -8,6 +8,7 @@
 mod fault;
 mod forms;
 pub mod laws;
+mod observing;
 mod order;
 mod parts;
 mod renumber;
@@ -18,11 +19,12 @@ mod theories;
 
 pub use fault::TheoryFault;
 pub use forms::{Form, FormFault, Piece, Text};
+pub use observing::parameters_in_order;
 pub use order::in_order;
 pub use parts::{Equation, Goal, OpDecl, Script, Side};
 pub use renumber::{Occurring, gather, renumbered};
 pub use replay::{Link, Way, follow};
-pub use theories::Theory;
+pub use theories::{Theory, Vars};
 
 /// The most sorts of a theory.
 pub const MOST_SORTS: usize = 4_096;
@@ -36,5 +38,14 @@ pub const MOST_OPS: usize = 65_536;
 /// The most equations of a theory.
 pub const MOST_EQUATIONS: usize = 65_536;
 
+/// The most derivatives of a theory.
+pub const MOST_DERIVATIVES: usize = 256;
+
 /// The most arguments of an operator.
 pub const MOST_ARGS: usize = 16;
+
+/// The most parameters of a derivative.
+pub const MOST_PARAMS: usize = 8;
+
+/// The most constants of a case list.
+pub const MOST_CASES: usize = 64;

@@ -4,6 +4,7 @@ ghost use Rattle.std.specs.Bool.{OnTrue};
 ghost use Rattle.circ_term.specs.Tree.{trees_of};
 ghost use Rattle.circ_theory.specs.Variables.{IsInOrder, AreNumberedFrom, seen, seen_in, seen_in_all, sorts_of};
 ghost use Rattle.circ_theory.specs.Numbering.{numbered};
+ghost use Rattle.circ_theory.specs.Rule.{is_bound};
 
 use circ_term::{Kind, Term};
 use std::alloc::{AllocError, Global};
@@ -20,19 +21,28 @@ pub fn in_order(alloc: Global, left: &Term, right: &Term) -> Result<bool, AllocE
     visit(right, &mut sorts)
 }
 
-// The sorts of the variables of two terms that are numbered in order.
-pub(crate) fn variable_sorts(
+// The variables of two terms that are numbered in order: their sorts, and whether each one of the right term is in the left.
+#[derive(Drop)]
+pub(crate) struct PairVariables {
+    pub(crate) sorts: Vec<u32>,
+    pub(crate) bound: bool,
+}
+
+pub(crate) fn pair_variables(
     alloc: Global,
     left: &Term,
     right: &Term,
-) -> Result<Vec<u32>, AllocError>
+) -> Result<PairVariables, AllocError>
     requires { IsInOrder (record { left = left.now; right = right.now }) }
-    ensures { IfOk result (λ v. v.items ≡ sorts_of (record { left = left.now; right = right.now })) }
+    ensures sorts { IfOk result (λ v. v.sorts.items ≡ sorts_of (record { left = left.now; right = right.now })) }
+    ensures bound { IfOk result (λ v. v.bound ≡ is_bound (record { left = left.now; right = right.now })) }
 {
     let mut sorts = Vec::new(alloc);
     visit(left, &mut sorts)?;
+    let count = sorts.len();
     visit(right, &mut sorts)?;
-    Ok(sorts)
+    let bound = sorts.len() == count;
+    Ok(PairVariables { sorts, bound })
 }
 
 // Adds the sorts of the term's variables to those of the variables seen so far, which have the numbers from 0. Answers

@@ -1,28 +1,32 @@
-//! Theories: sorts, operators and equations, each kind numbered from 0 in order of declaration.
-ghost use Rattle.std.specs.Prelude.{◌≡◌, ◌↔◌, ◌≤◌, [], map, IsTrue, IfOk, OnOk, OnErr, IfSome, nat_lt, nat_eq, not, find, length, unwrap_or};
-ghost use Rattle.std.specs.List.{slice_get, AllByRecursion};
-ghost use Rattle.std.specs.Option.{option_copied, option_map};
+//! Theories: sorts, operators, equations, derivatives and case lists, each kind numbered from 0 in order of declaration.
+ghost use Rattle.std.specs.Prelude.{◌≡◌, ◌↔◌, ◌≤◌, ℕ, List, ◌∷◌, ◌++◌, if◌then◌else◌, [], false, ◌&&◌, is_some, map, IsTrue, IfOk, OnOk, OnErr, IfSome, nat_lt, nat_eq, not, find, length, unwrap_or};
+ghost use Rattle.std.specs.List.{slice_get, AllByRecursion, Contains};
+ghost use Rattle.std.specs.Option.{option_copied, option_map, option_map_or};
 ghost use Rattle.std.specs.Cmp.Lexicographic.{pointwise};
-ghost use Rattle.circ_term.specs.Tree.{trees_of, sort_of};
+ghost use Rattle.circ_term.specs.Tree.{trees_of, sort_of, operator_number};
 ghost use Rattle.circ_term.specs.Limits.{BuildsSome};
-ghost use Rattle.circ_theory.specs.Signature.{IsWellSorted, HaveSorts};
-ghost use Rattle.circ_theory.specs.Theory.{pair_of, declared, IsWellSortedPair};
+ghost use Rattle.circ_theory.specs.Signature.{IsSort, IsWellSorted, HaveSorts};
+ghost use Rattle.circ_theory.specs.Theory.{pair_of, declared, Declared, IsWellSortedPair, IsHidden};
 ghost use Rattle.circ_theory.specs.Variables.{IsInOrder, sorts_of};
-ghost use Rattle.circ_theory.specs.Operators.{operator_of, is_ill_sorted, hole_count};
+ghost use Rattle.circ_theory.specs.Operators.{operator_of, is_ill_sorted, hole_count, ops_by_word};
 ghost use Rattle.circ_theory.specs.WellFormed.{IsWellFormed};
 ghost use Rattle.circ_theory.specs.Adding.{Numbers, sort_number, sort_fault, op_fault, equation_fault, var_number, old_var_fault, new_var_fault, var_fault, count_fault, unknown_sort, with_sort, with_var, with_op, with_equation, application};
-ghost use Rattle.circ_theory.specs.Inside.{IsKeyOf};
 ghost use Rattle.circ_theory.specs.Names.{AreDifferent, names_of};
+ghost use Rattle.circ_theory.specs.Rule.{is_rule};
+ghost use Rattle.circ_theory.specs.Observing.{AreParametersInOrder, parameters_in, first_repeated, first_or_zero, derivative_with, slots_fault, derivative_fault, with_derivative, cases_of, cases_fault, with_cases, is_hidden, is_constant, no_constants, long_fault};
+ghost use Rattle.circ_theory.specs.Inside.{IsKeyOf, kept_under};
 
 use crate::fault::TheoryFault;
 use crate::forms::{Piece, Text};
-use crate::order::variable_sorts;
+use crate::observing::{first_repeated, slots_of, Slots};
+use crate::order::pair_variables;
 use crate::parts::{Equation, OpDecl};
-use crate::{MOST_ARGS, MOST_EQUATIONS, MOST_OPS, MOST_SORTS, MOST_VARS};
-use circ_term::{Kind, Term, TermFault};
+use crate::{MOST_ARGS, MOST_CASES, MOST_DERIVATIVES, MOST_EQUATIONS, MOST_OPS, MOST_PARAMS, MOST_SORTS, MOST_VARS};
+use circ_term::{Kind, MOST_NODES, Term, TermFault};
 use indexmap::{IndexMap, IndexSet};
 use std::alloc::{AllocError, Global};
 use std::marker::Model;
+use std::mem::replace;
 
 // By what operators are told apart: the text of the form, and the argument sorts.
 #[derive(PartialEq, Eq, Hash, Drop)]
@@ -31,11 +35,20 @@ struct OpKey {
     args: Vec<u32>,
 }
 
-// An equation, with the sorts of its variables by number.
+// An equation, with the sorts of its variables by number, and whether it is a rewrite rule.
 #[derive(Drop)]
 struct Listed {
     equation: Equation,
     sorts: Vec<u32>,
+    rule: bool,
+}
+
+// A derivative, with the sort of its hole and the number of its parameters.
+#[derive(Drop)]
+struct Observer {
+    term: Term,
+    hole: u32,
+    params: usize,
 }
 
 /// A theory, whose parts are well-sorted.
@@ -46,7 +59,39 @@ pub struct Theory {
     sorts: IndexSet<Vec<u8>>,
     vars: IndexMap<Vec<u8>, u32>,
     ops: IndexMap<OpKey, OpDecl>,
+    // The numbers of the operators by the first words of their forms.
+    by_word: IndexMap<Vec<u8>, Vec<u32>>,
     equations: Vec<Listed>,
+    derivatives: Vec<Observer>,
+    // The sorts of the derivatives' holes.
+    hidden: IndexSet<u32>,
+    // The constants of a sort that has a case list.
+    cases: IndexMap<u32, Vec<u32>>,
+}
+
+/// Declared variables that are set aside.
+#[derive(Drop)]
+pub struct Vars {
+    vars: IndexMap<Vec<u8>, u32>,
+}
+
+impl Model for Vars {
+    ghost use Rattle.std.specs.Prelude.{List};
+    ghost use Rattle.std.specs.Coded.{coded_list};
+    ghost use Rattle.circ_theory.specs.Theory.{Declared};
+    ghost use Rattle.circ_theory.specs.Code.{declared_code};
+
+    ghost Value = { List Declared };
+
+    ghost coded = { coded_list declared_code };
+
+    ghost use Rattle.std.specs.Prelude.{◌≤◌, map, length};
+    ghost use Rattle.circ_theory.specs.Theory.{declared};
+    ghost use Rattle.circ_theory.specs.declared.TheConstants.{MOST_VARS};
+
+    ghost view = { λ a. map (λ e. declared e.0.items e.1) a.vars.entries };
+
+    ghost invariant = { λ a. length a.vars.entries ≤ MOST_VARS };
 }
 
 impl Model for Theory {
@@ -75,7 +120,11 @@ impl Theory {
             sorts: IndexSet::new(alloc),
             vars: IndexMap::new(alloc),
             ops: IndexMap::new(alloc),
+            by_word: IndexMap::new(alloc),
             equations: Vec::new(alloc),
+            derivatives: Vec::new(alloc),
+            hidden: IndexSet::new(alloc),
+            cases: IndexMap::new(alloc),
         })
     }
 
@@ -146,8 +195,17 @@ impl Theory {
             return Err(fault);
         }
         let number = self.op_count();
-        self.ops.insert(key, decl)?;
-        Ok(number)
+        self.ops.reserve(1)?;
+        note_word(
+            self.alloc,
+            &mut self.by_word,
+            decl.form.first_word(),
+            number,
+        )?;
+        match self.ops.insert(key, decl) {
+            Ok(_) => Ok(number),
+            Err(_) => unreachable!(),
+        }
     }
 
     /// Adds an equation, and answers its number.
@@ -162,10 +220,77 @@ impl Theory {
         if let Some(fault) = count_fault(number, MOST_EQUATIONS) {
             return Err(fault);
         }
-        let sorts = variable_sorts(self.alloc, &left, &right)?;
-        let equation = Equation { left, right, exec };
-        self.equations.push(Listed { equation, sorts })?;
+        let variables = pair_variables(self.alloc, &left, &right)?;
+        let rule = is_rule_with(exec, &left, variables.bound);
+        self.equations.push(Listed {
+            equation: Equation { left, right, exec },
+            sorts: variables.sorts,
+            rule,
+        })?;
         Ok(number)
+    }
+
+    /// Adds a derivative, and answers its number. Its hole is variable 0 and the others are its parameters. `NotLinear` carries
+    /// the least parameter that occurs twice, `HoleCount` how often variables numbered 0 occur, where that is not once, and
+    /// `NowHidden` the hole's sort, which has a case list.
+    pub fn add_derivative(&mut self, term: Term) -> Result<u32, TheoryFault>
+        requires sorted { IsWellSorted self.old.signature term }
+        requires in_order { AreParametersInOrder term }
+        ensures number { Numbers result (derivative_fault self.old term) (length self.old.derivatives) }
+        ensures added { OnOk result (self.new ≡ with_derivative self.old term) }
+        ensures err { OnErr result (self.new ≡ self.old) }
+    {
+        term.known();
+        let slots = slots_of(self.alloc, &term)?;
+        let repeated = first_repeated(self.alloc, slots.params.as_slice())?;
+        if let Some(fault) = self.derivative_fault(repeated, &slots) {
+            return Err(fault);
+        }
+        let number = self.derivative_count();
+        let hole = first_or_zero(slots.holes.as_slice());
+        let params = slots.params.len();
+        self.derivatives.reserve(1)?;
+        self.hidden.insert(hole)?;
+        let observer = Observer { term, hole, params };
+        match self.derivatives.push(observer) {
+            Ok(()) => Ok(number),
+            Err(_) => unreachable!(),
+        }
+    }
+
+    /// Adds the case list of a sort, and answers its number. `Twice` carries the sort, where it has a list, or else the first
+    /// operator that is listed again later, and `IllSorted` the first that is no constant of the sort.
+    pub fn add_cases(&mut self, sort: u32, constants: Vec<u32>) -> Result<u32, TheoryFault>
+        ensures number { Numbers result (cases_fault self.old sort constants.items) (length self.old.cases) }
+        ensures added { OnOk result (self.new ≡ with_cases self.old sort constants.items) }
+        ensures err { OnErr result (self.new ≡ self.old) }
+    {
+        let repeated = first_repeated(self.alloc, constants.as_slice())?;
+        if let Some(fault) = self.cases_fault(repeated, sort, constants.as_slice()) {
+            return Err(fault);
+        }
+        let number = self.case_count();
+        self.cases.insert(sort, constants)?;
+        Ok(number)
+    }
+
+    /// Sets the declared variables aside. The theory has none then.
+    pub fn take_vars(&mut self) -> Vars
+        ensures taken { result ≡ self.old.variables }
+        ensures left { self.new ≡ record self.old { variables = [] } }
+    {
+        let empty = IndexMap::new(self.alloc);
+        Vars {
+            vars: replace(&mut self.vars, empty),
+        }
+    }
+
+    /// Puts variables that were set aside in the place of the declared ones.
+    pub fn put_vars(&mut self, vars: Vars)
+        requires { (d : Declared) → Contains vars d → IsSort self.old.signature d.sort }
+        ensures { self.new ≡ record self.old { variables = vars } }
+    {
+        self.vars = vars.vars;
     }
 
     /// The operator on these terms. None where there is no such operator, or its argument sorts are others. The terms are
@@ -317,6 +442,7 @@ impl Theory {
     fn listed(&self, n: u32) -> Option<&Listed>
         ensures equation { option_map (λ l. l.now.equation) result ≡ slice_get self.now.equations n }
         ensures sorts { IfSome result (λ l. l.now.sorts.items ≡ sorts_of (pair_of l.now.equation)) }
+        ensures rule { IfSome result (λ l. l.now.rule ≡ is_rule l.now.equation) }
     {
         self.equations.get(n as usize)
     }
@@ -339,6 +465,96 @@ impl Theory {
             Some(listed) => Some(listed.sorts.as_slice()),
             None => None,
         }
+    }
+
+    /// Whether an equation is a rewrite rule: it may be used as one, its left side is no variable, and each variable of its right
+    /// side is in its left side. False where there is no such equation.
+    pub fn is_rule(&self, equation: u32) -> bool
+        ensures { result ≡ option_map_or is_rule (slice_get self.now.equations equation) false }
+    {
+        match self.listed(equation) {
+            Some(listed) => listed.rule,
+            None => false,
+        }
+    }
+
+    /// The number of derivatives.
+    pub fn derivative_count(&self) -> u32
+        ensures count { result ≡ length self.now.derivatives }
+        ensures few { result ≤ MOST_DERIVATIVES }
+    {
+        self.derivatives.len() as u32
+    }
+
+    fn observer(&self, n: u32) -> Option<&Observer>
+        ensures derivative { option_map (λ o. derivative_with o.now.hole o.now.term) result ≡ slice_get self.now.derivatives n }
+        ensures params { IfSome result (λ o. o.now.params ≡ length (parameters_in o.now.term)) }
+    {
+        self.derivatives.get(n as usize)
+    }
+
+    /// The body of a derivative: a term in which variable 0 is the hole.
+    pub fn derivative(&self, n: u32) -> Option<&Term>
+        ensures { option_copied result ≡ option_map (λ d. d.body) (slice_get self.now.derivatives n) }
+    {
+        match self.observer(n) {
+            Some(observer) => Some(&observer.term),
+            None => None,
+        }
+    }
+
+    /// The sort of a derivative's hole.
+    pub fn hole_sort(&self, n: u32) -> Option<u32>
+        ensures { result ≡ option_map (λ d. d.hole) (slice_get self.now.derivatives n) }
+    {
+        match self.observer(n) {
+            Some(observer) => Some(observer.hole),
+            None => None,
+        }
+    }
+
+    /// The number of a derivative's parameters.
+    pub fn param_count(&self, n: u32) -> Option<usize>
+        ensures { result ≡ option_map (λ d. length (parameters_in d.body)) (slice_get self.now.derivatives n) }
+    {
+        match self.observer(n) {
+            Some(observer) => Some(observer.params),
+            None => None,
+        }
+    }
+
+    /// Whether a sort is hidden: it is the sort of a derivative's hole. Takes the same time however many derivatives there are.
+    pub fn is_hidden(&self, sort: u32) -> bool
+        ensures exact { result ≡ is_hidden self.now sort }
+        ensures hidden { IsTrue result ↔ IsHidden self.now sort }
+    {
+        self.hidden.contains(&sort)
+    }
+
+    /// The constants of a sort that has a case list.
+    pub fn cases(&self, sort: u32) -> Option<&[u32]>
+        ensures { option_copied result ≡ cases_of self.now sort }
+    {
+        match self.cases.get(&sort) {
+            Some(constants) => Some(constants.as_slice()),
+            None => None,
+        }
+    }
+
+    /// The numbers, increasing, of the operators whose form has this as its first word. Costs one look-up.
+    pub fn ops_by_word(&self, word: &[u8]) -> &[u32]
+        ensures { result.now ≡ ops_by_word self.now.signature word.now }
+    {
+        match self.by_word.get(word) {
+            Some(numbers) => numbers.as_slice(),
+            None => &[],
+        }
+    }
+
+    fn case_count(&self) -> u32
+        ensures { result ≡ length self.now.cases }
+    {
+        self.cases.len() as u32
     }
 
     fn same_var(&self, number: u32, sort: u32) -> Result<u32, TheoryFault>
@@ -384,6 +600,85 @@ impl Theory {
         count_fault(number, MOST_OPS)
     }
 
+    fn derivative_fault(&self, repeated: Option<u32>, slots: &Slots) -> Option<TheoryFault>
+        requires { length slots.now.holes.items ≤ MOST_NODES }
+        ensures { result ≡ slots_fault self.now repeated slots.now.holes.items (length slots.now.params.items) }
+    {
+        if let Some(variable) = repeated {
+            return Some(TheoryFault::NotLinear { variable });
+        }
+        let [hole] = slots.holes.as_slice() else {
+            return Some(TheoryFault::HoleCount {
+                count: slots.holes.len() as u32,
+            });
+        };
+        if self.cases(*hole).is_some() {
+            return Some(TheoryFault::NowHidden { sort: *hole });
+        }
+        if let Some(fault) = long_fault(slots.params.len(), MOST_PARAMS) {
+            return Some(fault);
+        }
+        count_fault(self.derivative_count(), MOST_DERIVATIVES)
+    }
+
+    fn cases_fault(
+        &self,
+        repeated: Option<u32>,
+        sort: u32,
+        constants: &[u32],
+    ) -> Option<TheoryFault>
+        requires { repeated ≡ first_repeated constants.now }
+        ensures { result ≡ cases_fault self.now sort constants.now }
+    {
+        if self.cases(sort).is_some() {
+            return Some(TheoryFault::Twice { number: sort });
+        }
+        if let Some(number) = repeated {
+            return Some(TheoryFault::Twice { number });
+        }
+        if let Some(fault) = self.no_constants(sort, constants) {
+            return Some(fault);
+        }
+        if self.is_hidden(sort) {
+            return Some(TheoryFault::NotVisible { sort });
+        }
+        long_fault(constants.len(), MOST_CASES)
+    }
+
+    fn no_constants(&self, sort: u32, constants: &[u32]) -> Option<TheoryFault>
+        ensures { result ≡ no_constants self.now sort constants.now }
+    {
+        if sort >= self.sort_count() {
+            return Some(TheoryFault::UnknownSort { number: sort });
+        }
+        if let Some(operator) = self.first_other(sort, constants) {
+            return Some(TheoryFault::IllSorted { operator });
+        }
+        if constants.is_empty() {
+            return Some(TheoryFault::NoConstant);
+        }
+        None
+    }
+
+    // The first operator that is no constant of the sort.
+    fn first_other(&self, sort: u32, constants: &[u32]) -> Option<u32>
+        ensures { result ≡ find (λ c. not (is_constant self.now.signature sort c)) constants.now }
+    {
+        constants
+            .iter()
+            .copied()
+            .find(|constant| !self.is_constant(sort, *constant))
+    }
+
+    fn is_constant(&self, sort: u32, op: u32) -> bool
+        ensures { result ≡ is_constant self.now.signature sort op }
+    {
+        match self.op(op) {
+            Some(decl) => decl.args.is_empty() && decl.result == sort,
+            None => false,
+        }
+    }
+
     fn unknown_sort(&self, decl: &OpDecl) -> Option<u32>
         ensures { result ≡ unknown_sort self.now.signature (operator_of decl.now) }
     {
@@ -397,6 +692,41 @@ impl Theory {
             Some(decl.result)
         }
     }
+}
+
+// Adds a number to those kept under a word.
+fn note_word(
+    alloc: Global,
+    by_word: &mut IndexMap<Vec<u8>, Vec<u32>>,
+    word: &[u8],
+    number: u32,
+) -> Result<(), AllocError>
+    ensures noted { OnOk result ((w : List ℕ) → kept_under by_word.new.entries w ≡ (if pointwise nat_eq w word.now then kept_under by_word.old.entries w ++ number ∷ [] else kept_under by_word.old.entries w)) }
+    ensures err { OnErr result ((w : List ℕ) → kept_under by_word.new.entries w ≡ kept_under by_word.old.entries w) }
+{
+    if let Some(numbers) = by_word.get_mut(word) {
+        numbers.push(number)?;
+        return Ok(());
+    }
+    let copy = Vec::from_slice(alloc, word)?;
+    let numbers = vec![in alloc; number]?;
+    by_word.insert(copy, numbers)?;
+    Ok(())
+}
+
+fn first_or_zero(numbers: &[u32]) -> u32
+    ensures { result ≡ first_or_zero numbers.now }
+{
+    match numbers {
+        [] => 0,
+        [first, ..] => *first,
+    }
+}
+
+fn is_rule_with(exec: bool, left: &Term, bound: bool) -> bool
+    ensures { result ≡ (exec && is_some (operator_number left.now) && bound) }
+{
+    exec && left.op_number().is_some() && bound
 }
 
 fn first_from(count: u32, sorts: &[u32]) -> Option<u32>
@@ -414,6 +744,18 @@ fn count_fault(count: u32, most: usize) -> Option<TheoryFault>
         Some(TheoryFault::Limit {
             count: count as u64 + 1,
         })
+    }
+}
+
+fn long_fault(count: usize, most: usize) -> Option<TheoryFault>
+    ensures { result ≡ long_fault most count }
+{
+    if count > most {
+        Some(TheoryFault::Limit {
+            count: count as u64,
+        })
+    } else {
+        None
     }
 }
 

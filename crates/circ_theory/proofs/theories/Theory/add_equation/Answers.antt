@@ -1,5 +1,6 @@
-use Rattle.std.proofs.Common.{◌<◌, List, map, length, ap, sym, subst, ◌∙◌}
+use Rattle.std.proofs.Common.{◌<◌, ◌&&◌, is_some, List, map, length, ap, sym, subst, ◌∙◌}
 use Rattle.std.specs.List.{AllByRecursion}
+use Rattle.circ_term.specs.Tree.{operator_number}
 use Rattle.circ_theory.specs.declared.TheConstants.{MOST_EQUATIONS}
 use Rattle.circ_theory.specs.declared.parts.Equation.{Equation}
 use Rattle.circ_theory.specs.Theory.{Theory}
@@ -22,5 +23,8 @@ invariant_of-self-2 c =
       well_formed = subst P (sym (ap (map (λ l. l.equation)) items ∙ map-push (λ l. l.equation) c.self.inside.equations.items _))
           (equation_grows th e c.self.invariant.well_formed (rw (← c.self.view_is) at c.requires.sorted) c.requires.in_order room);
       entries = c.self.invariant.entries;
-      listed = subst (AllByRecursion IsListed) (sym items) (all_push IsListed c.self.inside.equations.items _ c.self.invariant.listed c.in_ok-sorts.ensures);
+      listed = subst (AllByRecursion IsListed) (sym items) (all_push IsListed c.self.inside.equations.items _ c.self.invariant.listed (record { sorts = c.in_ok-variables.ensures.sorts; rule = c.is_rule_with-rule.ensures ∙ ap (λ b. c.args.exec && is_some (operator_number c.args.left) && b) c.in_ok-variables.ensures.bound }));
+      observers = c.self.invariant.observers;
+      hidden = c.self.invariant.hidden;
+      by_word = c.self.invariant.by_word;
     }

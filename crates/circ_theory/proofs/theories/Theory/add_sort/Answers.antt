@@ -25,6 +25,9 @@ invariant_of-self-2 c =
       well_formed = subst P (sym (grown c)) (sort_grows th c.args.name.now c.self.invariant.well_formed room);
       entries = c.self.invariant.entries;
       listed = c.self.invariant.listed;
+      observers = c.self.invariant.observers;
+      hidden = c.self.invariant.hidden;
+      by_word = c.self.invariant.by_word;
     }
 
 pub returns-clause-added : goal.returns-clause-added

@@ -30,6 +30,9 @@ invariant_of-self-2 c =
       well_formed = subst P (sym (grown c)) (var_grows th (declared c.args.name.now c.args.sort) c.self.invariant.well_formed new.0 new.1);
       entries = c.self.invariant.entries;
       listed = c.self.invariant.listed;
+      observers = c.self.invariant.observers;
+      hidden = c.self.invariant.hidden;
+      by_word = c.self.invariant.by_word;
     }
 
 pub returns-clause-added : goal.returns-clause-added

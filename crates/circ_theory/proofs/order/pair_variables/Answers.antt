@@ -1,9 +1,10 @@
-use Rattle.std.proofs.Common.{◌≡◌, [], map, sym, ap, ◌∙◌}
+use Rattle.std.proofs.Common.{◌≡◌, [], map, length, sym, ap, ◌∙◌, arith}
 use Rattle.std.specs.Bool.{⊤}
 use Rattle.std.proofs.lemmas.Bool.Decides.{when_true}
 use Rattle.circ_theory.specs.Variables.{seen_in}
 use Rattle.circ_theory.specs.Numbering.{numbered, sorts-numbered, seen_in_before}
-use Rattle.circ_theory.proofs.order.variable_sorts.Goals as goal
+use Rattle.circ_theory.proofs.Ruling.{bound_by}
+use Rattle.circ_theory.proofs.order.pair_variables.Goals as goal
 
 pub returns : goal.returns
 returns c =
@@ -15,4 +16,9 @@ returns c =
     let answer-2 = rw first at c.in_ok-visit-2.ensures.answer in
     let seen-2 = rw first at c.in_ok-visit-2.ensures.seen in
     let both : numbered 0 c.visit-2.new.sorts.items ≡ seen_in r (seen_in l []) = when_true _ ⊤ (answer-2.1 c.requires) seen-2 in
-    sym (sorts-numbered 0 c.visit-2.new.sorts.items) ∙ ap (map (λ v. v.sort)) both
+    let count : c.len-count.result ≡ length c.visit.new.sorts.items = omega arith in
+    let whole : c.len.result ≡ length c.visit-2.new.sorts.items = omega arith in
+    record {
+      sorts = sym (sorts-numbered 0 c.visit-2.new.sorts.items) ∙ ap (map (λ v. v.sort)) both;
+      bound = rw (whole, count) (bound_by l r c.visit.new.sorts.items c.visit-2.new.sorts.items first both);
+    }
