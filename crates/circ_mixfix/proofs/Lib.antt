@@ -5,10 +5,6 @@ pub mod ReadingSets
 pub mod WordLists
 pub mod Below
 pub mod RuleLists
-pub mod TakenBack
-pub mod Cut
-pub mod FormWords
-pub mod Printed
 pub mod Written
 pub mod TokenNumbers
 pub mod SymbolWords
@@ -18,3 +14,8 @@ pub mod FoundSets
 pub mod NumberNames
 pub mod Kept
 pub mod Telling
+pub mod WellSorted
+pub mod TakenBack
+pub mod Cut
+pub mod FormWords
+pub mod Printed

@@ -36,7 +36,7 @@ chart_words ws (Word w ∷ ps) (chart.Hole s b ∷ cs) a h = absurd a.0
 chart_words ws (Hole s b ∷ ps) (chart.Word n ∷ cs) a h = absurd a.0
 chart_words ws (Hole s b ∷ ps) (chart.Hole t c ∷ cs) a h = chart_words ws ps cs a.1 h
 
-one_more : (ps : List Piece) → hole_count (piece.Hole ∷ ps) ≡ 1 + hole_count ps
+pub one_more : (ps : List Piece) → hole_count (piece.Hole ∷ ps) ≡ 1 + hole_count ps
 one_more ps = sum_by-cons (λ x. if is_hole_piece x then 1 else 0) piece.Hole ps
 
 -- as many holes as sorts, or fewer
@@ -52,12 +52,12 @@ form_words p side (piece.Word w ∷ ps) ss h l = tt
 form_words p side (piece.Hole ∷ ps) [] h l = let e = one_more ps in absurd (omega arith)
 form_words p side (piece.Hole ∷ ps) (s ∷ ss) h l = let e = one_more ps in inner_words p side ps ss h (omega arith)
 
-no_holes : (ps : List Piece) → list_any is_hole_piece ps ≡ false → hole_count ps ≡ 0
+pub no_holes : (ps : List Piece) → list_any is_hole_piece ps ≡ false → hole_count ps ≡ 0
 no_holes [] h = refl
 no_holes (piece.Hole ∷ ps) h = absurd (cc)
 no_holes (piece.Word w ∷ ps) h = no_holes ps h
 
-some_hole : (ps : List Piece) → list_any is_hole_piece ps ≡ true → 0 < hole_count ps
+pub some_hole : (ps : List Piece) → list_any is_hole_piece ps ≡ true → 0 < hole_count ps
 some_hole [] h = absurd (cc)
 some_hole (piece.Hole ∷ ps) h = let e = one_more ps in omega arith
 some_hole (piece.Word w ∷ ps) h = some_hole ps h
@@ -70,7 +70,7 @@ form_word ps f = go (list_any is_word (pieces_of (text_of ps))) refl f.sound
     go true e n = ap (list_any is_word) (sym f.cut) ∙ e
     go false e n = absurd (let z = rw e at n in cc z)
 
-fits : (o : Operator) → form_fits o ≡ true → 0 < hole_count o.form → hole_count o.form ≡ length o.args
+pub fits : (o : Operator) → form_fits o ≡ true → 0 < hole_count o.form → hole_count o.form ≡ length o.args
 fits o e l = go (hole_count o.form == 0) refl e
   where
     go : (b : Bool) → (hole_count o.form == 0) ≡ b → ((hole_count o.form == 0) || (hole_count o.form == length o.args)) ≡ true → hole_count o.form ≡ length o.args

@@ -1,9 +1,7 @@
 -- What reading some tokens answers.
-use Rattle.std.specs.Prelude.{◌≡◌, ◌≤◌, ℕ, List, [], ◌∷◌, map, length, nat_lt, if◌then◌else◌, Bool, Option, Some, None, Result, Ok, Err}
+use Rattle.std.specs.Prelude.{◌≡◌, ℕ, List, [], ◌∷◌, map, length, nat_lt, if◌then◌else◌, Bool, Option, Some, None, Result, Ok, Err}
 use Rattle.std.proofs.Common.{Less}
-use Rattle.std.specs.List.{slice_range, Contains}
-use Rattle.circ_lexer.specs.TokenList.{TokenList, tokens_of}
-use Rattle.circ_lexer.specs.declared.tokens.Span.{Span}
+use Rattle.std.specs.List.{Contains}
 use Rattle.circ_term.specs.Tree.{Tree, trees_of}
 use Rattle.circ_term.specs.Order.{trees_cmp}
 use Rattle.circ_theory.specs.Signature.{Signature, IsSort}
@@ -21,15 +19,6 @@ declared_by vs = map (λ v. declared v.0 v.1) vs
 -- their sorts exist
 abbrev pub HaveSorts : Signature → List Declared → Type 0
 HaveSorts sig vars = (d : Declared) → Contains vars d → IsSort sig d.sort
-
--- the tokens of a span, which counts tokens
-abbrev pub tokens_in : TokenList → Span → List (List ℕ)
-tokens_in ts span = slice_range (tokens_of ts) span.from span.to
-
--- The span lies within the tokens.
-pub record IsWithin (ts : TokenList) (span : Span) : Type 0 where
-  pub ahead : span.from ≤ span.to
-  pub within : span.to ≤ length (tokens_of ts)
 
 -- a number of tokens that is too great
 abbrev pub too_many : ℕ → Option ℕ

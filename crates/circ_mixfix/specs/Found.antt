@@ -5,7 +5,9 @@ use Rattle.circ_term.specs.Tree.{Tree, trees_of, sort_of}
 use Rattle.circ_term.specs.Order.{trees_cmp}
 use Rattle.circ_chart.specs.Few.{Enough, Or}
 use Rattle.circ_chart.specs.Tops.{Among}
-use Rattle.circ_theory.specs.Theory.{Pair, pair_with}
+use Rattle.circ_theory.specs.Signature.{Signature, IsWellSorted}
+use Rattle.circ_theory.specs.Theory.{Pair, pair_with, IsWellSortedPair}
+use Rattle.circ_theory.specs.Observing.{AreParametersInOrder}
 use Rattle.circ_theory.specs.Variables.{IsInOrder}
 use Rattle.circ_theory.specs.Renumbering.{renumbered}
 use Rattle.circ_mixfix.specs.Numbering.{numbered_anew}
@@ -68,6 +70,21 @@ IsPairInOrder ts = (p : Pair) × (ts ≡ terms_of p) × IsInOrder p
 
 abbrev pub AreInOrder : Found → Type 0
 AreInOrder found = (ts : List Tree) → In found ts → IsPairInOrder ts
+
+-- the terms are one, whose parameters are numbered from 1 by first occurrence
+abbrev pub IsWithParameters : List Tree → Type 0
+IsWithParameters ts = (t : Tree) × (ts ≡ t ∷ []) × AreParametersInOrder t
+
+abbrev pub AreWithParameters : Found → Type 0
+AreWithParameters found = (ts : List Tree) → In found ts → IsWithParameters ts
+
+-- the terms are one that is well-sorted
+abbrev pub IsOneSorted : Signature → List Tree → Type 0
+IsOneSorted sig ts = (t : Tree) × (ts ≡ t ∷ []) × IsWellSorted sig t
+
+-- the terms are a pair that is well-sorted, of one sort
+abbrev pub ArePairSorted : Signature → List Tree → Type 0
+ArePairSorted sig ts = (p : Pair) × (ts ≡ terms_of p) × IsWellSortedPair sig p
 
 -- the answer that tells of what was found
 abbrev pub Tells : Found → Result Reading ParseFault → Type 0

@@ -5,10 +5,10 @@ pub mod Spells
 pub mod Readings
 pub mod WordLists
 pub mod Coding
-pub mod Printing
-pub mod Printed
-pub mod PrintedExamples
 pub mod Variables
 pub mod Numbering
 pub mod Found
 pub mod Answers
+pub mod Printing
+pub mod Printed
+pub mod PrintedExamples

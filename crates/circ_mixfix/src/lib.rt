@@ -22,7 +22,7 @@ mod variables;
 mod words;
 
 pub use found::Reading;
-pub use parse::{ParseFault, parse_one, parse_pair};
+pub use parse::{ParseFault, parse_one, parse_one_declared, parse_pair, parse_pair_declared};
 pub use printing::{print, print_derivative, print_pair};
 pub use spelling::{Symbol, precedence, symbols};
 

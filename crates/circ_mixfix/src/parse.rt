@@ -1,9 +1,10 @@
 //! The readings of tokens.
-ghost use Rattle.std.specs.Prelude.{◌≡◌, ◌≤◌, ◌-◌, false, length, IfOk};
+ghost use Rattle.std.specs.Prelude.{◌≡◌, ◌≤◌, ◌-◌, true, false, length, IfOk};
 ghost use Rattle.std.specs.Option.{option_or};
 ghost use Rattle.circ_mixfix.specs.declared.TheConstants.{MOST_TOKENS};
-ghost use Rattle.circ_mixfix.specs.Answers.{declared_by, HaveSorts, tokens_in, IsWithin, too_many, long_count, ReadsOnly, ReadsBoth, GivesReading};
-ghost use Rattle.circ_mixfix.specs.Found.{Keeps, IsPairInOrder, AreInOrder, Tells};
+ghost use Rattle.circ_lexer.specs.TokenList.{tokens_in, IsWithin};
+ghost use Rattle.circ_mixfix.specs.Answers.{declared_by, HaveSorts, too_many, long_count, ReadsOnly, ReadsBoth, GivesReading};
+ghost use Rattle.circ_mixfix.specs.Found.{Keeps, IsPairInOrder, AreInOrder, IsWithParameters, AreWithParameters, IsOneSorted, ArePairSorted, Tells};
 ghost use Rattle.circ_mixfix.specs.Variables.{vars_in};
 ghost use Rattle.circ_mixfix.specs.WordLists.{BeginAlike};
 
@@ -85,7 +86,8 @@ fn read_one(
 ) -> Result<Found, AllocError>
     requires span { IsWithin tokens.now span }
     requires few { length (tokens_in tokens.now span) ≤ MOST_TOKENS }
-    ensures { IfOk result (λ f. Keeps f (ReadsOnly scope.now.theory.now.signature (vars_in scope.now) scope.now.hole (tokens_in tokens.now span))) }
+    ensures reading { IfOk result (λ f. Keeps f (ReadsOnly scope.now.theory.now.signature (vars_in scope.now) scope.now.hole (tokens_in tokens.now span))) }
+    ensures parameters { scope.now.hole ≡ true → IfOk result AreWithParameters }
 {
     let mut words = first_words(alloc)?;
     let numbers = numbers(alloc, &mut words, tokens, span)?;
@@ -127,8 +129,11 @@ fn one_in(
     span: Span,
 ) -> Result<Reading, ParseFault>
     requires span { IsWithin tokens.now span }
-    ensures { GivesReading result (long_count (tokens_in tokens.now span)) (ReadsOnly scope.now.theory.now.signature (vars_in scope.now) scope.now.hole (tokens_in tokens.now span)) }
+    ensures reading { GivesReading result (long_count (tokens_in tokens.now span)) (ReadsOnly scope.now.theory.now.signature (vars_in scope.now) scope.now.hole (tokens_in tokens.now span)) }
+    ensures sorted { HaveSorts scope.now.theory.now.signature (vars_in scope.now) → IfOk result (λ r. IsOneSorted scope.now.theory.now.signature r.terms.items) }
+    ensures parameters { scope.now.hole ≡ true → IfOk result (λ r. IsWithParameters r.terms.items) }
 {
+    scope.theory.known();
     if let Some(count) = long_count(span) {
         return Err(ParseFault::TooLong { count });
     }
@@ -147,8 +152,10 @@ fn pair_in(
     requires left { IsWithin tokens.now left }
     requires right { IsWithin tokens.now right }
     ensures reading { GivesReading result (option_or (long_count (tokens_in tokens.now left)) (long_count (tokens_in tokens.now right))) (ReadsBoth scope.now.theory.now.signature (vars_in scope.now) (tokens_in tokens.now left) (tokens_in tokens.now right)) }
+    ensures sorted { HaveSorts scope.now.theory.now.signature (vars_in scope.now) → IfOk result (λ r. ArePairSorted scope.now.theory.now.signature r.terms.items) }
     ensures in_order { IfOk result (λ r. IsPairInOrder r.terms.items) }
 {
+    scope.theory.known();
     if let Some(count) = long_count(left) {
         return Err(ParseFault::TooLong { count });
     }
@@ -173,6 +180,8 @@ pub fn parse_one(
     requires sorts { HaveSorts theory.now.signature (declared_by vars.now) }
     requires span { IsWithin tokens.now span }
     ensures reading { GivesReading result (long_count (tokens_in tokens.now span)) (ReadsOnly theory.now.signature (declared_by vars.now) hole (tokens_in tokens.now span)) }
+    ensures sorted { IfOk result (λ r. IsOneSorted theory.now.signature r.terms.items) }
+    ensures parameters { hole ≡ true → IfOk result (λ r. IsWithParameters r.terms.items) }
 {
     let scope = Scope {
         theory,
@@ -196,10 +205,57 @@ pub fn parse_pair(
     requires left { IsWithin tokens.now left }
     requires right { IsWithin tokens.now right }
     ensures reading { GivesReading result (option_or (long_count (tokens_in tokens.now left)) (long_count (tokens_in tokens.now right))) (ReadsBoth theory.now.signature (declared_by vars.now) (tokens_in tokens.now left) (tokens_in tokens.now right)) }
+    ensures sorted { IfOk result (λ r. ArePairSorted theory.now.signature r.terms.items) }
+    ensures in_order { IfOk result (λ r. IsPairInOrder r.terms.items) }
 {
     let scope = Scope {
         theory,
         declared: Declarations::Listed(vars),
+        hole: false,
+    };
+    pair_in(alloc, &scope, tokens, left, right)
+}
+
+/// As [`parse_one`], where the declared variables are those of the theory, which are looked up by their names.
+pub fn parse_one_declared(
+    alloc: Global,
+    theory: &Theory,
+    tokens: &Tokens<'_>,
+    span: Span,
+    hole: bool,
+) -> Result<Reading, ParseFault>
+    requires { IsWithin tokens.now span }
+    ensures reading { GivesReading result (long_count (tokens_in tokens.now span)) (ReadsOnly theory.now.signature theory.now.variables hole (tokens_in tokens.now span)) }
+    ensures sorted { IfOk result (λ r. IsOneSorted theory.now.signature r.terms.items) }
+    ensures parameters { hole ≡ true → IfOk result (λ r. IsWithParameters r.terms.items) }
+{
+    theory.known();
+    let scope = Scope {
+        theory,
+        declared: Declarations::OfTheory,
+        hole,
+    };
+    one_in(alloc, &scope, tokens, span)
+}
+
+/// As [`parse_pair`], where the declared variables are those of the theory, which are looked up by their names.
+pub fn parse_pair_declared(
+    alloc: Global,
+    theory: &Theory,
+    tokens: &Tokens<'_>,
+    left: Span,
+    right: Span,
+) -> Result<Reading, ParseFault>
+    requires left { IsWithin tokens.now left }
+    requires right { IsWithin tokens.now right }
+    ensures reading { GivesReading result (option_or (long_count (tokens_in tokens.now left)) (long_count (tokens_in tokens.now right))) (ReadsBoth theory.now.signature theory.now.variables (tokens_in tokens.now left) (tokens_in tokens.now right)) }
+    ensures sorted { IfOk result (λ r. ArePairSorted theory.now.signature r.terms.items) }
+    ensures in_order { IfOk result (λ r. IsPairInOrder r.terms.items) }
+{
+    theory.known();
+    let scope = Scope {
+        theory,
+        declared: Declarations::OfTheory,
         hole: false,
     };
     pair_in(alloc, &scope, tokens, left, right)

@@ -1,6 +1,6 @@
 //! Tokens as numbers of texts.
 ghost use Rattle.std.specs.Prelude.{◌≡◌, ◌≤◌, ◌+◌, ◌^◌, length, IfOk, OnOk};
-ghost use Rattle.circ_mixfix.specs.Answers.{tokens_in, IsWithin};
+ghost use Rattle.circ_lexer.specs.TokenList.{tokens_in, IsWithin};
 ghost use Rattle.circ_mixfix.specs.Coding.{AreNumbers};
 ghost use Rattle.circ_mixfix.specs.WordLists.{GrowsTo};
 

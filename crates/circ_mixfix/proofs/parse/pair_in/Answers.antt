@@ -1,6 +1,6 @@
 use Rattle.std.proofs.Common.{◌≡◌, None, ap, sym, ◌∙◌}
-use Rattle.circ_lexer.specs.TokenList.{tokens_of}
-use Rattle.circ_mixfix.specs.Answers.{too_many, long_count, tokens_in, ReadsBoth}
+use Rattle.circ_lexer.specs.TokenList.{tokens_of, tokens_in}
+use Rattle.circ_mixfix.specs.Answers.{too_many, long_count, ReadsBoth}
 use Rattle.circ_mixfix.specs.Variables.{vars_in}
 use Rattle.circ_mixfix.proofs.Telling.{told, answered}
 use Rattle.circ_mixfix.proofs.TokenNumbers.{range_length}

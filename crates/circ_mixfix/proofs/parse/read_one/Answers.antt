@@ -1,5 +1,5 @@
 use Rattle.std.proofs.Common.{ℕ, sym, subst}
-use Rattle.circ_mixfix.specs.Answers.{tokens_in}
+use Rattle.circ_lexer.specs.TokenList.{tokens_in}
 use Rattle.circ_mixfix.specs.Coding.{AllBelow}
 use Rattle.circ_mixfix.specs.Variables.{vars_in}
 use Rattle.circ_mixfix.proofs.Kept.{one_kept}
