@@ -5,7 +5,7 @@ use Rattle.circ_term.specs.Tree.{Tree}
 use Rattle.circ_theory.specs.declared.fault.TheoryFault.{TheoryFault}
 use Rattle.circ_theory.specs.Theory.{Theory, declared}
 use Rattle.circ_theory.specs.Adding.{var_number, var_fault, op_fault, with_var, with_op}
-use Rattle.circ_read.specs.StandIn.{derivative_fault, with_derivative, cases_fault, with_cases}
+use Rattle.circ_theory.specs.Observing.{derivative_fault, with_derivative, cases_fault, with_cases}
 use Rattle.circ_statement.specs.Said.{Said, inclusion, sorts, operators, variables, equation, derivative, cases}
 use Rattle.circ_read.specs.declared.cause.Cause.{Cause}
 use Rattle.circ_read.specs.Text.{DoTokens, none, says, Reaches, start, next}

@@ -1,24 +1,25 @@
 -- What one statement does to a theory: the theory with its parts, or its first cause. One equation a kind.
-use Rattle.std.specs.Prelude.{◌≡◌, ℕ, List, [], ◌∷◌, Bool, true, false, ◌==◌, if◌then◌else◌, length, Option, Some, None, Result, Ok, Err}
+use Rattle.std.specs.Prelude.{◌≡◌, ℕ, List, [], ◌∷◌, Bool, true, ◌==◌, if◌then◌else◌, length, Option, Some, None, is_some, Result, Ok, Err}
 use Rattle.std.specs.List.{slice_get}
 use Rattle.std.specs.Option.{option_map, option_or, option_and_then}
 use Rattle.std.proofs.Common.{Less}
 use Rattle.circ_term.specs.Tree.{Tree, trees_of}
 use Rattle.circ_term.specs.Order.{trees_cmp}
-use Rattle.circ_theory.specs.declared.forms.Piece.TheVariants.{Word}
-use Rattle.circ_theory.specs.declared.parts.Side.TheVariants.{Neither}
+use Rattle.circ_theory.specs.declared.forms.Piece.{Piece}
+use Rattle.circ_theory.specs.declared.forms.Piece.TheVariants.{Hole, Word}
+use Rattle.circ_theory.specs.Form.{pieces_of, form_fault}
 use Rattle.circ_theory.specs.declared.fault.TheoryFault.{TheoryFault}
 use Rattle.circ_theory.specs.Signature.{Signature, Operator}
 use Rattle.circ_theory.specs.Theory.{Theory}
-use Rattle.circ_theory.specs.Adding.{sort_number, op_number, sort_fault, var_fault, op_fault, equation_fault, with_sort, with_var, with_op, with_equation}
-use Rattle.circ_parse.specs.Answers.{long_count, ReadsOnly, ReadsBoth}
+use Rattle.circ_theory.specs.Adding.{sort_number, op_of_form, sort_fault, var_fault, op_fault, equation_fault, with_sort, with_var, with_op, with_equation}
+use Rattle.circ_mixfix.specs.Answers.{long_count, ReadsOnly, ReadsBoth}
 use Rattle.circ_mixfix.specs.Printing.{text_of_term, text_of_pair}
 use Rattle.circ_statement.specs.Attributes.{Spelled}
 use Rattle.circ_statement.specs.Said.{Said, inclusion, sorts, operators, variables, equation, derivative, cases}
 use Rattle.circ_read.specs.declared.cause.Cause.{Cause}
 use Rattle.circ_read.specs.declared.cause.Cause.TheVariants.{UnknownTheory, UnknownSort, TooLong, NoParse, Ambiguous}
 use Rattle.circ_read.specs.Causes.{cause_of}
-use Rattle.circ_read.specs.StandIn.{derivative_fault, with_derivative, cases_fault, with_cases}
+use Rattle.circ_theory.specs.Observing.{derivative_fault, with_derivative, cases_fault, with_cases}
 
 -- the theory with a part, or why the part is not added
 abbrev pub adds : Option TheoryFault → Theory → Result Theory Cause
@@ -62,11 +63,23 @@ operator_with args result assoc comm idem p = record { form = p.form; args = arg
 abbrev pub operator_added : (args : List ℕ) (result : ℕ) (assoc comm idem : Bool) → Theory → Spelled → Result Theory Cause
 operator_added args result assoc comm idem th p = adds (op_fault th (operator_with args result assoc comm idem p)) (with_op th (operator_with args result assoc comm idem p))
 
+-- the form that is one word, where this is the word
+abbrev pub one_word : List Piece → Option (List Piece)
+one_word [] = None
+one_word (Hole ∷ ps) = None
+one_word (Word w ∷ []) = Some (Word w ∷ [])
+one_word (Word w ∷ p ∷ ps) = None
+
+abbrev pub word_form : List ℕ → Option (List Piece)
+word_form w = if is_some (form_fault w) then None else one_word (pieces_of w)
+
+-- the number, where it is that of an operator with this result
+abbrev pub of_sort : Signature → (sort op : ℕ) → Option ℕ
+of_sort sig s n = option_and_then (λ o. if o.result == s then Some n else None) (slice_get sig.ops n)
+
 -- the constant of a sort with this one word as its form
 abbrev pub constant_number : Signature → (sort : ℕ) → List ℕ → Option ℕ
-constant_number sig s w =
-    option_and_then (λ n. option_and_then (λ o. if o.result == s then Some n else None) (slice_get sig.ops n))
-    (op_number sig (record { form = Word w ∷ []; args = []; result = s; prec = 0; side = Neither; assoc = false; comm = false; idem = false }))
+constant_number sig s w = option_and_then (λ form. option_and_then (of_sort sig s) (op_of_form sig form [])) (word_form w)
 
 abbrev pub constants_named : Theory → (sort : ℕ) → List (List ℕ) → Result (List ℕ) Cause
 constants_named th s ws = or_cause (all_numbers (constant_number th.signature s) ws) NoParse

@@ -4,4 +4,3 @@ pub mod Does
 pub mod Includes
 pub mod ReadsAs
 pub mod Steps
-pub mod StandIn

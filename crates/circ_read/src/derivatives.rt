@@ -1,15 +1,13 @@
 //! `derivative`.
 ghost use Rattle.std.specs.Prelude.{◌≡◌, IfOk};
 ghost use Rattle.circ_lexer.specs.TokenList.{tokens_in, IsWithin};
-ghost use Rattle.circ_parse.specs.Printing.{IsOne};
+ghost use Rattle.circ_mixfix.specs.Found.{IsOneSorted, IsWithParameters};
 ghost use Rattle.circ_read.specs.Does.{derivative_added, hole_text};
 ghost use Rattle.circ_read.specs.Steps.{Answers, ReadsHole, GivesDerivative};
 
 use crate::cause::{Cause, Fault, because, done};
-use crate::standin::add_derivative as add;
 use circ_lexer::{Span, Tokens};
-use circ_mixfix::print_derivative;
-use circ_parse::{ParseFault, Reading, parse_one_declared};
+use circ_mixfix::{ParseFault, Reading, parse_one_declared, print_derivative};
 use circ_term::Term;
 use circ_theory::{Text, Theory};
 use std::alloc::{AllocError, Global};
@@ -38,7 +36,8 @@ fn body(
 ) -> Result<Vec<Term>, Fault>
     requires { IsWithin tokens.now term }
     ensures reads { ReadsHole result theory.now (tokens_in tokens.now term) }
-    ensures sorted { IfOk result (λ v. IsOne theory.now.signature v.items) }
+    ensures sorted { IfOk result (λ v. IsOneSorted theory.now.signature v.items) }
+    ensures parameters { IfOk result (λ v. IsWithParameters v.items) }
 {
     match parse_one_declared(alloc, theory, tokens, term, true) {
         Ok(reading) => Ok(reading.terms),
@@ -65,12 +64,13 @@ fn body_text(alloc: Global, theory: &Theory, reading: &Reading) -> Result<Text, 
 }
 
 fn add_body(theory: &mut Theory, terms: Vec<Term>) -> Result<(), Fault>
-    requires { IsOne theory.old.signature terms.items }
+    requires sorted { IsOneSorted theory.old.signature terms.items }
+    requires parameters { IsWithParameters terms.items }
     ensures { Answers result theory.new (λ r. r ≡ derivative_added theory.old terms.items) }
 {
     let mut terms = terms;
     match terms.pop() {
-        Some(term) => done(add(theory, term)),
+        Some(term) => done(theory.add_derivative(term)),
         None => unreachable!(),
     }
 }

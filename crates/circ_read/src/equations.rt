@@ -1,14 +1,13 @@
 //! `eq`.
 ghost use Rattle.std.specs.Prelude.{◌≡◌, IfOk};
 ghost use Rattle.circ_lexer.specs.TokenList.{tokens_in, IsWithin};
-ghost use Rattle.circ_parse.specs.Printing.{AreSides};
+ghost use Rattle.circ_mixfix.specs.Found.{ArePairSorted, IsPairInOrder};
 ghost use Rattle.circ_read.specs.Does.{equation_added, sides_text};
 ghost use Rattle.circ_read.specs.Steps.{Answers, ReadsSides, GivesEquation};
 
 use crate::cause::{Cause, Fault, because, done};
 use circ_lexer::{Span, Tokens};
-use circ_mixfix::print_pair;
-use circ_parse::{ParseFault, Reading, parse_pair_declared};
+use circ_mixfix::{ParseFault, Reading, parse_pair_declared, print_pair};
 use circ_term::Term;
 use circ_theory::{Text, Theory};
 use std::alloc::{AllocError, Global};
@@ -42,7 +41,8 @@ fn sides(
     requires left { IsWithin tokens.now left }
     requires right { IsWithin tokens.now right }
     ensures reads { ReadsSides result theory.now (tokens_in tokens.now left) (tokens_in tokens.now right) }
-    ensures sorted { IfOk result (λ v. AreSides theory.now.signature v.items) }
+    ensures sorted { IfOk result (λ v. ArePairSorted theory.now.signature v.items) }
+    ensures in_order { IfOk result (λ v. IsPairInOrder v.items) }
 {
     match parse_pair_declared(alloc, theory, tokens, left, right) {
         Ok(reading) => Ok(reading.terms),
@@ -69,7 +69,8 @@ fn sides_text(alloc: Global, theory: &Theory, reading: &Reading) -> Result<Text,
 }
 
 fn add_sides(theory: &mut Theory, terms: Vec<Term>, exec: bool) -> Result<(), Fault>
-    requires { AreSides theory.old.signature terms.items }
+    requires sorted { ArePairSorted theory.old.signature terms.items }
+    requires in_order { IsPairInOrder terms.items }
     ensures { Answers result theory.new (λ r. r ≡ equation_added theory.old exec terms.items) }
 {
     let mut terms = terms;

@@ -15,7 +15,6 @@ mod names;
 mod operators;
 mod reader;
 mod sorts;
-mod standin;
 mod statement;
 #[cfg(test)]
 mod tests;

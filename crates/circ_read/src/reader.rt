@@ -9,7 +9,6 @@ ghost use Rattle.circ_read.specs.Steps.{Answers, IsHeadOf, GivesBody, GivesRead,
 
 use crate::cause::{Cause, Fault, ReadFault, because, byte_fault};
 use crate::library::add_text;
-use crate::standin::{put_vars, take_vars};
 use crate::statement::{add_statement, shape};
 use crate::names::{is_word, word};
 use crate::text::{Head, is_end, next_stop, read_head};
@@ -149,12 +148,12 @@ impl Reader {
     {
         self.theory.known();
         let name = Text::of(self.alloc, name)?;
-        let vars = take_vars(&mut self.theory)?;
+        let vars = self.theory.take_vars();
         match add_text(self.alloc, &mut self.theory, text) {
             Ok(()) => {}
             Err(fault) => return Err(fault),
         }
-        put_vars(&mut self.theory, vars)?;
+        self.theory.put_vars(vars);
         self.included.push(name)?;
         Ok(())
     }

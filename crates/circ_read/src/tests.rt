@@ -57,7 +57,7 @@ fn texts(rt: HostRuntime) -> Result<(), Fail> {
         (b"theory T is sorts A B . op a : -> A . op h : B -> A . derivative h(*:B) . cases A by a . endtheory", 0, b"read", 0),
         (b"theory B is inc BITS . vars S A B C : Stream . endtheory", 0, b"read", 0),
         (b"theory B is including BITS . protecting BITS . pr BITS . endtheory", 0, b"read", 0),
-        (b"theory B is inc TREE . inc LANG . endtheory", 4, b"twice", 0),
+        (b"theory B is inc TREE . inc STREAM . endtheory", 3, b"twice", 0),
         // the form
         (b"", 1, b"shape", 0),
         (b"theory = is endtheory", 1, b"shape", 0),
