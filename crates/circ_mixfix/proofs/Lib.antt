@@ -19,3 +19,4 @@ pub mod TakenBack
 pub mod Cut
 pub mod FormWords
 pub mod Printed
+pub mod Parameters

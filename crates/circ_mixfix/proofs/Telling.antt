@@ -1,5 +1,6 @@
 -- The answer that tells of what was found.
-use Rattle.std.proofs.Common.{◌≡◌, ◌⊎◌, ◌-◌, ℕ, List, None, Ok, Err, Result, inl, inr, sym, ◌∙◌, ap, subst, refl}
+use Rattle.std.proofs.Common.{◌≡◌, ◌⊎◌, List, None, Ok, Err, Result, inl, inr, sym, ◌∙◌, subst, refl}
+use Rattle.std.specs.Prelude.{IfOk}
 use Rattle.circ_term.specs.Tree.{Tree}
 use Rattle.circ_chart.specs.Few.{Differ}
 use Rattle.circ_mixfix.specs.declared.found.Reading.{Reading}
@@ -29,11 +30,8 @@ told (Two a b) r P k e =
     let Q : Result Reading ParseFault → Type 0 = λ x. GivesReading x None P in
     subst Q (sym e) (refl, k.enough.sound a.terms.items (inl refl), k.enough.sound b.terms.items (inr refl), k.ordered)
 
-same_reading : (a b : Reading) (r : Result Reading ParseFault) → r ≡ Ok b → r ≡ Ok a → a ≡ b
-same_reading a b r p q = let z = sym q ∙ p in cc z
-
--- what was found is what is answered
-pub answered : (found : Found) (r : Result Reading ParseFault) (a : Reading) → Tells found r → r ≡ Ok a → In found a.terms.items
-answered Nothing r a t e = absurd (let z = sym t ∙ e in cc z)
-answered (One b) r a t e = ap (λ x. x.terms.items) (same_reading a b r t e)
-answered (Two b c) r a t e = absurd (let z = sym t ∙ e in cc z)
+-- what is true of all that was found is true of what is answered
+pub if_answered : (found : Found) (r : Result Reading ParseFault) (Q : List Tree → Type 0) → Tells found r → ((ts : List Tree) → In found ts → Q ts) → IfOk r (λ x. Q x.terms.items)
+if_answered Nothing r Q t h = let P : Result Reading ParseFault → Type 0 = λ y. IfOk y (λ x. Q x.terms.items) in subst P (sym t) tt
+if_answered (One a) r Q t h = let P : Result Reading ParseFault → Type 0 = λ y. IfOk y (λ x. Q x.terms.items) in subst P (sym t) (h a.terms.items refl)
+if_answered (Two a b) r Q t h = let P : Result Reading ParseFault → Type 0 = λ y. IfOk y (λ x. Q x.terms.items) in subst P (sym t) tt

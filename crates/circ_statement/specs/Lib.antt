@@ -4,3 +4,4 @@ pub mod Attributes
 pub mod Said
 pub mod Statement
 pub mod Reading
+pub mod Examples

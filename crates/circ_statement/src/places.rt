@@ -116,11 +116,7 @@ pub(crate) fn are_some_names(tokens: &Tokens<'_>, span: Span) -> bool
     requires { IsWithin tokens.now span }
     ensures { result ≡ are_some_names (tokens_in tokens.now span) }
 {
-    if span.from < span.to {
-        are_names(tokens, span)
-    } else {
-        false
-    }
+    span.from < span.to && are_names(tokens, span)
 }
 
 // The tokens, joined without blanks.

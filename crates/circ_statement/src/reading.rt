@@ -153,10 +153,7 @@ fn is_mark(tokens: &Tokens<'_>, span: Span) -> bool
     let Some(rest) = after(tokens, rest, b"]") else {
         return false;
     };
-    if rest.from < rest.to {
-        return false;
-    }
-    true
+    rest.from == rest.to
 }
 
 // The operators of a statement, of one form or of a form for each token.

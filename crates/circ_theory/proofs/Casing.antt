@@ -66,6 +66,6 @@ there_hole (x ∷ ds) s d (suc k, h, g) e = go (there_hole ds s d (k, omega arit
 -- the test tells whether a sort is hidden
 pub hidden_tells : (th : Theory) (s : ℕ) → IsTrue (is_hidden th s) ↔ IsHidden th s
 hidden_tells th s = (
-    (λ e. let r = hole_there th.derivatives s e in record { derivative = r.0; listed = r.1.0; hole = r.1.1 }),
-    (λ h. there_hole th.derivatives s h.derivative h.listed h.hole),
-  )
+  (λ e. let r = hole_there th.derivatives s e in record { derivative = r.0; listed = r.1.0; hole = r.1.1 }),
+  (λ h. there_hole th.derivatives s h.derivative h.listed h.hole),
+)

@@ -91,7 +91,7 @@ each_once (v ∷ vs) us e a = go (is_parameter v) refl (λ us. each_once vs us)
         let pushed = map-append (λ v. v.number) (filter is_parameter us) (v ∷ []) in
         let Q : List ℕ → Type 0 = Apart (numbers vs) in
         rw p (ih (seen v us) o.rest (subst P (sym added) (subst Q (sym pushed) (apart_push v.number (numbers vs) (numbers us) o.here a)))
-            ∙ ap (λ ws. ws ++ filter is_parameter vs) added ∙ append_assoc (filter is_parameter us) (v ∷ []) (filter is_parameter vs))
+        ∙ ap (λ ws. ws ++ filter is_parameter vs) added ∙ append_assoc (filter is_parameter us) (v ∷ []) (filter is_parameter vs))
     go false p ih =
         let same = hole_seen v us p in
         let P : List Variable → Type 0 = λ ws. Apart (numbers vs) (map (λ v. v.number) ws) in

@@ -48,7 +48,6 @@ on_err (Ok x) P p = tt
 on_err (Err e) P p = p
 
 module _ {A B : Type 0} where
-
   kept_more : (k : Vec ℕ A) (v : Vec ℕ B) (es : List (Vec ℕ A × Vec ℕ B)) (w : List ℕ) → kept_under ((k, v) ∷ es) w ≡ (if pointwise nat_eq w k.items then v.items else kept_under es w)
   kept_more k v es w = go (pointwise nat_eq w k.items)
     where

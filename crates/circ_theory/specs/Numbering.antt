@@ -85,7 +85,7 @@ mutual
   seen_in_all_before none vs h = h
   seen_in_all_before (more t ts) vs h = seen_in_before t vs (seen_in_all_before ts (seen_in t vs) h)
 
-any_there : (k i s : ℕ) (ss : List ℕ) → slice_get ss i ≡ Some s → list_any (is_variable (record { number = k + i; sort = s })) (numbered k ss) ≡ true
+pub any_there : (k i s : ℕ) (ss : List ℕ) → slice_get ss i ≡ Some s → list_any (is_variable (record { number = k + i; sort = s })) (numbered k ss) ≡ true
 any_there k i s [] g = absurd (cc)
 any_there k zero s (t ∷ ss) g =
     let a : ((k + 0) == k) ≡ true = eq-eqb (k + 0) k (omega arith) in
@@ -101,7 +101,7 @@ any_there k (suc i) s (t ∷ ss) g =
     go rest true = refl
     go rest false = rest
 
-any_absent : (k n s : ℕ) (ss : List ℕ) → ((i : ℕ) → n ≡ k + i → slice_get ss i ≡ Some s → ⊥) → list_any (is_variable (record { number = n; sort = s })) (numbered k ss) ≡ false
+pub any_absent : (k n s : ℕ) (ss : List ℕ) → ((i : ℕ) → n ≡ k + i → slice_get ss i ≡ Some s → ⊥) → list_any (is_variable (record { number = n; sort = s })) (numbered k ss) ≡ false
 any_absent k n s [] h = refl
 any_absent k n s (t ∷ ss) h = go (any_absent (k + 1) n s ss (λ i e g. h (suc i) (omega arith) g)) ((n == k) && (s == t)) refl
   where

@@ -40,12 +40,12 @@ abbrev pub Renumbers : Substitution → List Variable → Type 0
 Renumbers σ vs = (n s : ℕ) → σ n s ≡ renumbering 0 vs n s
 
 -- a variable that was seen is given its place
-record Placed (k n s : ℕ) (vs rest : List Variable) : Type 0 where
-  place : ℕ
-  given : renumbering k (vs ++ rest) n s ≡ Var (k + place) s
-  there : slice_get (sorts_in vs) place ≡ Some s
+pub record Placed (k n s : ℕ) (vs rest : List Variable) : Type 0 where
+  pub place : ℕ
+  pub given : renumbering k (vs ++ rest) n s ≡ Var (k + place) s
+  pub there : slice_get (sorts_in vs) place ≡ Some s
 
-seen_number : (k n s : ℕ) (vs rest : List Variable) → list_any (is_variable (record { number = n; sort = s })) vs ≡ true → Placed k n s vs rest
+pub seen_number : (k n s : ℕ) (vs rest : List Variable) → list_any (is_variable (record { number = n; sort = s })) vs ≡ true → Placed k n s vs rest
 seen_number k n s [] rest h = absurd (cc)
 seen_number k n s (v ∷ vs) rest h = go (λ h. seen_number (k + 1) n s vs rest h) (is_variable (record { number = n; sort = s }) v) refl
   where
@@ -63,7 +63,7 @@ seen_number k n s (v ∷ vs) rest h = go (λ h. seen_number (k + 1) n s vs rest 
     }
 
 -- and one that is new is given the next place
-new_number : (k n s : ℕ) (vs rest : List Variable) → list_any (is_variable (record { number = n; sort = s })) vs ≡ false
+pub new_number : (k n s : ℕ) (vs rest : List Variable) → list_any (is_variable (record { number = n; sort = s })) vs ≡ false
     → renumbering k ((vs ++ record { number = n; sort = s } ∷ []) ++ rest) n s ≡ Var (k + length vs) s
 new_number k n s [] rest h =
     let a : (n == n) ≡ true = eq-eqb n n refl in
@@ -90,7 +90,7 @@ mutual
       go false = (record { number = n; sort = s } ∷ [], refl)
   seen_more (App f s ts) vs = all_seen_more ts vs
 
-  all_seen_more : (ts : Trees) (vs : List Variable) → (ws : List Variable) × (seen_in_all ts vs ≡ vs ++ ws)
+  pub all_seen_more : (ts : Trees) (vs : List Variable) → (ws : List Variable) × (seen_in_all ts vs ≡ vs ++ ws)
   all_seen_more none vs = ([], sym (append-nil vs))
   all_seen_more (more t ts) vs =
       let a = seen_more t vs in

@@ -5,6 +5,7 @@
 //! states what is proved of these notions.
 #![tactic(auto)]
 
+mod adding;
 mod fault;
 mod forms;
 pub mod laws;

@@ -16,12 +16,18 @@ ghost use Rattle.circ_theory.specs.Rule.{is_rule};
 ghost use Rattle.circ_theory.specs.Observing.{AreParametersInOrder, parameters_in, first_repeated, first_or_zero, derivative_with, slots_fault, derivative_fault, with_derivative, cases_of, cases_fault, with_cases, is_hidden, is_constant, no_constants, long_fault};
 ghost use Rattle.circ_theory.specs.Inside.{IsKeyOf, kept_under};
 
+use crate::adding::{
+    count_fault, first_from, first_or_zero, is_ill_sorted, is_rule_with, long_fault, note_word,
+};
 use crate::fault::TheoryFault;
-use crate::forms::{Form, Piece, Text};
-use crate::observing::{first_repeated, slots_of, Slots};
+use crate::forms::{Form, Text};
+use crate::observing::{Slots, first_repeated, slots_of};
 use crate::order::pair_variables;
 use crate::parts::{Equation, OpDecl};
-use crate::{MOST_ARGS, MOST_CASES, MOST_DERIVATIVES, MOST_EQUATIONS, MOST_OPS, MOST_PARAMS, MOST_SORTS, MOST_VARS};
+use crate::{
+    MOST_ARGS, MOST_CASES, MOST_DERIVATIVES, MOST_EQUATIONS, MOST_OPS, MOST_PARAMS, MOST_SORTS,
+    MOST_VARS,
+};
 use circ_term::{Kind, MOST_NODES, Term, TermFault};
 use indexmap::{IndexMap, IndexSet};
 use std::alloc::{AllocError, Global};
@@ -709,71 +715,6 @@ impl Theory {
     }
 }
 
-// Adds a number to those kept under a word.
-fn note_word(
-    alloc: Global,
-    by_word: &mut IndexMap<Vec<u8>, Vec<u32>>,
-    word: &[u8],
-    number: u32,
-) -> Result<(), AllocError>
-    ensures noted { OnOk result ((w : List ℕ) → kept_under by_word.new.entries w ≡ (if pointwise nat_eq w word.now then kept_under by_word.old.entries w ++ number ∷ [] else kept_under by_word.old.entries w)) }
-    ensures err { OnErr result ((w : List ℕ) → kept_under by_word.new.entries w ≡ kept_under by_word.old.entries w) }
-{
-    if let Some(numbers) = by_word.get_mut(word) {
-        numbers.push(number)?;
-        return Ok(());
-    }
-    let copy = Vec::from_slice(alloc, word)?;
-    let numbers = vec![in alloc; number]?;
-    by_word.insert(copy, numbers)?;
-    Ok(())
-}
-
-fn first_or_zero(numbers: &[u32]) -> u32
-    ensures { result ≡ first_or_zero numbers.now }
-{
-    match numbers {
-        [] => 0,
-        [first, ..] => *first,
-    }
-}
-
-fn is_rule_with(exec: bool, left: &Term, bound: bool) -> bool
-    ensures { result ≡ (exec && is_some (operator_number left.now) && bound) }
-{
-    exec && left.op_number().is_some() && bound
-}
-
-fn first_from(count: u32, sorts: &[u32]) -> Option<u32>
-    ensures { result ≡ find (λ s. not (nat_lt s count)) sorts.now }
-{
-    sorts.iter().copied().find(|sort| !(*sort < count))
-}
-
-fn count_fault(count: u32, most: usize) -> Option<TheoryFault>
-    ensures { result ≡ count_fault most count }
-{
-    if (count as usize) < most {
-        None
-    } else {
-        Some(TheoryFault::Limit {
-            count: count as u64 + 1,
-        })
-    }
-}
-
-fn long_fault(count: usize, most: usize) -> Option<TheoryFault>
-    ensures { result ≡ long_fault most count }
-{
-    if count > most {
-        Some(TheoryFault::Limit {
-            count: count as u64,
-        })
-    } else {
-        None
-    }
-}
-
 fn key_of(alloc: Global, decl: &OpDecl) -> Result<OpKey, AllocError>
     ensures { IfOk result (λ k. IsKeyOf k (operator_of decl.now)) }
 {
@@ -796,32 +737,4 @@ fn are_of_sorts(terms: &[Term], sorts: &[u32]) -> bool
         }
     }
     true
-}
-
-fn holes(pieces: &[Piece]) -> usize
-    ensures { result ≡ hole_count pieces.now }
-{
-    pieces
-        .iter()
-        .filter(|piece| match piece {
-            Piece::Hole => true,
-            Piece::Word(_) => false,
-        })
-        .count()
-}
-
-fn is_ill_sorted(decl: &OpDecl) -> bool
-    ensures { result ≡ is_ill_sorted (operator_of decl.now) }
-{
-    let holes = holes(decl.form.pieces());
-    if holes != 0 && holes != decl.args.len() {
-        return true;
-    }
-    if !(decl.assoc || decl.comm || decl.idem) {
-        return false;
-    }
-    match decl.args.as_slice() {
-        [first, second] => *first != decl.result || *second != decl.result,
-        _ => true,
-    }
 }

@@ -1,14 +1,16 @@
-use Rattle.std.proofs.Common.{ℕ, sym, subst}
+use Rattle.std.proofs.Common.{Bool, ℕ, sym, subst}
 use Rattle.circ_lexer.specs.TokenList.{tokens_in}
 use Rattle.circ_mixfix.specs.Coding.{AllBelow}
+use Rattle.circ_mixfix.specs.Found.{Keeps, OneRead}
 use Rattle.circ_mixfix.specs.Variables.{vars_in}
 use Rattle.circ_mixfix.proofs.Kept.{one_kept}
+use Rattle.circ_mixfix.proofs.Parameters.{all_with_parameters}
 use Rattle.circ_mixfix.proofs.TokenNumbers.{numbers_kept}
 use Rattle.circ_mixfix.proofs.WordLists.{begin_kept}
 use Rattle.circ_mixfix.proofs.parse.read_one.Goals as goal
 
-pub returns : goal.returns
-returns c =
+pub returns-clause-reading : goal.returns-clause-reading
+returns-clause-reading c =
     let count = c.count-count.result in
     let ns = c.in_ok-numbers.numbers.items in
     let old = c.numbers.new.words in
@@ -21,3 +23,10 @@ returns c =
     (begin_kept old new count g.grows (begin_kept c.in_ok-words.words old _ n.grows c.in_ok-words.ensures.begin)) ns toks c.in_ok-terms.terms.items c.in_ok-readings_of_one.field-0
     (subst P (sym c.count-count.ensures.count) n.numbers.below) (numbers_kept old new count ns toks g.grows n.numbers).texts
     (rw c.deref.ensures.value at c.in_ok-terms.ensures) (rw c.deref-2.ensures.value at c.in_ok-readings_of_one.ensures)
+
+pub returns-clause-parameters : goal.returns-clause-parameters
+returns-clause-parameters c = λ h.
+    let found = c.in_ok-readings_of_one.field-0 in
+    let terms = c.in_ok-terms.terms.items in
+    let P : Bool → Type 0 = λ hole. Keeps found (OneRead hole terms) in
+    all_with_parameters found terms (subst P h (rw c.deref-2.ensures.value at c.in_ok-readings_of_one.ensures))

@@ -4,7 +4,7 @@ use Rattle.std.specs.Map.{lookup}
 use Rattle.std.specs.Option.{option_map_or}
 use Rattle.circ_theory.specs.Inside.{kept_under}
 use Rattle.circ_theory.proofs.Noting.{kept-set, kept-insert, noted, unnoted, on_err}
-use Rattle.circ_theory.proofs.theories.note_word.Goals as goal
+use Rattle.circ_theory.proofs.adding.note_word.Goals as goal
 
 pub returns-in_err-push-clause-err : goal.returns-in_err-push-clause-err
 returns-in_err-push-clause-err c =

@@ -1,0 +1,108 @@
+//! What the calls that add parts test, and how they keep the numbers of operators.
+ghost use Rattle.std.specs.Prelude.{◌≡◌, ℕ, List, [], ◌∷◌, ◌++◌, ◌&&◌, if◌then◌else◌, nat_eq, nat_lt, not, find, is_some, OnOk, OnErr};
+ghost use Rattle.std.specs.Cmp.Lexicographic.{pointwise};
+ghost use Rattle.circ_term.specs.Tree.{operator_number};
+ghost use Rattle.circ_theory.specs.Operators.{operator_of, is_ill_sorted, hole_count};
+ghost use Rattle.circ_theory.specs.Adding.{count_fault};
+ghost use Rattle.circ_theory.specs.Observing.{first_or_zero, long_fault};
+ghost use Rattle.circ_theory.specs.Inside.{kept_under};
+
+use crate::fault::TheoryFault;
+use crate::forms::Piece;
+use crate::parts::OpDecl;
+use circ_term::Term;
+use indexmap::IndexMap;
+use std::alloc::{AllocError, Global};
+
+// Adds a number to those kept under a word.
+pub(crate) fn note_word(
+    alloc: Global,
+    by_word: &mut IndexMap<Vec<u8>, Vec<u32>>,
+    word: &[u8],
+    number: u32,
+) -> Result<(), AllocError>
+    ensures noted { OnOk result ((w : List ℕ) → kept_under by_word.new.entries w ≡ (if pointwise nat_eq w word.now then kept_under by_word.old.entries w ++ number ∷ [] else kept_under by_word.old.entries w)) }
+    ensures err { OnErr result ((w : List ℕ) → kept_under by_word.new.entries w ≡ kept_under by_word.old.entries w) }
+{
+    if let Some(numbers) = by_word.get_mut(word) {
+        numbers.push(number)?;
+        return Ok(());
+    }
+    let copy = Vec::from_slice(alloc, word)?;
+    let numbers = vec![in alloc; number]?;
+    by_word.insert(copy, numbers)?;
+    Ok(())
+}
+
+pub(crate) fn first_or_zero(numbers: &[u32]) -> u32
+    ensures { result ≡ first_or_zero numbers.now }
+{
+    match numbers {
+        [] => 0,
+        [first, ..] => *first,
+    }
+}
+
+pub(crate) fn is_rule_with(exec: bool, left: &Term, bound: bool) -> bool
+    ensures { result ≡ (exec && is_some (operator_number left.now) && bound) }
+{
+    exec && left.op_number().is_some() && bound
+}
+
+pub(crate) fn first_from(count: u32, sorts: &[u32]) -> Option<u32>
+    ensures { result ≡ find (λ s. not (nat_lt s count)) sorts.now }
+{
+    sorts.iter().copied().find(|sort| !(*sort < count))
+}
+
+pub(crate) fn count_fault(count: u32, most: usize) -> Option<TheoryFault>
+    ensures { result ≡ count_fault most count }
+{
+    if (count as usize) < most {
+        None
+    } else {
+        Some(TheoryFault::Limit {
+            count: count as u64 + 1,
+        })
+    }
+}
+
+pub(crate) fn long_fault(count: usize, most: usize) -> Option<TheoryFault>
+    ensures { result ≡ long_fault most count }
+{
+    if count > most {
+        Some(TheoryFault::Limit {
+            count: count as u64,
+        })
+    } else {
+        None
+    }
+}
+
+fn holes(pieces: &[Piece]) -> usize
+    ensures { result ≡ hole_count pieces.now }
+{
+    pieces
+        .iter()
+        .filter(|piece| match piece {
+            Piece::Hole => true,
+            Piece::Word(_) => false,
+        })
+        .count()
+}
+
+pub(crate) fn is_ill_sorted(decl: &OpDecl) -> bool
+    ensures { result ≡ is_ill_sorted (operator_of decl.now) }
+{
+    let holes = holes(decl.form.pieces());
+    if holes != 0 && holes != decl.args.len() {
+        return true;
+    }
+    if !(decl.assoc || decl.comm || decl.idem) {
+        return false;
+    }
+    match decl.args.as_slice() {
+        [first, second] => *first != decl.result || *second != decl.result,
+        _ => true,
+    }
+}
