@@ -1,6 +1,10 @@
-pub mod WordLists
-pub mod Cutting
-pub mod Spelled
-pub mod TermTexts
-pub mod Operators
-pub mod Statements
+mod Tokens
+mod Places
+mod Parts
+mod Stops
+mod Walk
+mod Texts
+mod Growing
+mod Once
+mod TextOnce
+mod StatementOnce

@@ -1,5 +1,6 @@
-pub mod Words
-pub mod Slices
-pub mod Cutting
-pub mod TheoryText
-pub mod Reading
+pub mod Causes
+pub mod Text
+pub mod Does
+pub mod Includes
+pub mod ReadsAs
+pub mod Steps

@@ -1,17 +1,25 @@
-//! The reader of theory texts: [`read_theory`] gives the one theory that the bytes read as.
+//! Theory texts.
+//!
+//! [`read_theory`] gives the theory that some bytes read as, or the first cause why they read as none. What bytes read as,
+//! and what the first cause is, is defined in `specs`, statement by statement; [`laws`] states what is proved of these
+//! notions. `docs/theory-text.md` has the rules in plain words.
 #![tactic(auto)]
 
-mod keywords;
-mod slices;
-mod term_text;
+mod cases;
+mod cause;
+mod derivatives;
+mod equations;
+pub mod laws;
+mod library;
+mod names;
+mod operators;
+mod reader;
+mod sorts;
+mod statement;
 #[cfg(test)]
 mod tests;
-mod theory_reader;
-mod theory_text;
-mod word_list;
-mod words;
+mod text;
+mod variables;
 
-pub use theory_text::read_theory;
-
-/// The most words of a side of an equation.
-pub const MOST_TOKENS: usize = 256;
+pub use cause::{Cause, ReadFault};
+pub use reader::read_theory;

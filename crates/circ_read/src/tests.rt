@@ -1,125 +1,200 @@
-//! Theory texts that read, and texts that do not.
-use crate::read_theory;
+use crate::{Cause, ReadFault, read_theory};
+use circ_lexer::Tokens;
 use std::alloc::{AllocError, Global};
 use std::test::Fail;
 
-const BEGIN: &str = "theory T is sort S . ops a b : -> S . op f : S S -> S . ";
+// A text, and its answer: the number of the statement, the cause, and the cause's number.
+type Row<'a> = (&'a [u8], u64, &'a [u8], u64);
 
-const ACCEPTED: [&str; 11] = [
-    "",
-    "sort R . op c : -> R . ",
-    "sorts R Q . ops c d : R Q -> S . ",
-    "op + + : -> S . eq ++ = a . ",
-    "eq a = b . ",
-    "eq (a) = f(a, b) . ",
-    "eq f ( f(a,b) , ((b)) ) = a\r\n\t. ",
-    "op x=y : S -> S . eq x=y(a) = b . ",
-    "var X : S . eq f(X, a) = (X) . ",
-    "vars X Y : S . eq f(Y, X) = f(X, Y) . ",
-    "sort R . vars S R : R . ",
-];
+// The cause by a word, with its number.
+fn told(cause: &Cause) -> (&'static [u8], u64) {
+    match cause {
+        Cause::NotAscii { place } => (b"not ascii", *place),
+        Cause::Control { place } => (b"control", *place),
+        Cause::LeftOut { word } => (b"left out", word.bytes().len() as u64),
+        Cause::Shape => (b"shape", 0),
+        Cause::UnknownTheory => (b"unknown theory", 0),
+        Cause::UnknownSort => (b"unknown sort", 0),
+        Cause::TooLong { count } => (b"too long", *count),
+        Cause::NoParse => (b"no parse", 0),
+        Cause::Ambiguous { .. } => (b"ambiguous", 0),
+        Cause::Twice { number } => (b"twice", *number as u64),
+        Cause::IllSorted { operator } => (b"ill sorted", *operator as u64),
+        Cause::NotLinear { variable } => (b"not linear", *variable as u64),
+        Cause::HoleCount { count } => (b"holes", *count as u64),
+        Cause::NoConstant => (b"no constant", 0),
+        Cause::NotVisible { sort } => (b"not visible", *sort as u64),
+        Cause::NowHidden { sort } => (b"now hidden", *sort as u64),
+        Cause::Limit { count } => (b"limit", *count),
+        _ => (b"of another text", 0),
+    }
+}
 
-const REFUSED: [&str; 41] = [
-    "sort . ",
-    "sort S . ",
-    "sort R:Q . ",
-    "sort -> . ",
-    "sorts R R . ",
-    "op a : -> S . ",
-    "op : -> S . ",
-    "ops : -> S . ",
-    "op g_ : S -> S . ",
-    "op [ ] : -> S . ",
-    "op c : R -> S . ",
-    "op c : S -> . ",
-    "op c : S . ",
-    "op c -> S . ",
-    "op c : -> S [ prec 1 ] . ",
-    "op . : -> S . ",
-    "eq a . ",
-    "eq a = . ",
-    "eq = a . ",
-    "eq a = b = a . ",
-    "eq f = a . ",
-    "eq f(a) = a . ",
-    "eq f(a b) = a . ",
-    "eq f(a, b = a . ",
-    "eq a() = a . ",
-    "eq ((a) = a . ",
-    "eq c = a . ",
-    "eq a = b ",
-    "--- no comment\n",
-    "eq a = (---) . ",
-    "\u{e9} ",
-    "var X : R . ",
-    "vars : S . ",
-    "vars X Y : S S . ",
-    "vars X Y S . ",
-    "var X : S . var X : S . ",
-    "vars X X : S . ",
-    "var a : S . ",
-    "var X : S . op X : -> S . ",
-    "var X : S . eq X(a) = a . ",
-    "var X : S . sort R . op g : R -> S . eq g(X) = a . ",
-];
-
-fn reads(alloc: Global, front: &str, middle: &str, back: &str) -> Result<bool, AllocError> {
-    let text = format!(in alloc; "{front}{middle}{back}")?;
-    Ok(read_theory(alloc, text.as_bytes())?.is_some())
+// Whether reading the text answers this; with the number 0 and the cause `read` it is read.
+fn is_answered(alloc: Global, row: Row<'_>) -> bool {
+    let (text, number, word, count) = row;
+    match read_theory(alloc, text) {
+        Ok(_) => number == 0 && word == b"read".as_slice(),
+        Err(ReadFault::Statement {
+            number: found,
+            cause,
+        }) => {
+            let (name, of) = told(&cause);
+            found == number && name == word && of == count
+        }
+        Err(ReadFault::Memory) => false,
+    }
 }
 
 #[test]
-fn accepted_and_refused(rt: HostRuntime) -> Result<(), Fail> {
-    for middle in ACCEPTED {
-        assert!(rt; reads(rt.alloc(), BEGIN, middle, "endtheory")?, "{middle}");
-    }
-    for middle in REFUSED {
-        assert!(rt; !reads(rt.alloc(), BEGIN, middle, "endtheory")?, "{middle}");
+fn texts(rt: HostRuntime) -> Result<(), Fail> {
+    let rows: [Row<'_>; 48] = [
+        // whole texts
+        (b"theory T is endtheory", 0, b"read", 0),
+        (b"(theory T is endtheory)", 0, b"read", 0),
+        (b"theory T is sorts A B . op a : -> A . endtheory", 0, b"read", 0),
+        (b"theory T is sort A . ops a b : -> A . op _+_ : A A -> A [assoc comm] . var X : A . eq X + a = X . eq a + a = b [nonexec] . endtheory", 0, b"read", 0),
+        (b"theory T is sorts A B . op a : -> A . op h : B -> A . derivative h(*:B) . cases A by a . endtheory", 0, b"read", 0),
+        (b"theory B is inc BITS . vars S A B C : Stream . endtheory", 0, b"read", 0),
+        (b"theory B is including BITS . protecting BITS . pr BITS . endtheory", 0, b"read", 0),
+        (b"theory B is inc TREE . inc STREAM . endtheory", 3, b"twice", 0),
+        // the form
+        (b"", 1, b"shape", 0),
+        (b"theory = is endtheory", 1, b"shape", 0),
+        (b"theory T is", 2, b"shape", 0),
+        (b"(theory T is endtheory", 2, b"shape", 0),
+        (b"theory T is endtheory )", 2, b"shape", 0),
+        (b"theory T is endtheory endtheory", 2, b"shape", 0),
+        (b"theory T is sort A endtheory", 2, b"shape", 0),
+        (b"theory T is sort A . subsort A endtheory", 3, b"shape", 0),
+        (b"theory T is endtheory .", 2, b"shape", 0),
+        // bytes
+        (b"theory T is \xc3 endtheory", 0, b"not ascii", 12),
+        (b"theory\x07 T is endtheory", 0, b"control", 6),
+        // the statement alone
+        (b"theory T is subsort A . endtheory", 2, b"left out", 7),
+        (b"theory T is sort A . op f : -> A [strat] . endtheory", 3, b"left out", 5),
+        (b"theory T is sort . endtheory", 2, b"shape", 0),
+        (b"theory T is sort A . op f : A -> A [assoc assoc] . endtheory", 3, b"shape", 0),
+        // what it names
+        (b"theory T is inc NONE . endtheory", 2, b"unknown theory", 0),
+        (b"theory T is inc T . endtheory", 2, b"unknown theory", 0),
+        (b"theory T is sort A . op a : -> B . endtheory", 3, b"unknown sort", 0),
+        (b"theory T is sort A . op a : -> A . ops a b : A B -> A . endtheory", 4, b"unknown sort", 0),
+        (b"theory T is sort A . var X : A . vars X Y : B . endtheory", 4, b"unknown sort", 0),
+        (b"theory T is cases A by a . endtheory", 2, b"unknown sort", 0),
+        // terms
+        (b"theory T is sort A . op a : -> A . eq a = b . endtheory", 4, b"no parse", 0),
+        (b"theory T is sort A . op a : -> A . eq a = [nonexec] . endtheory", 4, b"no parse", 0),
+        (b"theory T is sort A . op a : -> A . derivative . endtheory", 4, b"no parse", 0),
+        (b"theory T is sort A . op a : -> A . cases A by a a b . endtheory", 4, b"no parse", 0),
+        (b"theory T is sort A . op a : -> A . op _+_ : A A -> A . eq a + a + a = a . endtheory", 5, b"ambiguous", 0),
+        (b"theory B is inc BITS . eq X = X . endtheory", 3, b"no parse", 0),
+        (b"theory B is sort A . op a : -> A . var X : A . inc BITS . eq X = a . endtheory", 0, b"read", 0),
+        // parts
+        (b"theory T is sort A . sorts B A B . endtheory", 3, b"twice", 0),
+        (b"theory T is sort A . op a : -> A . ops b a b : -> A . endtheory", 4, b"twice", 0),
+        (b"theory T is sorts A B . vars X Y : A . vars Z Y X : B . endtheory", 4, b"twice", 1),
+        (b"theory T is sort Bit . inc BITS . endtheory", 3, b"twice", 0),
+        (b"theory T is sort A . op a : -> A . op _+_ : A -> A . endtheory", 4, b"ill sorted", 1),
+        (b"theory T is sort A . op g : A A A -> A . derivative g(*:A, X:A, X:A) . endtheory", 4, b"not linear", 1),
+        (b"theory T is sort A . op a : -> A . derivative a . endtheory", 4, b"holes", 0),
+        (b"theory T is sort A . cases A by . endtheory", 3, b"no constant", 0),
+        (b"theory T is sorts A B . op a : -> A . op h : A -> B . derivative h(*:A) . cases A by a . endtheory", 6, b"not visible", 0),
+        (b"theory T is sorts A B . op a : -> A . op h : A -> B . cases A by a . derivative h(*:A) . endtheory", 6, b"now hidden", 0),
+        (b"theory T is sort A . op f : A A A A A A A A A A A A A A A A A -> A . endtheory", 3, b"limit", 17),
+        (b"theory T is sort A . op a : -> A . cases A by a a . endtheory", 4, b"twice", 0),
+    ];
+    for row in &rows {
+        assert!(rt; is_answered(rt.alloc(), *row));
     }
     Ok(())
 }
 
-#[test]
-fn whole_texts(rt: HostRuntime) -> Result<(), Fail> {
-    let alloc = rt.alloc();
-    assert!(rt; reads(alloc, "theory T is", " ", "endtheory")?);
-    assert!(rt; !reads(alloc, "", "", "")?);
-    assert!(rt; !reads(alloc, "theory T is", " ", "endtheory .")?);
-    assert!(rt; !reads(alloc, "theory . is", " ", "endtheory")?);
-    assert!(rt; !reads(alloc, "(theory T is", " ", "endtheory)")?);
-    assert!(rt; !reads(alloc, "theory is", " ", "endtheory")?);
-    assert!(rt; !reads(alloc, "theory T is", " sort S .", "")?);
-    Ok(())
-}
-
-#[test]
-fn long_sides(rt: HostRuntime) -> Result<(), Fail> {
-    let alloc = rt.alloc();
-    let mut open = String::new(alloc);
-    let mut close = String::new(alloc);
-    for _ in 0..126 {
-        open.push_str("(")?;
-        close.push_str(")")?;
+// What stands in place of a name: many tokens.
+fn long_equation(alloc: Global) -> Result<Vec<u8>, AllocError> {
+    let mut text = Vec::new(alloc);
+    text.extend_from_slice(b"theory T is sort A . op a : -> A . eq a = ")?;
+    for _ in 0..257 {
+        text.extend_from_slice(b"a ")?;
     }
-    let short = format!(in alloc; "op g : S -> S . eq {open}g(a){close} = a . ")?;
-    assert!(rt; reads(alloc, BEGIN, short.as_str(), "endtheory")?);
-    let long = format!(in alloc; "op g : S -> S . eq {open}((a)){close} = a . ")?;
-    assert!(rt; !reads(alloc, BEGIN, long.as_str(), "endtheory")?);
-    Ok(())
+    text.extend_from_slice(b". endtheory")?;
+    Ok(text)
 }
 
 #[test]
-fn parts_of_a_theory(rt: HostRuntime) -> Result<(), Fail> {
-    let alloc = rt.alloc();
-    let text =
-        "theory T is sort S . op a : -> S . op f : S S -> S . vars X Y : S . eq f(Y, a) = X . endtheory";
-    let theory = read_theory(alloc, text.as_bytes())?.ok_or("no theory")?;
-    assert_eq!(rt; theory.name(), b"T".as_slice());
-    assert_eq!(rt; theory.sort_count(), 1);
-    assert_eq!(rt; theory.op_count(), 2);
-    assert_eq!(rt; theory.var_count(), 2);
-    let equation = theory.equation(0).ok_or("no equation")?;
-    assert_eq!(rt; equation.left.op_number(), Some(1));
-    assert_eq!(rt; equation.right.var_number(), Some(1));
+fn long_terms(rt: HostRuntime) -> Result<(), Fail> {
+    let text = long_equation(rt.alloc())?;
+    assert!(rt; is_answered(rt.alloc(), (text.as_slice(), 4, b"too long", 257)));
+    Ok(())
+}
+
+// The two readings that a text shows, joined.
+fn readings(alloc: Global, text: &[u8]) -> Result<Vec<u8>, AllocError> {
+    let mut shown = Vec::new(alloc);
+    if let Err(ReadFault::Statement {
+        cause: Cause::Ambiguous { first, second },
+        ..
+    }) = read_theory(alloc, text)
+    {
+        shown.extend_from_slice(first.bytes())?;
+        shown.extend_from_slice(b" | ")?;
+        shown.extend_from_slice(second.bytes())?;
+    }
+    Ok(shown)
+}
+
+#[test]
+fn two_readings(rt: HostRuntime) -> Result<(), Fail> {
+    let pair = readings(
+        rt.alloc(),
+        b"theory T is sort A . op _+_ : A A -> A . op a : -> A . eq a + a + a = a . endtheory",
+    )?;
+    assert!(rt; pair.as_slice() == b"((a + a) + a) = a | (a + (a + a)) = a".as_slice());
+    let hole = readings(
+        rt.alloc(),
+        b"theory T is sort A . op _+_ : A A -> A . op a : -> A . derivative *:A + a + X:A . endtheory",
+    )?;
+    assert!(rt; hole.as_slice() == b"(*:A + (a + V1:A)) | ((*:A + a) + V1:A)".as_slice());
+    Ok(())
+}
+
+// How many of the first tokens are stops.
+fn stops(tokens: &Tokens<'_>, count: usize) -> u64 {
+    let mut stops = 0;
+    for n in 0..count {
+        if let Some(word) = tokens.token(n) {
+            if word == b".".as_slice() && stops < 1_000_000 {
+                stops += 1;
+            }
+        }
+    }
+    stops
+}
+
+// A text that is cut has the cause Shape at the statement that was reached.
+#[test]
+fn cut_texts(rt: HostRuntime) -> Result<(), Fail> {
+    let Some(text) = circ_lib::lookup(b"BITS") else {
+        assert!(rt; false);
+        return Ok(());
+    };
+    let tokens = Tokens::of(rt.alloc(), text)?;
+    for n in 0..tokens.count() {
+        let Some(span) = tokens.span(n) else {
+            break;
+        };
+        let Some(front) = text.get(..span.to) else {
+            break;
+        };
+        let number = if n < 2 { 1 } else { stops(&tokens, n + 1) + 2 };
+        let whole = n + 1 == tokens.count();
+        let row: Row<'_> = if whole {
+            (front, 0, b"read", 0)
+        } else {
+            (front, number, b"shape", 0)
+        };
+        assert!(rt; is_answered(rt.alloc(), row));
+    }
     Ok(())
 }

@@ -85,8 +85,8 @@ fn is_inclusion_word(word: &[u8]) -> bool
         || is_word(word, b"pr")
 }
 
-// Whether a token can be a name or a sort.
-pub(crate) fn is_name(word: &[u8]) -> bool
+/// Whether a token can be a name or a sort.
+pub fn is_name(word: &[u8]) -> bool
     ensures { result ≡ is_name word.now }
 {
     !(is_special_word(word) || has_colon(word) || is_reserved(word))

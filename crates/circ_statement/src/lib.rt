@@ -18,6 +18,7 @@ mod statements;
 mod tests;
 
 pub use fault::StatementFault;
+pub use keywords::is_name;
 pub use reading::statement;
 pub use statements::{Spelling, Statement};
 

@@ -1,16 +1,17 @@
 -- Adding a part to a theory: when it is refused, and what is there afterwards.
-use Rattle.std.specs.Prelude.{◌≡◌, ℕ, ◌+◌, List, [], ◌∷◌, ◌++◌, Bool, not, ◌==◌, nat_eq, nat_lt, if◌then◌else◌, length, map, position, find, Option, Some, None, is_some, unwrap_or, Result, Ok, Err}
+use Rattle.std.specs.Prelude.{◌≡◌, ℕ, ◌+◌, List, [], ◌∷◌, ◌++◌, Bool, not, ◌==◌, ◌&&◌, nat_eq, nat_lt, if◌then◌else◌, length, map, position, find, Option, Some, None, is_some, unwrap_or, Result, Ok, Err}
 use Rattle.std.specs.List.{slice_get}
 use Rattle.std.specs.Option.{option_map, option_or, option_and_then}
 use Rattle.std.specs.Cmp.Lexicographic.{pointwise}
 use Rattle.circ_term.specs.Tree.{Tree, App, sort_of, trees_of}
+use Rattle.circ_theory.specs.declared.forms.Piece.{Piece}
 use Rattle.circ_theory.specs.declared.parts.Equation.{Equation}
 use Rattle.circ_theory.specs.declared.fault.TheoryFault.{TheoryFault}
 use Rattle.circ_theory.specs.declared.fault.TheoryFault.TheVariants.{Twice, UnknownSort, IllSorted, Limit, Memory}
 use Rattle.circ_theory.specs.declared.TheConstants.{MOST_SORTS, MOST_VARS, MOST_OPS, MOST_EQUATIONS, MOST_ARGS}
 use Rattle.circ_theory.specs.Signature.{Signature, Operator}
 use Rattle.circ_theory.specs.Theory.{Theory, declared}
-use Rattle.circ_theory.specs.Operators.{is_same_operator, is_ill_sorted}
+use Rattle.circ_theory.specs.Operators.{is_same_piece, is_same_operator, is_ill_sorted}
 
 -- the number of the sort of this name
 abbrev pub sort_number : Signature → List ℕ → Option ℕ
@@ -50,6 +51,10 @@ var_fault th name sort = unwrap_or (option_map (old_var_fault th sort) (var_numb
 -- the number of the operator of this form and these argument sorts
 abbrev pub op_number : Signature → Operator → Option ℕ
 op_number sig o = position (is_same_operator o) sig.ops
+
+-- the same by form and sorts alone
+abbrev pub op_of_form : Signature → List Piece → (args : List ℕ) → Option ℕ
+op_of_form sig form args = position (λ o. pointwise is_same_piece form o.form && pointwise nat_eq args o.args) sig.ops
 
 -- why an operator is not added
 abbrev pub op_fault : Theory → Operator → Option TheoryFault

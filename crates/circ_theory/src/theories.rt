@@ -10,7 +10,7 @@ ghost use Rattle.circ_theory.specs.Theory.{pair_of, declared, Declared, IsWellSo
 ghost use Rattle.circ_theory.specs.Variables.{IsInOrder, sorts_of};
 ghost use Rattle.circ_theory.specs.Operators.{operator_of, is_ill_sorted, hole_count, ops_by_word};
 ghost use Rattle.circ_theory.specs.WellFormed.{IsWellFormed};
-ghost use Rattle.circ_theory.specs.Adding.{Numbers, sort_number, sort_fault, op_fault, equation_fault, var_number, old_var_fault, new_var_fault, var_fault, count_fault, unknown_sort, with_sort, with_var, with_op, with_equation, application};
+ghost use Rattle.circ_theory.specs.Adding.{Numbers, sort_number, sort_fault, op_fault, equation_fault, var_number, old_var_fault, new_var_fault, var_fault, count_fault, unknown_sort, with_sort, with_var, with_op, with_equation, application, op_of_form};
 ghost use Rattle.circ_theory.specs.Names.{AreDifferent, names_of};
 ghost use Rattle.circ_theory.specs.Rule.{is_rule};
 ghost use Rattle.circ_theory.specs.Observing.{AreParametersInOrder, parameters_in, first_repeated, first_or_zero, derivative_with, slots_fault, derivative_fault, with_derivative, cases_of, cases_fault, with_cases, is_hidden, is_constant, no_constants, long_fault};
@@ -20,7 +20,7 @@ use crate::adding::{
     count_fault, first_from, first_or_zero, is_ill_sorted, is_rule_with, long_fault, note_word,
 };
 use crate::fault::TheoryFault;
-use crate::forms::Text;
+use crate::forms::{Form, Text};
 use crate::observing::{Slots, first_repeated, slots_of};
 use crate::order::pair_variables;
 use crate::parts::{Equation, OpDecl};
@@ -554,6 +554,21 @@ impl Theory {
         match self.by_word.get(word) {
             Some(numbers) => numbers.as_slice(),
             None => &[],
+        }
+    }
+
+    /// The number of the operator of this form and these argument sorts.
+    pub fn op_named(&self, form: &Form, args: &[u32]) -> Result<Option<u32>, AllocError>
+        ensures { IfOk result (λ o. o ≡ op_of_form self.now.signature form.now args.now) }
+    {
+        form.known();
+        let key = OpKey {
+            form: form.spell(self.alloc)?,
+            args: Vec::from_slice(self.alloc, args)?,
+        };
+        match self.ops.get_index_of(&key) {
+            Some(number) => Ok(Some(number as u32)),
+            None => Ok(None),
         }
     }
 

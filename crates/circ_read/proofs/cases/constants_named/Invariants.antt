@@ -1,0 +1,10 @@
+use Rattle.std.proofs.Common.{◌≡◌, ◌++◌}
+use Rattle.std.specs.Option.{option_map}
+use Rattle.circ_read.specs.Does.{constant_number}
+use Rattle.circ_read.specs.Does.{all_numbers}
+use Rattle.circ_read.proofs.Tokens.{tokens_from}
+use Rattle.circ_read.proofs.cases.constants_named.Given as goal
+
+abbrev pub invariant-loop-n : goal.invariant-loop-n
+invariant-loop-n l =
+    option_map (λ ns. l.constants.items ++ ns) (all_numbers (constant_number l.theory.signature l.sort) (tokens_from l.tokens l.n l.fn.names.to)) ≡ all_numbers (constant_number l.theory.signature l.fn.sort) (tokens_from l.tokens l.fn.names.from l.fn.names.to)

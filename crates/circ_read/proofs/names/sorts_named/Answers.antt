@@ -1,0 +1,27 @@
+use Rattle.std.proofs.Common.{◌≡◌, ◌++◌, ap, sym, ◌∙◌}
+use Rattle.std.specs.Option.{option_map}
+use Rattle.circ_theory.specs.Adding.{sort_number}
+use Rattle.circ_read.specs.declared.cause.Cause.TheVariants.{UnknownSort}
+use Rattle.circ_read.specs.Does.{all_numbers, or_cause}
+use Rattle.circ_read.proofs.Tokens.{here_token, no_token}
+use Rattle.circ_read.proofs.Parts.{one_more, no_more, none_yet, all_found}
+use Rattle.circ_read.proofs.names.sorts_named.Goals as goal
+
+pub loop-n-init : goal.loop-n-init
+loop-n-init c = none_yet _ c.new-sorts.result.items c.new-sorts.ensures.items
+
+pub loop-n-preserved : goal.loop-n-preserved
+loop-n-preserved c =
+    rw c.in_ok-push-in-Some.ensures.items
+    (one_more (sort_number c.args.theory.now.signature) c.word.result.now _ _ (here_token c.args.tokens.now c.args.names c.loop-n.n c.word.result.now c.requires c.loop-n-test.true c.word.ensures)
+    c.loop-n.sorts.items _ c.loop-n.invariant c.in-Some.sort (sym c.in-Some.ensures))
+
+pub returns-in-None : goal.returns-in-None
+returns-in-None c =
+    rw c.because.ensures
+    (ap (λ o. or_cause o UnknownSort)
+    (no_more (sort_number c.args.theory.now.signature) c.word.result.now _ _ (here_token c.args.tokens.now c.args.names c.loop-n.n c.word.result.now c.requires c.loop-n-test.true c.word.ensures)
+    c.loop-n.sorts.items _ c.loop-n.invariant (sym c.in-None.ensures)))
+
+pub returns : goal.returns
+returns c = all_found (sort_number c.args.theory.now.signature) _ c.loop-n.sorts.items _ UnknownSort (no_token c.args.tokens.now c.loop-n.n c.args.names.to c.loop-n-test.false) c.loop-n.invariant

@@ -1,0 +1,18 @@
+use Rattle.std.proofs.Common.{ap, sym, ◌∙◌}
+use Rattle.circ_read.specs.Does.{all_added, sort_added}
+use Rattle.circ_read.proofs.Tokens.{here_token, no_token}
+use Rattle.circ_read.proofs.Parts.{more_added, stopped}
+use Rattle.circ_read.proofs.sorts.add_sorts.Goals as goal
+
+pub loop-n-preserved : goal.loop-n-preserved
+loop-n-preserved c =
+    more_added sort_added c.loop-n.theory c.word.result.now _ _ (here_token c.args.tokens.now c.args.names c.loop-n.n c.word.result.now c.requires c.loop-n-test.true c.word.ensures) _ c.loop-n.invariant
+    c.add_sort.new.theory c.in-Ok.ensures
+
+pub returns-in-Err : goal.returns-in-Err
+returns-in-Err c =
+    stopped sort_added c.loop-n.theory c.word.result.now _ _ (here_token c.args.tokens.now c.args.names c.loop-n.n c.word.result.now c.requires c.loop-n-test.true c.word.ensures) _ c.loop-n.invariant
+    c.in-Err.fault c.add_sort.new.theory c.add_sort.new.theory c.in-Err.ensures
+
+pub returns : goal.returns
+returns c = ap (all_added sort_added c.loop-n.theory) (sym (no_token c.args.tokens.now c.loop-n.n c.args.names.to c.loop-n-test.false)) ∙ c.loop-n.invariant

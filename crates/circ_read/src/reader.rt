@@ -1,0 +1,176 @@
+//! The reader of a theory text.
+ghost use Rattle.std.specs.Prelude.{◌≡◌, ◌+◌, IfOk, drop, nat_eq, false, Some};
+ghost use Rattle.circ_lexer.specs.TokenList.{tokens_of, tokens_in, IsWithin};
+ghost use Rattle.circ_statement.specs.Said.{said_of, LiesWithin};
+ghost use Rattle.circ_read.specs.Text.{DoTokens};
+ghost use Rattle.circ_read.specs.Includes.{is_included, Includes, DoesIn, text_named};
+ghost use Rattle.circ_read.specs.ReadsAs.{begun, GivesTheory};
+ghost use Rattle.circ_read.specs.Steps.{Answers, IsHeadOf, GivesBody, GivesRead, fault_at, scope_of};
+
+use crate::cause::{Cause, Fault, ReadFault, because, byte_fault};
+use crate::library::add_text;
+use crate::statement::{add_statement, shape};
+use crate::names::{is_word, word};
+use crate::text::{Head, is_end, next_stop, read_head};
+use circ_lexer::{Span, Tokens};
+use circ_statement::Statement;
+use circ_theory::{Text, Theory};
+use std::alloc::{AllocError, Global};
+
+/// The theory that the bytes read as. A fault has the number of the statement with the first cause: the head is statement 1,
+/// the statements are counted on, and the end has the next number. A bad byte stands under the number 0.
+pub fn read_theory(alloc: Global, bytes: &[u8]) -> Result<Theory, ReadFault>
+    ensures gives { GivesTheory result bytes.now }
+{
+    match Tokens::of(alloc, bytes) {
+        Ok(tokens) => theory_of(alloc, &tokens),
+        Err(fault) => Err(fault_at(0, byte_fault(fault))),
+    }
+}
+
+fn theory_of(alloc: Global, tokens: &Tokens<'_>) -> Result<Theory, ReadFault>
+    ensures { GivesTheory result tokens.now.source }
+{
+    tokens.known();
+    match read_head(tokens) {
+        Some(head) => theory_after(alloc, tokens, &head),
+        None => Err(ReadFault::Statement {
+            number: 1,
+            cause: Cause::Shape,
+        }),
+    }
+}
+
+fn theory_after(alloc: Global, tokens: &Tokens<'_>, head: &Head<'_>) -> Result<Theory, ReadFault>
+    requires { IsHeadOf (tokens_of tokens.now) head.now }
+    ensures { GivesRead result (begun head.now.name.now) (drop head.now.body (tokens_of tokens.now)) head.now.opened }
+{
+    match Reader::new(alloc, head.name) {
+        Ok(reader) => reader.whole(tokens, head),
+        Err(_) => Err(ReadFault::Memory),
+    }
+}
+
+// A theory, and what was included in it.
+#[derive(Drop)]
+struct Reader {
+    alloc: Global,
+    theory: Theory,
+    included: Vec<Text>,
+}
+
+impl Reader {
+    fn new(alloc: Global, name: &[u8]) -> Result<Reader, AllocError>
+        ensures { IfOk result (λ r. scope_of r ≡ begun name.now) }
+    {
+        Ok(Reader {
+            alloc,
+            theory: Theory::new(alloc, name)?,
+            included: Vec::new(alloc),
+        })
+    }
+
+    // The theory that the text after a head leads to.
+    fn whole(self, tokens: &Tokens<'_>, head: &Head<'_>) -> Result<Theory, ReadFault>
+        requires { IsHeadOf (tokens_of tokens.now) head.now }
+        ensures { GivesRead result (scope_of self) (drop head.now.body (tokens_of tokens.now)) head.now.opened }
+    {
+        let mut reader = self;
+        match reader.add_body(tokens, head) {
+            Ok(()) => {
+                let Reader { theory, .. } = reader;
+                Ok(theory)
+            }
+            Err(fault) => Err(fault),
+        }
+    }
+
+    fn add_body(&mut self, tokens: &Tokens<'_>, head: &Head<'_>) -> Result<(), ReadFault>
+        requires { IsHeadOf (tokens_of tokens.now) head.now }
+        ensures { GivesBody result (scope_of self.old) (scope_of self.new) (drop head.now.body (tokens_of tokens.now)) head.now.opened }
+    {
+        let mut at = head.body;
+        let mut number = 2;
+        while let Some(stop) = next_stop(tokens, at) {
+            match self.add_tokens(tokens, Span { from: at, to: stop }) {
+                Ok(()) => {}
+                Err(fault) => return Err(fault_at(number, fault)),
+            }
+            at = stop + 1;
+            number += 1;
+        }
+        if is_end(tokens, at, head.opened) {
+            Ok(())
+        } else {
+            Err(ReadFault::Statement {
+                number,
+                cause: Cause::Shape,
+            })
+        }
+    }
+
+    fn add_tokens(&mut self, tokens: &Tokens<'_>, span: Span) -> Result<(), Fault>
+        requires { IsWithin tokens.now span }
+        ensures { Answers result (scope_of self.new) (DoTokens DoesIn (scope_of self.old) (tokens_in tokens.now span)) }
+    {
+        match shape(self.alloc, tokens, span) {
+            Ok(statement) => self.add_statement(tokens, statement),
+            Err(fault) => Err(fault),
+        }
+    }
+
+    fn add_statement(&mut self, tokens: &Tokens<'_>, statement: Statement) -> Result<(), Fault>
+        requires { LiesWithin tokens.now statement }
+        ensures { Answers result (scope_of self.new) (DoesIn (scope_of self.old) (said_of tokens.now statement)) }
+    {
+        match statement {
+            Statement::Inclusion { name } => self.include(word(tokens, name)),
+            statement => add_statement(self.alloc, &mut self.theory, tokens, statement),
+        }
+    }
+
+    fn include(&mut self, name: &[u8]) -> Result<(), Fault>
+        ensures { Answers result (scope_of self.new) (Includes (scope_of self.old) name.now) }
+    {
+        if self.is_included(name) {
+            return Ok(());
+        }
+        match circ_lib::lookup(name) {
+            Some(text) => self.include_text(name, text),
+            None => Err(because(Cause::UnknownTheory)),
+        }
+    }
+
+    fn include_text(&mut self, name: &[u8], text: &[u8]) -> Result<(), Fault>
+        requires new { is_included (scope_of self.old) name.now ≡ false }
+        requires text { text_named name.now ≡ Some text.now }
+        ensures { Answers result (scope_of self.new) (Includes (scope_of self.old) name.now) }
+    {
+        self.theory.known();
+        let name = Text::of(self.alloc, name)?;
+        let vars = self.theory.take_vars();
+        match add_text(self.alloc, &mut self.theory, text) {
+            Ok(()) => {}
+            Err(fault) => return Err(fault),
+        }
+        self.theory.put_vars(vars);
+        self.included.push(name)?;
+        Ok(())
+    }
+
+    fn is_included(&self, name: &[u8]) -> bool
+        ensures { result ≡ is_included (scope_of self.now) name.now }
+    {
+        self.included.iter().any(|word| is_word(word.bytes(), name))
+    }
+}
+
+// A fault of a step, with the number of its statement.
+fn fault_at(number: u64, fault: Fault) -> ReadFault
+    ensures { result ≡ fault_at number fault }
+{
+    match fault {
+        Fault::Because { cause } => ReadFault::Statement { number, cause },
+        Fault::Memory => ReadFault::Memory,
+    }
+}
