@@ -6,38 +6,35 @@ use Rattle.circ_outer.specs.Count.{Rose}
 use Rattle.circ_outer.specs.Shelf.{Fault, IsQuiet}
 use Rattle.circ_theory.specs.Theory.{Theory}
 use Rattle.circ_file.specs.Proof.{Proof}
-use Rattle.circ_top.specs.Outcome.{Held, Holds, AreBytes, IsRefused, ReadsTheory, ReadsProof, outside, Outside, Output, IsNoTheory, IsNoProof, IsUnread, IsFileFault, Fails, RefusesCheck, theory_fault, proof_fault, step_fails, Refuses, no_command, no_check, Due, success, refusal, Prints, Delivers, whole, write_failed, memory_wanted, Answers, Accepts, Rejects}
-use Rattle.circ_read.specs.Reading.{Only}
-use Rattle.circ_read.specs.TheoryText.{ReadsAs}
+use Rattle.circ_top.specs.Outcome.{Held, Holds, AreBytes, IsRefused, ReadsTheory, ReadsProof, outside, Outside, Output, IsOnly, Refusal, TheoryRefusal, ProofRefusal, IsUnread, IsFileFault, Fails, RefusesCheck, theory_fault, proof_fault, step_fails, Refuses, no_command, no_check, Due, success, refusal, Prints, Delivers, whole, write_failed, memory_wanted, Answers, Accepts, Rejects}
+use Rattle.circ_read.specs.ReadsAs.{ReadsAs}
 use Rattle.circ_file.specs.ProofText.{ReadsAsProof}
 use Rattle.circ_top.specs.declared.files.TheConstants.{MOST_BYTES}
 use Rattle.circ_top.specs.Texts.{refusal_text}
 use Rattle.circ_top.specs.declared.status.Status.{Status}
 use Rattle.circ_top.specs.declared.status.Status.TheVariants.{Refused, Unreadable, TooLong, ReadFault, Memory}
 use Rattle.circ_top.specs.declared.status.Status.TheVariants as status
-use Rattle.circ_top.specs.declared.status.Cause.{Cause}
-use Rattle.circ_top.specs.declared.status.Cause.TheVariants as cause
 
 -- what a file held after a call it held before
 moved : (h k : Held) (name : List ℕ) (P : List ℕ → Type 0) → k name ≡ h name → Holds k name P → Holds h name P
 moved h k name P e r = record { bytes = r.bytes; bytes_are = sym e ∙ r.bytes_are; short = r.short; are = r.are }
 
 pub held_before : {X : Type 0} (h k : Held) (name : List ℕ) (R : List ℕ → X → Type 0) (x : X) → k name ≡ h name
-    → Only (Some x) (λ y. Holds k name (λ bytes. R bytes y)) → Only (Some x) (λ y. Holds h name (λ bytes. R bytes y))
+    → IsOnly x (λ y. Holds k name (λ bytes. R bytes y)) → IsOnly x (λ y. Holds h name (λ bytes. R bytes y))
 held_before h k name R x e r = (moved h k name (λ bytes. R bytes x) e r.0, λ y t. r.1 y (moved k h name (λ bytes. R bytes y) (sym e) t))
 
 -- what bytes alone read as, a file that holds them reads as
 pub only_read : {X : Type 0} (h : Held) (name bytes : List ℕ) (R : List ℕ → X → Type 0) (x : X) → h name ≡ Some bytes → length bytes ≤ MOST_BYTES
-    → R bytes x × ((y : X) → R bytes y → y ≡ x) → Only (Some x) (λ y. Holds h name (λ bytes. R bytes y))
+    → R bytes x × ((y : X) → R bytes y → y ≡ x) → IsOnly x (λ y. Holds h name (λ bytes. R bytes y))
 only_read h name bytes R x held short r = (
   record { bytes = bytes; bytes_are = held; short = short; are = r.0 },
   λ y t. r.1 y (subst (λ bs. R bs y) (same_Some t.bytes bytes (sym t.bytes_are ∙ held)) t.are),
 )
 
 -- a fault after a quiet call is one since before it
-pub quiet_fault : (t u : Bool) (h k : Held) (b m a : ℕ) (lb lm la : Option Fault) (file : ℕ) (name : List ℕ) (c : Cause) (P : List ℕ → Type 0) (s : Status)
-    → u ≡ t → k name ≡ h name → IsQuiet b m lb lm → IsFileFault (outside u k m a lm la) file name c P s → IsFileFault (outside t h b a lb la) file name c P s
-quiet_fault t u h k b m a lb lm la file name c P (ReadFault n) et eh q f = (f.0, unread f.1)
+pub quiet_fault : (t u : Bool) (h k : Held) (b m a : ℕ) (lb lm la : Option Fault) (file : ℕ) (name : List ℕ) (N : Refusal) (s : Status)
+    → u ≡ t → k name ≡ h name → IsQuiet b m lb lm → IsFileFault (outside u k m a lm la) file name N s → IsFileFault (outside t h b a lb la) file name N s
+quiet_fault t u h k b m a lb lm la file name N (ReadFault n) et eh q f = (f.0, unread f.1)
   where
     unread : IsUnread (outside u k m a lm la) name → IsUnread (outside t h b a lb la) name
     unread (inl s) = let R : ℕ → Type 0 = λ x. Rose x a in inl (record { rose = subst R q.count s.rose; named = s.named })
@@ -47,7 +44,7 @@ quiet_fault t u h k b m a lb lm la file name c P (ReadFault n) et eh q f = (f.0,
       quiet = record { count = s.quiet.count ∙ q.count; last = s.quiet.last ∙ q.last };
       below = rw (sym q.count) s.below;
     })
-quiet_fault t u h k b m a lb lm la file name c P (TooLong g n) et eh q f = (
+quiet_fault t u h k b m a lb lm la file name N (TooLong g n) et eh q f = (
   f.0,
   record {
     past = f.1.past;
@@ -55,10 +52,10 @@ quiet_fault t u h k b m a lb lm la file name c P (TooLong g n) et eh q f = (
     within_file = λ e. let r = f.1.within_file (et ∙ e) in (r.0, (sym eh ∙ r.1.0, r.1.1));
   },
 )
-quiet_fault t u h k b m a lb lm la file name c P (Unreadable g p d) et eh q f =
-    (f.0, f.1, f.2, λ e. moved h k name P eh (f.3 (et ∙ e)))
-quiet_fault t u h k b m a lb lm la file name c P Memory et eh q f = tt
-quiet_fault t u h k b m a lb lm la file name c P s et eh q f = absurd f
+quiet_fault t u h k b m a lb lm la file name N (Unreadable g p d) et eh q f =
+    (f.0, f.1, λ e. moved h k name (N p d) eh (f.2 (et ∙ e)))
+quiet_fault t u h k b m a lb lm la file name N Memory et eh q f = tt
+quiet_fault t u h k b m a lb lm la file name N s et eh q f = absurd f
 
 pub if_ok : {T E : Type 0} (P Q : T → Type 0) (r : Result T E) → IfOk r P → ((x : T) → P x → Q x) → IfOk r Q
 if_ok P Q (Ok x) h f = f x h
@@ -69,8 +66,8 @@ if_err P Q (Ok x) h f = tt
 if_err P Q (Err e) h f = f e h
 
 -- a step that fails, or want of memory, refuses a `check` whose files read
-pub fails_refuses : (o : Outside) (theory proof : List ℕ) (th : Theory) (p : Proof) → (o.tells ≡ true → Only (Some th) (ReadsTheory o.held theory))
-    → (o.tells ≡ true → Only (Some p) (ReadsProof o.held proof th))
+pub fails_refuses : (o : Outside) (theory proof : List ℕ) (th : Theory) (p : Proof) → (o.tells ≡ true → IsOnly th (ReadsTheory o.held theory))
+    → (o.tells ≡ true → IsOnly p (ReadsProof o.held proof th))
     → AreBytes (λ bytes. ReadsAs bytes th) → AreBytes (λ bytes. ReadsAsProof th bytes p)
     → (s : Status) → Fails th p s → RefusesCheck o theory proof s
 fails_refuses o theory proof th p rt rp bt bp (Refused n) f =
@@ -79,12 +76,12 @@ fails_refuses o theory proof th p rt rp bt bp Memory f = theory_fault Memory tt
 fails_refuses o theory proof th p rt rp bt bp s f = absurd f
 
 -- no refusal is a success
-file_fault_not_ok : (o : Outside) (file : ℕ) (name : List ℕ) (c : Cause) (P : List ℕ → Type 0) (s : Status) → s ≡ status.Ok → IsFileFault o file name c P s → ⊥
-file_fault_not_ok o file name c P s e f = let Q : Status → Type 0 = IsFileFault o file name c P in subst Q e f
+file_fault_not_ok : (o : Outside) (file : ℕ) (name : List ℕ) (N : Refusal) (s : Status) → s ≡ status.Ok → IsFileFault o file name N s → ⊥
+file_fault_not_ok o file name N s e f = let Q : Status → Type 0 = IsFileFault o file name N in subst Q e f
 
 check_not_ok : (o : Outside) (theory proof : List ℕ) (s : Status) → RefusesCheck o theory proof s → s ≡ status.Ok → ⊥
-check_not_ok o theory proof s (theory_fault _ f) e = file_fault_not_ok o 1 theory cause.Shape IsNoTheory s e f
-check_not_ok o theory proof s (proof_fault _ th r f) e = file_fault_not_ok o 2 proof cause.Line (IsNoProof th) s e f
+check_not_ok o theory proof s (theory_fault _ f) e = file_fault_not_ok o 1 theory TheoryRefusal s e f
+check_not_ok o theory proof s (proof_fault _ th r f) e = file_fault_not_ok o 2 proof (ProofRefusal th) s e f
 check_not_ok o theory proof _ (step_fails n f) e = cc
 
 refusal_not_ok : (words : List (List ℕ)) (o : Outside) (s : Status) → Refuses words o s → s ≡ status.Ok → ⊥
@@ -104,15 +101,15 @@ answers_accepted words o out s a e = go a.answer a.text a.due s a.delivered e
     go r text d _ (memory_wanted q p) e = absurd (cc)
 
 -- only a step that fails refuses at a step
-file_fault_not_refused : (o : Outside) (file : ℕ) (name : List ℕ) (c : Cause) (P : List ℕ → Type 0) (s : Status) (n : ℕ) → s ≡ Refused n → IsFileFault o file name c P s → ⊥
-file_fault_not_refused o file name c P s n e f = let Q : Status → Type 0 = IsFileFault o file name c P in subst Q e f
+file_fault_not_refused : (o : Outside) (file : ℕ) (name : List ℕ) (N : Refusal) (s : Status) (n : ℕ) → s ≡ Refused n → IsFileFault o file name N s → ⊥
+file_fault_not_refused o file name N s n e f = let Q : Status → Type 0 = IsFileFault o file name N in subst Q e f
 
 same_step : (n m : ℕ) → Refused n ≡ Refused m → n ≡ m
 same_step n m e = cc
 
 check_refused : (o : Outside) (theory proof : List ℕ) (s : Status) (n : ℕ) → RefusesCheck o theory proof s → s ≡ Refused n → IsRefused o theory proof n
-check_refused o theory proof s n (theory_fault _ f) e = absurd (file_fault_not_refused o 1 theory cause.Shape IsNoTheory s n e f)
-check_refused o theory proof s n (proof_fault _ th r f) e = absurd (file_fault_not_refused o 2 proof cause.Line (IsNoProof th) s n e f)
+check_refused o theory proof s n (theory_fault _ f) e = absurd (file_fault_not_refused o 1 theory TheoryRefusal s n e f)
+check_refused o theory proof s n (proof_fault _ th r f) e = absurd (file_fault_not_refused o 2 proof (ProofRefusal th) s n e f)
 check_refused o theory proof _ n (step_fails m f) e = let P : ℕ → Type 0 = IsRefused o theory proof in subst P (same_step m n e) f
 
 due_refused : (words : List (List ℕ)) (o : Outside) (out : Output) (s : Status) (text : List ℕ) (n : ℕ) → Due words o s text → s ≡ Refused n → Prints out text → Rejects words o out n

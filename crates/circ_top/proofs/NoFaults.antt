@@ -31,8 +31,8 @@ sure_outcome words held out status.Memory t f g c = tt
 sure_outcome words held out r t f g c = (c.0, (c.1.0, c.1.1.printed t))
 
 pub sure_comes : (o : Outside) (out : Output) (s r : Status) (text : List ℕ) → out.tells ≡ true → (Rose o.faults_before o.faults_after → ⊥) → (Rose out.faults_before out.faults_after → ⊥)
-    → Comes o out s text r → (IsLike s r × (out.after ≡ out.before ++ text)) ⊎ (r ≡ status.Memory)
-sure_comes o out s r text t f g (printed _ l p) = inl (l, p.printed t)
+    → Comes o out s text r → ((given : List ℕ) × IsLike s text r given × (out.after ≡ out.before ++ given)) ⊎ (r ≡ status.Memory)
+sure_comes o out s r text t f g (printed _ given l p) = inl (given, l, p.printed t)
 sure_comes o out s _ text t f g (not_read n rose p) = absurd (f rose)
 sure_comes o out s _ text t f g (not_written n rose p) = absurd (g rose)
 sure_comes o out s _ text t f g (no_memory p) = inr refl

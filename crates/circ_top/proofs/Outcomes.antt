@@ -1,36 +1,37 @@
 -- What the answer that is due says of the outcome, and the other way.
-use Rattle.std.proofs.Common.{◌≡◌, ◌≢◌, ℕ, List, [], ◌∷◌, ◌++◌, inl, inr, true, refl, ap, sym, ◌∙◌, subst, arith, append-nil, length, Some, None}
+use Rattle.std.proofs.Common.{◌≡◌, ◌≢◌, ℕ, List, [], ◌∷◌, ◌++◌, inl, inr, true, refl, ap, sym, ◌∙◌, subst, arith, append-nil, length, Some, None, Result, Err}
 use Rattle.std.proofs.lemmas.Option.{same_Some}
 use Rattle.circ_outer.specs.Count.{Rose}
 use Rattle.circ_theory.specs.Theory.{Theory}
 use Rattle.circ_file.specs.Proof.{Proof, goals_of}
-use Rattle.circ_read.specs.Reading.{Only}
-use Rattle.circ_read.specs.TheoryText.{ReadsAs}
+use Rattle.circ_read.specs.ReadsAs.{ReadsAs, FirstCause}
+use Rattle.circ_read.specs.Causes.{AreAlike, same, ambiguous}
+use Rattle.circ_read.specs.Includes.{Scope}
 use Rattle.circ_file.specs.ProofText.{ReadsAsProof}
 use Rattle.circ_top.specs.Accepted.{Accepted, FirstFail, steps_of}
-use Rattle.circ_top.specs.Outcome.{Held, Holds, HoldsMore, IsCheck, ReadsTheory, ReadsProof, IsNoTheory, IsNoProof, RefusesFile, CheckOutcome, no_theory, no_proof, refused, accepted, Outcome, usage, check, Outside, IsUnread, IsTooLong, IsFileFault, RefusesCheck, theory_fault, proof_fault, step_fails, no_command, no_check, Due, success, refusal, IsAccepted, IsRefused, Output, Prints, PrintsPart, Delivers, whole, write_failed, memory_wanted, Answers}
-use Rattle.circ_top.specs.Causes.{IsOutcome, IsLike, Comes, printed, not_read, not_written, no_memory, FilesRead, AtFile, IsPastLimit, IsReadFault, IsWriteFault}
+use Rattle.circ_top.specs.Outcome.{Held, Holds, HoldsMore, IsCheck, ReadsTheory, ReadsProof, IsNoProof, IsOnly, Refusal, TheoryRefusal, ProofRefusal, RefusesFile, CheckOutcome, no_theory, no_proof, refused, accepted, Outcome, usage, check, Outside, IsUnread, IsTooLong, IsFileFault, RefusesCheck, theory_fault, proof_fault, step_fails, no_command, no_check, Due, success, refusal, IsAccepted, IsRefused, Output, Prints, PrintsPart, Delivers, whole, write_failed, memory_wanted, Answers}
+use Rattle.circ_top.specs.Causes.{IsOutcome, IsLikeCause, same_cause, other_readings, IsLike, itself, another_count, like_cause, PrintsPartOf, Comes, printed, not_read, not_written, no_memory, FilesRead, AtFile, IsPastLimit, IsReadFault, IsWriteFault}
 use Rattle.circ_top.specs.Texts.{refusal_text, accepted_text}
 use Rattle.circ_top.specs.declared.status.Status.{Status}
 use Rattle.circ_top.specs.declared.status.Status.TheVariants as status
-use Rattle.circ_top.specs.declared.status.Cause.{Cause}
-use Rattle.circ_top.specs.declared.status.Cause.TheVariants as cause
+use Rattle.circ_read.specs.declared.cause.Cause.{Cause}
+use Rattle.circ_read.specs.declared.cause.Cause.TheVariants as cause
 use Rattle.circ_top.proofs.Verdicts.{not_both, one_fail}
 
 -- a file that was not taken, or a text that is none: the file's refusal, or a fault, or want of memory
-data FileFault (o : Outside) (file : ℕ) (name : List ℕ) (c : Cause) (N : List ℕ → Type 0) : Status → Type 0 where
-  refuses : (s : Status) → RefusesFile o.held file name c N s → FileFault o file name c N s
-  unread : (n : ℕ) → n ≡ o.faults_after → IsUnread o name → FileFault o file name c N (status.ReadFault n)
-  memory : FileFault o file name c N status.Memory
+data FileFault (o : Outside) (file : ℕ) (name : List ℕ) (N : Refusal) : Status → Type 0 where
+  refuses : (s : Status) → RefusesFile o.held file name N s → FileFault o file name N s
+  unread : (n : ℕ) → n ≡ o.faults_after → IsUnread o name → FileFault o file name N (status.ReadFault n)
+  memory : FileFault o file name N status.Memory
 
-file_fault : (o : Outside) (file : ℕ) (name : List ℕ) (c : Cause) (N : List ℕ → Type 0) (s : Status) → o.tells ≡ true → IsFileFault o file name c N s → FileFault o file name c N s
-file_fault o file name c N (status.ReadFault n) t f = unread n f.0 f.1
-file_fault o file name c N (status.TooLong g n) t f =
+file_fault : (o : Outside) (file : ℕ) (name : List ℕ) (N : Refusal) (s : Status) → o.tells ≡ true → IsFileFault o file name N s → FileFault o file name N s
+file_fault o file name N (status.ReadFault n) t f = unread n f.0 f.1
+file_fault o file name N (status.TooLong g n) t f =
     let r = f.1.within_file t in
     refuses (status.TooLong g n) (f.0, record { bytes = r.0; bytes_are = r.1.0; past = f.1.past; within_piece = f.1.within_piece; within_file = r.1.1 })
-file_fault o file name c N (status.Unreadable g p d) t f = refuses (status.Unreadable g p d) (f.0, f.1, f.2, f.3 t)
-file_fault o file name c N status.Memory t f = memory
-file_fault o file name c N s t f = absurd f
+file_fault o file name N (status.Unreadable g p d) t f = refuses (status.Unreadable g p d) (f.0, f.2 t)
+file_fault o file name N status.Memory t f = memory
+file_fault o file name N s t f = absurd f
 
 -- the answer that is due is an outcome, or there is no text, since a file was not read or memory ran out
 pub data DueIs (words : List (List ℕ)) (o : Outside) : Status → List ℕ → Type 0 where
@@ -40,15 +41,15 @@ pub data DueIs (words : List (List ℕ)) (o : Outside) : Status → List ℕ →
 
 due_check : (words : List (List ℕ)) (o : Outside) (theory proof : List ℕ) (s : Status) → o.tells ≡ true → IsCheck words theory proof → RefusesCheck o theory proof s
     → DueIs words o s (refusal_text s)
-due_check words o theory proof s t i (theory_fault _ f) = go s (file_fault o 1 theory cause.Shape IsNoTheory s t f)
+due_check words o theory proof s t i (theory_fault _ f) = go s (file_fault o 1 theory TheoryRefusal s t f)
   where
-    go : (s : Status) → FileFault o 1 theory cause.Shape IsNoTheory s → DueIs words o s (refusal_text s)
+    go : (s : Status) → FileFault o 1 theory TheoryRefusal s → DueIs words o s (refusal_text s)
     go s (refuses _ r) = outcome s (refusal_text s) (check theory proof s (refusal_text s) i (no_theory s r))
     go _ (unread n e u) = unread_file n
     go _ memory = memory
-due_check words o theory proof s t i (proof_fault _ th r f) = go s (file_fault o 2 proof cause.Line (IsNoProof th) s t f)
+due_check words o theory proof s t i (proof_fault _ th r f) = go s (file_fault o 2 proof (ProofRefusal th) s t f)
   where
-    go : (s : Status) → FileFault o 2 proof cause.Line (IsNoProof th) s → DueIs words o s (refusal_text s)
+    go : (s : Status) → FileFault o 2 proof (ProofRefusal th) s → DueIs words o s (refusal_text s)
     go s (refuses _ x) = outcome s (refusal_text s) (check theory proof s (refusal_text s) i (no_proof s th (r t).0 x))
     go _ (unread n e u) = unread_file n
     go _ memory = memory
@@ -69,29 +70,46 @@ long_file held name n P m h =
     let same : m.bytes ≡ h.bytes = same_Some m.bytes h.bytes (sym m.bytes_are ∙ h.bytes_are) in
     omega (arith, m.past, m.within_file, h.short, ap length same)
 
-reads_not_refused : (held : Held) (file : ℕ) (name : List ℕ) (c : Cause) (N P : List ℕ → Type 0) (s : Status) → Holds held name P
-    → ((bytes : List ℕ) → P bytes → N bytes → ⊥) → RefusesFile held file name c N s → ⊥
-reads_not_refused held file name c N P (status.TooLong f n) h g r = long_file held name n P r.1 h
-reads_not_refused held file name c N P (status.Unreadable f p d) h g r = g r.3.bytes (subst P (same_Some h.bytes r.3.bytes (sym h.bytes_are ∙ r.3.bytes_are)) h.are) r.3.are
-reads_not_refused held file name c N P s h g r = r
+reads_not_refused : (held : Held) (file : ℕ) (name : List ℕ) (N : Refusal) (P : List ℕ → Type 0) (s : Status) → Holds held name P
+    → ((place : ℕ) (c : Cause) (bytes : List ℕ) → P bytes → N place c bytes → ⊥) → RefusesFile held file name N s → ⊥
+reads_not_refused held file name N P (status.TooLong f n) h g r = long_file held name n P r.1 h
+reads_not_refused held file name N P (status.Unreadable f p c) h g r =
+    let x = r.1 in g p c x.bytes (subst P (same_Some h.bytes x.bytes (sym h.bytes_are ∙ x.bytes_are)) h.are) x.are
+reads_not_refused held file name N P s h g r = r
+
+-- the bytes are refused in one way, but that a like cause may be shown
+abbrev IsOneWay : Refusal → Type 0
+IsOneWay N = (p q : ℕ) (c d : Cause) (bytes : List ℕ) → N p c bytes → N q d bytes → (p ≡ q) × IsLikeCause c d
+
+unreadable_like : (f g p q : ℕ) (c d : Cause) → f ≡ g → p ≡ q → IsLikeCause c d
+    → IsLike (status.Unreadable f p c) (refusal_text (status.Unreadable f p c)) (status.Unreadable g q d) (refusal_text (status.Unreadable g q d))
+unreadable_like f g p q c d e h l =
+    let P : ℕ → Type 0 = λ x. IsLike (status.Unreadable f p c) (refusal_text (status.Unreadable f p c)) (status.Unreadable x q d) (refusal_text (status.Unreadable x q d)) in
+    let Q : ℕ → Type 0 = λ x. IsLike (status.Unreadable f p c) (refusal_text (status.Unreadable f p c)) (status.Unreadable f x d) (refusal_text (status.Unreadable f x d)) in
+    subst P e (subst Q h (like_cause f p c d l))
 
 -- two refusals of one file are alike
-refused_alike : (held : Held) (file : ℕ) (name : List ℕ) (c : Cause) (N : List ℕ → Type 0) (s r : Status) → RefusesFile held file name c N s → RefusesFile held file name c N r
-    → IsLike s r × (refusal_text s ≡ refusal_text r)
-refused_alike held file name c N (status.TooLong f n) (status.TooLong g m) a b = let e : f ≡ g = a.0 ∙ sym b.0 in (e, ap (λ x. refusal_text (status.TooLong x n)) e)
-refused_alike held file name c N (status.TooLong f n) (status.Unreadable g p d) a b = absurd (long_file held name n N a.1 b.3)
-refused_alike held file name c N (status.Unreadable f p d) (status.TooLong g m) a b = absurd (long_file held name m N b.1 a.3)
-refused_alike held file name c N (status.Unreadable f p d) (status.Unreadable g q e) a b =
-    let same : status.Unreadable f p d ≡ status.Unreadable g q e = rw (a.0, a.1, a.2, b.0, b.1, b.2) refl in
-    (same, ap refusal_text same)
-refused_alike held file name c N (status.TooLong f n) r a b = absurd b
-refused_alike held file name c N (status.Unreadable f p d) r a b = absurd b
-refused_alike held file name c N s r a b = absurd a
+refused_alike : (held : Held) (file : ℕ) (name : List ℕ) (N : Refusal) (s r : Status) → IsOneWay N → RefusesFile held file name N s → RefusesFile held file name N r
+    → IsLike s (refusal_text s) r (refusal_text r)
+refused_alike held file name N (status.TooLong f n) (status.TooLong g m) o a b =
+    let P : ℕ → Type 0 = λ x. IsLike (status.TooLong f n) (refusal_text (status.TooLong f n)) (status.TooLong x m) (refusal_text (status.TooLong x m)) in
+    subst P (a.0 ∙ sym b.0) (another_count f n m)
+refused_alike held file name N (status.TooLong f n) (status.Unreadable g p d) o a b = absurd (long_file held name n (N p d) a.1 b.1)
+refused_alike held file name N (status.Unreadable f p d) (status.TooLong g m) o a b = absurd (long_file held name m (N p d) b.1 a.1)
+refused_alike held file name N (status.Unreadable f p c) (status.Unreadable g q d) o a b =
+    let x = a.1 in
+    let y = b.1 in
+    let P : List ℕ → Type 0 = N p c in
+    let w = o p q c d y.bytes (subst P (same_Some x.bytes y.bytes (sym x.bytes_are ∙ y.bytes_are)) x.are) y.are in
+    unreadable_like f g p q c d (a.0 ∙ sym b.0) w.0 w.1
+refused_alike held file name N (status.TooLong f n) r o a b = absurd b
+refused_alike held file name N (status.Unreadable f p d) r o a b = absurd b
+refused_alike held file name N s r o a b = absurd a
 
-refused_held : (held : Held) (file : ℕ) (name : List ℕ) (c : Cause) (N : List ℕ → Type 0) (s : Status) → RefusesFile held file name c N s → held name ≡ None → ⊥
-refused_held held file name c N (status.TooLong f n) r e = let never : Some r.1.bytes ≡ None = sym r.1.bytes_are ∙ e in cc
-refused_held held file name c N (status.Unreadable f p d) r e = let never : Some r.3.bytes ≡ None = sym r.3.bytes_are ∙ e in cc
-refused_held held file name c N s r e = r
+refused_held : (held : Held) (file : ℕ) (name : List ℕ) (N : Refusal) (s : Status) → RefusesFile held file name N s → held name ≡ None → ⊥
+refused_held held file name N (status.TooLong f n) r e = let never : Some r.1.bytes ≡ None = sym r.1.bytes_are ∙ e in cc
+refused_held held file name N (status.Unreadable f p d) r e = let x = r.1 in let never : Some x.bytes ≡ None = sym x.bytes_are ∙ e in cc
+refused_held held file name N s r e = r
 
 holds_held : (held : Held) (name : List ℕ) (P : List ℕ → Type 0) → Holds held name P → held name ≡ None → ⊥
 holds_held held name P h e = let never : Some h.bytes ≡ None = sym h.bytes_are ∙ e in cc
@@ -103,33 +121,44 @@ unread_rose o name held (inr m) = absurd (held m.nothing)
 
 -- how the answer that is due and the outcome agree
 data Agrees (o : Outside) (s : Status) (text : List ℕ) : Status → List ℕ → Type 0 where
-  alike : (r : Status) (given : List ℕ) → IsLike s r → given ≡ text → Agrees o s text r given
+  alike : (r : Status) (given : List ℕ) → IsLike s text r given → Agrees o s text r given
   unread_file : (n : ℕ) → Rose o.faults_before o.faults_after → Agrees o s text (status.ReadFault n) []
   memory : Agrees o s text status.Memory []
 
-module _ (o : Outside) (theory proof : List ℕ) (t : o.tells ≡ true) where
+-- theories are read in one way
+pub record ReadsOnce : Type 0 where
+  pub either : (bytes : List ℕ) (th : Theory) (n : ℕ) (c : Cause) → ReadsAs bytes th → FirstCause bytes n c → ⊥
+  pub alike : IsOneWay TheoryRefusal
+
+proofs_once : (th : Theory) → IsOneWay (ProofRefusal th)
+proofs_once th p q c d bytes a b =
+    let P : Cause → Type 0 = λ x. IsLikeCause x d in
+    let Q : Cause → Type 0 = λ x. IsLikeCause cause.Line x in
+    (a.0 ∙ sym b.0, subst P (sym a.1) (subst Q (sym b.1) (same_cause cause.Line)))
+
+module _ (once : ReadsOnce) (o : Outside) (theory proof : List ℕ) (t : o.tells ≡ true) where
   theory_held : (s : Status) (text : List ℕ) → CheckOutcome o.held theory proof s text → o.held theory ≡ None → ⊥
-  theory_held s _ (no_theory _ r) e = refused_held o.held 1 theory cause.Shape IsNoTheory s r e
+  theory_held s _ (no_theory _ r) e = refused_held o.held 1 theory TheoryRefusal s r e
   theory_held s _ (no_proof _ u ru r) e = holds_held o.held theory (λ b. ReadsAs b u) ru e
   theory_held _ _ (refused n u q ru rq f) e = holds_held o.held theory (λ b. ReadsAs b u) ru e
   theory_held _ _ (accepted u q ru rq a) e = holds_held o.held theory (λ b. ReadsAs b u) ru e
 
-  not_theory : (s : Status) (u : Theory) → ReadsTheory o.held theory u → RefusesFile o.held 1 theory cause.Shape IsNoTheory s → ⊥
-  not_theory s u ru x = reads_not_refused o.held 1 theory cause.Shape IsNoTheory (λ b. ReadsAs b u) s ru (λ b h n. n u h) x
+  not_theory : (s : Status) (u : Theory) → ReadsTheory o.held theory u → RefusesFile o.held 1 theory TheoryRefusal s → ⊥
+  not_theory s u ru x = reads_not_refused o.held 1 theory TheoryRefusal (λ b. ReadsAs b u) s ru (λ p c b h n. once.either b u p c h n) x
 
-  not_proof : (s : Status) (u : Theory) (q : Proof) → ReadsProof o.held proof u q → RefusesFile o.held 2 proof cause.Line (IsNoProof u) s → ⊥
-  not_proof s u q rq x = reads_not_refused o.held 2 proof cause.Line (IsNoProof u) (λ b. ReadsAsProof u b q) s rq (λ b h n. n q h) x
+  not_proof : (s : Status) (u : Theory) (q : Proof) → ReadsProof o.held proof u q → RefusesFile o.held 2 proof (ProofRefusal u) s → ⊥
+  not_proof s u q rq x = reads_not_refused o.held 2 proof (ProofRefusal u) (λ b. ReadsAsProof u b q) s rq (λ p c b h n. n.2 q h) x
 
   -- the outcome where the theory file reads as this theory alone
   data Fixed (th : Theory) : Status → List ℕ → Type 0 where
-    proof_refused : (s : Status) → RefusesFile o.held 2 proof cause.Line (IsNoProof th) s → Fixed th s (refusal_text s)
+    proof_refused : (s : Status) → RefusesFile o.held 2 proof (ProofRefusal th) s → Fixed th s (refusal_text s)
     step_refused : (n : ℕ) (q : Proof) → ReadsProof o.held proof th q → FirstFail th q n → Fixed th (status.Refused n) (refusal_text (status.Refused n))
     all_accepted : (q : Proof) → ReadsProof o.held proof th q → Accepted th q → Fixed th status.Ok (accepted_text th.signature (goals_of q))
 
-  fixed : (th : Theory) → Only (Some th) (ReadsTheory o.held theory) → (s : Status) (text : List ℕ) → CheckOutcome o.held theory proof s text → Fixed th s text
+  fixed : (th : Theory) → IsOnly th (ReadsTheory o.held theory) → (s : Status) (text : List ℕ) → CheckOutcome o.held theory proof s text → Fixed th s text
   fixed th only s _ (no_theory _ r) = absurd (not_theory s th only.0 r)
   fixed th only s _ (no_proof _ u ru r) =
-      let P : Theory → Type 0 = λ v. RefusesFile o.held 2 proof cause.Line (IsNoProof v) s in proof_refused s (subst P (only.1 u ru) r)
+      let P : Theory → Type 0 = λ v. RefusesFile o.held 2 proof (ProofRefusal v) s in proof_refused s (subst P (only.1 u ru) r)
   fixed th only _ _ (refused n u q ru rq f) =
       let P : Theory → Type 0 = λ v. ReadsProof o.held proof v q in
       let Q : Theory → Type 0 = λ v. FirstFail v q n in
@@ -146,7 +175,9 @@ module _ (o : Outside) (theory proof : List ℕ) (t : o.tells ≡ true) where
       let P : Proof → Type 0 = λ x. FirstFail a.th x n in
       absurd (not_both a.th a.p.table (goals_of a.p) [] (steps_of a.p) n a.proves.accepted (subst P ((a.reads_proof t).1 q rq) f))
   accepted_agrees given a _ _ (all_accepted q rq _) =
-      alike status.Ok given refl (a.proves.text_is ∙ ap (λ x. accepted_text a.th.signature (goals_of x)) (sym ((a.reads_proof t).1 q rq)))
+      let same : accepted_text a.th.signature (goals_of q) ≡ given = ap (λ x. accepted_text a.th.signature (goals_of x)) ((a.reads_proof t).1 q rq) ∙ sym a.proves.text_is in
+      let P : List ℕ → Type 0 = λ x. IsLike status.Ok (accepted_text a.th.signature (goals_of q)) status.Ok x in
+      alike status.Ok given (subst P same (itself status.Ok (accepted_text a.th.signature (goals_of q))))
 
   refused_agrees : (n : ℕ) (a : IsRefused o theory proof n) (s : Status) (text : List ℕ) → Fixed a.th s text
       → Agrees o s text (status.Refused n) (refusal_text (status.Refused n))
@@ -154,27 +185,28 @@ module _ (o : Outside) (theory proof : List ℕ) (t : o.tells ≡ true) where
   refused_agrees n a _ _ (step_refused m q rq f) =
       let P : Proof → Type 0 = λ x. FirstFail a.th x m in
       let same : m ≡ n = one_fail a.th a.p.table (goals_of a.p) (steps_of a.p) m n (subst P ((a.reads_proof t).1 q rq) f) a.fails in
-      alike (status.Refused n) (refusal_text (status.Refused n)) (ap status.Refused same) (ap (λ k. refusal_text (status.Refused k)) (sym same))
+      let Q : ℕ → Type 0 = λ k. IsLike (status.Refused m) (refusal_text (status.Refused m)) (status.Refused k) (refusal_text (status.Refused k)) in
+      alike (status.Refused n) (refusal_text (status.Refused n)) (subst Q same (itself (status.Refused m) (refusal_text (status.Refused m))))
   refused_agrees n a _ _ (all_accepted q rq acc) =
       let P : Proof → Type 0 = λ x. Accepted a.th x in
       absurd (not_both a.th a.p.table (goals_of a.p) [] (steps_of a.p) n (subst P ((a.reads_proof t).1 q rq) acc) a.fails)
 
   proof_held : (th : Theory) (s : Status) (text : List ℕ) → Fixed th s text → o.held proof ≡ None → ⊥
-  proof_held th s _ (proof_refused _ r) e = refused_held o.held 2 proof cause.Line (IsNoProof th) s r e
+  proof_held th s _ (proof_refused _ r) e = refused_held o.held 2 proof (ProofRefusal th) s r e
   proof_held th _ _ (step_refused n q rq f) e = holds_held o.held proof (λ b. ReadsAsProof th b q) rq e
   proof_held th _ _ (all_accepted q rq a) e = holds_held o.held proof (λ b. ReadsAsProof th b q) rq e
 
-  proof_agrees : (th : Theory) (r s : Status) (text : List ℕ) → FileFault o 2 proof cause.Line (IsNoProof th) r → Fixed th s text → Agrees o s text r (refusal_text r)
+  proof_agrees : (th : Theory) (r s : Status) (text : List ℕ) → FileFault o 2 proof (ProofRefusal th) r → Fixed th s text → Agrees o s text r (refusal_text r)
   proof_agrees th r s _ (refuses _ x) (proof_refused _ y) =
-      let same = refused_alike o.held 2 proof cause.Line (IsNoProof th) s r y x in alike r (refusal_text r) same.0 (sym same.1)
+      alike r (refusal_text r) (refused_alike o.held 2 proof (ProofRefusal th) s r (proofs_once th) y x)
   proof_agrees th r _ _ (refuses _ x) (step_refused n q rq f) = absurd (not_proof r th q rq x)
   proof_agrees th r _ _ (refuses _ x) (all_accepted q rq a) = absurd (not_proof r th q rq x)
   proof_agrees th _ s text (unread n e u) f = unread_file n (unread_rose o proof (proof_held th s text f) u)
   proof_agrees th _ s text memory f = memory
 
-  theory_agrees : (r s : Status) (text : List ℕ) → FileFault o 1 theory cause.Shape IsNoTheory r → CheckOutcome o.held theory proof s text → Agrees o s text r (refusal_text r)
+  theory_agrees : (r s : Status) (text : List ℕ) → FileFault o 1 theory TheoryRefusal r → CheckOutcome o.held theory proof s text → Agrees o s text r (refusal_text r)
   theory_agrees r s _ (refuses _ x) (no_theory _ y) =
-      let same = refused_alike o.held 1 theory cause.Shape IsNoTheory s r y x in alike r (refusal_text r) same.0 (sym same.1)
+      alike r (refusal_text r) (refused_alike o.held 1 theory TheoryRefusal s r once.alike y x)
   theory_agrees r s _ (refuses _ x) (no_proof _ u ru y) = absurd (not_theory r u ru x)
   theory_agrees r _ _ (refuses _ x) (refused n u q ru rq f) = absurd (not_theory r u ru x)
   theory_agrees r _ _ (refuses _ x) (accepted u q ru rq a) = absurd (not_theory r u ru x)
@@ -182,28 +214,28 @@ module _ (o : Outside) (theory proof : List ℕ) (t : o.tells ≡ true) where
   theory_agrees _ s text memory c = memory
 
   check_agrees : (r s : Status) (text : List ℕ) → RefusesCheck o theory proof r → CheckOutcome o.held theory proof s text → Agrees o s text r (refusal_text r)
-  check_agrees r s text (theory_fault _ f) c = theory_agrees r s text (file_fault o 1 theory cause.Shape IsNoTheory r t f) c
-  check_agrees r s text (proof_fault _ th reads f) c = proof_agrees th r s text (file_fault o 2 proof cause.Line (IsNoProof th) r t f) (fixed th (reads t) s text c)
+  check_agrees r s text (theory_fault _ f) c = theory_agrees r s text (file_fault o 1 theory TheoryRefusal r t f) c
+  check_agrees r s text (proof_fault _ th reads f) c = proof_agrees th r s text (file_fault o 2 proof (ProofRefusal th) r t f) (fixed th (reads t) s text c)
   check_agrees _ s text (step_fails n f) c = refused_agrees n f s text (fixed f.th (f.reads_theory t) s text c)
 
 same_words : (words : List (List ℕ)) (a b c d : List ℕ) → IsCheck words a b → IsCheck words c d → (a ≡ c) × (b ≡ d)
 same_words words a b c d i j = let e = sym i.words_are ∙ j.words_are in (cc, cc)
 
-due_agrees : (words : List (List ℕ)) (o : Outside) (s r : Status) (text given : List ℕ) → o.tells ≡ true → Outcome words o.held s text → Due words o r given → Agrees o s text r given
-due_agrees words o _ _ _ given t (usage n) (success theory proof _ i a) = absurd (n theory proof i)
-due_agrees words o _ _ _ _ t (usage n) (refusal _ (no_command m)) = alike status.Usage (refusal_text status.Usage) refl refl
-due_agrees words o _ r _ _ t (usage n) (refusal _ (no_check _ theory proof i f)) = absurd (n theory proof i)
-due_agrees words o s _ text given t (check a b _ _ i c) (success theory proof _ j acc) =
+due_agrees : ReadsOnce → (words : List (List ℕ)) (o : Outside) (s r : Status) (text given : List ℕ) → o.tells ≡ true → Outcome words o.held s text → Due words o r given → Agrees o s text r given
+due_agrees once words o _ _ _ given t (usage n) (success theory proof _ i a) = absurd (n theory proof i)
+due_agrees once words o _ _ _ _ t (usage n) (refusal _ (no_command m)) = alike status.Usage (refusal_text status.Usage) (itself status.Usage (refusal_text status.Usage))
+due_agrees once words o _ r _ _ t (usage n) (refusal _ (no_check _ theory proof i f)) = absurd (n theory proof i)
+due_agrees once words o s _ text given t (check a b _ _ i c) (success theory proof _ j acc) =
     let same = same_words words a b theory proof i j in
     let P : List ℕ → Type 0 = λ x. CheckOutcome o.held x b s text in
     let Q : List ℕ → Type 0 = λ x. CheckOutcome o.held theory x s text in
-    accepted_agrees o theory proof t given acc s text (fixed o theory proof t acc.th (acc.reads_theory t) s text (subst Q same.1 (subst P same.0 c)))
-due_agrees words o s _ text _ t (check a b _ _ i c) (refusal _ (no_command m)) = absurd (m a b i)
-due_agrees words o s r text _ t (check a b _ _ i c) (refusal _ (no_check _ theory proof j f)) =
+    accepted_agrees once o theory proof t given acc s text (fixed once o theory proof t acc.th (acc.reads_theory t) s text (subst Q same.1 (subst P same.0 c)))
+due_agrees once words o s _ text _ t (check a b _ _ i c) (refusal _ (no_command m)) = absurd (m a b i)
+due_agrees once words o s r text _ t (check a b _ _ i c) (refusal _ (no_check _ theory proof j f)) =
     let same = same_words words a b theory proof i j in
     let P : List ℕ → Type 0 = λ x. CheckOutcome o.held x b s text in
     let Q : List ℕ → Type 0 = λ x. CheckOutcome o.held theory x s text in
-    check_agrees o theory proof t r s text f (subst Q same.1 (subst P same.0 c))
+    check_agrees once o theory proof t r s text f (subst Q same.1 (subst P same.0 c))
 
 -- what is printed of the text that is due is a part of the outcome's
 nothing_part : (out : Output) (text : List ℕ) → PrintsPart out [] → PrintsPart out text
@@ -216,31 +248,48 @@ nothing_part out text p = λ t. go (p t).0 (p t).1.0 (p t).1.1.0 (p t).1.1.1
 whole_part : (out : Output) (text : List ℕ) → Prints out text → PrintsPart out text
 whole_part out text p = λ t. (text, ([], (sym (append-nil text), p.printed t)))
 
+-- a part of the text itself
+itself_part : (out : Output) (s : Status) (text : List ℕ) → PrintsPart out text → PrintsPartOf out s text
+itself_part out s text p = record { answer = s; given = text; like = itself s text; part = p }
+
 agree_comes : (o : Outside) (out : Output) (s d r : Status) (text given : List ℕ) → Agrees o s text d given → Delivers out given d r → Comes o out s text r
-agree_comes o out s d _ text given (alike _ _ l e) (whole p) = let P : List ℕ → Type 0 = λ x. Prints out x in printed d l (subst P e p)
-agree_comes o out s d _ text given (alike _ _ l e) (write_failed n some c rose p) = let P : List ℕ → Type 0 = λ x. PrintsPart out x in not_written n rose (subst P e p)
-agree_comes o out s d _ text given (alike _ _ l e) (memory_wanted q p) = let P : List ℕ → Type 0 = λ x. PrintsPart out x in no_memory (subst P e p)
+agree_comes o out s d _ text given (alike _ _ l) (whole p) = printed d given l p
+agree_comes o out s d _ text given (alike _ _ l) (write_failed n some c rose p) = not_written n rose (record { answer = d; given = given; like = l; part = p })
+agree_comes o out s d _ text given (alike _ _ l) (memory_wanted q p) = no_memory (record { answer = d; given = given; like = l; part = p })
 agree_comes o out s _ _ text _ (unread_file n rose) (whole p) = not_read n rose p
 agree_comes o out s _ _ text _ (unread_file n rose) (write_failed m some c up p) = absurd (some refl)
-agree_comes o out s _ _ text _ (unread_file n rose) (memory_wanted q p) = no_memory (nothing_part out text p)
-agree_comes o out s _ _ text _ memory (whole p) = no_memory (nothing_part out text (whole_part out [] p))
+agree_comes o out s _ _ text _ (unread_file n rose) (memory_wanted q p) = no_memory (itself_part out s text (nothing_part out text p))
+agree_comes o out s _ _ text _ memory (whole p) = no_memory (itself_part out s text (nothing_part out text (whole_part out [] p)))
 agree_comes o out s _ _ text _ memory (write_failed m some c up p) = absurd (some refl)
-agree_comes o out s _ _ text _ memory (memory_wanted q p) = no_memory (nothing_part out text p)
+agree_comes o out s _ _ text _ memory (memory_wanted q p) = no_memory (itself_part out s text (nothing_part out text p))
 
-pub answers_come : (words : List (List ℕ)) (o : Outside) (out : Output) (r : Status) → Answers words o out r → o.tells ≡ true
+pub answers_come : ReadsOnce → (words : List (List ℕ)) (o : Outside) (out : Output) (r : Status) → Answers words o out r → o.tells ≡ true
     → (s : Status) (text : List ℕ) → Outcome words o.held s text → Comes o out s text r
-answers_come words o out r a t s text c = agree_comes o out s a.answer r text a.text (due_agrees words o s a.answer text a.text t c a.due) a.delivered
+answers_come once words o out r a t s text c = agree_comes o out s a.answer r text a.text (due_agrees once words o s a.answer text a.text t c a.due) a.delivered
 
--- whatever comes, a part of the outcome's text is printed
-comes_part : (o : Outside) (out : Output) (s r : Status) (text : List ℕ) → Comes o out s text r → PrintsPart out text
-comes_part o out s _ text (printed r l p) = whole_part out text p
-comes_part o out s _ text (not_read n rose p) = nothing_part out text (whole_part out [] p)
+-- whatever comes, a part of a like answer's text is printed
+comes_part : (o : Outside) (out : Output) (s r : Status) (text : List ℕ) → Comes o out s text r → PrintsPartOf out s text
+comes_part o out s _ text (printed r given l p) = record { answer = r; given = given; like = l; part = whole_part out given p }
+comes_part o out s _ text (not_read n rose p) = itself_part out s text (nothing_part out text (whole_part out [] p))
 comes_part o out s _ text (not_written n rose p) = p
 comes_part o out s _ text (no_memory p) = p
 
-pub answers_memory : (words : List (List ℕ)) (o : Outside) (out : Output) (r : Status) → Answers words o out r → o.tells ≡ true
-    → (s : Status) (text : List ℕ) → Outcome words o.held s text → PrintsPart out text
-answers_memory words o out r a t s text c = comes_part o out s r text (answers_come words o out r a t s text c)
+pub answers_memory : ReadsOnce → (words : List (List ℕ)) (o : Outside) (out : Output) (r : Status) → Answers words o out r → o.tells ≡ true
+    → (s : Status) (text : List ℕ) → Outcome words o.held s text → PrintsPartOf out s text
+answers_memory once words o out r a t s text c = comes_part o out s r text (answers_come once words o out r a t s text c)
+
+-- the causes of bytes that are no theory, as the reader's law has them
+like_causes : {A : Type 0} (c d : Cause) (x y : Result A Cause) → AreAlike x y → x ≡ Err c → y ≡ Err d → IsLikeCause c d
+like_causes c d x _ same a b = let e : c ≡ d = cc in let P : Cause → Type 0 = IsLikeCause c in subst P e (same_cause c)
+like_causes c d _ _ (ambiguous {s} {t} {u} {v}) a b =
+    let P : Cause → Type 0 = λ z. IsLikeCause z d in
+    let Q : Cause → Type 0 = IsLikeCause (cause.Ambiguous s t) in
+    subst P (cc) (subst Q (cc) (other_readings s t u v))
+
+pub reads_once : ((bytes : List ℕ) (th : Theory) (n : ℕ) (c : Cause) → ReadsAs bytes th → FirstCause bytes n c → ⊥)
+    → ((bytes : List ℕ) (n m : ℕ) (c d : Cause) → FirstCause bytes n c → FirstCause bytes m d → m ≡ n)
+    → ((bytes : List ℕ) (n m : ℕ) (c d : Cause) → FirstCause bytes n c → FirstCause bytes m d → AreAlike {A = Scope} (Err c) (Err d)) → ReadsOnce
+reads_once e n l = record { either = e; alike = λ p q c d bytes a b. (sym (n bytes p q c d a b), like_causes c d (Err c) (Err d) (l bytes p q c d a b) refl refl) }
 
 -- the answer is an outcome
 printed_outcome : (words : List (List ℕ)) (held : Held) (out : Output) (s : Status) (text : List ℕ) → Outcome words held s text → Prints out text → IsOutcome words held out s
@@ -264,22 +313,22 @@ answers_outcome words o out r a t = go a.answer r a.text (due_is words o a.answe
 unread_check : (o : Outside) (theory proof : List ℕ) (s : Status) (n : ℕ) → RefusesCheck o theory proof s → s ≡ status.ReadFault n
     → (n ≡ o.faults_after) × AtFile o theory proof (λ f name. IsUnread o name)
 unread_check o theory proof s n (theory_fault _ f) e =
-    let P : Status → Type 0 = IsFileFault o 1 theory cause.Shape IsNoTheory in let r = subst P e f in (r.0, inl r.1)
+    let P : Status → Type 0 = IsFileFault o 1 theory TheoryRefusal in let r = subst P e f in (r.0, inl r.1)
 unread_check o theory proof s n (proof_fault _ th reads f) e =
-    let P : Status → Type 0 = IsFileFault o 2 proof cause.Line (IsNoProof th) in let r = subst P e f in (r.0, inr (th, (λ t. (reads t).0, r.1)))
+    let P : Status → Type 0 = IsFileFault o 2 proof (ProofRefusal th) in let r = subst P e f in (r.0, inr (th, (λ t. (reads t).0, r.1)))
 unread_check o theory proof _ n (step_fails m f) e = absurd (cc)
 
 past_check : (o : Outside) (theory proof : List ℕ) (s : Status) (file n : ℕ) → RefusesCheck o theory proof s → s ≡ status.TooLong file n
     → AtFile o theory proof (λ f name. (f ≡ file) × IsTooLong o name n)
 past_check o theory proof s file n (theory_fault _ f) e =
-    let P : Status → Type 0 = IsFileFault o 1 theory cause.Shape IsNoTheory in let r = subst P e f in inl (sym r.0, r.1)
+    let P : Status → Type 0 = IsFileFault o 1 theory TheoryRefusal in let r = subst P e f in inl (sym r.0, r.1)
 past_check o theory proof s file n (proof_fault _ th reads f) e =
-    let P : Status → Type 0 = IsFileFault o 2 proof cause.Line (IsNoProof th) in let r = subst P e f in inr (th, (λ t. (reads t).0, (sym r.0, r.1)))
+    let P : Status → Type 0 = IsFileFault o 2 proof (ProofRefusal th) in let r = subst P e f in inr (th, (λ t. (reads t).0, (sym r.0, r.1)))
 past_check o theory proof _ file n (step_fails m f) e = absurd (cc)
 
 unwritten_check : (o : Outside) (theory proof : List ℕ) (s : Status) (n : ℕ) → RefusesCheck o theory proof s → s ≡ status.WriteFault n → ⊥
-unwritten_check o theory proof s n (theory_fault _ f) e = let P : Status → Type 0 = IsFileFault o 1 theory cause.Shape IsNoTheory in subst P e f
-unwritten_check o theory proof s n (proof_fault _ th reads f) e = let P : Status → Type 0 = IsFileFault o 2 proof cause.Line (IsNoProof th) in subst P e f
+unwritten_check o theory proof s n (theory_fault _ f) e = let P : Status → Type 0 = IsFileFault o 1 theory TheoryRefusal in subst P e f
+unwritten_check o theory proof s n (proof_fault _ th reads f) e = let P : Status → Type 0 = IsFileFault o 2 proof (ProofRefusal th) in subst P e f
 unwritten_check o theory proof _ n (step_fails m f) e = cc
 
 pub answers_read_fault : (words : List (List ℕ)) (o : Outside) (out : Output) (r : Status) (n : ℕ) → Answers words o out r → r ≡ status.ReadFault n → IsReadFault words o out n

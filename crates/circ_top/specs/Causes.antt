@@ -4,6 +4,9 @@ use Rattle.circ_outer.specs.Count.{Rose}
 use Rattle.circ_theory.specs.Theory.{Theory}
 use Rattle.circ_file.specs.Proof.{Proof}
 use Rattle.circ_top.specs.Outcome.{Held, IsCheck, ReadsTheory, ReadsProof, Outcome, Outside, IsUnread, IsTooLong, Output, Prints, PrintsPart}
+use Rattle.circ_read.specs.declared.cause.Cause.{Cause}
+use Rattle.circ_read.specs.declared.cause.Cause.TheVariants as cause
+use Rattle.circ_top.specs.Texts.{refusal_text}
 use Rattle.circ_top.specs.declared.status.Status.{Status}
 use Rattle.circ_top.specs.declared.status.Status.TheVariants as status
 
@@ -14,17 +17,31 @@ IsOutcome words held out (status.WriteFault n) = Unit {0}
 IsOutcome words held out status.Memory = Unit {0}
 IsOutcome words held out s = (text : List ℕ) × (Outcome words held s text × Prints out text)
 
--- the same answer; of a file that is too long, the counts may differ
-abbrev pub IsLike : Status → Status → Type 0
-IsLike (status.TooLong f n) (status.TooLong g m) = f ≡ g
-IsLike s r = s ≡ r
+-- the same cause; of several readings, any two may be shown
+pub data IsLikeCause : Cause → Cause → Type 0 where
+  same_cause : (c : Cause) → IsLikeCause c c
+  other_readings : (a b c d : List ℕ) → IsLikeCause (cause.Ambiguous a b) (cause.Ambiguous c d)
 
--- What is answered where the outcome is s with this text: s, with the text printed; or that a count of faults rose or memory ran out, with a part of it printed.
+-- What may be answered in the place of an answer, each with its text: the same; of a file that is too long, another count; of a text that is not read, a like cause.
+pub data IsLike : Status → List ℕ → Status → List ℕ → Type 0 where
+  itself : (s : Status) (text : List ℕ) → IsLike s text s text
+  another_count : (file n m : ℕ) → IsLike (status.TooLong file n) (refusal_text (status.TooLong file n)) (status.TooLong file m) (refusal_text (status.TooLong file m))
+  like_cause : (file place : ℕ) (c d : Cause) → IsLikeCause c d
+      → IsLike (status.Unreadable file place c) (refusal_text (status.Unreadable file place c)) (status.Unreadable file place d) (refusal_text (status.Unreadable file place d))
+
+-- a part of the text, or of that of a like answer, was printed
+pub record PrintsPartOf (out : Output) (s : Status) (text : List ℕ) : Type 0 where
+  pub answer : Status
+  pub given : List ℕ
+  pub like : IsLike s text answer given
+  pub part : PrintsPart out given
+
+-- What is answered where the outcome is s with this text: s or a like answer, with its text printed; or that a count of faults rose or memory ran out, with a part of such a text printed.
 pub data Comes (o : Outside) (out : Output) (s : Status) (text : List ℕ) : Status → Type 0 where
-  printed : (r : Status) → IsLike s r → Prints out text → Comes o out s text r
+  printed : (r : Status) (given : List ℕ) → IsLike s text r given → Prints out given → Comes o out s text r
   not_read : (n : ℕ) → Rose o.faults_before o.faults_after → Prints out [] → Comes o out s text (status.ReadFault n)
-  not_written : (n : ℕ) → Rose out.faults_before out.faults_after → PrintsPart out text → Comes o out s text (status.WriteFault n)
-  no_memory : PrintsPart out text → Comes o out s text status.Memory
+  not_written : (n : ℕ) → Rose out.faults_before out.faults_after → PrintsPartOf out s text → Comes o out s text (status.WriteFault n)
+  no_memory : PrintsPartOf out s text → Comes o out s text status.Memory
 
 -- The words are a `check` of two files that read as the theory and the proof.
 pub record FilesRead (words : List (List ℕ)) (held : Held) (th : Theory) (p : Proof) : Type 0 where

@@ -5,16 +5,15 @@ use Rattle.circ_outer.specs.Count.{Rose}
 use Rattle.circ_outer.specs.Shelf.{Fault, Struck, Missing}
 use Rattle.circ_theory.specs.Theory.{Theory, Pair}
 use Rattle.circ_theory.specs.Experiment.{Behaves}
-use Rattle.circ_read.specs.TheoryText.{ReadsAs}
-use Rattle.circ_read.specs.Reading.{Only}
+use Rattle.circ_read.specs.ReadsAs.{ReadsAs, FirstCause}
 use Rattle.circ_file.specs.Proof.{Proof, goals_of}
 use Rattle.circ_file.specs.ProofText.{ReadsAsProof}
 use Rattle.circ_top.specs.Accepted.{Accepted, FirstFail}
 use Rattle.circ_top.specs.Texts.{accepted_text, refusal_text}
 use Rattle.circ_top.specs.declared.status.Status.{Status}
 use Rattle.circ_top.specs.declared.status.Status.TheVariants as status
-use Rattle.circ_top.specs.declared.status.Cause.{Cause}
-use Rattle.circ_top.specs.declared.status.Cause.TheVariants as cause
+use Rattle.circ_read.specs.declared.cause.Cause.{Cause}
+use Rattle.circ_read.specs.declared.cause.Cause.TheVariants as cause
 use Rattle.circ_top.specs.declared.files.TheConstants.{MOST_BYTES, PIECE}
 
 -- The words are those of `check`: the program's name, the command, a theory and a proof.
@@ -24,6 +23,10 @@ pub record IsCheck (words : List (List ℕ)) (theory proof : List ℕ) : Type 0 
 
 abbrev pub IsNoCheck : List (List ℕ) → Type 0
 IsNoCheck words = (theory proof : List ℕ) → IsCheck words theory proof → ⊥
+
+-- the one value of which this is true
+abbrev pub IsOnly : {X : Type 0} → X → (X → Type 0) → Type 0
+IsOnly x P = P x × ((y : _) → P y → y ≡ x)
 
 -- what each name holds
 abbrev pub Held : Type 0
@@ -58,23 +61,32 @@ ReadsTheory held name th = Holds held name (λ bytes. ReadsAs bytes th)
 abbrev pub ReadsProof : Held → (name : List ℕ) → Theory → Proof → Type 0
 ReadsProof held name th p = Holds held name (λ bytes. ReadsAsProof th bytes p)
 
-abbrev pub IsNoTheory : List ℕ → Type 0
-IsNoTheory bytes = (th : Theory) → ReadsAs bytes th → ⊥
-
 abbrev pub IsNoProof : Theory → List ℕ → Type 0
 IsNoProof th bytes = (p : Proof) → ReadsAsProof th bytes p → ⊥
 
--- The named file refuses a `check`: it is too long, or its bytes are not what they should be.
-abbrev pub RefusesFile : Held → (file : ℕ) → (name : List ℕ) → Cause → (List ℕ → Type 0) → Status → Type 0
-RefusesFile held file name c IsNone (status.TooLong f n) = (f ≡ file) × HoldsMore held name n
-RefusesFile held file name c IsNone (status.Unreadable f place d) = (f ≡ file) × (place ≡ 0) × (d ≡ c) × Holds held name IsNone
-RefusesFile held file name c IsNone _ = ⊥
+-- why bytes are refused: a place, and a cause
+abbrev pub Refusal : Type 1
+Refusal = ℕ → Cause → List ℕ → Type 0
+
+-- of a theory, the first cause, with the number of its statement
+abbrev pub TheoryRefusal : Refusal
+TheoryRefusal place c bytes = FirstCause bytes place c
+
+-- of a proof, that it has not the form, without a place
+abbrev pub ProofRefusal : Theory → Refusal
+ProofRefusal th place c bytes = (place ≡ 0) × (c ≡ cause.Line) × IsNoProof th bytes
+
+-- The named file refuses a `check`: it is too long, or its bytes are refused.
+abbrev pub RefusesFile : Held → (file : ℕ) → (name : List ℕ) → Refusal → Status → Type 0
+RefusesFile held file name N (status.TooLong f n) = (f ≡ file) × HoldsMore held name n
+RefusesFile held file name N (status.Unreadable f place c) = (f ≡ file) × Holds held name (N place c)
+RefusesFile held file name N _ = ⊥
 
 -- The outcome of a `check` of two files, with its text: the theory file refuses it; or this reads, and the proof file refuses it; or both read, and step n is
 -- the first that is no instance of its rule; or both read, and every step is one.
 pub data CheckOutcome (held : Held) (theory proof : List ℕ) : Status → List ℕ → Type 0 where
-  no_theory : (s : Status) → RefusesFile held 1 theory cause.Shape IsNoTheory s → CheckOutcome held theory proof s (refusal_text s)
-  no_proof : (s : Status) (th : Theory) → ReadsTheory held theory th → RefusesFile held 2 proof cause.Line (IsNoProof th) s → CheckOutcome held theory proof s (refusal_text s)
+  no_theory : (s : Status) → RefusesFile held 1 theory TheoryRefusal s → CheckOutcome held theory proof s (refusal_text s)
+  no_proof : (s : Status) (th : Theory) → ReadsTheory held theory th → RefusesFile held 2 proof (ProofRefusal th) s → CheckOutcome held theory proof s (refusal_text s)
   refused : (n : ℕ) (th : Theory) (p : Proof) → ReadsTheory held theory th → ReadsProof held proof th p → FirstFail th p n
       → CheckOutcome held theory proof (status.Refused n) (refusal_text (status.Refused n))
   accepted : (th : Theory) (p : Proof) → ReadsTheory held theory th → ReadsProof held proof th p → Accepted th p
@@ -117,8 +129,8 @@ pub record IsAccepted (o : Outside) (theory proof text : List ℕ) : Type 0 wher
   pub proves : Proves th p text
   pub theory_bytes : AreBytes (λ bytes. ReadsAs bytes th)
   pub proof_bytes : AreBytes (λ bytes. ReadsAsProof th bytes p)
-  pub reads_theory : o.tells ≡ true → Only (Some th) (ReadsTheory o.held theory)
-  pub reads_proof : o.tells ≡ true → Only (Some p) (ReadsProof o.held proof th)
+  pub reads_theory : o.tells ≡ true → IsOnly th (ReadsTheory o.held theory)
+  pub reads_proof : o.tells ≡ true → IsOnly p (ReadsProof o.held proof th)
 
 -- Bytes that read as a theory, and bytes that read as a proof of which step n is the first that is no instance of its rule. Where the shelf tells, the
 -- two files hold them, and read as these and no others.
@@ -128,8 +140,8 @@ pub record IsRefused (o : Outside) (theory proof : List ℕ) (n : ℕ) : Type 0 
   pub fails : FirstFail th p n
   pub theory_bytes : AreBytes (λ bytes. ReadsAs bytes th)
   pub proof_bytes : AreBytes (λ bytes. ReadsAsProof th bytes p)
-  pub reads_theory : o.tells ≡ true → Only (Some th) (ReadsTheory o.held theory)
-  pub reads_proof : o.tells ≡ true → Only (Some p) (ReadsProof o.held proof th)
+  pub reads_theory : o.tells ≡ true → IsOnly th (ReadsTheory o.held theory)
+  pub reads_proof : o.tells ≡ true → IsOnly p (ReadsProof o.held proof th)
 
 -- The file was not read: the outside failed at this name, or the shelf tells that it holds nothing.
 abbrev pub IsUnread : Outside → (name : List ℕ) → Type 0
@@ -150,22 +162,21 @@ IsUntaken o file name (status.TooLong f n) = (f ≡ file) × IsTooLong o name n
 IsUntaken o file name status.Memory = Unit {0}
 IsUntaken o file name _ = ⊥
 
--- The file gives nothing: it was not taken, or its bytes are not what they should be.
-abbrev pub IsFileFault : Outside → (file : ℕ) → (name : List ℕ) → Cause → (List ℕ → Type 0) → Status → Type 0
-IsFileFault o file name c IsNone (status.Unreadable f place d) =
-    (f ≡ file) × (place ≡ 0) × (d ≡ c) × (o.tells ≡ true → Holds o.held name IsNone)
-IsFileFault o file name c IsNone s = IsUntaken o file name s
+-- The file gives nothing: it was not taken, or its bytes are refused.
+abbrev pub IsFileFault : Outside → (file : ℕ) → (name : List ℕ) → Refusal → Status → Type 0
+IsFileFault o file name N (status.Unreadable f place c) = (f ≡ file) × AreBytes (N place c) × (o.tells ≡ true → Holds o.held name (N place c))
+IsFileFault o file name N s = IsUntaken o file name s
 
 abbrev pub IsTheoryFault : Outside → (name : List ℕ) → Status → Type 0
-IsTheoryFault o name = IsFileFault o 1 name cause.Shape IsNoTheory
+IsTheoryFault o name = IsFileFault o 1 name TheoryRefusal
 
 abbrev pub IsProofFault : Outside → (name : List ℕ) → Theory → Status → Type 0
-IsProofFault o name th = IsFileFault o 2 name cause.Line (IsNoProof th)
+IsProofFault o name th = IsFileFault o 2 name (ProofRefusal th)
 
 -- Why a `check` of two files is refused: the theory file is at fault; or it reads, and the proof file is at fault; or both read, and a step fails.
 pub data RefusesCheck (o : Outside) (theory proof : List ℕ) : Status → Type 0 where
   theory_fault : (s : Status) → IsTheoryFault o theory s → RefusesCheck o theory proof s
-  proof_fault : (s : Status) (th : Theory) → (o.tells ≡ true → Only (Some th) (ReadsTheory o.held theory)) → IsProofFault o proof th s → RefusesCheck o theory proof s
+  proof_fault : (s : Status) (th : Theory) → (o.tells ≡ true → IsOnly th (ReadsTheory o.held theory)) → IsProofFault o proof th s → RefusesCheck o theory proof s
   step_fails : (n : ℕ) → IsRefused o theory proof n → RefusesCheck o theory proof (status.Refused n)
 
 -- Why a run is refused: its words are no command, or its `check` is refused.

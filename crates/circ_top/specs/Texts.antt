@@ -6,8 +6,8 @@ use Rattle.circ_theory.specs.Signature.{Signature}
 use Rattle.circ_theory.specs.Theory.{Pair}
 use Rattle.circ_mixfix.specs.Printing.{text_of_pair}
 use Rattle.circ_file.specs.ProofText.{texts}
-use Rattle.circ_top.specs.declared.status.Cause.{Cause}
-use Rattle.circ_top.specs.declared.status.Cause.TheVariants as cause
+use Rattle.circ_read.specs.declared.cause.Cause.{Cause}
+use Rattle.circ_read.specs.declared.cause.Cause.TheVariants as cause
 use Rattle.circ_top.specs.declared.status.Status.{Status}
 use Rattle.circ_top.specs.declared.status.Status.TheVariants as status
 

@@ -1,24 +1,24 @@
 //! The call `circ`: the program over any shelf and any sink.
 ghost use Rattle.std.specs.Prelude.{◌≡◌, ◌≤◌, ℕ, List, true, Some, length, map, string_bytes, IfOk, IfErr, OnOk, MatchOption};
 ghost use Rattle.circ_outer.specs.Shelf.{IsQuiet};
-ghost use Rattle.circ_read.specs.Reading.{Only};
-ghost use Rattle.circ_read.specs.TheoryText.{ReadsAs};
+ghost use Rattle.circ_read.specs.ReadsAs.{ReadsAs};
 ghost use Rattle.circ_file.specs.ProofText.{ReadsAsProof};
 ghost use Rattle.circ_file.specs.Plain.{plain_proof};
 ghost use Rattle.circ_theory.specs.Theory.{Theory};
 ghost use Rattle.circ_file.specs.Proof.{Proof as PlainProof, ProofFor, goals_of};
 ghost use Rattle.circ_top.specs.Accepted.{Accepted, FirstFail};
 ghost use Rattle.circ_top.specs.Texts.{refusal_text, accepted_text};
-ghost use Rattle.circ_top.specs.Causes.{IsOutcome, Comes, FilesRead, IsPastLimit, IsReadFault, IsWriteFault};
-ghost use Rattle.circ_top.specs.Outcome.{outside, output, AreBytes, Outcome, PrintsPart, IsCheck, IsNoCheck, Proves, Fails, Accepts, Rejects, ReadsTheory, ReadsProof, IsAccepted, IsUntaken, IsTheoryFault, IsProofFault, RefusesCheck, Refuses, Due, Delivers, Answers};
+ghost use Rattle.circ_top.specs.Causes.{IsOutcome, Comes, PrintsPartOf, FilesRead, IsPastLimit, IsReadFault, IsWriteFault};
+ghost use Rattle.circ_top.specs.Outcome.{outside, output, AreBytes, Outcome, IsOnly, IsCheck, IsNoCheck, Proves, Fails, Accepts, Rejects, ReadsTheory, ReadsProof, IsAccepted, IsUntaken, IsTheoryFault, IsProofFault, RefusesCheck, Refuses, Due, Delivers, Answers};
 
 use crate::check::{Verdict, check};
 use crate::files::{FileFault, MOST_BYTES, read_file};
-use crate::status::{Cause, Status};
+use crate::status::Status;
 use crate::texts::{accepted, refusal};
 use circ_file::{Proof, read_proof};
 use circ_outer::{OuterFault, Shelf, Sink, write_all};
-use circ_read::read_theory;
+use circ_read::laws::read_in_one_way;
+use circ_read::{Cause, ReadFault, read_theory};
 use circ_theory::Theory;
 use std::alloc::Global;
 
@@ -49,7 +49,7 @@ fn take_file<S: Shelf>(
 
 /// The theory that a file reads as, or why there is none.
 fn take_theory<S: Shelf>(alloc: Global, shelf: &mut S, name: &str) -> Result<Theory, Status>
-    ensures reads { IfOk result (λ th. S.tells shelf.old ≡ true → Only (Some th) (ReadsTheory (S.holds shelf.old) name.now)) }
+    ensures reads { IfOk result (λ th. S.tells shelf.old ≡ true → IsOnly th (ReadsTheory (S.holds shelf.old) name.now)) }
     ensures bytes { IfOk result (λ th. AreBytes (λ bytes. ReadsAs bytes th)) }
     ensures fault { IfErr result (IsTheoryFault (outside (S.tells shelf.old) (S.holds shelf.old) (S.fault_count shelf.old) (S.fault_count shelf.new) (S.last_fault shelf.old) (S.last_fault shelf.new)) name.now) }
     ensures quiet { OnOk result (IsQuiet (S.fault_count shelf.old) (S.fault_count shelf.new) (S.last_fault shelf.old) (S.last_fault shelf.new)) }
@@ -61,14 +61,15 @@ fn take_theory<S: Shelf>(alloc: Global, shelf: &mut S, name: &str) -> Result<The
         Ok(bytes) => bytes,
         Err(status) => return Err(status),
     };
+    read_in_one_way();
     match read_theory(alloc, bytes.as_slice()) {
-        Ok(Some(theory)) => Ok(theory),
-        Ok(None) => Err(Status::Unreadable {
+        Ok(theory) => Ok(theory),
+        Err(ReadFault::Statement { number, cause }) => Err(Status::Unreadable {
             file: 1,
-            place: 0,
-            cause: Cause::Shape,
+            place: number,
+            cause,
         }),
-        Err(_) => Err(Status::Memory),
+        Err(ReadFault::Memory) => Err(Status::Memory),
     }
 }
 
@@ -79,7 +80,7 @@ fn take_proof<S: Shelf>(
     name: &str,
     theory: &Theory,
 ) -> Result<Proof, Status>
-    ensures reads { IfOk result (λ p. S.tells shelf.old ≡ true → Only (Some (plain_proof p)) (ReadsProof (S.holds shelf.old) name.now theory.now)) }
+    ensures reads { IfOk result (λ p. S.tells shelf.old ≡ true → IsOnly (plain_proof p) (ReadsProof (S.holds shelf.old) name.now theory.now)) }
     ensures bytes { IfOk result (λ p. AreBytes (λ bytes. ReadsAsProof theory.now bytes (plain_proof p))) }
     ensures fits { IfOk result (λ p. ProofFor theory.now (plain_proof p)) }
     ensures fault { IfErr result (IsProofFault (outside (S.tells shelf.old) (S.holds shelf.old) (S.fault_count shelf.old) (S.fault_count shelf.new) (S.last_fault shelf.old) (S.last_fault shelf.new)) name.now theory.now) }
@@ -232,7 +233,7 @@ pub fn circ<S: Shelf, K: Sink>(
     ensures file_limit { (file n : ℕ) → result ≡ Status.TooLong file n → IsPastLimit (map string_bytes words.now.items) (outside (S.tells shelf.old) (S.holds shelf.old) (S.fault_count shelf.old) (S.fault_count shelf.new) (S.last_fault shelf.old) (S.last_fault shelf.new)) file n }
     ensures read_fault { (n : ℕ) → result ≡ Status.ReadFault n → IsReadFault (map string_bytes words.now.items) (outside (S.tells shelf.old) (S.holds shelf.old) (S.fault_count shelf.old) (S.fault_count shelf.new) (S.last_fault shelf.old) (S.last_fault shelf.new)) (output (K.tells out.old) (K.written out.old) (K.written out.new) (K.fault_count out.old) (K.fault_count out.new)) n }
     ensures write_fault { (n : ℕ) → result ≡ Status.WriteFault n → IsWriteFault (map string_bytes words.now.items) (outside (S.tells shelf.old) (S.holds shelf.old) (S.fault_count shelf.old) (S.fault_count shelf.new) (S.last_fault shelf.old) (S.last_fault shelf.new)) (output (K.tells out.old) (K.written out.old) (K.written out.new) (K.fault_count out.old) (K.fault_count out.new)) n }
-    ensures memory { result ≡ Status.Memory → S.tells shelf.old ≡ true → (s : Status) (text : List ℕ) → Outcome (map string_bytes words.now.items) (S.holds shelf.old) s text → PrintsPart (output (K.tells out.old) (K.written out.old) (K.written out.new) (K.fault_count out.old) (K.fault_count out.new)) text }
+    ensures memory { result ≡ Status.Memory → S.tells shelf.old ≡ true → (s : Status) (text : List ℕ) → Outcome (map string_bytes words.now.items) (S.holds shelf.old) s text → PrintsPartOf (output (K.tells out.old) (K.written out.old) (K.written out.new) (K.fault_count out.old) (K.fault_count out.new)) s text }
 
     // No name changes what it holds.
     ensures holds { (n : List ℕ) → S.holds shelf.new n ≡ S.holds shelf.old n }
@@ -240,5 +241,6 @@ pub fn circ<S: Shelf, K: Sink>(
     ensures shelf_tells { S.tells shelf.new ≡ S.tells shelf.old }
     ensures sink_tells { K.tells out.new ≡ K.tells out.old }
 {
+    read_in_one_way();
     answer(alloc, words.as_slice(), shelf, out)
 }

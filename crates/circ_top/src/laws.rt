@@ -6,10 +6,10 @@ ghost use Rattle.circ_top.specs.Accepted.{Accepted, FirstFail};
 ghost use Rattle.circ_term.specs.declared.TheConstants.{MOST_NODES, MOST_DEPTH, MOST_ARGS as MOST_TERM_ARGS};
 ghost use Rattle.circ_theory.specs.declared.TheConstants.{MOST_SORTS, MOST_VARS, MOST_OPS, MOST_EQUATIONS, MOST_ARGS};
 ghost use Rattle.circ_top.specs.declared.files.TheConstants.{MOST_BYTES, PIECE};
-ghost use Rattle.circ_read.specs.declared.TheConstants.{MOST_TOKENS};
+ghost use Rattle.circ_mixfix.specs.declared.TheConstants.{MOST_TOKENS};
 
 /// The limits in numbers: bytes of a file and of a piece, nodes, levels and arguments of a term, sorts, variables,
-/// operators, their arguments and equations of a theory, words of a side of an equation.
+/// operators, their arguments and equations of a theory, tokens of a term.
 pub fn limits()
     ensures bytes { MOST_BYTES ≡ 67108864 }
     ensures piece { PIECE ≡ 65536 }
@@ -21,7 +21,7 @@ pub fn limits()
     ensures operators { MOST_OPS ≡ 65536 }
     ensures args { MOST_ARGS ≡ 16 }
     ensures equations { MOST_EQUATIONS ≡ 65536 }
-    ensures words { MOST_TOKENS ≡ 256 }
+    ensures tokens { MOST_TOKENS ≡ 256 }
 {}
 
 /// A proof whose every step is an instance of its rule has no first failing step, and no proof has two.

@@ -13,4 +13,4 @@ mod tests;
 mod texts;
 
 pub use command::circ;
-pub use status::{Cause, Status};
+pub use status::Status;

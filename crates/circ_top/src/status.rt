@@ -2,54 +2,7 @@
 ghost use Rattle.std.specs.Prelude.{◌≡◌};
 ghost use Rattle.circ_top.specs.Status.{number_of};
 
-use circ_theory::Text;
-
-/// Why a text was not read, in the order in which the causes of one statement are tested.
-#[derive(Drop)]
-pub enum Cause {
-    /// A byte of 128 or more, and the number of bytes before it.
-    NotAscii { place: u64 },
-    /// A byte that is no text, and the number of bytes before it.
-    Control { place: u64 },
-    /// Something that the program leaves out.
-    LeftOut { word: Text },
-    /// A departure from the form of the text.
-    Shape,
-    /// The name of no library theory.
-    UnknownTheory,
-    /// The name of no sort.
-    UnknownSort,
-    /// A term of too many tokens, and their number.
-    TooLong { count: u64 },
-    /// Tokens that spell no term.
-    NoParse,
-    /// Tokens with two readings, of which two are shown.
-    Ambiguous { first: Text, second: Text },
-    /// A part that is there already, by its number.
-    Twice { number: u32 },
-    /// An operator that does not fit its sorts.
-    IllSorted { operator: u32 },
-    /// A derivative's parameter that occurs twice.
-    NotLinear { variable: u32 },
-    /// The number of a derivative's holes, which is not 1.
-    HoleCount { count: u32 },
-    /// A case list without a constant.
-    NoConstant,
-    /// A case list of a hidden sort.
-    NotVisible { sort: u32 },
-    /// A derivative of a sort with a case list.
-    NowHidden { sort: u32 },
-    /// More parts than the limit, and their number.
-    Limit { count: u64 },
-    /// A script or block without a goal.
-    NoGoal,
-    /// Goals that no `coinduction` closes.
-    Unclosed,
-    /// A line that departs from the form of a proof file.
-    Line,
-    /// A line of a proof file that passes a limit.
-    LineLimit,
-}
+use circ_read::Cause;
 
 /// How a run of the program ended. File 1 is the theory, file 2 the proof or script that is read,
 /// and file 3 the proof that is to be stored.

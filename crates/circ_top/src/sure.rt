@@ -21,7 +21,7 @@ pub fn circ_in_memory(
     ensures no_read_fault { HoldsFiles (map string_bytes words.now.items) (holds_of shelf.old) → (n : ℕ) → result ≡ Status.ReadFault n → ⊥ }
     ensures no_write_fault { (n : ℕ) → result ≡ Status.WriteFault n → ⊥ }
     ensures outcome { HoldsFiles (map string_bytes words.now.items) (holds_of shelf.old) → Appends (map string_bytes words.now.items) (holds_of shelf.old) (written_of out.old) (written_of out.new) result }
-    ensures complete { (s : Status) (text : List ℕ) → Outcome (map string_bytes words.now.items) (holds_of shelf.old) s text → (IsLike s result × (written_of out.new ≡ written_of out.old ++ text)) ⊎ (result ≡ Status.Memory) }
+    ensures complete { (s : Status) (text : List ℕ) → Outcome (map string_bytes words.now.items) (holds_of shelf.old) s text → ((given : List ℕ) × IsLike s text result given × (written_of out.new ≡ written_of out.old ++ given)) ⊎ (result ≡ Status.Memory) }
     ensures holds { (n : List ℕ) → holds_of shelf.new n ≡ holds_of shelf.old n }
 {
     circ(alloc, words, shelf, out)

@@ -9,6 +9,8 @@ use std::test::Fail;
 const NOT: &[u8] =
     b"theory NOT is sort Bit . ops 0 1 : -> Bit . op not : Bit -> Bit . eq not(0) = 1 . eq not(1) = 0 . endtheory";
 
+const BITS: &[u8] = b"theory B is inc BITS . vars S A B C : Stream . endtheory";
+
 const DOUBLE_NEGATION: &[u8] =
     b"circproof 1\na 0\na 2 0\na 2 1\nblock\ngoal 2 0\nreduce\nleft equation > 0 0\nleft equation > 1 -\nsame\ndone\nend\n";
 
@@ -25,7 +27,7 @@ struct Case {
     text: &'static [u8],
 }
 
-const CASES: [Case; 6] = [
+const CASES: [Case; 10] = [
     Case {
         theory: NOT,
         proof: DOUBLE_NEGATION,
@@ -60,7 +62,31 @@ const CASES: [Case; 6] = [
         theory: b"",
         proof: b"",
         number: 2,
-        text: b"unreadable: file 1, statement 0, shape\n",
+        text: b"unreadable: file 1, statement 1, shape\n",
+    },
+    Case {
+        theory: BITS,
+        proof: b"circproof 1\na 0\na 2 0 0\nblock\ngoal 1 0\nreduce\nleft equation > 0 - 0\nsame\ndone\nend\n",
+        number: 0,
+        text: b"accepted\ngoal: (0 + 0) = 0\n",
+    },
+    Case {
+        theory: BITS,
+        proof: b"circproof 1\na 5\na 4 0\nblock\ngoal 1 0\nreduce\nleft equation > 4 -\nsame\ndone\nend\n",
+        number: 0,
+        text: b"accepted\ngoal: tl(zeros) = zeros\n",
+    },
+    Case {
+        theory: b"theory A is inc BITS . vars A B C : Stream . eq A + B + C = C . endtheory",
+        proof: b"",
+        number: 2,
+        text: b"unreadable: file 1, statement 4, ambiguous: (V0:Stream + (V1:Stream + V2:Stream)) = V2:Stream | ((V0:Stream + V1:Stream) + V2:Stream) = V2:Stream\n",
+    },
+    Case {
+        theory: b"theory T is sort Bit . cases Bit by . endtheory",
+        proof: b"",
+        number: 2,
+        text: b"unreadable: file 1, statement 3, no constant\n",
     },
 ];
 

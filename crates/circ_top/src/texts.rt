@@ -6,9 +6,10 @@ ghost use Rattle.circ_file.specs.Plain.{plain_name, plain_proof};
 ghost use Rattle.circ_top.specs.Texts.{goal_line, accepted_text, cause_text, place_text, refusal_text};
 
 use crate::goals::term_at;
-use crate::status::{Cause, Status};
+use crate::status::Status;
 use circ_file::{Name, Proof};
 use circ_mixfix::print_pair;
+use circ_read::Cause;
 use circ_term::Term;
 use circ_theory::Theory;
 use itoa::Buffer;

@@ -1,8 +1,7 @@
 use Rattle.circ_file.specs.Plain.{plain_proof}
 use Rattle.circ_file.specs.ProofText.{ReadsAsProof}
 use Rattle.std.proofs.Common.{◌∙◌}
-use Rattle.circ_top.specs.Outcome.{outside, IsNoProof, Proves, IsAccepted, Fails, RefusesCheck, theory_fault, proof_fault}
-use Rattle.circ_top.specs.declared.status.Cause.TheVariants as cause
+use Rattle.circ_top.specs.Outcome.{outside, ProofRefusal, Proves, IsAccepted, Fails, RefusesCheck, theory_fault, proof_fault}
 use Rattle.circ_top.proofs.Answering.{quiet_fault, held_before, if_ok, if_err, fails_refuses}
 use Rattle.circ_top.proofs.command.check_files.Goals as goal
 
@@ -15,7 +14,7 @@ returns-in-Err-take_proof-clause-refused g c =
     (quiet_fault (g.S.Shelf.tells c.args.shelf.now) (g.S.Shelf.tells c.take_theory.new.shelf) (g.S.Shelf.holds c.args.shelf.now) (g.S.Shelf.holds c.take_theory.new.shelf)
     (g.S.Shelf.fault_count c.args.shelf.now) (g.S.Shelf.fault_count c.take_theory.new.shelf) (g.S.Shelf.fault_count c.take_proof.new.shelf)
     (g.S.Shelf.last_fault c.args.shelf.now) (g.S.Shelf.last_fault c.take_theory.new.shelf) (g.S.Shelf.last_fault c.take_proof.new.shelf)
-    2 c.args.proof.now cause.Line (IsNoProof c.in-Ok.theory) c.in-Err-take_proof.status
+    2 c.args.proof.now (ProofRefusal c.in-Ok.theory) c.in-Err-take_proof.status
     c.in-Ok.ensures.tells (c.in-Ok.ensures.holds c.args.proof.now) c.in-Ok.ensures.quiet c.in-Err-take_proof.ensures.fault)
 
 pub returns-clause-accepted : goal.returns-clause-accepted

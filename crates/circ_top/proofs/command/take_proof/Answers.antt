@@ -12,9 +12,13 @@ returns-in-Ok-Some-clause-reads g c = λ t.
 pub returns-in-Ok-None-clause-fault : goal.returns-in-Ok-None-clause-fault
 returns-in-Ok-None-clause-fault g c = (
   refl,
-  refl,
-  refl,
-  λ t. record { bytes = c.in-Ok.bytes.items; bytes_are = c.in-Ok.ensures.content t; short = c.in-Ok.ensures.short; are = rw (c.as_slice.ensures.value, c.in-Ok-None.field-0-is) at c.in-Ok-None.ensures },
+  record { bytes = c.in-Ok.bytes.items; short = c.in-Ok.ensures.short; are = (refl, refl, rw (c.as_slice.ensures.value, c.in-Ok-None.field-0-is) at c.in-Ok-None.ensures) },
+  λ t. record {
+    bytes = c.in-Ok.bytes.items;
+    bytes_are = c.in-Ok.ensures.content t;
+    short = c.in-Ok.ensures.short;
+    are = (refl, refl, rw (c.as_slice.ensures.value, c.in-Ok-None.field-0-is) at c.in-Ok-None.ensures);
+  },
 )
 
 pub returns-in-Ok-Some-clause-bytes : goal.returns-in-Ok-Some-clause-bytes

@@ -1,24 +1,7 @@
 use Rattle.std.proofs.Common.{refl}
-use Rattle.circ_read.specs.TheoryText.{ReadsAs}
+use Rattle.circ_read.specs.ReadsAs.{ReadsAs}
 use Rattle.circ_top.proofs.Answering.{only_read}
 use Rattle.circ_top.proofs.command.take_theory.Goals as goal
 
-pub returns-in-Ok-Some-clause-reads : goal.returns-in-Ok-Some-clause-reads
-returns-in-Ok-Some-clause-reads g c = λ t.
-    only_read (g.S.Shelf.holds c.args.shelf.now) c.args.name.now c.in-Ok.bytes.items ReadsAs c.in-Ok-Some.theory (c.in-Ok.ensures.content t) c.in-Ok.ensures.short
-    (rw (c.as_slice.ensures.value, c.in-Ok-Some.field-0-is) at c.in-Ok-Some.ensures)
-
-pub returns-in-Ok-None-clause-fault : goal.returns-in-Ok-None-clause-fault
-returns-in-Ok-None-clause-fault g c = (
-  refl,
-  refl,
-  refl,
-  λ t. record { bytes = c.in-Ok.bytes.items; bytes_are = c.in-Ok.ensures.content t; short = c.in-Ok.ensures.short; are = rw (c.as_slice.ensures.value, c.in-Ok-None.field-0-is) at c.in-Ok-None.ensures },
-)
-
-pub returns-in-Ok-Some-clause-bytes : goal.returns-in-Ok-Some-clause-bytes
-returns-in-Ok-Some-clause-bytes g c = record {
-  bytes = c.in-Ok.bytes.items;
-  short = c.in-Ok.ensures.short;
-  are = (rw (c.as_slice.ensures.value, c.in-Ok-Some.field-0-is) at c.in-Ok-Some.ensures).0;
-}
+pub returns-in-Ok-read_theory-clause-reads : goal.returns-in-Ok-read_theory-clause-reads
+returns-in-Ok-read_theory-clause-reads g c = ?
