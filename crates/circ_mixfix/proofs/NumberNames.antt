@@ -280,7 +280,7 @@ module _ (ws : List (List ℕ)) (d : AreDifferent ws) where
   -- two terms
   pub pair_named : BeginAlike ws → (t u : Tree) → AreKnown ws t → AreKnown ws u
       → let ν = place_from 0 (named.seen_in (named_by ws u) (named.seen_in (named_by ws t) [])) in
-        renumbered (pair_with t u) ≡ pair_with (numbered ν (named_by ws t)) (numbered ν (named_by ws u))
+      renumbered (pair_with t u) ≡ pair_with (numbered ν (named_by ws t)) (numbered ν (named_by ws u))
   pair_named begin t u a b =
       let l = seen_in t [] in
       let w = seen_in u l in
@@ -288,7 +288,7 @@ module _ (ws : List (List ℕ)) (d : AreDifferent ws) where
       let kw = known_in u l b kl in
       let n : names w ≡ named.seen_in (named_by ws u) (named.seen_in (named_by ws t) []) = sym (ap (named.seen_in (named_by ws u)) (seen_names t [] a tt) ∙ seen_names u l b kl) in
       let one : (x : Tree) → AreKnown ws x → IsIn w x → instance (renumbering 0 w) x ≡ numbered (place_from 0 (named.seen_in (named_by ws u) (named.seen_in (named_by ws t) []))) (named_by ws x)
-          = λ x known inside. instance-same (renumbering 0 w) (numbering false 0 w) x (renumbers 0 w) ∙ numbered_named begin false w kw x known inside
-            ∙ ap (λ y. numbered (place_from 0 y) (named_by ws x)) n in
+      = λ x known inside. instance-same (renumbering 0 w) (numbering false 0 w) x (renumbers 0 w) ∙ numbered_named begin false w kw x known inside
+      ∙ ap (λ y. numbered (place_from 0 y) (named_by ws x)) n in
       ap (λ x. pair_with x (instance (renumbering 0 w) u)) (one t a (in_more t u l (in_seen t [])))
       ∙ ap (pair_with (numbered (place_from 0 (named.seen_in (named_by ws u) (named.seen_in (named_by ws t) []))) (named_by ws t))) (one u b (in_seen u l))

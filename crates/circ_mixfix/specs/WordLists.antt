@@ -3,7 +3,6 @@ use Rattle.std.specs.Prelude.{◌≡◌, ◌≤◌, ◌+◌, ℕ, List, [], ◌�
 use Rattle.std.specs.List.{slice_get, list_any}
 use Rattle.std.specs.Cmp.Lexicographic.{pointwise}
 
-
 -- the place of the text
 abbrev pub IsNumber : List (List ℕ) → List ℕ → Option ℕ → Type 0
 IsNumber ws w (Some n) = slice_get ws n ≡ Some w

@@ -73,12 +73,7 @@ pub fn readings_of_one(alloc: Global, terms: &[Term], hole: bool) -> Result<Foun
     Ok(found)
 }
 
-fn with_pair(
-    alloc: Global,
-    found: Found,
-    left: &Term,
-    right: &Term,
-) -> Result<Found, AllocError>
+fn with_pair(alloc: Global, found: Found, left: &Term, right: &Term) -> Result<Found, AllocError>
     requires { AreOrdered found }
     ensures { IfOk result (λ f. Keeps f (Or (In found) (RightRead left.now (right.now ∷ [])))) }
 {
@@ -95,12 +90,7 @@ fn with_pair(
     Ok(with_reading(found, Reading { terms }))
 }
 
-fn with_left(
-    alloc: Global,
-    found: Found,
-    left: &Term,
-    rights: &[Term],
-) -> Result<Found, AllocError>
+fn with_left(alloc: Global, found: Found, left: &Term, rights: &[Term]) -> Result<Found, AllocError>
     requires { AreOrdered found }
     ensures { IfOk result (λ f. Keeps f (Or (In found) (RightRead left.now rights.now))) }
 {
@@ -112,11 +102,7 @@ fn with_left(
 }
 
 // The readings of two token lists that are spelled by these terms, of one sort.
-pub fn readings_of_both(
-    alloc: Global,
-    lefts: &[Term],
-    rights: &[Term],
-) -> Result<Found, AllocError>
+pub fn readings_of_both(alloc: Global, lefts: &[Term], rights: &[Term]) -> Result<Found, AllocError>
     ensures { IfOk result (λ f. Keeps f (BothRead lefts.now rights.now)) }
 {
     let mut found = Found::Nothing;

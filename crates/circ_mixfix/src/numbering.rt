@@ -12,11 +12,7 @@ use indexmap::IndexSet;
 use std::alloc::{AllocError, Global};
 
 // Each variable is bound to one that has the next number. Where there is a hole, it has the number 0.
-fn numbering(
-    alloc: Global,
-    variables: &[Occurring],
-    hole: bool,
-) -> Result<Subst, AllocError>
+fn numbering(alloc: Global, variables: &[Occurring], hole: bool) -> Result<Subst, AllocError>
     requires { length variables.now < 2 ^ 31 }
     ensures { IfOk result (λ σ. Numbers hole (substitution_of σ) (map variable_of variables.now)) }
 {

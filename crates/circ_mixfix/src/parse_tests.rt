@@ -1,34 +1,45 @@
-use crate::{ParseFault, Reading, parse_one, parse_one_declared, parse_pair, parse_pair_declared, print, print_derivative};
+use crate::{
+    ParseFault, Reading, parse_one, parse_one_declared, parse_pair, parse_pair_declared, print,
+    print_derivative,
+};
 use circ_lexer::{Span, Tokens};
 use circ_theory::{Form, OpDecl, Side, Theory};
 use std::alloc::Global;
 use std::test::Fail;
 
-// A form, its argument sorts and its result sort, its precedence and its side.
-type Declaration<'a> = (&'a [u8], &'a [u32], u32, u8, Side);
+// Adds an operator.
+fn add(
+    alloc: Global,
+    theory: &mut Theory,
+    form: &[u8],
+    args: &[u32],
+    sort: u32,
+    (prec, side): (u8, Side),
+) -> Result<(), Fail> {
+    let form = Form::read(alloc, form)?;
+    let args = Vec::from_slice(alloc, args)?;
+    theory.add_op(OpDecl {
+        form,
+        args,
+        result: sort,
+        prec,
+        side,
+        assoc: false,
+        comm: false,
+        idem: false,
+    })?;
+    Ok(())
+}
 
-// A theory with the sorts X and Y, the variables a, x and y : X and z : Y, and these operators.
-fn theory(alloc: Global, declarations: &[Declaration<'_>]) -> Result<Theory, Fail> {
-    let mut theory = Theory::new(alloc, b"T")?;
+// Adds the sorts X and Y, and the variables a, x and y : X and z : Y.
+fn declare(theory: &mut Theory) -> Result<(), Fail> {
     theory.add_sort(b"X")?;
     theory.add_sort(b"Y")?;
-    for name in [b"a", b"x", b"y"] {
-        theory.add_var(name.as_slice(), 0)?;
-    }
+    theory.add_var(b"a", 0)?;
+    theory.add_var(b"x", 0)?;
+    theory.add_var(b"y", 0)?;
     theory.add_var(b"z", 1)?;
-    for (form, args, result, prec, side) in declarations {
-        theory.add_op(OpDecl {
-            form: Form::read(alloc, form)?,
-            args: Vec::from_slice(alloc, args)?,
-            result: *result,
-            prec: *prec,
-            side: *side,
-            assoc: false,
-            comm: false,
-            idem: false,
-        })?;
-    }
-    Ok(theory)
+    Ok(())
 }
 
 fn put_reading(
@@ -66,7 +77,11 @@ fn told(
     match answer {
         Ok(reading) => put_reading(alloc, theory, &reading, hole, &mut out)?,
         Err(ParseFault::TooLong { count }) => {
-            out.extend_from_slice(if count == 257 { b"257 tokens" } else { b"too long" })?;
+            out.extend_from_slice(if count == 257 {
+                b"257 tokens"
+            } else {
+                b"too long"
+            })?;
         }
         Err(ParseFault::NoParse) => out.extend_from_slice(b"none")?,
         Err(ParseFault::Ambiguous { first, second }) => {
@@ -108,150 +123,175 @@ fn read(alloc: Global, theory: &Theory, text: &[u8], hole: bool) -> Result<Vec<u
     told(alloc, theory, answer, hole)
 }
 
-// A side, what is read where `_+_` has it and the precedence 33, and what it reads as.
+// Whether the text reads so where `_+_` has this side and the precedence 33.
+fn sum_reads(alloc: Global, side: Side, text: &[u8], wanted: &[u8]) -> Result<bool, Fail> {
+    let mut theory = Theory::new(alloc, b"T")?;
+    declare(&mut theory)?;
+    add(alloc, &mut theory, b"_+_", &[0, 0], 0, (33, side))?;
+    let found = read(alloc, &theory, text, false)?;
+    Ok(found.as_slice() == wanted)
+}
+
+// A side, what is read, and what it reads as.
+const SUMS: [(Side, &[u8], &[u8]); 7] = [
+    (
+        Side::Neither,
+        b"A:X + B:X + C:X",
+        b"(V0:X + (V1:X + V2:X)) | ((V0:X + V1:X) + V2:X)",
+    ),
+    (Side::Left, b"A:X + B:X + C:X", b"((V0:X + V1:X) + V2:X)"),
+    (Side::Right, b"A:X + B:X + C:X", b"(V0:X + (V1:X + V2:X))"),
+    (Side::Left, b"A:X + (B:X + A:X)", b"(V0:X + (V1:X + V0:X))"),
+    (Side::Right, b"(x + y) + x", b"((V0:X + V1:X) + V0:X)"),
+    (
+        Side::Left,
+        b"y + x = x + y + A:X",
+        b"(V0:X + V1:X) = ((V1:X + V0:X) + V2:X)",
+    ),
+    (
+        Side::Neither,
+        b"A:X = B:X + C:X + D:X",
+        b"V0:X = (V1:X + (V2:X + V3:X)) | V0:X = ((V1:X + V2:X) + V3:X)",
+    ),
+];
+
 #[test]
 fn sides(rt: HostRuntime) -> Result<(), Fail> {
-    let alloc = rt.alloc();
-    let table: [(Side, &[u8], &[u8]); 7] = [
-        (
-            Side::Neither,
-            b"A:X + B:X + C:X",
-            b"(V0:X + (V1:X + V2:X)) | ((V0:X + V1:X) + V2:X)",
-        ),
-        (Side::Left, b"A:X + B:X + C:X", b"((V0:X + V1:X) + V2:X)"),
-        (Side::Right, b"A:X + B:X + C:X", b"(V0:X + (V1:X + V2:X))"),
-        (
-            Side::Left,
-            b"A:X + (B:X + A:X)",
-            b"(V0:X + (V1:X + V0:X))",
-        ),
-        (Side::Right, b"(x + y) + x", b"((V0:X + V1:X) + V0:X)"),
-        (
-            Side::Left,
-            b"y + x = x + y + A:X",
-            b"(V0:X + V1:X) = ((V1:X + V0:X) + V2:X)",
-        ),
-        (
-            Side::Neither,
-            b"A:X = B:X + C:X + D:X",
-            b"V0:X = (V1:X + (V2:X + V3:X)) | V0:X = ((V1:X + V2:X) + V3:X)",
-        ),
-    ];
-    for (side, text, wanted) in table {
-        let theory = theory(alloc, &[(b"_+_", &[0, 0], 0, 33, side)])?;
-        let found = read(alloc, &theory, text, false)?;
-        assert!(rt; found.as_slice() == wanted);
+    for row in SUMS {
+        assert!(rt; sum_reads(rt.alloc(), row.0, row.1, row.2)?);
     }
     Ok(())
+}
+
+fn add_forms(alloc: Global, theory: &mut Theory) -> Result<(), Fail> {
+    add(alloc, theory, b"~_", &[0], 0, (41, Side::Neither))?;
+    add(alloc, theory, b"_*", &[0], 0, (31, Side::Neither))?;
+    add(alloc, theory, b"[_]", &[0], 0, (0, Side::Neither))?;
+    add(
+        alloc,
+        theory,
+        b"if_then_else_fi",
+        &[0, 0, 0],
+        0,
+        (127, Side::Neither),
+    )?;
+    add(alloc, theory, b"_=>_", &[0, 0], 0, (127, Side::Right))?;
+    add(alloc, theory, b"_@_", &[0, 0], 0, (1, Side::Left))?;
+    add(alloc, theory, b"_@_", &[1, 1], 1, (1, Side::Left))
+}
+
+fn add_words(alloc: Global, theory: &mut Theory) -> Result<(), Fail> {
+    add(alloc, theory, b"g", &[0], 0, (0, Side::Neither))?;
+    add(alloc, theory, b"g", &[1], 0, (0, Side::Neither))?;
+    add(alloc, theory, b"h", &[0, 1], 0, (0, Side::Neither))?;
+    add(alloc, theory, b"a", &[], 0, (0, Side::Neither))?;
+    add(alloc, theory, b"b", &[], 1, (0, Side::Neither))?;
+    add(alloc, theory, b"_!_", &[0, 0], 0, (0, Side::Right))
 }
 
 // What is read, whether with a hole, and what it reads as.
+const FORMS: [(&[u8], bool, &[u8]); 24] = [
+    (b"~ x *", false, b"(~ (V0:X *))"),
+    (b"(~ x) *", false, b"((~ V0:X) *)"),
+    (b"[ x => y ]", false, b"([ (V0:X => V1:X) ])"),
+    (b"x => y => x", false, b"(V0:X => (V1:X => V0:X))"),
+    (b"x @ y @ x", false, b"((V0:X @ V1:X) @ V0:X)"),
+    (b"z @ b", false, b"(V0:Y @ b)"),
+    (b"x @ z", false, b"none"),
+    (
+        b"if x => y then x else ~ y fi",
+        false,
+        b"(if (V0:X => V1:X) then V0:X else (~ V1:X) fi)",
+    ),
+    (b"if x then y fi", false, b"none"),
+    (b"g(z)", false, b"g(V0:Y)"),
+    (b"g(x @ x)", false, b"g((V0:X @ V0:X))"),
+    (b"h(A:X, A:Y)", false, b"h(V0:X, V1:Y)"),
+    (b"h(x, x)", false, b"none"),
+    (b"a", false, b"V0:X | a"),
+    (b"g(a) = x", false, b"g(V0:X) = V1:X | g(a) = V0:X"),
+    (b"x ! y", false, b"none"),
+    (b"g(*:X)", false, b"none"),
+    (b"g(*:X)", true, b"g(*:X)"),
+    (b"h(*:X, A:Y)", true, b"h(*:X, V1:Y)"),
+    (b"h(*:X, *:Y)", true, b"h(*:X, *:Y)"),
+    (b"h(A:X, *:Y)", true, b"h(V1:X, *:Y)"),
+    (b"g(A:Z)", false, b"none"),
+    (b"g(:X)", false, b"none"),
+    (b"", false, b"none"),
+];
+
+// Whether each row reads as it should.
+fn rows_read(alloc: Global, theory: &Theory) -> Result<bool, Fail> {
+    for row in FORMS {
+        let found = read(alloc, theory, row.0, row.1)?;
+        if found.as_slice() != row.2 {
+            return Ok(false);
+        }
+    }
+    Ok(true)
+}
+
 #[test]
 fn forms(rt: HostRuntime) -> Result<(), Fail> {
-    let alloc = rt.alloc();
-    let theory = theory(
-        alloc,
-        &[
-            (b"~_", &[0], 0, 41, Side::Neither),
-            (b"_*", &[0], 0, 31, Side::Neither),
-            (b"[_]", &[0], 0, 0, Side::Neither),
-            (b"if_then_else_fi", &[0, 0, 0], 0, 127, Side::Neither),
-            (b"_=>_", &[0, 0], 0, 127, Side::Right),
-            (b"_@_", &[0, 0], 0, 1, Side::Left),
-            (b"_@_", &[1, 1], 1, 1, Side::Left),
-            (b"g", &[0], 0, 0, Side::Neither),
-            (b"g", &[1], 0, 0, Side::Neither),
-            (b"h", &[0, 1], 0, 0, Side::Neither),
-            (b"a", &[], 0, 0, Side::Neither),
-            (b"b", &[], 1, 0, Side::Neither),
-            (b"_!_", &[0, 0], 0, 0, Side::Right),
-        ],
-    )?;
-    let table: [(&[u8], bool, &[u8]); 24] = [
-        (b"~ x *", false, b"(~ (V0:X *))"),
-        (b"(~ x) *", false, b"((~ V0:X) *)"),
-        (b"[ x => y ]", false, b"([ (V0:X => V1:X) ])"),
-        (
-            b"x => y => x",
-            false,
-            b"(V0:X => (V1:X => V0:X))",
-        ),
-        (b"x @ y @ x", false, b"((V0:X @ V1:X) @ V0:X)"),
-        (b"z @ b", false, b"(V0:Y @ b)"),
-        (b"x @ z", false, b"none"),
-        (
-            b"if x => y then x else ~ y fi",
-            false,
-            b"(if (V0:X => V1:X) then V0:X else (~ V1:X) fi)",
-        ),
-        (b"if x then y fi", false, b"none"),
-        (b"g(z)", false, b"g(V0:Y)"),
-        (b"g(x @ x)", false, b"g((V0:X @ V0:X))"),
-        (b"h(A:X, A:Y)", false, b"h(V0:X, V1:Y)"),
-        (b"h(x, x)", false, b"none"),
-        (b"a", false, b"V0:X | a"),
-        (b"g(a) = x", false, b"g(V0:X) = V1:X | g(a) = V0:X"),
-        (b"x ! y", false, b"none"),
-        (b"g(*:X)", false, b"none"),
-        (b"g(*:X)", true, b"g(*:X)"),
-        (b"h(*:X, A:Y)", true, b"h(*:X, V1:Y)"),
-        (b"h(*:X, *:Y)", true, b"h(*:X, *:Y)"),
-        (b"h(A:X, *:Y)", true, b"h(V1:X, *:Y)"),
-        (b"g(A:Z)", false, b"none"),
-        (b"g(:X)", false, b"none"),
-        (b"", false, b"none"),
-    ];
-    for (text, hole, wanted) in table {
-        let found = read(alloc, &theory, text, hole)?;
-        assert!(rt; found.as_slice() == wanted);
-    }
+    let mut theory = Theory::new(rt.alloc(), b"T")?;
+    declare(&mut theory)?;
+    add_forms(rt.alloc(), &mut theory)?;
+    add_words(rt.alloc(), &mut theory)?;
+    assert!(rt; rows_read(rt.alloc(), &theory)?);
     Ok(())
 }
 
-// 257 tokens, 256 opening parentheses, and 128 operators of one precedence without a side.
-#[test]
-fn many_tokens(rt: HostRuntime) -> Result<(), Fail> {
-    let alloc = rt.alloc();
-    let theory = theory(alloc, &[(b"_+_", &[0, 0], 0, 33, Side::Neither)])?;
-    let mut text = Vec::new(alloc);
-    for _ in 0..256 {
-        text.push(b'(')?;
-    }
-    let found = read(alloc, &theory, &text, false)?;
-    assert!(rt; found.as_slice() == b"none".as_slice());
-    text.push(b'(')?;
-    let found = read(alloc, &theory, &text, false)?;
-    assert!(rt; found.as_slice() == b"257 tokens".as_slice());
+// So many opening parentheses.
+fn opened(alloc: Global, count: usize) -> Result<Vec<u8>, Fail> {
+    Ok(vec![in alloc; b'('; count]?)
+}
+
+// A sum of 128 variables, which is 255 tokens.
+fn long_sum(alloc: Global) -> Result<Vec<u8>, Fail> {
     let mut sum = Vec::from_slice(alloc, b"x")?;
     for _ in 0..127 {
         sum.extend_from_slice(b" + x")?;
     }
-    let found = read(alloc, &theory, &sum, false)?;
-    assert!(rt; found.as_slice().starts_with(b"(V0:X + "));
+    Ok(sum)
+}
+
+#[test]
+fn many_tokens(rt: HostRuntime) -> Result<(), Fail> {
+    let alloc = rt.alloc();
+    assert!(rt; sum_reads(alloc, Side::Neither, &opened(alloc, 256)?, b"none")?);
+    assert!(rt; sum_reads(alloc, Side::Neither, &opened(alloc, 257)?, b"257 tokens")?);
+    assert!(rt; !sum_reads(alloc, Side::Neither, &long_sum(alloc)?, b"none")?);
     Ok(())
+}
+
+// Whether the calls read with no declared variable, as they are given none.
+fn reads_without(alloc: Global, theory: &Theory, tokens: &Tokens<'_>) -> Result<bool, Fail> {
+    if tokens.count() != 3 {
+        return Ok(false);
+    }
+    let span = Span { from: 0, to: 3 };
+    let one = told(
+        alloc,
+        theory,
+        parse_one(alloc, theory, &[], tokens, span, false),
+        false,
+    )?;
+    let last = Span { from: 2, to: 3 };
+    let pair = told(
+        alloc,
+        theory,
+        parse_pair(alloc, theory, &[], tokens, last, last),
+        false,
+    )?;
+    Ok(one.as_slice() == b"none".as_slice() && pair.as_slice() == b"V0:X = V0:X".as_slice())
 }
 
 #[test]
 fn variables_are_given(rt: HostRuntime) -> Result<(), Fail> {
-    let alloc = rt.alloc();
-    let theory = theory(alloc, &[(b"_+_", &[0, 0], 0, 33, Side::Left)])?;
-    let tokens = Tokens::of(alloc, b"x + A:X")?;
-    assert!(rt; tokens.count() == 3);
-    let span = Span { from: 0, to: 3 };
-    let found = told(
-        alloc,
-        &theory,
-        parse_one(alloc, &theory, &[], &tokens, span, false),
-        false,
-    )?;
-    assert!(rt; found.as_slice() == b"none".as_slice());
-    let right = Span { from: 2, to: 3 };
-    let found = told(
-        alloc,
-        &theory,
-        parse_pair(alloc, &theory, &[], &tokens, right, right),
-        false,
-    )?;
-    assert!(rt; found.as_slice() == b"V0:X = V0:X".as_slice());
+    let mut theory = Theory::new(rt.alloc(), b"T")?;
+    declare(&mut theory)?;
+    let tokens = Tokens::of(rt.alloc(), b"x @ A:X")?;
+    assert!(rt; reads_without(rt.alloc(), &theory, &tokens)?);
     Ok(())
 }

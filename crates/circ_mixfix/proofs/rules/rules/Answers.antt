@@ -9,8 +9,8 @@ loop-number-init c = no_rules c.args.theory.now.signature c.args.words.now c.new
 
 pub loop-number-preserved : goal.loop-number-preserved
 loop-number-preserved c = elim c.match-text.branch [
-    in-Some+in_ok-push_rules w ↦ (
-        rw w.out-is (rules_step c.args.theory.now.signature c.args.words.now c.loop-number.number w.in-Some.word.now c.loop-number.out.items w.push_rules.new.out.items (sym w.in-Some.ensures)
-        (rw w.ops_by_word.ensures at w.in_ok-push_rules.ensures) c.loop-number.invariant))
-    | in_default w ↦ absurd (let t = c.loop-number-test.true in let n = c.count-number-end.ensures.count in text_past c.args.words.now c.loop-number.number (sym w.in_default.ensures) (omega arith))
-  ]
+  | in-Some+in_ok-push_rules w ↦ (
+      rw w.out-is (rules_step c.args.theory.now.signature c.args.words.now c.loop-number.number w.in-Some.word.now c.loop-number.out.items w.push_rules.new.out.items (sym w.in-Some.ensures)
+      (rw w.ops_by_word.ensures at w.in_ok-push_rules.ensures) c.loop-number.invariant))
+  | in_default w ↦ absurd (let t = c.loop-number-test.true in let n = c.count-number-end.ensures.count in text_past c.args.words.now c.loop-number.number (sym w.in_default.ensures) (omega arith))
+]

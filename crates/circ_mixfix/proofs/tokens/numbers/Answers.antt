@@ -35,7 +35,7 @@ loop-place-preserved c =
     let f = c.loop-place.auto.place in
     let toks = tokens_of c.args.tokens.now in
     elim c.match-token.branch [
-      in-Some+in_ok-add+in_ok-push w ↦ (
+      | in-Some+in_ok-add+in_ok-push w ↦ (
           let g : GrowsTo c.loop-place.words w.add.new.self 1 = rw w.in_ok-add.ensures.added (grows_with c.loop-place.words w.in-Some.token.now) in
           rw (w.words-is, w.out-is) (record {
             numbers = numbers_more c.loop-place.words w.add.new.self 1 c.loop-place.out.items w.push.new.self.items w.in_ok-add.field-0 (slice_range toks c.args.span.from c.loop-place.place)

@@ -10,6 +10,9 @@ pub returns-in_default-var : goal.returns-in_default-var
 returns-in_default-var c = absurd (placed c.args.word c.args.name.now c.args.theory.now.variables c.in-Some.number (sym c.in-Some.ensures) (sym c.in_default-var.ensures))
 
 pub returns : goal.returns
-returns c =
-    (_, c.in_ok-push.ensures.items, one_declared c.args.word c.args.name.now c.args.theory.now.variables c.in-Some.number (declared c.in-Some-var.field-0-0.now c.in-Some-var.sort)
-    c.known_names.ensures.variables (sym c.in-Some.ensures) (sym c.in-Some-var.ensures))
+returns c = (
+  _,
+  c.in_ok-push.ensures.items,
+  one_declared c.args.word c.args.name.now c.args.theory.now.variables c.in-Some.number (declared c.in-Some-var.field-0-0.now c.in-Some-var.sort)
+      c.known_names.ensures.variables (sym c.in-Some.ensures) (sym c.in-Some-var.ensures),
+)

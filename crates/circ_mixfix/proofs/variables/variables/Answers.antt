@@ -15,13 +15,13 @@ loop-word-init c = record {
 
 pub loop-word-preserved : goal.loop-word-preserved
 loop-word-preserved c = elim c.match-text.branch [
-    in-Some+in_ok-push_variables w ↦ (
-        let e = w.in_ok-push_variables.ensures in
-        rw (w.words-is, w.out-is) (record {
-          variables = has_more c.args.scope.now.theory.now.signature (vars_in c.args.scope.now) c.args.scope.now.hole c.loop-word.words w.push_variables.new.words c.loop-word.word w.in-Some.text.now
-              c.loop-word.out.items w.push_variables.new.out.items c.loop-word.invariant.variables e.grows (sym w.in-Some.ensures) e.adds;
-          grows = grows_chain c.args.words.now c.loop-word.words w.push_variables.new.words c.loop-word.word 1 c.loop-word.invariant.grows e.grows;
-        }))
-    | in_default w ↦ absurd (let k = c.requires.count in let t = c.loop-word-test.true in let g = c.loop-word.invariant.grows.longer in
-        text_past c.loop-word.words c.loop-word.word (sym w.in_default.ensures) (omega arith))
-  ]
+  | in-Some+in_ok-push_variables w ↦ (
+      let e = w.in_ok-push_variables.ensures in
+      rw (w.words-is, w.out-is) (record {
+        variables = has_more c.args.scope.now.theory.now.signature (vars_in c.args.scope.now) c.args.scope.now.hole c.loop-word.words w.push_variables.new.words c.loop-word.word w.in-Some.text.now
+            c.loop-word.out.items w.push_variables.new.out.items c.loop-word.invariant.variables e.grows (sym w.in-Some.ensures) e.adds;
+        grows = grows_chain c.args.words.now c.loop-word.words w.push_variables.new.words c.loop-word.word 1 c.loop-word.invariant.grows e.grows;
+      }))
+  | in_default w ↦ absurd (let k = c.requires.count in let t = c.loop-word-test.true in let g = c.loop-word.invariant.grows.longer in
+      text_past c.loop-word.words c.loop-word.word (sym w.in_default.ensures) (omega arith))
+]
