@@ -1,5 +1,5 @@
 -- A text takes no sort away.
-use Rattle.std.proofs.Common.{◌≡◌, ℕ, ◌≤◌, ◌+◌, List, [], ◌∷◌, ◌++◌, length, Bool, true, false, if◌then◌else◌, is_some, Option, Some, None, Result, Ok, Err, refl, sym, ap, ◌∙◌, subst, arith}
+use Rattle.std.proofs.Common.{◌≡◌, ℕ, ◌≤◌, List, [], ◌∷◌, ◌++◌, length, Bool, true, false, if◌then◌else◌, is_some, Option, Some, None, Result, Ok, Err, refl, sym, subst, arith}
 use Rattle.std.proofs.lemmas.List.{length-append}
 use Rattle.circ_term.specs.Tree.{Tree}
 use Rattle.circ_theory.specs.declared.fault.TheoryFault.{TheoryFault}
@@ -8,7 +8,7 @@ use Rattle.circ_theory.specs.Adding.{var_number, var_fault, op_fault, with_var, 
 use Rattle.circ_theory.specs.Observing.{derivative_fault, with_derivative, cases_fault, with_cases}
 use Rattle.circ_statement.specs.Said.{Said, inclusion, sorts, operators, variables, equation, derivative, cases}
 use Rattle.circ_read.specs.declared.cause.Cause.{Cause}
-use Rattle.circ_read.specs.Text.{DoTokens, none, says, Reaches, start, next}
+use Rattle.circ_read.specs.Text.{DoTokens, says, Reaches, start, next}
 use Rattle.circ_read.specs.Does.{adds, after, all_added, sort_named, sorts_named, constants_named, sort_added, variable_added, operator_with, operator_added, equation_added, derivative_added, Does}
 use Rattle.circ_read.specs.Steps.{HasText, text_reads_to}
 
@@ -62,7 +62,7 @@ does_grow th (sorts names) u d = all_grow sort_added sort_grows th names u (sym 
 does_grow th (operators forms args result a c i) u d =
     after_grows th u (sorts_named th args) (λ ss. after (sort_named th result) (λ s. all_added (operator_added ss s a c i) th forms))
     (λ ss e. after_grows th u (sort_named th result) (λ s. all_added (operator_added ss s a c i) th forms)
-        (λ s f. all_grow (operator_added ss s a c i) (λ v p w g. added_grows (op_fault v (operator_with ss s a c i p)) v (with_op v (operator_with ss s a c i p)) w (omega arith) g) th forms u f) (sym e)) d
+    (λ s f. all_grow (operator_added ss s a c i) (λ v p w g. added_grows (op_fault v (operator_with ss s a c i p)) v (with_op v (operator_with ss s a c i p)) w (omega arith) g) th forms u f) (sym e)) d
 does_grow th (variables names sort) u d =
     after_grows th u (sort_named th sort) (λ s. all_added (variable_added s) th names) (λ s e. all_grow (variable_added s) (variable_grows s) th names u e) d
 does_grow th (equation left right exec) u (o, g, e) = after_grows th u o (equation_added th exec) (λ ts f. equation_grows th exec ts u f) e
@@ -70,7 +70,7 @@ does_grow th (derivative term) u (o, g, e) = after_grows th u o (derivative_adde
 does_grow th (cases sort names) u d =
     after_grows th u (sort_named th sort) (λ s. after (constants_named th s names) (λ cs. adds (cases_fault th s cs) (with_cases th s cs)))
     (λ s e. after_grows th u (constants_named th s names) (λ cs. adds (cases_fault th s cs) (with_cases th s cs))
-        (λ cs f. added_grows (cases_fault th s cs) th (with_cases th s cs) u (omega arith) f) (sym e)) d
+    (λ cs f. added_grows (cases_fault th s cs) th (with_cases th s cs) u (omega arith) f) (sym e)) d
 
 tokens_grow : (th : Theory) (ws : List (List ℕ)) (u : Theory) → DoTokens Does th ws (Ok u) → Grows th u
 tokens_grow th ws u (says s r kept is d) = does_grow th s u d

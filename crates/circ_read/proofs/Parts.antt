@@ -6,13 +6,10 @@ use Rattle.std.specs.declared.vec.IntoIter.{IntoIter}
 use Rattle.std.specs.Vec.Iter.{into_iter_len, into_iter_items}
 use Rattle.circ_term.specs.Tree.{Tree}
 use Rattle.circ_theory.specs.Theory.{Theory}
-use Rattle.circ_theory.specs.Adding.{IsFirst, Numbers}
-use Rattle.circ_theory.specs.declared.fault.TheoryFault.{TheoryFault}
-use Rattle.circ_theory.specs.declared.fault.TheoryFault.TheVariants as fault
 use Rattle.circ_read.specs.declared.cause.Cause.{Cause}
 use Rattle.circ_read.specs.declared.cause.Fault.{Fault}
 use Rattle.circ_read.specs.declared.cause.Fault.TheVariants.{Because, Memory}
-use Rattle.circ_read.specs.Does.{adds, after, all_added, all_numbers, or_cause}
+use Rattle.circ_read.specs.Does.{after, all_added, all_numbers, or_cause}
 use Rattle.circ_read.specs.Steps.{Answers, ReadsTerms}
 
 module _ {A : Type 0} (add : Theory → A → Result Theory Cause) (th : Theory) (a : A) (all rest : List A) (first : all ≡ a ∷ rest) (whole : Result Theory Cause) (so_far : all_added add th all ≡ whole) where

@@ -1,6 +1,6 @@
 -- A statement has one outcome.
-use Rattle.std.proofs.Common.{◌≡◌, ℕ, List, [], ◌∷◌, ◌++◌, Bool, true, false, Option, Some, None, Result, Ok, Err, Ordering, Less, Equal, refl, sym, ap, ◌∙◌, subst}
-use Rattle.std.specs.Ordering.{nat_cmp, ordering_then}
+use Rattle.std.proofs.Common.{◌≡◌, ℕ, List, [], ◌∷◌, ◌++◌, Option, Some, None, Result, Ok, Err, Less, Equal, refl, sym, ◌∙◌, subst}
+use Rattle.std.specs.Ordering.{nat_cmp}
 use Rattle.std.specs.Cmp.{nat_cmp_is}
 use Rattle.circ_term.specs.Tree.{Tree, Trees, Var, App, none, more, trees_of}
 use Rattle.circ_term.specs.Order.{tree_cmp, trees_cmp}

@@ -1,5 +1,5 @@
 -- Bytes lead to one value, or have one first cause.
-use Rattle.std.proofs.Common.{◌≡◌, ℕ, ◌+◌, List, [], ◌∷◌, Bool, Option, Some, None, Result, Ok, Err, refl, sym, ap, ◌∙◌, subst, arith}
+use Rattle.std.proofs.Common.{◌≡◌, ℕ, ◌+◌, List, Bool, Option, Some, None, Result, Err, refl, sym, ap, subst}
 use Rattle.circ_lexer.specs.declared.tokens.Span.{Span}
 use Rattle.circ_lexer.specs.declared.fault.LexFault.{LexFault}
 use Rattle.circ_lexer.specs.Cuts.{Cuts, IsFirstBad}

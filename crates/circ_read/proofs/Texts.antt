@@ -1,24 +1,22 @@
 -- Texts by their bodies.
-use Rattle.std.proofs.Common.{◌≡◌, ℕ, ◌+◌, List, [], ◌∷◌, ◌++◌, drop, Bool, true, false, Option, Some, None, Result, Ok, Err, refl, sym, ap, ◌∙◌, subst}
+use Rattle.std.proofs.Common.{◌≡◌, ℕ, ◌+◌, List, [], ◌∷◌, ◌++◌, drop, Bool, false, Some, None, Result, Ok, Err, refl, sym, subst}
 use Rattle.circ_lexer.specs.declared.fault.LexFault.{LexFault}
 use Rattle.circ_lexer.specs.declared.fault.LexFault.TheVariants as lex
-use Rattle.circ_lexer.specs.Cuts.{IsFirstBad}
 use Rattle.circ_lexer.specs.TokenList.{TokenList, AreTokens, GivesTokens}
-use Rattle.circ_theory.specs.Theory.{Theory, Declared}
+use Rattle.circ_theory.specs.Theory.{Theory}
 use Rattle.circ_statement.specs.declared.statements.Statement.{Statement}
 use Rattle.circ_statement.specs.declared.statements.Statement.TheVariants as st
 use Rattle.circ_statement.specs.Said.{Said, said_of}
-use Rattle.circ_read.specs.declared.cause.Cause.{Cause}
 use Rattle.circ_read.specs.declared.cause.Cause.TheVariants as cause
 use Rattle.circ_read.specs.declared.cause.Fault.{Fault}
 use Rattle.circ_read.specs.declared.cause.Fault.TheVariants.{Because, Memory}
 use Rattle.circ_read.specs.declared.cause.ReadFault.{ReadFault}
 use Rattle.circ_read.specs.declared.cause.ReadFault.TheVariants as at
 use Rattle.circ_read.specs.declared.text.Head.{Head}
-use Rattle.circ_read.specs.Text.{IsNoHead, ending, Breaks, ReadsTo, FailsAt, at_a_byte, at_the_head, in_the_body}
+use Rattle.circ_read.specs.Text.{IsNoHead, ReadsTo, FailsAt, at_a_byte, at_the_head, in_the_body}
 use Rattle.circ_read.specs.Does.{Does}
 use Rattle.circ_read.specs.Includes.{Scope, scope, is_included, with_variables, text_named, Includes, whole, broken, DoesIn, DoesBy, included_name}
-use Rattle.circ_read.specs.ReadsAs.{begun, ReadsAs, GivesTheory}
+use Rattle.circ_read.specs.ReadsAs.{begun, GivesTheory}
 use Rattle.circ_read.proofs.Walk.{BreaksBy}
 use Rattle.circ_read.specs.Steps.{Answers, byte_fault, IsHeadOf, HasBody, body_ends, body_breaks, HasText, text_reads_to, text_fails_at, GivesBody, GivesRead, fault_at}
 

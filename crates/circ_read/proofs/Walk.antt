@@ -1,5 +1,5 @@
 -- A walk over the statements of a body, from stop to stop.
-use Rattle.std.proofs.Common.{◌≡◌, ◌≢◌, ℕ, ◌+◌, ◌≤◌, ◌<◌, List, [], ◌∷◌, ◌++◌, length, drop, slice_range, Bool, codes, Result, Ok, Err, refl, sym, ap, ◌∙◌, subst, arith}
+use Rattle.std.proofs.Common.{◌≡◌, ℕ, ◌+◌, ◌≤◌, ◌<◌, List, length, drop, slice_range, Bool, Result, Ok, Err, subst, arith}
 use Rattle.circ_lexer.specs.TokenList.{TokenList}
 use Rattle.circ_statement.specs.declared.statements.Statement.{Statement}
 use Rattle.circ_statement.specs.Said.{Said, said_of}
@@ -7,8 +7,8 @@ use Rattle.circ_read.specs.declared.cause.Cause.{Cause}
 use Rattle.circ_read.specs.declared.cause.Cause.TheVariants as cause
 use Rattle.circ_read.specs.declared.cause.Fault.{Fault}
 use Rattle.circ_read.specs.declared.cause.Fault.TheVariants.{Because, Memory}
-use Rattle.circ_read.specs.Text.{HasNoStop, ending, IsNoStatement, none, says, DoTokens, Reaches, start, next, Breaks, at_a_statement, at_the_end}
-use Rattle.circ_read.specs.Steps.{Answers, IsStopAfter, GivesShape, IsSaid, HasBody, body_ends, body_breaks}
+use Rattle.circ_read.specs.Text.{HasNoStop, ending, none, says, DoTokens, Reaches, start, next, Breaks, at_a_statement, at_the_end}
+use Rattle.circ_read.specs.Steps.{Answers, IsStopAfter, GivesShape, IsSaid, HasBody, body_breaks}
 
 -- the fault's cause is the first in a body
 abbrev pub BreaksBy : {A : Type 0} → (A → Said → Result A Cause → Type 0) → A → (body : List (List ℕ)) (opened : Bool) (k : ℕ) → Fault → Type 0

@@ -1,5 +1,5 @@
 -- Causes: why a text is refused.
-use Rattle.std.specs.Prelude.{List, ℕ, Result, Ok, Err}
+use Rattle.std.specs.Prelude.{List, ℕ, Result, Err}
 use Rattle.circ_lexer.specs.declared.fault.LexFault.{LexFault}
 use Rattle.circ_lexer.specs.declared.fault.LexFault.TheVariants as lex
 use Rattle.circ_theory.specs.declared.fault.TheoryFault.{TheoryFault}

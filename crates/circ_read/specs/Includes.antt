@@ -8,7 +8,7 @@ use Rattle.circ_statement.specs.Said.{Said, inclusion, sorts, operators, variabl
 use Rattle.circ_read.specs.declared.cause.Cause.{Cause}
 use Rattle.circ_read.specs.declared.cause.Cause.TheVariants.{UnknownTheory}
 use Rattle.circ_read.specs.Text.{ReadsTo, FailsAt}
-use Rattle.circ_read.specs.Does.{Does, after}
+use Rattle.circ_read.specs.Does.{Does}
 
 -- a theory, with the names of the library's theories that were included
 pub record Scope : Type 0 where

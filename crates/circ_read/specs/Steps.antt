@@ -1,10 +1,10 @@
 -- What the steps of the reader answer.
-use Rattle.std.specs.Prelude.{◌≡◌, ◌<◌, ◌≤◌, ◌+◌, ℕ, List, [], ◌∷◌, ◌++◌, Bool, true, false, not, drop, length, codes, nat_eq, if◌then◌else◌, Option, Some, None, Result, Ok, Err}
+use Rattle.std.specs.Prelude.{◌≡◌, ◌<◌, ◌≤◌, ◌+◌, ℕ, List, ◌∷◌, ◌++◌, Bool, true, false, drop, length, codes, nat_eq, Option, Some, None, Result, Ok, Err}
 use Rattle.std.specs.List.{slice_range, slice_get}
 use Rattle.std.specs.Option.{option_map_or}
 use Rattle.std.specs.Cmp.Lexicographic.{pointwise}
 use Rattle.std.specs.Global.{Vec}
-use Rattle.circ_lexer.specs.TokenList.{TokenList, tokens_of}
+use Rattle.circ_lexer.specs.TokenList.{TokenList}
 use Rattle.circ_theory.specs.declared.fault.TheoryFault.{TheoryFault}
 use Rattle.circ_theory.specs.declared.fault.TheoryFault.TheVariants as fault
 use Rattle.circ_lexer.specs.declared.fault.LexFault.{LexFault}

@@ -28,12 +28,7 @@ pub(crate) fn add_derivative(
 }
 
 // The term of a derivative.
-fn body(
-    alloc: Global,
-    theory: &Theory,
-    tokens: &Tokens<'_>,
-    term: Span,
-) -> Result<Vec<Term>, Fault>
+fn body(alloc: Global, theory: &Theory, tokens: &Tokens<'_>, term: Span) -> Result<Vec<Term>, Fault>
     requires { IsWithin tokens.now term }
     ensures reads { ReadsHole result theory.now (tokens_in tokens.now term) }
     ensures sorted { IfOk result (λ v. IsOneSorted theory.now.signature v.items) }

@@ -47,7 +47,16 @@ pub(crate) fn add_operators(
         Err(fault) => return Err(fault),
     };
     match sort_named(theory, word(tokens, result_sort)) {
-        Ok(result) => add_all(alloc, theory, forms, &Rank { args, result, marks }),
+        Ok(result) => add_all(
+            alloc,
+            theory,
+            forms,
+            &Rank {
+                args,
+                result,
+                marks,
+            },
+        ),
         Err(fault) => Err(fault),
     }
 }

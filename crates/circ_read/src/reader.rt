@@ -9,8 +9,8 @@ ghost use Rattle.circ_read.specs.Steps.{Answers, IsHeadOf, GivesBody, GivesRead,
 
 use crate::cause::{Cause, Fault, ReadFault, because, byte_fault};
 use crate::library::add_text;
-use crate::statement::{add_statement, shape};
 use crate::names::{is_word, word};
+use crate::statement::{add_statement, shape};
 use crate::text::{Head, is_end, next_stop, read_head};
 use circ_lexer::{Span, Tokens};
 use circ_statement::Statement;

@@ -9,11 +9,7 @@ use crate::names::word;
 use circ_lexer::{Span, Tokens};
 use circ_theory::Theory;
 
-pub(crate) fn add_sorts(
-    theory: &mut Theory,
-    tokens: &Tokens<'_>,
-    names: Span,
-) -> Result<(), Fault>
+pub(crate) fn add_sorts(theory: &mut Theory, tokens: &Tokens<'_>, names: Span) -> Result<(), Fault>
     requires { IsWithin tokens.now names }
     ensures { Answers result theory.new (λ r. r ≡ all_added sort_added theory.old (tokens_in tokens.now names)) }
 {

@@ -20,11 +20,7 @@ use circ_theory::{Text, Theory};
 use std::alloc::Global;
 
 // The statement that the tokens of a span are.
-pub(crate) fn shape(
-    alloc: Global,
-    tokens: &Tokens<'_>,
-    span: Span,
-) -> Result<Statement, Fault>
+pub(crate) fn shape(alloc: Global, tokens: &Tokens<'_>, span: Span) -> Result<Statement, Fault>
     requires { IsWithin tokens.now span }
     ensures { GivesShape result tokens.now (tokens_in tokens.now span) }
 {

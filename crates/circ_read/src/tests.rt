@@ -35,10 +35,12 @@ fn is_answered(alloc: Global, row: Row<'_>) -> bool {
     let (text, number, word, count) = row;
     match read_theory(alloc, text) {
         Ok(_) => number == 0 && word == b"read".as_slice(),
-        Err(ReadFault::Statement {
-            number: found,
-            cause,
-        }) => {
+        Err(
+            ReadFault::Statement {
+                number: found,
+                cause,
+            },
+        ) => {
             let (name, of) = told(&cause);
             found == number && name == word && of == count
         }
@@ -52,12 +54,42 @@ fn texts(rt: HostRuntime) -> Result<(), Fail> {
         // whole texts
         (b"theory T is endtheory", 0, b"read", 0),
         (b"(theory T is endtheory)", 0, b"read", 0),
-        (b"theory T is sorts A B . op a : -> A . endtheory", 0, b"read", 0),
-        (b"theory T is sort A . ops a b : -> A . op _+_ : A A -> A [assoc comm] . var X : A . eq X + a = X . eq a + a = b [nonexec] . endtheory", 0, b"read", 0),
-        (b"theory T is sorts A B . op a : -> A . op h : B -> A . derivative h(*:B) . cases A by a . endtheory", 0, b"read", 0),
-        (b"theory B is inc BITS . vars S A B C : Stream . endtheory", 0, b"read", 0),
-        (b"theory B is including BITS . protecting BITS . pr BITS . endtheory", 0, b"read", 0),
-        (b"theory B is inc TREE . inc STREAM . endtheory", 3, b"twice", 0),
+        (
+            b"theory T is sorts A B . op a : -> A . endtheory",
+            0,
+            b"read",
+            0,
+        ),
+        (
+            b"theory T is sort A . ops a b : -> A . op _+_ : A A -> A [assoc comm] . var X : A . eq X + a = X . eq a + a = b [nonexec] . endtheory",
+            0,
+            b"read",
+            0,
+        ),
+        (
+            b"theory T is sorts A B . op a : -> A . op h : B -> A . derivative h(*:B) . cases A by a . endtheory",
+            0,
+            b"read",
+            0,
+        ),
+        (
+            b"theory B is inc BITS . vars S A B C : Stream . endtheory",
+            0,
+            b"read",
+            0,
+        ),
+        (
+            b"theory B is including BITS . protecting BITS . pr BITS . endtheory",
+            0,
+            b"read",
+            0,
+        ),
+        (
+            b"theory B is inc TREE . inc STREAM . endtheory",
+            3,
+            b"twice",
+            0,
+        ),
         // the form
         (b"", 1, b"shape", 0),
         (b"theory = is endtheory", 1, b"shape", 0),
@@ -73,37 +105,162 @@ fn texts(rt: HostRuntime) -> Result<(), Fail> {
         (b"theory\x07 T is endtheory", 0, b"control", 6),
         // the statement alone
         (b"theory T is subsort A . endtheory", 2, b"left out", 7),
-        (b"theory T is sort A . op f : -> A [strat] . endtheory", 3, b"left out", 5),
+        (
+            b"theory T is sort A . op f : -> A [strat] . endtheory",
+            3,
+            b"left out",
+            5,
+        ),
         (b"theory T is sort . endtheory", 2, b"shape", 0),
-        (b"theory T is sort A . op f : A -> A [assoc assoc] . endtheory", 3, b"shape", 0),
+        (
+            b"theory T is sort A . op f : A -> A [assoc assoc] . endtheory",
+            3,
+            b"shape",
+            0,
+        ),
         // what it names
         (b"theory T is inc NONE . endtheory", 2, b"unknown theory", 0),
         (b"theory T is inc T . endtheory", 2, b"unknown theory", 0),
-        (b"theory T is sort A . op a : -> B . endtheory", 3, b"unknown sort", 0),
-        (b"theory T is sort A . op a : -> A . ops a b : A B -> A . endtheory", 4, b"unknown sort", 0),
-        (b"theory T is sort A . var X : A . vars X Y : B . endtheory", 4, b"unknown sort", 0),
-        (b"theory T is cases A by a . endtheory", 2, b"unknown sort", 0),
+        (
+            b"theory T is sort A . op a : -> B . endtheory",
+            3,
+            b"unknown sort",
+            0,
+        ),
+        (
+            b"theory T is sort A . op a : -> A . ops a b : A B -> A . endtheory",
+            4,
+            b"unknown sort",
+            0,
+        ),
+        (
+            b"theory T is sort A . var X : A . vars X Y : B . endtheory",
+            4,
+            b"unknown sort",
+            0,
+        ),
+        (
+            b"theory T is cases A by a . endtheory",
+            2,
+            b"unknown sort",
+            0,
+        ),
         // terms
-        (b"theory T is sort A . op a : -> A . eq a = b . endtheory", 4, b"no parse", 0),
-        (b"theory T is sort A . op a : -> A . eq a = [nonexec] . endtheory", 4, b"no parse", 0),
-        (b"theory T is sort A . op a : -> A . derivative . endtheory", 4, b"no parse", 0),
-        (b"theory T is sort A . op a : -> A . cases A by a a b . endtheory", 4, b"no parse", 0),
-        (b"theory T is sort A . op a : -> A . op _+_ : A A -> A . eq a + a + a = a . endtheory", 5, b"ambiguous", 0),
-        (b"theory B is inc BITS . eq X = X . endtheory", 3, b"no parse", 0),
-        (b"theory B is sort A . op a : -> A . var X : A . inc BITS . eq X = a . endtheory", 0, b"read", 0),
+        (
+            b"theory T is sort A . op a : -> A . eq a = b . endtheory",
+            4,
+            b"no parse",
+            0,
+        ),
+        (
+            b"theory T is sort A . op a : -> A . eq a = [nonexec] . endtheory",
+            4,
+            b"no parse",
+            0,
+        ),
+        (
+            b"theory T is sort A . op a : -> A . derivative . endtheory",
+            4,
+            b"no parse",
+            0,
+        ),
+        (
+            b"theory T is sort A . op a : -> A . cases A by a a b . endtheory",
+            4,
+            b"no parse",
+            0,
+        ),
+        (
+            b"theory T is sort A . op a : -> A . op _+_ : A A -> A . eq a + a + a = a . endtheory",
+            5,
+            b"ambiguous",
+            0,
+        ),
+        (
+            b"theory B is inc BITS . eq X = X . endtheory",
+            3,
+            b"no parse",
+            0,
+        ),
+        (
+            b"theory B is sort A . op a : -> A . var X : A . inc BITS . eq X = a . endtheory",
+            0,
+            b"read",
+            0,
+        ),
         // parts
-        (b"theory T is sort A . sorts B A B . endtheory", 3, b"twice", 0),
-        (b"theory T is sort A . op a : -> A . ops b a b : -> A . endtheory", 4, b"twice", 0),
-        (b"theory T is sorts A B . vars X Y : A . vars Z Y X : B . endtheory", 4, b"twice", 1),
-        (b"theory T is sort Bit . inc BITS . endtheory", 3, b"twice", 0),
-        (b"theory T is sort A . op a : -> A . op _+_ : A -> A . endtheory", 4, b"ill sorted", 1),
-        (b"theory T is sort A . op g : A A A -> A . derivative g(*:A, X:A, X:A) . endtheory", 4, b"not linear", 1),
-        (b"theory T is sort A . op a : -> A . derivative a . endtheory", 4, b"holes", 0),
-        (b"theory T is sort A . cases A by . endtheory", 3, b"no constant", 0),
-        (b"theory T is sorts A B . op a : -> A . op h : A -> B . derivative h(*:A) . cases A by a . endtheory", 6, b"not visible", 0),
-        (b"theory T is sorts A B . op a : -> A . op h : A -> B . cases A by a . derivative h(*:A) . endtheory", 6, b"now hidden", 0),
-        (b"theory T is sort A . op f : A A A A A A A A A A A A A A A A A -> A . endtheory", 3, b"limit", 17),
-        (b"theory T is sort A . op a : -> A . cases A by a a . endtheory", 4, b"twice", 0),
+        (
+            b"theory T is sort A . sorts B A B . endtheory",
+            3,
+            b"twice",
+            0,
+        ),
+        (
+            b"theory T is sort A . op a : -> A . ops b a b : -> A . endtheory",
+            4,
+            b"twice",
+            0,
+        ),
+        (
+            b"theory T is sorts A B . vars X Y : A . vars Z Y X : B . endtheory",
+            4,
+            b"twice",
+            1,
+        ),
+        (
+            b"theory T is sort Bit . inc BITS . endtheory",
+            3,
+            b"twice",
+            0,
+        ),
+        (
+            b"theory T is sort A . op a : -> A . op _+_ : A -> A . endtheory",
+            4,
+            b"ill sorted",
+            1,
+        ),
+        (
+            b"theory T is sort A . op g : A A A -> A . derivative g(*:A, X:A, X:A) . endtheory",
+            4,
+            b"not linear",
+            1,
+        ),
+        (
+            b"theory T is sort A . op a : -> A . derivative a . endtheory",
+            4,
+            b"holes",
+            0,
+        ),
+        (
+            b"theory T is sort A . cases A by . endtheory",
+            3,
+            b"no constant",
+            0,
+        ),
+        (
+            b"theory T is sorts A B . op a : -> A . op h : A -> B . derivative h(*:A) . cases A by a . endtheory",
+            6,
+            b"not visible",
+            0,
+        ),
+        (
+            b"theory T is sorts A B . op a : -> A . op h : A -> B . cases A by a . derivative h(*:A) . endtheory",
+            6,
+            b"now hidden",
+            0,
+        ),
+        (
+            b"theory T is sort A . op f : A A A A A A A A A A A A A A A A A -> A . endtheory",
+            3,
+            b"limit",
+            17,
+        ),
+        (
+            b"theory T is sort A . op a : -> A . cases A by a a . endtheory",
+            4,
+            b"twice",
+            0,
+        ),
     ];
     for row in &rows {
         assert!(rt; is_answered(rt.alloc(), *row));
@@ -132,10 +289,12 @@ fn long_terms(rt: HostRuntime) -> Result<(), Fail> {
 // The two readings that a text shows, joined.
 fn readings(alloc: Global, text: &[u8]) -> Result<Vec<u8>, AllocError> {
     let mut shown = Vec::new(alloc);
-    if let Err(ReadFault::Statement {
-        cause: Cause::Ambiguous { first, second },
-        ..
-    }) = read_theory(alloc, text)
+    if let Err(
+        ReadFault::Statement {
+            cause: Cause::Ambiguous { first, second },
+            ..
+        },
+    ) = read_theory(alloc, text)
     {
         shown.extend_from_slice(first.bytes())?;
         shown.extend_from_slice(b" | ")?;
@@ -159,17 +318,17 @@ fn two_readings(rt: HostRuntime) -> Result<(), Fail> {
     Ok(())
 }
 
-// How many of the first tokens are stops.
-fn stops(tokens: &Tokens<'_>, count: usize) -> u64 {
-    let mut stops = 0;
+// The number of the statement after the stops among the first tokens.
+fn reached(tokens: &Tokens<'_>, count: usize) -> u64 {
+    let mut number = 2;
     for n in 0..count {
         if let Some(word) = tokens.token(n) {
-            if word == b".".as_slice() && stops < 1_000_000 {
-                stops += 1;
+            if word == b".".as_slice() && number < 1_000_000 {
+                number += 1;
             }
         }
     }
-    stops
+    number
 }
 
 // A text that is cut has the cause Shape at the statement that was reached.
@@ -187,7 +346,7 @@ fn cut_texts(rt: HostRuntime) -> Result<(), Fail> {
         let Some(front) = text.get(..span.to) else {
             break;
         };
-        let number = if n < 2 { 1 } else { stops(&tokens, n + 1) + 2 };
+        let number = if n < 2 { 1 } else { reached(&tokens, n + 1) };
         let whole = n + 1 == tokens.count();
         let row: Row<'_> = if whole {
             (front, 0, b"read", 0)

@@ -26,12 +26,7 @@ pub(crate) fn add_variables(
     }
 }
 
-fn add_all(
-    theory: &mut Theory,
-    tokens: &Tokens<'_>,
-    names: Span,
-    sort: u32,
-) -> Result<(), Fault>
+fn add_all(theory: &mut Theory, tokens: &Tokens<'_>, names: Span, sort: u32) -> Result<(), Fault>
     requires { IsWithin tokens.now names }
     ensures { Answers result theory.new (λ r. r ≡ all_added (variable_added sort) theory.old (tokens_in tokens.now names)) }
 {

@@ -1,8 +1,7 @@
-use Rattle.std.proofs.Common.{◌≡◌, ◌++◌, ap, sym, ◌∙◌}
-use Rattle.std.specs.Option.{option_map}
+use Rattle.std.proofs.Common.{ap, sym, ◌∙◌}
 use Rattle.circ_read.specs.Does.{constant_number}
 use Rattle.circ_read.specs.declared.cause.Cause.TheVariants.{NoParse}
-use Rattle.circ_read.specs.Does.{all_numbers, or_cause}
+use Rattle.circ_read.specs.Does.{or_cause}
 use Rattle.circ_read.proofs.Tokens.{here_token, no_token}
 use Rattle.circ_read.proofs.Parts.{one_more, no_more, none_yet, all_found}
 use Rattle.circ_read.proofs.cases.constants_named.Goals as goal

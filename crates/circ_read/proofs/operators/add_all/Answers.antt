@@ -1,10 +1,5 @@
-use Rattle.std.proofs.Common.{◌≡◌, ◌∷◌, Result, List, ℕ, map, ap, sym, ◌∙◌}
-use Rattle.std.specs.Vec.Iter.{into_iter_items}
-use Rattle.circ_theory.specs.Theory.{Theory}
-use Rattle.circ_statement.specs.Attributes.{Spelled}
+use Rattle.std.proofs.Common.{map, ap, sym, ◌∙◌}
 use Rattle.circ_statement.specs.Said.{spelled_of}
-use Rattle.circ_read.specs.declared.cause.Cause.{Cause}
-use Rattle.circ_read.specs.declared.operators.Rank.{Rank}
 use Rattle.circ_read.specs.Does.{all_added, operator_added}
 use Rattle.circ_read.proofs.Parts.{more_added, stopped, none_to_come}
 use Rattle.circ_read.proofs.operators.add_all.Goals as goal

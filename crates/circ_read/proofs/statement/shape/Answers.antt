@@ -1,6 +1,3 @@
-use Rattle.std.proofs.Common.{subst, sym, ◌∙◌}
-use Rattle.circ_lexer.specs.TokenList.{tokens_in}
-use Rattle.circ_statement.specs.Statement.{IsLeftOut}
 use Rattle.circ_read.specs.Text.{left_out, no_shape}
 use Rattle.circ_read.proofs.statement.shape.Goals as goal
 

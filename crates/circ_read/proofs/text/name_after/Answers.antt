@@ -1,7 +1,6 @@
-use Rattle.std.proofs.Common.{◌≡◌, ◌+◌, ◌<◌, length, slice_get, Some, codes, sym, ap, ◌∙◌, arith}
-use Rattle.std.specs.Option.{option_copied}
+use Rattle.std.proofs.Common.{◌≡◌, ◌+◌, ◌<◌, length, slice_get, Some, codes, sym, arith}
 use Rattle.circ_lexer.specs.TokenList.{tokens_of}
-use Rattle.circ_read.proofs.Places.{word_here, is_here, three_here, three_at, get_within}
+use Rattle.circ_read.proofs.Places.{word_here, three_here, three_at, get_within}
 use Rattle.circ_read.proofs.text.name_after.Goals as goal
 
 pub returns-then-is_name : goal.returns-then-is_name

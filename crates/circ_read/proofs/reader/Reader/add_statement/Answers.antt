@@ -1,6 +1,6 @@
-use Rattle.std.proofs.Common.{subst, sym}
+use Rattle.std.proofs.Common.{subst}
 use Rattle.circ_statement.specs.Said.{said_of}
-use Rattle.circ_read.specs.Includes.{Includes, DoesIn}
+use Rattle.circ_read.specs.Includes.{Includes}
 use Rattle.circ_read.specs.Steps.{Answers, scope_of}
 use Rattle.circ_read.proofs.Texts.{in_its_scope, no_inclusion}
 use Rattle.circ_read.proofs.reader.Reader.add_statement.Goals as goal
