@@ -1,5 +1,7 @@
 use crate::{Cause, ReadFault, read_theory};
 use circ_lexer::Tokens;
+use circ_mixfix::print_pair;
+use circ_theory::Theory;
 use std::alloc::{AllocError, Global};
 use std::test::Fail;
 
@@ -50,7 +52,26 @@ fn is_answered(alloc: Global, row: Row<'_>) -> bool {
 
 #[test]
 fn texts(rt: HostRuntime) -> Result<(), Fail> {
-    let rows: [Row<'_>; 48] = [
+    let rows: [Row<'_>; 51] = [
+        // terms
+        (
+            b"theory T is sort X . op a : -> X . var a : X . eq a = a . endtheory",
+            5,
+            b"ambiguous",
+            0,
+        ),
+        (
+            b"theory T is sorts X Y . op _+_ : X X -> X [left] . eq A:X + B:Y = A:X . endtheory",
+            4,
+            b"no parse",
+            0,
+        ),
+        (
+            b"theory T is sort X . op _+_ : X X -> X [left] . eq A:X + B:X + C:X = A:X . endtheory",
+            0,
+            b"read",
+            0,
+        ),
         // whole texts
         (b"theory T is endtheory", 0, b"read", 0),
         (b"(theory T is endtheory)", 0, b"read", 0),
@@ -315,6 +336,74 @@ fn two_readings(rt: HostRuntime) -> Result<(), Fail> {
         b"theory T is sort A . op _+_ : A A -> A . op a : -> A . derivative *:A + a + X:A . endtheory",
     )?;
     assert!(rt; hole.as_slice() == b"(*:A + (a + V1:A)) | ((*:A + a) + V1:A)".as_slice());
+    Ok(())
+}
+
+// Operators of each form, and equations with them.
+const FORMS: &[u8] = b"theory F is
+  sorts X Y .
+  op ~_ : X -> X [prec 41] .
+  op _* : X -> X [prec 31] .
+  op [_] : X -> X .
+  op if_then_else_fi : X X X -> X .
+  op _=>_ : X X -> X [prec 127 right] .
+  op _@_ : X X -> X [prec 1 left] .
+  op _@_ : Y Y -> Y [prec 1 left] .
+  op g : X -> X .
+  op g : Y -> X .
+  op h : X Y -> X .
+  op b : -> Y .
+  vars x y : X .
+  var z : Y .
+  eq ~ x * = x .
+  eq (~ x) * = x .
+  eq [ x => y ] = x .
+  eq x => y => x = y .
+  eq x @ y @ x = y .
+  eq x @ (y @ x) = y .
+  eq z @ b = z .
+  eq if x => y then x else ~ y fi = x .
+  eq g(z) = x .
+  eq h(A:X, A:Y) = A:X .
+  eq x = ~ y .
+endtheory";
+
+const FORMS_READ: &[u8] = b"(~ (V0:X *)) = V0:X
+((~ V0:X) *) = V0:X
+([ (V0:X => V1:X) ]) = V0:X
+(V0:X => (V1:X => V0:X)) = V1:X
+((V0:X @ V1:X) @ V0:X) = V1:X
+(V0:X @ (V1:X @ V0:X)) = V1:X
+(V0:Y @ b) = V0:Y
+(if (V0:X => V1:X) then V0:X else (~ V1:X) fi) = V0:X
+g(V0:Y) = V1:X
+h(V0:X, V1:Y) = V0:X
+V0:X = (~ V1:X)
+";
+
+// The equations of the theory that the text reads as, one a line.
+fn equations(alloc: Global, text: &[u8]) -> Result<Vec<u8>, AllocError> {
+    let mut shown = Vec::new(alloc);
+    if let Ok(theory) = read_theory(alloc, text) {
+        put_equations(alloc, &theory, &mut shown)?;
+    }
+    Ok(shown)
+}
+
+fn put_equations(alloc: Global, theory: &Theory, shown: &mut Vec<u8>) -> Result<(), AllocError> {
+    for number in 0..theory.equation_count() {
+        if let Some(equation) = theory.equation(number) {
+            print_pair(alloc, theory, &equation.left, &equation.right, shown)?;
+            shown.push(b'\n')?;
+        }
+    }
+    Ok(())
+}
+
+#[test]
+fn forms(rt: HostRuntime) -> Result<(), Fail> {
+    let shown = equations(rt.alloc(), FORMS)?;
+    assert!(rt; shown.as_slice() == FORMS_READ);
     Ok(())
 }
 
