@@ -15,7 +15,7 @@ returns-in-Some c =
     rw (← c.self.view_is)
     (c.in-Some.ensures.index
     ∙ key_position k (asked c.args.form.now c.args.args.now) c.self.inside.ops.entries
-        (record { form = c.in_ok-spell.ensures; is_form = c.known.ensures; args = c.in_ok-from_slice.ensures.items }) c.self.invariant.entries)
+    (record { form = c.in_ok-spell.ensures; is_form = c.known.ensures; args = c.in_ok-from_slice.ensures.items }) c.self.invariant.entries)
 
 pub returns : goal.returns
 returns c =
@@ -23,4 +23,4 @@ returns c =
     rw (← c.self.view_is)
     (c.in-None.ensures.index
     ∙ key_position k (asked c.args.form.now c.args.args.now) c.self.inside.ops.entries
-        (record { form = c.in_ok-spell.ensures; is_form = c.known.ensures; args = c.in_ok-from_slice.ensures.items }) c.self.invariant.entries)
+    (record { form = c.in_ok-spell.ensures; is_form = c.known.ensures; args = c.in_ok-from_slice.ensures.items }) c.self.invariant.entries)
