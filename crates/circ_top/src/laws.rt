@@ -4,12 +4,13 @@ ghost use Rattle.circ_theory.specs.Theory.{Theory};
 ghost use Rattle.circ_file.specs.Proof.{Proof};
 ghost use Rattle.circ_top.specs.Accepted.{Accepted, FirstFail};
 ghost use Rattle.circ_term.specs.declared.TheConstants.{MOST_NODES, MOST_DEPTH, MOST_ARGS as MOST_TERM_ARGS};
-ghost use Rattle.circ_theory.specs.declared.TheConstants.{MOST_SORTS, MOST_VARS, MOST_OPS, MOST_EQUATIONS, MOST_ARGS};
+ghost use Rattle.circ_theory.specs.declared.TheConstants.{MOST_SORTS, MOST_VARS, MOST_OPS, MOST_EQUATIONS, MOST_ARGS, MOST_DERIVATIVES, MOST_PARAMS, MOST_CASES};
 ghost use Rattle.circ_top.specs.declared.files.TheConstants.{MOST_BYTES, PIECE};
 ghost use Rattle.circ_mixfix.specs.declared.TheConstants.{MOST_TOKENS};
 
 /// The limits in numbers: bytes of a file and of a piece, nodes, levels and arguments of a term, sorts, variables,
-/// operators, their arguments and equations of a theory, tokens of a term.
+/// operators, their arguments, equations and derivatives of a theory, parameters of a derivative, constants of a case list,
+/// tokens of a term.
 pub fn limits()
     ensures bytes { MOST_BYTES ≡ 67108864 }
     ensures piece { PIECE ≡ 65536 }
@@ -21,6 +22,9 @@ pub fn limits()
     ensures operators { MOST_OPS ≡ 65536 }
     ensures args { MOST_ARGS ≡ 16 }
     ensures equations { MOST_EQUATIONS ≡ 65536 }
+    ensures derivatives { MOST_DERIVATIVES ≡ 256 }
+    ensures params { MOST_PARAMS ≡ 8 }
+    ensures cases { MOST_CASES ≡ 64 }
     ensures tokens { MOST_TOKENS ≡ 256 }
 {}
 
