@@ -61,13 +61,12 @@ fn add_equation(
 }
 
 // `theory NOT is sort Bit . ops 0 1 : -> Bit . op not : Bit -> Bit . endtheory`
-fn negation(alloc: Global) -> Result<Theory, Fail> {
-    let mut theory = Theory::new(alloc, b"NOT")?;
-    add_sort(&mut theory, b"Bit")?;
-    add_op(alloc, &mut theory, b"0", &[])?;
-    add_op(alloc, &mut theory, b"1", &[])?;
-    add_op(alloc, &mut theory, b"not", &[0])?;
-    Ok(theory)
+fn negation(alloc: Global, theory: &mut Theory) -> Result<(), Fail> {
+    add_sort(theory, b"Bit")?;
+    add_op(alloc, theory, b"0", &[])?;
+    add_op(alloc, theory, b"1", &[])?;
+    add_op(alloc, theory, b"not", &[0])?;
+    Ok(())
 }
 
 fn has_counts(theory: &Theory, sorts: u32, ops: u32, equations: u32) -> bool {
@@ -180,10 +179,7 @@ fn is_renumbered(alloc: Global) -> Result<bool, Fail> {
     Ok(left.same(&Term::var(0, 0)) && right.same(&Term::var(1, 0)))
 }
 
-#[test]
-fn variables(rt: HostRuntime) -> Result<(), Fail> {
-    let alloc = rt.alloc();
-    let mut theory = negation(alloc)?;
+fn declare(rt: &impl Abort, theory: &mut Theory) {
     assert_eq!(rt; theory.add_var(b"X", 0), Ok(0));
     assert_eq!(rt; theory.add_var(b"X", 0), Ok(0));
     assert_eq!(rt;
@@ -194,9 +190,21 @@ fn variables(rt: HostRuntime) -> Result<(), Fail> {
         theory.add_var(b"Y", 1),
         Err(TheoryFault::UnknownSort { number: 1 })
     );
-    assert!(rt; has_var(&theory, 0, b"X", 0));
+    assert!(rt; has_var(theory, 0, b"X", 0));
     assert_eq!(rt; theory.var_count(), 1);
-    assert!(rt; is_renumbered(alloc)?);
+}
+
+#[test]
+fn variables(rt: HostRuntime) -> Result<(), Fail> {
+    let mut theory = Theory::new(rt.alloc(), b"NOT")?;
+    negation(rt.alloc(), &mut theory)?;
+    declare(&rt, &mut theory);
+    Ok(())
+}
+
+#[test]
+fn numbers(rt: HostRuntime) -> Result<(), Fail> {
+    assert!(rt; is_renumbered(rt.alloc())?);
     Ok(())
 }
 
@@ -211,15 +219,20 @@ fn forms(rt: HostRuntime) -> Result<(), Fail> {
     Ok(())
 }
 
+fn show(rt: &impl Abort, theory: &Theory) {
+    assert!(rt; has_counts(theory, 1, 3, 0));
+    assert!(rt; has_name(theory, b"NOT"));
+    assert!(rt; has_sort(theory, 0, b"Bit"));
+    assert!(rt; !has_sort(theory, 1, b"Bit"));
+    assert!(rt; has_op(theory, 2));
+    assert!(rt; !has_op(theory, 3));
+}
+
 #[test]
 fn parts(rt: HostRuntime) -> Result<(), Fail> {
-    let theory = negation(rt.alloc())?;
-    assert!(rt; has_counts(&theory, 1, 3, 0));
-    assert!(rt; has_name(&theory, b"NOT"));
-    assert!(rt; has_sort(&theory, 0, b"Bit"));
-    assert!(rt; !has_sort(&theory, 1, b"Bit"));
-    assert!(rt; has_op(&theory, 2));
-    assert!(rt; !has_op(&theory, 3));
+    let mut theory = Theory::new(rt.alloc(), b"NOT")?;
+    negation(rt.alloc(), &mut theory)?;
+    show(&rt, &theory);
     Ok(())
 }
 
@@ -236,19 +249,23 @@ fn is_refused(
     }
 }
 
+fn refuse(rt: &impl Abort, alloc: Global, theory: &mut Theory) {
+    let twice = TheoryFault::Twice { number: 2 };
+    assert!(rt; is_refused(alloc, theory, b"not", &[0], twice));
+    let unknown = TheoryFault::UnknownSort { number: 7 };
+    assert!(rt; is_refused(alloc, theory, b"not", &[0, 7], unknown));
+    let ill_sorted = TheoryFault::IllSorted { operator: 3 };
+    assert!(rt; is_refused(alloc, theory, b"_+_", &[0], ill_sorted));
+    let limit = TheoryFault::Limit { count: 20 };
+    assert!(rt; is_refused(alloc, theory, b"f", &[0; 20], limit));
+    assert_eq!(rt; add_op(alloc, theory, b"not", &[0, 0]), Ok(3));
+}
+
 #[test]
 fn faults(rt: HostRuntime) -> Result<(), Fail> {
-    let alloc = rt.alloc();
-    let mut theory = negation(alloc)?;
-    let twice = TheoryFault::Twice { number: 2 };
-    assert!(rt; is_refused(alloc, &mut theory, b"not", &[0], twice));
-    let unknown = TheoryFault::UnknownSort { number: 7 };
-    assert!(rt; is_refused(alloc, &mut theory, b"not", &[0, 7], unknown));
-    let ill_sorted = TheoryFault::IllSorted { operator: 3 };
-    assert!(rt; is_refused(alloc, &mut theory, b"_+_", &[0], ill_sorted));
-    let limit = TheoryFault::Limit { count: 20 };
-    assert!(rt; is_refused(alloc, &mut theory, b"f", &[0; 20], limit));
-    assert_eq!(rt; add_op(alloc, &mut theory, b"not", &[0, 0]), Ok(3));
+    let mut theory = Theory::new(rt.alloc(), b"NOT")?;
+    negation(rt.alloc(), &mut theory)?;
+    refuse(&rt, rt.alloc(), &mut theory);
     Ok(())
 }
 
@@ -286,16 +303,21 @@ fn leads_back(rt: &impl Abort, alloc: Global, theory: &Theory) -> Result<bool, F
     Ok(is_same(back(rt, alloc, theory, &term)?, &wanted))
 }
 
+fn lead(rt: &impl Abort, alloc: Global, theory: &mut Theory) -> Result<(), Fail> {
+    assert_eq!(rt; add_first(rt, alloc, theory)?, 0);
+    assert_eq!(rt; add_second(rt, alloc, theory)?, 1);
+    assert_eq!(rt; variable_count(theory, 1), Some(1));
+    assert_eq!(rt; variable_count(theory, 2), None);
+    assert!(rt; leads_forth(rt, alloc, theory)?);
+    assert!(rt; leads_back(rt, alloc, theory)?);
+    assert!(rt; !is_well_sorted(theory, &Term::var(0, 1)));
+    Ok(())
+}
+
 #[test]
 fn links(rt: HostRuntime) -> Result<(), Fail> {
-    let alloc = rt.alloc();
-    let mut theory = negation(alloc)?;
-    assert_eq!(rt; add_first(&rt, alloc, &mut theory)?, 0);
-    assert_eq!(rt; add_second(&rt, alloc, &mut theory)?, 1);
-    assert_eq!(rt; variable_count(&theory, 1), Some(1));
-    assert_eq!(rt; variable_count(&theory, 2), None);
-    assert!(rt; leads_forth(&rt, alloc, &theory)?);
-    assert!(rt; leads_back(&rt, alloc, &theory)?);
-    assert!(rt; !is_well_sorted(&theory, &Term::var(0, 1)));
+    let mut theory = Theory::new(rt.alloc(), b"NOT")?;
+    negation(rt.alloc(), &mut theory)?;
+    lead(&rt, rt.alloc(), &mut theory)?;
     Ok(())
 }
