@@ -9,8 +9,6 @@ mod found;
 mod grammars;
 mod numbering;
 mod parse;
-#[cfg(test)]
-mod parse_tests;
 pub mod print_laws;
 #[cfg(test)]
 mod print_tests;
