@@ -12,7 +12,7 @@ use Rattle.circ_chart.specs.declared.TheConstants.{EVERY}
 use Rattle.circ_chart.specs.Few.{Enough, Differ, differ_in, enough_chain}
 use Rattle.circ_chart.specs.Cell.{In}
 use Rattle.circ_chart.specs.Chart.{Keeps}
-use Rattle.circ_chart.specs.Spells.{Spells, IsSpelled, in_parentheses, a_variable, an_operator}
+use Rattle.circ_chart.specs.Spells.{Spells, in_parentheses, a_variable, an_operator}
 use Rattle.circ_chart.specs.Known.{FromEdges, edges_of, IsStarts}
 use Rattle.circ_chart.specs.Tops.{tops_of, Among, OfSort}
 use Rattle.circ_chart.proofs.Lists.{reads_whole, spells_whole}
@@ -73,17 +73,3 @@ each_sort g ts starts us known e s =
     go : (t : Tree) → (FromEdges es (length ts) s EVERY t ⊎ Differ (FromEdges es (length ts) s EVERY)) → OfSort (tops_of (length ts) es) s t ⊎ Differ (OfSort (tops_of (length ts) es) s)
     go t (inl h) = inl (here t h)
     go t (inr d) = inr (differ_in (FromEdges es (length ts) s EVERY) (OfSort (tops_of (length ts) es) s) here d)
-
--- and so of all sorts together
-pub any_sort : (g : Grammar) (ts : List ℕ) (us : List Tree) (v : Few) → ((s : ℕ) → Enough (OfSort us s) (Spells g EVERY s ts)) → Keeps v (Among us) → Keeps v (IsSpelled g ts)
-any_sort g ts us v each k = record {
-  apart = k.apart;
-  enough = enough_chain (In v) (Among us) (IsSpelled g ts) k.enough (record {
-    sound = λ t h. record { sort = sort_of t; spells = (each (sort_of t)).sound t (h, refl) };
-    enough = λ t h. go t h.sort ((each h.sort).enough t h.spells);
-  });
-}
-  where
-    go : (t : Tree) (s : ℕ) → (OfSort us s t ⊎ Differ (OfSort us s)) → Among us t ⊎ Differ (Among us)
-    go t s (inl h) = inl h.0
-    go t s (inr d) = inr (differ_in (OfSort us s) (Among us) (λ x h. h.0) d)

@@ -22,8 +22,3 @@ mutual
     no_symbol : {all : List ℕ} → all ≡ [] → SpellsRow g [] all none
     a_word : {w : ℕ} {ps : List Symbol} {all : List ℕ} {args : Trees} (rest : List ℕ) → SpellsRow g ps rest args → all ≡ w ∷ rest → SpellsRow g (Word w ∷ ps) all args
     a_hole : {s b : ℕ} {ps : List Symbol} {all : List ℕ} {t : Tree} {args : Trees} (first rest : List ℕ) → Spells g b s first t → SpellsRow g ps rest args → all ≡ first ++ rest → SpellsRow g (Hole s b ∷ ps) all (more t args)
-
--- the tokens spell the term, of any sort and any precedence
-pub record IsSpelled (g : Grammar) (ts : List ℕ) (t : Tree) : Type 0 where
-  pub sort : ℕ
-  pub spells : Spells g EVERY sort ts t

@@ -1,8 +1,8 @@
 //! Reading token lists by a grammar of mixfix terms.
 //!
 //! A [`Grammar`] has rules, whose symbols are words and holes for terms, and tokens that are variables. What a token list
-//! spells is defined in `specs`, as a relation between lists and terms. [`read`] finds whether a list spells no term, only
-//! one, or several, by a chart of all its ranges.
+//! spells is defined in `specs`, as a relation between lists and terms. [`read_each_sort`] finds for each sort whether a list
+//! spells no term, only one, or several, by a chart of all its ranges.
 #![tactic(auto)]
 
 mod chart;
@@ -14,9 +14,8 @@ mod readings;
 #[cfg(test)]
 mod tests;
 
-pub use few::Few;
 pub use grammar::{Grammar, Rule, Symbol, Variable};
-pub use readings::{read, read_each_sort};
+pub use readings::read_each_sort;
 
 /// The token that is an opening parenthesis.
 pub const OPENING: u32 = 0;

@@ -1,16 +1,13 @@
 //! The readings of a token list.
 ghost use Rattle.std.specs.Prelude.{◌≡◌, ℕ, ◌≤◌, ◌++◌, length, IfOk};
-ghost use Rattle.circ_chart.specs.Cell.{In, IsApart};
-ghost use Rattle.circ_chart.specs.Few.{Enough, Or};
-ghost use Rattle.circ_chart.specs.Chart.{Keeps};
+ghost use Rattle.circ_chart.specs.Few.{Enough};
 ghost use Rattle.circ_chart.specs.Words.{HaveWords};
-ghost use Rattle.circ_chart.specs.Spells.{Spells, IsSpelled};
-ghost use Rattle.circ_chart.specs.Tops.{top_of, tops_of, Among, OfSort};
+ghost use Rattle.circ_chart.specs.Spells.{Spells};
+ghost use Rattle.circ_chart.specs.Tops.{top_of, tops_of, OfSort};
 ghost use Rattle.circ_chart.specs.declared.TheConstants.{EVERY, MOST_TOKENS};
 
 use crate::EVERY;
 use crate::chart::Edge;
-use crate::few::{Few, add, is_full};
 use crate::fill::fill;
 use crate::found::edges_at;
 use crate::grammar::Grammar;
@@ -55,35 +52,4 @@ pub fn read_each_sort(
 {
     let starts = fill(alloc, grammar, tokens)?;
     Ok(tops(alloc, tokens.len(), edges_at(&starts, 0))?)
-}
-
-fn with_term(out: Few, term: &Term) -> Result<Few, AllocError>
-    requires { IsApart out }
-    ensures { IfOk result (λ v. Keeps v (Or (In out) (λ t. t ≡ term.now))) }
-{
-    if is_full(&out) {
-        return Ok(out);
-    }
-    Ok(add(out, term.share()?))
-}
-
-fn few_of(terms: &[Term]) -> Result<Few, AllocError>
-    ensures { IfOk result (λ v. Keeps v (Among terms.now)) }
-{
-    let mut out = Few::Empty;
-    for term in terms {
-        out = with_term(out, term)?;
-    }
-    Ok(out)
-}
-
-/// What the tokens spell: no term, the only one, or two different ones of them. Each rule has a word, and there are at most
-/// [`MOST_TOKENS`](crate::MOST_TOKENS) tokens. The only fault is want of memory.
-pub fn read(alloc: Global, grammar: &Grammar, tokens: &[u32]) -> Result<Few, AllocError>
-    requires words { HaveWords grammar.now }
-    requires few { length tokens.now ≤ MOST_TOKENS }
-    ensures { IfOk result (λ v. Keeps v (IsSpelled grammar.now tokens.now)) }
-{
-    let terms = read_each_sort(alloc, grammar, tokens)?;
-    Ok(few_of(&terms)?)
 }

@@ -1,4 +1,4 @@
-use crate::{Few, Grammar, Rule, Symbol, Variable, read};
+use crate::{Grammar, Rule, Symbol, Variable, read_each_sort};
 use circ_term::Term;
 use std::alloc::{AllocError, Global};
 use std::test::Fail;
@@ -67,18 +67,12 @@ fn grammar(alloc: Global) -> Result<Grammar, AllocError> {
     })
 }
 
-fn count(few: &Few) -> usize {
-    match few {
-        Few::Empty => 0,
-        Few::One(_) => 1,
-        Few::Two(..) => 2,
-    }
-}
-
-fn only(few: Few) -> Option<Term> {
-    match few {
-        Few::One(term) => Some(term),
-        _ => None,
+// Whether there is no term, only one, or another besides: 0, 1 or 2.
+fn count(terms: &[Term]) -> usize {
+    match terms.first() {
+        None => 0,
+        Some(first) if terms.iter().all(|term| term.same(first)) => 1,
+        Some(_) => 2,
     }
 }
 
@@ -106,7 +100,7 @@ fn counts(rt: HostRuntime) -> Result<(), Fail> {
         (&[11, 11], 0),
     ];
     for (tokens, wanted) in table {
-        assert_eq!(rt; count(&read(rt.alloc(), &grammar, tokens)?), wanted);
+        assert_eq!(rt; count(&read_each_sort(rt.alloc(), &grammar, tokens)?), wanted);
     }
     Ok(())
 }
@@ -120,7 +114,8 @@ fn nests_left(rt: HostRuntime) -> Result<(), Fail> {
     let x = Term::var(0, 0);
     let first = Term::app(alloc, 1, 0, vec![in alloc; x.share()?, x.share()?]?)?;
     let wanted = Term::app(alloc, 1, 0, vec![in alloc; first, x]?)?;
-    let found = only(read(alloc, &grammar, &[11, 3, 11, 3, 11])?);
-    assert!(rt; found.is_some_and(|term| term.same(&wanted)));
+    let found = read_each_sort(alloc, &grammar, &[11, 3, 11, 3, 11])?;
+    assert_eq!(rt; count(&found), 1);
+    assert!(rt; found.iter().all(|term| term.same(&wanted)));
     Ok(())
 }

@@ -10,7 +10,7 @@ use Rattle.circ_mixfix.specs.Readings.{ReadsOne, ReadsPair}
 use Rattle.circ_mixfix.specs.declared.found.Reading.{Reading}
 use Rattle.circ_mixfix.specs.declared.parse.ParseFault.{ParseFault}
 use Rattle.circ_mixfix.specs.declared.parse.ParseFault.TheVariants.{TooLong, NoParse, Ambiguous, Memory}
-use Rattle.circ_mixfix.specs.declared.TheConstants.{MOST_TOKENS}
+use Rattle.circ_chart.specs.declared.TheConstants.{MOST_TOKENS}
 
 -- the variables of a list of names and sorts
 abbrev pub declared_by : List (List ℕ × ℕ) → List Declared

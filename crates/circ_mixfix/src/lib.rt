@@ -21,16 +21,11 @@ mod tokens;
 mod variables;
 mod words;
 
+pub use circ_chart::{EVERY, MOST_TOKENS};
 pub use found::Reading;
 pub use parse::{ParseFault, parse_one, parse_one_declared, parse_pair, parse_pair_declared};
 pub use printing::{print, print_derivative, print_pair};
 pub use spelling::{Symbol, precedence, symbols};
-
-/// The most tokens of a list that is read.
-pub const MOST_TOKENS: usize = 256;
-
-/// Each precedence is below this one.
-pub const EVERY: u8 = 128;
 
 // The number of the hole's name, which is the empty text, among the texts of tokens.
 const HOLE: u32 = 2;

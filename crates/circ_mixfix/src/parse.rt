@@ -1,7 +1,7 @@
 //! The readings of tokens.
 ghost use Rattle.std.specs.Prelude.{◌≡◌, ◌≤◌, ◌-◌, true, false, length, IfOk};
 ghost use Rattle.std.specs.Option.{option_or};
-ghost use Rattle.circ_mixfix.specs.declared.TheConstants.{MOST_TOKENS};
+ghost use Rattle.circ_chart.specs.declared.TheConstants.{MOST_TOKENS};
 ghost use Rattle.circ_lexer.specs.TokenList.{tokens_in, IsWithin};
 ghost use Rattle.circ_mixfix.specs.Answers.{declared_by, HaveSorts, too_many, long_count, ReadsOnly, ReadsBoth, GivesReading};
 ghost use Rattle.circ_mixfix.specs.Found.{Keeps, IsPairInOrder, AreInOrder, IsWithParameters, AreWithParameters, IsOneSorted, ArePairSorted, Tells};

@@ -5,7 +5,7 @@ ghost use Rattle.circ_theory.specs.Operators.{operator_of};
 ghost use Rattle.circ_mixfix.specs.Symbols.{symbols_of, precedence_of};
 ghost use Rattle.circ_mixfix.specs.SymbolLists.{symbol_of};
 ghost use Rattle.circ_mixfix.specs.Coding.{GivesSymbol, GivesSymbols, GivesRule, HasRules, AddsRule, AddsRules, BeginsBefore, IsBelow, AreBelow};
-ghost use Rattle.circ_mixfix.specs.declared.TheConstants.{EVERY};
+ghost use Rattle.circ_chart.specs.declared.TheConstants.{EVERY};
 
 use crate::EVERY;
 use crate::spelling::{Symbol, precedence, symbols};

@@ -1,5 +1,5 @@
 -- Case lists and hidden sorts.
-use Rattle.std.proofs.Common.{◌≡◌, ◌↔◌, ◌≤◌, ◌<◌, ℕ, zero, suc, Bool, true, false, ◌==◌, ◌||◌, nat_eq, IsTrue, List, [], ◌∷◌, map, find, length, Option, Some, None, refl, ap, sym, subst, ◌∙◌, arith}
+use Rattle.std.proofs.Common.{◌≡◌, ◌↔◌, ◌≤◌, ◌<◌, ℕ, zero, suc, Bool, true, false, ◌==◌, ◌||◌, nat_eq, IsTrue, List, [], ◌∷◌, map, find, length, refl, ap, sym, ◌∙◌, arith}
 use Rattle.std.specs.List.{list_any, Contains}
 use Rattle.std.specs.Map.{lookup}
 use Rattle.std.specs.Option.{option_map}
@@ -7,7 +7,6 @@ use Rattle.std.proofs.lemmas.Bool.{eqb-true, eq-eqb}
 use Rattle.std.proofs.lemmas.List.{length-map}
 use Rattle.std.proofs.lemmas.Map.Steps.{length-le_from_distinct_below}
 use Rattle.circ_theory.specs.declared.TheConstants.{MOST_SORTS}
-use Rattle.circ_theory.specs.Signature.{Signature, IsSort}
 use Rattle.circ_theory.specs.Theory.{Theory, Derivative, CaseList, IsHidden}
 use Rattle.circ_theory.specs.WellFormed.{IsWellFormed}
 use Rattle.circ_theory.specs.Observing.{case_list, is_hidden}

@@ -1,9 +1,9 @@
 -- Declared variables in the map of their names.
-use Rattle.std.proofs.Common.{◌≡◌, ℕ, List, [], ◌∷◌, ◌++◌, nat_eq, map, None, refl, ap, sym, ◌∙◌}
+use Rattle.std.proofs.Common.{◌≡◌, ℕ, List, [], ◌∷◌, ◌++◌, nat_eq, map, None, ap, sym, ◌∙◌}
 use Rattle.std.specs.List.{position}
 use Rattle.std.specs.Cmp.Lexicographic.{pointwise}
 use Rattle.indexmap.specs.IndexMap.{insert_entry}
-use Rattle.circ_theory.specs.Theory.{Declared, declared}
+use Rattle.circ_theory.specs.Theory.{declared}
 use Rattle.circ_theory.proofs.Lists.{position-map, map-push, entry_last}
 
 module _ {K : Type 0} (items : K → List ℕ) (es : List (K × ℕ)) where

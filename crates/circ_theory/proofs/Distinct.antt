@@ -1,5 +1,5 @@
 -- Keys that are told apart by their texts have different texts.
-use Rattle.std.proofs.Common.{◌≡◌, ℕ, zero, suc, List, [], ◌∷◌, map, Bool, true, false, Some, nat_eq, sym, ap, subst, refl, ◌∙◌}
+use Rattle.std.proofs.Common.{◌≡◌, ℕ, zero, suc, List, [], ◌∷◌, map, Bool, false, Some, nat_eq, sym, ap, subst, refl, ◌∙◌}
 use Rattle.std.specs.List.{slice_get, IsDistinct, AllByRecursion}
 use Rattle.std.specs.Map.{keys_of}
 use Rattle.std.specs.Cmp.Lexicographic.{pointwise, bytes_decides}

@@ -1,14 +1,13 @@
 -- Terms in which each parameter occurs once.
-use Rattle.std.proofs.Common.{◌≡◌, ◌≤◌, ℕ, Bool, true, false, ◌==◌, ◌||◌, ◌&&◌, not, nat_eq, if◌then◌else◌, List, [], ◌∷◌, ◌++◌, map, length, Some, None, refl, ap, sym, subst, ◌∙◌, arith, append_assoc, append-nil, length-append}
+use Rattle.std.proofs.Common.{◌≡◌, ◌≤◌, ℕ, Bool, true, false, ◌==◌, ◌||◌, ◌&&◌, not, nat_eq, if◌then◌else◌, List, [], ◌∷◌, ◌++◌, map, length, None, refl, ap, sym, subst, ◌∙◌, arith, append_assoc, append-nil, length-append}
 use Rattle.std.specs.List.{AllByRecursion, IsDistinct, list_any, filter}
-use Rattle.std.proofs.Math.Bool.{or-false}
 use Rattle.std.proofs.lemmas.Bool.{eqb-true, eq-eqb}
 use Rattle.std.proofs.lemmas.List.{map-append}
 use Rattle.std.proofs.lemmas.List.Elements.{filter-append}
 use Rattle.std.proofs.lemmas.List.Folds.{list_any-append}
 use Rattle.circ_term.specs.Tree.{Tree, Trees, Var, App, none, more, size_of, sizes_of}
 use Rattle.circ_theory.specs.Signature.{Signature, IsSort, IsWellSorted, HaveSorts}
-use Rattle.circ_theory.specs.Variables.{Variable, is_variable, seen, seen_in, occurrences, all_occurrences, AreNumberedFrom}
+use Rattle.circ_theory.specs.Variables.{Variable, is_variable, seen, occurrences, all_occurrences, AreNumberedFrom}
 use Rattle.circ_theory.specs.Observing.{is_hole, is_parameter, holes_in, parameters_in, first_repeated, first_or_zero, AreParametersInOrder}
 use Rattle.circ_theory.proofs.Ruling.{all_seen, seen-occurrences}
 

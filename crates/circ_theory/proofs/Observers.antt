@@ -1,23 +1,22 @@
 -- Theories with one derivative or case list more are well-formed.
-use Rattle.std.proofs.Common.{◌≡◌, ◌≢◌, ◌≤◌, ◌<◌, ℕ, Bool, true, false, ◌==◌, ◌&&◌, ◌||◌, not, nat_lt, nat_eq, if◌then◌else◌, List, [], ◌∷◌, ◌++◌, map, find, length, Option, Some, None, is_some, ◌⊎◌, inl, inr, refl, ap, sym, subst, ◌∙◌, arith}
-use Rattle.std.specs.List.{AllByRecursion, IsDistinct, Contains, list_any, filter, slice_get}
-use Rattle.std.specs.Option.{option_map, option_map_or, option_or}
+use Rattle.std.proofs.Common.{◌≡◌, ◌≤◌, ◌<◌, ℕ, Bool, true, false, ◌==◌, ◌||◌, not, nat_lt, nat_eq, if◌then◌else◌, List, [], ◌∷◌, ◌++◌, map, find, length, Option, Some, None, is_some, ◌⊎◌, inl, inr, refl, ap, sym, subst, ◌∙◌, arith}
+use Rattle.std.specs.List.{IsDistinct, Contains, list_any, slice_get}
+use Rattle.std.specs.Option.{option_map}
 use Rattle.std.proofs.lemmas.Grind.{common_steps}
 use Rattle.std.proofs.lemmas.Bool.{eqb-true, eq-eqb, and_parts}
 use Rattle.std.proofs.lemmas.List.Elements.{Contains-push_cases}
 use Rattle.std.proofs.lemmas.List.Folds.{list_any-append}
-use Rattle.std.proofs.lemmas.List.{length-map}
 use Rattle.std.proofs.lemmas.Map.Keys.{IsDistinct-push}
 use Rattle.std.specs.Cmp.{nat_eq_equiv}
 use Rattle.circ_term.specs.Tree.{Tree}
 use Rattle.circ_theory.specs.declared.fault.TheoryFault.{TheoryFault}
-use Rattle.circ_theory.specs.declared.fault.TheoryFault.TheVariants.{Twice, UnknownSort, IllSorted, NotLinear, HoleCount, NoConstant, NotVisible, NowHidden, Limit}
+use Rattle.circ_theory.specs.declared.fault.TheoryFault.TheVariants.{Twice, UnknownSort, IllSorted, NotLinear, NoConstant, NotVisible, NowHidden, Limit}
 use Rattle.circ_theory.specs.declared.TheConstants.{MOST_DERIVATIVES, MOST_PARAMS, MOST_CASES}
-use Rattle.circ_theory.specs.Signature.{Signature, Operator, IsSort, IsWellSorted}
-use Rattle.circ_theory.specs.Theory.{Theory, Derivative, CaseList, IsHidden, IsVisible}
-use Rattle.circ_theory.specs.Adding.{count_fault, is_no_sort}
+use Rattle.circ_theory.specs.Signature.{Signature, Operator, IsWellSorted}
+use Rattle.circ_theory.specs.Theory.{Theory, Derivative, CaseList}
+use Rattle.circ_theory.specs.Adding.{is_no_sort}
 use Rattle.circ_theory.specs.WellFormed.{IsDerivative, IsCaseList, IsWellFormed}
-use Rattle.circ_theory.specs.Observing.{holes_in, parameters_in, first_repeated, first_or_zero, derivative_of, AreParametersInOrder, cases_of, is_hidden, hole_fault, now_hidden, long_fault, slots_fault, derivative_fault, with_derivative, is_constant, twice_listed, no_constants, cases_fault, case_list, with_cases}
+use Rattle.circ_theory.specs.Observing.{holes_in, parameters_in, first_repeated, first_or_zero, derivative_of, AreParametersInOrder, cases_of, is_hidden, hole_fault, now_hidden, long_fault, derivative_fault, with_derivative, is_constant, twice_listed, no_constants, cases_fault, case_list, with_cases}
 use Rattle.circ_theory.proofs.Lists.{map-push}
 use Rattle.circ_theory.proofs.Faults.{option_or_none, option_map_none, only_if, not_false, known_sort, find_none, room_left}
 use Rattle.circ_theory.proofs.Growing.{length-push, case_list_stays}

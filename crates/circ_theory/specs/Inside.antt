@@ -1,5 +1,5 @@
 -- How a theory lies in memory.
-use Rattle.std.specs.Prelude.{◌≡◌, ℕ, ◌≤◌, List, [], nat_eq, length, map, Vec}
+use Rattle.std.specs.Prelude.{◌≡◌, ℕ, List, [], nat_eq, length, map, Vec}
 use Rattle.std.specs.List.{AllByRecursion, list_any}
 use Rattle.std.specs.Map.{lookup}
 use Rattle.std.specs.Option.{option_map_or}

@@ -1,5 +1,5 @@
 -- What a term has to be for a derivative, and when derivatives and case lists are refused.
-use Rattle.std.specs.Prelude.{◌≡◌, ℕ, List, [], ◌∷◌, ◌++◌, Bool, false, not, ◌==◌, ◌&&◌, nat_eq, nat_lt, if◌then◌else◌, length, map, find, Option, Some, None, is_some}
+use Rattle.std.specs.Prelude.{ℕ, List, [], ◌∷◌, ◌++◌, Bool, false, not, ◌==◌, ◌&&◌, nat_eq, nat_lt, if◌then◌else◌, length, map, find, Option, Some, None, is_some}
 use Rattle.std.specs.List.{list_any, filter, slice_get}
 use Rattle.std.specs.Option.{option_map, option_map_or, option_or}
 use Rattle.circ_term.specs.Tree.{Tree, Trees}

@@ -1,11 +1,11 @@
 -- A pair with its variables numbered anew.
-use Rattle.std.proofs.Common.{◌≡◌, ℕ, zero, suc, ◌+◌, List, [], ◌∷◌, ◌++◌, map, length, Bool, true, false, ◌==◌, ◌&&◌, ◌||◌, if◌then◌else◌, Some, refl, ap, sym, subst, ◌∙◌, arith, append_assoc, append-nil, length-append}
+use Rattle.std.proofs.Common.{◌≡◌, ℕ, suc, ◌+◌, List, [], ◌∷◌, ◌++◌, map, length, Bool, true, false, ◌==◌, if◌then◌else◌, Some, refl, ap, sym, subst, ◌∙◌, arith, append_assoc, append-nil}
 use Rattle.std.proofs.lemmas.List.{length-map, map-append}
 use Rattle.std.specs.List.{list_any, slice_get}
 use Rattle.std.proofs.lemmas.Bool.{eqb-true, eq-eqb, and_parts}
 use Rattle.circ_term.specs.Tree.{Tree, Trees, Var, App, none, more, sort_of}
 use Rattle.circ_term.specs.Substitution.{Substitution, instance, instances}
-use Rattle.circ_theory.specs.Signature.{Signature, IsSort, IsWellSorted, IsSubstitution}
+use Rattle.circ_theory.specs.Signature.{Signature, IsWellSorted, IsSubstitution}
 use Rattle.circ_theory.specs.Theory.{Pair, IsWellSortedPair}
 use Rattle.circ_theory.specs.Variables.{Variable, is_variable, seen, seen_in, seen_in_all, variables_of, IsInOrder, AreNumberedFrom}
 use Rattle.circ_theory.specs.Numbering.{numbered, numbered_are, seen_there, seen_next}

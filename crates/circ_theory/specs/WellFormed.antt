@@ -1,5 +1,5 @@
 -- What is true of each theory that a `Theory` holds.
-use Rattle.std.specs.Prelude.{◌≡◌, ◌≢◌, ℕ, ◌≤◌, List, [], ◌∷◌, Some, nat_eq, length, map}
+use Rattle.std.specs.Prelude.{◌≡◌, ◌≢◌, ℕ, ◌≤◌, [], ◌∷◌, Some, nat_eq, length, map}
 use Rattle.std.specs.List.{slice_get, filter, Contains, IsDistinct}
 use Rattle.circ_theory.specs.declared.parts.Equation.{Equation}
 use Rattle.circ_theory.specs.declared.TheConstants.{MOST_SORTS, MOST_VARS, MOST_OPS, MOST_EQUATIONS, MOST_DERIVATIVES, MOST_PARAMS, MOST_CASES}

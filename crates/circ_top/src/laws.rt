@@ -6,7 +6,7 @@ ghost use Rattle.circ_top.specs.Accepted.{Accepted, FirstFail};
 ghost use Rattle.circ_term.specs.declared.TheConstants.{MOST_NODES, MOST_DEPTH, MOST_ARGS as MOST_TERM_ARGS};
 ghost use Rattle.circ_theory.specs.declared.TheConstants.{MOST_SORTS, MOST_VARS, MOST_OPS, MOST_EQUATIONS, MOST_ARGS, MOST_DERIVATIVES, MOST_PARAMS, MOST_CASES};
 ghost use Rattle.circ_top.specs.declared.files.TheConstants.{MOST_BYTES, PIECE};
-ghost use Rattle.circ_mixfix.specs.declared.TheConstants.{MOST_TOKENS};
+ghost use Rattle.circ_chart.specs.declared.TheConstants.{MOST_TOKENS};
 
 /// The limits in numbers: bytes of a file and of a piece, nodes, levels and arguments of a term, sorts, variables,
 /// operators, their arguments, equations and derivatives of a theory, parameters of a derivative, constants of a case list,

@@ -1,11 +1,11 @@
-use Rattle.std.proofs.Common.{◌≡◌, ◌∷◌, ◌++◌, List, [], ℕ, ◌==◌, nat_eq, map, length, refl, ap, sym, subst, ◌∙◌, arith}
+use Rattle.std.proofs.Common.{◌≡◌, ◌∷◌, ◌++◌, List, [], ◌==◌, nat_eq, map, length, refl, ap, sym, subst, ◌∙◌, arith}
 use Rattle.std.specs.List.{AllByRecursion, list_any}
 use Rattle.circ_term.specs.Laws.{within_limits}
 use Rattle.circ_theory.specs.declared.theories.Observer.{Observer}
 use Rattle.circ_theory.specs.Theory.{Theory, Derivative}
 use Rattle.circ_theory.specs.WellFormed.{IsWellFormed}
 use Rattle.circ_theory.specs.Inside.{theory_of, IsObserver}
-use Rattle.circ_theory.specs.Observing.{derivative_of, derivative_with, first_or_zero, holes_in, parameters_in, first_repeated, slots_fault, derivative_fault}
+use Rattle.circ_theory.specs.Observing.{derivative_with, first_or_zero, holes_in, parameters_in}
 use Rattle.circ_theory.proofs.Lists.{map-push, all_push}
 use Rattle.circ_theory.proofs.Filling.{any_inserted}
 use Rattle.circ_theory.proofs.Linear.{few_holes}

@@ -1,6 +1,4 @@
-use Rattle.std.proofs.Common.{◌≡◌, ◌<◌, List, ℕ, ◌∷◌, ◌++◌, [], map, length, None, ap, sym, subst, ◌∙◌}
-use Rattle.circ_theory.specs.declared.TheConstants.{MOST_VARS}
-use Rattle.circ_theory.specs.Signature.{IsSort}
+use Rattle.std.proofs.Common.{◌≡◌, List, ◌∷◌, ◌++◌, [], map, None, ap, sym, subst, ◌∙◌}
 use Rattle.circ_theory.specs.Theory.{Theory, Declared, declared}
 use Rattle.circ_theory.specs.WellFormed.{IsWellFormed}
 use Rattle.circ_theory.specs.Adding.{var_number}

@@ -1,4 +1,4 @@
-use Rattle.std.proofs.Common.{◌≡◌, Some, None, ap, ◌∙◌, sym}
+use Rattle.std.proofs.Common.{Some, ap, ◌∙◌}
 use Rattle.std.specs.Option.{option_map}
 use Rattle.circ_theory.proofs.Casing.{cases_found}
 use Rattle.circ_theory.proofs.theories.Theory.cases.Goals as goal

@@ -1,6 +1,4 @@
-use Rattle.std.proofs.Common.{◌∙◌, ◌↔◌, Bool, IsTrue, sym, subst}
-use Rattle.circ_theory.specs.Theory.{IsHidden}
-use Rattle.circ_theory.specs.Observing.{is_hidden}
+use Rattle.std.proofs.Common.{◌∙◌}
 use Rattle.circ_theory.proofs.Casing.{hidden_tells}
 use Rattle.circ_theory.proofs.theories.Theory.is_hidden.Goals as goal
 

@@ -1,4 +1,4 @@
-use Rattle.std.proofs.Common.{length, sym, subst, ap, ◌∙◌, arith}
+use Rattle.std.proofs.Common.{arith}
 use Rattle.std.proofs.lemmas.List.{length-map}
 use Rattle.circ_theory.specs.Theory.{Theory, declared}
 use Rattle.circ_theory.specs.Inside.{theory_of}
