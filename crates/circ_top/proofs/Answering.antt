@@ -6,7 +6,9 @@ use Rattle.circ_outer.specs.Count.{Rose}
 use Rattle.circ_outer.specs.Shelf.{Fault, IsQuiet}
 use Rattle.circ_theory.specs.Theory.{Theory}
 use Rattle.circ_file.specs.Proof.{Proof}
-use Rattle.circ_top.specs.Outcome.{Held, Holds, AreBytes, IsRefused, ReadsTheory, ReadsProof, outside, Outside, Output, IsOnly, Refusal, TheoryRefusal, ProofRefusal, IsUnread, IsFileFault, Fails, RefusesCheck, theory_fault, proof_fault, step_fails, Refuses, no_command, no_check, Due, success, refusal, Prints, Delivers, whole, write_failed, memory_wanted, Answers, Accepts, Rejects}
+use Rattle.circ_top.specs.Outcome.{Held, Holds, AreBytes, IsRefused, ReadsTheory, ReadsProof, outside, Outside, Output, IsOnly, Refusal, TheoryRefusal, ProofRefusal, IsUnread, IsFileFault, Fails, RefusesCheck, theory_fault, proof_fault, step_fails, Succeeds, RefusesCommand, Refuses, no_command, refused_command, Due, success, refusal, Prints, Delivers, whole, write_failed, memory_wanted, Answers, Succeeded, Accepts, Rejects}
+use Rattle.circ_top.specs.Command.{Command, Check, Show, Library, Asks}
+use Rattle.circ_top.proofs.Requests.{same_command}
 use Rattle.circ_read.specs.ReadsAs.{ReadsAs}
 use Rattle.circ_file.specs.ProofText.{ReadsAsProof}
 use Rattle.circ_top.specs.declared.files.TheConstants.{MOST_BYTES}
@@ -84,21 +86,33 @@ check_not_ok o theory proof s (theory_fault _ f) e = file_fault_not_ok o 1 theor
 check_not_ok o theory proof s (proof_fault _ th r f) e = file_fault_not_ok o 2 proof (ProofRefusal th) s e f
 check_not_ok o theory proof _ (step_fails n f) e = cc
 
+command_not_ok : (o : Outside) (c : Command) (s : Status) → RefusesCommand o c s → s ≡ status.Ok → ⊥
+command_not_ok o (Check theory proof) s r e = check_not_ok o theory proof s r e
+command_not_ok o (Show theory) s r e = file_fault_not_ok o 1 theory TheoryRefusal s e r
+command_not_ok o (Library text) s r e = absurd (let never : Memory ≡ status.Ok = sym r ∙ e in cc)
+
 refusal_not_ok : (words : List (List ℕ)) (o : Outside) (s : Status) → Refuses words o s → s ≡ status.Ok → ⊥
 refusal_not_ok words o _ (no_command n) e = cc
-refusal_not_ok words o s (no_check _ t p i r) e = check_not_ok o t p s r e
+refusal_not_ok words o s (refused_command _ c i r) e = command_not_ok o c s r e
 
-due_accepted : (words : List (List ℕ)) (o : Outside) (out : Output) (s : Status) (text : List ℕ) → Due words o s text → s ≡ status.Ok → Prints out text → Accepts words o out
-due_accepted words o out _ _ (success theory proof text i a) e p = record { theory = theory; proof = proof; text = text; command = i; accepted = a; prints = p }
-due_accepted words o out s _ (refusal _ f) e p = absurd (refusal_not_ok words o s f e)
+due_succeeds : (words : List (List ℕ)) (o : Outside) (out : Output) (s : Status) (text : List ℕ) → Due words o s text → s ≡ status.Ok → Prints out text → Succeeded words o out
+due_succeeds words o out _ _ (success c text i a) e p = record { command = c; text = text; asks = i; succeeds = a; prints = p }
+due_succeeds words o out s _ (refusal _ f) e p = absurd (refusal_not_ok words o s f e)
 
-pub answers_accepted : (words : List (List ℕ)) (o : Outside) (out : Output) (s : Status) → Answers words o out s → s ≡ status.Ok → Accepts words o out
-answers_accepted words o out s a e = go a.answer a.text a.due s a.delivered e
+pub answers_succeed : (words : List (List ℕ)) (o : Outside) (out : Output) (s : Status) → Answers words o out s → s ≡ status.Ok → Succeeded words o out
+answers_succeed words o out s a e = go a.answer a.text a.due s a.delivered e
   where
-    go : (r : Status) (text : List ℕ) → Due words o r text → (s : Status) → Delivers out text r s → s ≡ status.Ok → Accepts words o out
-    go r text d _ (whole p) e = due_accepted words o out r text d e p
+    go : (r : Status) (text : List ℕ) → Due words o r text → (s : Status) → Delivers out text r s → s ≡ status.Ok → Succeeded words o out
+    go r text d _ (whole p) e = due_succeeds words o out r text d e p
     go r text d _ (write_failed n some i rose p) e = absurd (cc)
     go r text d _ (memory_wanted q p) e = absurd (cc)
+
+pub answers_accepted : (words : List (List ℕ)) (o : Outside) (out : Output) (s : Status) (theory proof : List ℕ) → Answers words o out s → Asks words (Check theory proof) → s ≡ status.Ok
+    → Accepts o out theory proof
+answers_accepted words o out s theory proof a i e =
+    let r = answers_succeed words o out s a e in
+    let P : Command → Type 0 = λ c. Succeeds o c r.text in
+    record { text = r.text; accepted = subst P (same_command words r.command (Check theory proof) r.asks i) r.succeeds; prints = r.prints }
 
 -- only a step that fails refuses at a step
 file_fault_not_refused : (o : Outside) (file : ℕ) (name : List ℕ) (N : Refusal) (s : Status) (n : ℕ) → s ≡ Refused n → IsFileFault o file name N s → ⊥
@@ -112,12 +126,18 @@ check_refused o theory proof s n (theory_fault _ f) e = absurd (file_fault_not_r
 check_refused o theory proof s n (proof_fault _ th r f) e = absurd (file_fault_not_refused o 2 proof (ProofRefusal th) s n e f)
 check_refused o theory proof _ n (step_fails m f) e = let P : ℕ → Type 0 = IsRefused o theory proof in subst P (same_step m n e) f
 
+command_refused : (words : List (List ℕ)) (o : Outside) (out : Output) (c : Command) (s : Status) (n : ℕ) → Asks words c → RefusesCommand o c s → s ≡ Refused n
+    → Prints out (refusal_text (Refused n)) → Rejects words o out n
+command_refused words o out (Check theory proof) s n i r e p = record { theory = theory; proof = proof; asks = i; refused = check_refused o theory proof s n r e; prints = p }
+command_refused words o out (Show theory) s n i r e p = absurd (file_fault_not_refused o 1 theory TheoryRefusal s n e r)
+command_refused words o out (Library text) s n i r e p = absurd (let never : Memory ≡ Refused n = sym r ∙ e in cc)
+
 due_refused : (words : List (List ℕ)) (o : Outside) (out : Output) (s : Status) (text : List ℕ) (n : ℕ) → Due words o s text → s ≡ Refused n → Prints out text → Rejects words o out n
-due_refused words o out _ _ n (success theory proof text i a) e p = absurd (cc)
+due_refused words o out _ _ n (success c text i a) e p = absurd (cc)
 due_refused words o out _ _ n (refusal _ (no_command c)) e p = absurd (cc)
-due_refused words o out s _ n (refusal _ (no_check _ theory proof i r)) e p =
+due_refused words o out s _ n (refusal _ (refused_command _ c i r)) e p =
     let P : Status → Type 0 = λ x. Prints out (refusal_text x) in
-    record { theory = theory; proof = proof; command = i; refused = check_refused o theory proof s n r e; prints = subst P e p }
+    command_refused words o out c s n i r e (subst P e p)
 
 pub answers_refused : (words : List (List ℕ)) (o : Outside) (out : Output) (s : Status) (n : ℕ) → Answers words o out s → s ≡ Refused n → Rejects words o out n
 answers_refused words o out s n a e = go a.answer a.text a.due s a.delivered e

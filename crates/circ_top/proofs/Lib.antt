@@ -4,7 +4,8 @@ pub mod Steps
 pub mod Sound
 pub mod Printing
 pub mod Answering
-pub mod Operands
+pub mod Requests
 pub mod Verdicts
 pub mod Outcomes
+pub mod Faults
 pub mod NoFaults

@@ -3,7 +3,8 @@ use Rattle.std.proofs.Common.{◌≡◌, ℕ, List, ◌++◌, ◌⊎◌, inl, in
 use Rattle.std.specs.Prelude.{IsSome}
 use Rattle.circ_outer.specs.Count.{Rose}
 use Rattle.circ_top.specs.Outcome.{Held, Outside, Output, IsUnread}
-use Rattle.circ_top.specs.Causes.{IsOutcome, IsLike, Comes, printed, not_read, not_written, no_memory, AtFile, IsReadFault, HoldsFiles, Appends}
+use Rattle.circ_top.specs.Causes.{IsOutcome, IsLike, Comes, printed, not_read, not_written, no_memory, AtFile, IsReadFault, HoldsFilesOf, HoldsFiles, Appends}
+use Rattle.circ_top.specs.Command.{Command, Check, Show, Library}
 use Rattle.circ_top.specs.declared.status.Status.{Status}
 use Rattle.circ_top.specs.declared.status.Status.TheVariants as status
 use Rattle.circ_top.proofs.Outcomes.{unread_rose}
@@ -16,12 +17,14 @@ some_held : {X : Type 0} (o : Option X) → IsSome o → o ≡ None → ⊥
 some_held (Some x) i e = cc
 some_held None i e = cc
 
+held_file : (o : Outside) (c : Command) → (Rose o.faults_before o.faults_after → ⊥) → HoldsFilesOf o.held c → AtFile o c (λ file name. IsUnread o name) → ⊥
+held_file o (Check theory proof) quiet h (inl u) = quiet (unread_rose o theory (some_held (o.held theory) h.0) u)
+held_file o (Check theory proof) quiet h (inr u) = quiet (unread_rose o proof (some_held (o.held proof) h.1) u.1.1)
+held_file o (Show theory) quiet h u = quiet (unread_rose o theory (some_held (o.held theory) h) u)
+held_file o (Library text) quiet h u = u
+
 pub always_read : (words : List (List ℕ)) (o : Outside) (out : Output) (n : ℕ) → (Rose o.faults_before o.faults_after → ⊥) → HoldsFiles words o.held → IsReadFault words o out n → ⊥
-always_read words o out n quiet held f = go f.unread
-  where
-    go : AtFile o f.theory f.proof (λ file name. IsUnread o name) → ⊥
-    go (inl u) = quiet (unread_rose o f.theory (some_held (o.held f.theory) (held f.theory f.proof f.command).0) u)
-    go (inr u) = quiet (unread_rose o f.proof (some_held (o.held f.proof) (held f.theory f.proof f.command).1) u.1.1)
+always_read words o out n quiet held f = held_file o f.command quiet (held f.command f.asks) f.unread
 
 pub sure_outcome : (words : List (List ℕ)) (held : Held) (out : Output) (r : Status) → out.tells ≡ true → ((n : ℕ) → r ≡ status.ReadFault n → ⊥)
     → ((n : ℕ) → r ≡ status.WriteFault n → ⊥) → IsOutcome words held out r → Appends words held out.before out.after r

@@ -8,15 +8,18 @@ use Rattle.circ_read.specs.ReadsAs.{ReadsAs, FirstCause}
 use Rattle.circ_read.specs.Causes.{AreAlike, same, ambiguous}
 use Rattle.circ_read.specs.Includes.{Scope}
 use Rattle.circ_file.specs.ProofText.{ReadsAsProof}
+use Rattle.circ_show.specs.TheoryText.{IsTheoryText}
 use Rattle.circ_top.specs.Accepted.{Accepted, FirstFail, steps_of}
-use Rattle.circ_top.specs.Outcome.{Held, Holds, HoldsMore, IsCheck, ReadsTheory, ReadsProof, IsNoProof, IsOnly, Refusal, TheoryRefusal, ProofRefusal, RefusesFile, CheckOutcome, no_theory, no_proof, refused, accepted, Outcome, usage, check, Outside, IsUnread, IsTooLong, IsFileFault, RefusesCheck, theory_fault, proof_fault, step_fails, no_command, no_check, Due, success, refusal, IsAccepted, IsRefused, Output, Prints, PrintsPart, Delivers, whole, write_failed, memory_wanted, Answers}
-use Rattle.circ_top.specs.Causes.{IsOutcome, IsLikeCause, same_cause, other_readings, IsLike, itself, another_count, like_cause, PrintsPartOf, Comes, printed, not_read, not_written, no_memory, FilesRead, AtFile, IsPastLimit, IsReadFault, IsWriteFault}
+use Rattle.circ_top.specs.Command.{Command, Check, Show, Library, Asks}
+use Rattle.circ_top.specs.Outcome.{Held, Holds, HoldsMore, ReadsTheory, ReadsProof, IsOnly, Refusal, TheoryRefusal, ProofRefusal, RefusesFile, CheckOutcome, no_theory, no_proof, refused, accepted, ShowOutcome, not_shown, shown, OutcomeOf, Outcome, usage, command, Outside, IsUnread, IsFileFault, RefusesCheck, theory_fault, proof_fault, step_fails, IsShown, Succeeds, RefusesCommand, no_command, refused_command, Due, success, refusal, IsAccepted, IsRefused, Output, Prints, PrintsPart, Delivers, whole, write_failed, memory_wanted, Answers}
+use Rattle.circ_top.specs.Causes.{IsOutcome, IsLikeCause, same_cause, other_readings, IsLike, itself, another_count, like_cause, PrintsPartOf, Comes, printed, not_read, not_written, no_memory}
 use Rattle.circ_top.specs.Texts.{refusal_text, accepted_text}
 use Rattle.circ_top.specs.declared.status.Status.{Status}
 use Rattle.circ_top.specs.declared.status.Status.TheVariants as status
 use Rattle.circ_read.specs.declared.cause.Cause.{Cause}
 use Rattle.circ_read.specs.declared.cause.Cause.TheVariants as cause
 use Rattle.circ_top.proofs.Verdicts.{not_both, one_fail}
+use Rattle.circ_top.proofs.Requests.{same_command}
 
 -- a file that was not taken, or a text that is none: the file's refusal, or a fault, or want of memory
 data FileFault (o : Outside) (file : ℕ) (name : List ℕ) (N : Refusal) : Status → Type 0 where
@@ -39,30 +42,42 @@ pub data DueIs (words : List (List ℕ)) (o : Outside) : Status → List ℕ →
   unread_file : (n : ℕ) → DueIs words o (status.ReadFault n) []
   memory : DueIs words o status.Memory []
 
-due_check : (words : List (List ℕ)) (o : Outside) (theory proof : List ℕ) (s : Status) → o.tells ≡ true → IsCheck words theory proof → RefusesCheck o theory proof s
+-- a file's fault as an outcome, by what its refusal comes to
+file_due : (words : List (List ℕ)) (o : Outside) (file : ℕ) (name : List ℕ) (N : Refusal) (s : Status) → o.tells ≡ true → IsFileFault o file name N s
+    → ((r : Status) → RefusesFile o.held file name N r → Outcome words o.held r (refusal_text r)) → DueIs words o s (refusal_text s)
+file_due words o file name N s t f g = go s (file_fault o file name N s t f)
+  where
+    go : (s : Status) → FileFault o file name N s → DueIs words o s (refusal_text s)
+    go s (refuses _ r) = outcome s (refusal_text s) (g s r)
+    go _ (unread n e u) = unread_file n
+    go _ memory = memory
+
+due_check : (words : List (List ℕ)) (o : Outside) (theory proof : List ℕ) (s : Status) → o.tells ≡ true → Asks words (Check theory proof) → RefusesCheck o theory proof s
     → DueIs words o s (refusal_text s)
-due_check words o theory proof s t i (theory_fault _ f) = go s (file_fault o 1 theory TheoryRefusal s t f)
-  where
-    go : (s : Status) → FileFault o 1 theory TheoryRefusal s → DueIs words o s (refusal_text s)
-    go s (refuses _ r) = outcome s (refusal_text s) (check theory proof s (refusal_text s) i (no_theory s r))
-    go _ (unread n e u) = unread_file n
-    go _ memory = memory
-due_check words o theory proof s t i (proof_fault _ th r f) = go s (file_fault o 2 proof (ProofRefusal th) s t f)
-  where
-    go : (s : Status) → FileFault o 2 proof (ProofRefusal th) s → DueIs words o s (refusal_text s)
-    go s (refuses _ x) = outcome s (refusal_text s) (check theory proof s (refusal_text s) i (no_proof s th (r t).0 x))
-    go _ (unread n e u) = unread_file n
-    go _ memory = memory
+due_check words o theory proof s t i (theory_fault _ f) =
+    file_due words o 1 theory TheoryRefusal s t f (λ r x. command (Check theory proof) r (refusal_text r) i (no_theory r x))
+due_check words o theory proof s t i (proof_fault _ th r f) =
+    file_due words o 2 proof (ProofRefusal th) s t f (λ q x. command (Check theory proof) q (refusal_text q) i (no_proof q th (r t).0 x))
 due_check words o theory proof _ t i (step_fails n f) =
     outcome (status.Refused n) (refusal_text (status.Refused n))
-    (check theory proof (status.Refused n) (refusal_text (status.Refused n)) i (refused n f.th f.p (f.reads_theory t).0 (f.reads_proof t).0 f.fails))
+    (command (Check theory proof) (status.Refused n) (refusal_text (status.Refused n)) i (refused n f.th f.p (f.reads_theory t).0 (f.reads_proof t).0 f.fails))
 
-due_is : (words : List (List ℕ)) (o : Outside) (s : Status) (text : List ℕ) → o.tells ≡ true → Due words o s text → DueIs words o s text
-due_is words o _ text t (success theory proof _ i a) =
+due_refusal : (words : List (List ℕ)) (o : Outside) (c : Command) (s : Status) → o.tells ≡ true → Asks words c → RefusesCommand o c s → DueIs words o s (refusal_text s)
+due_refusal words o (Check theory proof) s t i r = due_check words o theory proof s t i r
+due_refusal words o (Show theory) s t i r = file_due words o 1 theory TheoryRefusal s t r (λ q x. command (Show theory) q (refusal_text q) i (not_shown q x))
+due_refusal words o (Library text) s t i r = let P : Status → Type 0 = λ x. DueIs words o x (refusal_text x) in subst P (sym r) memory
+
+due_success : (words : List (List ℕ)) (o : Outside) (c : Command) (text : List ℕ) → o.tells ≡ true → Asks words c → Succeeds o c text → OutcomeOf o.held c status.Ok text
+due_success words o (Check theory proof) text t i a =
     let P : List ℕ → Type 0 = λ x. CheckOutcome o.held theory proof status.Ok x in
-    outcome status.Ok text (check theory proof status.Ok text i (subst P (sym a.proves.text_is) (accepted a.th a.p (a.reads_theory t).0 (a.reads_proof t).0 a.proves.accepted)))
+    subst P (sym a.proves.text_is) (accepted a.th a.p (a.reads_theory t).0 (a.reads_proof t).0 a.proves.accepted)
+due_success words o (Show theory) text t i a = shown a.th text (a.reads_theory t).0 a.text_is
+due_success words o (Library given) text t i a = (refl, a)
+
+pub due_is : (words : List (List ℕ)) (o : Outside) (s : Status) (text : List ℕ) → o.tells ≡ true → Due words o s text → DueIs words o s text
+due_is words o _ text t (success c _ i a) = outcome status.Ok text (command c status.Ok text i (due_success words o c text t i a))
 due_is words o _ _ t (refusal _ (no_command n)) = outcome status.Usage (refusal_text status.Usage) (usage n)
-due_is words o s _ t (refusal _ (no_check _ theory proof i r)) = due_check words o theory proof s t i r
+due_is words o s _ t (refusal _ (refused_command _ c i r)) = due_refusal words o c s t i r
 
 -- files that read are not refused
 long_file : (held : Held) (name : List ℕ) (n : ℕ) (P : List ℕ → Type 0) → HoldsMore held name n → Holds held name P → ⊥
@@ -129,6 +144,10 @@ data Agrees (o : Outside) (s : Status) (text : List ℕ) : Status → List ℕ �
 pub record ReadsOnce : Type 0 where
   pub either : (bytes : List ℕ) (th : Theory) (n : ℕ) (c : Cause) → ReadsAs bytes th → FirstCause bytes n c → ⊥
   pub alike : IsOneWay TheoryRefusal
+
+-- theories are printed in one way
+abbrev pub PrintsOnce : Type 0
+PrintsOnce = (th : Theory) (text other : List ℕ) → IsTheoryText th text → IsTheoryText th other → text ≡ other
 
 proofs_once : (th : Theory) → IsOneWay (ProofRefusal th)
 proofs_once th p q c d bytes a b =
@@ -218,24 +237,56 @@ module _ (once : ReadsOnce) (o : Outside) (theory proof : List ℕ) (t : o.tells
   check_agrees r s text (proof_fault _ th reads f) c = proof_agrees th r s text (file_fault o 2 proof (ProofRefusal th) r t f) (fixed th (reads t) s text c)
   check_agrees _ s text (step_fails n f) c = refused_agrees n f s text (fixed f.th (f.reads_theory t) s text c)
 
-same_words : (words : List (List ℕ)) (a b c d : List ℕ) → IsCheck words a b → IsCheck words c d → (a ≡ c) × (b ≡ d)
-same_words words a b c d i j = let e = sym i.words_are ∙ j.words_are in (cc, cc)
+-- the same of a `show`
+module _ (once : ReadsOnce) (printed_once : PrintsOnce) (o : Outside) (theory : List ℕ) (t : o.tells ≡ true) where
+  show_held : (s : Status) (text : List ℕ) → ShowOutcome o.held theory s text → o.held theory ≡ None → ⊥
+  show_held s _ (not_shown _ r) e = refused_held o.held 1 theory TheoryRefusal s r e
+  show_held _ _ (shown u text ru x) e = holds_held o.held theory (λ b. ReadsAs b u) ru e
 
-due_agrees : ReadsOnce → (words : List (List ℕ)) (o : Outside) (s r : Status) (text given : List ℕ) → o.tells ≡ true → Outcome words o.held s text → Due words o r given → Agrees o s text r given
-due_agrees once words o _ _ _ given t (usage n) (success theory proof _ i a) = absurd (n theory proof i)
-due_agrees once words o _ _ _ _ t (usage n) (refusal _ (no_command m)) = alike status.Usage (refusal_text status.Usage) (itself status.Usage (refusal_text status.Usage))
-due_agrees once words o _ r _ _ t (usage n) (refusal _ (no_check _ theory proof i f)) = absurd (n theory proof i)
-due_agrees once words o s _ text given t (check a b _ _ i c) (success theory proof _ j acc) =
-    let same = same_words words a b theory proof i j in
-    let P : List ℕ → Type 0 = λ x. CheckOutcome o.held x b s text in
-    let Q : List ℕ → Type 0 = λ x. CheckOutcome o.held theory x s text in
-    accepted_agrees once o theory proof t given acc s text (fixed once o theory proof t acc.th (acc.reads_theory t) s text (subst Q same.1 (subst P same.0 c)))
-due_agrees once words o s _ text _ t (check a b _ _ i c) (refusal _ (no_command m)) = absurd (m a b i)
-due_agrees once words o s r text _ t (check a b _ _ i c) (refusal _ (no_check _ theory proof j f)) =
-    let same = same_words words a b theory proof i j in
-    let P : List ℕ → Type 0 = λ x. CheckOutcome o.held x b s text in
-    let Q : List ℕ → Type 0 = λ x. CheckOutcome o.held theory x s text in
-    check_agrees once o theory proof t r s text f (subst Q same.1 (subst P same.0 c))
+  not_shown_otherwise : (s : Status) (u : Theory) → ReadsTheory o.held theory u → RefusesFile o.held 1 theory TheoryRefusal s → ⊥
+  not_shown_otherwise s u ru x = reads_not_refused o.held 1 theory TheoryRefusal (λ b. ReadsAs b u) s ru (λ p c b h n. once.either b u p c h n) x
+
+  show_agrees : (r s : Status) (text : List ℕ) → FileFault o 1 theory TheoryRefusal r → ShowOutcome o.held theory s text → Agrees o s text r (refusal_text r)
+  show_agrees r s _ (refuses _ x) (not_shown _ y) = alike r (refusal_text r) (refused_alike o.held 1 theory TheoryRefusal s r once.alike y x)
+  show_agrees r _ _ (refuses _ x) (shown u text ru p) = absurd (not_shown_otherwise r u ru x)
+  show_agrees _ s text (unread n e u) c = unread_file n (unread_rose o theory (show_held s text c) u)
+  show_agrees _ s text memory c = memory
+
+  shown_agrees : (given : List ℕ) → IsShown o theory given → (s : Status) (text : List ℕ) → ShowOutcome o.held theory s text → Agrees o s text status.Ok given
+  shown_agrees given a s _ (not_shown _ r) = absurd (not_shown_otherwise s a.th (a.reads_theory t).0 r)
+  shown_agrees given a _ text (shown u _ ru p) =
+      let P : Theory → Type 0 = λ x. IsTheoryText x text in
+      let same : text ≡ given = printed_once a.th text given (subst P ((a.reads_theory t).1 u ru) p) a.text_is in
+      let Q : List ℕ → Type 0 = λ x. IsLike status.Ok text status.Ok x in
+      alike status.Ok given (subst Q same (itself status.Ok text))
+
+refusal_agrees : ReadsOnce → PrintsOnce → (o : Outside) (c : Command) (s r : Status) (text : List ℕ) → o.tells ≡ true → OutcomeOf o.held c s text → RefusesCommand o c r
+    → Agrees o s text r (refusal_text r)
+refusal_agrees once print o (Check theory proof) s r text t c f = check_agrees once o theory proof t r s text f c
+refusal_agrees once print o (Show theory) s r text t c f = show_agrees once print o theory t r s text (file_fault o 1 theory TheoryRefusal r t f) c
+refusal_agrees once print o (Library given) s r text t c f = let P : Status → Type 0 = λ x. Agrees o s text x (refusal_text x) in subst P (sym f) memory
+
+success_agrees : ReadsOnce → PrintsOnce → (o : Outside) (c : Command) (s : Status) (text given : List ℕ) → o.tells ≡ true → OutcomeOf o.held c s text → Succeeds o c given
+    → Agrees o s text status.Ok given
+success_agrees once print o (Check theory proof) s text given t c a = accepted_agrees once o theory proof t given a s text (fixed once o theory proof t a.th (a.reads_theory t) s text c)
+success_agrees once print o (Show theory) s text given t c a = shown_agrees once print o theory t given a s text c
+success_agrees once print o (Library words) s text given t c a =
+    let P : List ℕ → Type 0 = λ x. IsLike status.Ok text status.Ok x in
+    let Q : Status → Type 0 = λ x. Agrees o x text status.Ok given in
+    subst Q (sym c.0) (alike status.Ok given (subst P (c.1 ∙ sym a) (itself status.Ok text)))
+
+due_agrees : ReadsOnce → PrintsOnce → (words : List (List ℕ)) (o : Outside) (s r : Status) (text given : List ℕ) → o.tells ≡ true → Outcome words o.held s text → Due words o r given
+    → Agrees o s text r given
+due_agrees once print words o _ _ _ given t (usage n) (success c _ i a) = absurd (n c i)
+due_agrees once print words o _ _ _ _ t (usage n) (refusal _ (no_command m)) = alike status.Usage (refusal_text status.Usage) (itself status.Usage (refusal_text status.Usage))
+due_agrees once print words o _ r _ _ t (usage n) (refusal _ (refused_command _ c i f)) = absurd (n c i)
+due_agrees once print words o s _ text given t (command c _ _ i x) (success d _ j a) =
+    let P : Command → Type 0 = λ y. OutcomeOf o.held y s text in
+    success_agrees once print o d s text given t (subst P (same_command words c d i j) x) a
+due_agrees once print words o s _ text _ t (command c _ _ i x) (refusal _ (no_command m)) = absurd (m c i)
+due_agrees once print words o s r text _ t (command c _ _ i x) (refusal _ (refused_command _ d j f)) =
+    let P : Command → Type 0 = λ y. OutcomeOf o.held y s text in
+    refusal_agrees once print o d s r text t (subst P (same_command words c d i j) x) f
 
 -- what is printed of the text that is due is a part of the outcome's
 nothing_part : (out : Output) (text : List ℕ) → PrintsPart out [] → PrintsPart out text
@@ -263,9 +314,9 @@ agree_comes o out s _ _ text _ memory (whole p) = no_memory (itself_part out s t
 agree_comes o out s _ _ text _ memory (write_failed m some c up p) = absurd (some refl)
 agree_comes o out s _ _ text _ memory (memory_wanted q p) = no_memory (itself_part out s text (nothing_part out text p))
 
-pub answers_come : ReadsOnce → (words : List (List ℕ)) (o : Outside) (out : Output) (r : Status) → Answers words o out r → o.tells ≡ true
+pub answers_come : ReadsOnce → PrintsOnce → (words : List (List ℕ)) (o : Outside) (out : Output) (r : Status) → Answers words o out r → o.tells ≡ true
     → (s : Status) (text : List ℕ) → Outcome words o.held s text → Comes o out s text r
-answers_come once words o out r a t s text c = agree_comes o out s a.answer r text a.text (due_agrees once words o s a.answer text a.text t c a.due) a.delivered
+answers_come once print words o out r a t s text c = agree_comes o out s a.answer r text a.text (due_agrees once print words o s a.answer text a.text t c a.due) a.delivered
 
 -- whatever comes, a part of a like answer's text is printed
 comes_part : (o : Outside) (out : Output) (s r : Status) (text : List ℕ) → Comes o out s text r → PrintsPartOf out s text
@@ -274,9 +325,9 @@ comes_part o out s _ text (not_read n rose p) = itself_part out s text (nothing_
 comes_part o out s _ text (not_written n rose p) = p
 comes_part o out s _ text (no_memory p) = p
 
-pub answers_memory : ReadsOnce → (words : List (List ℕ)) (o : Outside) (out : Output) (r : Status) → Answers words o out r → o.tells ≡ true
+pub answers_memory : ReadsOnce → PrintsOnce → (words : List (List ℕ)) (o : Outside) (out : Output) (r : Status) → Answers words o out r → o.tells ≡ true
     → (s : Status) (text : List ℕ) → Outcome words o.held s text → PrintsPartOf out s text
-answers_memory once words o out r a t s text c = comes_part o out s r text (answers_come once words o out r a t s text c)
+answers_memory once print words o out r a t s text c = comes_part o out s r text (answers_come once print words o out r a t s text c)
 
 -- the causes of bytes that are no theory, as the reader's law has them
 like_causes : {A : Type 0} (c d : Cause) (x y : Result A Cause) → AreAlike x y → x ≡ Err c → y ≡ Err d → IsLikeCause c d
@@ -307,77 +358,3 @@ answers_outcome words o out r a t = go a.answer r a.text (due_is words o a.answe
     go _ _ _ memory (whole p) = tt
     go d _ text x (write_failed n some c rose p) = tt
     go d _ text x (memory_wanted q p) = tt
-
--- what one answer says: a file that was not read, a file past the limit, a text that was not written
-
-unread_check : (o : Outside) (theory proof : List ℕ) (s : Status) (n : ℕ) → RefusesCheck o theory proof s → s ≡ status.ReadFault n
-    → (n ≡ o.faults_after) × AtFile o theory proof (λ f name. IsUnread o name)
-unread_check o theory proof s n (theory_fault _ f) e =
-    let P : Status → Type 0 = IsFileFault o 1 theory TheoryRefusal in let r = subst P e f in (r.0, inl r.1)
-unread_check o theory proof s n (proof_fault _ th reads f) e =
-    let P : Status → Type 0 = IsFileFault o 2 proof (ProofRefusal th) in let r = subst P e f in (r.0, inr (th, (λ t. (reads t).0, r.1)))
-unread_check o theory proof _ n (step_fails m f) e = absurd (cc)
-
-past_check : (o : Outside) (theory proof : List ℕ) (s : Status) (file n : ℕ) → RefusesCheck o theory proof s → s ≡ status.TooLong file n
-    → AtFile o theory proof (λ f name. (f ≡ file) × IsTooLong o name n)
-past_check o theory proof s file n (theory_fault _ f) e =
-    let P : Status → Type 0 = IsFileFault o 1 theory TheoryRefusal in let r = subst P e f in inl (sym r.0, r.1)
-past_check o theory proof s file n (proof_fault _ th reads f) e =
-    let P : Status → Type 0 = IsFileFault o 2 proof (ProofRefusal th) in let r = subst P e f in inr (th, (λ t. (reads t).0, (sym r.0, r.1)))
-past_check o theory proof _ file n (step_fails m f) e = absurd (cc)
-
-unwritten_check : (o : Outside) (theory proof : List ℕ) (s : Status) (n : ℕ) → RefusesCheck o theory proof s → s ≡ status.WriteFault n → ⊥
-unwritten_check o theory proof s n (theory_fault _ f) e = let P : Status → Type 0 = IsFileFault o 1 theory TheoryRefusal in subst P e f
-unwritten_check o theory proof s n (proof_fault _ th reads f) e = let P : Status → Type 0 = IsFileFault o 2 proof (ProofRefusal th) in subst P e f
-unwritten_check o theory proof _ n (step_fails m f) e = cc
-
-pub answers_read_fault : (words : List (List ℕ)) (o : Outside) (out : Output) (r : Status) (n : ℕ) → Answers words o out r → r ≡ status.ReadFault n → IsReadFault words o out n
-answers_read_fault words o out r n a = go a.answer r a.text a.due a.delivered
-  where
-    go : (d r : Status) (text : List ℕ) → Due words o d text → Delivers out text d r → r ≡ status.ReadFault n → IsReadFault words o out n
-    go _ _ _ (success theory proof text i acc) (whole p) e = absurd (cc)
-    go _ _ _ (refusal _ (no_command m)) (whole p) e = absurd (cc)
-    go d _ _ (refusal _ (no_check _ theory proof i f)) (whole p) e =
-        let u = unread_check o theory proof d n f e in
-        let P : Status → Type 0 = λ x. Prints out (refusal_text x) in
-        record { theory = theory; proof = proof; command = i; unread = u.1; counted = u.0; nothing = subst P e p }
-    go d _ text x (write_failed m some c rose p) e = absurd (cc)
-    go d _ text x (memory_wanted q p) e = absurd (cc)
-
-pub answers_past_limit : (words : List (List ℕ)) (o : Outside) (out : Output) (r : Status) (file n : ℕ) → Answers words o out r → r ≡ status.TooLong file n
-    → IsPastLimit words o file n
-answers_past_limit words o out r file n a = go a.answer r a.text a.due a.delivered
-  where
-    go : (d r : Status) (text : List ℕ) → Due words o d text → Delivers out text d r → r ≡ status.TooLong file n → IsPastLimit words o file n
-    go _ _ _ (success theory proof text i acc) (whole p) e = absurd (cc)
-    go _ _ _ (refusal _ (no_command m)) (whole p) e = absurd (cc)
-    go d _ _ (refusal _ (no_check _ theory proof i f)) (whole p) e = record { theory = theory; proof = proof; command = i; past = past_check o theory proof d file n f e }
-    go d _ text x (write_failed m some c rose p) e = absurd (cc)
-    go d _ text x (memory_wanted q p) e = absurd (cc)
-
-pub answers_write_fault : (words : List (List ℕ)) (o : Outside) (out : Output) (r : Status) (n : ℕ) → Answers words o out r → r ≡ status.WriteFault n → IsWriteFault words o out n
-answers_write_fault words o out r n a = go a.answer r a.text a.due a.delivered
-  where
-    with_text : (d : Status) (text : List ℕ) → text ≢ [] → DueIs words o d text → Outcome words o.held d text
-    with_text d text some (outcome _ _ c) = c
-    with_text _ _ some (unread_file m) = absurd (some refl)
-    with_text _ _ some memory = absurd (some refl)
-
-    go : (d r : Status) (text : List ℕ) → Due words o d text → Delivers out text d r → r ≡ status.WriteFault n → IsWriteFault words o out n
-    go _ _ _ (success theory proof text i acc) (whole p) e = absurd (cc)
-    go _ _ _ (refusal _ (no_command m)) (whole p) e = absurd (cc)
-    go d _ _ (refusal _ (no_check _ theory proof i f)) (whole p) e = absurd (unwritten_check o theory proof d n f e)
-    go d _ text x (write_failed m some c rose p) e =
-        let same : m ≡ n = cc in
-        record { outcome = d; text = text; due = λ t. with_text d text some (due_is words o d text t x); rose = rose; counted = sym same ∙ c; part = p }
-    go d _ text x (memory_wanted q p) e = absurd (cc)
-
--- the two special cases where both files read
-
-pub read_outcome : (words : List (List ℕ)) (held : Held) (th : Theory) (p : Proof) (n : ℕ) → FilesRead words held th p → FirstFail th p n
-    → Outcome words held (status.Refused n) (refusal_text (status.Refused n))
-read_outcome words held th p n f fail = check f.theory f.proof (status.Refused n) (refusal_text (status.Refused n)) f.command (refused n th p f.reads_theory f.reads_proof fail)
-
-pub accepted_outcome : (words : List (List ℕ)) (held : Held) (th : Theory) (p : Proof) → FilesRead words held th p → Accepted th p
-    → Outcome words held status.Ok (accepted_text th.signature (goals_of p))
-accepted_outcome words held th p f a = check f.theory f.proof status.Ok (accepted_text th.signature (goals_of p)) f.command (accepted th p f.reads_theory f.reads_proof a)

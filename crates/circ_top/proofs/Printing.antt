@@ -1,15 +1,15 @@
 -- A part of a text.
-use Rattle.std.proofs.Common.{◌≡◌, ℕ, List, ◌++◌, ◌+◌, map, take, drop, Some, sym, ap, refl, ◌∙◌, append_assoc, Result, Ok, Err}
+use Rattle.std.proofs.Common.{◌≡◌, ℕ, List, [], ◌∷◌, ◌++◌, ◌+◌, map, take, drop, Some, sym, ap, refl, ◌∙◌, append_assoc, Result, Ok, Err}
 use Rattle.std.specs.Prelude.{is_ok, OnOk, if◌then◌else◌}
-use Rattle.std.proofs.lemmas.List.{take-append-drop}
+use Rattle.std.proofs.lemmas.List.{take-append-drop, map-append}
 use Rattle.std.specs.List.{slice_get}
 use Rattle.circ_outer.specs.Sink.{AppendsPrefix}
 use Rattle.circ_term.specs.Tree.{Tree}
-use Rattle.circ_theory.specs.Signature.{Signature}
+use Rattle.circ_theory.specs.Theory.{Pair}
+use Rattle.circ_theory.specs.declared.parts.Goal.{Goal}
 use Rattle.circ_file.specs.Proof.{goal_of}
 use Rattle.circ_file.specs.Plain.{plain_name}
-use Rattle.circ_top.specs.Texts.{goal_line}
-use Rattle.circ_file.specs.ProofText.{texts}
+use Rattle.circ_show.specs.GoalsText.{plain_goal}
 use Rattle.circ_file.specs.declared.proof.Name.{Name}
 use Rattle.circ_top.proofs.Lists.{drop_there}
 
@@ -28,10 +28,11 @@ place_joined out a f w p e = simp append_assoc refl
 pub readings_joined : (out a f b s : List ℕ) → (((out ++ a) ++ f) ++ b) ++ s ≡ out ++ (((a ++ f) ++ b) ++ s)
 readings_joined out a f b s = simp append_assoc refl
 
--- a text of goals goes on with the next goal
-pub goals_step : (sig : Signature) (table : List Tree) (names : List Name) (i : ℕ) (n : Name) (out goal : List ℕ) → slice_get names i ≡ Some n
-    → out ++ texts (goal_line sig) (map (goal_of table) (map plain_name (drop i names))) ≡ goal
-    → (out ++ goal_line sig (goal_of table (plain_name n))) ++ texts (goal_line sig) (map (goal_of table) (map plain_name (drop (i + 1) names))) ≡ goal
-goals_step sig table names i n out goal g e =
-    append_assoc out (goal_line sig (goal_of table (plain_name n))) _
-    ∙ sym (ap (λ ns. out ++ texts (goal_line sig) (map (goal_of table) (map plain_name ns))) (drop_there names i n g)) ∙ e
+-- the goals go on with the next
+pub goals_step : (table : List Tree) (names : List Name) (i : ℕ) (n : Name) (old new : List Goal) (g : Goal) (goal : List Pair) → slice_get names i ≡ Some n → new ≡ old ++ g ∷ []
+    → plain_goal g ≡ goal_of table (plain_name n) → map plain_goal old ++ map (goal_of table) (map plain_name (drop i names)) ≡ goal
+    → map plain_goal new ++ map (goal_of table) (map plain_name (drop (i + 1) names)) ≡ goal
+goals_step table names i n old new g goal there is same e =
+    let R : List Pair = map (goal_of table) (map plain_name (drop (i + 1) names)) in
+    ap (λ gs. map plain_goal gs ++ R) is ∙ ap (λ ps. ps ++ R) (map-append plain_goal old (g ∷ [])) ∙ append_assoc (map plain_goal old) (plain_goal g ∷ []) R
+    ∙ ap (λ p. map plain_goal old ++ p ∷ R) same ∙ sym (ap (λ ns. map plain_goal old ++ map (goal_of table) (map plain_name ns)) (drop_there names i n there)) ∙ e

@@ -3,9 +3,10 @@ use Rattle.std.specs.Prelude.{◌≡◌, ◌⊎◌, ◌++◌, ℕ, List, [], tru
 use Rattle.circ_outer.specs.Count.{Rose}
 use Rattle.circ_theory.specs.Theory.{Theory}
 use Rattle.circ_file.specs.Proof.{Proof}
-use Rattle.circ_top.specs.Outcome.{Held, IsCheck, ReadsTheory, ReadsProof, Outcome, Outside, IsUnread, IsTooLong, Output, Prints, PrintsPart}
+use Rattle.circ_top.specs.Outcome.{Held, ReadsTheory, ReadsProof, Outcome, Outside, IsUnread, IsTooLong, Output, Prints, PrintsPart}
 use Rattle.circ_read.specs.declared.cause.Cause.{Cause}
 use Rattle.circ_read.specs.declared.cause.Cause.TheVariants as cause
+use Rattle.circ_top.specs.Command.{Command, Check, Show, Library, Asks}
 use Rattle.circ_top.specs.Texts.{refusal_text}
 use Rattle.circ_top.specs.declared.status.Status.{Status}
 use Rattle.circ_top.specs.declared.status.Status.TheVariants as status
@@ -47,27 +48,27 @@ pub data Comes (o : Outside) (out : Output) (s : Status) (text : List ℕ) : Sta
 pub record FilesRead (words : List (List ℕ)) (held : Held) (th : Theory) (p : Proof) : Type 0 where
   pub theory : List ℕ
   pub proof : List ℕ
-  pub command : IsCheck words theory proof
+  pub asks : Asks words (Check theory proof)
   pub reads_theory : ReadsTheory held theory th
   pub reads_proof : ReadsProof held proof th p
 
--- The theory file has the fact; or it reads, and the proof file has the fact.
-abbrev pub AtFile : Outside → (theory proof : List ℕ) → (ℕ → List ℕ → Type 0) → Type 0
-AtFile o theory proof P = P 1 theory ⊎ ((th : Theory) × ((o.tells ≡ true → ReadsTheory o.held theory th) × P 2 proof))
+-- The command's theory file has the fact, by its number and name; or it reads, and the proof file has the fact.
+abbrev pub AtFile : Outside → Command → (ℕ → List ℕ → Type 0) → Type 0
+AtFile o (Check theory proof) P = P 1 theory ⊎ ((th : Theory) × ((o.tells ≡ true → ReadsTheory o.held theory th) × P 2 proof))
+AtFile o (Show theory) P = P 1 theory
+AtFile o (Library text) P = ⊥
 
--- The words are a `check`, of which a file was taken past the limit.
+-- The words are those of a command, of which a file was taken past the limit.
 pub record IsPastLimit (words : List (List ℕ)) (o : Outside) (file count : ℕ) : Type 0 where
-  pub theory : List ℕ
-  pub proof : List ℕ
-  pub command : IsCheck words theory proof
-  pub past : AtFile o theory proof (λ f name. (f ≡ file) × IsTooLong o name count)
+  pub command : Command
+  pub asks : Asks words command
+  pub past : AtFile o command (λ f name. (f ≡ file) × IsTooLong o name count)
 
--- The words are a `check`, of which a file was not read. The shelf's count is given, and the sink got nothing.
+-- The words are those of a command, of which a file was not read. The shelf's count is given, and the sink got nothing.
 pub record IsReadFault (words : List (List ℕ)) (o : Outside) (out : Output) (count : ℕ) : Type 0 where
-  pub theory : List ℕ
-  pub proof : List ℕ
-  pub command : IsCheck words theory proof
-  pub unread : AtFile o theory proof (λ f name. IsUnread o name)
+  pub command : Command
+  pub asks : Asks words command
+  pub unread : AtFile o command (λ f name. IsUnread o name)
   pub counted : count ≡ o.faults_after
   pub nothing : Prints out []
 
@@ -80,9 +81,14 @@ pub record IsWriteFault (words : List (List ℕ)) (o : Outside) (out : Output) (
   pub counted : count ≡ out.faults_after
   pub part : PrintsPart out text
 
--- Both files of a `check` hold something.
+-- the files of a command hold something
+abbrev pub HoldsFilesOf : Held → Command → Type 0
+HoldsFilesOf held (Check theory proof) = IsSome (held theory) × IsSome (held proof)
+HoldsFilesOf held (Show theory) = IsSome (held theory)
+HoldsFilesOf held (Library text) = Unit {0}
+
 abbrev pub HoldsFiles : List (List ℕ) → Held → Type 0
-HoldsFiles words held = (theory proof : List ℕ) → IsCheck words theory proof → IsSome (held theory) × IsSome (held proof)
+HoldsFiles words held = (c : Command) → Asks words c → HoldsFilesOf held c
 
 -- The answer is an outcome, whose text was appended; or memory ran out.
 abbrev pub Appends : List (List ℕ) → Held → (before after : List ℕ) → Status → Type 0

@@ -8,21 +8,15 @@ use Rattle.circ_theory.specs.Experiment.{Behaves}
 use Rattle.circ_read.specs.ReadsAs.{ReadsAs, FirstCause}
 use Rattle.circ_file.specs.Proof.{Proof, goals_of}
 use Rattle.circ_file.specs.ProofText.{ReadsAsProof}
+use Rattle.circ_show.specs.TheoryText.{IsTheoryText}
 use Rattle.circ_top.specs.Accepted.{Accepted, FirstFail}
+use Rattle.circ_top.specs.Command.{Command, Check, Show, Library, Asks, IsNoCommand}
 use Rattle.circ_top.specs.Texts.{accepted_text, refusal_text}
 use Rattle.circ_top.specs.declared.status.Status.{Status}
 use Rattle.circ_top.specs.declared.status.Status.TheVariants as status
 use Rattle.circ_read.specs.declared.cause.Cause.{Cause}
 use Rattle.circ_read.specs.declared.cause.Cause.TheVariants as cause
 use Rattle.circ_top.specs.declared.files.TheConstants.{MOST_BYTES, PIECE}
-
--- The words are those of `check`: the program's name, the command, a theory and a proof.
-pub record IsCheck (words : List (List ℕ)) (theory proof : List ℕ) : Type 0 where
-  pub program : List ℕ
-  pub words_are : words ≡ program ∷ codes "check" ∷ theory ∷ proof ∷ []
-
-abbrev pub IsNoCheck : List (List ℕ) → Type 0
-IsNoCheck words = (theory proof : List ℕ) → IsCheck words theory proof → ⊥
 
 -- the one value of which this is true
 abbrev pub IsOnly : {X : Type 0} → X → (X → Type 0) → Type 0
@@ -92,10 +86,20 @@ pub data CheckOutcome (held : Held) (theory proof : List ℕ) : Status → List 
   accepted : (th : Theory) (p : Proof) → ReadsTheory held theory th → ReadsProof held proof th p → Accepted th p
       → CheckOutcome held theory proof status.Ok (accepted_text th.signature (goals_of p))
 
+-- The outcome of a `show`, with its text: the theory file refuses it; or it reads, and its text is given.
+pub data ShowOutcome (held : Held) (theory : List ℕ) : Status → List ℕ → Type 0 where
+  not_shown : (s : Status) → RefusesFile held 1 theory TheoryRefusal s → ShowOutcome held theory s (refusal_text s)
+  shown : (th : Theory) (text : List ℕ) → ReadsTheory held theory th → IsTheoryText th text → ShowOutcome held theory status.Ok text
+
+abbrev pub OutcomeOf : Held → Command → Status → List ℕ → Type 0
+OutcomeOf held (Check theory proof) s text = CheckOutcome held theory proof s text
+OutcomeOf held (Show theory) s text = ShowOutcome held theory s text
+OutcomeOf held (Library given) s text = (s ≡ status.Ok) × (text ≡ given)
+
 -- What a run comes to, with its text, by its words and what the named files hold, where nothing of the outside fails and memory is left.
 pub data Outcome (words : List (List ℕ)) (held : Held) : Status → List ℕ → Type 0 where
-  usage : IsNoCheck words → Outcome words held status.Usage (refusal_text status.Usage)
-  check : (theory proof : List ℕ) (s : Status) (text : List ℕ) → IsCheck words theory proof → CheckOutcome held theory proof s text → Outcome words held s text
+  usage : IsNoCommand words → Outcome words held status.Usage (refusal_text status.Usage)
+  command : (c : Command) (s : Status) (text : List ℕ) → Asks words c → OutcomeOf held c s text → Outcome words held s text
 
 -- Every step is an instance of its rule, every goal behaves, and the text names the goals.
 pub record Proves (th : Theory) (p : Proof) (text : List ℕ) : Type 0 where
@@ -179,14 +183,33 @@ pub data RefusesCheck (o : Outside) (theory proof : List ℕ) : Status → Type 
   proof_fault : (s : Status) (th : Theory) → (o.tells ≡ true → IsOnly th (ReadsTheory o.held theory)) → IsProofFault o proof th s → RefusesCheck o theory proof s
   step_fails : (n : ℕ) → IsRefused o theory proof n → RefusesCheck o theory proof (status.Refused n)
 
--- Why a run is refused: its words are no command, or its `check` is refused.
-pub data Refuses (words : List (List ℕ)) (o : Outside) : Status → Type 0 where
-  no_command : IsNoCheck words → Refuses words o status.Usage
-  no_check : (s : Status) (theory proof : List ℕ) → IsCheck words theory proof → RefusesCheck o theory proof s → Refuses words o s
+-- Bytes that read as a theory, with its text. Where the shelf tells, the file holds them, and reads as this theory and no other.
+pub record IsShown (o : Outside) (theory text : List ℕ) : Type 0 where
+  pub th : Theory
+  pub text_is : IsTheoryText th text
+  pub theory_bytes : AreBytes (λ bytes. ReadsAs bytes th)
+  pub reads_theory : o.tells ≡ true → IsOnly th (ReadsTheory o.held theory)
 
--- The answer that is due to a run, with its text: its words are a `check` that is accepted, or it is refused.
+-- the text of a command that ends with 0
+abbrev pub Succeeds : Outside → Command → List ℕ → Type 0
+Succeeds o (Check theory proof) text = IsAccepted o theory proof text
+Succeeds o (Show theory) text = IsShown o theory text
+Succeeds o (Library given) text = text ≡ given
+
+-- why a command is refused: a `library` only for want of memory
+abbrev pub RefusesCommand : Outside → Command → Status → Type 0
+RefusesCommand o (Check theory proof) s = RefusesCheck o theory proof s
+RefusesCommand o (Show theory) s = IsTheoryFault o theory s
+RefusesCommand o (Library given) s = s ≡ status.Memory
+
+-- Why a run is refused: its words are no command, or its command is refused.
+pub data Refuses (words : List (List ℕ)) (o : Outside) : Status → Type 0 where
+  no_command : IsNoCommand words → Refuses words o status.Usage
+  refused_command : (s : Status) (c : Command) → Asks words c → RefusesCommand o c s → Refuses words o s
+
+-- The answer that is due to a run, with its text: its command succeeds, or it is refused.
 pub data Due (words : List (List ℕ)) (o : Outside) : Status → List ℕ → Type 0 where
-  success : (theory proof text : List ℕ) → IsCheck words theory proof → IsAccepted o theory proof text → Due words o status.Ok text
+  success : (c : Command) (text : List ℕ) → Asks words c → Succeeds o c text → Due words o status.Ok text
   refusal : (s : Status) → Refuses words o s → Due words o s (refusal_text s)
 
 -- What is known of a sink before and after a run.
@@ -222,12 +245,17 @@ pub record Answers (words : List (List ℕ)) (o : Outside) (out : Output) (s : S
   pub due : Due words o answer text
   pub delivered : Delivers out text answer s
 
--- The words are a `check` whose files read, whose proof is accepted and whose every goal behaves, and the text of this was printed.
-pub record Accepts (words : List (List ℕ)) (o : Outside) (out : Output) : Type 0 where
-  pub theory : List ℕ
-  pub proof : List ℕ
+-- The words are those of a command that succeeds, and its text was printed.
+pub record Succeeded (words : List (List ℕ)) (o : Outside) (out : Output) : Type 0 where
+  pub command : Command
   pub text : List ℕ
-  pub command : IsCheck words theory proof
+  pub asks : Asks words command
+  pub succeeds : Succeeds o command text
+  pub prints : Prints out text
+
+-- The two files read, the proof is accepted, and every goal behaves. The text of this was printed.
+pub record Accepts (o : Outside) (out : Output) (theory proof : List ℕ) : Type 0 where
+  pub text : List ℕ
   pub accepted : IsAccepted o theory proof text
   pub prints : Prints out text
 
@@ -235,6 +263,6 @@ pub record Accepts (words : List (List ℕ)) (o : Outside) (out : Output) : Type
 pub record Rejects (words : List (List ℕ)) (o : Outside) (out : Output) (n : ℕ) : Type 0 where
   pub theory : List ℕ
   pub proof : List ℕ
-  pub command : IsCheck words theory proof
+  pub asks : Asks words (Check theory proof)
   pub refused : IsRefused o theory proof n
   pub prints : Prints out (refusal_text (status.Refused n))

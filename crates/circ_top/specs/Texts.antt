@@ -4,19 +4,15 @@ use Rattle.std.specs.List.{slice_get}
 use Rattle.std.specs.Option.{unwrap_or}
 use Rattle.circ_theory.specs.Signature.{Signature}
 use Rattle.circ_theory.specs.Theory.{Pair}
-use Rattle.circ_mixfix.specs.Printing.{text_of_pair}
-use Rattle.circ_file.specs.ProofText.{texts}
+use Rattle.circ_show.specs.GoalsText.{goal_lines}
 use Rattle.circ_read.specs.declared.cause.Cause.{Cause}
 use Rattle.circ_read.specs.declared.cause.Cause.TheVariants as cause
 use Rattle.circ_top.specs.declared.status.Status.{Status}
 use Rattle.circ_top.specs.declared.status.Status.TheVariants as status
 
-abbrev pub goal_line : Signature → Pair → List ℕ
-goal_line sig p = codes "goal: " ++ text_of_pair sig p ++ codes "\n"
-
 -- the text of an accepted proof
 abbrev pub accepted_text : Signature → List Pair → List ℕ
-accepted_text sig goals = codes "accepted\n" ++ texts (goal_line sig) goals
+accepted_text sig goals = codes "accepted\n" ++ goal_lines sig goals
 
 abbrev pub cause_text : Cause → List ℕ
 cause_text (cause.NotAscii n) = codes "not ascii at " ++ decimal n

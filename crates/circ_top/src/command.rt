@@ -1,5 +1,5 @@
 //! The call `circ`: the program over any shelf and any sink.
-ghost use Rattle.std.specs.Prelude.{◌≡◌, ◌≤◌, ℕ, List, true, Some, length, map, string_bytes, IfOk, IfErr, OnOk, MatchOption};
+ghost use Rattle.std.specs.Prelude.{◌≡◌, ◌≤◌, ℕ, List, true, Some, length, map, string_bytes, IfOk, IfErr, OnOk};
 ghost use Rattle.circ_outer.specs.Shelf.{IsQuiet};
 ghost use Rattle.circ_read.specs.ReadsAs.{ReadsAs};
 ghost use Rattle.circ_file.specs.ProofText.{ReadsAsProof};
@@ -7,18 +7,21 @@ ghost use Rattle.circ_file.specs.Plain.{plain_proof};
 ghost use Rattle.circ_theory.specs.Theory.{Theory};
 ghost use Rattle.circ_file.specs.Proof.{Proof as PlainProof, ProofFor, goals_of};
 ghost use Rattle.circ_top.specs.Accepted.{Accepted, FirstFail};
+ghost use Rattle.circ_top.specs.Command.{Check, Asks};
 ghost use Rattle.circ_top.specs.Texts.{refusal_text, accepted_text};
 ghost use Rattle.circ_top.specs.Causes.{IsOutcome, Comes, PrintsPartOf, FilesRead, IsPastLimit, IsReadFault, IsWriteFault};
-ghost use Rattle.circ_top.specs.Outcome.{outside, output, AreBytes, Outcome, IsOnly, IsCheck, IsNoCheck, Proves, Fails, Accepts, Rejects, ReadsTheory, ReadsProof, IsAccepted, IsUntaken, IsTheoryFault, IsProofFault, RefusesCheck, Refuses, Due, Delivers, Answers};
+ghost use Rattle.circ_top.specs.Outcome.{outside, output, AreBytes, Outcome, IsOnly, Proves, Fails, Succeeded, Accepts, Rejects, ReadsTheory, ReadsProof, IsAccepted, IsShown, IsUntaken, IsTheoryFault, IsProofFault, RefusesCheck, Refuses, Due, Delivers, Answers};
 
 use crate::check::{Verdict, check};
 use crate::files::{FileFault, MOST_BYTES, read_file};
+use crate::request::{Request, asked};
 use crate::status::Status;
-use crate::texts::{accepted, refusal};
+use crate::texts::{accepted, refusal, shown};
 use circ_file::{Proof, read_proof};
 use circ_outer::{OuterFault, Shelf, Sink, write_all};
 use circ_read::laws::read_in_one_way;
 use circ_read::{Cause, ReadFault, read_theory};
+use circ_show::laws::printed_in_one_way;
 use circ_theory::Theory;
 use std::alloc::Global;
 
@@ -145,17 +148,33 @@ fn check_files<S: Shelf>(
     judge(alloc, &theory, &proof)
 }
 
-/// The theory and the proof that the words name, where they are a `check`.
-fn operands(words: &[String]) -> Option<(&str, &str)>
-    ensures { MatchOption result (IsNoCheck (map string_bytes words.now)) (λ o. IsCheck (map string_bytes words.now) o.0.now o.1.now) }
+/// Prints a theory file: the theory's text, or the answer in its place.
+fn show_file<S: Shelf>(alloc: Global, shelf: &mut S, theory: &str) -> Result<Vec<u8>, Status>
+    ensures shown { IfOk result (λ v. IsShown (outside (S.tells shelf.old) (S.holds shelf.old) (S.fault_count shelf.old) (S.fault_count shelf.new) (S.last_fault shelf.old) (S.last_fault shelf.new)) theory.now v.items) }
+    ensures refused { IfErr result (IsTheoryFault (outside (S.tells shelf.old) (S.holds shelf.old) (S.fault_count shelf.old) (S.fault_count shelf.new) (S.last_fault shelf.old) (S.last_fault shelf.new)) theory.now) }
+    ensures count { S.fault_count shelf.old ≤ S.fault_count shelf.new }
+    ensures tells { S.tells shelf.new ≡ S.tells shelf.old }
+    ensures holds { (n : List ℕ) → S.holds shelf.new n ≡ S.holds shelf.old n }
 {
-    if words.len() != 4 {
-        return None;
+    let theory = match take_theory(alloc, shelf, theory) {
+        Ok(theory) => theory,
+        Err(status) => return Err(status),
+    };
+    match shown(alloc, &theory) {
+        Ok(text) => Ok(text),
+        Err(_) => Err(Status::Memory),
     }
-    if words[1].as_bytes() != b"check".as_slice() {
-        return None;
+}
+
+/// A copy of a text of the library.
+fn copied(alloc: Global, text: &[u8]) -> Result<Vec<u8>, Status>
+    ensures text { IfOk result (λ v. v.items ≡ text.now) }
+    ensures memory { IfErr result (λ s. s ≡ Status.Memory) }
+{
+    match Vec::from_slice(alloc, text) {
+        Ok(copy) => Ok(copy),
+        Err(_) => Err(Status::Memory),
     }
-    Some((words[2].as_str(), words[3].as_str()))
 }
 
 /// The text that a run prints where it ends with 0, or the answer in its place.
@@ -166,9 +185,11 @@ fn run<S: Shelf>(alloc: Global, words: &[String], shelf: &mut S) -> Result<Vec<u
     ensures tells { S.tells shelf.new ≡ S.tells shelf.old }
     ensures holds { (n : List ℕ) → S.holds shelf.new n ≡ S.holds shelf.old n }
 {
-    match operands(words) {
+    match asked(words) {
         None => Err(Status::Usage),
-        Some((theory, proof)) => check_files(alloc, shelf, theory, proof),
+        Some(Request::Check { theory, proof }) => check_files(alloc, shelf, theory, proof),
+        Some(Request::Show { theory }) => show_file(alloc, shelf, theory),
+        Some(Request::Library { text }) => copied(alloc, text),
     }
 }
 
@@ -204,18 +225,21 @@ fn answer<S: Shelf, K: Sink>(alloc: Global, words: &[String], shelf: &mut S, out
     }
 }
 
-/// The program: `words` are its name and then `check THEORY PROOF`. The files are taken from the
-/// shelf, and the text of the answer is written to the sink, whole.
+/// The program: `words` are its name and then a command with what it takes, which is `check THEORY PROOF`, `show THEORY` or
+/// `library NAME`. The files are taken from the shelf, and the text of the answer is written to the sink, whole.
 pub fn circ<S: Shelf, K: Sink>(
     alloc: Global,
     words: &Vec<String>,
     shelf: &mut S,
     out: &mut K,
 ) -> Status
-    // Status 0: the proof is accepted, so that every goal behaves. Status 1: which step is the first that is no instance
+    // Status 0 of `check`: the proof is accepted, so that every goal behaves. Status 1: which step is the first that is no instance
     // of its rule. Where the shelf tells what the files hold, they read as this theory and this proof.
-    ensures accepted { result ≡ Status.Ok → Accepts (map string_bytes words.now.items) (outside (S.tells shelf.old) (S.holds shelf.old) (S.fault_count shelf.old) (S.fault_count shelf.new) (S.last_fault shelf.old) (S.last_fault shelf.new)) (output (K.tells out.old) (K.written out.old) (K.written out.new) (K.fault_count out.old) (K.fault_count out.new)) }
+    ensures accepted { (theory proof : List ℕ) → Asks (map string_bytes words.now.items) (Check theory proof) → result ≡ Status.Ok → Accepts (outside (S.tells shelf.old) (S.holds shelf.old) (S.fault_count shelf.old) (S.fault_count shelf.new) (S.last_fault shelf.old) (S.last_fault shelf.new)) (output (K.tells out.old) (K.written out.old) (K.written out.new) (K.fault_count out.old) (K.fault_count out.new)) theory proof }
     ensures refused { (n : ℕ) → result ≡ Status.Refused n → Rejects (map string_bytes words.now.items) (outside (S.tells shelf.old) (S.holds shelf.old) (S.fault_count shelf.old) (S.fault_count shelf.new) (S.last_fault shelf.old) (S.last_fault shelf.new)) (output (K.tells out.old) (K.written out.old) (K.written out.new) (K.fault_count out.old) (K.fault_count out.new)) n }
+
+    // Status 0 of any command: its text is printed, as it is stated for each.
+    ensures succeeded { result ≡ Status.Ok → Succeeded (map string_bytes words.now.items) (outside (S.tells shelf.old) (S.holds shelf.old) (S.fault_count shelf.old) (S.fault_count shelf.new) (S.last_fault shelf.old) (S.last_fault shelf.new)) (output (K.tells out.old) (K.written out.old) (K.written out.new) (K.fault_count out.old) (K.fault_count out.new)) }
 
     // Each answer has its cause and its text.
     ensures answers { Answers (map string_bytes words.now.items) (outside (S.tells shelf.old) (S.holds shelf.old) (S.fault_count shelf.old) (S.fault_count shelf.new) (S.last_fault shelf.old) (S.last_fault shelf.new)) (output (K.tells out.old) (K.written out.old) (K.written out.new) (K.fault_count out.old) (K.fault_count out.new)) result }
@@ -242,5 +266,6 @@ pub fn circ<S: Shelf, K: Sink>(
     ensures sink_tells { K.tells out.new ≡ K.tells out.old }
 {
     read_in_one_way();
+    printed_in_one_way();
     answer(alloc, words.as_slice(), shelf, out)
 }

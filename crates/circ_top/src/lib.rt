@@ -6,6 +6,7 @@ mod command;
 mod files;
 mod goals;
 pub mod laws;
+mod request;
 mod status;
 pub mod sure;
 #[cfg(test)]

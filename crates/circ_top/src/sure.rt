@@ -10,7 +10,7 @@ use crate::status::Status;
 use circ_outer::{SureShelf, SureSink};
 use std::alloc::Global;
 
-/// Runs [`circ`] over files and a text in memory. No fault of the outside is answered where the files of a `check` are held:
+/// Runs [`circ`] over files and a text in memory. No fault of the outside is answered where the files of the command are held:
 /// the outcome comes, with its text, or memory ran out.
 pub fn circ_in_memory(
     alloc: Global,

@@ -1,17 +1,19 @@
 //! The printed texts: goals and answers.
-ghost use Rattle.std.specs.Prelude.{◌≡◌, ◌++◌, [], OnOk, IfOk, codes, decimal};
+ghost use Rattle.std.specs.Prelude.{◌≡◌, ◌++◌, OnOk, IfOk, map, codes, decimal};
 ghost use Rattle.std.specs.List.{AllByRecursion};
 ghost use Rattle.circ_file.specs.Proof.{IsNameFor, goal_of, goals_of};
 ghost use Rattle.circ_file.specs.Plain.{plain_name, plain_proof};
-ghost use Rattle.circ_top.specs.Texts.{goal_line, accepted_text, cause_text, place_text, refusal_text};
+ghost use Rattle.circ_show.specs.GoalsText.{plain_goal};
+ghost use Rattle.circ_show.specs.TheoryText.{IsTheoryText};
+ghost use Rattle.circ_top.specs.Texts.{accepted_text, cause_text, place_text, refusal_text};
 
 use crate::goals::term_at;
 use crate::status::Status;
 use circ_file::{Name, Proof};
-use circ_mixfix::print_pair;
 use circ_read::Cause;
+use circ_show::{goals_text, theory_text};
 use circ_term::Term;
-use circ_theory::Theory;
+use circ_theory::{Goal, Theory};
 use itoa::Buffer;
 use std::alloc::{AllocError, Global};
 
@@ -22,21 +24,26 @@ fn push_number(out: &mut Vec<u8>, number: u64) -> Result<(), AllocError>
     out.extend_from_slice(buffer.format(number).as_bytes())
 }
 
-fn push_goal(
-    alloc: Global,
-    out: &mut Vec<u8>,
-    theory: &Theory,
-    table: &[Term],
-    name: &Name,
-) -> Result<(), AllocError>
+fn goal(table: &[Term], name: &Name) -> Result<Goal, AllocError>
     requires { IsNameFor table.now (plain_name name.now) }
-    ensures { OnOk result (out.new.items ≡ out.old.items ++ goal_line theory.now.signature (goal_of table.now (plain_name name.now))) }
+    ensures { IfOk result (λ g. plain_goal g ≡ goal_of table.now (plain_name name.now)) }
 {
-    out.extend_from_slice(b"goal: ")?;
-    let left = term_at(table, name.left);
-    let right = term_at(table, name.right);
-    print_pair(alloc, theory, left, right, out)?;
-    out.extend_from_slice(b"\n")
+    Ok(Goal {
+        left: term_at(table, name.left).share()?,
+        right: term_at(table, name.right).share()?,
+    })
+}
+
+fn goals(alloc: Global, proof: &Proof) -> Result<Vec<Goal>, AllocError>
+    requires { AllByRecursion (IsNameFor (plain_proof proof.now).table) (plain_proof proof.now).names }
+    ensures { IfOk result (λ v. map plain_goal v.items ≡ goals_of (plain_proof proof.now)) }
+{
+    let table = proof.table.as_slice();
+    let mut goals = Vec::with_capacity(alloc, proof.names.len())?;
+    for name in &proof.names {
+        goals.push(goal(table, name)?)?;
+    }
+    Ok(goals)
 }
 
 /// The text of an accepted proof: its goals, one a line.
@@ -44,11 +51,18 @@ pub(crate) fn accepted(alloc: Global, theory: &Theory, proof: &Proof) -> Result<
     requires { AllByRecursion (IsNameFor (plain_proof proof.now).table) (plain_proof proof.now).names }
     ensures { IfOk result (λ v. v.items ≡ accepted_text theory.now.signature (goals_of (plain_proof proof.now))) }
 {
-    let table = proof.table.as_slice();
+    let goals = goals(alloc, proof)?;
     let mut out = Vec::from_slice(alloc, b"accepted\n")?;
-    for name in &proof.names {
-        push_goal(alloc, &mut out, theory, table, name)?;
-    }
+    goals_text(alloc, theory, &goals, &mut out)?;
+    Ok(out)
+}
+
+/// The text of a theory.
+pub(crate) fn shown(alloc: Global, theory: &Theory) -> Result<Vec<u8>, AllocError>
+    ensures { IfOk result (λ v. IsTheoryText theory.now v.items) }
+{
+    let mut out = Vec::new(alloc);
+    theory_text(alloc, theory, &mut out)?;
     Ok(out)
 }
 

@@ -1,0 +1,4 @@
+mod Steps
+mod Marks
+mod Texts
+mod Marking

@@ -1,0 +1,31 @@
+-- Texts of lists and of numbers, one item further on.
+use Rattle.std.proofs.Common.{◌≡◌, ℕ, zero, suc, ◌+◌, ◌-◌, ◌<◌, List, [], ◌∷◌, ◌++◌, flat_map, length, drop, append_assoc, sym, ap, refl, ◌∙◌, arith, Some, None, Result, Ok, Err}
+use Rattle.std.specs.Prelude.{is_ok, OnOk, if◌then◌else◌}
+use Rattle.std.specs.List.{slice_get}
+use Rattle.std.proofs.lemmas.Option.{slice_get_within, get_or_from_slice_get}
+use Rattle.circ_term.specs.Laws.{drop_read}
+use Rattle.circ_show.specs.TheoryText.{by_number}
+
+pub list_step : {X : Type 0} (f : X → List ℕ) (xs : List X) (n : ℕ) (x : X) (old new goal : List ℕ) → slice_get xs n ≡ Some x → new ≡ old ++ f x
+    → old ++ flat_map f (drop n xs) ≡ goal → new ++ flat_map f (drop (n + 1) xs) ≡ goal
+list_step f xs n x old new goal g e h =
+    ap (λ ys. ys ++ flat_map f (drop (n + 1) xs)) e ∙ append_assoc old (f x) (flat_map f (drop (n + 1) xs))
+    ∙ sym (ap (λ ys. old ++ flat_map f ys) (drop_read xs n x (slice_get_within xs n x g) (sym (get_or_from_slice_get xs n x x g)))) ∙ h
+
+pub not_past : {X : Type 0} (xs : List X) (n : ℕ) → slice_get xs n ≡ None → n < length xs → ⊥
+not_past [] n g h = omega (arith, h)
+not_past (x ∷ xs) zero g h = let never : Some x ≡ None = g in cc
+not_past (x ∷ xs) (suc n) g h = not_past xs n g (omega (arith, h))
+
+pub number_step : (f : ℕ → List ℕ) (n count : ℕ) (old new goal : List ℕ) → n < count → new ≡ old ++ f n
+    → old ++ by_number f n (count - n) ≡ goal → new ++ by_number f (n + 1) (count - (n + 1)) ≡ goal
+number_step f n count old new goal h g e =
+    let k : count - n ≡ suc (count - (n + 1)) = omega (arith, h) in
+    ap (λ ys. ys ++ by_number f (n + 1) (count - (n + 1))) g ∙ append_assoc old (f n) (by_number f (n + 1) (count - (n + 1)))
+    ∙ sym (ap (λ m. old ++ by_number f n m) k) ∙ e
+
+-- three texts are put behind one another
+pub put_three : {E : Type 0} (r : Result (Unit {0}) E) (old one two new a b c : List ℕ) → one ≡ old ++ a → two ≡ one ++ b → new ≡ (if is_ok r then two ++ c else two)
+    → OnOk r (new ≡ old ++ ((a ++ b) ++ c))
+put_three (Ok u) old one two new a b c e f g = g ∙ ap (λ x. x ++ c) (f ∙ ap (λ x. x ++ b) e ∙ append_assoc old a b) ∙ append_assoc old (a ++ b) c
+put_three (Err x) old one two new a b c e f g = tt

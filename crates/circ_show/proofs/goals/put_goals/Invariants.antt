@@ -1,0 +1,7 @@
+use Rattle.std.proofs.Common.{◌≡◌, ◌++◌, map, drop}
+use Rattle.circ_show.specs.GoalsText.{goal_lines, plain_goal}
+use Rattle.circ_show.proofs.goals.put_goals.Given as goal
+
+abbrev pub invariant-loop-goal : goal.invariant-loop-goal
+invariant-loop-goal l =
+    l.out.items ++ goal_lines l.theory.signature (map plain_goal (drop l.goal-index l.goals)) ≡ l.fn.out.items ++ goal_lines l.theory.signature (map plain_goal l.goals)

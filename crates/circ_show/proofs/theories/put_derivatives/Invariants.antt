@@ -1,0 +1,9 @@
+use Rattle.std.proofs.Common.{◌≡◌, ◌++◌, flat_map, drop, List, ℕ}
+use Rattle.circ_theory.specs.Theory.{Derivative}
+use Rattle.circ_show.specs.Lines.{derivative_line}
+use Rattle.circ_show.proofs.theories.put_derivatives.Given as goal
+
+abbrev pub invariant-loop-n : goal.invariant-loop-n
+invariant-loop-n l =
+    l.out.items ++ flat_map (λ d. derivative_line l.theory.signature d.body) (drop l.n l.theory.derivatives)
+    ≡ l.fn.out.items ++ flat_map (λ d. derivative_line l.theory.signature d.body) l.theory.derivatives

@@ -1,0 +1,76 @@
+-- The lines of a theory's text. A word that is empty leaves no second blank.
+use Rattle.std.specs.Prelude.{ℕ, List, [], ◌∷◌, ◌++◌, Bool, true, false, flat_map, codes, decimal, Option, unwrap_or, if◌then◌else◌}
+use Rattle.std.specs.List.{slice_get, list_any}
+use Rattle.std.specs.Option.{option_map_or}
+use Rattle.circ_term.specs.Tree.{Tree}
+use Rattle.circ_theory.specs.declared.parts.Side.{Side}
+use Rattle.circ_theory.specs.declared.parts.Side.TheVariants.{Neither, Left, Right}
+use Rattle.circ_theory.specs.declared.parts.Equation.{Equation}
+use Rattle.circ_theory.specs.Form.{text_of}
+use Rattle.circ_theory.specs.Signature.{Signature, Operator}
+use Rattle.circ_theory.specs.Theory.{Theory, Declared, pair_of}
+use Rattle.circ_theory.specs.Operators.{is_hole_piece}
+use Rattle.circ_theory.specs.Observing.{cases_of}
+use Rattle.circ_mixfix.specs.Printing.{text_of_term, text_of_pair}
+
+-- a word behind a blank; nothing where it is empty
+abbrev pub spaced : List ℕ → List ℕ
+spaced [] = []
+spaced (b ∷ w) = 32 ∷ b ∷ w
+
+abbrev pub sort_name : Signature → ℕ → List ℕ
+sort_name sig s = unwrap_or (slice_get sig.sorts s) []
+
+-- The first attribute stands behind an opening bracket, each other behind a blank, and a closing bracket behind the last. Where there is none, there is no bracket.
+abbrev pub bracketed : (begun : Bool) → List (List ℕ) → List ℕ
+bracketed begun [] = if begun then codes "]" else []
+bracketed begun (w ∷ ws) = (if begun then codes " " else codes " [") ++ (w ++ bracketed true ws)
+
+abbrev pub side_words : Side → List (List ℕ)
+side_words Neither = []
+side_words Left = codes "left" ∷ []
+side_words Right = codes "right" ∷ []
+
+-- the precedence and the side, of an operator with holes
+abbrev pub precedence_words : Operator → List (List ℕ)
+precedence_words o = if list_any is_hole_piece o.form then (codes "prec " ++ decimal o.prec) ∷ side_words o.side else []
+
+abbrev pub if_marked : Bool → List ℕ → List (List ℕ)
+if_marked b w = if b then w ∷ [] else []
+
+abbrev pub attribute_words : Operator → List (List ℕ)
+attribute_words o = precedence_words o ++ (if_marked o.assoc (codes "assoc") ++ (if_marked o.comm (codes "comm") ++ if_marked o.idem (codes "idem")))
+
+abbrev pub attributes : Operator → List ℕ
+attributes o = bracketed false (attribute_words o)
+
+abbrev pub theory_line : (name : List ℕ) → List ℕ
+theory_line name = codes "theory" ++ spaced name ++ codes " is\n"
+
+abbrev pub sort_line : (name : List ℕ) → List ℕ
+sort_line name = codes "sort" ++ spaced name ++ codes " .\n"
+
+abbrev pub op_line : Signature → Operator → List ℕ
+op_line sig o =
+    codes "op " ++ text_of o.form ++ codes " :" ++ flat_map (λ s. spaced (sort_name sig s)) o.args ++ codes " ->" ++ spaced (sort_name sig o.result) ++ attributes o ++ codes " .\n"
+
+abbrev pub var_line : Signature → Declared → List ℕ
+var_line sig d = codes "var" ++ spaced d.name ++ codes " :" ++ spaced (sort_name sig d.sort) ++ codes " .\n"
+
+abbrev pub equation_line : Signature → Equation → List ℕ
+equation_line sig e = codes "eq " ++ text_of_pair sig (pair_of e) ++ (if e.exec then [] else codes " [nonexec]") ++ codes " .\n"
+
+abbrev pub derivative_line : Signature → Tree → List ℕ
+derivative_line sig t = codes "derivative " ++ text_of_term sig true t ++ codes " .\n"
+
+-- the text of an operator's form
+abbrev pub form_of : Signature → ℕ → List ℕ
+form_of sig f = option_map_or (λ o. text_of o.form) (slice_get sig.ops f) []
+
+-- the case list of a sort, where it has one
+abbrev pub cases_line : Theory → ℕ → List ℕ
+cases_line th s =
+    option_map_or (λ cs. codes "cases" ++ spaced (sort_name th.signature s) ++ codes " by" ++ flat_map (λ c. codes " " ++ form_of th.signature c) cs ++ codes " .\n") (cases_of th s) []
+
+abbrev pub unobserved_line : Signature → ℕ → List ℕ
+unobserved_line sig s = codes "--- no experiment:" ++ spaced (sort_name sig s) ++ codes "\n"

@@ -1,0 +1,72 @@
+//! The attributes of an operator as text.
+ghost use Rattle.std.specs.Prelude.{◌≡◌, ◌++◌, ◌∷◌, [], ℕ, List, true, false, codes, decimal, IfOk, OnOk};
+ghost use Rattle.std.specs.List.{list_any};
+ghost use Rattle.circ_theory.specs.Operators.{is_hole_piece, operator_of};
+ghost use Rattle.circ_show.specs.Lines.{bracketed, side_words, precedence_words, if_marked, attributes};
+
+use circ_theory::{OpDecl, Piece, Side};
+use itoa::Buffer;
+use std::alloc::AllocError;
+
+fn has_hole(pieces: &[Piece]) -> bool
+    ensures { result ≡ list_any is_hole_piece pieces.now }
+{
+    pieces.iter().any(|piece| matches!(piece, Piece::Hole))
+}
+
+// One attribute more. The first stands behind an opening bracket, each other behind a blank.
+fn put_attribute(out: &mut Vec<u8>, begun: bool, word: &[u8]) -> Result<(), AllocError>
+    ensures { OnOk result ((rest : List (List ℕ)) → out.new.items ++ bracketed true rest ≡ out.old.items ++ bracketed begun (word.now ∷ rest)) }
+{
+    out.extend_from_slice(if begun { b" " } else { b" [" })?;
+    out.extend_from_slice(word)
+}
+
+// An attribute where it is set. Answers whether there is one by now.
+fn put_mark(out: &mut Vec<u8>, begun: bool, set: bool, word: &[u8]) -> Result<bool, AllocError>
+    ensures { IfOk result (λ r. (rest : List (List ℕ)) → out.new.items ++ bracketed r rest ≡ out.old.items ++ bracketed begun (if_marked set word.now ++ rest)) }
+{
+    if !set {
+        return Ok(begun);
+    }
+    put_attribute(out, begun, word)?;
+    Ok(true)
+}
+
+fn put_side(out: &mut Vec<u8>, side: Side) -> Result<(), AllocError>
+    ensures { OnOk result ((rest : List (List ℕ)) → out.new.items ++ bracketed true rest ≡ out.old.items ++ bracketed true (side_words side ++ rest)) }
+{
+    match side {
+        Side::Neither => Ok(()),
+        Side::Left => put_attribute(out, true, b"left"),
+        Side::Right => put_attribute(out, true, b"right"),
+    }
+}
+
+// The precedence and the side of an operator with holes. Answers whether it has some.
+fn put_precedence(out: &mut Vec<u8>, decl: &OpDecl) -> Result<bool, AllocError>
+    ensures { IfOk result (λ r. (rest : List (List ℕ)) → out.new.items ++ bracketed r rest ≡ out.old.items ++ bracketed false (precedence_words (operator_of decl.now) ++ rest)) }
+{
+    if !has_hole(decl.form.pieces()) {
+        return Ok(false);
+    }
+    out.extend_from_slice(b" [prec ")?;
+    let mut buffer = Buffer::new();
+    out.extend_from_slice(buffer.format(decl.prec).as_bytes())?;
+    put_side(out, decl.side)?;
+    Ok(true)
+}
+
+// The attributes in brackets, or nothing where there is none.
+pub fn put_attributes(out: &mut Vec<u8>, decl: &OpDecl) -> Result<(), AllocError>
+    ensures { OnOk result (out.new.items ≡ out.old.items ++ attributes (operator_of decl.now)) }
+{
+    let begun = put_precedence(out, decl)?;
+    let begun = put_mark(out, begun, decl.assoc, b"assoc")?;
+    let begun = put_mark(out, begun, decl.comm, b"comm")?;
+    let begun = put_mark(out, begun, decl.idem, b"idem")?;
+    if begun {
+        out.push(b']')?;
+    }
+    Ok(())
+}

@@ -1,0 +1,18 @@
+//! Theories and goals as text.
+//!
+//! [`theory_text`] appends a whole theory, [`goals_text`] the goals of a proof. [`unobserved`] tells a hidden sort that no
+//! experiment fits: of such a sort every pair behaves, so the text of a theory ends with a line for each.
+#![tactic(auto)]
+
+mod attributes;
+mod goals;
+pub mod laws;
+mod lines;
+mod observed;
+#[cfg(test)]
+mod tests;
+mod theories;
+
+pub use goals::goals_text;
+pub use observed::unobserved;
+pub use theories::theory_text;

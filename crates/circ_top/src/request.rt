@@ -1,0 +1,60 @@
+//! What the words of a run ask for.
+ghost use Rattle.std.specs.Prelude.{◌≡◌, ◌↔◌, IsTrue, length, map, string_bytes, MatchOption};
+ghost use Rattle.circ_top.specs.Command.{Asks, IsNoCommand, plain_request};
+
+use circ_lib::lookup;
+
+/// A command with what it takes: names of files, or the text of the library that is named.
+pub enum Request<'a> {
+    Check { theory: &'a str, proof: &'a str },
+    Show { theory: &'a str },
+    Library { text: &'static [u8] },
+}
+
+fn is_word(word: &String, text: &[u8]) -> bool
+    ensures { IsTrue result ↔ (string_bytes word.now ≡ text.now) }
+{
+    word.as_bytes() == text
+}
+
+fn of_three(words: &[String]) -> Option<Request<'_>>
+    requires { length words.now ≡ 3 }
+    ensures { MatchOption result (IsNoCommand (map string_bytes words.now)) (λ r. Asks (map string_bytes words.now) (plain_request r)) }
+{
+    if is_word(&words[1], b"show") {
+        return Some(Request::Show {
+            theory: words[2].as_str(),
+        });
+    }
+    if !is_word(&words[1], b"library") {
+        return None;
+    }
+    match lookup(words[2].as_bytes()) {
+        None => None,
+        Some(text) => Some(Request::Library { text }),
+    }
+}
+
+fn of_four(words: &[String]) -> Option<Request<'_>>
+    requires { length words.now ≡ 4 }
+    ensures { MatchOption result (IsNoCommand (map string_bytes words.now)) (λ r. Asks (map string_bytes words.now) (plain_request r)) }
+{
+    if !is_word(&words[1], b"check") {
+        return None;
+    }
+    Some(Request::Check {
+        theory: words[2].as_str(),
+        proof: words[3].as_str(),
+    })
+}
+
+/// The request that the words make, if they are those of a command.
+pub fn asked(words: &[String]) -> Option<Request<'_>>
+    ensures { MatchOption result (IsNoCommand (map string_bytes words.now)) (λ r. Asks (map string_bytes words.now) (plain_request r)) }
+{
+    match words.len() {
+        3 => of_three(words),
+        4 => of_four(words),
+        _ => None,
+    }
+}
