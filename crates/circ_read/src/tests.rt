@@ -52,7 +52,7 @@ fn is_answered(alloc: Global, row: Row<'_>) -> bool {
 
 #[test]
 fn texts(rt: HostRuntime) -> Result<(), Fail> {
-    let rows: [Row<'_>; 51] = [
+    let rows: [Row<'_>; 60] = [
         // terms
         (
             b"theory T is sort X . op a : -> X . var a : X . eq a = a . endtheory",
@@ -282,6 +282,62 @@ fn texts(rt: HostRuntime) -> Result<(), Fail> {
             b"twice",
             0,
         ),
+        (
+            b"theory T is sort A . op a : -> A . op _+_ : A A -> A . op _! : A -> A . eq a + a ! ! = a . endtheory",
+            6,
+            b"ambiguous",
+            0,
+        ),
+        (
+            b"theory T is sorts A B . op h : A B -> A . derivative h(*:A, *:B) . endtheory",
+            4,
+            b"holes",
+            2,
+        ),
+        (
+            b"theory T is sort A . op g : A A A A -> A . derivative g(*:A, X:A, *:A, X:A) . endtheory",
+            4,
+            b"not linear",
+            1,
+        ),
+        (
+            b"theory T is sort A . op g : A A A -> A . derivative g(X:A, Y:A, Y:A) . endtheory",
+            4,
+            b"not linear",
+            2,
+        ),
+        // a text of the library in a theory with parts
+        (
+            b"theory T is sort A . op a : -> A . op 1 : -> A . inc BITS . endtheory",
+            5,
+            b"twice",
+            1,
+        ),
+        (
+            b"theory T is sort A . op S : -> A . ops hd odd : A -> A . inc BITS . endtheory",
+            5,
+            b"ambiguous",
+            0,
+        ),
+        (
+            b"theory T is sort A . op S : -> A . op odd : A -> A . inc BITS . endtheory",
+            0,
+            b"read",
+            0,
+        ),
+        // parameters
+        (
+            b"theory T is sort A . op g : A A A A A A A A A A -> A . derivative g(*:A, P:A, Q:A, R:A, S:A, T:A, U:A, V:A, W:A, X:A) . endtheory",
+            4,
+            b"limit",
+            9,
+        ),
+        (
+            b"theory T is sort A . op g : A A A A A A A A A -> A . derivative g(*:A, P:A, Q:A, R:A, S:A, T:A, U:A, V:A, W:A) . endtheory",
+            0,
+            b"read",
+            0,
+        ),
     ];
     for row in &rows {
         assert!(rt; is_answered(rt.alloc(), *row));
@@ -289,21 +345,133 @@ fn texts(rt: HostRuntime) -> Result<(), Fail> {
     Ok(())
 }
 
-// What stands in place of a name: many tokens.
-fn long_equation(alloc: Global) -> Result<Vec<u8>, AllocError> {
-    let mut text = Vec::new(alloc);
-    text.extend_from_slice(b"theory T is sort A . op a : -> A . eq a = ")?;
-    for _ in 0..257 {
-        text.extend_from_slice(b"a ")?;
+// The parts of a text, each so many times, and the text's answer.
+type LongRow<'a> = (&'a [(&'a [u8], u32)], u64, &'a [u8], u64);
+
+fn put_times(text: &mut Vec<u8>, part: &[u8], times: u32) -> Result<(), AllocError> {
+    for _ in 0..times {
+        text.extend_from_slice(part)?;
     }
-    text.extend_from_slice(b". endtheory")?;
-    Ok(text)
+    Ok(())
 }
 
+// Whether reading the text of these parts answers this.
+fn is_long_answered(alloc: Global, row: LongRow<'_>) -> Result<bool, AllocError> {
+    let (parts, number, word, count) = row;
+    let mut text = Vec::new(alloc);
+    for part in parts {
+        put_times(&mut text, part.0, part.1)?;
+    }
+    Ok(is_answered(alloc, (text.as_slice(), number, word, count)))
+}
+
+// 64 names.
+const NAMES: &[u8] =
+    b"a b c d e f g h i j k l m n o p q r s t u v w x y z A B C D E F G H I J K L M N O P Q R S T U V W X Y Z 0 1 2 3 4 5 6 7 8 9 ! ? ";
+
 #[test]
-fn long_terms(rt: HostRuntime) -> Result<(), Fail> {
-    let text = long_equation(rt.alloc())?;
-    assert!(rt; is_answered(rt.alloc(), (text.as_slice(), 4, b"too long", 257)));
+fn long_texts(rt: HostRuntime) -> Result<(), Fail> {
+    let rows: [LongRow<'_>; 9] = [
+        (
+            &[
+                (b"theory T is sort A . op a : -> A . eq a = ", 1),
+                (b"a ", 257),
+                (b". endtheory", 1),
+            ],
+            4,
+            b"too long",
+            257,
+        ),
+        (
+            &[
+                (b"theory T is sort A . op a : -> A . eq ", 1),
+                (b"a ", 257),
+                (b"= a . endtheory", 1),
+            ],
+            4,
+            b"too long",
+            257,
+        ),
+        (
+            &[
+                (b"theory T is sort A . op a : -> A . eq ", 1),
+                (b"a ", 258),
+                (b"= ", 1),
+                (b"a ", 257),
+                (b". endtheory", 1),
+            ],
+            4,
+            b"too long",
+            258,
+        ),
+        (
+            &[
+                (b"theory T is sort A . op a : -> A . eq ", 1),
+                (b"a ", 256),
+                (b"= a . endtheory", 1),
+            ],
+            4,
+            b"no parse",
+            0,
+        ),
+        (
+            &[
+                (b"theory T is sort A . op a : -> A . derivative ", 1),
+                (b"a ", 257),
+                (b". endtheory", 1),
+            ],
+            4,
+            b"too long",
+            257,
+        ),
+        (
+            &[
+                (b"theory T is sort A . ops ", 1),
+                (NAMES, 1),
+                (b"+ : -> A . cases A by ", 1),
+                (NAMES, 1),
+                (b"+ . endtheory", 1),
+            ],
+            4,
+            b"limit",
+            65,
+        ),
+        (
+            &[
+                (b"theory T is sort A . ops ", 1),
+                (NAMES, 1),
+                (b": -> A . cases A by ", 1),
+                (NAMES, 1),
+                (b". endtheory", 1),
+            ],
+            0,
+            b"read",
+            0,
+        ),
+        (
+            &[
+                (b"theory T is sort A . op h : A -> A . ", 1),
+                (b"derivative h(*:A) . ", 257),
+                (b"endtheory", 1),
+            ],
+            260,
+            b"limit",
+            257,
+        ),
+        (
+            &[
+                (b"theory T is sort A . op h : A -> A . ", 1),
+                (b"derivative h(*:A) . ", 256),
+                (b"endtheory", 1),
+            ],
+            0,
+            b"read",
+            0,
+        ),
+    ];
+    for row in &rows {
+        assert!(rt; is_long_answered(rt.alloc(), *row)?);
+    }
     Ok(())
 }
 
