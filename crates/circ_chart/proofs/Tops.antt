@@ -4,14 +4,11 @@ use Rattle.std.specs.Prelude.{◌==◌, if◌then◌else◌}
 use Rattle.std.proofs.lemmas.Bool.{eqb-true, and_parts}
 use Rattle.std.proofs.lemmas.Bool.Decides.{nat_tests}
 use Rattle.circ_term.specs.Tree.{Tree, sort_of}
-use Rattle.circ_chart.specs.declared.few.Few.{Few}
 use Rattle.circ_chart.specs.declared.grammar.Grammar.{Grammar}
 use Rattle.circ_chart.specs.declared.chart.Edge.{Edge}
 use Rattle.circ_chart.specs.declared.chart.Start.{Start}
 use Rattle.circ_chart.specs.declared.TheConstants.{EVERY}
-use Rattle.circ_chart.specs.Few.{Enough, Differ, differ_in, enough_chain}
-use Rattle.circ_chart.specs.Cell.{In}
-use Rattle.circ_chart.specs.Chart.{Keeps}
+use Rattle.circ_chart.specs.Few.{Enough, Differ, differ_in}
 use Rattle.circ_chart.specs.Spells.{Spells, in_parentheses, a_variable, an_operator}
 use Rattle.circ_chart.specs.Known.{FromEdges, edges_of, IsStarts}
 use Rattle.circ_chart.specs.Tops.{tops_of, Among, OfSort}

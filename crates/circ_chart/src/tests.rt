@@ -100,7 +100,10 @@ fn counts(rt: HostRuntime) -> Result<(), Fail> {
         (&[11, 11], 0),
     ];
     for (tokens, wanted) in table {
-        assert_eq!(rt; count(&read_each_sort(rt.alloc(), &grammar, tokens)?), wanted);
+        assert_eq!(rt;
+            count(&read_each_sort(rt.alloc(), &grammar, tokens)?),
+            wanted
+        );
     }
     Ok(())
 }
