@@ -1,5 +1,5 @@
 -- Readings that were found, one more.
-use Rattle.std.proofs.Common.{◌≡◌, ◌⊎◌, ◌∙◌, ◌+◌, ◌<◌, ◌++◌, ℕ, List, [], ◌∷◌, drop, length, get_or, Bool, Ordering, Less, Equal, Greater, inl, inr, sym, ap, subst, refl, arith}
+use Rattle.std.proofs.Common.{◌≡◌, ◌⊎◌, ◌∙◌, ◌+◌, ◌<◌, ◌++◌, ℕ, List, [], ◌∷◌, drop, length, get_or, Bool, Ordering, Equal, Greater, inl, inr, sym, ap, subst, refl}
 use Rattle.std.proofs.lemmas.List.{drop_more}
 use Rattle.circ_term.specs.Tree.{Tree, trees_of, list_of, list_of-trees_of, sort_of}
 use Rattle.circ_term.specs.Order.{trees_cmp}
@@ -10,7 +10,7 @@ use Rattle.circ_theory.specs.Renumbering.{renumbered}
 use Rattle.circ_mixfix.specs.declared.found.Reading.{Reading}
 use Rattle.circ_mixfix.specs.declared.found.Found.{Found}
 use Rattle.circ_mixfix.specs.declared.found.Found.TheVariants.{Nothing, One, Two}
-use Rattle.circ_mixfix.specs.Found.{In, AreOrdered, IsTwo, Keeps, Image, OneRead, RightRead, BothRead, terms_of}
+use Rattle.circ_mixfix.specs.Found.{In, AreOrdered, IsTwo, Keeps, OneRead, RightRead, BothRead, terms_of}
 use Rattle.circ_mixfix.specs.Numbering.{numbered_anew}
 use Rattle.circ_mixfix.proofs.Order.{trees_equal, trees_apart, trees_less}
 

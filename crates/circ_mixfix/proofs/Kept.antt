@@ -1,5 +1,5 @@
 -- What the chart finds is enough of the readings.
-use Rattle.std.proofs.Common.{◌≡◌, ◌⊎◌, ℕ, List, [], ◌∷◌, Bool, false, sym, ◌∙◌, ap, subst, refl}
+use Rattle.std.proofs.Common.{◌≡◌, ℕ, List, [], ◌∷◌, Bool, false, sym, ◌∙◌, ap, subst, refl}
 use Rattle.circ_term.specs.Tree.{Tree, sort_of}
 use Rattle.circ_chart.specs.declared.grammar.Grammar.{Grammar}
 use Rattle.circ_chart.specs.declared.TheConstants.{EVERY}
@@ -7,8 +7,7 @@ use Rattle.circ_chart.specs.Few.{Enough, Joined, Some_of, enough_all, enough_cha
 use Rattle.circ_chart.specs.Spells as chart_spells
 use Rattle.circ_chart.specs.Tops.{Among, OfSort}
 use Rattle.circ_theory.specs.Signature.{Signature}
-use Rattle.circ_theory.specs.Theory.{Pair, Declared, pair_with}
-use Rattle.circ_theory.specs.Variables.{IsInOrder}
+use Rattle.circ_theory.specs.Theory.{Declared, pair_with}
 use Rattle.circ_theory.specs.Renumbering.{renumbered, renumbered_in_order}
 use Rattle.circ_mixfix.specs.declared.found.Found.{Found}
 use Rattle.circ_mixfix.specs.Named.{Named}
@@ -16,13 +15,12 @@ use Rattle.circ_mixfix.specs.Readings.{reading_of, ReadsOne, ReadsPair}
 use Rattle.circ_mixfix.specs.Answers.{ReadsOnly, ReadsBoth}
 use Rattle.circ_mixfix.specs.Coding.{texts_at, named_by, AllBelow, IsGrammarOf}
 use Rattle.circ_mixfix.specs.WordLists.{BeginAlike}
-use Rattle.circ_mixfix.specs.Found.{In, Keeps, Image, OneRead, RightRead, BothRead, terms_of, IsPairInOrder, AreInOrder}
+use Rattle.circ_mixfix.specs.Found.{In, Keeps, Image, OneRead, BothRead, terms_of, AreInOrder}
 use Rattle.circ_mixfix.specs.Numbering.{numbered_anew}
 use Rattle.circ_mixfix.proofs.Coded.{AreKnown, chart_known}
-use Rattle.circ_mixfix.proofs.FoundSets.{keeps_through}
 use Rattle.circ_mixfix.proofs.Images.{enough_image}
 use Rattle.circ_mixfix.proofs.NumberNames.{one_named, pair_named}
-use Rattle.circ_mixfix.proofs.ReadingSets.{TwoNamed, TwoTrees, two_named, two_trees, reading_of_pair, each_sort_named, reads_one, reads_pair}
+use Rattle.circ_mixfix.proofs.ReadingSets.{TwoTrees, two_named, two_trees, reading_of_pair, each_sort_named, reads_one, reads_pair}
 
 module _ (sig : Signature) (vars : List Declared) (hole : Bool) (ws : List (List ℕ)) (k : ℕ) (g : Grammar) (h : IsGrammarOf sig vars hole ws k g) (begin : BeginAlike ws) where
   abbrev Each : List ℕ → List Tree → Type 0

@@ -1,7 +1,7 @@
 -- Numbering by numbers of names is numbering by names.
-use Rattle.std.proofs.Common.{◌≡◌, ◌≢◌, ◌<◌, ◌+◌, ◌++◌, ℕ, suc, List, [], ◌∷◌, map, length, Bool, true, false, ◌==◌, ◌&&◌, ◌||◌, nat_eq, Some, sym, ◌∙◌, ap, subst, refl, arith}
+use Rattle.std.proofs.Common.{◌≡◌, ◌≢◌, ◌<◌, ◌+◌, ◌++◌, ℕ, List, [], ◌∷◌, map, length, Bool, true, false, ◌==◌, ◌&&◌, ◌||◌, nat_eq, Some, sym, ◌∙◌, ap, refl}
 use Rattle.std.specs.Prelude.{if◌then◌else◌}
-use Rattle.std.specs.List.{slice_get, list_any}
+use Rattle.std.specs.List.{list_any}
 use Rattle.std.specs.Cmp.Lexicographic.{pointwise, bytes_decides}
 use Rattle.std.proofs.lemmas.Bool.{eqb-true, eqb-false, eq-eqb, and_parts}
 use Rattle.std.proofs.lemmas.List.{map-append}
@@ -10,14 +10,14 @@ use Rattle.circ_term.specs.Substitution.{instance, instances}
 use Rattle.circ_term.specs.Laws.{instance-same}
 use Rattle.circ_theory.specs.Names.{AreDifferent}
 use Rattle.circ_theory.specs.Theory.{pair_with}
-use Rattle.circ_theory.specs.Variables.{Variable, is_variable, seen, seen_in, seen_in_all, variables_of}
+use Rattle.circ_theory.specs.Variables.{Variable, is_variable, seen, seen_in, seen_in_all}
 use Rattle.circ_theory.specs.Renumbering.{renumbering, renumbered}
 use Rattle.circ_mixfix.specs.Named as named
 use Rattle.circ_mixfix.specs.Named.{Named, NamedList, NamedVariable, is_named, numbered, all_numbered, place_from}
-use Rattle.circ_mixfix.specs.Readings.{without_hole, behind_hole, numbers_of, reading_of}
+use Rattle.circ_mixfix.specs.Readings.{without_hole, numbers_of, reading_of}
 use Rattle.circ_mixfix.specs.Coding.{text_at, named_by, all_named_by}
 use Rattle.circ_mixfix.specs.WordLists.{BeginAlike}
-use Rattle.circ_mixfix.specs.Numbering.{is_hole, numbering, first_number, numbered_anew}
+use Rattle.circ_mixfix.specs.Numbering.{numbering, first_number, numbered_anew}
 use Rattle.circ_mixfix.proofs.Coded.{AreKnown, AreAllKnown, text_is, text_listed}
 
 module _ (ws : List (List ℕ)) (d : AreDifferent ws) where

@@ -1,5 +1,5 @@
 -- The order of lists of terms.
-use Rattle.std.proofs.Common.{◌≡◌, ◌≢◌, ℕ, Ordering, Less, Equal, Greater, sym, ◌∙◌, ap, refl}
+use Rattle.std.proofs.Common.{◌≡◌, ◌≢◌, Ordering, Less, Equal, Greater, sym, ◌∙◌, ap, refl}
 use Rattle.std.specs.Ordering.{nat_cmp, ordering_then, ordering_reverse}
 use Rattle.std.specs.Cmp.{then_flip}
 use Rattle.std.specs.FinMap.{nat_cmp-IsAntisymmetric}

@@ -13,7 +13,7 @@ use Rattle.circ_theory.specs.declared.parts.Side.{Side}
 use Rattle.circ_theory.specs.Form.{is_word, first_word}
 use Rattle.circ_theory.specs.Signature.{Signature, Operator}
 use Rattle.circ_theory.specs.Operators.{IsOperator, is_hole_piece, hole_count, places_from, ops_by_word}
-use Rattle.circ_mixfix.specs.Symbols.{Symbol, Word, Hole, every, inner_symbols, form_symbols, arguments, symbols_of, precedence_of}
+use Rattle.circ_mixfix.specs.Symbols.{Symbol, every, inner_symbols, form_symbols, arguments, symbols_of, precedence_of}
 use Rattle.circ_mixfix.specs.Coding.{HaveNumbers, IsRuleOf, HasRules, AddsRule, AddsRules, BeginsBefore}
 use Rattle.circ_mixfix.proofs.SymbolWords.{form_word, no_holes, some_hole, fits, one_more}
 use Rattle.circ_mixfix.proofs.WordLists.{get_last, get_front}

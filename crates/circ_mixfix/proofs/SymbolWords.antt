@@ -1,7 +1,7 @@
 -- What spells an operator has a word.
-use Rattle.std.proofs.Common.{◌≡◌, ◌≤◌, ◌<◌, ◌+◌, ◌++◌, ℕ, suc, List, [], ◌∷◌, length, Bool, true, false, ◌==◌, ◌||◌, not, None, Some, sym, ◌∙◌, ap, subst, refl, arith}
+use Rattle.std.proofs.Common.{◌≡◌, ◌≤◌, ◌<◌, ◌+◌, ◌++◌, ℕ, List, [], ◌∷◌, length, Bool, true, false, ◌==◌, ◌||◌, None, Some, sym, ◌∙◌, ap, refl, arith}
 use Rattle.std.specs.Prelude.{if◌then◌else◌}
-use Rattle.std.specs.List.{slice_get, list_any, count_by}
+use Rattle.std.specs.List.{list_any}
 use Rattle.std.proofs.lemmas.Bool.{eqb-true}
 use Rattle.std.proofs.lemmas.List.Sums.{sum_by-cons}
 use Rattle.circ_chart.specs.declared.grammar.Symbol as chart_symbol
@@ -9,11 +9,10 @@ use Rattle.circ_chart.specs.declared.grammar.Symbol.TheVariants as chart
 use Rattle.circ_chart.specs.Words.{words}
 use Rattle.circ_theory.specs.declared.forms.Piece.{Piece}
 use Rattle.circ_theory.specs.declared.forms.Piece.TheVariants as piece
-use Rattle.circ_theory.specs.declared.forms.FormFault.{FormFault}
 use Rattle.circ_theory.specs.declared.forms.FormFault.TheVariants.{NoWord, BadWord}
 use Rattle.circ_theory.specs.declared.parts.Side.{Side}
 use Rattle.circ_theory.specs.Signature.{Signature, Operator}
-use Rattle.circ_theory.specs.Form.{IsForm, is_word, is_bad_piece, pieces_of, text_of, form_fault}
+use Rattle.circ_theory.specs.Form.{IsForm, is_word, is_bad_piece, pieces_of, text_of}
 use Rattle.circ_theory.specs.Operators.{IsOperator, is_hole_piece, hole_count, form_fits}
 use Rattle.circ_mixfix.specs.Symbols.{Symbol, Word, Hole, inner_symbols, form_symbols, arguments, symbols_of}
 use Rattle.circ_mixfix.specs.Coding.{AreSymbols}

@@ -1,5 +1,5 @@
 -- The answer that tells of what was found.
-use Rattle.std.proofs.Common.{◌≡◌, ◌⊎◌, List, None, Ok, Err, Result, inl, inr, sym, ◌∙◌, subst, refl}
+use Rattle.std.proofs.Common.{◌≡◌, ◌⊎◌, List, None, Result, inl, inr, sym, ◌∙◌, subst, refl}
 use Rattle.std.specs.Prelude.{IfOk}
 use Rattle.circ_term.specs.Tree.{Tree}
 use Rattle.circ_chart.specs.Few.{Differ}
@@ -7,7 +7,6 @@ use Rattle.circ_mixfix.specs.declared.found.Reading.{Reading}
 use Rattle.circ_mixfix.specs.declared.found.Found.{Found}
 use Rattle.circ_mixfix.specs.declared.found.Found.TheVariants.{Nothing, One, Two}
 use Rattle.circ_mixfix.specs.declared.parse.ParseFault.{ParseFault}
-use Rattle.circ_mixfix.specs.declared.parse.ParseFault.TheVariants.{NoParse, Ambiguous}
 use Rattle.circ_mixfix.specs.Answers.{GivesReading}
 use Rattle.circ_mixfix.specs.Found.{In, Keeps, Tells}
 

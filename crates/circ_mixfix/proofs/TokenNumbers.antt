@@ -1,7 +1,7 @@
 -- Tokens as numbers of texts.
-use Rattle.std.proofs.Common.{◌≡◌, ◌≤◌, ◌<◌, ◌+◌, ◌-◌, ◌++◌, ℕ, zero, suc, List, [], ◌∷◌, length, take, drop, get_or, Some, unwrap_or, sym, ◌∙◌, ap, subst, refl, arith}
+use Rattle.std.proofs.Common.{◌≡◌, ◌≤◌, ◌<◌, ◌+◌, ◌-◌, ◌++◌, ℕ, suc, List, [], ◌∷◌, length, take, drop, get_or, Some, unwrap_or, sym, ◌∙◌, ap, subst, refl, arith}
 use Rattle.std.specs.List.{slice_get, slice_range}
-use Rattle.std.proofs.lemmas.List.{length-append, map-append, get_or-drop, length-take-le, length-drop}
+use Rattle.std.proofs.lemmas.List.{map-append, get_or-drop, length-take-le, length-drop}
 use Rattle.std.proofs.lemmas.Option.{slice_get_within, get_or_from_slice_get}
 use Rattle.std.proofs.Math.Seq.{take-suc}
 use Rattle.circ_mixfix.specs.Coding.{text_at, texts_at, AllBelow, AreNumbers}

@@ -1,11 +1,11 @@
 -- The variables that a token is.
-use Rattle.std.proofs.Common.{◌≡◌, ◌≢◌, ◌⊎◌, ◌<◌, ◌≤◌, ◌+◌, ◌++◌, ℕ, zero, suc, List, [], ◌∷◌, map, length, get_or, Bool, true, false, not, nat_lt, Option, Some, None, option_map, nat_eq, ◌==◌, inl, inr, sym, ◌∙◌, ap, subst, refl, arith, codes, append-nil}
+use Rattle.std.proofs.Common.{◌≡◌, ◌≢◌, ◌⊎◌, ◌<◌, ◌≤◌, ◌+◌, ◌++◌, ℕ, zero, suc, List, [], ◌∷◌, length, get_or, Bool, true, false, not, nat_lt, Some, None, option_map, nat_eq, ◌==◌, inl, inr, sym, ◌∙◌, ap, subst, refl, arith, codes}
 use Rattle.std.specs.Prelude.{if◌then◌else◌, position}
-use Rattle.std.specs.List.{slice_get, list_any, Contains, position_or_len, slice_index_or}
+use Rattle.std.specs.List.{slice_get, list_any, Contains, position_or_len}
 use Rattle.std.specs.Cmp.Lexicographic.{pointwise, bytes_decides}
 use Rattle.std.proofs.lemmas.List.{append_cancel_left, nil_from_length}
 use Rattle.std.proofs.lemmas.List.Quantifiers.{position-Some}
-use Rattle.std.proofs.lemmas.Option.{slice_get_within, slice_get-get_or, slice_get-map, slice_get_past}
+use Rattle.std.proofs.lemmas.Option.{slice_get_within, slice_get-get_or, slice_get-map}
 use Rattle.std.proofs.lemmas.Bool.{cases_eq, eqb-true}
 use Rattle.std.proofs.lemmas.Grind.{common_steps}
 use Rattle.circ_chart.specs.declared.grammar.Variable as chart_variable

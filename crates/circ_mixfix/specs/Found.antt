@@ -3,7 +3,7 @@ use Rattle.std.specs.Prelude.{◌≡◌, ◌⊎◌, Bool, List, [], ◌∷◌, R
 use Rattle.std.proofs.Common.{Less}
 use Rattle.circ_term.specs.Tree.{Tree, trees_of, sort_of}
 use Rattle.circ_term.specs.Order.{trees_cmp}
-use Rattle.circ_chart.specs.Few.{Enough, Or}
+use Rattle.circ_chart.specs.Few.{Enough}
 use Rattle.circ_chart.specs.Tops.{Among}
 use Rattle.circ_theory.specs.Signature.{Signature, IsWellSorted}
 use Rattle.circ_theory.specs.Theory.{Pair, pair_with, IsWellSortedPair}

@@ -1,5 +1,5 @@
 -- The chart's variables for the first texts.
-use Rattle.std.specs.Prelude.{◌≡◌, ◌<◌, ◌++◌, ℕ, List, [], ◌∷◌, Bool, true, nat_eq, if◌then◌else◌, Option, Some, None}
+use Rattle.std.specs.Prelude.{◌≡◌, ◌<◌, ◌++◌, ℕ, List, [], ◌∷◌, Bool, nat_eq, if◌then◌else◌, Option, Some, None}
 use Rattle.std.specs.List.{slice_get, Contains}
 use Rattle.std.specs.Cmp.Lexicographic.{pointwise}
 use Rattle.circ_chart.specs.declared.grammar.Variable as chart_variable

@@ -1,5 +1,5 @@
 -- Attributes, one after another.
-use Rattle.std.proofs.Common.{◌≡◌, ℕ, List, [], ◌∷◌, ◌++◌, Bool, true, false, append-nil, ap, sym, subst, ◌∙◌}
+use Rattle.std.proofs.Common.{◌≡◌, ℕ, List, [], ◌∷◌, ◌++◌, Bool, true, false, append-nil, ap, sym, ◌∙◌}
 use Rattle.circ_show.specs.Lines.{bracketed}
 
 -- out with what the attributes that are left add is old with what more of them add

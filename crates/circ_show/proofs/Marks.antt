@@ -7,7 +7,7 @@ use Rattle.std.proofs.lemmas.Option.{slice_get_within, get_or_from_slice_get, sl
 use Rattle.std.proofs.lemmas.Bool.{cases_order}
 use Rattle.std.proofs.lemmas.List.{length-append}
 use Rattle.circ_term.specs.Tree.{Tree, Var, App, sort_of}
-use Rattle.circ_theory.specs.Signature.{Signature, Operator, IsSort, IsWellSorted}
+use Rattle.circ_theory.specs.Signature.{IsSort, IsWellSorted}
 use Rattle.circ_theory.specs.Theory.{Theory, Derivative, IsHidden, IsVisible}
 use Rattle.circ_theory.specs.WellFormed.{IsWellFormed}
 use Rattle.circ_theory.specs.Experiment.{Entry, Fits}

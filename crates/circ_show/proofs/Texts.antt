@@ -1,5 +1,5 @@
 -- A theory has one text.
-use Rattle.std.proofs.Common.{◌≡◌, ◌↔◌, ℕ, zero, suc, ◌+◌, List, ◌++◌, Bool, true, false, ap, refl, sym, ◌∙◌}
+use Rattle.std.proofs.Common.{◌≡◌, ℕ, zero, suc, ◌+◌, List, ◌++◌, Bool, true, false, ap, refl, sym, ◌∙◌}
 use Rattle.circ_theory.specs.Theory.{Theory}
 use Rattle.circ_show.specs.Lines.{unobserved_line}
 use Rattle.circ_show.specs.TheoryText.{IsTheoryText, by_number, if_told, parts_text}

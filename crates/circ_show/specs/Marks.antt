@@ -1,6 +1,6 @@
 -- A mark for each sort: whether an experiment is known to fit it.
-use Rattle.std.specs.Prelude.{◌≡◌, ◌↔◌, ◌<◌, ◌+◌, ℕ, List, [], ◌∷◌, Bool, true, false, Option, Some, length, if◌then◌else◌}
-use Rattle.std.specs.List.{slice_get, Contains}
+use Rattle.std.specs.Prelude.{◌≡◌, ◌↔◌, ◌+◌, ℕ, List, [], ◌∷◌, Bool, true, false, Option, Some, length, if◌then◌else◌}
+use Rattle.std.specs.List.{slice_get}
 use Rattle.circ_term.specs.Tree.{sort_of}
 use Rattle.circ_theory.specs.Signature.{IsSort}
 use Rattle.circ_theory.specs.Theory.{Theory, Derivative, IsHidden, IsVisible}

@@ -2,6 +2,7 @@
 use crate::command::circ;
 use crate::status::Status;
 use crate::sure::circ_in_memory;
+use circ_lib::lookup;
 use circ_outer::{MemoryShelf, MemorySink, SureShelf, SureSink};
 use std::alloc::{AllocError, Global};
 use std::test::Fail;
@@ -13,6 +14,21 @@ const BITS: &[u8] = b"theory B is inc BITS . vars S A B C : Stream . endtheory";
 
 const DOUBLE_NEGATION: &[u8] =
     b"circproof 1\na 0\na 2 0\na 2 1\nblock\ngoal 2 0\nreduce\nleft equation > 0 0\nleft equation > 1 -\nsame\ndone\nend\n";
+
+const LAZY: &[u8] =
+    b"theory LAZY is sort Stream . op tl : Stream -> Stream . ops c d : -> Stream . derivative tl(*:Stream) . eq tl(c) = c . eq tl(d) = d . endtheory";
+
+const LAZY_SHOWN: &[u8] = b"theory LAZY is
+sort Stream .
+op tl : Stream -> Stream .
+op c : -> Stream .
+op d : -> Stream .
+eq tl(c) = c .
+eq tl(d) = d .
+derivative tl(*:Stream) .
+endtheory
+--- no experiment: Stream
+";
 
 const ACCEPTED: &[u8] = b"accepted\ngoal: not(not(0)) = 0\n";
 
@@ -137,6 +153,58 @@ fn checks_two_files(rt: HostRuntime) -> Result<(), Fail> {
 }
 
 #[test]
+fn shows_theories_and_libraries(rt: HostRuntime) -> Result<(), Fail> {
+    let lazy = Case {
+        theory: LAZY,
+        proof: b"",
+        number: 0,
+        text: LAZY_SHOWN,
+    };
+    let library = Case {
+        text: lookup(b"LANG").unwrap_or(b""),
+        ..lazy
+    };
+    let cut = Case {
+        theory: b"theory T is sort Bit",
+        number: 2,
+        text: b"unreadable: file 1, statement 2, shape\n",
+        ..lazy
+    };
+    assert!(rt; gives(rt.alloc(), &["circ", "show", "t"], lazy)?);
+    assert!(rt; gives(rt.alloc(), &["circ", "library", "LANG"], library)?);
+    assert!(rt; gives(rt.alloc(), &["circ", "show", "t"], cut)?);
+    Ok(())
+}
+
+/// What `show` prints of a theory file; nothing where it does not end with 0.
+fn shown(alloc: Global, theory: &[u8]) -> Result<Vec<u8>, AllocError> {
+    let mut shelf = SureShelf::new(alloc, 65_536);
+    shelf.add("t", theory)?;
+    let mut out = SureSink::new(alloc, 65_536);
+    let words = words(alloc, &["circ", "show", "t"])?;
+    match circ_in_memory(alloc, &words, &mut shelf, &mut out) {
+        Status::Ok => Vec::from_slice(alloc, out.bytes()),
+        _ => Ok(Vec::new(alloc)),
+    }
+}
+
+/// Whether the library's text is shown by a text that is shown as itself.
+fn is_shown_again(alloc: Global, name: &[u8]) -> Result<bool, AllocError> {
+    let first = shown(alloc, lookup(name).unwrap_or(b""))?;
+    let second = shown(alloc, &first)?;
+    Ok(!first.is_empty() && first == second)
+}
+
+#[test]
+fn shown_libraries_read_again(rt: HostRuntime) -> Result<(), Fail> {
+    let names: [&[u8]; 5] = [b"BITS", b"STREAM", b"TREE", b"LANG", b"PROC"];
+    for name in names {
+        assert!(rt; is_shown_again(rt.alloc(), name)?);
+    }
+    Ok(())
+}
+
+#[test]
 fn refuses_other_words(rt: HostRuntime) -> Result<(), Fail> {
     let usage = Case {
         theory: NOT,
@@ -147,6 +215,8 @@ fn refuses_other_words(rt: HostRuntime) -> Result<(), Fail> {
     assert!(rt; gives(rt.alloc(), &["circ", "check", "b.circ"], usage)?);
     assert!(rt; gives(rt.alloc(), &["circ", "check", "t", "p", "p"], usage)?);
     assert!(rt; gives(rt.alloc(), &["circ", "prove", "t", "p"], usage)?);
+    assert!(rt; gives(rt.alloc(), &["circ", "library", "NONE"], usage)?);
+    assert!(rt; gives(rt.alloc(), &["circ", "show", "t", "t"], usage)?);
     Ok(())
 }
 
@@ -160,6 +230,7 @@ fn absent_files_are_read_faults(rt: HostRuntime) -> Result<(), Fail> {
     };
     assert!(rt; gives(rt.alloc(), &["circ", "check", "absent", "p"], absent)?);
     assert!(rt; gives(rt.alloc(), &["circ", "check", "t", "absent"], absent)?);
+    assert!(rt; gives(rt.alloc(), &["circ", "show", "absent"], absent)?);
     Ok(())
 }
 

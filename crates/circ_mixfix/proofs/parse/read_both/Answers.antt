@@ -1,5 +1,4 @@
-use Rattle.std.proofs.Common.{ℕ, sym, subst, false, Bool}
-use Rattle.circ_chart.specs.declared.grammar.Grammar.{Grammar}
+use Rattle.std.proofs.Common.{ℕ, sym, subst, Bool}
 use Rattle.circ_lexer.specs.TokenList.{tokens_in}
 use Rattle.circ_mixfix.specs.Coding.{AllBelow, IsGrammarOf}
 use Rattle.circ_mixfix.specs.Variables.{vars_in}

@@ -1,8 +1,8 @@
-use Rattle.std.proofs.Common.{◌≡◌, ◌≤◌, ◌<◌, ◌-◌, ◌+◌, sym, length, arith}
+use Rattle.std.proofs.Common.{◌≡◌, ◌-◌, ◌+◌, sym, length, arith}
 use Rattle.std.specs.List.{slice_range}
 use Rattle.std.proofs.lemmas.Option.{slice_get_within}
 use Rattle.circ_lexer.specs.TokenList.{tokens_of}
-use Rattle.circ_mixfix.specs.WordLists.{GrowsTo, with_text}
+use Rattle.circ_mixfix.specs.WordLists.{GrowsTo}
 use Rattle.circ_mixfix.proofs.TokenNumbers.{no_numbers, numbers_more, range_none, range_more, range_length}
 use Rattle.circ_mixfix.proofs.Written.{text_past}
 use Rattle.circ_mixfix.proofs.WordLists.{grows_none, grows_more, grows_chain, grows_with}

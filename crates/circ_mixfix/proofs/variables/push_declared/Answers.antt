@@ -1,7 +1,4 @@
-use Rattle.std.proofs.Common.{List, sym, subst}
-use Rattle.circ_theory.specs.Theory.{Declared}
 use Rattle.circ_mixfix.specs.Answers.{declared_by}
-use Rattle.circ_mixfix.specs.Variables.{declarations, AddsDeclared}
 use Rattle.circ_mixfix.proofs.Written.{named_are}
 use Rattle.circ_mixfix.proofs.variables.push_declared.Goals as goal
 

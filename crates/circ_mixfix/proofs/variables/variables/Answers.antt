@@ -1,7 +1,5 @@
-use Rattle.std.proofs.Common.{◌≡◌, ◌+◌, List, ℕ, subst, sym, ap, ◌∙◌, arith}
-use Rattle.circ_chart.specs.declared.grammar.Variable.{Variable}
-use Rattle.circ_mixfix.specs.Variables.{vars_in, HasVariables}
-use Rattle.circ_mixfix.specs.WordLists.{GrowsTo}
+use Rattle.std.proofs.Common.{sym, arith}
+use Rattle.circ_mixfix.specs.Variables.{vars_in}
 use Rattle.circ_mixfix.proofs.Written.{no_variables, has_more, text_past}
 use Rattle.circ_mixfix.proofs.WordLists.{grows_none, grows_chain}
 use Rattle.circ_mixfix.proofs.variables.variables.Goals as goal

@@ -1,5 +1,5 @@
-use Rattle.std.proofs.Common.{◌≡◌, ◌∙◌, ap, sym, option_map, List, ℕ, Bor, None, [], length}
-use Rattle.circ_mixfix.specs.Variables.{vars_in, GivesVariable}
+use Rattle.std.proofs.Common.{◌∙◌, sym}
+use Rattle.circ_mixfix.specs.Variables.{vars_in}
 use Rattle.circ_mixfix.proofs.Written.{absent_name, absent_sort, absent_colon, absent_hole, absent_unknown, gives_written, gives_hole, position_is, is_nil, not_nil, is_star, no_star}
 use Rattle.circ_mixfix.proofs.variables.written.Goals as goal
 

@@ -1,5 +1,5 @@
 use Rattle.std.proofs.Common.{◌≡◌, ◌<◌, ℕ}
-use Rattle.circ_show.specs.Marks.{AreMarks, IsPassed}
+use Rattle.circ_show.specs.Marks.{IsPassed}
 use Rattle.circ_show.proofs.observed.observe_more.Given as goal
 
 abbrev pub invariant-loop-number : goal.invariant-loop-number

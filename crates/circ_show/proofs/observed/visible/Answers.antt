@@ -1,4 +1,4 @@
-use Rattle.std.proofs.Common.{◌≡◌, sym, ◌∙◌, arith}
+use Rattle.std.proofs.Common.{arith}
 use Rattle.circ_show.proofs.Marks.{start_more, start_marks}
 use Rattle.circ_show.proofs.observed.visible.Goals as goal
 

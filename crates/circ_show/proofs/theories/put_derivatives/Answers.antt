@@ -1,4 +1,3 @@
-use Rattle.std.proofs.Common.{sym}
 use Rattle.circ_show.specs.Lines.{derivative_line}
 use Rattle.circ_show.proofs.Marks.{by_body}
 use Rattle.circ_show.proofs.Steps.{list_step}

@@ -1,5 +1,4 @@
-use Rattle.std.proofs.Common.{◌≡◌, ◌++◌, flat_map, drop, List, ℕ}
-use Rattle.circ_theory.specs.Theory.{Derivative}
+use Rattle.std.proofs.Common.{◌≡◌, ◌++◌, flat_map, drop}
 use Rattle.circ_show.specs.Lines.{derivative_line}
 use Rattle.circ_show.proofs.theories.put_derivatives.Given as goal
 

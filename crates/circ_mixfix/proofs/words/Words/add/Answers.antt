@@ -1,7 +1,7 @@
 use Rattle.std.proofs.Common.{◌≡◌, ◌∙◌, ap, sym, subst, refl, List, ℕ, map}
 use Rattle.circ_theory.specs.Names.{AreDifferent}
 use Rattle.circ_mixfix.specs.WordLists.{with_text}
-use Rattle.circ_mixfix.proofs.WordLists.{inserted, different_with, there, with_there, last_added}
+use Rattle.circ_mixfix.proofs.WordLists.{inserted, different_with, with_there, last_added}
 use Rattle.circ_mixfix.proofs.words.Words.add.Goals as goal
 use Rattle.circ_mixfix.proofs.words.Words.add.Goals.{In_ok-insert}
 
