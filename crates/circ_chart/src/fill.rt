@@ -1,5 +1,6 @@
 //! The chart of all ranges of a token list.
 ghost use Rattle.std.specs.Prelude.{◌≡◌, ℕ, ◌≤◌, ◌<◌, ◌+◌, ◌-◌, ◌++◌, ◌∷◌, [], length, IfOk};
+ghost use Rattle.circ_chart.specs.declared.chart.Column.{Column};
 ghost use Rattle.circ_chart.specs.Known.{edges_of, IsStarts, IsColumns};
 ghost use Rattle.circ_chart.specs.Words.{HaveWords};
 ghost use Rattle.circ_chart.specs.Fill.{IsTail, IsColumn};
@@ -87,6 +88,24 @@ fn put(starts: Vec<Start>, place: usize, found: Vec<Edge>) -> Result<Vec<Start>,
     Ok(starts)
 }
 
+// The column of the empty range at the end.
+fn first_columns(
+    alloc: Global,
+    grammar: &Grammar,
+    tokens: &[u32],
+    end: usize,
+    edges: &[Edge],
+) -> Result<Vec<Column>, AllocError>
+    requires inside { end ≤ length tokens.now }
+    requires edges { AreSmall edges.now }
+    ensures { IfOk result (λ v. (c : Column) × (v.items ≡ c ∷ []) × IsColumn grammar.now tokens.now c end end edges.now [] []) }
+{
+    let mut columns = Vec::new(alloc);
+    let first = column(alloc, grammar, tokens, end, end, edges, &[], &columns)?;
+    columns.push(first)?;
+    Ok(columns)
+}
+
 // The chart with every range that ends at one place, the shortest first.
 fn fill_end(
     alloc: Global,
@@ -104,18 +123,7 @@ fn fill_end(
     ensures count { IfOk result (λ v. length v.items ≡ length tokens.now) }
 {
     let mut starts = starts;
-    let mut columns = Vec::new(alloc);
-    let first = column(
-        alloc,
-        grammar,
-        tokens,
-        end,
-        end,
-        edges_at(&starts, end),
-        &[],
-        &columns,
-    )?;
-    columns.push(first)?;
+    let mut columns = first_columns(alloc, grammar, tokens, end, edges_at(&starts, end))?;
     let mut i = end;
     while i > 0 {
         i -= 1;

@@ -1,9 +1,9 @@
 -- What one answer says: a file that was not read, a file past the limit, a text that was not written.
-use Rattle.std.proofs.Common.{◌≡◌, ◌≢◌, ℕ, List, [], inl, inr, true, refl, sym, ◌∙◌, subst}
+use Rattle.std.proofs.Common.{◌≡◌, ◌≢◌, ℕ, List, [], inl, inr, refl, sym, ◌∙◌, subst}
 use Rattle.circ_theory.specs.Theory.{Theory}
 use Rattle.circ_file.specs.Proof.{Proof, goals_of}
 use Rattle.circ_top.specs.Accepted.{Accepted, FirstFail}
-use Rattle.circ_top.specs.Command.{Command, Check, Show, Library, Asks}
+use Rattle.circ_top.specs.Command.{Command, Check, Show, Library}
 use Rattle.circ_top.specs.Outcome.{Held, TheoryRefusal, ProofRefusal, refused, accepted, Outcome, command, Outside, IsUnread, IsTooLong, IsFileFault, RefusesCheck, theory_fault, proof_fault, step_fails, RefusesCommand, no_command, refused_command, Due, success, refusal, Output, Prints, Delivers, whole, write_failed, memory_wanted, Answers}
 use Rattle.circ_top.specs.Causes.{FilesRead, AtFile, IsPastLimit, IsReadFault, IsWriteFault}
 use Rattle.circ_top.specs.Texts.{refusal_text, accepted_text}

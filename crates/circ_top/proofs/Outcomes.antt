@@ -1,5 +1,5 @@
 -- What the answer that is due says of the outcome, and the other way.
-use Rattle.std.proofs.Common.{◌≡◌, ◌≢◌, ℕ, List, [], ◌∷◌, ◌++◌, inl, inr, true, refl, ap, sym, ◌∙◌, subst, arith, append-nil, length, Some, None, Result, Err}
+use Rattle.std.proofs.Common.{◌≡◌, ℕ, List, [], ◌∷◌, ◌++◌, inl, inr, true, refl, ap, sym, ◌∙◌, subst, arith, append-nil, length, Some, None, Result, Err}
 use Rattle.std.proofs.lemmas.Option.{same_Some}
 use Rattle.circ_outer.specs.Count.{Rose}
 use Rattle.circ_theory.specs.Theory.{Theory}

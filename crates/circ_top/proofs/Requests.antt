@@ -3,7 +3,7 @@ use Rattle.std.proofs.Common.{◌≡◌, ℕ, List, [], ◌∷◌, length, map, 
 use Rattle.std.proofs.lemmas.List.{length-map}
 use Rattle.std.proofs.lemmas.Option.{same_Some}
 use Rattle.circ_lib.specs.Library.{library_text}
-use Rattle.circ_top.specs.Command.{Command, Check, Show, Library, Asks, check, show, library, IsNoCommand}
+use Rattle.circ_top.specs.Command.{Command, Library, Asks, check, show, library, IsNoCommand}
 
 -- three words, of which two are known
 pub three_words : {X : Type 0} (f : X → List ℕ) (xs : List X) (b c : X) → length xs ≡ 3 → b ≡ get_or xs 1 b → c ≡ get_or xs 2 c → (a : List ℕ) × (map f xs ≡ a ∷ f b ∷ f c ∷ [])
