@@ -24,8 +24,10 @@ number_step f n count old new goal h g e =
     ap (λ ys. ys ++ by_number f (n + 1) (count - (n + 1))) g ∙ append_assoc old (f n) (by_number f (n + 1) (count - (n + 1)))
     ∙ sym (ap (λ m. old ++ by_number f n m) k) ∙ e
 
--- three texts are put behind one another
-pub put_three : {E : Type 0} (r : Result (Unit {0}) E) (old one two new a b c : List ℕ) → one ≡ old ++ a → two ≡ one ++ b → new ≡ (if is_ok r then two ++ c else two)
-    → OnOk r (new ≡ old ++ ((a ++ b) ++ c))
-put_three (Ok u) old one two new a b c e f g = g ∙ ap (λ x. x ++ c) (f ∙ ap (λ x. x ++ b) e ∙ append_assoc old a b) ∙ append_assoc old (a ++ b) c
-put_three (Err x) old one two new a b c e f g = tt
+-- one text after another
+pub joins : (old one two a b : List ℕ) → one ≡ old ++ a → two ≡ one ++ b → two ≡ old ++ (a ++ b)
+joins old one two a b e f = f ∙ ap (λ x. x ++ b) e ∙ append_assoc old a b
+
+pub ends : {E : Type 0} (r : Result (Unit {0}) E) (old one new a b : List ℕ) → one ≡ old ++ a → new ≡ (if is_ok r then one ++ b else one) → OnOk r (new ≡ old ++ (a ++ b))
+ends (Ok u) old one new a b e f = joins old one new a b e f
+ends (Err x) old one new a b e f = tt

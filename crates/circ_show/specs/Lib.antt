@@ -1,4 +1,5 @@
 pub mod Lines
+pub mod Brackets
 pub mod TheoryText
 pub mod GoalsText
 pub mod Observed

@@ -1,8 +1,9 @@
--- The lines of a theory's text. A word that is empty leaves no second blank.
-use Rattle.std.specs.Prelude.{ℕ, List, [], ◌∷◌, ◌++◌, Bool, true, false, flat_map, codes, decimal, unwrap_or, if◌then◌else◌}
+-- The lines of a theory's text. A word that is empty leaves no second space.
+use Rattle.std.specs.Prelude.{ℕ, ◌-◌, List, [], ◌∷◌, ◌++◌, Bool, true, false, ◌&&◌, length, flat_map, codes, decimal, unwrap_or, if◌then◌else◌}
 use Rattle.std.specs.List.{slice_get, list_any}
 use Rattle.std.specs.Option.{option_map_or}
 use Rattle.circ_term.specs.Tree.{Tree}
+use Rattle.circ_theory.specs.declared.forms.Piece.{Piece}
 use Rattle.circ_theory.specs.declared.parts.Side.{Side}
 use Rattle.circ_theory.specs.declared.parts.Side.TheVariants.{Neither, Left, Right}
 use Rattle.circ_theory.specs.declared.parts.Equation.{Equation}
@@ -11,9 +12,9 @@ use Rattle.circ_theory.specs.Signature.{Signature, Operator}
 use Rattle.circ_theory.specs.Theory.{Theory, Declared, pair_of}
 use Rattle.circ_theory.specs.Operators.{is_hole_piece}
 use Rattle.circ_theory.specs.Observing.{cases_of}
-use Rattle.circ_mixfix.specs.Printing.{text_of_term, text_of_pair}
+use Rattle.circ_mixfix.specs.Printing.{joined, text_of_term, text_of_pair}
 
--- a word behind a blank; nothing where it is empty
+-- a word after a space; nothing where it is empty
 abbrev pub spaced : List ℕ → List ℕ
 spaced [] = []
 spaced (b ∷ w) = 32 ∷ b ∷ w
@@ -21,19 +22,24 @@ spaced (b ∷ w) = 32 ∷ b ∷ w
 abbrev pub sort_name : Signature → ℕ → List ℕ
 sort_name sig s = unwrap_or (slice_get sig.sorts s) []
 
--- The first attribute stands behind an opening bracket, each other behind a blank, and a closing bracket behind the last. Where there is none, there is no bracket.
-abbrev pub bracketed : (begun : Bool) → List (List ℕ) → List ℕ
-bracketed begun [] = if begun then codes "]" else []
-bracketed begun (w ∷ ws) = (if begun then codes " " else codes " [") ++ (w ++ bracketed true ws)
+abbrev pub is_hole_at : List Piece → ℕ → Bool
+is_hole_at ps n = option_map_or is_hole_piece (slice_get ps n) false
 
-abbrev pub side_words : Side → List (List ℕ)
-side_words Neither = []
-side_words Left = codes "left" ∷ []
-side_words Right = codes "right" ∷ []
+-- the form begins and ends with a hole, so that a side counts
+abbrev pub has_outer_holes : List Piece → Bool
+has_outer_holes ps = is_hole_at ps 0 && is_hole_at ps (length ps - 1)
+
+abbrev pub side_words : Operator → List (List ℕ)
+side_words o = if has_outer_holes o.form then side_word o.side else []
+  where
+    side_word : Side → List (List ℕ)
+    side_word Neither = []
+    side_word Left = codes "left" ∷ []
+    side_word Right = codes "right" ∷ []
 
 -- the precedence and the side, of an operator with holes
 abbrev pub precedence_words : Operator → List (List ℕ)
-precedence_words o = if list_any is_hole_piece o.form then (codes "prec " ++ decimal o.prec) ∷ side_words o.side else []
+precedence_words o = if list_any is_hole_piece o.form then (codes "prec " ++ decimal o.prec) ∷ side_words o else []
 
 abbrev pub if_marked : Bool → List ℕ → List (List ℕ)
 if_marked b w = if b then w ∷ [] else []
@@ -41,8 +47,13 @@ if_marked b w = if b then w ∷ [] else []
 abbrev pub attribute_words : Operator → List (List ℕ)
 attribute_words o = precedence_words o ++ (if_marked o.assoc (codes "assoc") ++ (if_marked o.comm (codes "comm") ++ if_marked o.idem (codes "idem")))
 
+-- the words in brackets, joined by one space, after a space; nothing where there is no word
+abbrev pub in_brackets : List (List ℕ) → List ℕ
+in_brackets [] = []
+in_brackets (w ∷ ws) = codes " [" ++ joined (codes " ") (w ∷ ws) ++ codes "]"
+
 abbrev pub attributes : Operator → List ℕ
-attributes o = bracketed false (attribute_words o)
+attributes o = in_brackets (attribute_words o)
 
 abbrev pub theory_line : (name : List ℕ) → List ℕ
 theory_line name = codes "theory" ++ spaced name ++ codes " is\n"

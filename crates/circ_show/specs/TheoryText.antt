@@ -16,13 +16,13 @@ parts_text th =
     ++ flat_map (var_line th.signature) th.variables ++ flat_map (equation_line th.signature) th.equations
     ++ flat_map (λ d. derivative_line th.signature d.body) th.derivatives ++ by_number (cases_line th) 0 (length th.signature.sorts) ++ codes "endtheory\n"
 
--- the text of a number where this is told of it
-abbrev pub if_told : (ℕ → Bool) → (ℕ → List ℕ) → ℕ → List ℕ
-if_told told f n = if told n then f n else []
+-- the text of a number of which the test is true
+abbrev pub text_where : (ℕ → Bool) → (ℕ → List ℕ) → ℕ → List ℕ
+text_where test f n = if test n then f n else []
 
--- the text of a theory, by what tells that a sort is not observed
+-- the text of a theory, by a test whether a sort is not observed
 abbrev pub text_of_theory : Theory → (ℕ → Bool) → List ℕ
-text_of_theory th unobserved = parts_text th ++ by_number (if_told unobserved (unobserved_line th.signature)) 0 (length th.signature.sorts)
+text_of_theory th unobserved = parts_text th ++ by_number (text_where unobserved (unobserved_line th.signature)) 0 (length th.signature.sorts)
 
 -- The text of a theory, with a line for each sort that is not observed.
 pub record IsTheoryText (th : Theory) (text : List ℕ) : Type 0 where

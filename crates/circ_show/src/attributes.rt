@@ -2,7 +2,8 @@
 ghost use Rattle.std.specs.Prelude.{◌≡◌, ◌++◌, ◌∷◌, [], ℕ, List, true, false, codes, decimal, IfOk, OnOk};
 ghost use Rattle.std.specs.List.{list_any};
 ghost use Rattle.circ_theory.specs.Operators.{is_hole_piece, operator_of};
-ghost use Rattle.circ_show.specs.Lines.{bracketed, side_words, precedence_words, if_marked, attributes};
+ghost use Rattle.circ_show.specs.Brackets.{bracketed};
+ghost use Rattle.circ_show.specs.Lines.{is_hole_at, has_outer_holes, side_words, precedence_words, if_marked, attributes};
 
 use circ_theory::{OpDecl, Piece, Side};
 use itoa::Buffer;
@@ -14,7 +15,7 @@ fn has_hole(pieces: &[Piece]) -> bool
     pieces.iter().any(|piece| matches!(piece, Piece::Hole))
 }
 
-// One attribute more. The first stands behind an opening bracket, each other behind a blank.
+// One attribute more. The first stands after an opening bracket, each other after a space.
 fn put_attribute(out: &mut Vec<u8>, begun: bool, word: &[u8]) -> Result<(), AllocError>
     ensures { OnOk result ((rest : List (List ℕ)) → out.new.items ++ bracketed true rest ≡ out.old.items ++ bracketed begun (word.now ∷ rest)) }
 {
@@ -33,10 +34,26 @@ fn put_mark(out: &mut Vec<u8>, begun: bool, set: bool, word: &[u8]) -> Result<bo
     Ok(true)
 }
 
-fn put_side(out: &mut Vec<u8>, side: Side) -> Result<(), AllocError>
-    ensures { OnOk result ((rest : List (List ℕ)) → out.new.items ++ bracketed true rest ≡ out.old.items ++ bracketed true (side_words side ++ rest)) }
+fn is_hole_at(pieces: &[Piece], place: usize) -> bool
+    ensures { result ≡ is_hole_at pieces.now place }
 {
-    match side {
+    matches!(pieces.get(place), Some(Piece::Hole))
+}
+
+// Whether a side counts: the form begins and ends with a hole.
+fn has_outer_holes(pieces: &[Piece]) -> bool
+    ensures { result ≡ has_outer_holes pieces.now }
+{
+    is_hole_at(pieces, 0) && is_hole_at(pieces, pieces.len().saturating_sub(1))
+}
+
+fn put_side(out: &mut Vec<u8>, decl: &OpDecl) -> Result<(), AllocError>
+    ensures { OnOk result ((rest : List (List ℕ)) → out.new.items ++ bracketed true rest ≡ out.old.items ++ bracketed true (side_words (operator_of decl.now) ++ rest)) }
+{
+    if !has_outer_holes(decl.form.pieces()) {
+        return Ok(());
+    }
+    match decl.side {
         Side::Neither => Ok(()),
         Side::Left => put_attribute(out, true, b"left"),
         Side::Right => put_attribute(out, true, b"right"),
@@ -53,7 +70,7 @@ fn put_precedence(out: &mut Vec<u8>, decl: &OpDecl) -> Result<bool, AllocError>
     out.extend_from_slice(b" [prec ")?;
     let mut buffer = Buffer::new();
     out.extend_from_slice(buffer.format(decl.prec).as_bytes())?;
-    put_side(out, decl.side)?;
+    put_side(out, decl)?;
     Ok(true)
 }
 

@@ -1,5 +1,6 @@
 //! Goals as text.
 ghost use Rattle.std.specs.Prelude.{◌≡◌, ◌++◌, map, OnOk, OnErr};
+ghost use Rattle.circ_mixfix.specs.Printing.{Keeps};
 ghost use Rattle.circ_show.specs.GoalsText.{goal_line, goal_lines, plain_goal};
 
 use circ_mixfix::print_pair;
@@ -12,7 +13,8 @@ fn put_goal(
     theory: &Theory,
     goal: &Goal,
 ) -> Result<(), AllocError>
-    ensures { OnOk result (out.new.items ≡ out.old.items ++ goal_line theory.now.signature (plain_goal goal.now)) }
+    ensures text { OnOk result (out.new.items ≡ out.old.items ++ goal_line theory.now.signature (plain_goal goal.now)) }
+    ensures keeps { Keeps out.old.items out.new.items }
 {
     out.extend_from_slice(b"goal: ")?;
     print_pair(alloc, theory, &goal.left, &goal.right, out)?;
@@ -25,7 +27,8 @@ fn put_goals(
     theory: &Theory,
     goals: &[Goal],
 ) -> Result<(), AllocError>
-    ensures { OnOk result (out.new.items ≡ out.old.items ++ goal_lines theory.now.signature (map plain_goal goals.now)) }
+    ensures text { OnOk result (out.new.items ≡ out.old.items ++ goal_lines theory.now.signature (map plain_goal goals.now)) }
+    ensures keeps { Keeps out.old.items out.new.items }
 {
     for goal in goals {
         put_goal(alloc, out, theory, goal)?;
@@ -43,7 +46,12 @@ pub fn goals_text(
     ensures text { OnOk result (out.new.items ≡ out.old.items ++ goal_lines theory.now.signature (map plain_goal goals.now)) }
     ensures err { OnErr result (out.new.items ≡ out.old.items) }
 {
-    let mut text = Vec::new(alloc);
-    put_goals(alloc, &mut text, theory, goals)?;
-    out.extend_from_slice(&text)
+    let before = out.len();
+    match put_goals(alloc, out, theory, goals) {
+        Ok(()) => Ok(()),
+        Err(fault) => {
+            out.truncate(before);
+            Err(fault)
+        }
+    }
 }

@@ -12,7 +12,7 @@ use circ_term::Term;
 use circ_theory::{Equation, OpDecl, Piece, Theory};
 use std::alloc::{AllocError, Global};
 
-// A word behind a blank; nothing where it is empty.
+// A word after a space; nothing where it is empty.
 fn put_word(out: &mut Vec<u8>, word: &[u8]) -> Result<(), AllocError>
     ensures { OnOk result (out.new.items ≡ out.old.items ++ spaced word.now) }
 {

@@ -29,7 +29,7 @@ fn is_marked(marks: &[bool], sort: u32) -> bool
     matches!(marks.get(sort as usize), Some(true))
 }
 
-// Marks the hole's sort of a derivative whose result is marked. Answers whether it was not marked before.
+// Marks the hole's sort of a derivative whose result is marked. Answers whether it marked one.
 fn observe(theory: &Theory, marks: &mut Vec<bool>, number: u32) -> bool
     requires { AreMarks theory.now marks.old.items }
     ensures marks { AreMarks theory.now marks.new.items }
@@ -85,7 +85,7 @@ pub fn is_unmarked(marks: &[bool], sort: u32) -> bool
     matches!(marks.get(sort as usize), Some(false))
 }
 
-/// Whether the sort is hidden and no experiment fits it. Then no derivation can tell two of its terms apart, and every pair
+/// Whether the sort is hidden and no experiment fits it. Then no experiment can tell two of its terms apart, and every pair
 /// behaves. The only fault is want of memory.
 pub fn unobserved(alloc: Global, theory: &Theory, sort: u32) -> Result<bool, AllocError>
     ensures { IfOk result (λ b. IsTrue b ↔ IsUnobserved theory.now sort) }

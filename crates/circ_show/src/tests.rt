@@ -31,7 +31,7 @@ fn add_op(alloc: Global, theory: &mut Theory, op: Op<'_>) -> bool {
     }
 }
 
-// The sorts Bit, Stream and Lazy, and operators: 0, `_+_`, and, hd, tl, next.
+// The sorts Bit, Stream and Lazy, and operators: 0, `_+_`, and, hd, tl, next, `[_]`.
 fn add_signature(alloc: Global, theory: &mut Theory) -> bool {
     let none = [false, false, false];
     let all = [true, true, true];
@@ -48,6 +48,7 @@ fn add_signature(alloc: Global, theory: &mut Theory) -> bool {
         && add_op(alloc, theory, (b"hd", &[1], 0, Side::Neither, none))
         && add_op(alloc, theory, (b"tl", &[1], 1, Side::Neither, none))
         && add_op(alloc, theory, (b"next", &[2], 2, Side::Neither, none))
+        && add_op(alloc, theory, (b"[_]", &[0], 0, Side::Left, none))
 }
 
 // An operator on variable 0 of a sort.
@@ -97,6 +98,7 @@ op and : Bit Bit -> Bit [assoc comm idem] .
 op hd : Stream -> Bit .
 op tl : Stream -> Stream .
 op next : Lazy -> Lazy .
+op [_] : Bit -> Bit [prec 33] .
 var X : Bit .
 derivative tl(*:Stream) .
 derivative hd(*:Stream) .
@@ -144,7 +146,7 @@ fn is_shown(alloc: Global) -> bool {
 }
 
 #[test]
-fn a_theory_with_each_kind_of_part(rt: HostRuntime) -> Result<(), Fail> {
+fn a_theory_and_a_goal(rt: HostRuntime) -> Result<(), Fail> {
     assert!(rt; is_shown(rt.alloc()));
     Ok(())
 }

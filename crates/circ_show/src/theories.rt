@@ -2,7 +2,7 @@
 ghost use Rattle.std.specs.Prelude.{◌≡◌, ◌++◌, ℕ, List, codes, flat_map, map, length, Bool, IfOk, OnOk, OnErr};
 ghost use Rattle.circ_theory.specs.Theory.{Theory};
 ghost use Rattle.circ_show.specs.Lines.{sort_line, op_line, var_line, equation_line, derivative_line, cases_line, unobserved_line};
-ghost use Rattle.circ_show.specs.TheoryText.{IsTheoryText, by_number, parts_text, if_told, text_of_theory};
+ghost use Rattle.circ_show.specs.TheoryText.{IsTheoryText, by_number, parts_text, text_where, text_of_theory};
 ghost use Rattle.circ_show.specs.Marks.{is_unmarked};
 
 use crate::lines::{
@@ -88,7 +88,7 @@ fn put_unmarked(
     marks: &[bool],
     sort: u32,
 ) -> Result<(), AllocError>
-    ensures { OnOk result (out.new.items ≡ out.old.items ++ if_told (is_unmarked marks.now) (unobserved_line theory.now.signature) sort) }
+    ensures { OnOk result (out.new.items ≡ out.old.items ++ text_where (is_unmarked marks.now) (unobserved_line theory.now.signature) sort) }
 {
     if is_unmarked(marks, sort) {
         return put_unobserved(out, theory, sort);
@@ -97,7 +97,7 @@ fn put_unmarked(
 }
 
 fn put_all_unmarked(out: &mut Vec<u8>, theory: &Theory, marks: &[bool]) -> Result<(), AllocError>
-    ensures { OnOk result (out.new.items ≡ out.old.items ++ by_number (if_told (is_unmarked marks.now) (unobserved_line theory.now.signature)) 0 (length theory.now.signature.sorts)) }
+    ensures { OnOk result (out.new.items ≡ out.old.items ++ by_number (text_where (is_unmarked marks.now) (unobserved_line theory.now.signature)) 0 (length theory.now.signature.sorts)) }
 {
     for sort in 0..theory.sort_count() {
         put_unmarked(out, theory, marks, sort)?;

@@ -70,7 +70,7 @@ TheoryRefusal place c bytes = FirstCause bytes place c
 abbrev pub ProofRefusal : Theory → Refusal
 ProofRefusal th place c bytes = (place ≡ 0) × (c ≡ cause.Line) × IsNoProof th bytes
 
--- The named file refuses a `check`: it is too long, or its bytes are refused.
+-- The named file refuses a command: it is too long, or its bytes are refused.
 abbrev pub RefusesFile : Held → (file : ℕ) → (name : List ℕ) → Refusal → Status → Type 0
 RefusesFile held file name N (status.TooLong f n) = (f ≡ file) × HoldsMore held name n
 RefusesFile held file name N (status.Unreadable f place c) = (f ≡ file) × Holds held name (N place c)

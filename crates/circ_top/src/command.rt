@@ -238,7 +238,7 @@ pub fn circ<S: Shelf, K: Sink>(
     ensures accepted { (theory proof : List ℕ) → Asks (map string_bytes words.now.items) (Check theory proof) → result ≡ Status.Ok → Accepts (outside (S.tells shelf.old) (S.holds shelf.old) (S.fault_count shelf.old) (S.fault_count shelf.new) (S.last_fault shelf.old) (S.last_fault shelf.new)) (output (K.tells out.old) (K.written out.old) (K.written out.new) (K.fault_count out.old) (K.fault_count out.new)) theory proof }
     ensures refused { (n : ℕ) → result ≡ Status.Refused n → Rejects (map string_bytes words.now.items) (outside (S.tells shelf.old) (S.holds shelf.old) (S.fault_count shelf.old) (S.fault_count shelf.new) (S.last_fault shelf.old) (S.last_fault shelf.new)) (output (K.tells out.old) (K.written out.old) (K.written out.new) (K.fault_count out.old) (K.fault_count out.new)) n }
 
-    // Status 0 of any command: its text is printed, as it is stated for each.
+    // Status 0 of any command: its text is printed, which `Succeeds` states for each.
     ensures succeeded { result ≡ Status.Ok → Succeeded (map string_bytes words.now.items) (outside (S.tells shelf.old) (S.holds shelf.old) (S.fault_count shelf.old) (S.fault_count shelf.new) (S.last_fault shelf.old) (S.last_fault shelf.new)) (output (K.tells out.old) (K.written out.old) (K.written out.new) (K.fault_count out.old) (K.fault_count out.new)) }
 
     // Each answer has its cause and its text.

@@ -14,7 +14,7 @@ pub(crate) fn term_at(table: &[Term], number: u32) -> &Term
     &table[number as usize]
 }
 
-/// The goal of a number, from 0.
+/// The table numbers of a goal, by its own number from 0.
 pub(crate) fn name_at(names: &[Name], number: usize) -> Option<&Name>
     ensures { option_copied result ≡ slice_get names.now number }
 {

@@ -1,8 +1,8 @@
-//! The program over a shelf and a sink that never fail.
-ghost use Rattle.std.specs.Prelude.{◌≡◌, ◌⊎◌, ◌++◌, ℕ, List, map, string_bytes};
+//! The program over files and a text in memory, which never fail.
+ghost use Rattle.std.specs.Prelude.{◌≡◌, ◌⊎◌, ◌++◌, ℕ, List, true, None, map, string_bytes};
 ghost use Rattle.circ_outer.specs.SureShelf.{holds_of};
 ghost use Rattle.circ_outer.specs.SureSink.{written_of};
-ghost use Rattle.circ_top.specs.Outcome.{Outcome};
+ghost use Rattle.circ_top.specs.Outcome.{Outcome, Answers, outside, output};
 ghost use Rattle.circ_top.specs.Causes.{HoldsFiles, IsLike, Appends};
 
 use crate::command::circ;
@@ -18,6 +18,7 @@ pub fn circ_in_memory(
     shelf: &mut SureShelf,
     out: &mut SureSink,
 ) -> Status
+    ensures answers { Answers (map string_bytes words.now.items) (outside true (holds_of shelf.old) 0 0 None None) (output true (written_of out.old) (written_of out.new) 0 0) result }
     ensures no_read_fault { HoldsFiles (map string_bytes words.now.items) (holds_of shelf.old) → (n : ℕ) → result ≡ Status.ReadFault n → ⊥ }
     ensures no_write_fault { (n : ℕ) → result ≡ Status.WriteFault n → ⊥ }
     ensures outcome { HoldsFiles (map string_bytes words.now.items) (holds_of shelf.old) → Appends (map string_bytes words.now.items) (holds_of shelf.old) (written_of out.old) (written_of out.new) result }

@@ -30,6 +30,28 @@ endtheory
 --- no experiment: Stream
 ";
 
+const PARTS: &[u8] =
+    b"theory T is sorts A B S R . op b : -> B . op a : -> A . op h : S -> A . op n : R -> S . derivative n(*:R) . derivative h(*:S) . cases B by b . cases A by a . vars x y : S . eq x = y [nonexec] . endtheory";
+
+const PARTS_SHOWN: &[u8] = b"theory T is
+sort A .
+sort B .
+sort S .
+sort R .
+op b : -> B .
+op a : -> A .
+op h : S -> A .
+op n : R -> S .
+var x : S .
+var y : S .
+eq V0:S = V1:S [nonexec] .
+derivative n(*:R) .
+derivative h(*:S) .
+cases A by a .
+cases B by b .
+endtheory
+";
+
 const ACCEPTED: &[u8] = b"accepted\ngoal: not(not(0)) = 0\n";
 
 const USAGE: &[u8] = b"usage: circ [--steps N] [--derives N] COMMAND WORD...\n";
@@ -160,6 +182,11 @@ fn shows_theories_and_libraries(rt: HostRuntime) -> Result<(), Fail> {
         number: 0,
         text: LAZY_SHOWN,
     };
+    let parts = Case {
+        theory: PARTS,
+        text: PARTS_SHOWN,
+        ..lazy
+    };
     let library = Case {
         text: lookup(b"LANG").unwrap_or(b""),
         ..lazy
@@ -171,6 +198,7 @@ fn shows_theories_and_libraries(rt: HostRuntime) -> Result<(), Fail> {
         ..lazy
     };
     assert!(rt; gives(rt.alloc(), &["circ", "show", "t"], lazy)?);
+    assert!(rt; gives(rt.alloc(), &["circ", "show", "t"], parts)?);
     assert!(rt; gives(rt.alloc(), &["circ", "library", "LANG"], library)?);
     assert!(rt; gives(rt.alloc(), &["circ", "show", "t"], cut)?);
     Ok(())
@@ -200,6 +228,32 @@ fn shown_libraries_read_again(rt: HostRuntime) -> Result<(), Fail> {
     let names: [&[u8]; 5] = [b"BITS", b"STREAM", b"TREE", b"LANG", b"PROC"];
     for name in names {
         assert!(rt; is_shown_again(rt.alloc(), name)?);
+    }
+    Ok(())
+}
+
+/// The checksum Adler-32 of a text.
+fn checksum(text: &[u8]) -> u32 {
+    let (mut low, mut high) = (1u32, 0u32);
+    for byte in text {
+        low = low.wrapping_add(u32::from(*byte)) % 65_521;
+        high = high.wrapping_add(low) % 65_521;
+    }
+    high.wrapping_mul(65_536).wrapping_add(low)
+}
+
+/// The checksums were taken of the texts' description, by another program.
+#[test]
+fn library_texts_are_these(rt: HostRuntime) -> Result<(), Fail> {
+    let checksums: [(&[u8], u32); 5] = [
+        (b"BITS", 2_856_308_071),
+        (b"STREAM", 1_384_098_290),
+        (b"TREE", 1_310_435_938),
+        (b"LANG", 2_004_260_535),
+        (b"PROC", 993_272_189),
+    ];
+    for (name, wanted) in checksums {
+        assert_eq!(rt; checksum(lookup(name).unwrap_or(b"")), wanted);
     }
     Ok(())
 }

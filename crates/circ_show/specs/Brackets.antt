@@ -1,0 +1,7 @@
+-- Attributes, as far as they are written.
+use Rattle.std.specs.Prelude.{ℕ, List, [], ◌∷◌, ◌++◌, Bool, true, codes, if◌then◌else◌}
+
+-- What the words add that are left, where some have been written or none: the first stands after an opening bracket, each other after a space, and a closing bracket after the last.
+abbrev pub bracketed : (begun : Bool) → List (List ℕ) → List ℕ
+bracketed begun [] = if begun then codes "]" else []
+bracketed begun (w ∷ ws) = (if begun then codes " " else codes " [") ++ (w ++ bracketed true ws)
