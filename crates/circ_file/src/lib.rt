@@ -6,6 +6,8 @@ mod numbers;
 mod proof;
 mod proof_text;
 mod table;
+#[cfg(test)]
+mod tests;
 
 pub use proof::{Chain, Name, Proof};
 pub use proof_text::read_proof;
