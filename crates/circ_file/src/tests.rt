@@ -75,94 +75,95 @@ fn parts(rt: HostRuntime) -> Result<(), Fail> {
     Ok(())
 }
 
+const TEXTS: [(&[u8], bool); 31] = [
+    // as few lines as there can be, a term twice, an equation that does not exist
+    (b"circproof 1\nv 0 0\nblock\ngoal 0 0\ndone\nend\n", true),
+    (b"circproof 1\na 0\na 0\nblock\ngoal 1 0\ndone\nend\n", true),
+    (
+        b"circproof 1\na 0\nblock\ngoal 0 0\nreduce\nleft equation > 9 0\nsame\ndone\nend\n",
+        true,
+    ),
+    // lines: none, no last line feed, a carriage return, one too many, a blank one, blanks
+    (b"", false),
+    (b"circproof 1\nv 0 0\nblock\ngoal 0 0\ndone\nend", false),
+    (b"circproof 1\r\nv 0 0\nblock\ngoal 0 0\ndone\nend\n", false),
+    (
+        b"circproof 1\nv 0 0\nblock\ngoal 0 0\ndone\nend\nend\n",
+        false,
+    ),
+    (b"circproof 1\nv 0 0\n\nblock\ngoal 0 0\ndone\nend\n", false),
+    (b"circproof 1\nv 0  0\nblock\ngoal 0 0\ndone\nend\n", false),
+    (b"circproof 1\nv 0 0 \nblock\ngoal 0 0\ndone\nend\n", false),
+    // numbers: a leading zero, a sign, none, too great
+    (b"circproof 1\nv 00 0\nblock\ngoal 0 0\ndone\nend\n", false),
+    (b"circproof 1\nv +0 0\nblock\ngoal 0 0\ndone\nend\n", false),
+    (b"circproof 1\nv 0\nblock\ngoal 0 0\ndone\nend\n", false),
+    (
+        b"circproof 1\nv 4294967296 0\nblock\ngoal 0 0\ndone\nend\n",
+        false,
+    ),
+    // the table: no such sort, no such operator, other sorts, a line to come, not the least line
+    (b"circproof 1\nv 0 2\nblock\ngoal 0 0\ndone\nend\n", false),
+    (b"circproof 1\na 3\nblock\ngoal 0 0\ndone\nend\n", false),
+    (
+        b"circproof 1\na 1\na 2 0\nblock\ngoal 0 0\ndone\nend\n",
+        false,
+    ),
+    (
+        b"circproof 1\na 2 1\na 0\nblock\ngoal 0 0\ndone\nend\n",
+        false,
+    ),
+    (
+        b"circproof 1\na 0\na 0\na 2 1\nblock\ngoal 0 0\ndone\nend\n",
+        false,
+    ),
+    // goals: none, past the table, of two sorts
+    (b"circproof 1\nv 0 0\nblock\ndone\nend\n", false),
+    (b"circproof 1\nv 0 0\nblock\ngoal 0 1\ndone\nend\n", false),
+    (
+        b"circproof 1\nv 0 0\nv 0 1\nblock\ngoal 0 1\ndone\nend\n",
+        false,
+    ),
+    // steps: not ended, of another kind, a link's path, term, kind and order
+    (
+        b"circproof 1\nv 0 0\nblock\ngoal 0 0\nreduce\ndone\nend\n",
+        false,
+    ),
+    (
+        b"circproof 1\nv 0 0\nblock\ngoal 0 0\nderive\ndone\nend\n",
+        false,
+    ),
+    (
+        b"circproof 1\nv 0 0\nblock\ngoal 0 0\nreduce\nleft equation > 0 65536\nsame\ndone\nend\n",
+        false,
+    ),
+    (
+        b"circproof 1\nv 0 0\nblock\ngoal 0 0\nreduce\nleft equation > 0 0.\nsame\ndone\nend\n",
+        false,
+    ),
+    (
+        b"circproof 1\nv 0 0\nblock\ngoal 0 0\nreduce\nleft equation > 0 - 1\nsame\ndone\nend\n",
+        false,
+    ),
+    (
+        b"circproof 1\nv 0 0\nblock\ngoal 0 0\nreduce\nleft hypothesis > 0 -\nsame\ndone\nend\n",
+        false,
+    ),
+    (
+        b"circproof 1\nv 0 0\nblock\ngoal 0 0\nreduce\nright equation > 0 -\nleft equation > 0 -\nsame\ndone\nend\n",
+        false,
+    ),
+    // another block, and no end
+    (
+        b"circproof 1\nv 0 0\nblock\ngoal 0 0\ndone\nblock\ngoal 0 0\ndone\nend\n",
+        false,
+    ),
+    (b"circproof 1\nv 0 0\nblock\ngoal 0 0\ndone\n", false),
+];
+
 #[test]
 fn texts(rt: HostRuntime) -> Result<(), Fail> {
-    let table: [(&[u8], bool); 31] = [
-        // as few lines as there can be, a term twice, an equation that does not exist
-        (b"circproof 1\nv 0 0\nblock\ngoal 0 0\ndone\nend\n", true),
-        (b"circproof 1\na 0\na 0\nblock\ngoal 1 0\ndone\nend\n", true),
-        (
-            b"circproof 1\na 0\nblock\ngoal 0 0\nreduce\nleft equation > 9 0\nsame\ndone\nend\n",
-            true,
-        ),
-        // lines: none, no last line feed, a carriage return, one too many, a blank one, blanks
-        (b"", false),
-        (b"circproof 1\nv 0 0\nblock\ngoal 0 0\ndone\nend", false),
-        (b"circproof 1\r\nv 0 0\nblock\ngoal 0 0\ndone\nend\n", false),
-        (
-            b"circproof 1\nv 0 0\nblock\ngoal 0 0\ndone\nend\nend\n",
-            false,
-        ),
-        (b"circproof 1\nv 0 0\n\nblock\ngoal 0 0\ndone\nend\n", false),
-        (b"circproof 1\nv 0  0\nblock\ngoal 0 0\ndone\nend\n", false),
-        (b"circproof 1\nv 0 0 \nblock\ngoal 0 0\ndone\nend\n", false),
-        // numbers: a leading zero, a sign, none, too great
-        (b"circproof 1\nv 00 0\nblock\ngoal 0 0\ndone\nend\n", false),
-        (b"circproof 1\nv +0 0\nblock\ngoal 0 0\ndone\nend\n", false),
-        (b"circproof 1\nv 0\nblock\ngoal 0 0\ndone\nend\n", false),
-        (
-            b"circproof 1\nv 4294967296 0\nblock\ngoal 0 0\ndone\nend\n",
-            false,
-        ),
-        // the table: no such sort, no such operator, other sorts, a line to come, not the least line
-        (b"circproof 1\nv 0 2\nblock\ngoal 0 0\ndone\nend\n", false),
-        (b"circproof 1\na 3\nblock\ngoal 0 0\ndone\nend\n", false),
-        (
-            b"circproof 1\na 1\na 2 0\nblock\ngoal 0 0\ndone\nend\n",
-            false,
-        ),
-        (
-            b"circproof 1\na 2 1\na 0\nblock\ngoal 0 0\ndone\nend\n",
-            false,
-        ),
-        (
-            b"circproof 1\na 0\na 0\na 2 1\nblock\ngoal 0 0\ndone\nend\n",
-            false,
-        ),
-        // goals: none, past the table, of two sorts
-        (b"circproof 1\nv 0 0\nblock\ndone\nend\n", false),
-        (b"circproof 1\nv 0 0\nblock\ngoal 0 1\ndone\nend\n", false),
-        (
-            b"circproof 1\nv 0 0\nv 0 1\nblock\ngoal 0 1\ndone\nend\n",
-            false,
-        ),
-        // steps: not ended, of another kind, a link's path, term, kind and order
-        (
-            b"circproof 1\nv 0 0\nblock\ngoal 0 0\nreduce\ndone\nend\n",
-            false,
-        ),
-        (
-            b"circproof 1\nv 0 0\nblock\ngoal 0 0\nderive\ndone\nend\n",
-            false,
-        ),
-        (
-            b"circproof 1\nv 0 0\nblock\ngoal 0 0\nreduce\nleft equation > 0 65536\nsame\ndone\nend\n",
-            false,
-        ),
-        (
-            b"circproof 1\nv 0 0\nblock\ngoal 0 0\nreduce\nleft equation > 0 0.\nsame\ndone\nend\n",
-            false,
-        ),
-        (
-            b"circproof 1\nv 0 0\nblock\ngoal 0 0\nreduce\nleft equation > 0 - 1\nsame\ndone\nend\n",
-            false,
-        ),
-        (
-            b"circproof 1\nv 0 0\nblock\ngoal 0 0\nreduce\nleft hypothesis > 0 -\nsame\ndone\nend\n",
-            false,
-        ),
-        (
-            b"circproof 1\nv 0 0\nblock\ngoal 0 0\nreduce\nright equation > 0 -\nleft equation > 0 -\nsame\ndone\nend\n",
-            false,
-        ),
-        // another block, and no end
-        (
-            b"circproof 1\nv 0 0\nblock\ngoal 0 0\ndone\nblock\ngoal 0 0\ndone\nend\n",
-            false,
-        ),
-        (b"circproof 1\nv 0 0\nblock\ngoal 0 0\ndone\n", false),
-    ];
-    for (text, wanted) in &table {
+    for (text, wanted) in &TEXTS {
         assert!(rt; answers(rt.alloc(), text, false, *wanted));
     }
     Ok(())

@@ -29,6 +29,14 @@ fn decl(
     })
 }
 
+// A form, its arguments, its side, and the symbols where the precedence is 33.
+type SymbolRow = (
+    &'static [u8],
+    &'static [u32],
+    Side,
+    &'static [(&'static [u8], u32, u8)],
+);
+
 // A word, or `_`; the sort of a hole, and what it takes.
 fn shown<'a>(symbol: Symbol<'a>) -> (&'a [u8], u32, u8) {
     match symbol {
@@ -37,56 +45,56 @@ fn shown<'a>(symbol: Symbol<'a>) -> (&'a [u8], u32, u8) {
     }
 }
 
-// A form, its arguments, its side; the symbols, where the precedence is 33.
+const SYMBOLS: [SymbolRow; 6] = [
+    (
+        b"_+_",
+        &[1, 2],
+        Side::Left,
+        &[(b"_", 1, 34), (b"+", 0, 0), (b"_", 2, 33)],
+    ),
+    (
+        b"_+_",
+        &[1, 2],
+        Side::Right,
+        &[(b"_", 1, 33), (b"+", 0, 0), (b"_", 2, 34)],
+    ),
+    (
+        b"if_then_",
+        &[1, 2],
+        Side::Neither,
+        &[
+            (b"if", 0, 0),
+            (b"_", 1, 128),
+            (b"then", 0, 0),
+            (b"_", 2, 34),
+        ],
+    ),
+    (
+        b"[_]",
+        &[1],
+        Side::Neither,
+        &[(b"[", 0, 0), (b"_", 1, 128), (b"]", 0, 0)],
+    ),
+    (b"c", &[], Side::Neither, &[(b"c", 0, 0)]),
+    (
+        b"f",
+        &[1, 2],
+        Side::Neither,
+        &[
+            (b"f", 0, 0),
+            (b"(", 0, 0),
+            (b"_", 1, 128),
+            (b",", 0, 0),
+            (b"_", 2, 128),
+            (b")", 0, 0),
+        ],
+    ),
+];
+
 #[test]
 fn lists(rt: HostRuntime) -> Result<(), Fail> {
     let alloc = rt.alloc();
-    let table: [(&[u8], &[u32], Side, &[(&[u8], u32, u8)]); 6] = [
-        (
-            b"_+_",
-            &[1, 2],
-            Side::Left,
-            &[(b"_", 1, 34), (b"+", 0, 0), (b"_", 2, 33)],
-        ),
-        (
-            b"_+_",
-            &[1, 2],
-            Side::Right,
-            &[(b"_", 1, 33), (b"+", 0, 0), (b"_", 2, 34)],
-        ),
-        (
-            b"if_then_",
-            &[1, 2],
-            Side::Neither,
-            &[
-                (b"if", 0, 0),
-                (b"_", 1, 128),
-                (b"then", 0, 0),
-                (b"_", 2, 34),
-            ],
-        ),
-        (
-            b"[_]",
-            &[1],
-            Side::Neither,
-            &[(b"[", 0, 0), (b"_", 1, 128), (b"]", 0, 0)],
-        ),
-        (b"c", &[], Side::Neither, &[(b"c", 0, 0)]),
-        (
-            b"f",
-            &[1, 2],
-            Side::Neither,
-            &[
-                (b"f", 0, 0),
-                (b"(", 0, 0),
-                (b"_", 1, 128),
-                (b",", 0, 0),
-                (b"_", 2, 128),
-                (b")", 0, 0),
-            ],
-        ),
-    ];
-    for (form, args, side, wanted) in table {
+    for (form, args, side, wanted) in SYMBOLS {
         let decl = decl(alloc, form, args, 33, side)?;
         assert!(rt; precedence(&decl) < 128);
         let found = symbols(alloc, &decl)?;

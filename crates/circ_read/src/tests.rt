@@ -50,296 +50,297 @@ fn is_answered(alloc: Global, row: Row<'_>) -> bool {
     }
 }
 
+const ROWS: [Row<'static>; 60] = [
+    // terms
+    (
+        b"theory T is sort X . op a : -> X . var a : X . eq a = a . endtheory",
+        5,
+        b"ambiguous",
+        0,
+    ),
+    (
+        b"theory T is sorts X Y . op _+_ : X X -> X [left] . eq A:X + B:Y = A:X . endtheory",
+        4,
+        b"no parse",
+        0,
+    ),
+    (
+        b"theory T is sort X . op _+_ : X X -> X [left] . eq A:X + B:X + C:X = A:X . endtheory",
+        0,
+        b"read",
+        0,
+    ),
+    // whole texts
+    (b"theory T is endtheory", 0, b"read", 0),
+    (b"(theory T is endtheory)", 0, b"read", 0),
+    (
+        b"theory T is sorts A B . op a : -> A . endtheory",
+        0,
+        b"read",
+        0,
+    ),
+    (
+        b"theory T is sort A . ops a b : -> A . op _+_ : A A -> A [assoc comm] . var X : A . eq X + a = X . eq a + a = b [nonexec] . endtheory",
+        0,
+        b"read",
+        0,
+    ),
+    (
+        b"theory T is sorts A B . op a : -> A . op h : B -> A . derivative h(*:B) . cases A by a . endtheory",
+        0,
+        b"read",
+        0,
+    ),
+    (
+        b"theory B is inc BITS . vars S A B C : Stream . endtheory",
+        0,
+        b"read",
+        0,
+    ),
+    (
+        b"theory B is including BITS . protecting BITS . pr BITS . endtheory",
+        0,
+        b"read",
+        0,
+    ),
+    (
+        b"theory B is inc TREE . inc STREAM . endtheory",
+        3,
+        b"twice",
+        0,
+    ),
+    // the form
+    (b"", 1, b"shape", 0),
+    (b"theory = is endtheory", 1, b"shape", 0),
+    (b"theory T is", 2, b"shape", 0),
+    (b"(theory T is endtheory", 2, b"shape", 0),
+    (b"theory T is endtheory )", 2, b"shape", 0),
+    (b"theory T is endtheory endtheory", 2, b"shape", 0),
+    (b"theory T is sort A endtheory", 2, b"shape", 0),
+    (b"theory T is sort A . subsort A endtheory", 3, b"shape", 0),
+    (b"theory T is endtheory .", 2, b"shape", 0),
+    // bytes
+    (b"theory T is \xc3 endtheory", 0, b"not ascii", 12),
+    (b"theory\x07 T is endtheory", 0, b"control", 6),
+    // the statement alone
+    (b"theory T is subsort A . endtheory", 2, b"left out", 7),
+    (
+        b"theory T is sort A . op f : -> A [strat] . endtheory",
+        3,
+        b"left out",
+        5,
+    ),
+    (b"theory T is sort . endtheory", 2, b"shape", 0),
+    (
+        b"theory T is sort A . op f : A -> A [assoc assoc] . endtheory",
+        3,
+        b"shape",
+        0,
+    ),
+    // what it names
+    (b"theory T is inc NONE . endtheory", 2, b"unknown theory", 0),
+    (b"theory T is inc T . endtheory", 2, b"unknown theory", 0),
+    (
+        b"theory T is sort A . op a : -> B . endtheory",
+        3,
+        b"unknown sort",
+        0,
+    ),
+    (
+        b"theory T is sort A . op a : -> A . ops a b : A B -> A . endtheory",
+        4,
+        b"unknown sort",
+        0,
+    ),
+    (
+        b"theory T is sort A . var X : A . vars X Y : B . endtheory",
+        4,
+        b"unknown sort",
+        0,
+    ),
+    (
+        b"theory T is cases A by a . endtheory",
+        2,
+        b"unknown sort",
+        0,
+    ),
+    // terms
+    (
+        b"theory T is sort A . op a : -> A . eq a = b . endtheory",
+        4,
+        b"no parse",
+        0,
+    ),
+    (
+        b"theory T is sort A . op a : -> A . eq a = [nonexec] . endtheory",
+        4,
+        b"no parse",
+        0,
+    ),
+    (
+        b"theory T is sort A . op a : -> A . derivative . endtheory",
+        4,
+        b"no parse",
+        0,
+    ),
+    (
+        b"theory T is sort A . op a : -> A . cases A by a a b . endtheory",
+        4,
+        b"no parse",
+        0,
+    ),
+    (
+        b"theory T is sort A . op a : -> A . op _+_ : A A -> A . eq a + a + a = a . endtheory",
+        5,
+        b"ambiguous",
+        0,
+    ),
+    (
+        b"theory B is inc BITS . eq X = X . endtheory",
+        3,
+        b"no parse",
+        0,
+    ),
+    (
+        b"theory B is sort A . op a : -> A . var X : A . inc BITS . eq X = a . endtheory",
+        0,
+        b"read",
+        0,
+    ),
+    // parts
+    (
+        b"theory T is sort A . sorts B A B . endtheory",
+        3,
+        b"twice",
+        0,
+    ),
+    (
+        b"theory T is sort A . op a : -> A . ops b a b : -> A . endtheory",
+        4,
+        b"twice",
+        0,
+    ),
+    (
+        b"theory T is sorts A B . vars X Y : A . vars Z Y X : B . endtheory",
+        4,
+        b"twice",
+        1,
+    ),
+    (
+        b"theory T is sort Bit . inc BITS . endtheory",
+        3,
+        b"twice",
+        0,
+    ),
+    (
+        b"theory T is sort A . op a : -> A . op _+_ : A -> A . endtheory",
+        4,
+        b"ill sorted",
+        1,
+    ),
+    (
+        b"theory T is sort A . op g : A A A -> A . derivative g(*:A, X:A, X:A) . endtheory",
+        4,
+        b"not linear",
+        1,
+    ),
+    (
+        b"theory T is sort A . op a : -> A . derivative a . endtheory",
+        4,
+        b"holes",
+        0,
+    ),
+    (
+        b"theory T is sort A . cases A by . endtheory",
+        3,
+        b"no constant",
+        0,
+    ),
+    (
+        b"theory T is sorts A B . op a : -> A . op h : A -> B . derivative h(*:A) . cases A by a . endtheory",
+        6,
+        b"not visible",
+        0,
+    ),
+    (
+        b"theory T is sorts A B . op a : -> A . op h : A -> B . cases A by a . derivative h(*:A) . endtheory",
+        6,
+        b"now hidden",
+        0,
+    ),
+    (
+        b"theory T is sort A . op f : A A A A A A A A A A A A A A A A A -> A . endtheory",
+        3,
+        b"limit",
+        17,
+    ),
+    (
+        b"theory T is sort A . op a : -> A . cases A by a a . endtheory",
+        4,
+        b"twice",
+        0,
+    ),
+    (
+        b"theory T is sort A . op a : -> A . op _+_ : A A -> A . op _! : A -> A . eq a + a ! ! = a . endtheory",
+        6,
+        b"ambiguous",
+        0,
+    ),
+    (
+        b"theory T is sorts A B . op h : A B -> A . derivative h(*:A, *:B) . endtheory",
+        4,
+        b"holes",
+        2,
+    ),
+    (
+        b"theory T is sort A . op g : A A A A -> A . derivative g(*:A, X:A, *:A, X:A) . endtheory",
+        4,
+        b"not linear",
+        1,
+    ),
+    (
+        b"theory T is sort A . op g : A A A -> A . derivative g(X:A, Y:A, Y:A) . endtheory",
+        4,
+        b"not linear",
+        2,
+    ),
+    // a text of the library in a theory with parts
+    (
+        b"theory T is sort A . op a : -> A . op 1 : -> A . inc BITS . endtheory",
+        5,
+        b"twice",
+        1,
+    ),
+    (
+        b"theory T is sort A . op S : -> A . ops hd odd : A -> A . inc BITS . endtheory",
+        5,
+        b"ambiguous",
+        0,
+    ),
+    (
+        b"theory T is sort A . op S : -> A . op odd : A -> A . inc BITS . endtheory",
+        0,
+        b"read",
+        0,
+    ),
+    // parameters
+    (
+        b"theory T is sort A . op g : A A A A A A A A A A -> A . derivative g(*:A, P:A, Q:A, R:A, S:A, T:A, U:A, V:A, W:A, X:A) . endtheory",
+        4,
+        b"limit",
+        9,
+    ),
+    (
+        b"theory T is sort A . op g : A A A A A A A A A -> A . derivative g(*:A, P:A, Q:A, R:A, S:A, T:A, U:A, V:A, W:A) . endtheory",
+        0,
+        b"read",
+        0,
+    ),
+];
+
 #[test]
 fn texts(rt: HostRuntime) -> Result<(), Fail> {
-    let rows: [Row<'_>; 60] = [
-        // terms
-        (
-            b"theory T is sort X . op a : -> X . var a : X . eq a = a . endtheory",
-            5,
-            b"ambiguous",
-            0,
-        ),
-        (
-            b"theory T is sorts X Y . op _+_ : X X -> X [left] . eq A:X + B:Y = A:X . endtheory",
-            4,
-            b"no parse",
-            0,
-        ),
-        (
-            b"theory T is sort X . op _+_ : X X -> X [left] . eq A:X + B:X + C:X = A:X . endtheory",
-            0,
-            b"read",
-            0,
-        ),
-        // whole texts
-        (b"theory T is endtheory", 0, b"read", 0),
-        (b"(theory T is endtheory)", 0, b"read", 0),
-        (
-            b"theory T is sorts A B . op a : -> A . endtheory",
-            0,
-            b"read",
-            0,
-        ),
-        (
-            b"theory T is sort A . ops a b : -> A . op _+_ : A A -> A [assoc comm] . var X : A . eq X + a = X . eq a + a = b [nonexec] . endtheory",
-            0,
-            b"read",
-            0,
-        ),
-        (
-            b"theory T is sorts A B . op a : -> A . op h : B -> A . derivative h(*:B) . cases A by a . endtheory",
-            0,
-            b"read",
-            0,
-        ),
-        (
-            b"theory B is inc BITS . vars S A B C : Stream . endtheory",
-            0,
-            b"read",
-            0,
-        ),
-        (
-            b"theory B is including BITS . protecting BITS . pr BITS . endtheory",
-            0,
-            b"read",
-            0,
-        ),
-        (
-            b"theory B is inc TREE . inc STREAM . endtheory",
-            3,
-            b"twice",
-            0,
-        ),
-        // the form
-        (b"", 1, b"shape", 0),
-        (b"theory = is endtheory", 1, b"shape", 0),
-        (b"theory T is", 2, b"shape", 0),
-        (b"(theory T is endtheory", 2, b"shape", 0),
-        (b"theory T is endtheory )", 2, b"shape", 0),
-        (b"theory T is endtheory endtheory", 2, b"shape", 0),
-        (b"theory T is sort A endtheory", 2, b"shape", 0),
-        (b"theory T is sort A . subsort A endtheory", 3, b"shape", 0),
-        (b"theory T is endtheory .", 2, b"shape", 0),
-        // bytes
-        (b"theory T is \xc3 endtheory", 0, b"not ascii", 12),
-        (b"theory\x07 T is endtheory", 0, b"control", 6),
-        // the statement alone
-        (b"theory T is subsort A . endtheory", 2, b"left out", 7),
-        (
-            b"theory T is sort A . op f : -> A [strat] . endtheory",
-            3,
-            b"left out",
-            5,
-        ),
-        (b"theory T is sort . endtheory", 2, b"shape", 0),
-        (
-            b"theory T is sort A . op f : A -> A [assoc assoc] . endtheory",
-            3,
-            b"shape",
-            0,
-        ),
-        // what it names
-        (b"theory T is inc NONE . endtheory", 2, b"unknown theory", 0),
-        (b"theory T is inc T . endtheory", 2, b"unknown theory", 0),
-        (
-            b"theory T is sort A . op a : -> B . endtheory",
-            3,
-            b"unknown sort",
-            0,
-        ),
-        (
-            b"theory T is sort A . op a : -> A . ops a b : A B -> A . endtheory",
-            4,
-            b"unknown sort",
-            0,
-        ),
-        (
-            b"theory T is sort A . var X : A . vars X Y : B . endtheory",
-            4,
-            b"unknown sort",
-            0,
-        ),
-        (
-            b"theory T is cases A by a . endtheory",
-            2,
-            b"unknown sort",
-            0,
-        ),
-        // terms
-        (
-            b"theory T is sort A . op a : -> A . eq a = b . endtheory",
-            4,
-            b"no parse",
-            0,
-        ),
-        (
-            b"theory T is sort A . op a : -> A . eq a = [nonexec] . endtheory",
-            4,
-            b"no parse",
-            0,
-        ),
-        (
-            b"theory T is sort A . op a : -> A . derivative . endtheory",
-            4,
-            b"no parse",
-            0,
-        ),
-        (
-            b"theory T is sort A . op a : -> A . cases A by a a b . endtheory",
-            4,
-            b"no parse",
-            0,
-        ),
-        (
-            b"theory T is sort A . op a : -> A . op _+_ : A A -> A . eq a + a + a = a . endtheory",
-            5,
-            b"ambiguous",
-            0,
-        ),
-        (
-            b"theory B is inc BITS . eq X = X . endtheory",
-            3,
-            b"no parse",
-            0,
-        ),
-        (
-            b"theory B is sort A . op a : -> A . var X : A . inc BITS . eq X = a . endtheory",
-            0,
-            b"read",
-            0,
-        ),
-        // parts
-        (
-            b"theory T is sort A . sorts B A B . endtheory",
-            3,
-            b"twice",
-            0,
-        ),
-        (
-            b"theory T is sort A . op a : -> A . ops b a b : -> A . endtheory",
-            4,
-            b"twice",
-            0,
-        ),
-        (
-            b"theory T is sorts A B . vars X Y : A . vars Z Y X : B . endtheory",
-            4,
-            b"twice",
-            1,
-        ),
-        (
-            b"theory T is sort Bit . inc BITS . endtheory",
-            3,
-            b"twice",
-            0,
-        ),
-        (
-            b"theory T is sort A . op a : -> A . op _+_ : A -> A . endtheory",
-            4,
-            b"ill sorted",
-            1,
-        ),
-        (
-            b"theory T is sort A . op g : A A A -> A . derivative g(*:A, X:A, X:A) . endtheory",
-            4,
-            b"not linear",
-            1,
-        ),
-        (
-            b"theory T is sort A . op a : -> A . derivative a . endtheory",
-            4,
-            b"holes",
-            0,
-        ),
-        (
-            b"theory T is sort A . cases A by . endtheory",
-            3,
-            b"no constant",
-            0,
-        ),
-        (
-            b"theory T is sorts A B . op a : -> A . op h : A -> B . derivative h(*:A) . cases A by a . endtheory",
-            6,
-            b"not visible",
-            0,
-        ),
-        (
-            b"theory T is sorts A B . op a : -> A . op h : A -> B . cases A by a . derivative h(*:A) . endtheory",
-            6,
-            b"now hidden",
-            0,
-        ),
-        (
-            b"theory T is sort A . op f : A A A A A A A A A A A A A A A A A -> A . endtheory",
-            3,
-            b"limit",
-            17,
-        ),
-        (
-            b"theory T is sort A . op a : -> A . cases A by a a . endtheory",
-            4,
-            b"twice",
-            0,
-        ),
-        (
-            b"theory T is sort A . op a : -> A . op _+_ : A A -> A . op _! : A -> A . eq a + a ! ! = a . endtheory",
-            6,
-            b"ambiguous",
-            0,
-        ),
-        (
-            b"theory T is sorts A B . op h : A B -> A . derivative h(*:A, *:B) . endtheory",
-            4,
-            b"holes",
-            2,
-        ),
-        (
-            b"theory T is sort A . op g : A A A A -> A . derivative g(*:A, X:A, *:A, X:A) . endtheory",
-            4,
-            b"not linear",
-            1,
-        ),
-        (
-            b"theory T is sort A . op g : A A A -> A . derivative g(X:A, Y:A, Y:A) . endtheory",
-            4,
-            b"not linear",
-            2,
-        ),
-        // a text of the library in a theory with parts
-        (
-            b"theory T is sort A . op a : -> A . op 1 : -> A . inc BITS . endtheory",
-            5,
-            b"twice",
-            1,
-        ),
-        (
-            b"theory T is sort A . op S : -> A . ops hd odd : A -> A . inc BITS . endtheory",
-            5,
-            b"ambiguous",
-            0,
-        ),
-        (
-            b"theory T is sort A . op S : -> A . op odd : A -> A . inc BITS . endtheory",
-            0,
-            b"read",
-            0,
-        ),
-        // parameters
-        (
-            b"theory T is sort A . op g : A A A A A A A A A A -> A . derivative g(*:A, P:A, Q:A, R:A, S:A, T:A, U:A, V:A, W:A, X:A) . endtheory",
-            4,
-            b"limit",
-            9,
-        ),
-        (
-            b"theory T is sort A . op g : A A A A A A A A A -> A . derivative g(*:A, P:A, Q:A, R:A, S:A, T:A, U:A, V:A, W:A) . endtheory",
-            0,
-            b"read",
-            0,
-        ),
-    ];
-    for row in &rows {
+    for row in &ROWS {
         assert!(rt; is_answered(rt.alloc(), *row));
     }
     Ok(())
@@ -369,107 +370,108 @@ fn is_long_answered(alloc: Global, row: LongRow<'_>) -> Result<bool, AllocError>
 const NAMES: &[u8] =
     b"a b c d e f g h i j k l m n o p q r s t u v w x y z A B C D E F G H I J K L M N O P Q R S T U V W X Y Z 0 1 2 3 4 5 6 7 8 9 ! ? ";
 
+const LONG_ROWS: [LongRow<'static>; 9] = [
+    (
+        &[
+            (b"theory T is sort A . op a : -> A . eq a = ", 1),
+            (b"a ", 257),
+            (b". endtheory", 1),
+        ],
+        4,
+        b"too long",
+        257,
+    ),
+    (
+        &[
+            (b"theory T is sort A . op a : -> A . eq ", 1),
+            (b"a ", 257),
+            (b"= a . endtheory", 1),
+        ],
+        4,
+        b"too long",
+        257,
+    ),
+    (
+        &[
+            (b"theory T is sort A . op a : -> A . eq ", 1),
+            (b"a ", 258),
+            (b"= ", 1),
+            (b"a ", 257),
+            (b". endtheory", 1),
+        ],
+        4,
+        b"too long",
+        258,
+    ),
+    (
+        &[
+            (b"theory T is sort A . op a : -> A . eq ", 1),
+            (b"a ", 256),
+            (b"= a . endtheory", 1),
+        ],
+        4,
+        b"no parse",
+        0,
+    ),
+    (
+        &[
+            (b"theory T is sort A . op a : -> A . derivative ", 1),
+            (b"a ", 257),
+            (b". endtheory", 1),
+        ],
+        4,
+        b"too long",
+        257,
+    ),
+    (
+        &[
+            (b"theory T is sort A . ops ", 1),
+            (NAMES, 1),
+            (b"+ : -> A . cases A by ", 1),
+            (NAMES, 1),
+            (b"+ . endtheory", 1),
+        ],
+        4,
+        b"limit",
+        65,
+    ),
+    (
+        &[
+            (b"theory T is sort A . ops ", 1),
+            (NAMES, 1),
+            (b": -> A . cases A by ", 1),
+            (NAMES, 1),
+            (b". endtheory", 1),
+        ],
+        0,
+        b"read",
+        0,
+    ),
+    (
+        &[
+            (b"theory T is sort A . op h : A -> A . ", 1),
+            (b"derivative h(*:A) . ", 257),
+            (b"endtheory", 1),
+        ],
+        260,
+        b"limit",
+        257,
+    ),
+    (
+        &[
+            (b"theory T is sort A . op h : A -> A . ", 1),
+            (b"derivative h(*:A) . ", 256),
+            (b"endtheory", 1),
+        ],
+        0,
+        b"read",
+        0,
+    ),
+];
+
 #[test]
 fn long_texts(rt: HostRuntime) -> Result<(), Fail> {
-    let rows: [LongRow<'_>; 9] = [
-        (
-            &[
-                (b"theory T is sort A . op a : -> A . eq a = ", 1),
-                (b"a ", 257),
-                (b". endtheory", 1),
-            ],
-            4,
-            b"too long",
-            257,
-        ),
-        (
-            &[
-                (b"theory T is sort A . op a : -> A . eq ", 1),
-                (b"a ", 257),
-                (b"= a . endtheory", 1),
-            ],
-            4,
-            b"too long",
-            257,
-        ),
-        (
-            &[
-                (b"theory T is sort A . op a : -> A . eq ", 1),
-                (b"a ", 258),
-                (b"= ", 1),
-                (b"a ", 257),
-                (b". endtheory", 1),
-            ],
-            4,
-            b"too long",
-            258,
-        ),
-        (
-            &[
-                (b"theory T is sort A . op a : -> A . eq ", 1),
-                (b"a ", 256),
-                (b"= a . endtheory", 1),
-            ],
-            4,
-            b"no parse",
-            0,
-        ),
-        (
-            &[
-                (b"theory T is sort A . op a : -> A . derivative ", 1),
-                (b"a ", 257),
-                (b". endtheory", 1),
-            ],
-            4,
-            b"too long",
-            257,
-        ),
-        (
-            &[
-                (b"theory T is sort A . ops ", 1),
-                (NAMES, 1),
-                (b"+ : -> A . cases A by ", 1),
-                (NAMES, 1),
-                (b"+ . endtheory", 1),
-            ],
-            4,
-            b"limit",
-            65,
-        ),
-        (
-            &[
-                (b"theory T is sort A . ops ", 1),
-                (NAMES, 1),
-                (b": -> A . cases A by ", 1),
-                (NAMES, 1),
-                (b". endtheory", 1),
-            ],
-            0,
-            b"read",
-            0,
-        ),
-        (
-            &[
-                (b"theory T is sort A . op h : A -> A . ", 1),
-                (b"derivative h(*:A) . ", 257),
-                (b"endtheory", 1),
-            ],
-            260,
-            b"limit",
-            257,
-        ),
-        (
-            &[
-                (b"theory T is sort A . op h : A -> A . ", 1),
-                (b"derivative h(*:A) . ", 256),
-                (b"endtheory", 1),
-            ],
-            0,
-            b"read",
-            0,
-        ),
-    ];
-    for row in &rows {
+    for row in &LONG_ROWS {
         assert!(rt; is_long_answered(rt.alloc(), *row)?);
     }
     Ok(())
