@@ -83,7 +83,7 @@ file_fault_not_ok o file name N s e f = let Q : Status → Type 0 = IsFileFault 
 
 check_not_ok : (o : Outside) (theory proof : List ℕ) (s : Status) → RefusesCheck o theory proof s → s ≡ status.Ok → ⊥
 check_not_ok o theory proof s (theory_fault _ f) e = file_fault_not_ok o 1 theory TheoryRefusal s e f
-check_not_ok o theory proof s (proof_fault _ th r f) e = file_fault_not_ok o 2 proof (ProofRefusal th) s e f
+check_not_ok o theory proof s (proof_fault _ th b r f) e = file_fault_not_ok o 2 proof (ProofRefusal th) s e f
 check_not_ok o theory proof _ (step_fails n f) e = cc
 
 command_not_ok : (o : Outside) (c : Command) (s : Status) → RefusesCommand o c s → s ≡ status.Ok → ⊥
@@ -123,7 +123,7 @@ same_step n m e = cc
 
 check_refused : (o : Outside) (theory proof : List ℕ) (s : Status) (n : ℕ) → RefusesCheck o theory proof s → s ≡ Refused n → IsRefused o theory proof n
 check_refused o theory proof s n (theory_fault _ f) e = absurd (file_fault_not_refused o 1 theory TheoryRefusal s n e f)
-check_refused o theory proof s n (proof_fault _ th r f) e = absurd (file_fault_not_refused o 2 proof (ProofRefusal th) s n e f)
+check_refused o theory proof s n (proof_fault _ th b r f) e = absurd (file_fault_not_refused o 2 proof (ProofRefusal th) s n e f)
 check_refused o theory proof _ n (step_fails m f) e = let P : ℕ → Type 0 = IsRefused o theory proof in subst P (same_step m n e) f
 
 command_refused : (words : List (List ℕ)) (o : Outside) (out : Output) (c : Command) (s : Status) (n : ℕ) → Asks words c → RefusesCommand o c s → s ≡ Refused n

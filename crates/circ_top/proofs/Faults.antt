@@ -15,21 +15,21 @@ unread_check : (o : Outside) (theory proof : List ℕ) (s : Status) (n : ℕ) �
     → (n ≡ o.faults_after) × AtFile o (Check theory proof) (λ f name. IsUnread o name)
 unread_check o theory proof s n (theory_fault _ f) e =
     let P : Status → Type 0 = IsFileFault o 1 theory TheoryRefusal in let r = subst P e f in (r.0, inl r.1)
-unread_check o theory proof s n (proof_fault _ th reads f) e =
-    let P : Status → Type 0 = IsFileFault o 2 proof (ProofRefusal th) in let r = subst P e f in (r.0, inr (th, (λ t. (reads t).0, r.1)))
+unread_check o theory proof s n (proof_fault _ th b reads f) e =
+    let P : Status → Type 0 = IsFileFault o 2 proof (ProofRefusal th) in let r = subst P e f in (r.0, inr (th, (b, (λ t. (reads t).0, r.1))))
 unread_check o theory proof _ n (step_fails m f) e = absurd (cc)
 
 past_check : (o : Outside) (theory proof : List ℕ) (s : Status) (file n : ℕ) → RefusesCheck o theory proof s → s ≡ status.TooLong file n
     → AtFile o (Check theory proof) (λ f name. (f ≡ file) × IsTooLong o name n)
 past_check o theory proof s file n (theory_fault _ f) e =
     let P : Status → Type 0 = IsFileFault o 1 theory TheoryRefusal in let r = subst P e f in inl (sym r.0, r.1)
-past_check o theory proof s file n (proof_fault _ th reads f) e =
-    let P : Status → Type 0 = IsFileFault o 2 proof (ProofRefusal th) in let r = subst P e f in inr (th, (λ t. (reads t).0, (sym r.0, r.1)))
+past_check o theory proof s file n (proof_fault _ th b reads f) e =
+    let P : Status → Type 0 = IsFileFault o 2 proof (ProofRefusal th) in let r = subst P e f in inr (th, (b, (λ t. (reads t).0, (sym r.0, r.1))))
 past_check o theory proof _ file n (step_fails m f) e = absurd (cc)
 
 unwritten_check : (o : Outside) (theory proof : List ℕ) (s : Status) (n : ℕ) → RefusesCheck o theory proof s → s ≡ status.WriteFault n → ⊥
 unwritten_check o theory proof s n (theory_fault _ f) e = let P : Status → Type 0 = IsFileFault o 1 theory TheoryRefusal in subst P e f
-unwritten_check o theory proof s n (proof_fault _ th reads f) e = let P : Status → Type 0 = IsFileFault o 2 proof (ProofRefusal th) in subst P e f
+unwritten_check o theory proof s n (proof_fault _ th b reads f) e = let P : Status → Type 0 = IsFileFault o 2 proof (ProofRefusal th) in subst P e f
 unwritten_check o theory proof _ n (step_fails m f) e = cc
 
 unread_command : (o : Outside) (c : Command) (s : Status) (n : ℕ) → RefusesCommand o c s → s ≡ status.ReadFault n → (n ≡ o.faults_after) × AtFile o c (λ f name. IsUnread o name)

@@ -19,7 +19,7 @@ some_held None i e = cc
 
 held_file : (o : Outside) (c : Command) → (Rose o.faults_before o.faults_after → ⊥) → HoldsFilesOf o.held c → AtFile o c (λ file name. IsUnread o name) → ⊥
 held_file o (Check theory proof) quiet h (inl u) = quiet (unread_rose o theory (some_held (o.held theory) h.0) u)
-held_file o (Check theory proof) quiet h (inr u) = quiet (unread_rose o proof (some_held (o.held proof) h.1) u.1.1)
+held_file o (Check theory proof) quiet h (inr u) = quiet (unread_rose o proof (some_held (o.held proof) h.1) u.1.1.1)
 held_file o (Show theory) quiet h u = quiet (unread_rose o theory (some_held (o.held theory) h) u)
 held_file o (Library text) quiet h u = u
 

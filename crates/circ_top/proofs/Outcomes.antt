@@ -56,7 +56,7 @@ due_check : (words : List (List ℕ)) (o : Outside) (theory proof : List ℕ) (s
     → DueIs words o s (refusal_text s)
 due_check words o theory proof s t i (theory_fault _ f) =
     file_due words o 1 theory TheoryRefusal s t f (λ r x. command (Check theory proof) r (refusal_text r) i (no_theory r x))
-due_check words o theory proof s t i (proof_fault _ th r f) =
+due_check words o theory proof s t i (proof_fault _ th b r f) =
     file_due words o 2 proof (ProofRefusal th) s t f (λ q x. command (Check theory proof) q (refusal_text q) i (no_proof q th (r t).0 x))
 due_check words o theory proof _ t i (step_fails n f) =
     outcome (status.Refused n) (refusal_text (status.Refused n))
@@ -234,7 +234,7 @@ module _ (once : ReadsOnce) (o : Outside) (theory proof : List ℕ) (t : o.tells
 
   check_agrees : (r s : Status) (text : List ℕ) → RefusesCheck o theory proof r → CheckOutcome o.held theory proof s text → Agrees o s text r (refusal_text r)
   check_agrees r s text (theory_fault _ f) c = theory_agrees r s text (file_fault o 1 theory TheoryRefusal r t f) c
-  check_agrees r s text (proof_fault _ th reads f) c = proof_agrees th r s text (file_fault o 2 proof (ProofRefusal th) r t f) (fixed th (reads t) s text c)
+  check_agrees r s text (proof_fault _ th b reads f) c = proof_agrees th r s text (file_fault o 2 proof (ProofRefusal th) r t f) (fixed th (reads t) s text c)
   check_agrees _ s text (step_fails n f) c = refused_agrees n f s text (fixed f.th (f.reads_theory t) s text c)
 
 -- the same of a `show`

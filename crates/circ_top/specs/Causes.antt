@@ -2,8 +2,9 @@
 use Rattle.std.specs.Prelude.{◌≡◌, ◌⊎◌, ◌++◌, ℕ, List, [], true, IsSome}
 use Rattle.circ_outer.specs.Count.{Rose}
 use Rattle.circ_theory.specs.Theory.{Theory}
+use Rattle.circ_read.specs.ReadsAs.{ReadsAs}
 use Rattle.circ_file.specs.Proof.{Proof}
-use Rattle.circ_top.specs.Outcome.{Held, ReadsTheory, ReadsProof, Outcome, Outside, IsUnread, IsTooLong, Output, Prints, PrintsPart}
+use Rattle.circ_top.specs.Outcome.{Held, AreBytes, ReadsTheory, ReadsProof, Outcome, Outside, IsUnread, IsTooLong, Output, Prints, PrintsPart}
 use Rattle.circ_read.specs.declared.cause.Cause.{Cause}
 use Rattle.circ_read.specs.declared.cause.Cause.TheVariants as cause
 use Rattle.circ_top.specs.Command.{Command, Check, Show, Library, Asks}
@@ -52,9 +53,9 @@ pub record FilesRead (words : List (List ℕ)) (held : Held) (th : Theory) (p : 
   pub reads_theory : ReadsTheory held theory th
   pub reads_proof : ReadsProof held proof th p
 
--- The command's theory file has the fact, by its number and name; or it reads, and the proof file has the fact.
+-- The command's theory file has the fact, by its number and name; or bytes read as a theory, which are the file's where the shelf tells, and the proof file has the fact.
 abbrev pub AtFile : Outside → Command → (ℕ → List ℕ → Type 0) → Type 0
-AtFile o (Check theory proof) P = P 1 theory ⊎ ((th : Theory) × ((o.tells ≡ true → ReadsTheory o.held theory th) × P 2 proof))
+AtFile o (Check theory proof) P = P 1 theory ⊎ ((th : Theory) × (AreBytes (λ bytes. ReadsAs bytes th) × ((o.tells ≡ true → ReadsTheory o.held theory th) × P 2 proof)))
 AtFile o (Show theory) P = P 1 theory
 AtFile o (Library text) P = ⊥
 

@@ -180,7 +180,8 @@ IsProofFault o name th = IsFileFault o 2 name (ProofRefusal th)
 -- Why a `check` of two files is refused: the theory file is at fault; or it reads, and the proof file is at fault; or both read, and a step fails.
 pub data RefusesCheck (o : Outside) (theory proof : List ℕ) : Status → Type 0 where
   theory_fault : (s : Status) → IsTheoryFault o theory s → RefusesCheck o theory proof s
-  proof_fault : (s : Status) (th : Theory) → (o.tells ≡ true → IsOnly th (ReadsTheory o.held theory)) → IsProofFault o proof th s → RefusesCheck o theory proof s
+  proof_fault : (s : Status) (th : Theory) → AreBytes (λ bytes. ReadsAs bytes th) → (o.tells ≡ true → IsOnly th (ReadsTheory o.held theory)) → IsProofFault o proof th s
+      → RefusesCheck o theory proof s
   step_fails : (n : ℕ) → IsRefused o theory proof n → RefusesCheck o theory proof (status.Refused n)
 
 -- Bytes that read as a theory, with its text. Where the shelf tells, the file holds them, and reads as this theory and no other.

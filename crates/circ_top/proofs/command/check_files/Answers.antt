@@ -10,7 +10,7 @@ returns-in-Err-clause-refused g c = theory_fault c.in-Err.status c.in-Err.ensure
 
 pub returns-in-Err-take_proof-clause-refused : goal.returns-in-Err-take_proof-clause-refused
 returns-in-Err-take_proof-clause-refused g c =
-    proof_fault c.in-Err-take_proof.status c.in-Ok.theory c.in-Ok.ensures.reads
+    proof_fault c.in-Err-take_proof.status c.in-Ok.theory c.in-Ok.ensures.bytes c.in-Ok.ensures.reads
     (quiet_fault (g.S.Shelf.tells c.args.shelf.now) (g.S.Shelf.tells c.take_theory.new.shelf) (g.S.Shelf.holds c.args.shelf.now) (g.S.Shelf.holds c.take_theory.new.shelf)
     (g.S.Shelf.fault_count c.args.shelf.now) (g.S.Shelf.fault_count c.take_theory.new.shelf) (g.S.Shelf.fault_count c.take_proof.new.shelf)
     (g.S.Shelf.last_fault c.args.shelf.now) (g.S.Shelf.last_fault c.take_theory.new.shelf) (g.S.Shelf.last_fault c.take_proof.new.shelf)
