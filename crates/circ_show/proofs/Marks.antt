@@ -3,16 +3,17 @@ use Rattle.std.proofs.Common.{◌≡◌, ◌⊎◌, ◌↔◌, inl, inr, ℕ, ze
 use Rattle.std.specs.Prelude.{slice_set, slice_index_or, IsTrue}
 use Rattle.std.specs.List.{slice_get, Contains}
 use Rattle.std.specs.Option.{option_map}
-use Rattle.std.proofs.lemmas.Option.{slice_get_within, get_or_from_slice_get, slice_get-get_or, same_Some}
+use Rattle.std.proofs.lemmas.Option.{slice_get_within, slice_get-get_or, same_Some}
 use Rattle.std.proofs.lemmas.Bool.{cases_order}
-use Rattle.std.proofs.lemmas.List.{length-append}
+use Rattle.std.proofs.lemmas.List.{length-append, length-set}
 use Rattle.circ_term.specs.Tree.{Tree, Var, App, sort_of}
 use Rattle.circ_theory.specs.Signature.{IsSort, IsWellSorted}
 use Rattle.circ_theory.specs.Theory.{Theory, Derivative, IsHidden, IsVisible}
 use Rattle.circ_theory.specs.WellFormed.{IsWellFormed}
+use Rattle.circ_theory.specs.Rewriting.{contains_at}
 use Rattle.circ_theory.specs.Experiment.{Entry, Fits}
 use Rattle.circ_show.specs.Observed.{IsObserved, IsUnobserved}
-use Rattle.circ_show.specs.Marks.{AreMarks, IsPassed, AreClosed, unmarked, is_false, is_unmarked, TellObserved}
+use Rattle.circ_show.specs.Marks.{AreMarks, IsPassed, AreClosed, unmarked, is_false, is_unmarked, TellUnobserved}
 use Rattle.circ_show.proofs.Steps.{not_past}
 
 pub unmarked_set : (ms : List Bool) (i : ℕ) → (slice_get ms i ≡ Some true → ⊥) → i < length ms → unmarked (slice_set ms i true) < unmarked ms
@@ -20,11 +21,6 @@ unmarked_set [] i g h = omega (arith, h)
 unmarked_set (true ∷ ms) zero g h = absurd (g refl)
 unmarked_set (false ∷ ms) zero g h = omega arith
 unmarked_set (m ∷ ms) (suc i) g h = let k = unmarked_set ms i g (omega (arith, h)) in omega (arith, k)
-
-length_set : (ms : List Bool) (i : ℕ) → length (slice_set ms i true) ≡ length ms
-length_set [] i = refl
-length_set (m ∷ ms) zero = refl
-length_set (m ∷ ms) (suc i) = let e = length_set ms i in omega (arith, e)
 
 stays : (ms : List Bool) (i j : ℕ) → slice_get ms j ≡ Some true → slice_get (slice_set ms i true) j ≡ Some true
 stays [] i j g = let never : None ≡ Some true = g in cc
@@ -51,9 +47,6 @@ unset (m ∷ ms) zero (suc j) g = g
 unset (m ∷ ms) (suc i) zero g = g
 unset (m ∷ ms) (suc i) (suc j) g = unset ms i j g
 
-listed : {X : Type 0} (xs : List X) (n : ℕ) (x : X) → slice_get xs n ≡ Some x → Contains xs x
-listed xs n x g = (n, slice_get_within xs n x g, get_or_from_slice_get xs n x x g)
-
 -- an experiment that fits the result of a derivative, behind it
 longer : (th : Theory) (d : Derivative) → Contains th.derivatives d → IsObserved th (sort_of d.body) → IsObserved th d.hole
 longer th d c f = (record { derivative = d; parameters = λ n s. Var n s } ∷ f.0, (c, refl, λ n s h. (refl, h), f.1))
@@ -75,7 +68,7 @@ module _ (th : Theory) (ok : IsWellFormed th) (ms : List Bool) (n : ℕ) (t : Tr
     (e : Some t ≡ option_map (λ d. d.body) (slice_get th.derivatives n)) (f : Some h ≡ option_map (λ d. d.hole) (slice_get th.derivatives n)) where
   pub set_marks : AreMarks th ms → slice_get ms (sort_of t) ≡ Some true → AreMarks th (slice_set ms h true)
   set_marks k m = record {
-    count = length_set ms h ∙ k.count;
+    count = length-set ms h true ∙ k.count;
     hidden = λ s g. k.hidden s (unset ms h s g);
     sound = λ s g. sound s (comes ms h s g);
     visible = λ s i v. stays ms h s (k.visible s i v);
@@ -86,7 +79,7 @@ module _ (th : Theory) (ok : IsWellFormed th) (ms : List Bool) (n : ℕ) (t : Tr
           let d = found th.derivatives n t h e f in
           let P : Tree → Type 0 = λ x. slice_get ms (sort_of x) ≡ Some true in
           let Q : ℕ → Type 0 = IsObserved th in
-          subst Q d.3 (longer th d.0 (listed th.derivatives n d.0 d.1) (k.sound (sort_of d.0.body) (subst P (sym d.2) m)))
+          subst Q d.3 (longer th d.0 (contains_at th.derivatives n d.0 d.1) (k.sound (sort_of d.0.body) (subst P (sym d.2) m)))
 
       sound : (s : ℕ) → (s ≡ h) ⊎ (slice_get ms s ≡ Some true) → IsObserved th s
       sound s (inl i) = let Q : ℕ → Type 0 = IsObserved th in subst Q (sym i) hole
@@ -108,7 +101,7 @@ module _ (th : Theory) (ok : IsWellFormed th) (ms : List Bool) (n : ℕ) (t : Tr
   pub hole_within : AreMarks th ms → h < length ms
   hole_within k =
       let d = found th.derivatives n t h e f in
-      let w = (ok.derivatives d.0 (listed th.derivatives n d.0 d.1)).hole in
+      let w = (ok.derivatives d.0 (contains_at th.derivatives n d.0 d.1)).hole in
       let same = d.3 in
       let count = k.count in
       rw count (rw (sym same) w)
@@ -116,7 +109,7 @@ module _ (th : Theory) (ok : IsWellFormed th) (ms : List Bool) (n : ℕ) (t : Tr
 -- a well-sorted term has a sort of the signature
 sorted : (th : Theory) → IsWellFormed th → (t : Tree) → IsWellSorted th.signature t → IsSort th.signature (sort_of t)
 sorted th ok (Var n s) w = w
-sorted th ok (App f s ts) w = let P : ℕ → Type 0 = IsSort th.signature in subst P w.2 (ok.operators w.0 (listed th.signature.ops f w.0 w.1)).result
+sorted th ok (App f s ts) w = let P : ℕ → Type 0 = IsSort th.signature in subst P w.2 (ok.operators w.0 (contains_at th.signature.ops f w.0 w.1)).result
 
 there : {X : Type 0} (xs : List X) (n : ℕ) (y : X) → n < length xs → slice_index_or xs n y ≡ y → slice_get xs n ≡ Some y
 there xs n y h e = slice_get-get_or xs n y h ∙ ap Some e
@@ -130,7 +123,7 @@ all_marked th ok ms k c (x ∷ cs) s i f =
     let l = f.0 in
     ap (slice_get ms) (sym f.1) ∙ c l.0 d (there th.derivatives l.0 d l.1 l.2) (all_marked th ok ms k c cs (sort_of d.body) (sorted th ok d.body (ok.derivatives d l).body) f.3)
 
-pub tell : (th : Theory) → IsWellFormed th → (ms : List Bool) → AreMarks th ms → AreClosed th ms → TellObserved th ms
+pub tell : (th : Theory) → IsWellFormed th → (ms : List Bool) → AreMarks th ms → AreClosed th ms → TellUnobserved th ms
 tell th ok ms k c s = (out, back)
   where
     out : is_unmarked ms s ≡ true → IsUnobserved th s

@@ -36,5 +36,5 @@ abbrev pub is_unmarked : List Bool → ℕ → Bool
 is_unmarked marks s = is_false (slice_get marks s)
 
 -- the marks tell which sorts are not observed
-abbrev pub TellObserved : Theory → List Bool → Type 0
-TellObserved th marks = (s : ℕ) → (is_unmarked marks s ≡ true) ↔ IsUnobserved th s
+abbrev pub TellUnobserved : Theory → List Bool → Type 0
+TellUnobserved th marks = (s : ℕ) → (is_unmarked marks s ≡ true) ↔ IsUnobserved th s

@@ -4,7 +4,7 @@ ghost use Rattle.std.specs.List.{slice_get};
 ghost use Rattle.circ_theory.specs.Theory.{Derivative};
 ghost use Rattle.circ_theory.specs.Observing.{is_hidden};
 ghost use Rattle.circ_show.specs.Observed.{IsUnobserved};
-ghost use Rattle.circ_show.specs.Marks.{AreMarks, IsPassed, AreClosed, unmarked, is_unmarked, TellObserved};
+ghost use Rattle.circ_show.specs.Marks.{AreMarks, IsPassed, AreClosed, unmarked, is_unmarked, TellUnobserved};
 
 use circ_theory::Theory;
 use std::alloc::{AllocError, Global};
@@ -70,7 +70,7 @@ fn observe_more(theory: &Theory, marks: &mut Vec<bool>) -> bool
 
 // A mark for each sort: whether an experiment fits it.
 pub fn observed(alloc: Global, theory: &Theory) -> Result<Vec<bool>, AllocError>
-    ensures { IfOk result (λ v. TellObserved theory.now v.items) }
+    ensures { IfOk result (λ v. TellUnobserved theory.now v.items) }
 {
     theory.known();
     let mut marks = visible(alloc, theory)?;

@@ -52,6 +52,9 @@ none_of_others f xs g h _ (library p name text i l) = g (sym (length-map xs f) �
 other_length : (ws : List (List ℕ)) (a b c d p q r : List ℕ) → ws ≡ a ∷ b ∷ c ∷ d ∷ [] → ws ≡ p ∷ q ∷ r ∷ [] → ⊥
 other_length ws a b c d p q r e f = let never : 4 ≡ 3 = ap length (sym e ∙ f) in omega (arith, never)
 
+other_name : (u v p t : List ℕ) → u ∷ codes "show" ∷ v ∷ [] ≡ p ∷ codes "library" ∷ t ∷ [] → ⊥
+other_name u v p t e = let same : codes "show" ≡ codes "library" = cc in let never : 4 ≡ 7 = ap length same in omega (arith, never)
+
 -- words ask for one command
 pub same_command : (ws : List (List ℕ)) (c d : Command) → Asks ws c → Asks ws d → c ≡ d
 same_command ws _ _ (check p t q i) (check u v w j) = let e = sym i ∙ j in cc
@@ -59,15 +62,9 @@ same_command ws _ _ (check p t q i) (show u v j) = absurd (other_length ws p _ t
 same_command ws _ _ (check p t q i) (library u v w j l) = absurd (other_length ws p _ t q u _ v i j)
 same_command ws _ _ (show u v j) (check p t q i) = absurd (other_length ws p _ t q u _ v i j)
 same_command ws _ _ (show u v i) (show p t j) = let e = sym i ∙ j in cc
-same_command ws _ _ (show u v i) (library p t w j l) = absurd (shown_name u v p t (sym i ∙ j))
-  where
-    shown_name : (u v p t : List ℕ) → u ∷ codes "show" ∷ v ∷ [] ≡ p ∷ codes "library" ∷ t ∷ [] → ⊥
-    shown_name u v p t e = let same : codes "show" ≡ codes "library" = cc in let never : 4 ≡ 7 = ap length same in omega (arith, never)
+same_command ws _ _ (show u v i) (library p t w j l) = absurd (other_name u v p t (sym i ∙ j))
 same_command ws _ _ (library u v w j l) (check p t q i) = absurd (other_length ws p _ t q u _ v i j)
-same_command ws _ _ (library p t w j l) (show u v i) = absurd (shown_name u v p t (sym i ∙ j))
-  where
-    shown_name : (u v p t : List ℕ) → u ∷ codes "show" ∷ v ∷ [] ≡ p ∷ codes "library" ∷ t ∷ [] → ⊥
-    shown_name u v p t e = let same : codes "show" ≡ codes "library" = cc in let never : 4 ≡ 7 = ap length same in omega (arith, never)
+same_command ws _ _ (library p t w j l) (show u v i) = absurd (other_name u v p t (sym i ∙ j))
 same_command ws _ _ (library p t w i l) (library u v x j m) =
     let e = sym i ∙ j in
     let same : t ≡ v = cc in

@@ -6,17 +6,22 @@ use circ_lib::lookup;
 
 /// A command with what it takes: names of files, or the text of the library that is named.
 pub enum Request<'a> {
+    /// A proof file is checked against a theory file.
     Check { theory: &'a str, proof: &'a str },
+    /// A theory file is printed as it is read.
     Show { theory: &'a str },
+    /// A text of the library is printed.
     Library { text: &'static [u8] },
 }
 
+// Whether the word is this text.
 fn is_word(word: &String, text: &[u8]) -> bool
     ensures { IsTrue result ↔ (string_bytes word.now ≡ text.now) }
 {
     word.as_bytes() == text
 }
 
+// The request of three words, of which the first is the program's name.
 fn of_three(words: &[String]) -> Option<Request<'_>>
     requires { length words.now ≡ 3 }
     ensures { MatchOption result (IsNoCommand (map string_bytes words.now)) (λ r. Asks (map string_bytes words.now) (plain_request r)) }
@@ -35,6 +40,7 @@ fn of_three(words: &[String]) -> Option<Request<'_>>
     }
 }
 
+// The request of four words, of which the first is the program's name.
 fn of_four(words: &[String]) -> Option<Request<'_>>
     requires { length words.now ≡ 4 }
     ensures { MatchOption result (IsNoCommand (map string_bytes words.now)) (λ r. Asks (map string_bytes words.now) (plain_request r)) }
