@@ -4,7 +4,7 @@ use Rattle.circ_term.specs.Tree.{Tree, Trees, Var, App, none, more, size_of, siz
 use Rattle.circ_term.specs.Limits.{first_limit, Limit, Big, Deep, Names}
 use Rattle.circ_term.specs.declared.fault.TermFault.{TermFault}
 use Rattle.circ_term.specs.declared.fault.TermFault.TheVariants.{TooBig, TooDeep, Memory}
-use Rattle.circ_term.specs.Laws.{first_limit_none}
+use Rattle.circ_term.proofs.Limits.{first_limit_none}
 use Rattle.circ_chart.specs.declared.few.Few.{Few}
 use Rattle.circ_chart.specs.declared.few.Few.TheVariants.{Empty, One, Two}
 use Rattle.circ_chart.specs.declared.chart.Edge.{Edge}

@@ -8,7 +8,8 @@ use Rattle.circ_chart.specs.Spells as chart_spells
 use Rattle.circ_chart.specs.Tops.{Among, OfSort}
 use Rattle.circ_theory.specs.Signature.{Signature}
 use Rattle.circ_theory.specs.Theory.{Declared, pair_with}
-use Rattle.circ_theory.specs.Renumbering.{renumbered, renumbered_in_order}
+use Rattle.circ_theory.specs.Renumbering.{renumbered}
+use Rattle.circ_theory.proofs.Renumbering.{renumbered_in_order}
 use Rattle.circ_mixfix.specs.declared.found.Found.{Found}
 use Rattle.circ_mixfix.specs.Named.{Named}
 use Rattle.circ_mixfix.specs.Readings.{reading_of, ReadsOne, ReadsPair}

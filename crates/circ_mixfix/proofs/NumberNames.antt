@@ -7,7 +7,7 @@ use Rattle.std.proofs.lemmas.Bool.{eqb-true, eqb-false, eq-eqb, and_parts}
 use Rattle.std.proofs.lemmas.List.{map-append}
 use Rattle.circ_term.specs.Tree.{Tree, Trees, Var, App, none, more}
 use Rattle.circ_term.specs.Substitution.{instance, instances}
-use Rattle.circ_term.specs.Laws.{instance-same}
+use Rattle.circ_term.proofs.Instances.{instance-same}
 use Rattle.circ_theory.specs.Names.{AreDifferent}
 use Rattle.circ_theory.specs.Theory.{pair_with}
 use Rattle.circ_theory.specs.Variables.{Variable, is_variable, seen, seen_in, seen_in_all}

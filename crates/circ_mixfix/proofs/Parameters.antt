@@ -9,10 +9,11 @@ use Rattle.std.proofs.lemmas.List.Elements.{filter-append}
 use Rattle.std.proofs.lemmas.List.Folds.{list_any-append}
 use Rattle.circ_term.specs.Tree.{Tree, Trees, Var, App, none, more}
 use Rattle.circ_term.specs.Substitution.{instance, instances}
-use Rattle.circ_theory.specs.Variables.{Variable, is_variable, seen, seen_in, seen_in_all, AreNumberedFrom}
+use Rattle.circ_theory.specs.Variables.{Variable, is_variable, seen, seen_in, seen_in_all, AreNumberedFrom, numbered}
 use Rattle.circ_theory.specs.Observing.{is_parameter, AreParametersInOrder}
-use Rattle.circ_theory.specs.Numbering.{numbered, numbered_are, numbered-push, any_there, any_absent}
-use Rattle.circ_theory.specs.Renumbering.{renumbering, sorts_in, seen_number, new_number, all_seen_more}
+use Rattle.circ_theory.proofs.Numbering.{numbered_are, numbered-push, any_there, any_absent}
+use Rattle.circ_theory.specs.Renumbering.{renumbering}
+use Rattle.circ_theory.proofs.Renumbering.{sorts_in, seen_number, new_number, all_seen_more}
 use Rattle.circ_mixfix.specs.declared.TheConstants.{HOLE}
 use Rattle.circ_mixfix.specs.declared.found.Found.{Found}
 use Rattle.circ_mixfix.specs.Found.{Keeps, OneRead, AreWithParameters}

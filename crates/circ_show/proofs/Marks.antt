@@ -10,7 +10,7 @@ use Rattle.circ_term.specs.Tree.{Tree, Var, App, sort_of}
 use Rattle.circ_theory.specs.Signature.{IsSort, IsWellSorted}
 use Rattle.circ_theory.specs.Theory.{Theory, Derivative, IsHidden, IsVisible}
 use Rattle.circ_theory.specs.WellFormed.{IsWellFormed}
-use Rattle.circ_theory.specs.Rewriting.{contains_at}
+use Rattle.circ_theory.proofs.Rewriting.{contains_at}
 use Rattle.circ_theory.specs.Experiment.{Entry, Fits}
 use Rattle.circ_show.specs.Observed.{IsObserved, IsUnobserved}
 use Rattle.circ_show.specs.Marks.{AreMarks, IsPassed, AreClosed, unmarked, is_false, is_unmarked, TellUnobserved}

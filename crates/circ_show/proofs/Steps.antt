@@ -3,7 +3,7 @@ use Rattle.std.proofs.Common.{◌≡◌, ℕ, zero, suc, ◌+◌, ◌-◌, ◌<�
 use Rattle.std.specs.Prelude.{is_ok, OnOk, if◌then◌else◌}
 use Rattle.std.specs.List.{slice_get}
 use Rattle.std.proofs.lemmas.Option.{slice_get_within, get_or_from_slice_get}
-use Rattle.circ_term.specs.Laws.{drop_read}
+use Rattle.circ_term.proofs.Within.{drop_read}
 use Rattle.circ_show.specs.TheoryText.{by_number}
 
 pub list_step : {X : Type 0} (f : X → List ℕ) (xs : List X) (n : ℕ) (x : X) (old new goal : List ℕ) → slice_get xs n ≡ Some x → new ≡ old ++ f x

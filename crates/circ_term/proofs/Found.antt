@@ -2,12 +2,10 @@
 use Rattle.std.proofs.Common.{◌≡◌, ℕ, Bool, true, false, ◌&&◌, cond, List, [], ◌∷◌, map, Some, refl, ◌∙◌, unwrap_or}
 use Rattle.std.specs.Bool.{◌==◌}
 use Rattle.std.specs.Ordering.{ordering_then, nat_cmp, is_eq}
-use Rattle.std.specs.Cmp.{unsigned_ties}
-use Rattle.std.specs.Cmp.{both_tied}
+use Rattle.std.specs.Cmp.{unsigned_ties, both_tied}
 use Rattle.std.specs.Map.{lookup}
-use Rattle.std.proofs.lemmas.Bool.{eqb-true}
+use Rattle.std.proofs.lemmas.Bool.{eqb-true, and_parts}
 use Rattle.circ_term.specs.Tree.{Tree, Var, sort_of}
-use Rattle.circ_term.specs.Laws.{and_parts}
 use Rattle.circ_term.specs.Substitution.{KeepsSorts}
 use Rattle.circ_term.specs.Subst.{Bound, found, substitution_of, Binds}
 use Rattle.circ_term.specs.Bindings.{bound_of}

@@ -1,3 +1,6 @@
+pub mod Paths
+pub mod Limits
+pub mod Instances
 pub mod Within
 pub mod Replaced
 pub mod Found

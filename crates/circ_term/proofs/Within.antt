@@ -1,12 +1,17 @@
 -- Lists of terms, as the loops over arguments read them.
-use Rattle.std.proofs.Common.{◌≡◌, ℕ, ◌≤◌, ◌<◌, Bool, IsTrue, ◌↔◌, List, [], ◌∷◌, zero, suc, length, drop, min, get_or, refl, ap, sym, ◌∙◌, arith}
+use Rattle.std.proofs.Common.{◌≡◌, ℕ, ◌+◌, ◌≤◌, ◌<◌, Bool, IsTrue, ◌↔◌, List, [], ◌∷◌, zero, suc, length, drop, min, get_or, refl, ap, sym, ◌∙◌, arith}
 use Rattle.std.proofs.lemmas.Bool.Decides.{nat_tests}
+use Rattle.std.proofs.lemmas.List.{drop_more}
 use Rattle.std.specs.Ordering.{nat_cmp}
 use Rattle.circ_term.specs.Tree.{Tree, App, depth_of, depths_of, list_of, list_of-trees_of, trees_of-list_of, trees_of}
-use Rattle.circ_term.specs.Laws.{walk_none}
 use Rattle.circ_term.specs.Order.{trees_cmp}
+use Rattle.circ_term.proofs.Paths.{walk_none}
 
 pub ruleset rows = (list_of-trees_of, trees_of-list_of, walk_none)
+
+-- reading a list from the front, one item at a time
+pub drop_read : {X : Type 0} (xs : List X) (i : ℕ) (x : X) → i < length xs → x ≡ get_or xs i x → drop i xs ≡ x ∷ drop (i + 1) xs
+drop_read xs i x within read = drop_more xs i x within ∙ ap (λ y. y ∷ drop (i + 1) xs) (sym read)
 
 -- no argument is deeper than the deepest
 pub depth_at : (ts : List Tree) (i : ℕ) (t : Tree) → i < length ts → t ≡ get_or ts i t → depth_of t ≤ depths_of (trees_of ts)

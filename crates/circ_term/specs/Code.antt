@@ -20,17 +20,17 @@ pub data Part : Type 0 where
   one : Tree → Part
   row : Trees → Part
 
-abbrev pub put : Mark → List Part → List Part
-put (inl (n, s)) parts = one (Var n s) ∷ parts
-put (inr (inl (f, s))) (row ts ∷ parts) = one (App f s ts) ∷ parts
-put (inr (inl (f, s))) _ = []
-put (inr (inr true)) parts = row none ∷ parts
-put (inr (inr false)) (one t ∷ row ts ∷ parts) = row (more t ts) ∷ parts
-put (inr (inr false)) _ = []
+abbrev pub read_mark : Mark → List Part → List Part
+read_mark (inl (n, s)) parts = one (Var n s) ∷ parts
+read_mark (inr (inl (f, s))) (row ts ∷ parts) = one (App f s ts) ∷ parts
+read_mark (inr (inl (f, s))) _ = []
+read_mark (inr (inr true)) parts = row none ∷ parts
+read_mark (inr (inr false)) (one t ∷ row ts ∷ parts) = row (more t ts) ∷ parts
+read_mark (inr (inr false)) _ = []
 
 abbrev pub parts_of : List Mark → List Part
 parts_of [] = []
-parts_of (m ∷ ms) = put m (parts_of ms)
+parts_of (m ∷ ms) = read_mark m (parts_of ms)
 
 abbrev pub tree_in : List Part → Tree
 tree_in (one t ∷ _) = t
@@ -39,12 +39,12 @@ tree_in _ = Var 0 0
 mutual
   pub parts_of-marks : (t : Tree) (k : List Mark) → parts_of (marks t k) ≡ one t ∷ parts_of k
   parts_of-marks (Var n s) k = refl
-  parts_of-marks (App f s ts) k = ap (put (inr (inl (f, s)))) (parts_of-row_marks ts k)
+  parts_of-marks (App f s ts) k = ap (read_mark (inr (inl (f, s)))) (parts_of-row_marks ts k)
 
   pub parts_of-row_marks : (ts : Trees) (k : List Mark) → parts_of (row_marks ts k) ≡ row ts ∷ parts_of k
   parts_of-row_marks none k = refl
   parts_of-row_marks (more t ts) k =
-      ap (put (inr (inr false))) (parts_of-marks t (row_marks ts k) ∙ ap (λ ps. one t ∷ ps) (parts_of-row_marks ts k))
+      ap (read_mark (inr (inr false))) (parts_of-marks t (row_marks ts k) ∙ ap (λ ps. one t ∷ ps) (parts_of-row_marks ts k))
 
 abbrev pub tree_code : Coded Tree
 tree_code =

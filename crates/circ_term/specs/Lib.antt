@@ -7,5 +7,4 @@ pub mod Falls
 pub mod Kind
 pub mod Subst
 pub mod Bindings
-pub mod Laws
 pub mod Order

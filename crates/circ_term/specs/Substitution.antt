@@ -1,6 +1,5 @@
 -- Substitutions: functions on variables, which act at all places at once. A variable that is given itself stays.
-use Rattle.std.specs.Prelude.{◌≡◌, ℕ, refl}
-use Rattle.std.proofs.Common.{ap, ◌∙◌}
+use Rattle.std.specs.Prelude.{◌≡◌, ℕ}
 use Rattle.circ_term.specs.Tree.{Tree, Trees, Var, App, none, more, sort_of}
 
 -- from a variable's number and sort to the term in its place
@@ -22,14 +21,5 @@ abbrev mutual
   instances σ (more t ts) = more (instance σ t) (instances σ ts)
 
 -- first σ, then τ
-abbrev pub after : Substitution → Substitution → Substitution
-after τ σ = λ n s. instance τ (σ n s)
-
-mutual
-  pub instance-instance : (τ σ : Substitution) (t : Tree) → instance τ (instance σ t) ≡ instance (after τ σ) t
-  instance-instance τ σ (Var n s) = refl
-  instance-instance τ σ (App f s ts) = ap (App f s) (instances-instances τ σ ts)
-
-  pub instances-instances : (τ σ : Substitution) (ts : Trees) → instances τ (instances σ ts) ≡ instances (after τ σ) ts
-  instances-instances τ σ none = refl
-  instances-instances τ σ (more t ts) = ap (λ x. more x (instances τ (instances σ ts))) (instance-instance τ σ t) ∙ ap (more (instance (after τ σ) t)) (instances-instances τ σ ts)
+abbrev pub composed : Substitution → Substitution → Substitution
+composed τ σ = λ n s. instance τ (σ n s)

@@ -85,9 +85,13 @@ walk o (i ∷ p) = walk (option_and_then (λ t. slice_get (args_of t) i) o) p
 abbrev pub at : Tree → List ℕ → Option Tree
 at t p = walk (Some t) p
 
+-- the trees with u in place of the i-th
+abbrev pub put_at : Trees → ℕ → Tree → Trees
+put_at ts i u = trees_of (slice_set (list_of ts) i u)
+
 abbrev pub with_arg : Tree → ℕ → Option Tree → Option Tree
 with_arg (Var n s) i o = None
-with_arg (App f s ts) i o = option_map (λ u. App f s (trees_of (slice_set (list_of ts) i u))) o
+with_arg (App f s ts) i o = option_map (λ u. App f s (put_at ts i u)) o
 
 -- the term with u in place of the subterm at a path; none where the path leaves the term
 abbrev pub replaced : Tree → List ℕ → Tree → Option Tree

@@ -8,8 +8,6 @@
 mod bindings;
 mod fault;
 mod node;
-#[cfg(test)]
-mod tests;
 
 pub use bindings::Subst;
 pub use fault::TermFault;

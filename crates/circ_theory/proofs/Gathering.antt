@@ -5,11 +5,12 @@ use Rattle.std.proofs.lemmas.List.{length-map, map-append}
 use Rattle.indexmap.specs.IndexSet.{insert_key}
 use Rattle.circ_term.specs.Tree.{Tree}
 use Rattle.circ_term.specs.Limits.{IsWithinLimits}
-use Rattle.circ_term.specs.Laws.{within_limits, instance-same}
+use Rattle.circ_term.proofs.Limits.{within_limits}
+use Rattle.circ_term.proofs.Instances.{instance-same}
 use Rattle.circ_term.specs.Substitution.{Substitution, instance}
 use Rattle.circ_theory.specs.declared.renumber.Occurring.{Occurring}
 use Rattle.circ_theory.specs.Variables.{Variable, is_variable, seen, seen_in, variables_of}
-use Rattle.circ_theory.specs.Numbering.{length-seen_in}
+use Rattle.circ_theory.proofs.Numbering.{length-seen_in}
 use Rattle.circ_theory.specs.Theory.{pair_with}
 use Rattle.circ_theory.specs.Renumbering.{renumbering, renumbered, Renumbers}
 use Rattle.circ_theory.specs.Occurring.{variable_of}

@@ -1,3 +1,9 @@
+pub mod Instances
+pub mod Congruence
+pub mod Behaviour
+pub mod Numbering
+pub mod Renumbering
+pub mod Rewriting
 pub mod Cutting
 pub mod Lists
 pub mod Growing

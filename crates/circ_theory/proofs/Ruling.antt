@@ -5,9 +5,9 @@ use Rattle.std.proofs.lemmas.List.Folds.{list_any-append}
 use Rattle.std.proofs.lemmas.Bool.{eqb-true, eq-eqb, ne_eqb, and_parts}
 use Rattle.std.proofs.Math.Bool.{or-false, or_assoc}
 use Rattle.circ_term.specs.Tree.{Tree, Trees, Var, App, none, more}
-use Rattle.circ_theory.specs.Variables.{Variable, is_variable, seen, seen_in, seen_in_all, occurrences, all_occurrences}
+use Rattle.circ_theory.specs.Variables.{Variable, is_variable, seen, seen_in, seen_in_all, occurrences, all_occurrences, numbered}
 use Rattle.circ_theory.specs.Theory.{pair_with}
-use Rattle.circ_theory.specs.Numbering.{numbered, length-numbered}
+use Rattle.circ_theory.proofs.Numbering.{length-numbered}
 use Rattle.circ_theory.specs.Rule.{is_bound}
 
 -- those of the list that are new are added

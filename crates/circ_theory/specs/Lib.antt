@@ -1,5 +1,6 @@
 pub mod Form
 pub mod Signature
+pub mod Pair
 pub mod Theory
 pub mod Variables
 pub mod Derivable
@@ -12,10 +13,6 @@ pub mod Adding
 pub mod Code
 pub mod Inside
 pub mod Link
-pub mod Instances
-pub mod Congruence
-pub mod Behaviour
-pub mod Numbering
 pub mod Rewriting
 pub mod Examples
 pub mod Renumbering

@@ -4,13 +4,7 @@ use Rattle.std.specs.List.{slice_get, Contains}
 use Rattle.circ_term.specs.Tree.{Tree, Var, App, none, more, sort_of}
 use Rattle.circ_theory.specs.Signature.{Signature, Operator, IsWellSorted}
 use Rattle.circ_theory.specs.declared.parts.Equation.{Equation}
-
-pub record Pair : Type 0 where
-  pub left : Tree
-  pub right : Tree
-
-abbrev pub pair_with : Tree → Tree → Pair
-pair_with s t = record { left = s; right = t }
+pub use Rattle.circ_theory.specs.Pair.{Pair, pair_with, instance_pair}
 
 -- a term with a hole, which is variable 0 of this sort; the other variables are its parameters
 pub record Derivative : Type 0 where
@@ -40,7 +34,7 @@ pub record Theory : Type 0 where
   pub cases : List CaseList
 
 abbrev pub pair_of : Equation → Pair
-pair_of e = record { left = e.left; right = e.right }
+pair_of e = pair_with e.left e.right
 
 -- f applied to two terms, where both arguments and the result have one sort
 abbrev pub twice : (op sort : ℕ) → Tree → Tree → Tree

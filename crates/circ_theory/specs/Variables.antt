@@ -77,3 +77,8 @@ given (v ∷ vs) (t ∷ ts) = λ n s. if (v.number == n) && (v.sort == s) then t
 -- the sorts of a pair's variables, in the order of their first occurrence
 abbrev pub sorts_of : Pair → List ℕ
 sorts_of p = map (λ v. v.sort) (variables_of p)
+
+-- the variables of these sorts, with the numbers from k on
+abbrev pub numbered : ℕ → List ℕ → List Variable
+numbered k [] = []
+numbered k (s ∷ ss) = record { number = k; sort = s } ∷ numbered (k + 1) ss

@@ -7,12 +7,11 @@ ghost use Rattle.circ_theory.specs.declared.forms.Piece.TheVariants.{Hole, Word}
 ghost use Rattle.circ_theory.specs.declared.forms.FormFault.TheVariants.{NoWord, BadWord};
 ghost use Rattle.circ_theory.specs.Form.{pieces_of, form_fault};
 ghost use Rattle.circ_theory.specs.Signature.{IsWellSorted, IsSubstitution};
-ghost use Rattle.circ_theory.specs.Theory.{Theory, Pair};
+ghost use Rattle.circ_theory.specs.Theory.{Theory, Pair, instance_pair};
 ghost use Rattle.circ_theory.specs.Variables.{IsInOrder};
 ghost use Rattle.circ_theory.specs.Derivable.{Derivable};
 ghost use Rattle.circ_theory.specs.Experiment.{Fits, on, Behaves};
 ghost use Rattle.circ_theory.specs.WellFormed.{IsWellFormed};
-ghost use Rattle.circ_theory.specs.Instances.{instance_pair};
 ghost use Rattle.circ_theory.specs.Examples.{bits, zero_bit, negation, streams, head, swapped, on_variables, pair};
 
 /// An instance of what is derivable is derivable from the instances of the premises.

@@ -8,7 +8,7 @@ ghost use Rattle.circ_theory.specs.Signature.{IsWellSorted};
 ghost use Rattle.circ_theory.specs.Derivable.{Derivable};
 ghost use Rattle.circ_theory.specs.Link.{Follows, named, IsInTable, plain_link, Equation_link, from_side, to_side};
 ghost use Rattle.circ_theory.specs.Theory.{pair_of};
-ghost use Rattle.circ_theory.specs.Numbering.{numbered};
+ghost use Rattle.circ_theory.specs.Variables.{numbered};
 ghost use Rattle.circ_theory.specs.Rewriting.{GivesInstance, GivesReplaced, GivesRewrite, GivesSubst};
 
 use crate::parts::Equation;

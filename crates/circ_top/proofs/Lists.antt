@@ -3,7 +3,7 @@ use Rattle.std.proofs.Common.{◌≡◌, ℕ, ◌+◌, ◌<◌, List, [], ◌∷
 use Rattle.std.specs.List.{slice_get, AllByRecursion}
 use Rattle.std.specs.Option.{option_map}
 use Rattle.std.proofs.lemmas.Option.{slice_get_within, get_or_from_slice_get}
-use Rattle.circ_term.specs.Laws.{drop_read}
+use Rattle.circ_term.proofs.Within.{drop_read}
 use Rattle.circ_theory.proofs.Lists.{all_at}
 use Rattle.circ_file.specs.ProofText.{texts}
 

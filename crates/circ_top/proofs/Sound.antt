@@ -6,10 +6,10 @@ use Rattle.circ_theory.specs.Signature.{Signature, IsWellSorted}
 use Rattle.circ_theory.specs.Theory.{Theory, Pair, IsWellSortedPair}
 use Rattle.circ_theory.specs.WellFormed.{IsWellFormed}
 use Rattle.circ_theory.specs.Derivable.{Derivable, by_same, by_symmetry, by_chain}
-use Rattle.circ_theory.specs.Congruence.{Keeps}
+use Rattle.circ_theory.proofs.Congruence.{KeepsDerivable}
 use Rattle.circ_theory.specs.Experiment.{Behaves}
-use Rattle.circ_theory.specs.Behaviour.{derivable_behaves}
-use Rattle.circ_theory.specs.Rewriting.{link_keeps, named_well_sorted}
+use Rattle.circ_theory.proofs.Behaviour.{derivable_behaves}
+use Rattle.circ_theory.proofs.Rewriting.{link_keeps, named_well_sorted}
 use Rattle.circ_theory.specs.Link.{PlainLink, Equation_link, plain_link, IsInTable}
 use Rattle.circ_theory.specs.declared.replay.Link.{Link}
 use Rattle.circ_theory.specs.declared.replay.Link.TheVariants as link
@@ -28,9 +28,9 @@ recorded_in_table count (link.Equation n w p ts ∷ ls) a = (a.0.1, recorded_in_
 -- links lead to derivable terms
 pub links_keep : (th : Theory) → IsWellFormed th → (table : List Tree) → AllByRecursion (IsWellSorted th.signature) table
     → (ls : List PlainLink) → AllByRecursion (IsInTable (length table)) ls → (t u : Tree) → IsWellSorted th.signature t
-    → LeadAll th table ls t u → Keeps th [] t u
+    → LeadAll th table ls t u → KeepsDerivable th [] t u
 links_keep th ok table a [] n t u w leads =
-    let P : Tree → Type 0 = Keeps th [] t in
+    let P : Tree → Type 0 = KeepsDerivable th [] t in
     subst P leads (record { derivable = by_same t w; well_sorted = w; same_sort = refl })
 links_keep th ok table a (l ∷ ls) n t u w leads =
     let first = link_keeps th ok table l t leads.0 n.0 a w leads.1.0 in

@@ -1,11 +1,12 @@
 use Rattle.std.proofs.Common.{◌≡◌, ◌∙◌, List, [], ap, map, length, arith}
 use Rattle.std.proofs.lemmas.List.{length-map}
 use Rattle.circ_term.specs.Tree.{Tree}
-use Rattle.circ_term.specs.Laws.{within_limits, instance-same}
+use Rattle.circ_term.proofs.Limits.{within_limits}
+use Rattle.circ_term.proofs.Instances.{instance-same}
 use Rattle.circ_term.specs.Subst.{substitution_of}
 use Rattle.circ_theory.specs.declared.renumber.Occurring.{Occurring}
 use Rattle.circ_theory.specs.Occurring.{variable_of}
-use Rattle.circ_theory.specs.Numbering.{length-seen_in}
+use Rattle.circ_theory.proofs.Numbering.{length-seen_in}
 use Rattle.circ_theory.specs.Variables.{seen_in}
 use Rattle.circ_mixfix.specs.Numbering.{numbering, first_number}
 use Rattle.circ_mixfix.proofs.numbering.numbered_anew.Goals as goal

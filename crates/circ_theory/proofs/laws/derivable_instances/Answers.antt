@@ -1,4 +1,4 @@
-use Rattle.circ_theory.specs.Instances.{derivable_instance}
+use Rattle.circ_theory.proofs.Instances.{derivable_instance}
 use Rattle.circ_theory.proofs.laws.derivable_instances.Goals as goal
 
 pub returns : goal.returns

@@ -1,4 +1,4 @@
-use Rattle.circ_theory.specs.Behaviour.{derivable_behaves}
+use Rattle.circ_theory.proofs.Behaviour.{derivable_behaves}
 use Rattle.circ_theory.proofs.laws.derivable_pairs_behave.Goals as goal
 
 pub returns : goal.returns

@@ -1,6 +1,5 @@
 use Rattle.std.proofs.Common.{arith}
-use Rattle.circ_term.specs.Laws.{drop_read}
-use Rattle.circ_term.proofs.Within.{depth_at}
+use Rattle.circ_term.proofs.Within.{drop_read, depth_at}
 use Rattle.circ_theory.specs.Observing.{holes_in, all_holes_in, parameters_in, all_parameters_in}
 use Rattle.circ_theory.proofs.Filling.{holes_more, parameters_more, read_more}
 use Rattle.circ_theory.proofs.observing.+fill.Goals as goal

@@ -1,10 +1,9 @@
 use Rattle.std.proofs.Common.{◌≡◌, ◌+◌, List, [], drop, refl, sym, subst, arith}
 use Rattle.std.proofs.lemmas.List.{drop_all}
 use Rattle.circ_term.specs.Tree.{trees_of}
-use Rattle.circ_term.specs.Laws.{drop_read}
-use Rattle.circ_term.proofs.Within.{depth_at}
-use Rattle.circ_theory.specs.Variables.{Variable, AreNumberedFrom, seen_in}
-use Rattle.circ_theory.specs.Numbering.{numbered, numbered_are, seen_in_all_before}
+use Rattle.circ_term.proofs.Within.{drop_read, depth_at}
+use Rattle.circ_theory.specs.Variables.{Variable, AreNumberedFrom, seen_in, numbered}
+use Rattle.circ_theory.proofs.Numbering.{numbered_are, seen_in_all_before}
 use Rattle.circ_theory.proofs.order.+visit.Goals as goal
 
 pub visit_all-visit-requires : goal.visit_all-visit-requires

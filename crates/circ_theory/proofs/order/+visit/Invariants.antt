@@ -1,7 +1,6 @@
 use Rattle.std.proofs.Common.{◌≡◌, ◌+◌, ◌*◌, drop}
 use Rattle.circ_term.specs.Tree.{depth_of, depths_of, trees_of}
-use Rattle.circ_theory.specs.Variables.{seen_in_all}
-use Rattle.circ_theory.specs.Numbering.{numbered}
+use Rattle.circ_theory.specs.Variables.{seen_in_all, numbered}
 use Rattle.circ_theory.proofs.order.+visit.Given as goal
 
 abbrev pub invariant-visit_all-loop-term : goal.invariant-visit_all-loop-term

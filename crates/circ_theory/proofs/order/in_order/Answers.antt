@@ -1,6 +1,6 @@
 use Rattle.std.proofs.Common.{[]}
 use Rattle.circ_theory.specs.Variables.{seen_in}
-use Rattle.circ_theory.specs.Numbering.{seen_in_before}
+use Rattle.circ_theory.proofs.Numbering.{seen_in_before}
 use Rattle.circ_theory.proofs.order.in_order.Goals as goal
 
 pub returns-then-not-branch : goal.returns-then-not-branch

@@ -1,7 +1,7 @@
 use Rattle.std.proofs.Common.{◌≡◌, length, List, [], ◌∷◌, ◌++◌, refl, sym, subst, arith}
 use Rattle.std.proofs.lemmas.Option.{slice_get_read, slice_get_within}
 use Rattle.circ_theory.specs.Variables.{Variable, AreNumberedFrom}
-use Rattle.circ_theory.specs.Numbering.{checks_seen, seen_next, out_of_order, numbered_are}
+use Rattle.circ_theory.proofs.Numbering.{checks_seen, seen_next, out_of_order, numbered_are}
 use Rattle.circ_theory.proofs.order.note.Goals as goal
 
 pub returns-then-number-len-clause-answer : goal.returns-then-number-len-clause-answer

@@ -1,8 +1,8 @@
 use Rattle.std.proofs.Common.{◌≡◌, [], map, length, sym, ap, ◌∙◌, arith}
 use Rattle.std.specs.Bool.{⊤}
 use Rattle.std.proofs.lemmas.Bool.Decides.{when_true}
-use Rattle.circ_theory.specs.Variables.{seen_in}
-use Rattle.circ_theory.specs.Numbering.{numbered, sorts-numbered, seen_in_before}
+use Rattle.circ_theory.specs.Variables.{seen_in, numbered}
+use Rattle.circ_theory.proofs.Numbering.{sorts-numbered, seen_in_before}
 use Rattle.circ_theory.proofs.Ruling.{bound_by}
 use Rattle.circ_theory.proofs.order.pair_variables.Goals as goal
 

@@ -2,7 +2,7 @@ use Rattle.std.proofs.Common.{sym, subst}
 use Rattle.circ_term.specs.Subst.{substitution_of}
 use Rattle.circ_theory.specs.Theory.{Pair, pair_with, IsWellSortedPair}
 use Rattle.circ_theory.specs.Variables.{IsInOrder}
-use Rattle.circ_theory.specs.Renumbering.{renumbered_in_order, renumbered_sorted}
+use Rattle.circ_theory.proofs.Renumbering.{renumbered_in_order, renumbered_sorted}
 use Rattle.circ_theory.proofs.Gathering.{few_variables, both_seen, numbered_anew}
 use Rattle.circ_theory.proofs.renumber.renumbered.Goals as goal
 

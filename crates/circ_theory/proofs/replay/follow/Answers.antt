@@ -1,12 +1,12 @@
 use Rattle.std.proofs.Common.{◌≡◌, [], IfOk, length, ap, arith}
 use Rattle.circ_term.specs.Tree.{sort_of}
-use Rattle.circ_term.specs.Laws.{within_limits}
+use Rattle.circ_term.proofs.Limits.{within_limits}
 use Rattle.circ_theory.specs.Signature.{IsWellSorted}
 use Rattle.circ_theory.specs.Theory.{pair_of}
 use Rattle.circ_theory.specs.Derivable.{Derivable}
-use Rattle.circ_theory.specs.Numbering.{length-sorts_of}
+use Rattle.circ_theory.proofs.Numbering.{length-sorts_of}
 use Rattle.circ_theory.specs.Link.{plain_link, Follows}
-use Rattle.circ_theory.specs.Rewriting.{sorts_are, equation_unfit, equation_follows, link_keeps, if_follows}
+use Rattle.circ_theory.proofs.Rewriting.{sorts_are, equation_unfit, equation_follows, link_keeps, if_follows}
 use Rattle.circ_theory.proofs.replay.follow.Goals as goal
 use Rattle.circ_theory.proofs.replay.follow.Goals.{After-drop-subst-inside}
 

@@ -1,6 +1,6 @@
 use Rattle.circ_term.specs.Substitution.{instance}
 use Rattle.circ_term.specs.Subst.{substitution_of}
-use Rattle.circ_term.specs.Laws.{replaced_within}
+use Rattle.circ_term.proofs.Limits.{replaced_within}
 use Rattle.circ_theory.proofs.replay.rewrite.Goals as goal
 
 pub returns-in_default-2 : goal.returns-in_default-2

@@ -4,9 +4,9 @@ use Rattle.std.specs.Bool.{⊤}
 use Rattle.std.proofs.lemmas.Bool.Decides.{when_true}
 use Rattle.circ_term.specs.Subst.{Binds}
 use Rattle.circ_theory.specs.Link.{named}
-use Rattle.circ_theory.specs.Variables.{given}
-use Rattle.circ_theory.specs.Numbering.{numbered, length-numbered}
-use Rattle.circ_theory.specs.Rewriting.{named_at}
+use Rattle.circ_theory.specs.Variables.{given, numbered}
+use Rattle.circ_theory.proofs.Numbering.{length-numbered}
+use Rattle.circ_theory.proofs.Rewriting.{named_at}
 use Rattle.circ_theory.proofs.Lists.{all_read}
 use Rattle.circ_theory.proofs.Binding.{bound_same, bound_fresh, fit_length}
 use Rattle.circ_theory.proofs.replay.substitution.Goals as goal

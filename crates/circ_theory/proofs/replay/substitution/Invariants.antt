@@ -1,8 +1,7 @@
 use Rattle.std.proofs.Common.{◌≡◌, ◌≤◌, ◌↔◌, ℕ, None, unwrap_or, drop, map}
 use Rattle.circ_term.specs.Subst.{found}
-use Rattle.circ_theory.specs.Variables.{FitVariables, given}
+use Rattle.circ_theory.specs.Variables.{FitVariables, given, numbered}
 use Rattle.circ_theory.specs.Link.{named}
-use Rattle.circ_theory.specs.Numbering.{numbered}
 use Rattle.circ_theory.proofs.replay.substitution.Given as goal
 
 abbrev pub invariant-loop-i : goal.invariant-loop-i

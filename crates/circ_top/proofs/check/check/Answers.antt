@@ -2,7 +2,7 @@ use Rattle.std.proofs.Common.{◌≡◌, ◌<◌, ℕ, length, get_or, ap, sym, 
 use Rattle.std.specs.List.{slice_get, AllByRecursion}
 use Rattle.std.specs.Option.{option_map}
 use Rattle.std.proofs.lemmas.Option.{slice_get_past}
-use Rattle.circ_theory.specs.Rewriting.{named_well_sorted}
+use Rattle.circ_theory.proofs.Rewriting.{named_well_sorted}
 use Rattle.circ_file.specs.Proof.{IsNameFor, IsChainFor}
 use Rattle.circ_file.specs.Plain.{plain_proof, plain_name, plain_chain}
 use Rattle.circ_top.proofs.Lists.{slice_get-map, slice_get_read, slice_get_below, all_map_at}

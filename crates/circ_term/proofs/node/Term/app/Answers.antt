@@ -2,7 +2,8 @@ use Rattle.std.proofs.Common.{◌≡◌, ◌+◌, drop, ◌&&◌, arith, sym, �
 use Rattle.std.proofs.Math.Bool.{and_assoc}
 use Rattle.circ_term.specs.Tree.{trees_of, are_ground}
 use Rattle.circ_term.specs.Limits.{first_limit, first_limits, or_else}
-use Rattle.circ_term.specs.Laws.{drop_read, first_limit_none}
+use Rattle.circ_term.proofs.Within.{drop_read}
+use Rattle.circ_term.proofs.Limits.{first_limit_none}
 use Rattle.circ_term.proofs.node.Term.app.Goals as goal
 
 pub loop-arg-preserved : goal.loop-arg-preserved

@@ -5,7 +5,7 @@ use Rattle.circ_term.specs.Tree.{Tree, sort_of}
 use Rattle.circ_theory.specs.declared.TheConstants.{MOST_ARGS}
 use Rattle.circ_theory.specs.Signature.{IsWellSorted}
 use Rattle.circ_theory.specs.Operators.{operator_of}
-use Rattle.circ_theory.specs.Rewriting.{contains_at}
+use Rattle.circ_theory.proofs.Rewriting.{contains_at}
 use Rattle.circ_theory.proofs.Sorted.{have_sorts_of}
 use Rattle.circ_theory.proofs.theories.Theory.app.Goals as goal
 

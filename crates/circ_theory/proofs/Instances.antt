@@ -3,9 +3,10 @@ use Rattle.std.specs.Prelude.{◌≡◌, ℕ, List, [], ◌∷◌, map, zero, su
 use Rattle.std.specs.List.{Contains}
 use Rattle.std.proofs.Common.{ap, ◌∙◌, arith, sym}
 use Rattle.circ_term.specs.Tree.{Tree, Trees, Var, App, none, more, sort_of}
-use Rattle.circ_term.specs.Substitution.{Substitution, instance, instances, after, instance-instance}
+use Rattle.circ_term.specs.Substitution.{Substitution, instance, instances, composed}
+use Rattle.circ_term.proofs.Instances.{instance-instance}
 use Rattle.circ_theory.specs.Signature.{Signature, IsSort, IsWellSorted, HaveSorts, IsSubstitution}
-use Rattle.circ_theory.specs.Theory.{Theory, Pair, IsWellSortedPair}
+use Rattle.circ_theory.specs.Theory.{Theory, Pair, instance_pair, IsWellSortedPair}
 use Rattle.circ_theory.specs.Derivable.{Derivable, by_same, by_symmetry, by_chain, by_operator, by_equation, by_premise, by_cases, DerivableAll, no_args, more_args}
 
 pub sort_of-instance_by : (sig : Signature) (σ : Substitution) (t : Tree) → IsSubstitution sig σ → IsWellSorted sig t → sort_of (instance σ t) ≡ sort_of t
@@ -25,11 +26,8 @@ mutual
   instances_have_sorts sig σ (more t ts) (s ∷ ss) w h =
       (sort_of-instance_by sig σ t w h.1 ∙ h.0, instance_well_sorted sig σ t w h.1, instances_have_sorts sig σ ts ss w h.2)
 
-pub after_substitution : (sig : Signature) (τ σ : Substitution) → IsSubstitution sig τ → IsSubstitution sig σ → IsSubstitution sig (after τ σ)
-after_substitution sig τ σ a b = λ n s h. (sort_of-instance_by sig τ (σ n s) a (b n s h).1 ∙ (b n s h).0, instance_well_sorted sig τ (σ n s) a (b n s h).1)
-
-abbrev pub instance_pair : Substitution → Pair → Pair
-instance_pair τ p = record { left = instance τ p.left; right = instance τ p.right }
+pub composed_substitution : (sig : Signature) (τ σ : Substitution) → IsSubstitution sig τ → IsSubstitution sig σ → IsSubstitution sig (composed τ σ)
+composed_substitution sig τ σ a b = λ n s h. (sort_of-instance_by sig τ (σ n s) a (b n s h).1 ∙ (b n s h).0, instance_well_sorted sig τ (σ n s) a (b n s h).1)
 
 pub contains_instance : (τ : Substitution) (H : List Pair) (p : Pair) → Contains H p → Contains (map (instance_pair τ) H) (instance_pair τ p)
 contains_instance τ [] p c = absurd (omega (arith, c.1))
@@ -53,7 +51,7 @@ mutual
   derivable_instance th τ w (by_operator {ss = ss} {ts = ts} f k a b ds) =
       by_operator f k (instance_well_sorted th.signature τ (App f k ss) w a) (instance_well_sorted th.signature τ (App f k ts) w b) (derivable_instances th τ w ds)
   derivable_instance th τ w (by_equation {H = H} e σ c s) =
-      rw (instance-instance τ σ e.left, instance-instance τ σ e.right) (by_equation e (after τ σ) c (after_substitution th.signature τ σ w s))
+      rw (instance-instance τ σ e.left, instance-instance τ σ e.right) (by_equation e (composed τ σ) c (composed_substitution th.signature τ σ w s))
   derivable_instance th τ w (by_premise {H = H} p c s) = by_premise (instance_pair τ p) (contains_instance τ H p c) (pair_instance th.signature τ p w s)
   derivable_instance th τ w (by_cases u l c a b f) =
       by_cases (instance τ u) l c (instance_well_sorted th.signature τ u w a) (sort_of-instance_by th.signature τ u w a ∙ b) (λ k h. derivable_instance th τ w (f k h))

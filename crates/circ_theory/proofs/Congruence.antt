@@ -3,14 +3,11 @@ use Rattle.std.specs.Prelude.{◌≡◌, ℕ, zero, suc, List, [], ◌∷◌, Op
 use Rattle.std.specs.List.{slice_get}
 use Rattle.std.proofs.lemmas.Option.{same_Some}
 use Rattle.std.proofs.Common.{ap, sym, ◌∙◌, subst}
-use Rattle.circ_term.specs.Tree.{Tree, Trees, Var, App, none, more, sort_of, list_of, trees_of, trees_of-list_of, at, walk, replaced}
-use Rattle.circ_term.specs.Laws.{walk_none}
+use Rattle.circ_term.specs.Tree.{Tree, Trees, Var, App, none, more, sort_of, list_of, trees_of, trees_of-list_of, at, walk, put_at, replaced}
+use Rattle.circ_term.proofs.Paths.{walk_none}
 use Rattle.circ_theory.specs.Signature.{IsWellSorted, HaveSorts}
 use Rattle.circ_theory.specs.Theory.{Theory, Pair}
 use Rattle.circ_theory.specs.Derivable.{Derivable, by_same, by_operator, DerivableAll, no_args, more_args}
-
-abbrev pub put_at : Trees → ℕ → Tree → Trees
-put_at ts i u = trees_of (slice_set (list_of ts) i u)
 
 -- each argument is derivable from itself
 pub all_same : (th : Theory) (H : List Pair) (ts : Trees) (ss : List ℕ) → HaveSorts th.signature ts ss → DerivableAll th H ts ts
@@ -42,7 +39,7 @@ put_well_sorted th (more t ts) (k ∷ ss) zero x y h g s w = rw (trees_of-list_o
 put_well_sorted th (more t ts) (k ∷ ss) (suc i) x y h g s w = (h.0, h.1, put_well_sorted th ts ss i x y h.2 g s w)
 
 -- u is derivable from t, well-sorted, and of its sort
-pub record Keeps (th : Theory) (H : List Pair) (t u : Tree) : Type 0 where
+pub record KeepsDerivable (th : Theory) (H : List Pair) (t u : Tree) : Type 0 where
   pub derivable : Derivable th H t u
   pub well_sorted : IsWellSorted th.signature u
   pub same_sort : sort_of u ≡ sort_of t
@@ -52,21 +49,21 @@ walk_nowhere p a e = let off = walk_none p in cc
 
 pub replaced_keeps : (th : Theory) (H : List Pair) (p : List ℕ) (t a b u : Tree)
     → IsWellSorted th.signature t → at t p ≡ Some a → IsWellSorted th.signature b → sort_of b ≡ sort_of a → Derivable th H a b → replaced t p b ≡ Some u
-    → Keeps th H t u
+    → KeepsDerivable th H t u
 replaced_keeps th H [] t a b u wt g wb sb d r =
-    let P : Tree → Type 0 = λ x. Keeps th H x b in
-    let Q : Tree → Type 0 = λ x. Keeps th H t x in
+    let P : Tree → Type 0 = λ x. KeepsDerivable th H x b in
+    let Q : Tree → Type 0 = λ x. KeepsDerivable th H t x in
     subst Q (same_Some b u r) (subst P (sym (same_Some t a g)) (record { derivable = d; well_sorted = wb; same_sort = sb }))
 replaced_keeps th H (i ∷ p) (Var n s) a b u wt g wb sb d r = absurd (cc)
 replaced_keeps th H (i ∷ p) (App f k ts) a b u wt g wb sb d r = down (λ x y wx gx q. replaced_keeps th H p x a b y wx gx wb sb d q) (slice_get (list_of ts) i) refl
   where
     back : (x : Tree) → slice_get (list_of ts) i ≡ Some x → (o : Option Tree) → replaced x p b ≡ o
-        → ((y : Tree) → replaced x p b ≡ Some y → Keeps th H x y) → Keeps th H (App f k ts) u
+        → ((y : Tree) → replaced x p b ≡ Some y → KeepsDerivable th H x y) → KeepsDerivable th H (App f k ts) u
     back x e None q ih = absurd (let z = rw (e, q) at r in cc)
     back x e (Some y) q ih =
         let z = rw (e, q) at r in
-        let w : Keeps th H x y = ih y q in
-        let P : Tree → Type 0 = λ v. Keeps th H (App f k ts) v in
+        let w : KeepsDerivable th H x y = ih y q in
+        let P : Tree → Type 0 = λ v. KeepsDerivable th H (App f k ts) v in
         let sorts = put_well_sorted th ts wt.0.args i x y wt.3 e w.same_sort w.well_sorted in
         subst P (same_Some (App f k (put_at ts i y)) u z) (record {
           derivable = by_operator f k wt (wt.0, wt.1, wt.2, sorts) (one_differs th H ts wt.0.args i x y wt.3 e w.derivable);
@@ -74,7 +71,7 @@ replaced_keeps th H (i ∷ p) (App f k ts) a b u wt g wb sb d r = down (λ x y w
           same_sort = refl;
         })
 
-    down : ((x y : Tree) → IsWellSorted th.signature x → at x p ≡ Some a → replaced x p b ≡ Some y → Keeps th H x y)
-        → (o : Option Tree) → slice_get (list_of ts) i ≡ o → Keeps th H (App f k ts) u
+    down : ((x y : Tree) → IsWellSorted th.signature x → at x p ≡ Some a → replaced x p b ≡ Some y → KeepsDerivable th H x y)
+        → (o : Option Tree) → slice_get (list_of ts) i ≡ o → KeepsDerivable th H (App f k ts) u
     down ih None e = absurd (walk_nowhere p a (rw e at g))
     down ih (Some x) e = back x e (replaced x p b) refl (λ y q. ih x y (arg_well_sorted th ts wt.0.args i x wt.3 e) (rw e at g) q)

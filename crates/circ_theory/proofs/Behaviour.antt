@@ -9,7 +9,7 @@ use Rattle.circ_theory.specs.Theory.{Theory, Pair}
 use Rattle.circ_theory.specs.WellFormed.{IsWellFormed}
 use Rattle.circ_theory.specs.Derivable.{Derivable, by_same}
 use Rattle.circ_theory.specs.Experiment.{Entry, plug, derived, Fits, on, Behaves}
-use Rattle.circ_theory.specs.Instances.{sort_of-instance_by, instance_well_sorted, instance_derivable}
+use Rattle.circ_theory.proofs.Instances.{sort_of-instance_by, instance_well_sorted, instance_derivable}
 
 pub plug_substitution : (sig : Signature) (h : ℕ) (t : Tree) (p : Substitution) → sort_of t ≡ h → IsWellSorted sig t → IsSubstitution sig p → IsSubstitution sig (plug h t p)
 plug_substitution sig h t p e w q n s l = go ((n == 0) && (s == h)) refl

@@ -1,18 +1,13 @@
--- Laws of trees, limits and substitutions.
-use Rattle.std.proofs.Common.{◌≡◌, ℕ, ◌+◌, ◌≤◌, ◌<◌, Bool, true, false, ◌&&◌, List, [], ◌∷◌, zero, suc, length, drop, get_or, refl, ap, sym, subst, ◌∙◌, arith, Option, Some, None}
+-- Terms within the limits, their parts, and what is put into them.
+use Rattle.std.proofs.Common.{◌≡◌, ℕ, ◌+◌, ◌≤◌, List, [], ◌∷◌, zero, suc, refl, sym, subst, arith, Option, Some, None}
 use Rattle.std.specs.Prelude.{slice_set}
 use Rattle.std.specs.List.{slice_get}
-use Rattle.std.proofs.lemmas.List.{drop_more}
 use Rattle.std.proofs.lemmas.Option.{same_Some}
 use Rattle.std.proofs.lemmas.Grind.{common_steps}
-use Rattle.circ_term.specs.Tree.{Tree, Trees, Var, App, none, more, size_of, sizes_of, depth_of, depths_of, is_ground, are_ground, list_of, trees_of, args_of, sort_of, walk, at, replaced}
+use Rattle.circ_term.specs.Tree.{Tree, Trees, Var, App, none, more, size_of, sizes_of, depth_of, depths_of, list_of, trees_of, args_of, at, replaced}
 use Rattle.circ_term.specs.Limits.{Limit, limit_at, or_else, first_limit, first_limits, IsWithinLimits}
-use Rattle.circ_term.specs.Substitution.{Substitution, KeepsSorts, instance, instances}
 use Rattle.circ_term.specs.declared.TheConstants.{MOST_NODES, MOST_DEPTH}
-
--- reading a list from the front, one item at a time
-pub drop_read : {X : Type 0} (xs : List X) (i : ℕ) (x : X) → i < length xs → x ≡ get_or xs i x → drop i xs ≡ x ∷ drop (i + 1) xs
-drop_read xs i x within read = drop_more xs i x within ∙ ap (λ y. y ∷ drop (i + 1) xs) (sym read)
+use Rattle.circ_term.proofs.Paths.{walk_none}
 
 pub or_else_none : (a b : Option Limit) → a ≡ None → b ≡ None → or_else a b ≡ None
 or_else_none a b p q = rw (p, q) refl
@@ -45,10 +40,6 @@ limit_at_within m d e = grind (arith, common_steps)
 pub within_limits : (t : Tree) → IsWithinLimits t → (size_of t ≤ MOST_NODES) × (depth_of t ≤ MOST_DEPTH)
 within_limits (Var n s) w = (omega arith, omega arith)
 within_limits (App f s ts) w = limit_at_within (sizes_of ts + 1) (depths_of ts + 1) (or_else_parts (first_limits ts) _ w).1
-
-pub walk_none : (p : List ℕ) → walk None p ≡ None
-walk_none [] = refl
-walk_none (i ∷ p) = walk_none p
 
 item_within : (ts : Trees) (i : ℕ) (a : Tree) → slice_get (list_of ts) i ≡ Some a → first_limits ts ≡ None → IsWithinLimits a
 item_within none i a g w = absurd (cc)
@@ -92,47 +83,3 @@ replaced_within (i ∷ p) (App f s ts) b u r w = down (λ x y. replaced_within p
     down : ((x y : Tree) → replaced x p b ≡ Some y → IsWithinLimits y → IsWithinLimits b) → (o : Option Tree) → slice_get (list_of ts) i ≡ o → IsWithinLimits b
     down ih None g = absurd (let z = rw g at r in cc)
     down ih (Some x) g = there ih x g (replaced x p b) refl
-
-pub and_parts : (a b : Bool) → (a && b) ≡ true → (a ≡ true) × (b ≡ true)
-and_parts true b e = (refl, e)
-and_parts false b e = absurd (cc)
-
--- a term without a variable is its own instance
-mutual
-  pub instance-is_ground : (σ : Substitution) (t : Tree) → is_ground t ≡ true → instance σ t ≡ t
-  instance-is_ground σ (Var n s) e = absurd (cc)
-  instance-is_ground σ (App f s ts) e = ap (App f s) (instances-are_ground σ ts e)
-
-  pub instances-are_ground : (σ : Substitution) (ts : Trees) → are_ground ts ≡ true → instances σ ts ≡ ts
-  instances-are_ground σ none e = refl
-  instances-are_ground σ (more t ts) e =
-      let parts = and_parts (is_ground t) (are_ground ts) e in
-      ap (λ x. more x (instances σ ts)) (instance-is_ground σ t parts.0) ∙ ap (more t) (instances-are_ground σ ts parts.1)
-
-pub length-instances : (σ : Substitution) (ts : Trees) → length (list_of (instances σ ts)) ≡ length (list_of ts)
-length-instances σ none = refl
-length-instances σ (more t ts) = ap suc (length-instances σ ts)
-
--- substitutions that agree at each variable give the same instances
-mutual
-  pub instance-same : (σ τ : Substitution) (t : Tree) → ((n s : ℕ) → σ n s ≡ τ n s) → instance σ t ≡ instance τ t
-  instance-same σ τ (Var n s) e = e n s
-  instance-same σ τ (App f s ts) e = ap (App f s) (instances-same σ τ ts e)
-
-  pub instances-same : (σ τ : Substitution) (ts : Trees) → ((n s : ℕ) → σ n s ≡ τ n s) → instances σ ts ≡ instances τ ts
-  instances-same σ τ none e = refl
-  instances-same σ τ (more t ts) e = ap (λ x. more x (instances σ ts)) (instance-same σ τ t e) ∙ ap (more (instance τ t)) (instances-same σ τ ts e)
-
--- where each variable is given itself, the term stays
-mutual
-  pub instance-Var : (t : Tree) → instance Var t ≡ t
-  instance-Var (Var n s) = refl
-  instance-Var (App f s ts) = ap (App f s) (instances-Var ts)
-
-  pub instances-Var : (ts : Trees) → instances Var ts ≡ ts
-  instances-Var none = refl
-  instances-Var (more t ts) = ap (λ x. more x (instances Var ts)) (instance-Var t) ∙ ap (more t) (instances-Var ts)
-
-pub sort_of-instance : (σ : Substitution) (t : Tree) → KeepsSorts σ → sort_of (instance σ t) ≡ sort_of t
-sort_of-instance σ (Var n s) k = k n s
-sort_of-instance σ (App f s ts) k = refl

@@ -8,12 +8,7 @@ use Rattle.std.proofs.lemmas.Option.{same_Some, slice_get_within}
 use Rattle.std.proofs.lemmas.Grind.{common_steps}
 use Rattle.circ_term.specs.Tree.{Tree, Trees, Var, App, none, more, size_of, sizes_of}
 use Rattle.circ_theory.specs.Theory.{Pair}
-use Rattle.circ_theory.specs.Variables.{Variable, is_variable, seen, seen_in, seen_in_all, AreNumberedFrom, IsInOrder, variables_of, sorts_of, is_before, put_in_order, sorted}
-
--- the variables of these sorts, with the numbers from k on
-abbrev pub numbered : ℕ → List ℕ → List Variable
-numbered k [] = []
-numbered k (s ∷ ss) = record { number = k; sort = s } ∷ numbered (k + 1) ss
+use Rattle.circ_theory.specs.Variables.{Variable, is_variable, seen, seen_in, seen_in_all, AreNumberedFrom, IsInOrder, variables_of, sorts_of, numbered, is_before, put_in_order, sorted}
 
 pub numbered_are : (k : ℕ) (ss : List ℕ) → AreNumberedFrom k (numbered k ss)
 numbered_are k [] = tt
