@@ -1,4 +1,4 @@
-use Rattle.std.proofs.Common.{◌≡◌, ◌++◌, flat_map, drop, codes}
+use Rattle.std.proofs.Common.{◌≡◌, ◌++◌, flat_map, drop}
 use Rattle.circ_show.specs.Lines.{spaced_form}
 use Rattle.circ_show.proofs.lines.put_constants.Given as goal
 

@@ -17,7 +17,7 @@ returns c =
     let arrow : List ℕ = (colon ++ names) ++ codes " ->" in
     let marked : List ℕ = (arrow ++ result) ++ attributes_text d in
     let i = joins o c.extend_from_slice.new.self.items c.put_form.new.out.items (codes "op ") form c.in_ok-extend_from_slice.ensures.items
-        (rw c.pieces.ensures at c.in_ok-put_form.ensures) in
+    (rw c.pieces.ensures at c.in_ok-put_form.ensures) in
     let j = joins o c.put_form.new.out.items c.extend_from_slice-2.new.self.items op (codes " :") i c.in_ok-extend_from_slice-2.ensures.items in
     let k = joins o c.extend_from_slice-2.new.self.items c.put_names.new.out.items colon names j (rw c.deref.ensures.value at c.in_ok-put_names.ensures) in
     let l = joins o c.put_names.new.out.items c.extend_from_slice-3.new.self.items (colon ++ names) (codes " ->") k c.in_ok-extend_from_slice-3.ensures.items in

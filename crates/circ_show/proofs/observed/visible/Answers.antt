@@ -6,8 +6,8 @@ pub loop-sort-preserved : goal.loop-sort-preserved
 loop-sort-preserved c =
     let l = c.loop-sort in
     let more =
-        start_more c.args.theory.now l.marks.items c.push.new.self.items l.sort c.is_hidden.result l.invariant.count l.invariant.start
-        c.is_hidden.ensures.hidden c.in_ok-push.ensures.items in
+    start_more c.args.theory.now l.marks.items c.push.new.self.items l.sort c.is_hidden.result l.invariant.count l.invariant.start
+    c.is_hidden.ensures.hidden c.in_ok-push.ensures.items in
     record { count = more.0; start = more.1 }
 
 pub returns : goal.returns
