@@ -13,7 +13,7 @@ use Rattle.circ_theory.specs.WellFormed.{IsWellFormed}
 use Rattle.circ_theory.proofs.Rewriting.{contains_at}
 use Rattle.circ_theory.specs.Experiment.{Entry, Fits}
 use Rattle.circ_show.specs.Observed.{IsObserved, IsUnobserved}
-use Rattle.circ_show.specs.Marks.{AreMarks, IsPassed, AreClosed, unmarked, is_false, is_unmarked, TellUnobserved}
+use Rattle.circ_show.specs.SortMarks.{AreSortMarks, CarriesMarkAt, AreClosed, unmarked, is_false, is_unmarked, TellUnobserved}
 use Rattle.circ_show.proofs.Steps.{not_past}
 
 pub unmarked_set : (ms : List Bool) (i : ℕ) → (slice_get ms i ≡ Some true → ⊥) → i < length ms → unmarked (slice_set ms i true) < unmarked ms
@@ -52,7 +52,8 @@ longer : (th : Theory) (d : Derivative) → Contains th.derivatives d → IsObse
 longer th d c f = (record { derivative = d; parameters = λ n s. Var n s } ∷ f.0, (c, refl, λ n s h. (refl, h), f.1))
 
 -- the derivative of a number, by its body
-pub by_body : (ds : List Derivative) (n : ℕ) (t : Tree) → Some t ≡ option_map (λ d. d.body) (slice_get ds n) → (d : Derivative) × (slice_get ds n ≡ Some d) × (d.body ≡ t)
+pub by_body : (ds : List Derivative) (n : ℕ) (t : Tree) → Some t ≡ option_map (λ d. d.body) (slice_get ds n)
+    → (d : Derivative) × (slice_get ds n ≡ Some d) × (d.body ≡ t)
 by_body ds n t e = go (slice_get ds n) refl
   where
     go : (o : Option Derivative) → slice_get ds n ≡ o → (d : Derivative) × (slice_get ds n ≡ Some d) × (d.body ≡ t)
@@ -60,13 +61,14 @@ by_body ds n t e = go (slice_get ds n) refl
     go (Some d) g = (d, g, sym (same_Some t d.body (e ∙ ap (option_map (λ x. x.body)) g)))
 
 -- and with its hole
-found : (ds : List Derivative) (n : ℕ) (t : Tree) (h : ℕ) → Some t ≡ option_map (λ d. d.body) (slice_get ds n) → Some h ≡ option_map (λ d. d.hole) (slice_get ds n)
+found : (ds : List Derivative) (n : ℕ) (t : Tree) (h : ℕ) → Some t ≡ option_map (λ d. d.body) (slice_get ds n)
+    → Some h ≡ option_map (λ d. d.hole) (slice_get ds n)
     → (d : Derivative) × (slice_get ds n ≡ Some d) × (d.body ≡ t) × (d.hole ≡ h)
 found ds n t h e f = let d = by_body ds n t e in (d.0, d.1, d.2, sym (same_Some h d.0.hole (f ∙ ap (option_map (λ x. x.hole)) d.1)))
 
 module _ (th : Theory) (ok : IsWellFormed th) (ms : List Bool) (n : ℕ) (t : Tree) (h : ℕ)
     (e : Some t ≡ option_map (λ d. d.body) (slice_get th.derivatives n)) (f : Some h ≡ option_map (λ d. d.hole) (slice_get th.derivatives n)) where
-  pub set_marks : AreMarks th ms → slice_get ms (sort_of t) ≡ Some true → AreMarks th (slice_set ms h true)
+  pub set_marks : AreSortMarks th ms → slice_get ms (sort_of t) ≡ Some true → AreSortMarks th (slice_set ms h true)
   set_marks k m = record {
     count = length-set ms h true ∙ k.count;
     hidden = λ s g. k.hidden s (unset ms h s g);
@@ -86,19 +88,19 @@ module _ (th : Theory) (ok : IsWellFormed th) (ms : List Bool) (n : ℕ) (t : Tr
       sound s (inr g) = k.sound s g
 
   -- the result is not marked, or the hole's sort is
-  pub result_passes : (slice_get ms (sort_of t) ≡ Some true → ⊥) → IsPassed th ms n
+  pub result_passes : (slice_get ms (sort_of t) ≡ Some true → ⊥) → CarriesMarkAt th ms n
   result_passes g d i m =
       let x = found th.derivatives n t h e f in
       let same : d ≡ x.0 = same_Some d x.0 (sym i ∙ x.1) in
       absurd (g (ap (λ y. slice_get ms (sort_of y)) (sym x.2) ∙ ap (λ y. slice_get ms (sort_of y.body)) (sym same) ∙ m))
 
-  pub hole_passes : slice_get ms h ≡ Some true → IsPassed th ms n
+  pub hole_passes : slice_get ms h ≡ Some true → CarriesMarkAt th ms n
   hole_passes g d i m =
       let x = found th.derivatives n t h e f in
       let same : d ≡ x.0 = same_Some d x.0 (sym i ∙ x.1) in
       ap (slice_get ms) (ap (λ y. y.hole) same ∙ x.3) ∙ g
 
-  pub hole_within : AreMarks th ms → h < length ms
+  pub hole_within : AreSortMarks th ms → h < length ms
   hole_within k =
       let d = found th.derivatives n t h e f in
       let w = (ok.derivatives d.0 (contains_at th.derivatives n d.0 d.1)).hole in
@@ -115,15 +117,17 @@ there : {X : Type 0} (xs : List X) (n : ℕ) (y : X) → n < length xs → slice
 there xs n y h e = slice_get-get_or xs n y h ∙ ap Some e
 
 -- no mark is missing where every derivative is passed
-all_marked : (th : Theory) → IsWellFormed th → (ms : List Bool) → AreMarks th ms → AreClosed th ms → (cs : List Entry) (s : ℕ) → IsSort th.signature s → Fits th cs s
+all_marked : (th : Theory) → IsWellFormed th → (ms : List Bool) → AreSortMarks th ms → AreClosed th ms → (cs : List Entry) (s : ℕ) → IsSort th.signature s
+    → Fits th cs s
     → slice_get ms s ≡ Some true
 all_marked th ok ms k c [] s i f = k.visible s i f
 all_marked th ok ms k c (x ∷ cs) s i f =
     let d = x.derivative in
     let l = f.0 in
-    ap (slice_get ms) (sym f.1) ∙ c l.0 d (there th.derivatives l.0 d l.1 l.2) (all_marked th ok ms k c cs (sort_of d.body) (sorted th ok d.body (ok.derivatives d l).body) f.3)
+    ap (slice_get ms) (sym f.1) ∙ c l.0 d (there th.derivatives l.0 d l.1 l.2)
+    (all_marked th ok ms k c cs (sort_of d.body) (sorted th ok d.body (ok.derivatives d l).body) f.3)
 
-pub tell : (th : Theory) → IsWellFormed th → (ms : List Bool) → AreMarks th ms → AreClosed th ms → TellUnobserved th ms
+pub tell : (th : Theory) → IsWellFormed th → (ms : List Bool) → AreSortMarks th ms → AreClosed th ms → TellUnobserved th ms
 tell th ok ms k c s = (out, back)
   where
     out : is_unmarked ms s ≡ true → IsUnobserved th s
@@ -196,7 +200,7 @@ start_more th ms new s r n a h e =
     let Q : List Bool → Type 0 = λ x. (length x ≡ s + 1) × StartFrom th 0 x in
     subst Q (sym e) (count, start_push th 0 ms (not r) a (subst P same (is_start th s r h)))
 
-pub start_marks : (th : Theory) (ms : List Bool) → length ms ≡ length th.signature.sorts → StartFrom th 0 ms → AreMarks th ms
+pub start_marks : (th : Theory) (ms : List Bool) → length ms ≡ length th.signature.sorts → StartFrom th 0 ms → AreSortMarks th ms
 start_marks th ms n a = record {
   count = n;
   hidden = λ s g. read s false g;
@@ -217,13 +221,14 @@ start_marks th ms n a = record {
 
 -- derivatives below a number are passed
 
-pub passed_more : (th : Theory) (ms : List Bool) (k : ℕ) → ((n : ℕ) → n < k → IsPassed th ms n) → IsPassed th ms k → (n : ℕ) → n < k + 1 → IsPassed th ms n
+pub passed_more : (th : Theory) (ms : List Bool) (k : ℕ) → ((n : ℕ) → n < k → CarriesMarkAt th ms n) → CarriesMarkAt th ms k → (n : ℕ) → n < k + 1
+    → CarriesMarkAt th ms n
 passed_more th ms k a p n h = go (cases_order n k)
   where
-    go : (n ≡ k) ⊎ ((n < k) ⊎ (k < n)) → IsPassed th ms n
-    go (inl e) = let P : ℕ → Type 0 = IsPassed th ms in subst P (sym e) p
+    go : (n ≡ k) ⊎ ((n < k) ⊎ (k < n)) → CarriesMarkAt th ms n
+    go (inl e) = let P : ℕ → Type 0 = CarriesMarkAt th ms in subst P (sym e) p
     go (inr (inl l)) = a n l
     go (inr (inr g)) = absurd (omega (arith, h, g))
 
-pub all_passed : (th : Theory) (ms : List Bool) → ((n : ℕ) → n < length th.derivatives → IsPassed th ms n) → AreClosed th ms
+pub all_passed : (th : Theory) (ms : List Bool) → ((n : ℕ) → n < length th.derivatives → CarriesMarkAt th ms n) → AreClosed th ms
 all_passed th ms a n d g = a n (slice_get_within th.derivatives n d g) d g

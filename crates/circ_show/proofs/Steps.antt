@@ -28,6 +28,7 @@ number_step f n count old new goal h g e =
 pub joins : (old one two a b : List ℕ) → one ≡ old ++ a → two ≡ one ++ b → two ≡ old ++ (a ++ b)
 joins old one two a b e f = f ∙ ap (λ x. x ++ b) e ∙ append_assoc old a b
 
-pub ends : {E : Type 0} (r : Result (Unit {0}) E) (old one new a b : List ℕ) → one ≡ old ++ a → new ≡ (if is_ok r then one ++ b else one) → OnOk r (new ≡ old ++ (a ++ b))
+pub ends : {E : Type 0} (r : Result (Unit {0}) E) (old one new a b : List ℕ) → one ≡ old ++ a → new ≡ (if is_ok r then one ++ b else one)
+    → OnOk r (new ≡ old ++ (a ++ b))
 ends (Ok u) old one new a b e f = joins old one new a b e f
 ends (Err x) old one new a b e f = tt

@@ -3,4 +3,4 @@ pub mod Brackets
 pub mod TheoryText
 pub mod GoalsText
 pub mod Observed
-pub mod Marks
+pub mod SortMarks

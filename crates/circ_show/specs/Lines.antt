@@ -15,12 +15,15 @@ use Rattle.circ_theory.specs.Observing.{cases_of}
 use Rattle.circ_mixfix.specs.Printing.{joined, text_of_term, text_of_pair}
 
 -- a word after a space; nothing where it is empty
-abbrev pub spaced : List ℕ → List ℕ
-spaced [] = []
-spaced (b ∷ w) = 32 ∷ b ∷ w
+abbrev pub spaced_word : List ℕ → List ℕ
+spaced_word [] = []
+spaced_word (b ∷ w) = 32 ∷ b ∷ w
 
 abbrev pub sort_name : Signature → ℕ → List ℕ
 sort_name sig s = unwrap_or (slice_get sig.sorts s) []
+
+abbrev pub spaced_sort : Signature → ℕ → List ℕ
+spaced_sort sig s = spaced_word (sort_name sig s)
 
 abbrev pub is_hole_at : List Piece → ℕ → Bool
 is_hole_at ps n = option_map_or is_hole_piece (slice_get ps n) false
@@ -52,21 +55,22 @@ abbrev pub in_brackets : List (List ℕ) → List ℕ
 in_brackets [] = []
 in_brackets (w ∷ ws) = codes " [" ++ joined (codes " ") (w ∷ ws) ++ codes "]"
 
-abbrev pub attributes : Operator → List ℕ
-attributes o = in_brackets (attribute_words o)
+abbrev pub attributes_text : Operator → List ℕ
+attributes_text o = in_brackets (attribute_words o)
 
 abbrev pub theory_line : (name : List ℕ) → List ℕ
-theory_line name = codes "theory" ++ spaced name ++ codes " is\n"
+theory_line name = codes "theory" ++ spaced_word name ++ codes " is\n"
 
 abbrev pub sort_line : (name : List ℕ) → List ℕ
-sort_line name = codes "sort" ++ spaced name ++ codes " .\n"
+sort_line name = codes "sort" ++ spaced_word name ++ codes " .\n"
 
 abbrev pub op_line : Signature → Operator → List ℕ
 op_line sig o =
-    codes "op " ++ text_of o.form ++ codes " :" ++ flat_map (λ s. spaced (sort_name sig s)) o.args ++ codes " ->" ++ spaced (sort_name sig o.result) ++ attributes o ++ codes " .\n"
+    codes "op " ++ text_of o.form ++ codes " :" ++ flat_map (spaced_sort sig) o.args
+    ++ codes " ->" ++ spaced_sort sig o.result ++ attributes_text o ++ codes " .\n"
 
 abbrev pub var_line : Signature → Declared → List ℕ
-var_line sig d = codes "var" ++ spaced d.name ++ codes " :" ++ spaced (sort_name sig d.sort) ++ codes " .\n"
+var_line sig d = codes "var" ++ spaced_word d.name ++ codes " :" ++ spaced_sort sig d.sort ++ codes " .\n"
 
 abbrev pub equation_line : Signature → Equation → List ℕ
 equation_line sig e = codes "eq " ++ text_of_pair sig (pair_of e) ++ (if e.exec then [] else codes " [nonexec]") ++ codes " .\n"
@@ -74,14 +78,15 @@ equation_line sig e = codes "eq " ++ text_of_pair sig (pair_of e) ++ (if e.exec 
 abbrev pub derivative_line : Signature → Tree → List ℕ
 derivative_line sig t = codes "derivative " ++ text_of_term sig true t ++ codes " .\n"
 
--- the text of an operator's form
-abbrev pub form_of : Signature → ℕ → List ℕ
-form_of sig f = option_map_or (λ o. text_of o.form) (slice_get sig.ops f) []
+-- the text of an operator's form after a space
+abbrev pub spaced_form : Signature → ℕ → List ℕ
+spaced_form sig f = codes " " ++ option_map_or (λ o. text_of o.form) (slice_get sig.ops f) []
 
 -- the case list of a sort, where it has one
 abbrev pub cases_line : Theory → ℕ → List ℕ
 cases_line th s =
-    option_map_or (λ cs. codes "cases" ++ spaced (sort_name th.signature s) ++ codes " by" ++ flat_map (λ c. codes " " ++ form_of th.signature c) cs ++ codes " .\n") (cases_of th s) []
+    option_map_or (λ cs. codes "cases" ++ spaced_sort th.signature s ++ codes " by" ++ flat_map (spaced_form th.signature) cs ++ codes " .\n")
+    (cases_of th s) []
 
 abbrev pub unobserved_line : Signature → ℕ → List ℕ
-unobserved_line sig s = codes "--- no experiment:" ++ spaced (sort_name sig s) ++ codes "\n"
+unobserved_line sig s = codes "--- no experiment:" ++ spaced_sort sig s ++ codes "\n"

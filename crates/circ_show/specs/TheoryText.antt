@@ -20,9 +20,13 @@ parts_text th =
 abbrev pub text_where : (ℕ → Bool) → (ℕ → List ℕ) → ℕ → List ℕ
 text_where test f n = if test n then f n else []
 
+-- a line for each sort of which the test is true
+abbrev pub unobserved_lines : Theory → (ℕ → Bool) → List ℕ
+unobserved_lines th unobserved = by_number (text_where unobserved (unobserved_line th.signature)) 0 (length th.signature.sorts)
+
 -- the text of a theory, by a test whether a sort is not observed
 abbrev pub text_of_theory : Theory → (ℕ → Bool) → List ℕ
-text_of_theory th unobserved = parts_text th ++ by_number (text_where unobserved (unobserved_line th.signature)) 0 (length th.signature.sorts)
+text_of_theory th unobserved = parts_text th ++ unobserved_lines th unobserved
 
 -- The text of a theory, with a line for each sort that is not observed.
 pub record IsTheoryText (th : Theory) (text : List ℕ) : Type 0 where

@@ -7,43 +7,16 @@ use circ_mixfix::print_pair;
 use circ_theory::{Goal, Theory};
 use std::alloc::{AllocError, Global};
 
-fn put_goal(
-    alloc: Global,
-    out: &mut Vec<u8>,
-    theory: &Theory,
-    goal: &Goal,
-) -> Result<(), AllocError>
-    ensures text { OnOk result (out.new.items ≡ out.old.items ++ goal_line theory.now.signature (plain_goal goal.now)) }
-    ensures keeps { Keeps out.old.items out.new.items }
-{
-    out.extend_from_slice(b"goal: ")?;
-    print_pair(alloc, theory, &goal.left, &goal.right, out)?;
-    out.extend_from_slice(b"\n")
-}
-
-fn put_goals(
-    alloc: Global,
-    out: &mut Vec<u8>,
-    theory: &Theory,
-    goals: &[Goal],
-) -> Result<(), AllocError>
-    ensures text { OnOk result (out.new.items ≡ out.old.items ++ goal_lines theory.now.signature (map plain_goal goals.now)) }
-    ensures keeps { Keeps out.old.items out.new.items }
-{
-    for goal in goals {
-        put_goal(alloc, out, theory, goal)?;
-    }
-    Ok(())
-}
-
-/// Appends the line `goal: PAIR` of each goal, in order. After want of memory the bytes are as before.
+/// Appends the line `goal: PAIR` of each goal, in order. After want of memory the bytes are as
+/// before.
 pub fn goals_text(
     alloc: Global,
     theory: &Theory,
     goals: &[Goal],
     out: &mut Vec<u8>,
 ) -> Result<(), AllocError>
-    ensures text { OnOk result (out.new.items ≡ out.old.items ++ goal_lines theory.now.signature (map plain_goal goals.now)) }
+    ensures text { OnOk result (out.new.items ≡
+        out.old.items ++ goal_lines theory.now.signature (map plain_goal goals.now)) }
     ensures err { OnErr result (out.new.items ≡ out.old.items) }
 {
     let before = out.len();
@@ -54,4 +27,35 @@ pub fn goals_text(
             Err(fault)
         }
     }
+}
+
+fn put_goals(
+    alloc: Global,
+    out: &mut Vec<u8>,
+    theory: &Theory,
+    goals: &[Goal],
+) -> Result<(), AllocError>
+    ensures text { OnOk result (out.new.items ≡
+        out.old.items ++ goal_lines theory.now.signature (map plain_goal goals.now)) }
+    ensures keeps { Keeps out.old.items out.new.items }
+{
+    for goal in goals {
+        put_goal(alloc, out, theory, goal)?;
+    }
+    Ok(())
+}
+
+fn put_goal(
+    alloc: Global,
+    out: &mut Vec<u8>,
+    theory: &Theory,
+    goal: &Goal,
+) -> Result<(), AllocError>
+    ensures text { OnOk result (out.new.items ≡
+        out.old.items ++ goal_line theory.now.signature (plain_goal goal.now)) }
+    ensures keeps { Keeps out.old.items out.new.items }
+{
+    out.extend_from_slice(b"goal: ")?;
+    print_pair(alloc, theory, &goal.left, &goal.right, out)?;
+    out.extend_from_slice(b"\n")
 }

@@ -5,5 +5,6 @@ ghost use Rattle.circ_show.specs.TheoryText.{IsTheoryText};
 
 /// A theory has one text.
 pub fn printed_in_one_way()
-    ensures { (th : Theory) (text other : List ℕ) → IsTheoryText th text → IsTheoryText th other → text ≡ other }
+    ensures { (th : Theory) (text other : List ℕ) →
+        IsTheoryText th text → IsTheoryText th other → text ≡ other }
 {}

@@ -1,7 +1,8 @@
 //! Theories and goals as text.
 //!
-//! [`theory_text`] appends a whole theory, [`goals_text`] the goals of a proof. [`unobserved`] tells a hidden sort that no
-//! experiment fits: of such a sort every pair behaves, so the text of a theory ends with a line for each.
+//! [`theory_text`] appends a whole theory, [`goals_text`] the goals of a proof. [`unobserved`]
+//! tells a hidden sort that no experiment fits: of such a sort every pair behaves, so the text of a
+//! theory ends with a line for each.
 #![tactic(auto)]
 
 mod attributes;
@@ -9,8 +10,6 @@ mod goals;
 pub mod laws;
 mod lines;
 mod observed;
-#[cfg(test)]
-mod tests;
 mod theories;
 
 pub use goals::goals_text;

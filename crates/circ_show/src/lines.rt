@@ -4,55 +4,13 @@ ghost use Rattle.std.specs.Option.{option_copied};
 ghost use Rattle.circ_theory.specs.Form.{text_of};
 ghost use Rattle.circ_theory.specs.Theory.{declared};
 ghost use Rattle.circ_theory.specs.Operators.{operator_of};
-ghost use Rattle.circ_show.specs.Lines.{spaced, sort_name, form_of, theory_line, sort_line, op_line, var_line, equation_line, derivative_line, cases_line, unobserved_line};
+ghost use Rattle.circ_show.specs.Lines.{spaced_word, spaced_sort, spaced_form, sort_name, theory_line, sort_line, op_line, var_line, equation_line, derivative_line, cases_line, unobserved_line};
 
 use crate::attributes::put_attributes;
 use circ_mixfix::{print_derivative, print_pair};
 use circ_term::Term;
 use circ_theory::{Equation, OpDecl, Piece, Theory};
 use std::alloc::{AllocError, Global};
-
-// A word after a space; nothing where it is empty.
-fn put_word(out: &mut Vec<u8>, word: &[u8]) -> Result<(), AllocError>
-    ensures { OnOk result (out.new.items ≡ out.old.items ++ spaced word.now) }
-{
-    if word.is_empty() {
-        return Ok(());
-    }
-    out.push(b' ')?;
-    out.extend_from_slice(word)
-}
-
-fn name_of(theory: &Theory, sort: u32) -> &[u8]
-    ensures { result.now ≡ sort_name theory.now.signature sort }
-{
-    match theory.sort_name(sort) {
-        None => &[],
-        Some(name) => name,
-    }
-}
-
-fn put_names(out: &mut Vec<u8>, theory: &Theory, sorts: &[u32]) -> Result<(), AllocError>
-    ensures { OnOk result (out.new.items ≡ out.old.items ++ flat_map (λ s. spaced (sort_name theory.now.signature s)) sorts.now) }
-{
-    for sort in sorts {
-        put_word(out, name_of(theory, *sort))?;
-    }
-    Ok(())
-}
-
-// The pieces of a form without blanks.
-fn put_form(out: &mut Vec<u8>, pieces: &[Piece]) -> Result<(), AllocError>
-    ensures { OnOk result (out.new.items ≡ out.old.items ++ text_of pieces.now) }
-{
-    for piece in pieces {
-        match piece {
-            Piece::Hole => out.push(b'_')?,
-            Piece::Word(word) => out.extend_from_slice(word.bytes())?,
-        }
-    }
-    Ok(())
-}
 
 pub fn put_head(out: &mut Vec<u8>, name: &[u8]) -> Result<(), AllocError>
     ensures { OnOk result (out.new.items ≡ out.old.items ++ theory_line name.now) }
@@ -71,7 +29,8 @@ pub fn put_sort(out: &mut Vec<u8>, name: &[u8]) -> Result<(), AllocError>
 }
 
 pub fn put_op(out: &mut Vec<u8>, theory: &Theory, decl: &OpDecl) -> Result<(), AllocError>
-    ensures { OnOk result (out.new.items ≡ out.old.items ++ op_line theory.now.signature (operator_of decl.now)) }
+    ensures { OnOk result (out.new.items ≡
+        out.old.items ++ op_line theory.now.signature (operator_of decl.now)) }
 {
     out.extend_from_slice(b"op ")?;
     put_form(out, decl.form.pieces())?;
@@ -84,7 +43,8 @@ pub fn put_op(out: &mut Vec<u8>, theory: &Theory, decl: &OpDecl) -> Result<(), A
 }
 
 pub fn put_var(out: &mut Vec<u8>, theory: &Theory, name: &[u8], sort: u32) -> Result<(), AllocError>
-    ensures { OnOk result (out.new.items ≡ out.old.items ++ var_line theory.now.signature (declared name.now sort)) }
+    ensures { OnOk result (out.new.items ≡
+        out.old.items ++ var_line theory.now.signature (declared name.now sort)) }
 {
     out.extend_from_slice(b"var")?;
     put_word(out, name)?;
@@ -99,7 +59,8 @@ pub fn put_equation(
     theory: &Theory,
     equation: &Equation,
 ) -> Result<(), AllocError>
-    ensures { OnOk result (out.new.items ≡ out.old.items ++ equation_line theory.now.signature equation.now) }
+    ensures { OnOk result (out.new.items ≡
+        out.old.items ++ equation_line theory.now.signature equation.now) }
 {
     out.extend_from_slice(b"eq ")?;
     print_pair(alloc, theory, &equation.left, &equation.right, out)?;
@@ -115,30 +76,12 @@ pub fn put_derivative(
     theory: &Theory,
     term: &Term,
 ) -> Result<(), AllocError>
-    ensures { OnOk result (out.new.items ≡ out.old.items ++ derivative_line theory.now.signature term.now) }
+    ensures { OnOk result (out.new.items ≡
+        out.old.items ++ derivative_line theory.now.signature term.now) }
 {
     out.extend_from_slice(b"derivative ")?;
     print_derivative(alloc, theory, term, out)?;
     out.extend_from_slice(b" .\n")
-}
-
-fn put_constant(out: &mut Vec<u8>, theory: &Theory, op: u32) -> Result<(), AllocError>
-    ensures { OnOk result (out.new.items ≡ out.old.items ++ (codes " " ++ form_of theory.now.signature op)) }
-{
-    out.push(b' ')?;
-    match theory.op(op) {
-        None => Ok(()),
-        Some(decl) => put_form(out, decl.form.pieces()),
-    }
-}
-
-fn put_constants(out: &mut Vec<u8>, theory: &Theory, constants: &[u32]) -> Result<(), AllocError>
-    ensures { OnOk result (out.new.items ≡ out.old.items ++ flat_map (λ c. codes " " ++ form_of theory.now.signature c) constants.now) }
-{
-    for constant in constants {
-        put_constant(out, theory, *constant)?;
-    }
-    Ok(())
 }
 
 // The case list of a sort, where it has one.
@@ -157,9 +100,74 @@ pub fn put_cases(out: &mut Vec<u8>, theory: &Theory, sort: u32) -> Result<(), Al
 
 // The line of a sort that is not observed.
 pub fn put_unobserved(out: &mut Vec<u8>, theory: &Theory, sort: u32) -> Result<(), AllocError>
-    ensures { OnOk result (out.new.items ≡ out.old.items ++ unobserved_line theory.now.signature sort) }
+    ensures { OnOk result (out.new.items ≡
+        out.old.items ++ unobserved_line theory.now.signature sort) }
 {
     out.extend_from_slice(b"--- no experiment:")?;
     put_word(out, name_of(theory, sort))?;
     out.extend_from_slice(b"\n")
+}
+
+fn put_constants(out: &mut Vec<u8>, theory: &Theory, constants: &[u32]) -> Result<(), AllocError>
+    ensures { OnOk result (out.new.items ≡
+        out.old.items ++ flat_map (spaced_form theory.now.signature) constants.now) }
+{
+    for constant in constants {
+        put_constant(out, theory, *constant)?;
+    }
+    Ok(())
+}
+
+fn put_constant(out: &mut Vec<u8>, theory: &Theory, op: u32) -> Result<(), AllocError>
+    ensures { OnOk result (out.new.items ≡
+        out.old.items ++ spaced_form theory.now.signature op) }
+{
+    out.push(b' ')?;
+    match theory.op(op) {
+        None => Ok(()),
+        Some(decl) => put_form(out, decl.form.pieces()),
+    }
+}
+
+// The pieces of a form without blanks.
+fn put_form(out: &mut Vec<u8>, pieces: &[Piece]) -> Result<(), AllocError>
+    ensures { OnOk result (out.new.items ≡ out.old.items ++ text_of pieces.now) }
+{
+    for piece in pieces {
+        match piece {
+            Piece::Hole => out.push(b'_')?,
+            Piece::Word(word) => out.extend_from_slice(word.bytes())?,
+        }
+    }
+    Ok(())
+}
+
+fn put_names(out: &mut Vec<u8>, theory: &Theory, sorts: &[u32]) -> Result<(), AllocError>
+    ensures { OnOk result (out.new.items ≡
+        out.old.items ++ flat_map (spaced_sort theory.now.signature) sorts.now) }
+{
+    for sort in sorts {
+        put_word(out, name_of(theory, *sort))?;
+    }
+    Ok(())
+}
+
+fn name_of(theory: &Theory, sort: u32) -> &[u8]
+    ensures { result.now ≡ sort_name theory.now.signature sort }
+{
+    match theory.sort_name(sort) {
+        None => &[],
+        Some(name) => name,
+    }
+}
+
+// A word after a space; nothing where it is empty.
+fn put_word(out: &mut Vec<u8>, word: &[u8]) -> Result<(), AllocError>
+    ensures { OnOk result (out.new.items ≡ out.old.items ++ spaced_word word.now) }
+{
+    if word.is_empty() {
+        return Ok(());
+    }
+    out.push(b' ')?;
+    out.extend_from_slice(word)
 }

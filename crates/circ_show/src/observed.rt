@@ -4,14 +4,40 @@ ghost use Rattle.std.specs.List.{slice_get};
 ghost use Rattle.circ_theory.specs.Theory.{Derivative};
 ghost use Rattle.circ_theory.specs.Observing.{is_hidden};
 ghost use Rattle.circ_show.specs.Observed.{IsUnobserved};
-ghost use Rattle.circ_show.specs.Marks.{AreMarks, IsPassed, AreClosed, unmarked, is_unmarked, TellUnobserved};
+ghost use Rattle.circ_show.specs.SortMarks.{AreSortMarks, CarriesMarkAt, AreClosed, unmarked, is_unmarked, TellUnobserved};
 
 use circ_theory::Theory;
 use std::alloc::{AllocError, Global};
 
+/// Whether the sort is hidden and no experiment fits it. Then no experiment can tell two of its
+/// terms apart, and every pair behaves. The only fault is want of memory.
+pub fn unobserved(alloc: Global, theory: &Theory, sort: u32) -> Result<bool, AllocError>
+    ensures { IfOk result (λ b. IsTrue b ↔ IsUnobserved theory.now sort) }
+{
+    let marks = observed(alloc, theory)?;
+    Ok(is_unmarked(&marks, sort))
+}
+
+// Whether the sort has a mark that is not set.
+pub fn is_unmarked(marks: &[bool], sort: u32) -> bool
+    ensures { result ≡ is_unmarked marks.now sort }
+{
+    matches!(marks.get(sort as usize), Some(false))
+}
+
+// A mark for each sort: whether an experiment fits it.
+pub fn observed(alloc: Global, theory: &Theory) -> Result<Vec<bool>, AllocError>
+    ensures { IfOk result (λ v. TellUnobserved theory.now v.items) }
+{
+    theory.known();
+    let mut marks = visible(alloc, theory)?;
+    while observe_more(theory, &mut marks) {}
+    Ok(marks)
+}
+
 // A mark for each sort: whether it is visible.
 fn visible(alloc: Global, theory: &Theory) -> Result<Vec<bool>, AllocError>
-    ensures { IfOk result (λ v. AreMarks theory.now v.items) }
+    ensures { IfOk result (λ v. AreSortMarks theory.now v.items) }
 {
     theory.known();
     let count = theory.sort_count();
@@ -22,19 +48,28 @@ fn visible(alloc: Global, theory: &Theory) -> Result<Vec<bool>, AllocError>
     Ok(marks)
 }
 
-// Whether the sort is marked.
-fn is_marked(marks: &[bool], sort: u32) -> bool
-    ensures { IsTrue result ↔ (slice_get marks.now sort ≡ Some true) }
+// Marks one sort more by some derivative. Answers whether there was one.
+fn observe_more(theory: &Theory, marks: &mut Vec<bool>) -> bool
+    requires { AreSortMarks theory.now marks.old.items }
+    ensures marks { AreSortMarks theory.now marks.new.items }
+    ensures marked { result ≡ true → unmarked marks.new.items < unmarked marks.old.items }
+    ensures closed { result ≡ false → AreClosed theory.now marks.new.items }
 {
-    matches!(marks.get(sort as usize), Some(true))
+    for number in 0..theory.derivative_count() {
+        if observe(theory, marks, number) {
+            return true;
+        }
+    }
+    false
 }
 
 // Marks the hole's sort of a derivative whose result is marked. Answers whether it marked one.
 fn observe(theory: &Theory, marks: &mut Vec<bool>, number: u32) -> bool
-    requires { AreMarks theory.now marks.old.items }
-    ensures marks { AreMarks theory.now marks.new.items }
+    requires { AreSortMarks theory.now marks.old.items }
+    ensures marks { AreSortMarks theory.now marks.new.items }
     ensures marked { result ≡ true → unmarked marks.new.items < unmarked marks.old.items }
-    ensures passed { result ≡ false → (marks.new.items ≡ marks.old.items) × IsPassed theory.now marks.old.items number }
+    ensures passed { result ≡ false → (marks.new.items ≡ marks.old.items) ×
+        CarriesMarkAt theory.now marks.old.items number }
 {
     theory.known();
     let (Some(term), Some(hole)) = (theory.derivative(number), theory.hole_sort(number)) else {
@@ -53,43 +88,9 @@ fn observe(theory: &Theory, marks: &mut Vec<bool>, number: u32) -> bool
     true
 }
 
-// Marks one sort more by some derivative. Answers whether there was one.
-fn observe_more(theory: &Theory, marks: &mut Vec<bool>) -> bool
-    requires { AreMarks theory.now marks.old.items }
-    ensures marks { AreMarks theory.now marks.new.items }
-    ensures marked { result ≡ true → unmarked marks.new.items < unmarked marks.old.items }
-    ensures closed { result ≡ false → AreClosed theory.now marks.new.items }
+// Whether the sort is marked.
+fn is_marked(marks: &[bool], sort: u32) -> bool
+    ensures { IsTrue result ↔ (slice_get marks.now sort ≡ Some true) }
 {
-    for number in 0..theory.derivative_count() {
-        if observe(theory, marks, number) {
-            return true;
-        }
-    }
-    false
-}
-
-// A mark for each sort: whether an experiment fits it.
-pub fn observed(alloc: Global, theory: &Theory) -> Result<Vec<bool>, AllocError>
-    ensures { IfOk result (λ v. TellUnobserved theory.now v.items) }
-{
-    theory.known();
-    let mut marks = visible(alloc, theory)?;
-    while observe_more(theory, &mut marks) {}
-    Ok(marks)
-}
-
-// Whether the sort has a mark that is not set.
-pub fn is_unmarked(marks: &[bool], sort: u32) -> bool
-    ensures { result ≡ is_unmarked marks.now sort }
-{
-    matches!(marks.get(sort as usize), Some(false))
-}
-
-/// Whether the sort is hidden and no experiment fits it. Then no experiment can tell two of its terms apart, and every pair
-/// behaves. The only fault is want of memory.
-pub fn unobserved(alloc: Global, theory: &Theory, sort: u32) -> Result<bool, AllocError>
-    ensures { IfOk result (λ b. IsTrue b ↔ IsUnobserved theory.now sort) }
-{
-    let marks = observed(alloc, theory)?;
-    Ok(is_unmarked(&marks, sort))
+    matches!(marks.get(sort as usize), Some(true))
 }

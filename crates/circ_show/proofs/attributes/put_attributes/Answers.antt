@@ -8,4 +8,5 @@ returns-in_ok-push c =
     ∙ ended _ _ _ _ _ _ _ _ _ _ _ _ _ c.if-begun.true c.in_ok-begun.ensures c.in_ok-begun-2.ensures c.in_ok-begun-3.ensures c.in_ok-begun-4.ensures
 
 pub returns-else-begun : goal.returns-else-begun
-returns-else-begun c = not_begun _ _ _ _ _ _ _ _ _ _ _ _ _ c.if-begun.false c.in_ok-begun.ensures c.in_ok-begun-2.ensures c.in_ok-begun-3.ensures c.in_ok-begun-4.ensures
+returns-else-begun c =
+    not_begun _ _ _ _ _ _ _ _ _ _ _ _ _ c.if-begun.false c.in_ok-begun.ensures c.in_ok-begun-2.ensures c.in_ok-begun-3.ensures c.in_ok-begun-4.ensures

@@ -5,6 +5,7 @@ use Rattle.circ_show.proofs.goals.put_goals.Given as goal
 
 abbrev pub invariant-loop-goal : goal.invariant-loop-goal
 invariant-loop-goal l = record {
-  text : l.out.items ++ goal_lines l.theory.signature (map plain_goal (drop l.goal-index l.goals)) ≡ l.fn.out.items ++ goal_lines l.theory.signature (map plain_goal l.goals);
+  text : l.out.items ++ goal_lines l.theory.signature (map plain_goal (drop l.goal-index l.goals))
+      ≡ l.fn.out.items ++ goal_lines l.theory.signature (map plain_goal l.goals);
   keeps : Keeps l.fn.out.items l.out.items;
 }

@@ -1,8 +1,8 @@
-use Rattle.std.proofs.Common.{◌≡◌, ◌++◌, flat_map, drop, codes}
-use Rattle.circ_show.specs.Lines.{form_of}
+use Rattle.std.proofs.Common.{◌≡◌, ◌++◌, flat_map, drop}
+use Rattle.circ_show.specs.Lines.{spaced_form}
 use Rattle.circ_show.proofs.lines.put_constants.Given as goal
 
 abbrev pub invariant-loop-constant : goal.invariant-loop-constant
 invariant-loop-constant l =
-    l.out.items ++ flat_map (λ c. codes " " ++ form_of l.theory.signature c) (drop l.constant-index l.constants)
-    ≡ l.fn.out.items ++ flat_map (λ c. codes " " ++ form_of l.theory.signature c) l.constants
+    l.out.items ++ flat_map (spaced_form l.theory.signature) (drop l.constant-index l.constants)
+    ≡ l.fn.out.items ++ flat_map (spaced_form l.theory.signature) l.constants

@@ -16,7 +16,8 @@ returns-clause-marks c =
 
 pub returns-clause-marked : goal.returns-clause-marked
 returns-clause-marked c = λ _.
-    let within : c.in-Some-Some.hole < length c.args.marks.now.items = omega (arith, c.if-hole-len.false, c.len.ensures, c.deref-2.ensures.len, ap length c.deref-2.ensures.value) in
+    let within : c.in-Some-Some.hole < length c.args.marks.now.items =
+    omega (arith, c.if-hole-len.false, c.len.ensures, c.deref-2.ensures.len, ap length c.deref-2.ensures.value) in
     unmarked_set c.args.marks.now.items c.in-Some-Some.hole
     (λ g. let never : false ≡ true = (rw c.deref-2.ensures.value at c.if-is_marked.ensures).1 g in cc)
     within

@@ -3,4 +3,6 @@ use Rattle.circ_show.specs.Lines.{op_line}
 use Rattle.circ_show.proofs.theories.put_ops.Given as goal
 
 abbrev pub invariant-loop-n : goal.invariant-loop-n
-invariant-loop-n l = l.out.items ++ flat_map (op_line l.theory.signature) (drop l.n l.theory.signature.ops) ≡ l.fn.out.items ++ flat_map (op_line l.theory.signature) l.theory.signature.ops
+invariant-loop-n l =
+    l.out.items ++ flat_map (op_line l.theory.signature) (drop l.n l.theory.signature.ops)
+    ≡ l.fn.out.items ++ flat_map (op_line l.theory.signature) l.theory.signature.ops

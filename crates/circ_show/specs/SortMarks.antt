@@ -7,21 +7,21 @@ use Rattle.circ_theory.specs.Theory.{Theory, Derivative, IsHidden, IsVisible}
 use Rattle.circ_show.specs.Observed.{IsObserved, IsUnobserved}
 
 -- Marked sorts are observed, the others hidden, and visible ones are marked.
-pub record AreMarks (th : Theory) (marks : List Bool) : Type 0 where
+pub record AreSortMarks (th : Theory) (marks : List Bool) : Type 0 where
   pub count : length marks ≡ length th.signature.sorts
   pub hidden : (s : ℕ) → slice_get marks s ≡ Some false → IsHidden th s
   pub sound : (s : ℕ) → slice_get marks s ≡ Some true → IsObserved th s
   pub visible : (s : ℕ) → IsSort th.signature s → IsVisible th s → slice_get marks s ≡ Some true
 
 -- where the result of the derivative is marked, its hole's sort is
-abbrev pub PassesBy : List Bool → Derivative → Type 0
-PassesBy marks d = slice_get marks (sort_of d.body) ≡ Some true → slice_get marks d.hole ≡ Some true
+abbrev pub CarriesMark : List Bool → Derivative → Type 0
+CarriesMark marks d = slice_get marks (sort_of d.body) ≡ Some true → slice_get marks d.hole ≡ Some true
 
-abbrev pub IsPassed : Theory → List Bool → ℕ → Type 0
-IsPassed th marks n = (d : Derivative) → slice_get th.derivatives n ≡ Some d → PassesBy marks d
+abbrev pub CarriesMarkAt : Theory → List Bool → ℕ → Type 0
+CarriesMarkAt th marks n = (d : Derivative) → slice_get th.derivatives n ≡ Some d → CarriesMark marks d
 
 abbrev pub AreClosed : Theory → List Bool → Type 0
-AreClosed th marks = (n : ℕ) → IsPassed th marks n
+AreClosed th marks = (n : ℕ) → CarriesMarkAt th marks n
 
 -- how many sorts are not marked
 abbrev pub unmarked : List Bool → ℕ
