@@ -9,7 +9,7 @@ use Rattle.circ_lexer.specs.declared.fault.LexFault.{LexFault}
 use Rattle.circ_lexer.specs.declared.fault.LexFault.TheVariants.{NotAscii, Control, Memory}
 use Rattle.circ_lexer.specs.Bytes.{is_blank, is_special, is_plain, is_bad, is_in_line, begins_comment, ends_run, ends_line}
 use Rattle.circ_lexer.specs.Cuts.{Cuts, end, blank, comment, special, run, bad, AreSpans, span, fault_of}
-use Rattle.circ_lexer.specs.Scanning.{Leads, BeginsToken, GivesSpans, begins, fault_in}
+use Rattle.circ_lexer.specs.Scanning.{Scans, BeginsToken, GivesSpans, begins, fault_in}
 use Rattle.circ_lexer.proofs.ByteKinds.{stops}
 use Rattle.circ_lexer.proofs.Prefix.{ahead, all_pass, some_pass}
 
@@ -17,15 +17,15 @@ use Rattle.circ_lexer.proofs.Prefix.{ahead, all_pass, some_pass}
 abbrev pub Begins : ℕ → List ℕ → List Span → ℕ → Type 0
 Begins at bs ss n = (us : List Span) (o : Option LexFault) → Cuts (at + n) (drop n bs) us o → Cuts at bs (ss ++ us) o
 
-pub leads_at : (bytes : List ℕ) (at n : ℕ) (ss : List Span) → at ≤ length bytes → n ≤ length (drop at bytes) → Begins at (drop at bytes) ss n → Leads bytes at ss (at + n)
-leads_at bytes at n ss h k sound = record {
+pub scans_at : (bytes : List ℕ) (at n : ℕ) (ss : List Span) → at ≤ length bytes → n ≤ length (drop at bytes) → Begins at (drop at bytes) ss n → Scans bytes at ss (at + n)
+scans_at bytes at n ss h k sound = record {
   ahead = omega arith;
   within = omega (arith, length-drop at bytes);
   sound = λ us o c. sound us o (rw drop-drop c);
 }
 
-pub leads_then : (bytes : List ℕ) (a b c : ℕ) (ss us : List Span) → Leads bytes a ss b → Leads bytes b us c → Leads bytes a (ss ++ us) c
-leads_then bytes a b c ss us h k = record {
+pub scans_then : (bytes : List ℕ) (a b c : ℕ) (ss us : List Span) → Scans bytes a ss b → Scans bytes b us c → Scans bytes a (ss ++ us) c
+scans_then bytes a b c ss us h k = record {
   ahead = omega arith;
   within = k.within;
   sound = λ vs o d. rw append_assoc (h.sound (us ++ vs) o (k.sound vs o d));
@@ -50,8 +50,8 @@ blanks_begin : (at : ℕ) (bs : List ℕ) → Begins at bs [] (prefix_len is_bla
 blanks_begin at [] = λ us o c. rw add-zero at c
 blanks_begin at (b ∷ bs) = blanks_step at b bs (is_blank b) refl (blanks_begin (at + 1) bs)
 
-pub blanks_lead : (bytes : List ℕ) (at : ℕ) → at ≤ length bytes → Leads bytes at [] (at + prefix_len is_blank (drop at bytes))
-blanks_lead bytes at h = leads_at bytes at _ [] h (prefix_len-le-length is_blank (drop at bytes)) (blanks_begin at (drop at bytes))
+pub blanks_scan : (bytes : List ℕ) (at : ℕ) → at ≤ length bytes → Scans bytes at [] (at + prefix_len is_blank (drop at bytes))
+blanks_scan bytes at h = scans_at bytes at _ [] h (prefix_len-le-length is_blank (drop at bytes)) (blanks_begin at (drop at bytes))
 
 feed : (bs : List ℕ) → begins is_in_line bs ≡ false → ends_line bs ≡ true
 feed [] h = refl
@@ -69,16 +69,16 @@ comment_begins at bs h us o c =
     (record { begins = rw e h; in_line = all_pass is_in_line bs; whole = feed (drop n bs) (ahead is_in_line bs) })
     (subst (λ (m : ℕ). Cuts (at + m) (drop n bs) us o) (sym (length-prefix_len is_in_line bs)) c))
 
-pub comment_leads : (bytes : List ℕ) (at : ℕ) → at ≤ length bytes → begins_comment (drop at bytes) ≡ true → Leads bytes at [] (at + prefix_len is_in_line (drop at bytes))
-comment_leads bytes at h k = leads_at bytes at _ [] h (prefix_len-le-length is_in_line (drop at bytes)) (comment_begins at (drop at bytes) k)
+pub comment_scans : (bytes : List ℕ) (at : ℕ) → at ≤ length bytes → begins_comment (drop at bytes) ≡ true → Scans bytes at [] (at + prefix_len is_in_line (drop at bytes))
+comment_scans bytes at h k = scans_at bytes at _ [] h (prefix_len-le-length is_in_line (drop at bytes)) (comment_begins at (drop at bytes) k)
 
 special_begins : (at : ℕ) (bs : List ℕ) → begins is_special bs ≡ true → Begins at bs (span at (at + 1) ∷ []) 1
 special_begins at [] h = λ us o c. absurd (cc)
 special_begins at (b ∷ bs) h = λ us o c. special at b bs us o h c
 
-pub special_leads : (bytes : List ℕ) (at : ℕ) → at < length bytes → is_special (get_or bytes at 0) ≡ true → (at < at + 1) × Leads bytes at (span at (at + 1) ∷ []) (at + 1)
-special_leads bytes at h k =
-    (omega arith, leads_at bytes at 1 _ (omega arith) (omega (arith, length-drop at bytes)) (special_begins at (drop at bytes) (begins_at is_special bytes at h ∙ k)))
+pub special_scans : (bytes : List ℕ) (at : ℕ) → at < length bytes → is_special (get_or bytes at 0) ≡ true → (at < at + 1) × Scans bytes at (span at (at + 1) ∷ []) (at + 1)
+special_scans bytes at h k =
+    (omega arith, scans_at bytes at 1 _ (omega arith) (omega (arith, length-drop at bytes)) (special_begins at (drop at bytes) (begins_at is_special bytes at h ∙ k)))
 
 not_bad : (b : ℕ) (bs : List ℕ) (place : ℕ) → fault_in (b ∷ bs) place ≡ None → is_bad b ≡ false
 not_bad b bs place h = go (is_bad b) refl h
@@ -113,16 +113,16 @@ run_begins at bs l h r us o c =
     (record { some = λ z. let none : length (take n bs) ≡ 0 = rw z refl in omega arith; plain = all_pass is_plain bs; no_comment = rw e h; whole = r })
     (subst (λ (m : ℕ). Cuts (at + m) (drop n bs) us o) (sym long) c)))
 
-pub run_leads : (bytes : List ℕ) (at n : ℕ) → n ≡ prefix_len is_plain (drop at bytes) → at < length bytes → BeginsToken (drop at bytes) → is_special (get_or bytes at 0) ≡ false
-    → fault_in (drop (at + n) bytes) (at + n) ≡ None → (at < at + n) × Leads bytes at (span at (at + n) ∷ []) (at + n)
-run_leads bytes at n e h t k f =
+pub run_scans : (bytes : List ℕ) (at n : ℕ) → n ≡ prefix_len is_plain (drop at bytes) → at < length bytes → BeginsToken (drop at bytes) → is_special (get_or bytes at 0) ≡ false
+    → fault_in (drop (at + n) bytes) (at + n) ≡ None → (at < at + n) × Scans bytes at (span at (at + n) ∷ []) (at + n)
+run_scans bytes at n e h t k f =
     let rest = drop at bytes in
     let there : fault_in (drop n rest) (at + n) ≡ None = rw drop-drop f in
     let f' : fault_in (drop (prefix_len is_plain rest) rest) (at + n) ≡ None = rw (← e) there in
     let some = run_some (at + n) rest (omega (arith, length-drop at bytes)) t.no_blank (begins_at is_special bytes at h ∙ k) f' in
     rw e (
       omega arith,
-      leads_at bytes at _ _ (omega arith) (prefix_len-le-length is_plain rest)
+      scans_at bytes at _ _ (omega arith) (prefix_len-le-length is_plain rest)
           (run_begins at rest some t.no_comment (run_ends (drop (prefix_len is_plain rest) rest) (at + n) (ahead is_plain rest) f')),
     )
 
@@ -143,10 +143,10 @@ bad_cut bytes at n f e h k =
     let there : fault_in (drop n rest) (at + n) ≡ Some f = rw drop-drop k in
     bad_parts at n (take n rest) (drop n rest) rest f (take-append-drop n rest) (rw e (length-prefix_len is_plain rest)) (rw e (all_pass is_plain rest)) h there
 
-pub all_cut : (bytes : List ℕ) (at : ℕ) (ss : List Span) → Leads bytes 0 ss at → length bytes ≤ at → AreSpans bytes ss
+pub all_cut : (bytes : List ℕ) (at : ℕ) (ss : List Span) → Scans bytes 0 ss at → length bytes ≤ at → AreSpans bytes ss
 all_cut bytes at ss h l = subst (λ (us : List Span). Cuts 0 bytes us None) (append-nil ss) (h.sound [] None (rw (drop_all at bytes l) (end at)))
 
-pub cut_to_fault : (bytes : List ℕ) (at : ℕ) (ss : List Span) (f : LexFault) → Leads bytes 0 ss at → Cuts at (drop at bytes) [] (Some f) → GivesSpans (Err f) bytes
+pub cut_to_fault : (bytes : List ℕ) (at : ℕ) (ss : List Span) (f : LexFault) → Scans bytes 0 ss at → Cuts at (drop at bytes) [] (Some f) → GivesSpans (Err f) bytes
 cut_to_fault bytes at ss (NotAscii p) h c = (ss ++ [], h.sound [] _ c)
 cut_to_fault bytes at ss (Control p) h c = (ss ++ [], h.sound [] _ c)
 cut_to_fault bytes at ss Memory h c = tt

@@ -8,7 +8,7 @@ use Rattle.circ_lexer.specs.Bytes.{is_blank, is_bad, begins_comment}
 use Rattle.circ_lexer.specs.Cuts.{Cuts, IsFirstBad, AreSpans, span, fault_of}
 
 -- Between two places stand these tokens.
-pub record Leads (bytes : List ℕ) (at : ℕ) (ss : List Span) (to : ℕ) : Type 0 where
+pub record Scans (bytes : List ℕ) (at : ℕ) (ss : List Span) (to : ℕ) : Type 0 where
   pub ahead : at ≤ to
   pub within : to ≤ length bytes
   pub sound : (us : List Span) (o : Option LexFault) → Cuts to (drop to bytes) us o → Cuts at (drop at bytes) (ss ++ us) o
@@ -30,7 +30,7 @@ pub record BeginsToken (bs : List ℕ) : Type 0 where
 
 -- a token from one place to another, or the fault in it
 abbrev pub GivesToken : Result ℕ LexFault → List ℕ → ℕ → Type 0
-GivesToken (Ok to) bytes at = (at < to) × Leads bytes at (span at to ∷ []) to
+GivesToken (Ok to) bytes at = (at < to) × Scans bytes at (span at to ∷ []) to
 GivesToken (Err fault) bytes at = Cuts at (drop at bytes) [] (Some fault)
 
 -- the spans of the tokens, or the first bad byte

@@ -2,17 +2,16 @@
 use std::alloc::{AllocError, AllocFailed};
 use thiserror::Error;
 
-/// Why there are no tokens. The first bad byte outside comments decides, and its place is the number of bytes before it.
+/// Why there are no tokens. The first bad byte outside comments decides, and its place is the
+/// number of bytes before it.
 #[derive(Debug, Drop, Clone, Copy, PartialEq, Eq, Error)]
+#[error("the bytes are not cut into tokens")]
 pub enum LexFault {
     /// The byte is 128 or more.
-    #[error("the byte at {place} is not ASCII")]
     NotAscii { place: u64 },
     /// The byte is below 32 and no blank, or 127.
-    #[error("the byte at {place} is a control character")]
     Control { place: u64 },
     /// Memory ran out.
-    #[error("out of memory")]
     Memory,
 }
 

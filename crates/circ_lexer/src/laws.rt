@@ -1,4 +1,5 @@
-//! What is proved of tokens, and examples that try their definitions. The functions do nothing: a law is a contract.
+//! What is proved of tokens, and examples that try their definitions. The functions do nothing: a
+//! law is a contract.
 ghost use Rattle.std.specs.Prelude.{◌≡◌, ℕ, List, [], ◌∷◌, ◌++◌, length, codes, Option};
 ghost use Rattle.std.specs.List.{AllByRecursion};
 ghost use Rattle.circ_lexer.specs.declared.tokens.Span.{Span};
@@ -9,22 +10,29 @@ ghost use Rattle.circ_lexer.specs.TokenList.{AreTokens, IsToken, spaced};
 
 /// Bytes are cut into tokens in exactly one way, up to the end or to the first bad byte.
 pub fn cut_in_one_way()
-    ensures some { (bytes : List ℕ) → (ss : List Span) × ((o : Option LexFault) × Cuts 0 bytes ss o) }
-    ensures one { (bytes : List ℕ) (ss us : List Span) (o p : Option LexFault) → Cuts 0 bytes ss o → Cuts 0 bytes us p → (us ≡ ss) × (p ≡ o) }
-    ensures tokens { (bytes : List ℕ) (ws vs : List (List ℕ)) → AreTokens bytes ws → AreTokens bytes vs → vs ≡ ws }
+    ensures some { (bytes : List ℕ) →
+        (ss : List Span) × ((o : Option LexFault) × Cuts 0 bytes ss o) }
+    ensures one { (bytes : List ℕ) (ss us : List Span) (o p : Option LexFault) →
+        Cuts 0 bytes ss o → Cuts 0 bytes us p → (us ≡ ss) × (p ≡ o) }
+    ensures tokens { (bytes : List ℕ) (ws vs : List (List ℕ)) →
+        AreTokens bytes ws → AreTokens bytes vs → vs ≡ ws }
 {}
 
-/// The spans of tokens are not empty, come in order and do not overlap, and the last ends within the bytes.
+/// The spans of tokens are not empty, come in order and do not overlap, and the last ends within
+/// the bytes.
 pub fn spans_in_order()
-    ensures { (bytes : List ℕ) (ss : List Span) → AreSpans bytes ss → AreOrdered 0 ss (length bytes) }
+    ensures { (bytes : List ℕ) (ss : List Span) →
+        AreSpans bytes ss → AreOrdered 0 ss (length bytes) }
 {}
 
 /// Each token is a special byte or a run. So no token is empty, or has a blank or a bad byte in it.
 pub fn tokens_are_tokens()
-    ensures { (bytes : List ℕ) (ws : List (List ℕ)) → AreTokens bytes ws → AllByRecursion IsToken ws }
+    ensures { (bytes : List ℕ) (ws : List (List ℕ)) →
+        AreTokens bytes ws → AllByRecursion IsToken ws }
 {}
 
-/// Texts that can be tokens, written one after another with blanks between them, are the tokens of what is written.
+/// Texts that can be tokens, written one after another with blanks between them, are the tokens of
+/// what is written.
 pub fn spaced_tokens()
     ensures { (ws : List (List ℕ)) → AllByRecursion IsToken ws → AreTokens (spaced ws) ws }
 {}

@@ -1,7 +1,7 @@
 //! One pass over the bytes, from token to token.
 ghost use Rattle.std.specs.Prelude.{◌≡◌, ◌≤◌, ◌<◌, length, drop, [], true, false};
 ghost use Rattle.circ_lexer.specs.Bytes.{is_blank, begins_comment};
-ghost use Rattle.circ_lexer.specs.Scanning.{Leads, BeginsToken, GivesToken, GivesSpans, begins, fault_in};
+ghost use Rattle.circ_lexer.specs.Scanning.{Scans, BeginsToken, GivesToken, GivesSpans, begins, fault_in};
 
 use crate::bytes::{
     begins_comment, blank_count, is_bad, is_special, line_length, plain_count, rest,
@@ -26,7 +26,7 @@ pub(crate) fn spans_of(alloc: Global, bytes: &[u8]) -> Result<Vec<Span>, LexFaul
 // Where the next token begins, at or after a place between tokens.
 fn gap_end(bytes: &[u8], from: usize) -> usize
     requires { from ≤ length bytes.now }
-    ensures gap { Leads bytes.now from [] result }
+    ensures gap { Scans bytes.now from [] result }
     ensures token { BeginsToken (drop result bytes.now) }
 {
     let mut at = blanks_end(bytes, from);
@@ -38,7 +38,7 @@ fn gap_end(bytes: &[u8], from: usize) -> usize
 
 fn blanks_end(bytes: &[u8], at: usize) -> usize
     requires { at ≤ length bytes.now }
-    ensures gap { Leads bytes.now at [] result }
+    ensures gap { Scans bytes.now at [] result }
     ensures no_blank { begins is_blank (drop result bytes.now) ≡ false }
 {
     at + blank_count(rest(bytes, at))
@@ -47,7 +47,7 @@ fn blanks_end(bytes: &[u8], at: usize) -> usize
 fn comment_end(bytes: &[u8], at: usize) -> usize
     requires inside { at ≤ length bytes.now }
     requires comment { begins_comment (drop at bytes.now) ≡ true }
-    ensures gap { Leads bytes.now at [] result }
+    ensures gap { Scans bytes.now at [] result }
     ensures some { at < result }
 {
     at + line_length(rest(bytes, at))

@@ -21,7 +21,8 @@ pub struct Span {
     pub to: usize,
 }
 
-/// The tokens of some bytes, each a slice of them. It borrows the bytes, and takes 16 bytes of memory a token.
+/// The tokens of some bytes, each a slice of them. It borrows the bytes, and takes 16 bytes of
+/// memory a token.
 #[derive(Drop)]
 pub struct Tokens<'a> {
     source: &'a [u8],
@@ -40,11 +41,12 @@ impl<'a> Model for Tokens<'a> {
 }
 
 impl<'a> Tokens<'a> {
-    /// The tokens of the bytes, from the left, in one pass. The first bad byte outside comments ends it, and is the fault;
-    /// the other fault is want of memory.
+    /// The tokens of the bytes, from the left, in one pass. The first bad byte outside comments
+    /// ends it, and is the fault; the other fault is want of memory.
     pub fn of(alloc: Global, bytes: &'a [u8]) -> Result<Tokens<'a>, LexFault>
         ensures gives { GivesTokens result bytes.now }
-        ensures only { (ss : List Span) (o : Option LexFault) → Cuts 0 bytes.now ss o → IsOutcome result bytes.now ss o }
+        ensures only { (ss : List Span) (o : Option LexFault) →
+            Cuts 0 bytes.now ss o → IsOutcome result bytes.now ss o }
     {
         Ok(Tokens {
             source: bytes,

@@ -1,11 +1,11 @@
 use Rattle.std.proofs.Common.{◌≡◌, ◌-◌, false, [], length, drop}
 use Rattle.circ_lexer.specs.Bytes.{is_blank}
-use Rattle.circ_lexer.specs.Scanning.{Leads, begins}
+use Rattle.circ_lexer.specs.Scanning.{Scans, begins}
 use Rattle.circ_lexer.proofs.scan.gap_end.Given as goal
 
 abbrev pub invariant-loop-at : goal.invariant-loop-at
 invariant-loop-at l = record {
-  gap : Leads l.bytes l.from [] l.at;
+  gap : Scans l.bytes l.from [] l.at;
   no_blank : begins is_blank (drop l.at l.bytes) ≡ false;
 }
 

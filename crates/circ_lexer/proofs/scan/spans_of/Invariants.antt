@@ -1,10 +1,10 @@
 use Rattle.std.proofs.Common.{◌-◌, length, drop}
-use Rattle.circ_lexer.specs.Scanning.{Leads, BeginsToken}
+use Rattle.circ_lexer.specs.Scanning.{Scans, BeginsToken}
 use Rattle.circ_lexer.proofs.scan.spans_of.Given as goal
 
 abbrev pub invariant-loop-at : goal.invariant-loop-at
 invariant-loop-at l = record {
-  leads : Leads l.bytes 0 l.spans.items l.at;
+  scans : Scans l.bytes 0 l.spans.items l.at;
   token : BeginsToken (drop l.at l.bytes);
 }
 

@@ -1,9 +1,9 @@
 use Rattle.std.proofs.Common.{sym, ◌∙◌}
-use Rattle.circ_lexer.proofs.Cutting.{special_leads, run_leads, bad_cut}
+use Rattle.circ_lexer.proofs.Cutting.{special_scans, run_scans, bad_cut}
 use Rattle.circ_lexer.proofs.scan.token_end.Goals as goal
 
 pub returns-then-is_special : goal.returns-then-is_special
-returns-then-is_special c = special_leads c.args.bytes.now c.args.at c.requires.inside (sym c.is_special.ensures ∙ c.if-is_special.true)
+returns-then-is_special c = special_scans c.args.bytes.now c.args.at c.requires.inside (sym c.is_special.ensures ∙ c.if-is_special.true)
 
 pub returns-in-Some : goal.returns-in-Some
 returns-in-Some c =
@@ -11,5 +11,5 @@ returns-in-Some c =
 
 pub returns-in-None : goal.returns-in-None
 returns-in-None c =
-    run_leads c.args.bytes.now c.args.at c.plain_count.result (rw c.rest.ensures at c.plain_count.ensures.count) c.requires.inside c.requires.token (sym c.is_special.ensures ∙ c.if-is_special.false)
+    run_scans c.args.bytes.now c.args.at c.plain_count.result (rw c.rest.ensures at c.plain_count.ensures.count) c.requires.inside c.requires.token (sym c.is_special.ensures ∙ c.if-is_special.false)
     (sym c.in-None.ensures)
