@@ -2,10 +2,15 @@
 use Rattle.std.specs.Prelude.{ℕ, List, [], ◌∷◌, nat_eq, codes, find, Option}
 use Rattle.std.specs.Option.{option_map}
 use Rattle.std.specs.Cmp.Lexicographic.{pointwise}
-use Rattle.circ_lib.specs.declared.texts.TheConstants.{BITS, STREAM, TREE, LANG, PROC}
+use Rattle.circ_lib.specs.Bits.{bits_text}
+use Rattle.circ_lib.specs.Stream.{stream_text}
+use Rattle.circ_lib.specs.Tree.{tree_text}
+use Rattle.circ_lib.specs.Lang.{lang_text}
+use Rattle.circ_lib.specs.Proc.{proc_text}
 
 abbrev pub library : List (List ℕ × List ℕ)
-library = (codes "BITS", BITS.now) ∷ (codes "STREAM", STREAM.now) ∷ (codes "TREE", TREE.now) ∷ (codes "LANG", LANG.now) ∷ (codes "PROC", PROC.now) ∷ []
+library =
+    (codes "BITS", bits_text) ∷ (codes "STREAM", stream_text) ∷ (codes "TREE", tree_text) ∷ (codes "LANG", lang_text) ∷ (codes "PROC", proc_text) ∷ []
 
 -- the text of a name
 abbrev pub library_text : List ℕ → Option (List ℕ)

@@ -6,18 +6,17 @@ use Rattle.std.proofs.lemmas.Option.{same_Some}
 use Rattle.circ_statement.specs.declared.attributes.Attribute.{Attribute}
 use Rattle.circ_statement.specs.declared.attributes.Attribute.TheVariants.{Prec, ToLeft, ToRight, Assoc, Comm, Idem}
 use Rattle.circ_statement.specs.declared.attributes.Attributes.{Attributes}
-use Rattle.circ_statement.specs.declared.TheConstants.{MOST_PRECEDENCE}
 use Rattle.circ_statement.specs.Words.{Word, is_word}
-use Rattle.circ_statement.specs.Attributes.{words_of, all_words_of, with_attribute, with_attributes, Adds}
+use Rattle.circ_statement.specs.Attributes.{words_of, all_words_of, with_attribute, with_attributes, AddsAttributes}
 use Rattle.circ_statement.specs.Reading.{flag_of, number_of, prec_in, attribute_in}
 use Rattle.circ_statement.proofs.WordLists.{word_is}
 use Rattle.circ_statement.proofs.Decimals.{number_again, number_gives}
 
-small : (p : Bool) (n : ℕ) (a b : Attributes) → (if p && nat_le n MOST_PRECEDENCE then Some a else None) ≡ Some b → n ≤ 127
+small : (p : Bool) (n : ℕ) (a b : Attributes) → (if p && nat_le n 127 then Some a else None) ≡ Some b → n ≤ 127
 small false n a b e = absurd (cc)
-small true n a b e = go (nat_le n MOST_PRECEDENCE) refl e
+small true n a b e = go (nat_le n 127) refl e
   where
-    go : (t : Bool) → nat_le n MOST_PRECEDENCE ≡ t → (if t then Some a else None) ≡ Some b → n ≤ 127
+    go : (t : Bool) → nat_le n 127 ≡ t → (if t then Some a else None) ≡ Some b → n ≤ 127
     go true l e = grind (arith, common_steps)
     go false l e = absurd (cc)
 
@@ -87,9 +86,9 @@ record Begins (a : Attributes) (ws : List Word) (c : Attributes) : Type 0 where
   b : Attributes
   read : attribute_in ws ≡ Some (t, rest)
   first : with_attribute a t ≡ Some b
-  others : Adds b rest c
+  others : AddsAttributes b rest c
 
-begins : (a : Attributes) (ws : List Word) (c : Attributes) → ws ≢ [] → Adds a ws c → Begins a ws c
+begins : (a : Attributes) (ws : List Word) (c : Attributes) → ws ≢ [] → AddsAttributes a ws c → Begins a ws c
 begins a ws c some h = go h.attributes h.words h.added
   where
     go : (ts : List Attribute) → ws ≡ all_words_of ts → with_attributes a ts ≡ Some c → Begins a ws c
@@ -98,7 +97,7 @@ begins a ws c some h = go h.attributes h.words h.added
         let n = next_of a t ts c f in
         record { t = t; rest = all_words_of ts; b = n.b; read = ap attribute_in e ∙ attribute_again a n.b t (all_words_of ts) n.first; first = n.first; others = record { attributes = ts; words = refl; added = n.others } }
 
-pub unread : (a : Attributes) (ws : List Word) → ws ≢ [] → attribute_in ws ≡ None → (c : Attributes) → Adds a ws c → ⊥
+pub unread : (a : Attributes) (ws : List Word) → ws ≢ [] → attribute_in ws ≡ None → (c : Attributes) → AddsAttributes a ws c → ⊥
 unread a ws some e c h = let g = (begins a ws c some h).read in cc
 
 module _ (a : Attributes) (ws : List Word) (t : Attribute) (rest : List Word) (some : ws ≢ []) (read : attribute_in ws ≡ Some (t, rest)) where
@@ -107,31 +106,31 @@ module _ (a : Attributes) (ws : List Word) (t : Attribute) (rest : List Word) (s
       let same : ◌≡◌ {A = Attribute × List Word} (g.t, g.rest) (t, rest) = same_Some (g.t, g.rest) (t, rest) (sym g.read ∙ read) in
       (ap (λ p. p.0) same, ap (λ p. p.1) same)
 
-  pub refused : with_attribute a t ≡ None → (c : Attributes) → Adds a ws c → ⊥
+  pub refused : with_attribute a t ≡ None → (c : Attributes) → AddsAttributes a ws c → ⊥
   refused e c h =
       let g = begins a ws c some h in
       let no : None ≡ Some g.b = sym e ∙ ap (with_attribute a) (sym (read_as c g).0) ∙ g.first in
       absurd (cc)
 
   module _ (b : Attributes) (with : with_attribute a t ≡ Some b) where
-    pub more_added : (c : Attributes) → Adds b rest c → Adds a ws c
+    pub more_added : (c : Attributes) → AddsAttributes b rest c → AddsAttributes a ws c
     more_added c h = record {
       attributes = t ∷ h.attributes;
       words = attribute_gives ws t rest read ∙ ap (λ xs. words_of t ++ xs) h.words;
       added = ap (option_and_then (λ x. with_attributes x h.attributes)) with ∙ h.added;
     }
 
-    pub less_added : (c : Attributes) → Adds a ws c → Adds b rest c
+    pub less_added : (c : Attributes) → AddsAttributes a ws c → AddsAttributes b rest c
     less_added c h =
         let g = begins a ws c some h in
         let same = read_as c g in
         let is : g.b ≡ b = same_Some g.b b (sym g.first ∙ ap (with_attribute a) same.0 ∙ with) in
-        subst (λ x. Adds x rest c) is (subst (λ xs. Adds g.b xs c) same.1 g.others)
+        subst (λ x. AddsAttributes x rest c) is (subst (λ xs. AddsAttributes g.b xs c) same.1 g.others)
 
-pub added_none : (a : Attributes) (ws : List Word) → ws ≡ [] → Adds a ws a
+pub added_none : (a : Attributes) (ws : List Word) → ws ≡ [] → AddsAttributes a ws a
 added_none a ws e = record { attributes = []; words = e; added = refl }
 
-nothing_added : (a c : Attributes) → Adds a [] c → a ≡ c
+nothing_added : (a c : Attributes) → AddsAttributes a [] c → a ≡ c
 nothing_added a c h = go h.attributes h.words h.added
   where
     go : (ts : List Attribute) → [] ≡ all_words_of ts → with_attributes a ts ≡ Some c → a ≡ c
@@ -141,7 +140,7 @@ nothing_added a c h = go h.attributes h.words h.added
         let no : ◌≡◌ {A = Option (Attribute × List Word)} None (Some (t, all_words_of ts)) = ap attribute_in e ∙ attribute_again a n.b t (all_words_of ts) n.first in
         absurd (cc)
 
-all_same : (ts : List Attribute) (a b c : Attributes) → with_attributes a ts ≡ Some b → Adds a (all_words_of ts) c → b ≡ c
+all_same : (ts : List Attribute) (a b c : Attributes) → with_attributes a ts ≡ Some b → AddsAttributes a (all_words_of ts) c → b ≡ c
 all_same [] a b c e h = sym (same_Some a b e) ∙ nothing_added a c h
 all_same (t ∷ ts) a b c e h =
     let n = next_of a t ts b e in
@@ -150,5 +149,5 @@ all_same (t ∷ ts) a b c e h =
     all_same ts n.b b c n.others (less_added a (words_of t ++ all_words_of ts) t (all_words_of ts) some read n.b n.first c h)
 
 -- words add the same attributes each time
-pub adds_same : (a b c : Attributes) (ws : List Word) → Adds a ws b → Adds a ws c → b ≡ c
-adds_same a b c ws h k = all_same h.attributes a b c h.added (subst (λ xs. Adds a xs c) h.words k)
+pub adds_same : (a b c : Attributes) (ws : List Word) → AddsAttributes a ws b → AddsAttributes a ws c → b ≡ c
+adds_same a b c ws h k = all_same h.attributes a b c h.added (subst (λ xs. AddsAttributes a xs c) h.words k)

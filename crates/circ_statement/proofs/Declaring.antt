@@ -1,6 +1,7 @@
 -- What operators' statements say.
 use Rattle.std.proofs.Common.{◌≡◌, ◌≢◌, List, [], Bool, true, Err, refl, sym, ◌∙◌, subst}
 use Rattle.circ_lexer.specs.TokenList.{TokenList}
+use Rattle.circ_lexer.specs.declared.tokens.Span.{Span}
 use Rattle.circ_statement.specs.declared.attributes.Attributes.{Attributes}
 use Rattle.circ_statement.specs.declared.fault.StatementFault.{StatementFault}
 use Rattle.circ_statement.specs.declared.fault.StatementFault.TheVariants.{LeftOut, Shape, Memory}
@@ -8,7 +9,7 @@ use Rattle.circ_statement.specs.Words.{Word, is_name, are_names}
 use Rattle.circ_statement.specs.Heads.{IsHead, IsBracket, IsFirstForeign, HasForeign}
 use Rattle.circ_statement.specs.Attributes.{HasAttributes, Spelled, AreSpelled}
 use Rattle.circ_statement.specs.Said.{Said, operators}
-use Rattle.circ_statement.specs.Statement.{forms_of, Declares, IsOperators, Gives}
+use Rattle.circ_statement.specs.Statement.{forms_of, Declares, IsOperators, SaysOrLeavesOut}
 use Rattle.circ_statement.specs.Reading.{GivesSpellings}
 use Rattle.circ_statement.proofs.HeadParts.{SameHead, head_same}
 use Rattle.circ_statement.proofs.Marks.{given_same}
@@ -42,10 +43,11 @@ module _ {ws front args : List Word} {result : Word} {marks : List Word} (head :
           let d = declared_by o said h in
           g d.forms (subst (λ a. AreSpelled a (forms_of o front) d.forms) (given_same marks d.given given d.attributes has) d.spelled)
 
-      pub fault_of : (fault : StatementFault) (ts : TokenList) → ((w : Word) → HasForeign ws w → ⊥) → GivesSpellings (Err fault) given (forms_of o front) → Gives (Err fault) ts (IsOperators o ws) (HasForeign ws)
-      fault_of (LeftOut n) ts none g = absurd g
-      fault_of Shape ts none g = (unspelled g, none)
-      fault_of Memory ts none g = tt
+      pub fault_of : (fault : StatementFault) (ts : TokenList) (span : Span) → ((w : Word) → HasForeign ws w → ⊥) → GivesSpellings (Err fault) given (forms_of o front)
+          → SaysOrLeavesOut (Err fault) ts span (IsOperators o ws) (HasForeign ws)
+      fault_of (LeftOut n) ts span none g = absurd g
+      fault_of Shape ts span none g = (unspelled g, none)
+      fault_of Memory ts span none g = tt
 
       pub is_declared : (forms : List Spelled) → AreSpelled given (forms_of o front) forms → front ≢ [] → are_names args ≡ true → is_name result ≡ true
           → IsOperators o ws (operators forms args result given.assoc given.comm given.idem)

@@ -1,10 +1,10 @@
 -- An operator's statement is cut into its parts in one way.
-use Rattle.std.proofs.Common.{◌≡◌, List, ◌∷◌, ◌++◌, false, codes, refl, sym, ◌∙◌, subst, ℕ, Option, Some, None}
+use Rattle.std.proofs.Common.{◌≡◌, List, ◌∷◌, ◌++◌, false, codes, refl, sym, ◌∙◌, subst, arith, ℕ, Option, Some, None}
 use Rattle.circ_lexer.specs.TokenList.{TokenList, tokens_in}
 use Rattle.circ_lexer.specs.declared.tokens.Span.{Span}
 use Rattle.circ_statement.specs.Words.{Word, has_word}
 use Rattle.circ_statement.specs.Heads.{IsHead, IsBracket, IsFirstForeign}
-use Rattle.circ_statement.specs.Reading.{GivesForeign, GivesForeignMark}
+use Rattle.circ_statement.specs.Reading.{IsPart, GivesForeign, GivesForeignMark}
 use Rattle.circ_statement.proofs.WordLists.{split_same, split_lacks}
 
 module _ (ws front sorts : List Word) (words : ws ≡ front ++ codes ":" ∷ sorts) (lacks : has_word (codes ":") front ≡ false) where
@@ -44,7 +44,8 @@ pub bracket_same : {ws i j r s : List Word} → IsBracket ws i r → IsBracket w
 bracket_same {ws} {i} {j} {r} {s} h k = split_same (codes "]") i r j s h.no_close k.no_close (bracket_cut ws _ i r k.words h)
 
 -- the brackets' first foreign word is that of the statement
-pub mark_of : (o : Option ℕ) (ts : TokenList) (marks inside rest : Span) → IsBracket (tokens_in ts marks) (tokens_in ts inside) (tokens_in ts rest) → GivesForeign o ts inside
+pub mark_of : (o : Option ℕ) (ts : TokenList) (marks inside rest : Span) → IsBracket (tokens_in ts marks) (tokens_in ts inside) (tokens_in ts rest) → IsPart marks inside → GivesForeign o ts inside
     → GivesForeignMark o ts marks
-mark_of None ts marks inside rest b g = λ i r w k f. g w (subst (λ x. IsFirstForeign x w) (bracket_same k b).0 f)
-mark_of (Some n) ts marks inside rest b g = (g.0, (tokens_in ts inside, (tokens_in ts rest, (b, g.1))))
+mark_of None ts marks inside rest b p g = λ i r w k f. g w (subst (λ x. IsFirstForeign x w) (bracket_same k b).0 f)
+mark_of (Some n) ts marks inside rest b p g =
+    (g.0, (tokens_in ts inside, (tokens_in ts rest, (b, g.1))), record { from = omega (arith, p.from, g.2.from); to = omega (arith, p.to, g.2.to) })

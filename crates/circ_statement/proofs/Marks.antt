@@ -3,7 +3,7 @@ use Rattle.std.proofs.Common.{◌≡◌, ◌≢◌, List, [], Option, Some, None
 use Rattle.circ_statement.specs.declared.attributes.Attributes.{Attributes}
 use Rattle.circ_statement.specs.Words.{Word}
 use Rattle.circ_statement.specs.Heads.{IsBracket}
-use Rattle.circ_statement.specs.Attributes.{no_attributes, Adds, HasAttributes}
+use Rattle.circ_statement.specs.Attributes.{no_attributes, AddsAttributes, HasAttributes}
 use Rattle.circ_statement.specs.Reading.{GivesAdded, GivesAttributes}
 use Rattle.circ_statement.proofs.HeadParts.{bracket_same}
 use Rattle.circ_statement.proofs.Adding.{adds_same}
@@ -16,9 +16,9 @@ module _ (ws inside rest : List Word) (b : IsBracket ws inside rest) where
   not_given some a (inl h) = no_bracket h.0
   not_given some a (inr h) = some (sym (bracket_same h.1.0 b).1)
 
-  only_given : (P : Attributes → Type 0) → ((a : Attributes) → Adds no_attributes inside a → P a) → (a : Attributes) → HasAttributes ws a → P a
+  only_given : (P : Attributes → Type 0) → ((a : Attributes) → AddsAttributes no_attributes inside a → P a) → (a : Attributes) → HasAttributes ws a → P a
   only_given P f a (inl h) = absurd (no_bracket h.0)
-  only_given P f a (inr h) = f a (subst (λ i. Adds no_attributes i a) (bracket_same h.1.0 b).0 h.1.1)
+  only_given P f a (inr h) = f a (subst (λ i. AddsAttributes no_attributes i a) (bracket_same h.1.0 b).0 h.1.1)
 
   pub given_by : (o : Option Attributes) → rest ≡ [] → GivesAdded o no_attributes inside → GivesAttributes o ws
   given_by None e g = only_given (λ a. ⊥) g

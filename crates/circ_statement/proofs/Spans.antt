@@ -5,7 +5,7 @@ use Rattle.circ_lexer.specs.TokenList.{TokenList, tokens_of, tokens_in, IsWithin
 use Rattle.circ_lexer.specs.declared.tokens.Span.{Span}
 use Rattle.circ_statement.specs.declared.places.First.{First}
 use Rattle.circ_statement.specs.Words.{Word, is_word, has_word}
-use Rattle.circ_statement.specs.Reading.{IsFirst}
+use Rattle.circ_statement.specs.Reading.{IsFirstToken}
 use Rattle.circ_statement.proofs.WordLists.{word_is, lacks_more}
 use Rattle.circ_statement.proofs.Ranges.{range_next, range_none, range_split}
 
@@ -24,7 +24,7 @@ whole ts span rest r =
     let l : rest.from ≤ span.to = omega (arith, r.within.ahead, r.to) in
     range_split (tokens_of ts) span.from rest.from span.to r.from l ∙ ap (λ k. seen ts span rest ++ slice_range (tokens_of ts) rest.from k) (sym r.to)
 
-module _ (ts : TokenList) (span rest : Span) (f : First) (r : IsRest ts span rest) (is : IsFirst ts rest f) where
+module _ (ts : TokenList) (span rest : Span) (f : First) (r : IsRest ts span rest) (is : IsFirstToken ts rest f) where
   pub rest_more : IsRest ts span f.rest
   rest_more = record { within = is.within; from = omega (arith, r.from, is.from); to = is.to ∙ r.to }
 

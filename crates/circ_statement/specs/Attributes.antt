@@ -10,7 +10,6 @@ use Rattle.circ_theory.specs.Operators.{is_hole_piece}
 use Rattle.circ_statement.specs.declared.attributes.Attribute.{Attribute}
 use Rattle.circ_statement.specs.declared.attributes.Attribute.TheVariants.{Prec, ToLeft, ToRight, Assoc, Comm, Idem}
 use Rattle.circ_statement.specs.declared.attributes.Attributes.{Attributes}
-use Rattle.circ_statement.specs.declared.TheConstants.{MOST_PRECEDENCE, USUAL_PRECEDENCE}
 use Rattle.circ_statement.specs.Words.{Word}
 use Rattle.circ_statement.specs.Heads.{IsBracket}
 
@@ -37,9 +36,9 @@ is_neither Right = false
 abbrev pub no_attributes : Attributes
 no_attributes = record { prec = None; side = Neither; assoc = false; comm = false; idem = false }
 
--- the attributes with one more; each may be given once, and one side only
+-- the attributes with one more; each may be given once, and one side only, and the greatest precedence is 127
 abbrev pub with_attribute : Attributes → Attribute → Option Attributes
-with_attribute a (Prec n) = if is_none a.prec && nat_le n MOST_PRECEDENCE then Some (record a { prec = Some n }) else None
+with_attribute a (Prec n) = if is_none a.prec && nat_le n 127 then Some (record a { prec = Some n }) else None
 with_attribute a ToLeft = if is_neither a.side then Some (record a { side = Left }) else None
 with_attribute a ToRight = if is_neither a.side then Some (record a { side = Right }) else None
 with_attribute a Assoc = if a.assoc then None else Some (record a { assoc = true })
@@ -51,14 +50,14 @@ with_attributes a [] = Some a
 with_attributes a (t ∷ ts) = option_and_then (λ b. with_attributes b ts) (with_attribute a t)
 
 -- The words add attributes to those given before.
-pub record Adds (a : Attributes) (ws : List Word) (b : Attributes) : Type 0 where
+pub record AddsAttributes (a : Attributes) (ws : List Word) (b : Attributes) : Type 0 where
   pub attributes : List Attribute
   pub words : ws ≡ all_words_of attributes
   pub added : with_attributes a attributes ≡ Some b
 
 -- what follows the result sort: nothing, or attributes in brackets
 abbrev pub HasAttributes : List Word → Attributes → Type 0
-HasAttributes marks a = ((marks ≡ []) × (a ≡ no_attributes)) ⊎ ((inside : List Word) × (IsBracket marks inside [] × Adds no_attributes inside a))
+HasAttributes marks a = ((marks ≡ []) × (a ≡ no_attributes)) ⊎ ((inside : List Word) × (IsBracket marks inside [] × AddsAttributes no_attributes inside a))
 
 -- an operator's form with the precedence and the side that its statement gives it
 pub record Spelled : Type 0 where
@@ -82,10 +81,10 @@ ends_with_hole (p ∷ (q ∷ ps)) = ends_with_hole (q ∷ ps)
 abbrev pub is_between : List Piece → Bool
 is_between ps = begins_with_hole ps && ends_with_hole ps
 
--- the precedence that is given, or else the usual one of a form that begins or ends with a hole
+-- the precedence that is given, or else 41 of a form that begins or ends with a hole
 abbrev pub precedence_of : Option ℕ → List Piece → ℕ
 precedence_of (Some n) ps = n
-precedence_of None ps = if begins_with_hole ps || ends_with_hole ps then USUAL_PRECEDENCE else 0
+precedence_of None ps = if begins_with_hole ps || ends_with_hole ps then 41 else 0
 
 -- the side that is given; else an associative operator whose form begins and ends with a hole groups to the right
 abbrev pub side_of : Attributes → List Piece → Side

@@ -1,5 +1,5 @@
 -- What the steps of reading a statement answer.
-use Rattle.std.specs.Prelude.{◌≡◌, ◌≢◌, ◌+◌, ◌-◌, ◌*◌, ◌<◌, ◌==◌, ℕ, codes, if◌then◌else◌, List, [], ◌∷◌, ◌++◌, Bool, true, false, map, Option, Some, None, Result, Ok, Err}
+use Rattle.std.specs.Prelude.{◌≡◌, ◌≢◌, ◌≤◌, ◌+◌, ◌-◌, ◌*◌, ◌<◌, ◌==◌, ℕ, codes, if◌then◌else◌, List, [], ◌∷◌, ◌++◌, Bool, true, false, map, Option, Some, None, Result, Ok, Err}
 use Rattle.std.specs.Global.{Vec}
 use Rattle.std.specs.Char.{is_ascii_digit}
 use Rattle.std.specs.Option.{option_map, option_and_then}
@@ -18,12 +18,17 @@ use Rattle.circ_statement.specs.declared.fault.StatementFault.{StatementFault}
 use Rattle.circ_statement.specs.declared.fault.StatementFault.TheVariants.{LeftOut, Shape, Memory}
 use Rattle.circ_statement.specs.Words.{Word, is_word, has_word, is_name, are_names}
 use Rattle.circ_statement.specs.Heads.{IsHead, IsBracket, IsFirstForeign, HasForeign}
-use Rattle.circ_statement.specs.Attributes.{Spelled, Adds, HasAttributes, IsSpelled, AreSpelled}
-use Rattle.circ_statement.specs.Said.{Said, said_of, spelled_of, LiesWithin, IsPlace, token_at}
-use Rattle.circ_statement.specs.Statement.{IsUnmarked, IsOperators, Gives}
+use Rattle.circ_statement.specs.Attributes.{Spelled, AddsAttributes, HasAttributes, IsSpelled, AreSpelled}
+use Rattle.circ_statement.specs.Said.{Said, said_of, spelled_of, LiesWithin, LiesIn, IsPlace, token_at}
+use Rattle.circ_statement.specs.Statement.{IsUnmarked, IsOperators, SaysOrLeavesOut}
+
+-- one span lies in another
+pub record IsPart (span part : Span) : Type 0 where
+  pub from : span.from ≤ part.from
+  pub to : part.to ≤ span.to
 
 -- the first token, and those after it
-pub record IsFirst (ts : TokenList) (span : Span) (f : First) : Type 0 where
+pub record IsFirstToken (ts : TokenList) (span : Span) (f : First) : Type 0 where
   pub some : span.from < span.to
   pub place : f.place ≡ span.from
   pub from : f.rest.from ≡ span.from + 1
@@ -35,12 +40,12 @@ pub record IsFirst (ts : TokenList) (span : Span) (f : First) : Type 0 where
 
 abbrev pub GivesFirst : Option First → TokenList → Span → Type 0
 GivesFirst None ts span = tokens_in ts span ≡ []
-GivesFirst (Some f) ts span = IsFirst ts span f
+GivesFirst (Some f) ts span = IsFirstToken ts span f
 
 -- the tokens after this first word
 abbrev pub GivesAfter : Option Span → TokenList → Span → Word → Type 0
 GivesAfter None ts span w = (rest : List Word) → tokens_in ts span ≡ w ∷ rest → ⊥
-GivesAfter (Some after) ts span w = IsWithin ts after × (tokens_in ts span ≡ w ∷ tokens_in ts after)
+GivesAfter (Some after) ts span w = IsWithin ts after × (tokens_in ts span ≡ w ∷ tokens_in ts after) × IsPart span after
 
 -- the only token, where it is a name
 abbrev pub GivesName : Option ℕ → TokenList → Span → Type 0
@@ -52,27 +57,29 @@ abbrev pub GivesSplit : Option (Span × Span) → TokenList → Span → Word �
 GivesSplit None ts span w = has_word w (tokens_in ts span) ≡ false
 GivesSplit (Some r) ts span w =
     IsWithin ts r.0 × IsWithin ts r.1 × (tokens_in ts span ≡ tokens_in ts r.0 ++ w ∷ tokens_in ts r.1) × (has_word w (tokens_in ts r.0) ≡ false)
+    × IsPart span r.0 × IsPart span r.1
 
 abbrev pub GivesHead : Option Head → TokenList → Span → Type 0
 GivesHead None ts span = (front args : List Word) (result : Word) (marks : List Word) → IsHead (tokens_in ts span) front args result marks → ⊥
 GivesHead (Some h) ts span =
     IsWithin ts h.front × IsWithin ts h.args × IsPlace ts h.result × IsWithin ts h.marks
     × IsHead (tokens_in ts span) (tokens_in ts h.front) (tokens_in ts h.args) (token_at ts h.result) (tokens_in ts h.marks)
+    × IsPart span h.marks
 
 abbrev pub GivesBracket : Option (Span × Span) → TokenList → Span → Type 0
 GivesBracket None ts span = (inside rest : List Word) → IsBracket (tokens_in ts span) inside rest → ⊥
-GivesBracket (Some r) ts span = IsWithin ts r.0 × IsWithin ts r.1 × IsBracket (tokens_in ts span) (tokens_in ts r.0) (tokens_in ts r.1)
+GivesBracket (Some r) ts span = IsWithin ts r.0 × IsWithin ts r.1 × IsBracket (tokens_in ts span) (tokens_in ts r.0) (tokens_in ts r.1) × IsPart span r.0
 
 -- the first token that may not stand among attributes
 abbrev pub GivesForeign : Option ℕ → TokenList → Span → Type 0
 GivesForeign None ts inside = (w : Word) → IsFirstForeign (tokens_in ts inside) w → ⊥
-GivesForeign (Some n) ts inside = IsPlace ts n × IsFirstForeign (tokens_in ts inside) (token_at ts n)
+GivesForeign (Some n) ts inside = IsPlace ts n × IsFirstForeign (tokens_in ts inside) (token_at ts n) × LiesIn inside n
 
 -- the same for the brackets after a result sort
 abbrev pub GivesForeignMark : Option ℕ → TokenList → Span → Type 0
 GivesForeignMark None ts marks = (inside rest : List Word) (w : Word) → IsBracket (tokens_in ts marks) inside rest → IsFirstForeign inside w → ⊥
 GivesForeignMark (Some n) ts marks =
-    IsPlace ts n × ((inside : List Word) × ((rest : List Word) × (IsBracket (tokens_in ts marks) inside rest × IsFirstForeign inside (token_at ts n))))
+    IsPlace ts n × ((inside : List Word) × ((rest : List Word) × (IsBracket (tokens_in ts marks) inside rest × IsFirstForeign inside (token_at ts n)))) × LiesIn marks n
 
 -- the attribute of one word
 abbrev pub flag_of : Word → Option Attribute
@@ -112,8 +119,8 @@ GivesAttribute None ts span = attribute_in (tokens_in ts span) ≡ None
 GivesAttribute (Some r) ts span = IsWithin ts r.1 × (span.from < r.1.from) × (r.1.to ≡ span.to) × (attribute_in (tokens_in ts span) ≡ Some (r.0, tokens_in ts r.1))
 
 abbrev pub GivesAdded : Option Attributes → Attributes → List Word → Type 0
-GivesAdded None a ws = (b : Attributes) → Adds a ws b → ⊥
-GivesAdded (Some b) a ws = Adds a ws b
+GivesAdded None a ws = (b : Attributes) → AddsAttributes a ws b → ⊥
+GivesAdded (Some b) a ws = AddsAttributes a ws b
 
 abbrev pub GivesAttributes : Option Attributes → List Word → Type 0
 GivesAttributes None marks = (a : Attributes) → HasAttributes marks a → ⊥
@@ -152,7 +159,7 @@ shaped (Some s) = Ok s
 
 -- what the tokens after an operator's first word say
 abbrev pub GivesOperators : Result Statement StatementFault → TokenList → (is_one : Bool) → Span → Type 0
-GivesOperators r ts is_one span = Gives r ts (IsOperators is_one (tokens_in ts span)) (HasForeign (tokens_in ts span))
+GivesOperators r ts is_one span = SaysOrLeavesOut r ts span (IsOperators is_one (tokens_in ts span)) (HasForeign (tokens_in ts span))
 
 -- There is a form, and each sort can be a sort.
 pub record IsNamed (ts : TokenList) (h : Head) : Type 0 where

@@ -1,7 +1,8 @@
 -- What a statement says.
-use Rattle.std.specs.Prelude.{◌<◌, ℕ, List, [], Bool, map, length, unwrap_or}
+use Rattle.std.specs.Prelude.{◌<◌, ◌≤◌, ℕ, List, [], Bool, map, length, unwrap_or}
 use Rattle.std.specs.List.{slice_get}
 use Rattle.circ_lexer.specs.TokenList.{TokenList, tokens_of, tokens_in, IsWithin}
+use Rattle.circ_lexer.specs.declared.tokens.Span.{Span}
 use Rattle.circ_statement.specs.declared.statements.Spelling.{Spelling}
 use Rattle.circ_statement.specs.declared.statements.Statement.{Statement}
 use Rattle.circ_statement.specs.declared.statements.Statement.TheVariants.{Inclusion, Sorts, Operators, Variables, Equation, Derivative, Cases}
@@ -24,6 +25,11 @@ token_at ts n = unwrap_or (slice_get (tokens_of ts) n) []
 
 abbrev pub IsPlace : TokenList → ℕ → Type 0
 IsPlace ts n = n < length (tokens_of ts)
+
+-- The token of this number lies in the span.
+pub record LiesIn (span : Span) (n : ℕ) : Type 0 where
+  pub from : span.from ≤ n
+  pub to : n < span.to
 
 abbrev pub spelled_of : Spelling → Spelled
 spelled_of s = record { form = s.form; prec = s.prec; side = s.side }

@@ -11,7 +11,7 @@ use Rattle.circ_statement.specs.declared.fault.StatementFault.TheVariants.{LeftO
 use Rattle.circ_statement.specs.Words.{Word, has_word, is_name, are_names, are_some_names, keyword_of}
 use Rattle.circ_statement.specs.Heads.{IsHead, HasForeign}
 use Rattle.circ_statement.specs.Attributes.{HasAttributes, Spelled, AreSpelled}
-use Rattle.circ_statement.specs.Said.{Said, inclusion, sorts, operators, variables, equation, derivative, cases, said_of, LiesWithin, IsPlace, token_at}
+use Rattle.circ_statement.specs.Said.{Said, inclusion, sorts, operators, variables, equation, derivative, cases, said_of, LiesWithin, LiesIn, IsPlace, token_at}
 
 -- What the words after a statement's first word say, kind by kind.
 
@@ -122,13 +122,13 @@ abbrev pub IsLeftOut : List Word → Word → Type 0
 IsLeftOut [] w = ⊥
 IsLeftOut (first ∷ ws) w = IsOutByKind (keyword_of first) first ws w
 
--- what the tokens say; or the word by which they are left out; or neither
-abbrev pub Gives : Result Statement StatementFault → TokenList → (Said → Type 0) → (Word → Type 0) → Type 0
-Gives (Ok s) ts Says IsOut = Says (said_of ts s) × LiesWithin ts s × ((w : Word) → IsOut w → ⊥)
-Gives (Err (OutBy n)) ts Says IsOut = IsPlace ts n × IsOut (token_at ts n)
-Gives (Err Shape) ts Says IsOut = ((said : Said) → Says said → ⊥) × ((w : Word) → IsOut w → ⊥)
-Gives (Err Memory) ts Says IsOut = Unit {0}
+-- what the tokens say; or the word by which they are left out, which stands in the span; or neither
+abbrev pub SaysOrLeavesOut : Result Statement StatementFault → TokenList → Span → (Said → Type 0) → (Word → Type 0) → Type 0
+SaysOrLeavesOut (Ok s) ts span Says IsOut = Says (said_of ts s) × LiesWithin ts s × ((w : Word) → IsOut w → ⊥)
+SaysOrLeavesOut (Err (OutBy n)) ts span Says IsOut = IsPlace ts n × IsOut (token_at ts n) × LiesIn span n
+SaysOrLeavesOut (Err Shape) ts span Says IsOut = ((said : Said) → Says said → ⊥) × ((w : Word) → IsOut w → ⊥)
+SaysOrLeavesOut (Err Memory) ts span Says IsOut = Unit {0}
 
 -- what reading the tokens of a span as a statement answers
 abbrev pub GivesStatement : Result Statement StatementFault → TokenList → Span → Type 0
-GivesStatement r ts span = Gives r ts (IsStatement (tokens_in ts span)) (IsLeftOut (tokens_in ts span))
+GivesStatement r ts span = SaysOrLeavesOut r ts span (IsStatement (tokens_in ts span)) (IsLeftOut (tokens_in ts span))

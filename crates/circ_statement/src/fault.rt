@@ -4,15 +4,13 @@ use thiserror::Error;
 
 /// Why there is no statement, in the order in which the causes are tested.
 #[derive(Debug, Drop, Clone, Copy, PartialEq, Eq, Error)]
+#[error("the tokens are no statement")]
 pub enum StatementFault {
     /// This form of statement is left out, by the token of this number.
-    #[error("token {word} makes a statement that is left out")]
     LeftOut { word: usize },
     /// The tokens have not the form of a statement.
-    #[error("no statement has this form")]
     Shape,
     /// Memory ran out.
-    #[error("out of memory")]
     Memory,
 }
 

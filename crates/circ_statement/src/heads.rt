@@ -8,7 +8,8 @@ use crate::keywords::is_word;
 use crate::places::{after, first_of, split};
 use circ_lexer::{Span, Tokens};
 
-// What stands before the first colon, between it and the next arrow, the word after the arrow, and what follows it.
+// What stands before the first colon, between it and the next arrow, the word after the arrow, and
+// what follows it.
 #[derive(Clone, Copy)]
 pub(crate) struct Head {
     pub front: Span,

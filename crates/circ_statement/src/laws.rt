@@ -14,6 +14,7 @@ pub fn said_in_one_way()
 /// Three statements, and what they say.
 pub fn what_statements_say()
     ensures operator { IsStatement plus_words plus }
-    ensures equation { IsStatement (codes "eq" ∷ (codes "a" ∷ (codes "=" ∷ nonexec))) (equation (codes "a" ∷ []) [] false) }
+    ensures equation { IsStatement (codes "eq" ∷ (codes "a" ∷ (codes "=" ∷ nonexec)))
+        (equation (codes "a" ∷ []) [] false) }
     ensures left_out { IsLeftOut foreign_words (codes "ctor") }
 {}

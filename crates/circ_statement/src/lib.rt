@@ -1,8 +1,9 @@
 //! The statements of a theory text, one at a time.
 //!
-//! [`statement`] reads the tokens of one statement, without any theory: what it declares or says, where its names and terms
-//! stand, and what its attributes make of each form. What a statement says, and by which word one is left out, is defined in
-//! `specs` as relations between lists of words and what they say.
+//! [`statement`] reads the tokens of one statement, without any theory: what it declares or says,
+//! where its names and terms stand, and what its attributes make of each form. What a statement
+//! says, and by which word one is left out, is defined in `specs` as relations between lists of
+//! words and what they say.
 #![tactic(auto)]
 
 mod attributes;
@@ -14,8 +15,6 @@ mod places;
 mod reading;
 mod spellings;
 mod statements;
-#[cfg(test)]
-mod tests;
 
 pub use fault::StatementFault;
 pub use keywords::is_name;

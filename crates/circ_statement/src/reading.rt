@@ -14,8 +14,8 @@ use crate::{Statement, StatementFault};
 use circ_lexer::{Span, Tokens};
 use std::alloc::Global;
 
-/// The statement that the tokens of the span are, without the stop that ends it. The causes of a fault are tested in the
-/// order of [`StatementFault`].
+/// The statement that the tokens of the span are, without the stop that ends it. The causes of a
+/// fault are tested in the order of [`StatementFault`].
 pub fn statement(
     alloc: Global,
     tokens: &Tokens<'_>,
@@ -117,7 +117,8 @@ fn equation(tokens: &Tokens<'_>, span: Span) -> Option<Statement>
     }
 }
 
-// The tokens without the mark of an equation that is no rewrite rule, and whether they have no mark.
+// The tokens without the mark of an equation that is no rewrite rule, and whether they have no
+// mark.
 fn unmarked(tokens: &Tokens<'_>, span: Span) -> (Span, bool)
     requires { IsWithin tokens.now span }
     ensures { GivesUnmarked result tokens.now span }

@@ -19,7 +19,14 @@ returns-then-is_word c =
     let r = c.loop-first.invariant in
     let is = c.in-Some.ensures in
     let cut = split_here c.args.tokens.now c.args.span c.loop-first.rest c.in-Some.first r.is_rest is c.args.word.now (sym c.is_word.ensures ∙ c.if-is_word.true) in
-    rw is.place (record { ahead = r.is_rest.from; within = omega (arith, is.some, r.is_rest.to, c.requires.within) }, is.within, cut, r.lacks)
+    rw is.place (
+      record { ahead = r.is_rest.from; within = omega (arith, is.some, r.is_rest.to, c.requires.within) },
+      is.within,
+      cut,
+      r.lacks,
+      record { from = omega arith; to = omega (arith, is.some, r.is_rest.to) },
+      record { from = omega (arith, r.is_rest.from, is.from); to = omega (arith, is.to, r.is_rest.to) },
+    )
 
 pub returns : goal.returns
 returns c =

@@ -21,7 +21,7 @@ returns-then-not-is_named c =
 pub returns-in-Err : goal.returns-in-Err
 returns-in-Err c =
     let head = c.in-Some.ensures.4 in
-    fault_of head c.args.is_one c.in-Some-attributes_of.given c.in-Some-attributes_of.ensures c.in-Err.fault c.args.tokens.now
+    fault_of head c.args.is_one c.in-Some-attributes_of.given c.in-Some-attributes_of.ensures c.in-Err.fault c.args.tokens.now c.args.span
     (unforeign head c.in_default-foreign_mark.ensures) c.in-Err.ensures
 
 pub returns-in-Ok : goal.returns-in-Ok
