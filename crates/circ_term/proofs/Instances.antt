@@ -12,7 +12,9 @@ mutual
 
   pub instances-instances : (τ σ : Substitution) (ts : Trees) → instances τ (instances σ ts) ≡ instances (composed τ σ) ts
   instances-instances τ σ none = refl
-  instances-instances τ σ (more t ts) = ap (λ x. more x (instances τ (instances σ ts))) (instance-instance τ σ t) ∙ ap (more (instance (composed τ σ) t)) (instances-instances τ σ ts)
+  instances-instances τ σ (more t ts) =
+      ap (λ x. more x (instances τ (instances σ ts))) (instance-instance τ σ t)
+      ∙ ap (more (instance (composed τ σ) t)) (instances-instances τ σ ts)
 
 -- a term without a variable is its own instance
 mutual

@@ -17,7 +17,8 @@ use Rattle.circ_theory.specs.Occurring.{variable_of}
 use Rattle.circ_theory.proofs.Lists.{list_any-map}
 
 -- a variable that is inserted is one that is seen
-pub inserted : (ks : List Occurring) (k : Occurring) → map variable_of (insert_key (λ a b. (a.number == b.number) && (a.sort == b.sort)) ks k) ≡ seen (variable_of k) (map variable_of ks)
+pub inserted : (ks : List Occurring) (k : Occurring)
+    → map variable_of (insert_key (λ a b. (a.number == b.number) && (a.sort == b.sort)) ks k) ≡ seen (variable_of k) (map variable_of ks)
 inserted ks k = go (list_any (λ b. (k.number == b.number) && (k.sort == b.sort)) ks) ∙ ap put (sym (list_any-map (is_variable (variable_of k)) variable_of ks))
   where
     put : Bool → List Variable
@@ -28,7 +29,8 @@ inserted ks k = go (list_any (λ b. (k.number == b.number) && (k.sort == b.sort)
     go false = map-append variable_of ks (k ∷ [])
 
 -- two terms have so few variables
-pub few_variables : (s t : Tree) (ks : List Occurring) → IsWithinLimits s → IsWithinLimits t → map variable_of ks ≡ seen_in t (seen_in s []) → length ks ≤ 4294967296
+pub few_variables : (s t : Tree) (ks : List Occurring) → IsWithinLimits s → IsWithinLimits t → map variable_of ks ≡ seen_in t (seen_in s [])
+    → length ks ≤ 4294967296
 few_variables s t ks a b e =
     omega (arith, length-map ks variable_of, ap length e, length-seen_in t (seen_in s []), length-seen_in s [], (within_limits s a).0, (within_limits t b).0)
 
