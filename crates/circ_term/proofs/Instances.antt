@@ -1,5 +1,5 @@
 -- Laws of instances.
-use Rattle.std.proofs.Common.{◌≡◌, ℕ, true, List, length, suc, refl, ap, ◌∙◌}
+use Rattle.std.proofs.Common.{◌≡◌, ℕ, true, length, suc, refl, ap, ◌∙◌}
 use Rattle.std.proofs.lemmas.Bool.{and_parts}
 use Rattle.circ_term.specs.Tree.{Tree, Trees, Var, App, none, more, is_ground, are_ground, list_of, sort_of}
 use Rattle.circ_term.specs.Substitution.{Substitution, KeepsSorts, instance, instances, composed}

@@ -1,5 +1,5 @@
 -- The order of terms is a total order, and only the same term is equal to a term.
-use Rattle.std.proofs.Common.{◌≡◌, ℕ, Bool, true, false, Ordering, Less, Equal, Greater, sym, ◌∙◌, ap, refl}
+use Rattle.std.proofs.Common.{◌≡◌, ℕ, true, false, Ordering, Less, Equal, Greater, sym, ◌∙◌, ap, refl}
 use Rattle.std.specs.Ordering.{nat_cmp, ordering_then, ordering_reverse, is_lt, is_eq}
 use Rattle.std.specs.Cmp.{then_flip, nat_cmp_is, IsTotalOrder, IsStrictWeakOrder}
 use Rattle.std.specs.FinMap.{nat_cmp-IsAntisymmetric}

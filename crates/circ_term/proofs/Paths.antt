@@ -109,7 +109,7 @@ replaced_self [] t x e = sym e
 replaced_self (i ∷ q) t x e =
     let d : Down t i q x = down t i q x e in
     let same : App d.op d.sort (put_at d.args i d.arg) ≡ t
-        = ap (λ l. App d.op d.sort (trees_of l)) (set_same (list_of d.args) i d.arg d.got) ∙ ap (App d.op d.sort) (trees_of-list_of d.args) ∙ sym d.is in
+    = ap (λ l. App d.op d.sort (trees_of l)) (set_same (list_of d.args) i d.arg d.got) ∙ ap (App d.op d.sort) (trees_of-list_of d.args) ∙ sym d.is in
     ap (λ y. replaced y (i ∷ q) x) d.is ∙ replaced_down d.op d.sort d.args i q d.arg x d.arg d.got (replaced_self q d.arg x d.there) ∙ ap Some same
 
 get_new : (ts : Trees) (i : ℕ) (a b : Tree) → slice_get (list_of ts) i ≡ Some a → slice_get (list_of (put_at ts i b)) i ≡ Some b

@@ -8,16 +8,16 @@ returns-clause-ordered c = rw (← c.self.view_is) (bounds_in_order c.self.insid
 pub loop-term-init : goal.loop-term-init
 loop-term-init c =
     rw c.in_ok-terms.ensures.items (
-      c.into_iter-term-iterator.ensures.into_iter_gives ∙ c.values-term-items.ensures.rest
-      ∙ terms_of_bounds c.self.inside.terms.entries ∙ ap (map (λ b. b.term)) c.self.view_is
+    c.into_iter-term-iterator.ensures.into_iter_gives ∙ c.values-term-items.ensures.rest
+    ∙ terms_of_bounds c.self.inside.terms.entries ∙ ap (map (λ b. b.term)) c.self.view_is
     )
 
 pub loop-term-preserved : goal.loop-term-preserved
 loop-term-preserved c =
     let made = c.loop-term.terms.items in
     rw (c.in_ok-push.ensures.items, c.in_ok-share.ensures.same) (
-      append_assoc made (c.in-Some.term.now ∷ []) c.next.new.self
-      ∙ ap (λ ts. made ++ ts) (sym c.in-Some.ensures.steps) ∙ c.loop-term.invariant
+    append_assoc made (c.in-Some.term.now ∷ []) c.next.new.self
+    ∙ ap (λ ts. made ++ ts) (sym c.in-Some.ensures.steps) ∙ c.loop-term.invariant
     )
 
 pub returns-clause-terms : goal.returns-clause-terms
