@@ -1,5 +1,5 @@
 -- How a theory lies in memory.
-use Rattle.std.specs.Prelude.{◌≡◌, ℕ, List, [], nat_eq, length, map, Vec}
+use Rattle.std.specs.Prelude.{◌≡◌, ◌≤◌, ℕ, List, [], nat_eq, length, map, Vec}
 use Rattle.std.specs.List.{AllByRecursion, list_any}
 use Rattle.std.specs.Map.{lookup}
 use Rattle.std.specs.Option.{option_map_or}
@@ -8,7 +8,7 @@ use Rattle.circ_theory.specs.declared.parts.OpDecl.{OpDecl}
 use Rattle.circ_theory.specs.declared.theories.OpKey.{OpKey}
 use Rattle.circ_theory.specs.declared.theories.Listed.{Listed}
 use Rattle.circ_theory.specs.declared.theories.Observer.{Observer}
-use Rattle.circ_theory.specs.declared.theories.Theory.TheInside.{Inside}
+use Rattle.circ_theory.specs.declared.theories.Parts.{Parts}
 use Rattle.circ_theory.specs.Form.{text_of, IsForm}
 use Rattle.circ_theory.specs.Signature.{Operator}
 use Rattle.circ_theory.specs.Theory.{Theory, declared, pair_of}
@@ -28,9 +28,10 @@ pub record IsKeyOf (k : OpKey) (o : Operator) : Type 0 where
 abbrev pub IsEntry : OpKey × OpDecl → Type 0
 IsEntry e = IsKeyOf e.0 (operator_of e.1)
 
--- what is kept with an equation: the sorts of its variables, and whether it is a rule
+-- what is kept with an equation: the sorts of its variables, no more than there are numbers, and whether it is a rule
 pub record IsListed (l : Listed) : Type 0 where
   pub sorts : l.sorts.items ≡ sorts_of (pair_of l.equation)
+  pub few : length l.sorts.items ≤ 4294967296
   pub rule : l.rule ≡ is_rule l.equation
 
 -- the number kept with a derivative is that of its parameters
@@ -41,7 +42,7 @@ IsObserver o = o.params ≡ length (parameters_in o.term)
 abbrev pub kept_under : {A B : Type 0} → List (Vec ℕ A × Vec ℕ B) → List ℕ → List ℕ
 kept_under es w = option_map_or (λ v. v.items) (lookup (λ k. pointwise nat_eq w k.items) es) []
 
-abbrev pub theory_of : Inside → Theory
+abbrev pub theory_of : Parts → Theory
 theory_of a = record {
   name = a.name;
   signature = record { sorts = map (λ k. k.items) a.sorts.keys; ops = map (λ e. operator_of e.1) a.ops.entries };
@@ -51,7 +52,7 @@ theory_of a = record {
   cases = map (λ e. case_list e.0 e.1.items) a.cases.entries;
 }
 
-pub record IsKept (a : Inside) : Type 0 where
+pub record IsKept (a : Parts) : Type 0 where
   pub well_formed : IsWellFormed (theory_of a)
   pub entries : AllByRecursion IsEntry a.ops.entries
   pub listed : AllByRecursion IsListed a.equations.items

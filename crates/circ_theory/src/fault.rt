@@ -1,41 +1,61 @@
 //! Why a part is not added to a theory.
 use std::alloc::{AllocError, AllocFailed};
+use std::fmt;
 use thiserror::Error;
 
 /// Why a part was not added. A call tests in the order of the variants, and the first that holds is the answer. Numbers of
 /// parts are counted from 0.
-#[derive(Debug, Drop, Clone, Copy, PartialEq, Eq, Error)]
+#[derive(Drop, Clone, Copy, PartialEq, Eq, Error)]
 pub enum TheoryFault {
     /// The part is there already, under this number.
-    #[error("the same as number {number}")]
     Twice { number: u32 },
     /// There is no sort of this number.
-    #[error("no sort has the number {number}")]
     UnknownSort { number: u32 },
     /// The operator of this number, or that would get it, does not fit its sorts.
-    #[error("operator {operator} does not fit its sorts")]
     IllSorted { operator: u32 },
     /// A parameter occurs twice.
-    #[error("parameter {variable} occurs twice")]
     NotLinear { variable: u32 },
     /// The hole occurs this many times, and not once.
-    #[error("the hole occurs {count} times")]
     HoleCount { count: u32 },
     /// A case list is empty.
-    #[error("no constant")]
     NoConstant,
     /// The sort is hidden, where a visible one is needed.
-    #[error("sort {sort} is not visible")]
     NotVisible { sort: u32 },
     /// The sort has a case list, so it cannot become hidden.
-    #[error("sort {sort} would become hidden")]
     NowHidden { sort: u32 },
     /// A limit is passed: by the arguments, parameters or constants that the part has, or by the parts of its kind with it.
-    #[error("a count of {count} passes the limit")]
     Limit { count: u64 },
     /// Memory ran out.
-    #[error("out of memory")]
     Memory,
+}
+
+impl TheoryFault {
+    fn text(&self) -> &'static str {
+        match self {
+            TheoryFault::Twice { .. } => "it is there already",
+            TheoryFault::UnknownSort { .. } => "there is no such sort",
+            TheoryFault::IllSorted { .. } => "an operator does not fit its sorts",
+            TheoryFault::NotLinear { .. } => "a parameter occurs twice",
+            TheoryFault::HoleCount { .. } => "the hole does not occur once",
+            TheoryFault::NoConstant => "there is no constant",
+            TheoryFault::NotVisible { .. } => "the sort is not visible",
+            TheoryFault::NowHidden { .. } => "the sort would become hidden",
+            TheoryFault::Limit { .. } => "a limit is passed",
+            TheoryFault::Memory => "out of memory",
+        }
+    }
+}
+
+impl fmt::Display for TheoryFault {
+    fn fmt<W: fmt::Write>(&self, f: &mut fmt::Formatter<W>) -> fmt::Result {
+        f.write_str(self.text())
+    }
+}
+
+impl fmt::Debug for TheoryFault {
+    fn fmt<W: fmt::Write>(&self, f: &mut fmt::Formatter<W>) -> fmt::Result {
+        f.write_str(self.text())
+    }
 }
 
 impl From<AllocError> for TheoryFault {

@@ -14,8 +14,6 @@ mod order;
 mod parts;
 mod renumber;
 mod replay;
-#[cfg(test)]
-mod tests;
 mod theories;
 
 pub use fault::TheoryFault;

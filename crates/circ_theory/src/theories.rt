@@ -1,5 +1,5 @@
 //! Theories: sorts, operators, equations, derivatives and case lists, each kind numbered from 0 in order of declaration.
-ghost use Rattle.std.specs.Prelude.{◌≡◌, ◌↔◌, ◌≤◌, ℕ, List, ◌∷◌, ◌++◌, if◌then◌else◌, [], false, ◌&&◌, is_some, map, IsTrue, IfOk, OnOk, OnErr, IfSome, nat_lt, nat_eq, not, find, length, unwrap_or};
+ghost use Rattle.std.specs.Prelude.{◌≡◌, ◌↔◌, ◌≤◌, ◌^◌, ℕ, List, ◌∷◌, ◌++◌, if◌then◌else◌, [], false, ◌&&◌, is_some, map, IsTrue, IfOk, IfErr, None, OnOk, OnErr, IfSome, nat_lt, nat_eq, not, find, length, unwrap_or};
 ghost use Rattle.std.specs.List.{slice_get, AllByRecursion, Contains};
 ghost use Rattle.std.specs.Option.{option_copied, option_map, option_map_or};
 ghost use Rattle.std.specs.Cmp.Lexicographic.{pointwise};
@@ -10,10 +10,10 @@ ghost use Rattle.circ_theory.specs.Theory.{pair_of, declared, Declared, IsWellSo
 ghost use Rattle.circ_theory.specs.Variables.{IsInOrder, sorts_of};
 ghost use Rattle.circ_theory.specs.Operators.{operator_of, is_ill_sorted, hole_count, ops_by_word};
 ghost use Rattle.circ_theory.specs.WellFormed.{IsWellFormed};
-ghost use Rattle.circ_theory.specs.Adding.{Numbers, sort_number, sort_fault, op_fault, equation_fault, var_number, old_var_fault, new_var_fault, var_fault, count_fault, unknown_sort, with_sort, with_var, with_op, with_equation, application, op_of_form};
+ghost use Rattle.circ_theory.specs.Adding.{Numbers, IsFaultOf, sort_number, sort_fault, op_fault, equation_fault, var_number, old_var_fault, new_var_fault, var_fault, count_fault, unknown_sort, with_sort, with_var, with_op, with_equation, application, op_of_form};
 ghost use Rattle.circ_theory.specs.Names.{AreDifferent, names_of};
 ghost use Rattle.circ_theory.specs.Rule.{is_rule};
-ghost use Rattle.circ_theory.specs.Observing.{AreParametersInOrder, parameters_in, first_repeated, first_or_zero, derivative_with, slots_fault, derivative_fault, with_derivative, cases_of, cases_fault, with_cases, is_hidden, is_constant, no_constants, long_fault};
+ghost use Rattle.circ_theory.specs.Observing.{AreParametersInOrder, holes_in, parameters_in, first_repeated, first_or_zero, derivative_with, slots_fault, derivative_fault, with_derivative, cases_of, cases_fault, with_cases, is_hidden, is_constant, no_constants, long_fault};
 ghost use Rattle.circ_theory.specs.Inside.{IsKeyOf, kept_under};
 
 use crate::adding::{
@@ -57,10 +57,9 @@ struct Observer {
     params: usize,
 }
 
-/// A theory, whose parts are well-sorted.
+// What a theory holds. It lies behind a pointer, so that a call which drops a theory stays short.
 #[derive(Drop)]
-pub struct Theory {
-    alloc: Global,
+struct Parts {
     name: Text,
     sorts: IndexSet<Vec<u8>>,
     vars: IndexMap<Vec<u8>, u32>,
@@ -73,6 +72,13 @@ pub struct Theory {
     hidden: IndexSet<u32>,
     // The constants of a sort that has a case list.
     cases: IndexMap<u32, Vec<u32>>,
+}
+
+/// A theory, whose parts are well-sorted.
+#[derive(Drop)]
+pub struct Theory {
+    alloc: Global,
+    parts: Box<Parts>,
 }
 
 /// Declared variables that are set aside.
@@ -110,9 +116,9 @@ impl Model for Theory {
 
     ghost use Rattle.circ_theory.specs.Inside.{theory_of, IsKept};
 
-    ghost view = { theory_of };
+    ghost view = { λ a. theory_of a.parts.value };
 
-    ghost invariant = { IsKept };
+    ghost invariant = { λ a. IsKept a.parts.value };
 }
 
 impl Theory {
@@ -120,8 +126,7 @@ impl Theory {
     pub fn new(alloc: Global, name: &[u8]) -> Result<Theory, AllocError>
         ensures { IfOk result (λ th. th ≡ record { name = name.now; signature = record { sorts = []; ops = [] }; variables = []; equations = []; derivatives = []; cases = [] }) }
     {
-        Ok(Theory {
-            alloc,
+        let parts = Parts {
             name: Text::of(alloc, name)?,
             sorts: IndexSet::new(alloc),
             vars: IndexMap::new(alloc),
@@ -131,6 +136,10 @@ impl Theory {
             derivatives: Vec::new(alloc),
             hidden: IndexSet::new(alloc),
             cases: IndexMap::new(alloc),
+        };
+        Ok(Theory {
+            alloc,
+            parts: Box::new(alloc, parts)?,
         })
     }
 
@@ -138,7 +147,7 @@ impl Theory {
     pub fn known(&self)
         ensures { IsWellFormed self.now }
     {
-        let _ = &self.name;
+        let _ = &self.parts;
     }
 
     /// Does nothing. Its contract is the law of names: no two sorts have one name, and no two variables.
@@ -164,7 +173,7 @@ impl Theory {
             return Err(fault);
         }
         let copy = Vec::from_slice(self.alloc, name)?;
-        self.sorts.insert(copy)?;
+        self.parts.sorts.insert(copy)?;
         Ok(number)
     }
 
@@ -183,7 +192,7 @@ impl Theory {
         }
         let number = self.var_count();
         let copy = Vec::from_slice(self.alloc, name)?;
-        self.vars.insert(copy, sort)?;
+        self.parts.vars.insert(copy, sort)?;
         Ok(number)
     }
 
@@ -196,19 +205,12 @@ impl Theory {
         ensures added { OnOk result (self.new ≡ with_op self.old (operator_of decl)) }
         ensures err { OnErr result (self.new ≡ self.old) }
     {
-        let key = key_of(self.alloc, &decl)?;
-        if let Some(fault) = self.op_fault(&key, &decl) {
-            return Err(fault);
-        }
         let number = self.op_count();
-        self.ops.reserve(1)?;
-        note_word(
-            self.alloc,
-            &mut self.by_word,
-            decl.form.first_word(),
-            number,
-        )?;
-        match self.ops.insert(key, decl) {
+        let key = self.new_key(&decl)?;
+        let parts = &mut *self.parts;
+        parts.ops.reserve(1)?;
+        note_word(self.alloc, &mut parts.by_word, decl.form.first_word(), number)?;
+        match parts.ops.insert(key, decl) {
             Ok(_) => Ok(number),
             Err(_) => unreachable!(),
         }
@@ -228,7 +230,7 @@ impl Theory {
         }
         let variables = pair_variables(self.alloc, &left, &right)?;
         let rule = is_rule_with(exec, &left, variables.bound);
-        self.equations.push(Listed {
+        self.parts.equations.push(Listed {
             equation: Equation { left, right, exec },
             sorts: variables.sorts,
             rule,
@@ -246,19 +248,13 @@ impl Theory {
         ensures added { OnOk result (self.new ≡ with_derivative self.old term) }
         ensures err { OnErr result (self.new ≡ self.old) }
     {
-        term.known();
-        let slots = slots_of(self.alloc, &term)?;
-        let repeated = first_repeated(self.alloc, slots.params.as_slice())?;
-        if let Some(fault) = self.derivative_fault(repeated, &slots) {
-            return Err(fault);
-        }
         let number = self.derivative_count();
-        let hole = first_or_zero(slots.holes.as_slice());
-        let params = slots.params.len();
-        self.derivatives.reserve(1)?;
-        self.hidden.insert(hole)?;
+        let (hole, params) = self.hole_and_params(&term)?;
         let observer = Observer { term, hole, params };
-        match self.derivatives.push(observer) {
+        let parts = &mut *self.parts;
+        parts.derivatives.reserve(1)?;
+        parts.hidden.insert(hole)?;
+        match parts.derivatives.push(observer) {
             Ok(()) => Ok(number),
             Err(_) => unreachable!(),
         }
@@ -276,7 +272,7 @@ impl Theory {
             return Err(fault);
         }
         let number = self.case_count();
-        self.cases.insert(sort, constants)?;
+        self.parts.cases.insert(sort, constants)?;
         Ok(number)
     }
 
@@ -287,7 +283,7 @@ impl Theory {
     {
         let empty = IndexMap::new(self.alloc);
         Vars {
-            vars: replace(&mut self.vars, empty),
+            vars: replace(&mut self.parts.vars, empty),
         }
     }
 
@@ -296,7 +292,7 @@ impl Theory {
         requires { (d : Declared) → Contains vars d → IsSort self.old.signature d.sort }
         ensures { self.new ≡ record self.old { variables = vars } }
     {
-        self.vars = vars.vars;
+        self.parts.vars = vars.vars;
     }
 
     /// The operator on these terms. None where there is no such operator, or its argument sorts are others. The terms are
@@ -358,7 +354,7 @@ impl Theory {
     pub fn name(&self) -> &[u8]
         ensures { result.now ≡ self.now.name }
     {
-        self.name.bytes()
+        self.parts.name.bytes()
     }
 
     /// The number of sorts, whose names are different.
@@ -367,14 +363,14 @@ impl Theory {
         ensures few { result ≤ MOST_SORTS }
         ensures different { AreDifferent self.now.signature.sorts }
     {
-        self.sorts.len() as u32
+        self.parts.sorts.len() as u32
     }
 
     /// The name of a sort.
     pub fn sort_name(&self, n: u32) -> Option<&[u8]>
         ensures { option_copied result ≡ slice_get self.now.signature.sorts n }
     {
-        match self.sorts.get_index(n as usize) {
+        match self.parts.sorts.get_index(n as usize) {
             Some(name) => Some(name.as_slice()),
             None => None,
         }
@@ -384,7 +380,7 @@ impl Theory {
     pub fn sort_named(&self, name: &[u8]) -> Option<u32>
         ensures { result ≡ sort_number self.now.signature name.now }
     {
-        match self.sorts.get_index_of(name) {
+        match self.parts.sorts.get_index_of(name) {
             Some(number) => Some(number as u32),
             None => None,
         }
@@ -396,14 +392,14 @@ impl Theory {
         ensures few { result ≤ MOST_VARS }
         ensures different { AreDifferent (names_of self.now.variables) }
     {
-        self.vars.len() as u32
+        self.parts.vars.len() as u32
     }
 
     /// The name and the sort of a declared variable.
     pub fn var(&self, n: u32) -> Option<(&[u8], u32)>
         ensures { option_map (λ d. declared d.0.now d.1) result ≡ slice_get self.now.variables n }
     {
-        match self.vars.get_index(n as usize) {
+        match self.parts.vars.get_index(n as usize) {
             Some((name, sort)) => Some((name.as_slice(), *sort)),
             None => None,
         }
@@ -413,7 +409,7 @@ impl Theory {
     pub fn var_named(&self, name: &[u8]) -> Option<u32>
         ensures { result ≡ var_number self.now name.now }
     {
-        match self.vars.get_index_of(name) {
+        match self.parts.vars.get_index_of(name) {
             Some(number) => Some(number as u32),
             None => None,
         }
@@ -424,14 +420,14 @@ impl Theory {
         ensures count { result ≡ length self.now.signature.ops }
         ensures few { result ≤ MOST_OPS }
     {
-        self.ops.len() as u32
+        self.parts.ops.len() as u32
     }
 
     /// The operator of a number.
     pub fn op(&self, n: u32) -> Option<&OpDecl>
         ensures { option_map (λ d. operator_of d.now) result ≡ slice_get self.now.signature.ops n }
     {
-        match self.ops.get_index(n as usize) {
+        match self.parts.ops.get_index(n as usize) {
             Some((_, decl)) => Some(decl),
             None => None,
         }
@@ -442,15 +438,16 @@ impl Theory {
         ensures count { result ≡ length self.now.equations }
         ensures few { result ≤ MOST_EQUATIONS }
     {
-        self.equations.len() as u32
+        self.parts.equations.len() as u32
     }
 
     fn listed(&self, n: u32) -> Option<&Listed>
         ensures equation { option_map (λ l. l.now.equation) result ≡ slice_get self.now.equations n }
         ensures sorts { IfSome result (λ l. l.now.sorts.items ≡ sorts_of (pair_of l.now.equation)) }
+        ensures few { IfSome result (λ l. length l.now.sorts.items ≤ 2 ^ 32) }
         ensures rule { IfSome result (λ l. l.now.rule ≡ is_rule l.now.equation) }
     {
-        self.equations.get(n as usize)
+        self.parts.equations.get(n as usize)
     }
 
     /// The equation of a number.
@@ -465,7 +462,8 @@ impl Theory {
 
     /// The sorts of an equation's variables, by the variables' numbers.
     pub fn equation_sorts(&self, n: u32) -> Option<&[u32]>
-        ensures { option_copied result ≡ option_map (λ e. sorts_of (pair_of e)) (slice_get self.now.equations n) }
+        ensures few { IfSome result (λ sorts. length sorts.now ≤ 2 ^ 32) }
+        ensures exact { option_copied result ≡ option_map (λ e. sorts_of (pair_of e)) (slice_get self.now.equations n) }
     {
         match self.listed(n) {
             Some(listed) => Some(listed.sorts.as_slice()),
@@ -489,14 +487,14 @@ impl Theory {
         ensures count { result ≡ length self.now.derivatives }
         ensures few { result ≤ MOST_DERIVATIVES }
     {
-        self.derivatives.len() as u32
+        self.parts.derivatives.len() as u32
     }
 
     fn observer(&self, n: u32) -> Option<&Observer>
         ensures derivative { option_map (λ o. derivative_with o.now.hole o.now.term) result ≡ slice_get self.now.derivatives n }
         ensures params { IfSome result (λ o. o.now.params ≡ length (parameters_in o.now.term)) }
     {
-        self.derivatives.get(n as usize)
+        self.parts.derivatives.get(n as usize)
     }
 
     /// The body of a derivative: a term in which variable 0 is the hole.
@@ -534,14 +532,14 @@ impl Theory {
         ensures exact { result ≡ is_hidden self.now sort }
         ensures hidden { IsTrue result ↔ IsHidden self.now sort }
     {
-        self.hidden.contains(&sort)
+        self.parts.hidden.contains(&sort)
     }
 
     /// The constants of a sort that has a case list.
     pub fn cases(&self, sort: u32) -> Option<&[u32]>
         ensures { option_copied result ≡ cases_of self.now sort }
     {
-        match self.cases.get(&sort) {
+        match self.parts.cases.get(&sort) {
             Some(constants) => Some(constants.as_slice()),
             None => None,
         }
@@ -551,7 +549,7 @@ impl Theory {
     pub fn ops_by_word(&self, word: &[u8]) -> &[u32]
         ensures { result.now ≡ ops_by_word self.now.signature word.now }
     {
-        match self.by_word.get(word) {
+        match self.parts.by_word.get(word) {
             Some(numbers) => numbers.as_slice(),
             None => &[],
         }
@@ -566,7 +564,7 @@ impl Theory {
             form: form.spell(self.alloc)?,
             args: Vec::from_slice(self.alloc, args)?,
         };
-        match self.ops.get_index_of(&key) {
+        match self.parts.ops.get_index_of(&key) {
             Some(number) => Ok(Some(number as u32)),
             None => Ok(None),
         }
@@ -575,7 +573,7 @@ impl Theory {
     fn case_count(&self) -> u32
         ensures { result ≡ length self.now.cases }
     {
-        self.cases.len() as u32
+        self.parts.cases.len() as u32
     }
 
     fn same_var(&self, number: u32, sort: u32) -> Result<u32, TheoryFault>
@@ -597,11 +595,24 @@ impl Theory {
         }
     }
 
+    // The key of an operator that can be added.
+    fn new_key(&self, decl: &OpDecl) -> Result<OpKey, TheoryFault>
+        ensures fault { IfErr result (λ f. IsFaultOf f (op_fault self.now (operator_of decl.now))) }
+        ensures new { IfOk result (λ _. op_fault self.now (operator_of decl.now) ≡ None) }
+        ensures key { IfOk result (λ k. IsKeyOf k (operator_of decl.now)) }
+    {
+        let key = key_of(self.alloc, decl)?;
+        match self.op_fault(&key, decl) {
+            Some(fault) => Err(fault),
+            None => Ok(key),
+        }
+    }
+
     fn op_fault(&self, key: &OpKey, decl: &OpDecl) -> Option<TheoryFault>
         requires { IsKeyOf key.now (operator_of decl.now) }
         ensures { result ≡ op_fault self.now (operator_of decl.now) }
     {
-        if let Some(number) = self.ops.get_index_of(key) {
+        if let Some(number) = self.parts.ops.get_index_of(key) {
             return Some(TheoryFault::Twice {
                 number: number as u32,
             });
@@ -619,6 +630,22 @@ impl Theory {
             });
         }
         count_fault(number, MOST_OPS)
+    }
+
+    // The sort of the hole and the number of the parameters of a term that can be added as a derivative.
+    fn hole_and_params(&self, term: &Term) -> Result<(u32, usize), TheoryFault>
+        ensures fault { IfErr result (λ f. IsFaultOf f (derivative_fault self.now term.now)) }
+        ensures new { IfOk result (λ _. derivative_fault self.now term.now ≡ None) }
+        ensures hole { IfOk result (λ r. r.0 ≡ first_or_zero (holes_in term.now)) }
+        ensures params { IfOk result (λ r. r.1 ≡ length (parameters_in term.now)) }
+    {
+        term.known();
+        let slots = slots_of(self.alloc, term)?;
+        let repeated = first_repeated(self.alloc, slots.params.as_slice())?;
+        if let Some(fault) = self.derivative_fault(repeated, &slots) {
+            return Err(fault);
+        }
+        Ok((first_or_zero(slots.holes.as_slice()), slots.params.len()))
     }
 
     fn derivative_fault(&self, repeated: Option<u32>, slots: &Slots) -> Option<TheoryFault>

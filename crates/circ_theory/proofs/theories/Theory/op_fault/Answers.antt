@@ -13,7 +13,7 @@ returns-in-Some c =
     let th = c.args.self.now in
     let o = operator_of c.args.decl.now in
     let number : Some c.in-Some.number ≡ op_number th.signature o =
-    rw (← c.self.view_is) (c.in-Some.ensures.index ∙ key_position c.args.key.now o c.self.inside.ops.entries c.requires c.self.invariant.entries) in
+    rw (← c.self.view_is) ((rw c.deref.ensures at c.in-Some.ensures.index) ∙ key_position c.args.key.now o c.self.inside.parts.value.ops.entries c.requires c.self.invariant.entries) in
     op_fault_by th o (Some c.in-Some.number) (unknown_sort th.signature o) (is_ill_sorted o) (nat_lt MOST_ARGS (length o.args)) (count_fault MOST_OPS (length th.signature.ops)) number refl refl refl refl
 
 pub returns-in-Some-unknown_sort : goal.returns-in-Some-unknown_sort
@@ -21,7 +21,7 @@ returns-in-Some-unknown_sort c =
     let th = c.args.self.now in
     let o = operator_of c.args.decl.now in
     let number : None ≡ op_number th.signature o =
-    rw (← c.self.view_is) (c.in_default.ensures.index ∙ key_position c.args.key.now o c.self.inside.ops.entries c.requires c.self.invariant.entries) in
+    rw (← c.self.view_is) ((rw c.deref.ensures at c.in_default.ensures.index) ∙ key_position c.args.key.now o c.self.inside.parts.value.ops.entries c.requires c.self.invariant.entries) in
     op_fault_by th o None (Some c.in-Some-unknown_sort.number) (is_ill_sorted o) (nat_lt MOST_ARGS (length o.args)) (count_fault MOST_OPS (length th.signature.ops)) number
     c.in-Some-unknown_sort.ensures refl refl refl
 
@@ -30,7 +30,7 @@ returns-then-is_ill_sorted c =
     let th = c.args.self.now in
     let o = operator_of c.args.decl.now in
     let number : None ≡ op_number th.signature o =
-    rw (← c.self.view_is) (c.in_default.ensures.index ∙ key_position c.args.key.now o c.self.inside.ops.entries c.requires c.self.invariant.entries) in
+    rw (← c.self.view_is) ((rw c.deref.ensures at c.in_default.ensures.index) ∙ key_position c.args.key.now o c.self.inside.parts.value.ops.entries c.requires c.self.invariant.entries) in
     ap (λ n. Some (IllSorted n)) c.op_count-number.ensures.count
     ∙ op_fault_by th o None None true (nat_lt MOST_ARGS (length o.args)) (count_fault MOST_OPS (length th.signature.ops)) number c.in_default-unknown_sort.ensures c.if-is_ill_sorted.ensures refl refl
 
@@ -39,7 +39,7 @@ returns-then-len-gt-MOST_ARGS c =
     let th = c.args.self.now in
     let o = operator_of c.args.decl.now in
     let number : None ≡ op_number th.signature o =
-    rw (← c.self.view_is) (c.in_default.ensures.index ∙ key_position c.args.key.now o c.self.inside.ops.entries c.requires c.self.invariant.entries) in
+    rw (← c.self.view_is) ((rw c.deref.ensures at c.in_default.ensures.index) ∙ key_position c.args.key.now o c.self.inside.parts.value.ops.entries c.requires c.self.invariant.entries) in
     let long : c.len-then-len-gt-MOST_ARGS.result ≡ length o.args = omega arith in
     let test : true ≡ nat_lt MOST_ARGS (length o.args) = grind (arith, common_steps) in
     ap (λ n. Some (Limit n)) long
@@ -50,7 +50,7 @@ returns c =
     let th = c.args.self.now in
     let o = operator_of c.args.decl.now in
     let number : None ≡ op_number th.signature o =
-    rw (← c.self.view_is) (c.in_default.ensures.index ∙ key_position c.args.key.now o c.self.inside.ops.entries c.requires c.self.invariant.entries) in
+    rw (← c.self.view_is) ((rw c.deref.ensures at c.in_default.ensures.index) ∙ key_position c.args.key.now o c.self.inside.parts.value.ops.entries c.requires c.self.invariant.entries) in
     let test : false ≡ nat_lt MOST_ARGS (length o.args) = grind (arith, common_steps) in
     op_fault_by th o None None false false c.count_fault.result number c.in_default-unknown_sort.ensures c.if-is_ill_sorted.ensures test
     (c.count_fault.ensures ∙ ap (count_fault MOST_OPS) c.op_count-number.ensures.count)

@@ -13,14 +13,14 @@ pub returns-in-Some : goal.returns-in-Some
 returns-in-Some c =
     let k : OpKey = record { form = c.in_ok-spell.field-0; args = c.in_ok-from_slice.field-0 } in
     rw (← c.self.view_is)
-    (c.in-Some.ensures.index
-    ∙ key_position k (asked c.args.form.now c.args.args.now) c.self.inside.ops.entries
+    ((rw c.deref.ensures at c.in-Some.ensures.index)
+    ∙ key_position k (asked c.args.form.now c.args.args.now) c.self.inside.parts.value.ops.entries
     (record { form = c.in_ok-spell.ensures; is_form = c.known.ensures; args = c.in_ok-from_slice.ensures.items }) c.self.invariant.entries)
 
 pub returns : goal.returns
 returns c =
     let k : OpKey = record { form = c.in_ok-spell.field-0; args = c.in_ok-from_slice.field-0 } in
     rw (← c.self.view_is)
-    (c.in-None.ensures.index
-    ∙ key_position k (asked c.args.form.now c.args.args.now) c.self.inside.ops.entries
+    ((rw c.deref.ensures at c.in-None.ensures.index)
+    ∙ key_position k (asked c.args.form.now c.args.args.now) c.self.inside.parts.value.ops.entries
     (record { form = c.in_ok-spell.ensures; is_form = c.known.ensures; args = c.in_ok-from_slice.ensures.items }) c.self.invariant.entries)
