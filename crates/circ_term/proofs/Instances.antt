@@ -1,5 +1,5 @@
 -- Laws of instances.
-use Rattle.std.proofs.Common.{◌≡◌, ℕ, true, List, length, suc, refl, ap, ◌∙◌}
+use Rattle.std.proofs.Common.{◌≡◌, ℕ, true, length, suc, refl, ap, ◌∙◌}
 use Rattle.std.proofs.lemmas.Bool.{and_parts}
 use Rattle.circ_term.specs.Tree.{Tree, Trees, Var, App, none, more, is_ground, are_ground, list_of, sort_of}
 use Rattle.circ_term.specs.Substitution.{Substitution, KeepsSorts, instance, instances, composed}
@@ -12,7 +12,9 @@ mutual
 
   pub instances-instances : (τ σ : Substitution) (ts : Trees) → instances τ (instances σ ts) ≡ instances (composed τ σ) ts
   instances-instances τ σ none = refl
-  instances-instances τ σ (more t ts) = ap (λ x. more x (instances τ (instances σ ts))) (instance-instance τ σ t) ∙ ap (more (instance (composed τ σ) t)) (instances-instances τ σ ts)
+  instances-instances τ σ (more t ts) =
+      ap (λ x. more x (instances τ (instances σ ts))) (instance-instance τ σ t)
+      ∙ ap (more (instance (composed τ σ) t)) (instances-instances τ σ ts)
 
 -- a term without a variable is its own instance
 mutual

@@ -5,8 +5,7 @@ use Rattle.std.specs.List.{slice_get}
 use Rattle.std.proofs.lemmas.Option.{same_Some}
 use Rattle.std.proofs.lemmas.Grind.{common_steps}
 use Rattle.circ_term.specs.Tree.{Tree, Trees, Var, App, none, more, size_of, sizes_of, depth_of, depths_of, list_of, trees_of, args_of, at, replaced}
-use Rattle.circ_term.specs.Limits.{Limit, limit_at, or_else, first_limit, first_limits, IsWithinLimits}
-use Rattle.circ_term.specs.declared.TheConstants.{MOST_NODES, MOST_DEPTH}
+use Rattle.circ_term.specs.Limits.{node_limit, depth_limit, Limit, limit_at, or_else, first_limit, first_limits, IsWithinLimits}
 use Rattle.circ_term.proofs.Paths.{walk_none}
 
 pub or_else_none : (a b : Option Limit) → a ≡ None → b ≡ None → or_else a b ≡ None
@@ -16,28 +15,28 @@ pub or_else_parts : (a b : Option Limit) → or_else a b ≡ None → (a ≡ Non
 or_else_parts (Some l) b e = cc
 or_else_parts None b e = (refl, e)
 
-pub limit_at_none : (m d : ℕ) → m ≤ MOST_NODES → d ≤ MOST_DEPTH → limit_at m d ≡ None
+pub limit_at_none : (m d : ℕ) → m ≤ node_limit → d ≤ depth_limit → limit_at m d ≡ None
 limit_at_none m d small shallow = grind (arith, common_steps)
 
 -- a term that is small and shallow enough has no node that passes a limit
 mutual
-  pub first_limit_none : (t : Tree) → size_of t ≤ MOST_NODES → depth_of t ≤ MOST_DEPTH → IsWithinLimits t
+  pub first_limit_none : (t : Tree) → size_of t ≤ node_limit → depth_of t ≤ depth_limit → IsWithinLimits t
   first_limit_none (Var n s) small shallow = refl
   first_limit_none (App f s ts) small shallow =
       or_else_none _ _
       (first_limits_none ts (omega arith) (omega arith))
       (limit_at_none (sizes_of ts + 1) (depths_of ts + 1) (omega arith) (omega arith))
 
-  pub first_limits_none : (ts : Trees) → sizes_of ts ≤ MOST_NODES → depths_of ts ≤ MOST_DEPTH → first_limits ts ≡ None
+  pub first_limits_none : (ts : Trees) → sizes_of ts ≤ node_limit → depths_of ts ≤ depth_limit → first_limits ts ≡ None
   first_limits_none none small shallow = refl
   first_limits_none (more t ts) small shallow =
       or_else_none _ _ (first_limit_none t (omega arith) (omega arith)) (first_limits_none ts (omega arith) (omega arith))
 
-limit_at_within : (m d : ℕ) → limit_at m d ≡ None → (m ≤ MOST_NODES) × (d ≤ MOST_DEPTH)
+limit_at_within : (m d : ℕ) → limit_at m d ≡ None → (m ≤ node_limit) × (d ≤ depth_limit)
 limit_at_within m d e = grind (arith, common_steps)
 
 -- and a term within the limits is small and shallow
-pub within_limits : (t : Tree) → IsWithinLimits t → (size_of t ≤ MOST_NODES) × (depth_of t ≤ MOST_DEPTH)
+pub within_limits : (t : Tree) → IsWithinLimits t → (size_of t ≤ node_limit) × (depth_of t ≤ depth_limit)
 within_limits (Var n s) w = (omega arith, omega arith)
 within_limits (App f s ts) w = limit_at_within (sizes_of ts + 1) (depths_of ts + 1) (or_else_parts (first_limits ts) _ w).1
 
@@ -60,7 +59,8 @@ at_within (i ∷ p) t a e w = down (λ x. at_within p x a) (slice_get (args_of t
     down ih None g = absurd (let off = walk_none p in let z = rw g at e in cc)
     down ih (Some x) g = ih x (rw g at e) (arg_within t i x g w)
 
-item_set_within : (ts : Trees) (i : ℕ) (a y : Tree) → slice_get (list_of ts) i ≡ Some a → first_limits (trees_of (slice_set (list_of ts) i y)) ≡ None → IsWithinLimits y
+item_set_within : (ts : Trees) (i : ℕ) (a y : Tree) → slice_get (list_of ts) i ≡ Some a → first_limits (trees_of (slice_set (list_of ts) i y)) ≡ None
+    → IsWithinLimits y
 item_set_within none i a y g w = absurd (cc)
 item_set_within (more t ts) zero a y g w = (or_else_parts (first_limit y) _ w).0
 item_set_within (more t ts) (suc i) a y g w = item_set_within ts i a y g (or_else_parts (first_limit t) _ w).1

@@ -25,7 +25,8 @@ or_else_nothing (Some l) = refl
 or_else_nothing None = refl
 
 -- where no argument passes a limit, the first to pass one is the argument that is put in
-first_limits-set : (ts : Trees) (i : ℕ) (u : Tree) → i < length (list_of ts) → first_limits ts ≡ None → first_limits (trees_of (set (list_of ts) i u)) ≡ first_limit u
+first_limits-set : (ts : Trees) (i : ℕ) (u : Tree) → i < length (list_of ts) → first_limits ts ≡ None
+    → first_limits (trees_of (set (list_of ts) i u)) ≡ first_limit u
 first_limits-set none i u h w = absurd (omega arith)
 first_limits-set (more t ts) zero u h w = rw (trees_of-list_of ts, (or_else_parts (first_limit t) _ w).1) (or_else_nothing (first_limit u))
 first_limits-set (more t ts) (suc i) u h w =

@@ -1,9 +1,20 @@
 -- The limits of a term, and the node that passes one first, in post-order.
 use Rattle.std.specs.Prelude.{◌≡◌, ℕ, ◌+◌, nat_lt, if◌then◌else◌, Option, Some, None, Result, Ok, Err}
 use Rattle.circ_term.specs.Tree.{Tree, Trees, Var, App, none, more, sizes_of, depths_of}
-use Rattle.circ_term.specs.declared.TheConstants.{MOST_NODES, MOST_DEPTH}
 use Rattle.circ_term.specs.declared.fault.TermFault.{TermFault}
 use Rattle.circ_term.specs.declared.fault.TermFault.TheVariants.{TooBig, TooDeep, Memory}
+
+-- the most nodes of a term, counted as a tree
+abbrev pub node_limit : ℕ
+node_limit = 1000000
+
+-- the greatest depth of a term
+abbrev pub depth_limit : ℕ
+depth_limit = 1000
+
+-- the most arguments of an application
+abbrev pub argument_limit : ℕ
+argument_limit = 65536
 
 -- a limit that a node passes, with the node's number of nodes or its depth
 pub data Limit : Type 0 where
@@ -12,7 +23,7 @@ pub data Limit : Type 0 where
 
 abbrev pub limit_at : (size depth : ℕ) → Option Limit
 limit_at size depth =
-    if nat_lt MOST_NODES size then Some (Big size) else if nat_lt MOST_DEPTH depth then Some (Deep depth) else None
+    if nat_lt node_limit size then Some (Big size) else if nat_lt depth_limit depth then Some (Deep depth) else None
 
 abbrev pub or_else : Option Limit → Option Limit → Option Limit
 or_else (Some l) o = Some l

@@ -1,5 +1,6 @@
 -- The order of terms.
-use Rattle.std.specs.Ordering.{nat_cmp, ordering_then}
+use Rattle.std.specs.Prelude.{◌≡◌, ◌↔◌, Bool}
+use Rattle.std.specs.Ordering.{nat_cmp, ordering_then, is_eq, is_lt}
 use Rattle.std.proofs.Common.{Ordering, Less, Equal, Greater}
 use Rattle.circ_term.specs.Tree.{Tree, Trees, Var, App, none, more}
 
@@ -18,3 +19,15 @@ abbrev mutual
   trees_cmp none (more u us) = Less
   trees_cmp (more t ts) none = Greater
   trees_cmp (more t ts) (more u us) = ordering_then (tree_cmp t u) (trees_cmp ts us)
+
+-- whether both are the same term
+abbrev pub is_same : Tree → Tree → Bool
+is_same s t = is_eq (tree_cmp s t)
+
+-- whether the first comes before the second
+abbrev pub comes_before : Tree → Tree → Bool
+comes_before s t = is_lt (tree_cmp s t)
+
+-- a term is equal to itself alone
+abbrev pub EqualIsSame : Type 0
+EqualIsSame = (s t : Tree) → (tree_cmp s t ≡ Equal) ↔ (s ≡ t)

@@ -1,5 +1,7 @@
 -- A `Subst` as contracts see it: a list of bound variables of which the first counts.
 use Rattle.std.specs.Prelude.{◌≡◌, ℕ, List, [], ◌∷◌, ◌==◌, ◌&&◌, if◌then◌else◌, Option, Some, None, Result, Ok, Err, unwrap_or, refl}
+use Rattle.std.specs.Ordering.{nat_cmp, ordering_then}
+use Rattle.std.proofs.Common.{Ordering}
 use Rattle.std.specs.Coded.{Coded, code_by, coded×, coded_ℕ, coded_list}
 use Rattle.circ_term.specs.Tree.{Tree, Trees, Var, list_of}
 use Rattle.circ_term.specs.Code.{tree_code}
@@ -14,10 +16,17 @@ pub record Bound : Type 0 where
 
 abbrev pub bound_code : Coded Bound
 bound_code =
-    code_by (ℕ × (ℕ × Tree)) (coded× coded_ℕ (coded× coded_ℕ tree_code)) (λ b. (b.number, (b.sort, b.term))) (λ p. record { number = p.0; sort = p.1.0; term = p.1.1 }) (λ _. refl)
+    code_by (ℕ × (ℕ × Tree)) (coded× coded_ℕ (coded× coded_ℕ tree_code))
+    (λ b. (b.number, (b.sort, b.term)))
+    (λ p. record { number = p.0; sort = p.1.0; term = p.1.1 })
+    (λ _. refl)
 
 abbrev pub bounds_code : Coded (List Bound)
 bounds_code = coded_list bound_code
+
+-- by number, then sort
+abbrev pub bound_cmp : Bound → Bound → Ordering
+bound_cmp b c = ordering_then (nat_cmp b.number c.number) (nat_cmp b.sort c.sort)
 
 -- the term that a variable is bound to
 abbrev pub found : List Bound → ℕ → ℕ → Option Tree

@@ -1,11 +1,12 @@
 //! Substitutions: terms for variables.
-ghost use Rattle.std.specs.Prelude.{◌≡◌, ◌↔◌, [], IsTrue, IfOk, OnErr, unwrap_or};
+ghost use Rattle.std.specs.Prelude.{◌≡◌, ◌↔◌, [], IsTrue, IfOk, OnOk, OnErr, map, unwrap_or};
+ghost use Rattle.std.specs.List.Sorted.{IsStrictlySortedBy};
 ghost use Rattle.std.specs.Bool.{OnTrue, OnFalse};
 ghost use Rattle.std.specs.Option.{option_copied};
 ghost use Rattle.circ_term.specs.Tree.{sort_of, trees_of};
 ghost use Rattle.circ_term.specs.Limits.{Builds};
 ghost use Rattle.circ_term.specs.Substitution.{KeepsSorts, instance, instances};
-ghost use Rattle.circ_term.specs.Subst.{found, substitution_of, Binds, BuildsAll};
+ghost use Rattle.circ_term.specs.Subst.{bound_cmp, found, substitution_of, Binds, BuildsAll};
 
 use crate::fault::TermFault;
 use crate::node::{Kind, Term};
@@ -19,8 +20,8 @@ struct Variable {
     sort: u32,
 }
 
-/// A substitution: finitely many variables, each bound to a term of its sort. It acts at all places at once, and a
-/// variable that is not bound stays.
+/// A substitution: finitely many variables, each bound to a term of its sort. It acts at all places
+/// at once, and a variable that is not bound stays.
 #[derive(Drop)]
 pub struct Subst {
     alloc: Global,
@@ -68,10 +69,23 @@ impl Subst {
         self.terms.get(&Variable { number: id, sort })
     }
 
+    /// The bound terms, in the increasing order of their variables by number, then sort.
+    pub fn terms(&self) -> Result<Vec<Term>, AllocError>
+        ensures terms { IfOk result (λ v. v.items ≡ map (λ b. b.term) self.now) }
+        ensures ordered { OnOk result (IsStrictlySortedBy bound_cmp self.now) }
+    {
+        let mut terms = Vec::with_capacity(self.alloc, self.terms.len())?;
+        for term in self.terms.values() {
+            terms.push(term.share()?)?;
+        }
+        Ok(terms)
+    }
+
     /// Binds a variable. False where it is bound to another term already.
     pub fn bind(&mut self, id: u32, sort: u32, term: &Term) -> Result<bool, AllocError>
         requires { sort_of term.now ≡ sort }
-        ensures agrees { IfOk result (λ b. IsTrue b ↔ (unwrap_or (found self.old id sort) term.now ≡ term.now)) }
+        ensures agrees { IfOk result (λ b.
+            IsTrue b ↔ (unwrap_or (found self.old id sort) term.now ≡ term.now)) }
         ensures bound { IfOk result (λ b. OnTrue b (Binds self.old self.new id sort term.now)) }
         ensures refused { IfOk result (λ b. OnFalse b (self.new ≡ self.old)) }
         ensures err { OnErr result (self.new ≡ self.old) }
@@ -106,7 +120,8 @@ impl Subst {
 
     #[cycle(apply)]
     fn apply_all(&self, terms: &[Term]) -> Result<Vec<Term>, TermFault>
-        ensures { BuildsAll (λ v. v.items) result (instances (substitution_of self.now) (trees_of terms.now)) }
+        ensures { BuildsAll (λ v. v.items) result
+            (instances (substitution_of self.now) (trees_of terms.now)) }
     {
         let mut made = Vec::with_capacity(self.alloc, terms.len())?;
         for term in terms {
@@ -121,7 +136,8 @@ impl Subst {
     /// Whether the instance of the pattern is the term. Builds nothing.
     #[cycle(gives)]
     pub fn gives(&self, pattern: &Term, term: &Term) -> bool
-        ensures { IsTrue result ↔ (instance (substitution_of self.now) pattern.now ≡ term.now) }
+        ensures { IsTrue result
+            ↔ (instance (substitution_of self.now) pattern.now ≡ term.now) }
     {
         if pattern.is_ground() {
             return pattern.same(term);
@@ -150,7 +166,8 @@ impl Subst {
 
     #[cycle(gives)]
     fn gives_all(&self, patterns: &[Term], terms: &[Term]) -> bool
-        ensures { IsTrue result ↔ (instances (substitution_of self.now) (trees_of patterns.now) ≡ trees_of terms.now) }
+        ensures { IsTrue result
+            ↔ (instances (substitution_of self.now) (trees_of patterns.now) ≡ trees_of terms.now) }
     {
         if patterns.len() != terms.len() {
             return false;

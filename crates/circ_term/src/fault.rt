@@ -2,18 +2,16 @@
 use std::alloc::{AllocError, AllocFailed};
 use thiserror::Error;
 
-/// Why no term was built. A limit is reported at the first application that passes one, arguments first, from the left;
-/// where one application passes both limits, its number of nodes is reported.
+/// Why no term was built. A limit is reported at the first application that passes one, arguments
+/// first, from the left; where one application passes both limits, its number of nodes is reported.
 #[derive(Debug, Drop, Clone, Copy, PartialEq, Eq, Error)]
+#[error("the term is not built")]
 pub enum TermFault {
     /// An application would have this many nodes, counted as a tree.
-    #[error("a term of {nodes} nodes is too big")]
     TooBig { nodes: u64 },
     /// An application would have this depth.
-    #[error("a term of depth {depth} is too deep")]
     TooDeep { depth: u64 },
     /// Memory ran out.
-    #[error("out of memory")]
     Memory,
 }
 

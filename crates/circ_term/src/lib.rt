@@ -1,12 +1,14 @@
 //! Terms of many-sorted algebra, and substitutions.
 //!
-//! A [`Term`] is a variable or an operator on terms. Its nodes are shared: [`Term::share`] copies none, and
-//! [`Term::replace`] and [`Subst::apply`] make the changed ones only. Contracts see a term as the plain tree that it
-//! stands for. A term is never larger or deeper than the limits below.
+//! A [`Term`] is a variable or an operator on terms. Its nodes are shared: [`Term::share`] copies
+//! none, and [`Term::replace`] and [`Subst::apply`] make the changed ones only. Contracts see a
+//! term as the plain tree that it stands for. A term is never larger or deeper than the limits
+//! below.
 #![tactic(auto)]
 
 mod bindings;
 mod fault;
+pub mod laws;
 mod node;
 
 pub use bindings::Subst;

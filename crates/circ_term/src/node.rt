@@ -2,7 +2,9 @@
 ghost use Rattle.std.specs.Prelude.{◌≡◌, ◌≤◌, ◌<◌, ◌↔◌, IsTrue, length, slice_set, IfOk};
 ghost use Rattle.std.specs.List.{slice_get};
 ghost use Rattle.std.specs.Option.{option_copied};
-ghost use Rattle.circ_term.specs.Tree.{at, replaced, Var, App, trees_of, size_of, depth_of, sort_of, variable_number, operator_number, args_of, is_ground};
+ghost use Rattle.circ_term.specs.Tree.{Var, App, trees_of, args_of, at, replaced};
+ghost use Rattle.circ_term.specs.Tree.{size_of, depth_of, sort_of, is_ground};
+ghost use Rattle.circ_term.specs.Tree.{variable_number, operator_number};
 ghost use Rattle.circ_term.specs.Kind.{tree_of_kind};
 ghost use Rattle.circ_term.specs.Order.{tree_cmp, trees_cmp};
 ghost use Rattle.circ_term.specs.Limits.{Builds, BuildsSome, IsWithinLimits};
@@ -28,7 +30,8 @@ enum Shape {
     Application(Rc<Node>),
 }
 
-// An application, with its size, its depth and whether it has no variable, so that nothing is counted twice.
+// An application, with its size, its depth and whether it has no variable, so that nothing is
+// counted twice.
 #[cycle(term)]
 #[derive(Drop)]
 struct Node {
@@ -87,7 +90,8 @@ impl Term {
         }
     }
 
-    /// The operator on these arguments, which are given up on a refusal. Costs as much as there are arguments.
+    /// The operator on these arguments, which are given up on a refusal. Costs as much as there are
+    /// arguments.
     pub fn app(alloc: Global, op: u32, sort: u32, args: Vec<Term>) -> Result<Term, TermFault>
         requires { length args.items ≤ MOST_ARGS }
         ensures { Builds result (App op sort (trees_of args.items)) }
@@ -280,8 +284,9 @@ impl Term {
         }
     }
 
-    /// How the term stands to another: variables come before applications, variables go by number, then by sort, and
-    /// applications by operator, then by arguments from the left, a shorter list first, then by sort.
+    /// How the term stands to another: variables come before applications, variables go by number,
+    /// then by sort, and applications by operator, then by arguments from the left, a shorter list
+    /// first, then by sort.
     #[cycle(cmp)]
     pub fn cmp(&self, other: &Term) -> Ordering
         ensures { result ≡ tree_cmp self.now other.now }
@@ -310,8 +315,8 @@ impl Term {
         }
     }
 
-    /// The term with `new` at the path in place of the subterm there. The term itself stays as it is. Only the nodes on
-    /// the path are made anew.
+    /// The term with `new` at the path in place of the subterm there. The term itself stays as it
+    /// is. Only the nodes on the path are made anew.
     #[tactic(auto, using(crate::proofs::Within::rows))]
     pub fn replace(
         &self,
@@ -370,7 +375,8 @@ fn same_all(a: &[Term], b: &[Term]) -> bool
     true
 }
 
-/// How a list of terms stands to another: the first place where they differ decides, and a list comes before its continuations.
+/// How a list of terms stands to another: the first place where they differ decides, and a list
+/// comes before its continuations.
 #[cycle(cmp)]
 pub fn cmp_all(a: &[Term], b: &[Term]) -> Ordering
     ensures { result ≡ trees_cmp (trees_of a.now) (trees_of b.now) }

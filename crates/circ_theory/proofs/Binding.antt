@@ -11,7 +11,8 @@ pub bound_same : (σ τ : List Bound) (i s : ℕ) (t : Tree) (rest whole : Subst
     → (n k : ℕ) → unwrap_or (found τ n k) (rest n k) ≡ whole n k
 bound_same σ τ i s t rest whole b fresh h n k = go (h n k) (b n k) ((i == n) && (s == k)) refl
   where
-    go : unwrap_or (found σ n k) (if (i == n) && (s == k) then t else rest n k) ≡ whole n k → found τ n k ≡ (if (i == n) && (s == k) then Some t else found σ n k)
+    go : unwrap_or (found σ n k) (if (i == n) && (s == k) then t else rest n k) ≡ whole n k
+        → found τ n k ≡ (if (i == n) && (s == k) then Some t else found σ n k)
         → (v : Bool) → ((i == n) && (s == k)) ≡ v → unwrap_or (found τ n k) (rest n k) ≡ whole n k
     go old new true e =
         let here = eqb-true i n (and_parts (i == n) (s == k) e).0 in

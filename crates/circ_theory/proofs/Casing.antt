@@ -1,5 +1,6 @@
 -- Case lists and hidden sorts.
-use Rattle.std.proofs.Common.{◌≡◌, ◌↔◌, ◌≤◌, ◌<◌, ℕ, zero, suc, Bool, true, false, ◌==◌, ◌||◌, nat_eq, IsTrue, List, [], ◌∷◌, map, find, length, refl, ap, sym, ◌∙◌, arith}
+use Rattle.std.proofs.Common.{◌≡◌, ◌↔◌, ◌≤◌, ◌<◌, ℕ, zero, suc, Bool, true, false, ◌==◌, ◌||◌, nat_eq, IsTrue, List, [], ◌∷◌, map, find, length, refl}
+use Rattle.std.proofs.Common.{ap, sym, ◌∙◌, arith}
 use Rattle.std.specs.List.{list_any, Contains}
 use Rattle.std.specs.Map.{lookup}
 use Rattle.std.specs.Option.{option_map}
@@ -38,7 +39,8 @@ pub cases_found : {V : Type 0} (items : V → List ℕ) (es : List (ℕ × V)) (
 cases_found items [] s = refl
 cases_found items (e ∷ es) s = go (cases_found items es s) (s == e.0) refl
   where
-    go : option_map items (lookup (nat_eq s) es) ≡ option_map (λ l. l.constants) (find (λ l. s == l.sort) (map (λ e. case_list e.0 (items e.1)) es)) → (b : Bool) → (s == e.0) ≡ b
+    go : option_map items (lookup (nat_eq s) es) ≡ option_map (λ l. l.constants) (find (λ l. s == l.sort) (map (λ e. case_list e.0 (items e.1)) es))
+        → (b : Bool) → (s == e.0) ≡ b
         → option_map items (lookup (nat_eq s) (e ∷ es)) ≡ option_map (λ l. l.constants) (find (λ l. s == l.sort) (map (λ e. case_list e.0 (items e.1)) (e ∷ es)))
     go ih true f = rw f refl
     go ih false f = rw f ih

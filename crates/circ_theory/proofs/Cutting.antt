@@ -1,12 +1,14 @@
 -- A form's text, cut piece by piece from the left.
-use Rattle.std.proofs.Common.{◌≡◌, ◌<◌, ◌≤◌, nat_lt, unwrap_or, Some, None, ℕ, suc, Bool, true, false, ◌||◌, not, List, [], ◌∷◌, ◌++◌, length, get_or, take, drop, if◌then◌else◌, refl, ap, sym, ◌∙◌, arith}
+use Rattle.std.proofs.Common.{◌≡◌, ◌<◌, ◌≤◌, nat_lt, unwrap_or, Some, None, ℕ, suc, Bool, true, false, ◌||◌, not, List, [], ◌∷◌, ◌++◌, length, get_or}
+use Rattle.std.proofs.Common.{take, drop, if◌then◌else◌, refl, ap, sym, ◌∙◌, arith}
 use Rattle.std.specs.List.{list_any, position_or_len, position}
 use Rattle.std.proofs.lemmas.List.Sums.{prefix_len-le-length}
 use Rattle.std.proofs.lemmas.Grind.{common_steps}
 use Rattle.std.proofs.lemmas.Bool.{eqb-true}
 use Rattle.circ_theory.specs.declared.forms.Piece.{Piece}
 use Rattle.circ_theory.specs.declared.forms.Piece.TheVariants.{Hole, Word}
-use Rattle.circ_theory.specs.Form.{is_hole, is_bracket, is_special, starts_with_bracket, before, pieces_of, text_of, piece_of, is_word, is_bad_piece, form_fault}
+use Rattle.circ_theory.specs.Form.{is_hole, is_bracket, is_special, starts_with_bracket, before, pieces_of, text_of, piece_of, is_word, is_bad_piece}
+use Rattle.circ_theory.specs.Form.{form_fault}
 
 text_of-before : (b : ℕ) (ps : List Piece) → text_of (before b ps) ≡ b ∷ text_of ps
 text_of-before b [] = refl
@@ -57,7 +59,8 @@ cut_word b (c ∷ cs) h = go (λ e. cut_word c cs e) (is_hole c) refl (is_bracke
 position_end : {X : Type 0} (p : X → Bool) (xs : List X) → unwrap_or (position p xs) (length xs) ≡ position_or_len p xs
 position_end p xs = go (nat_lt (position_or_len p xs) (length xs)) refl
   where
-    go : (b : Bool) → nat_lt (position_or_len p xs) (length xs) ≡ b → unwrap_or (if b then Some (position_or_len p xs) else None) (length xs) ≡ position_or_len p xs
+    go : (b : Bool) → nat_lt (position_or_len p xs) (length xs) ≡ b
+        → unwrap_or (if b then Some (position_or_len p xs) else None) (length xs) ≡ position_or_len p xs
     go true e = refl
     go false e = let most = prefix_len-le-length (λ x. not (p x)) xs in let least : length xs ≤ position_or_len p xs = grind (arith, common_steps) in omega arith
 
@@ -72,5 +75,6 @@ cut_first (b ∷ bs) n h s e =
     ∙ ap (λ m. piece_of (take m (b ∷ bs)) ∷ pieces_of (drop m (b ∷ bs))) (sym (e ∙ stop))
 
 -- a text with a word and no bad word has no fault
-pub no_fault : (t : List ℕ) (a b : Bool) → a ≡ list_any is_word (pieces_of t) → a ≡ true → b ≡ list_any is_bad_piece (pieces_of t) → b ≡ false → form_fault t ≡ None
+pub no_fault : (t : List ℕ) (a b : Bool) → a ≡ list_any is_word (pieces_of t) → a ≡ true → b ≡ list_any is_bad_piece (pieces_of t) → b ≡ false
+    → form_fault t ≡ None
 no_fault t a b word there bad absent = rw (sym word ∙ there, sym bad ∙ absent) refl

@@ -1,5 +1,6 @@
 -- The variables of derivatives.
-use Rattle.std.proofs.Common.{◌≡◌, ℕ, ◌+◌, Bool, true, false, ◌==◌, ◌||◌, nat_eq, if◌then◌else◌, List, [], ◌∷◌, ◌++◌, map, drop, Some, Option, refl, ap, sym, ◌∙◌, append_assoc}
+use Rattle.std.proofs.Common.{◌≡◌, ℕ, ◌+◌, Bool, true, false, ◌==◌, ◌||◌, nat_eq, if◌then◌else◌, List, [], ◌∷◌, ◌++◌, map, drop, Some, Option, refl}
+use Rattle.std.proofs.Common.{ap, sym, ◌∙◌, append_assoc}
 use Rattle.std.specs.List.{list_any, filter}
 use Rattle.std.proofs.lemmas.List.{map-append}
 use Rattle.std.proofs.lemmas.List.Elements.{filter-append}
@@ -31,7 +32,8 @@ read_more f all more_is terms i t mid new whole read made before =
 pub any_inserted : (ks : List ℕ) (n m : ℕ) → list_any (nat_eq m) (insert_key nat_eq ks n) ≡ ((m == n) || list_any (nat_eq m) ks)
 any_inserted ks n m = go (list_any (nat_eq n) ks) refl (m == n) refl
   where
-    go : (b : Bool) → list_any (nat_eq n) ks ≡ b → (e : Bool) → (m == n) ≡ e → list_any (nat_eq m) (if b then ks else ks ++ n ∷ []) ≡ (e || list_any (nat_eq m) ks)
+    go : (b : Bool) → list_any (nat_eq n) ks ≡ b → (e : Bool) → (m == n) ≡ e
+        → list_any (nat_eq m) (if b then ks else ks ++ n ∷ []) ≡ (e || list_any (nat_eq m) ks)
     go true h true e = ap (λ k. list_any (nat_eq k) ks) (eqb-true m n e) ∙ h
     go true h false e = refl
     go false h true e = list_any-append (nat_eq m) ks (n ∷ []) ∙ rw e (or_true (list_any (nat_eq m) ks))

@@ -11,7 +11,7 @@ use Rattle.circ_term.specs.Substitution.{Substitution, instance}
 use Rattle.circ_theory.specs.declared.renumber.Occurring.{Occurring}
 use Rattle.circ_theory.specs.Variables.{Variable, is_variable, seen, seen_in, variables_of}
 use Rattle.circ_theory.proofs.Numbering.{length-seen_in}
-use Rattle.circ_theory.specs.Theory.{pair_with}
+use Rattle.circ_theory.specs.Theory.{Pair, pair_with, instance_pair}
 use Rattle.circ_theory.specs.Renumbering.{renumbering, renumbered, Renumbers}
 use Rattle.circ_theory.specs.Occurring.{variable_of}
 use Rattle.circ_theory.proofs.Lists.{list_any-map}
@@ -33,14 +33,13 @@ few_variables s t ks a b e =
     omega (arith, length-map ks variable_of, ap length e, length-seen_in t (seen_in s []), length-seen_in s [], (within_limits s a).0, (within_limits t b).0)
 
 -- the variables of the first term, then of the second
-pub both_seen : (s t : Tree) (new first both shown : List Occurring) → new ≡ [] → map variable_of first ≡ seen_in s (map variable_of new)
-    → map variable_of both ≡ seen_in t (map variable_of first) → shown ≡ both → map variable_of shown ≡ seen_in t (seen_in s [])
-both_seen s t new first both shown a b c d = ap (map variable_of) d ∙ c ∙ ap (seen_in t) (b ∙ ap (λ ks. seen_in s (map variable_of ks)) a)
+pub both_seen : (s t : Tree) (new both shown : List Occurring) → new ≡ [] → map variable_of both ≡ seen_in t (seen_in s (map variable_of new)) → shown ≡ both
+    → map variable_of shown ≡ variables_of (pair_with s t)
+both_seen s t new both shown a b c = ap (map variable_of) c ∙ b ∙ ap (λ ks. seen_in t (seen_in s (map variable_of ks))) a
 
--- the instances under what numbers these variables anew
-pub numbered_anew : (s t l r : Tree) (ks : List Occurring) (σ : Substitution) → map variable_of ks ≡ seen_in t (seen_in s []) → Renumbers σ (map variable_of ks)
-    → l ≡ instance σ s → r ≡ instance σ t → pair_with l r ≡ renumbered (pair_with s t)
-numbered_anew s t l r ks σ e n a b =
-    let whole = variables_of (pair_with s t) in
-    let same : (u : Tree) → instance σ u ≡ instance (renumbering 0 whole) u = λ u. instance-same σ (renumbering 0 whole) u (λ i k. n i k ∙ ap (λ vs. renumbering 0 vs i k) e) in
-    ap (λ x. pair_with x r) (a ∙ same s) ∙ ap (pair_with (instance (renumbering 0 whole) s)) (b ∙ same t)
+-- the pair under what numbers its variables anew
+pub numbered_anew : (p q : Pair) (σ : Substitution) → Renumbers σ (variables_of p) → q ≡ instance_pair σ p → q ≡ renumbered p
+numbered_anew p q σ n e =
+    let whole = variables_of p in
+    let same : (u : Tree) → instance σ u ≡ instance (renumbering 0 whole) u = λ u. instance-same σ (renumbering 0 whole) u n in
+    e ∙ ap (λ x. pair_with x (instance σ p.right)) (same p.left) ∙ ap (pair_with (instance (renumbering 0 whole) p.left)) (same p.right)

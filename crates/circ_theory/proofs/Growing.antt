@@ -96,7 +96,8 @@ vars_change th ds h sorts few = record {
   few_derivatives = h.few_derivatives;
 }
 
-pub var_grows : (th : Theory) (d : Declared) → IsWellFormed th → IsSort th.signature d.sort → length th.variables < MOST_VARS → IsWellFormed (record th { variables = th.variables ++ d ∷ [] })
+pub var_grows : (th : Theory) (d : Declared) → IsWellFormed th → IsSort th.signature d.sort → length th.variables < MOST_VARS
+    → IsWellFormed (record th { variables = th.variables ++ d ∷ [] })
 var_grows th d h sort room =
     let l = length-push th.variables d in
     vars_change th (th.variables ++ d ∷ []) h (λ e c. either e (Contains-push_cases th.variables d e c)) (omega arith)
@@ -129,7 +130,8 @@ op_grows th o h new room =
     either x p (inl c) = operator_stays th.signature (with_op th o).signature x p (h.operators p c)
     either x p (inr e) = let P : Operator → Type 0 = IsOperator (with_op th o).signature in subst P e (operator_stays th.signature (with_op th o).signature x o new)
 
-pub equation_grows : (th : Theory) (e : Equation) → IsWellFormed th → IsWellSortedPair th.signature (pair_of e) → IsInOrder (pair_of e) → length th.equations < MOST_EQUATIONS
+pub equation_grows : (th : Theory) (e : Equation) → IsWellFormed th → IsWellSortedPair th.signature (pair_of e) → IsInOrder (pair_of e)
+    → length th.equations < MOST_EQUATIONS
     → IsWellFormed (with_equation th e)
 equation_grows th e h sorted order room =
     let l = length-push th.equations e in

@@ -7,7 +7,8 @@ use Rattle.circ_term.specs.Substitution.{Substitution, instance, instances, comp
 use Rattle.circ_term.proofs.Instances.{instance-instance}
 use Rattle.circ_theory.specs.Signature.{Signature, IsSort, IsWellSorted, HaveSorts, IsSubstitution}
 use Rattle.circ_theory.specs.Theory.{Theory, Pair, instance_pair, IsWellSortedPair}
-use Rattle.circ_theory.specs.Derivable.{Derivable, by_same, by_symmetry, by_chain, by_operator, by_equation, by_premise, by_cases, DerivableAll, no_args, more_args}
+use Rattle.circ_theory.specs.Derivable.{Derivable, by_same, by_symmetry, by_chain, by_operator, by_equation, by_premise, by_cases, DerivableAll}
+use Rattle.circ_theory.specs.Derivable.{no_args, more_args}
 
 pub sort_of-instance_by : (sig : Signature) (σ : Substitution) (t : Tree) → IsSubstitution sig σ → IsWellSorted sig t → sort_of (instance σ t) ≡ sort_of t
 sort_of-instance_by sig σ (Var n s) w h = (w n s h).0
@@ -19,7 +20,8 @@ mutual
   instance_well_sorted sig σ (Var n s) w h = (w n s h).1
   instance_well_sorted sig σ (App f s ts) w h = (h.0, h.1, h.2, instances_have_sorts sig σ ts h.0.args w h.3)
 
-  pub instances_have_sorts : (sig : Signature) (σ : Substitution) (ts : Trees) (ss : List ℕ) → IsSubstitution sig σ → HaveSorts sig ts ss → HaveSorts sig (instances σ ts) ss
+  pub instances_have_sorts : (sig : Signature) (σ : Substitution) (ts : Trees) (ss : List ℕ) → IsSubstitution sig σ → HaveSorts sig ts ss
+      → HaveSorts sig (instances σ ts) ss
   instances_have_sorts sig σ none [] w h = h
   instances_have_sorts sig σ none (s ∷ ss) w h = h
   instances_have_sorts sig σ (more t ts) [] w h = h
@@ -49,12 +51,14 @@ mutual
   derivable_instance th τ w (by_symmetry d) = by_symmetry (derivable_instance th τ w d)
   derivable_instance th τ w (by_chain m d e) = by_chain (instance τ m) (derivable_instance th τ w d) (derivable_instance th τ w e)
   derivable_instance th τ w (by_operator {ss = ss} {ts = ts} f k a b ds) =
-      by_operator f k (instance_well_sorted th.signature τ (App f k ss) w a) (instance_well_sorted th.signature τ (App f k ts) w b) (derivable_instances th τ w ds)
+      by_operator f k (instance_well_sorted th.signature τ (App f k ss) w a) (instance_well_sorted th.signature τ (App f k ts) w b)
+      (derivable_instances th τ w ds)
   derivable_instance th τ w (by_equation {H = H} e σ c s) =
       rw (instance-instance τ σ e.left, instance-instance τ σ e.right) (by_equation e (composed τ σ) c (composed_substitution th.signature τ σ w s))
   derivable_instance th τ w (by_premise {H = H} p c s) = by_premise (instance_pair τ p) (contains_instance τ H p c) (pair_instance th.signature τ p w s)
   derivable_instance th τ w (by_cases u l c a b f) =
-      by_cases (instance τ u) l c (instance_well_sorted th.signature τ u w a) (sort_of-instance_by th.signature τ u w a ∙ b) (λ k h. derivable_instance th τ w (f k h))
+      by_cases (instance τ u) l c (instance_well_sorted th.signature τ u w a) (sort_of-instance_by th.signature τ u w a ∙ b)
+      (λ k h. derivable_instance th τ w (f k h))
 
   pub derivable_instances : (th : Theory) (τ : Substitution) → IsSubstitution th.signature τ → {H : List Pair} {ss ts : Trees} → DerivableAll th H ss ts
       → DerivableAll th (map (instance_pair τ) H) (instances τ ss) (instances τ ts)

@@ -21,7 +21,8 @@ piece_decides (Word v) Hole = (λ e. absurd (cc), λ e. absurd (cc))
 piece_decides (Word v) (Word w) = (λ e. ap Word ((bytes_decides v w).0 e), λ e. (bytes_decides v w).1 (cc))
 
 -- forms that give themselves back by their texts are the same where the texts are
-same_form : (ps qs : List Piece) → pieces_of (text_of ps) ≡ ps → pieces_of (text_of qs) ≡ qs → pointwise nat_eq (text_of ps) (text_of qs) ≡ pointwise is_same_piece ps qs
+same_form : (ps qs : List Piece) → pieces_of (text_of ps) ≡ ps → pieces_of (text_of qs) ≡ qs
+    → pointwise nat_eq (text_of ps) (text_of qs) ≡ pointwise is_same_piece ps qs
 same_form ps qs p q =
     same_from_decides (pointwise nat_eq (text_of ps) (text_of qs)) (pointwise is_same_piece ps qs)
     (λ e. sym p ∙ ap pieces_of ((bytes_decides (text_of ps) (text_of qs)).0 e) ∙ q, λ e. (bytes_decides (text_of ps) (text_of qs)).1 (ap text_of e))

@@ -1,5 +1,6 @@
 -- Terms in which each parameter occurs once.
-use Rattle.std.proofs.Common.{◌≡◌, ◌≤◌, ℕ, Bool, true, false, ◌==◌, ◌||◌, ◌&&◌, not, nat_eq, if◌then◌else◌, List, [], ◌∷◌, ◌++◌, map, length, None, refl, ap, sym, subst, ◌∙◌, arith, append_assoc, append-nil, length-append}
+use Rattle.std.proofs.Common.{◌≡◌, ◌≤◌, ℕ, Bool, true, false, ◌==◌, ◌||◌, ◌&&◌, not, nat_eq, if◌then◌else◌, List, [], ◌∷◌, ◌++◌, map, length, None}
+use Rattle.std.proofs.Common.{refl, ap, sym, subst, ◌∙◌, arith, append_assoc, append-nil, length-append}
 use Rattle.std.specs.List.{AllByRecursion, IsDistinct, list_any, filter}
 use Rattle.std.proofs.lemmas.Bool.{eqb-true, eq-eqb}
 use Rattle.std.proofs.lemmas.List.{map-append}
@@ -27,7 +28,8 @@ none_same : (n : ℕ) (ns : List ℕ) → list_any (nat_eq n) ns ≡ false → A
 none_same n [] e = tt
 none_same n (m ∷ ns) e = go (n == m) refl (λ h. none_same n ns h)
   where
-    go : (b : Bool) → (n == m) ≡ b → (list_any (nat_eq n) ns ≡ false → AllByRecursion (λ m. nat_eq n m ≡ false) ns) → (nat_eq n m ≡ false) × AllByRecursion (λ m. nat_eq n m ≡ false) ns
+    go : (b : Bool) → (n == m) ≡ b → (list_any (nat_eq n) ns ≡ false → AllByRecursion (λ m. nat_eq n m ≡ false) ns)
+        → (nat_eq n m ≡ false) × AllByRecursion (λ m. nat_eq n m ≡ false) ns
     go true f ih = absurd (let z = rw f at e in cc)
     go false f ih = (f, ih (rw f at e))
 
@@ -49,7 +51,8 @@ not_seen : (v : Variable) (us : List Variable) → is_parameter v ≡ true → l
 not_seen v [] p e = refl
 not_seen v (u ∷ us) p e = go (λ h. not_seen v us p h) (v.number == u.number) refl (is_parameter u) refl
   where
-    go : (list_any (nat_eq v.number) (numbers us) ≡ false → list_any (is_variable v) us ≡ false) → (b : Bool) → (v.number == u.number) ≡ b → (q : Bool) → is_parameter u ≡ q
+    go : (list_any (nat_eq v.number) (numbers us) ≡ false → list_any (is_variable v) us ≡ false) → (b : Bool) → (v.number == u.number) ≡ b
+        → (q : Bool) → is_parameter u ≡ q
         → ((v.number == u.number) && (v.sort == u.sort) || list_any (is_variable v) us) ≡ false
     go ih true f true g = absurd (let z = rw (g, f) at e in cc)
     go ih true f false g = absurd (let same : is_parameter v ≡ is_parameter u = ap (λ n. not (n == 0)) (eqb-true v.number u.number f) in let z = sym p ∙ same ∙ g in cc)
@@ -63,18 +66,21 @@ hole_seen v us p = go (list_any (is_variable v) us)
     go true = refl
     go false = filter-append is_parameter us (v ∷ []) ∙ rw p (append-nil (filter is_parameter us))
 
-parameter_seen : (v : Variable) (us : List Variable) → is_parameter v ≡ true → list_any (is_variable v) us ≡ false → filter is_parameter (seen v us) ≡ filter is_parameter us ++ v ∷ []
+parameter_seen : (v : Variable) (us : List Variable) → is_parameter v ≡ true → list_any (is_variable v) us ≡ false
+    → filter is_parameter (seen v us) ≡ filter is_parameter us ++ v ∷ []
 parameter_seen v us p h = rw h (filter-append is_parameter us (v ∷ []) ∙ rw p refl)
 
 apart_push : (n : ℕ) (ns ks : List ℕ) → list_any (nat_eq n) ns ≡ false → Apart (n ∷ ns) ks → Apart ns (ks ++ n ∷ [])
 apart_push n ns ks h a m there = list_any-append (nat_eq m) ks (n ∷ []) ∙ go (m == n) refl (a m)
   where
-    go : (b : Bool) → (m == n) ≡ b → (list_any (nat_eq m) (n ∷ ns) ≡ true → list_any (nat_eq m) ks ≡ false) → (list_any (nat_eq m) ks || ((m == n) || false)) ≡ false
+    go : (b : Bool) → (m == n) ≡ b → (list_any (nat_eq m) (n ∷ ns) ≡ true → list_any (nat_eq m) ks ≡ false)
+        → (list_any (nat_eq m) ks || ((m == n) || false)) ≡ false
     go true f k = absurd (let z = sym there ∙ ap (λ x. list_any (nat_eq x) ns) (eqb-true m n f) ∙ h in cc)
     go false f k = let ks_none : list_any (nat_eq m) ks ≡ false = k (rw f there) in rw (f, ks_none) refl
 
 -- where no parameter occurs again, those seen are those that occur
-each_once : (vs us : List Variable) → first_repeated (numbers vs) ≡ None → Apart (numbers vs) (numbers us) → filter is_parameter (all_seen vs us) ≡ filter is_parameter us ++ filter is_parameter vs
+each_once : (vs us : List Variable) → first_repeated (numbers vs) ≡ None → Apart (numbers vs) (numbers us)
+    → filter is_parameter (all_seen vs us) ≡ filter is_parameter us ++ filter is_parameter vs
 each_once [] us e a = sym (append-nil (filter is_parameter us))
 each_once (v ∷ vs) us e a = go (is_parameter v) refl (λ us. each_once vs us)
   where
@@ -121,11 +127,13 @@ mutual
   all_sorts_occur sig (more t ts) [] h = absurd h
   all_sorts_occur sig (more t ts) (s ∷ ss) h = all_append (λ v. IsSort sig v.sort) (occurrences t) (all_occurrences ts) (sorts_occur sig t h.1) (all_sorts_occur sig ts ss h.2)
 
-picked_sorts : (sig : Signature) (vs : List Variable) → AllByRecursion (λ v. IsSort sig v.sort) vs → AllByRecursion (IsSort sig) (map (λ v. v.sort) (filter is_hole vs))
+picked_sorts : (sig : Signature) (vs : List Variable) → AllByRecursion (λ v. IsSort sig v.sort) vs
+    → AllByRecursion (IsSort sig) (map (λ v. v.sort) (filter is_hole vs))
 picked_sorts sig [] a = tt
 picked_sorts sig (v ∷ vs) a = go (is_hole v) (picked_sorts sig vs a.1)
   where
-    go : (b : Bool) → AllByRecursion (IsSort sig) (map (λ v. v.sort) (filter is_hole vs)) → AllByRecursion (IsSort sig) (map (λ v. v.sort) (if b then v ∷ filter is_hole vs else filter is_hole vs))
+    go : (b : Bool) → AllByRecursion (IsSort sig) (map (λ v. v.sort) (filter is_hole vs))
+        → AllByRecursion (IsSort sig) (map (λ v. v.sort) (if b then v ∷ filter is_hole vs else filter is_hole vs))
     go true r = (a.0, r)
     go false r = r
 
@@ -146,7 +154,8 @@ few_picked : (vs : List Variable) → length (map (λ v. v.sort) (filter is_hole
 few_picked [] = omega arith
 few_picked (v ∷ vs) = go (is_hole v) (few_picked vs)
   where
-    go : (b : Bool) → length (map (λ v. v.sort) (filter is_hole vs)) ≤ length vs → length (map (λ v. v.sort) (if b then v ∷ filter is_hole vs else filter is_hole vs)) ≤ length (v ∷ vs)
+    go : (b : Bool) → length (map (λ v. v.sort) (filter is_hole vs)) ≤ length vs
+        → length (map (λ v. v.sort) (if b then v ∷ filter is_hole vs else filter is_hole vs)) ≤ length (v ∷ vs)
     go true r = omega arith
     go false r = omega arith
 

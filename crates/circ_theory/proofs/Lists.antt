@@ -1,5 +1,6 @@
 -- Facts on lists.
-use Rattle.std.proofs.Common.{◌≡◌, ◌<◌, ◌+◌, ℕ, zero, suc, Bool, true, false, ◌||◌, not, nat_lt, nat_eq, if◌then◌else◌, List, [], ◌∷◌, ◌++◌, length, map, get_or, Some, None, refl, ap, sym, subst, ◌∙◌, arith}
+use Rattle.std.proofs.Common.{◌≡◌, ◌<◌, ◌+◌, ℕ, zero, suc, Bool, true, false, ◌||◌, not, nat_lt, nat_eq, if◌then◌else◌, List, [], ◌∷◌, ◌++◌, length}
+use Rattle.std.proofs.Common.{map, get_or, Some, None, refl, ap, sym, subst, ◌∙◌, arith}
 use Rattle.std.specs.List.{AllByRecursion, list_any, position, position_or_len, slice_get}
 use Rattle.std.proofs.lemmas.List.{length-map}
 use Rattle.std.proofs.lemmas.Option.{same_Some}
@@ -52,7 +53,8 @@ any_within : {X : Type 0} (p : X → Bool) (xs : List X) → list_any p xs ≡ t
 any_within p [] e = absurd (cc)
 any_within p (x ∷ xs) e = go (λ h. any_within p xs h) (p x) refl
   where
-    go : (list_any p xs ≡ true → position_or_len p xs < length xs) → (b : Bool) → p x ≡ b → (if not (p x) then 1 + position_or_len p xs else 0) < suc (length xs)
+    go : (list_any p xs ≡ true → position_or_len p xs < length xs) → (b : Bool) → p x ≡ b
+        → (if not (p x) then 1 + position_or_len p xs else 0) < suc (length xs)
     go ih true f = rw f (omega arith)
     go ih false f = let l = ih (rw f at e) in rw f (omega arith)
 
@@ -68,7 +70,8 @@ none_there p xs e = go (list_any p xs) refl
     go false f = refl
 
 -- a new key goes last
-pub insert_entry-last : {K V : Type 0} (eq : K → K → Bool) (es : List (K × V)) (k : K) (v : V) → list_any (λ e. eq k e.0) es ≡ false → insert_entry eq es k v ≡ es ++ (k, v) ∷ []
+pub insert_entry-last : {K V : Type 0} (eq : K → K → Bool) (es : List (K × V)) (k : K) (v : V) → list_any (λ e. eq k e.0) es ≡ false
+    → insert_entry eq es k v ≡ es ++ (k, v) ∷ []
 insert_entry-last eq [] k v h = refl
 insert_entry-last eq (e ∷ es) k v h = go (λ g. insert_entry-last eq es k v g) (eq k e.0) refl
   where
@@ -90,5 +93,6 @@ name_last f ks k name e none =
     ap (λ b. map f (if b then ks else ks ++ k ∷ [])) absent ∙ map-push f ks k ∙ ap (λ n. map f ks ++ n ∷ []) e
 
 -- a new entry goes last, where its key is at no position
-pub entry_last : {K V : Type 0} (eq : K → K → Bool) (es : List (K × V)) (k : K) (v : V) → position (eq k) (map (λ e. e.0) es) ≡ None → insert_entry eq es k v ≡ es ++ (k, v) ∷ []
+pub entry_last : {K V : Type 0} (eq : K → K → Bool) (es : List (K × V)) (k : K) (v : V) → position (eq k) (map (λ e. e.0) es) ≡ None
+    → insert_entry eq es k v ≡ es ++ (k, v) ∷ []
 entry_last eq es k v none = insert_entry-last eq es k v (sym (list_any-map (eq k) (λ e. e.0) es) ∙ none_there (eq k) (map (λ e. e.0) es) none)

@@ -1,5 +1,6 @@
 -- Numbers that are kept under words.
-use Rattle.std.proofs.Common.{◌≡◌, ℕ, suc, ◌+◌, length, Bool, true, false, nat_eq, if◌then◌else◌, List, [], ◌∷◌, ◌++◌, Vec, Some, None, Result, Ok, Err, OnErr, refl, ap, sym, ◌∙◌, arith}
+use Rattle.std.proofs.Common.{◌≡◌, ℕ, suc, ◌+◌, length, Bool, true, false, nat_eq, if◌then◌else◌, List, [], ◌∷◌, ◌++◌, Vec, Some, None, Result, Ok}
+use Rattle.std.proofs.Common.{Err, OnErr, refl, ap, sym, ◌∙◌, arith}
 use Rattle.std.specs.Cmp.Lexicographic.{pointwise, bytes_decides}
 use Rattle.std.specs.Map.{lookup, set_value}
 use Rattle.std.specs.Option.{option_map_or}
@@ -9,7 +10,8 @@ use Rattle.circ_theory.specs.Signature.{Signature, Operator}
 use Rattle.circ_theory.specs.Operators.{places_from, ops_by_word}
 use Rattle.circ_theory.specs.Inside.{kept_under}
 
-places_push : {X : Type 0} (p : X → Bool) (k : ℕ) (xs : List X) (x : X) → places_from p k (xs ++ x ∷ []) ≡ (if p x then places_from p k xs ++ (k + length xs) ∷ [] else places_from p k xs)
+places_push : {X : Type 0} (p : X → Bool) (k : ℕ) (xs : List X) (x : X)
+    → places_from p k (xs ++ x ∷ []) ≡ (if p x then places_from p k xs ++ (k + length xs) ∷ [] else places_from p k xs)
 places_push p k [] x = let z : k ≡ k + 0 = omega arith in ap (λ n. if p x then n ∷ [] else []) z
 places_push p k (y ∷ xs) x =
     let z : k + 1 + length xs ≡ k + suc (length xs) = omega arith in
@@ -47,10 +49,12 @@ on_err (Ok x) P p = tt
 on_err (Err e) P p = p
 
 module _ {A B : Type 0} where
-  kept_more : (k : Vec ℕ A) (v : Vec ℕ B) (es : List (Vec ℕ A × Vec ℕ B)) (w : List ℕ) → kept_under ((k, v) ∷ es) w ≡ (if pointwise nat_eq w k.items then v.items else kept_under es w)
+  kept_more : (k : Vec ℕ A) (v : Vec ℕ B) (es : List (Vec ℕ A × Vec ℕ B)) (w : List ℕ)
+      → kept_under ((k, v) ∷ es) w ≡ (if pointwise nat_eq w k.items then v.items else kept_under es w)
   kept_more k v es w = go (pointwise nat_eq w k.items)
     where
-      go : (b : Bool) → option_map_or (λ v. v.items) (if b then Some v else lookup (λ k. pointwise nat_eq w k.items) es) [] ≡ (if b then v.items else kept_under es w)
+      go : (b : Bool)
+          → option_map_or (λ v. v.items) (if b then Some v else lookup (λ k. pointwise nat_eq w k.items) es) [] ≡ (if b then v.items else kept_under es w)
       go true = refl
       go false = refl
 
@@ -90,7 +94,8 @@ module _ {A B : Type 0} where
           ∙ ap (λ ns. if pointwise nat_eq w k.items then v.items else ns) (sym (kept_more e.0 e.1 es w))
 
   -- a number more under one word
-  pub noted : (es new : List (Vec ℕ A × Vec ℕ B)) (v x : List ℕ) (n : ℕ) → ((w : List ℕ) → kept_under new w ≡ (if pointwise nat_eq w v then x else kept_under es w)) → x ≡ kept_under es v ++ n ∷ []
+  pub noted : (es new : List (Vec ℕ A × Vec ℕ B)) (v x : List ℕ) (n : ℕ)
+      → ((w : List ℕ) → kept_under new w ≡ (if pointwise nat_eq w v then x else kept_under es w)) → x ≡ kept_under es v ++ n ∷ []
       → (w : List ℕ) → kept_under new w ≡ (if pointwise nat_eq w v then kept_under es w ++ n ∷ [] else kept_under es w)
   noted es new v x n h is w = h w ∙ go (pointwise nat_eq w v) refl
     where
@@ -99,7 +104,8 @@ module _ {A B : Type 0} where
       go false f = refl
 
   -- the same numbers under one word
-  pub unnoted : (es new : List (Vec ℕ A × Vec ℕ B)) (v x : List ℕ) → ((w : List ℕ) → kept_under new w ≡ (if pointwise nat_eq w v then x else kept_under es w)) → x ≡ kept_under es v
+  pub unnoted : (es new : List (Vec ℕ A × Vec ℕ B)) (v x : List ℕ)
+      → ((w : List ℕ) → kept_under new w ≡ (if pointwise nat_eq w v then x else kept_under es w)) → x ≡ kept_under es v
       → (w : List ℕ) → kept_under new w ≡ kept_under es w
   unnoted es new v x h is w = h w ∙ go (pointwise nat_eq w v) refl
     where

@@ -1,5 +1,6 @@
 -- Variables that are numbered in order, by their sorts alone.
-use Rattle.std.proofs.Common.{◌≡◌, ◌≢◌, ◌≤◌, ◌↔◌, ℕ, ◌+◌, zero, suc, List, [], ◌∷◌, ◌++◌, map, length, Bool, true, false, ◌==◌, ◌&&◌, ◌||◌, nat_lt, if◌then◌else◌, Some, IsTrue, refl, ap, sym, subst, ◌∙◌, arith, length-append}
+use Rattle.std.proofs.Common.{◌≡◌, ◌≢◌, ◌≤◌, ◌↔◌, ℕ, ◌+◌, zero, suc, List, [], ◌∷◌, ◌++◌, map, length, Bool, true, false, ◌==◌, ◌&&◌, ◌||◌, nat_lt}
+use Rattle.std.proofs.Common.{if◌then◌else◌, Some, IsTrue, refl, ap, sym, subst, ◌∙◌, arith, length-append}
 use Rattle.std.proofs.lemmas.List.{length-map}
 use Rattle.std.specs.List.{list_any, slice_get}
 use Rattle.std.specs.Bool.{OnTrue}
@@ -8,7 +9,8 @@ use Rattle.std.proofs.lemmas.Option.{same_Some, slice_get_within}
 use Rattle.std.proofs.lemmas.Grind.{common_steps}
 use Rattle.circ_term.specs.Tree.{Tree, Trees, Var, App, none, more, size_of, sizes_of}
 use Rattle.circ_theory.specs.Theory.{Pair}
-use Rattle.circ_theory.specs.Variables.{Variable, is_variable, seen, seen_in, seen_in_all, AreNumberedFrom, IsInOrder, variables_of, sorts_of, numbered, is_before, put_in_order, sorted}
+use Rattle.circ_theory.specs.Variables.{Variable, is_variable, seen, seen_in, seen_in_all, AreNumberedFrom, IsInOrder, variables_of, sorts_of}
+use Rattle.circ_theory.specs.Variables.{numbered, is_before, put_in_order, sorted}
 
 pub numbered_are : (k : ℕ) (ss : List ℕ) → AreNumberedFrom k (numbered k ss)
 numbered_are k [] = tt
@@ -96,7 +98,8 @@ any_there k (suc i) s (t ∷ ss) g =
     go rest true = refl
     go rest false = rest
 
-pub any_absent : (k n s : ℕ) (ss : List ℕ) → ((i : ℕ) → n ≡ k + i → slice_get ss i ≡ Some s → ⊥) → list_any (is_variable (record { number = n; sort = s })) (numbered k ss) ≡ false
+pub any_absent : (k n s : ℕ) (ss : List ℕ) → ((i : ℕ) → n ≡ k + i → slice_get ss i ≡ Some s → ⊥)
+    → list_any (is_variable (record { number = n; sort = s })) (numbered k ss) ≡ false
 any_absent k n s [] h = refl
 any_absent k n s (t ∷ ss) h = go (any_absent (k + 1) n s ss (λ i e g. h (suc i) (omega arith) g)) ((n == k) && (s == t)) refl
   where
@@ -116,7 +119,8 @@ seen_there n s ss g =
     ap (λ b. if b then numbered 0 ss else numbered 0 ss ++ record { number = n; sort = s } ∷ []) (subst P z (any_there 0 n s ss g))
 
 -- a variable that was not
-seen_absent : (n s : ℕ) (ss : List ℕ) → (slice_get ss n ≡ Some s → ⊥) → seen (record { number = n; sort = s }) (numbered 0 ss) ≡ numbered 0 ss ++ record { number = n; sort = s } ∷ []
+seen_absent : (n s : ℕ) (ss : List ℕ) → (slice_get ss n ≡ Some s → ⊥)
+    → seen (record { number = n; sort = s }) (numbered 0 ss) ≡ numbered 0 ss ++ record { number = n; sort = s } ∷ []
 seen_absent n s ss h =
     ap (λ b. if b then numbered 0 ss else numbered 0 ss ++ record { number = n; sort = s } ∷ [])
     (any_absent 0 n s ss (λ i e g. let z : i ≡ n = omega arith in let P : ℕ → Type 0 = λ m. slice_get ss m ≡ Some s in h (subst P z g)))
@@ -129,7 +133,8 @@ seen_next n s ss h =
     ∙ ap (λ m. numbered 0 ss ++ record { number = m; sort = s } ∷ []) e ∙ sym (numbered-push 0 ss s)
 
 -- any other is out of order
-pub out_of_order : (n s : ℕ) (ss : List ℕ) → n ≢ length ss → (slice_get ss n ≡ Some s → ⊥) → AreNumberedFrom 0 (seen (record { number = n; sort = s }) (numbered 0 ss)) → ⊥
+pub out_of_order : (n s : ℕ) (ss : List ℕ) → n ≢ length ss → (slice_get ss n ≡ Some s → ⊥)
+    → AreNumberedFrom 0 (seen (record { number = n; sort = s }) (numbered 0 ss)) → ⊥
 out_of_order n s ss other h a =
     let P : List Variable → Type 0 = AreNumberedFrom 0 in
     let e = last_number 0 (numbered 0 ss) (record { number = n; sort = s }) (subst P (seen_absent n s ss h) a) in

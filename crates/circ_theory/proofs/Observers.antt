@@ -1,5 +1,6 @@
 -- Theories with one derivative or case list more are well-formed.
-use Rattle.std.proofs.Common.{◌≡◌, ◌≤◌, ◌<◌, ℕ, Bool, true, false, ◌==◌, ◌||◌, not, nat_lt, nat_eq, if◌then◌else◌, List, [], ◌∷◌, ◌++◌, map, find, length, Option, Some, None, is_some, ◌⊎◌, inl, inr, refl, ap, sym, subst, ◌∙◌, arith}
+use Rattle.std.proofs.Common.{◌≡◌, ◌≤◌, ◌<◌, ℕ, Bool, true, false, ◌==◌, ◌||◌, not, nat_lt, nat_eq, if◌then◌else◌, List, [], ◌∷◌, ◌++◌, map, find}
+use Rattle.std.proofs.Common.{length, Option, Some, None, is_some, ◌⊎◌, inl, inr, refl, ap, sym, subst, ◌∙◌, arith}
 use Rattle.std.specs.List.{IsDistinct, Contains, list_any, slice_get}
 use Rattle.std.specs.Option.{option_map}
 use Rattle.std.proofs.lemmas.Grind.{common_steps}
@@ -16,7 +17,9 @@ use Rattle.circ_theory.specs.Signature.{Signature, Operator, IsWellSorted}
 use Rattle.circ_theory.specs.Theory.{Theory, Derivative, CaseList}
 use Rattle.circ_theory.specs.Adding.{is_no_sort}
 use Rattle.circ_theory.specs.WellFormed.{IsDerivative, IsCaseList, IsWellFormed}
-use Rattle.circ_theory.specs.Observing.{holes_in, parameters_in, first_repeated, first_or_zero, derivative_of, AreParametersInOrder, cases_of, is_hidden, hole_fault, now_hidden, long_fault, derivative_fault, with_derivative, is_constant, twice_listed, no_constants, cases_fault, case_list, with_cases}
+use Rattle.circ_theory.specs.Observing.{holes_in, parameters_in, first_repeated, first_or_zero, derivative_of, AreParametersInOrder, cases_of}
+use Rattle.circ_theory.specs.Observing.{is_hidden, hole_fault, now_hidden, long_fault, derivative_fault, with_derivative, is_constant, twice_listed}
+use Rattle.circ_theory.specs.Observing.{no_constants, cases_fault, case_list, with_cases}
 use Rattle.circ_theory.proofs.Lists.{map-push}
 use Rattle.circ_theory.proofs.Faults.{option_or_none, option_map_none, only_if, not_false, known_sort, find_none, room_left}
 use Rattle.circ_theory.proofs.Growing.{length-push, case_list_stays}
@@ -66,7 +69,8 @@ no_case_list th s l e c same =
     let there : (s == l.sort) ≡ true = eq-eqb s l.sort (sym same) in
     absurd (let z = sym there ∙ none in cc)
 
-pub derivative_grows : (th : Theory) (t : Tree) → IsWellFormed th → IsWellSorted th.signature t → AreParametersInOrder t → IsNewDerivative th t → IsWellFormed (with_derivative th t)
+pub derivative_grows : (th : Theory) (t : Tree) → IsWellFormed th → IsWellSorted th.signature t → AreParametersInOrder t → IsNewDerivative th t
+    → IsWellFormed (with_derivative th t)
 derivative_grows th t h sorted order new =
     let l = length-push th.derivatives (derivative_of t) in
     record {
@@ -146,21 +150,25 @@ new_list th s cs e =
       };
     }
 
-absent_sort : (ls : List CaseList) (s : ℕ) → option_map (λ l. l.constants) (find (λ l. s == l.sort) ls) ≡ None → list_any (nat_eq s) (map (λ l. l.sort) ls) ≡ false
+absent_sort : (ls : List CaseList) (s : ℕ) → option_map (λ l. l.constants) (find (λ l. s == l.sort) ls) ≡ None
+    → list_any (nat_eq s) (map (λ l. l.sort) ls) ≡ false
 absent_sort [] s e = refl
 absent_sort (l ∷ ls) s e = go (s == l.sort) refl (λ h. absent_sort ls s h)
   where
-    go : (b : Bool) → (s == l.sort) ≡ b → (option_map (λ l. l.constants) (find (λ l. s == l.sort) ls) ≡ None → list_any (nat_eq s) (map (λ l. l.sort) ls) ≡ false)
+    go : (b : Bool) → (s == l.sort) ≡ b
+        → (option_map (λ l. l.constants) (find (λ l. s == l.sort) ls) ≡ None → list_any (nat_eq s) (map (λ l. l.sort) ls) ≡ false)
         → ((s == l.sort) || list_any (nat_eq s) (map (λ l. l.sort) ls)) ≡ false
     go true f ih = absurd (let z = rw f at e in cc)
     go false f ih = rw f (ih (rw f at e))
 
-pub absent_entry : {V : Type 0} (items : V → List ℕ) (es : List (ℕ × V)) (s : ℕ) → option_map (λ l. l.constants) (find (λ l. s == l.sort) (map (λ e. case_list e.0 (items e.1)) es)) ≡ None
+pub absent_entry : {V : Type 0} (items : V → List ℕ) (es : List (ℕ × V)) (s : ℕ)
+    → option_map (λ l. l.constants) (find (λ l. s == l.sort) (map (λ e. case_list e.0 (items e.1)) es)) ≡ None
     → list_any (λ e. s == e.0) es ≡ false
 absent_entry items [] s e = refl
 absent_entry items (x ∷ es) s e = go (s == x.0) refl (λ h. absent_entry items es s h)
   where
-    go : (b : Bool) → (s == x.0) ≡ b → (option_map (λ l. l.constants) (find (λ l. s == l.sort) (map (λ e. case_list e.0 (items e.1)) es)) ≡ None → list_any (λ e. s == e.0) es ≡ false)
+    go : (b : Bool) → (s == x.0) ≡ b
+        → (option_map (λ l. l.constants) (find (λ l. s == l.sort) (map (λ e. case_list e.0 (items e.1)) es)) ≡ None → list_any (λ e. s == e.0) es ≡ false)
         → ((s == x.0) || list_any (λ e. s == e.0) es) ≡ false
     go true f ih = absurd (let z = rw f at e in cc)
     go false f ih = rw f (ih (rw f at e))
@@ -192,7 +200,8 @@ cases_grow th s cs h new =
     stays m k = case_list_stays th (with_cases th s cs) (record { sorts = λ s i. i; ops = λ f o g. g }) refl m k
 
 -- the sorts of holes after one more
-pub hidden_more : (th : Theory) (ks new : List ℕ) (h m : ℕ) (d : Derivative) → list_any (nat_eq m) ks ≡ is_hidden th m → list_any (nat_eq m) new ≡ ((m == h) || list_any (nat_eq m) ks)
+pub hidden_more : (th : Theory) (ks new : List ℕ) (h m : ℕ) (d : Derivative) → list_any (nat_eq m) ks ≡ is_hidden th m
+    → list_any (nat_eq m) new ≡ ((m == h) || list_any (nat_eq m) ks)
     → d.hole ≡ h → list_any (nat_eq m) new ≡ list_any (λ d. m == d.hole) (th.derivatives ++ d ∷ [])
 hidden_more th ks new h m d before after same =
     after ∙ ap (λ b. (m == h) || b) before ∙ swap (m == h) (is_hidden th m)

@@ -1,5 +1,6 @@
 -- A pair with its variables numbered anew is numbered in order.
-use Rattle.std.proofs.Common.{◌≡◌, ℕ, suc, ◌+◌, List, [], ◌∷◌, ◌++◌, map, length, Bool, true, false, ◌==◌, if◌then◌else◌, Some, refl, ap, sym, subst, ◌∙◌, arith, append_assoc, append-nil}
+use Rattle.std.proofs.Common.{◌≡◌, ℕ, suc, ◌+◌, List, [], ◌∷◌, ◌++◌, map, length, Bool, true, false, ◌==◌, if◌then◌else◌, Some, refl, ap, sym, subst}
+use Rattle.std.proofs.Common.{◌∙◌, arith, append_assoc, append-nil}
 use Rattle.std.proofs.lemmas.List.{length-map, map-append}
 use Rattle.std.specs.List.{list_any, slice_get}
 use Rattle.std.proofs.lemmas.Bool.{eqb-true, eq-eqb, and_parts}
@@ -37,7 +38,8 @@ pub seen_number : (k n s : ℕ) (vs rest : List Variable) → list_any (is_varia
 seen_number k n s [] rest h = absurd (cc)
 seen_number k n s (v ∷ vs) rest h = go (λ h. seen_number (k + 1) n s vs rest h) (is_variable (record { number = n; sort = s }) v) refl
   where
-    go : (list_any (is_variable (record { number = n; sort = s })) vs ≡ true → Placed (k + 1) n s vs rest) → (b : Bool) → is_variable (record { number = n; sort = s }) v ≡ b
+    go : (list_any (is_variable (record { number = n; sort = s })) vs ≡ true → Placed (k + 1) n s vs rest) → (b : Bool)
+        → is_variable (record { number = n; sort = s }) v ≡ b
         → Placed k n s (v ∷ vs) rest
     go ih true e = let z : k ≡ k + 0 = omega arith in record {
       place = 0;
@@ -110,7 +112,8 @@ variable_in_order n s vs rest = go (list_any (is_variable v) vs) refl
         rw e (ap see (new_number 0 n s vs rest e ∙ ap (λ m. Var m s) z) ∙ seen_next (length vs) s (sorts_in vs) l ∙ ap (numbered 0) (sym (map-append (λ v. v.sort) vs (v ∷ []))))
 
 mutual
-  term_in_order : (t : Tree) (vs rest : List Variable) → seen_in (instance (renumbering 0 (seen_in t vs ++ rest)) t) (numbered 0 (sorts_in vs)) ≡ numbered 0 (sorts_in (seen_in t vs))
+  term_in_order : (t : Tree) (vs rest : List Variable)
+      → seen_in (instance (renumbering 0 (seen_in t vs ++ rest)) t) (numbered 0 (sorts_in vs)) ≡ numbered 0 (sorts_in (seen_in t vs))
   term_in_order (Var n s) vs rest = variable_in_order n s vs rest
   term_in_order (App f s ts) vs rest = terms_in_order ts vs rest
 

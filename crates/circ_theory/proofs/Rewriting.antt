@@ -1,5 +1,6 @@
 -- A link of an equation leads to a derivable term.
-use Rattle.std.proofs.Common.{◌≡◌, ◌<◌, ℕ, zero, suc, Bool, true, false, ◌==◌, ◌&&◌, if◌then◌else◌, List, [], ◌∷◌, length, get_or, map, Option, Some, None, Result, Ok, Err, IfOk, unwrap_or, refl, ap, sym, subst, ◌∙◌, arith}
+use Rattle.std.proofs.Common.{◌≡◌, ◌<◌, ℕ, zero, suc, Bool, true, false, ◌==◌, ◌&&◌, if◌then◌else◌, List, [], ◌∷◌, length, get_or, map, Option, Some}
+use Rattle.std.proofs.Common.{None, Result, Ok, Err, IfOk, unwrap_or, refl, ap, sym, subst, ◌∙◌, arith}
 use Rattle.std.specs.List.{slice_get, AllByRecursion, Contains}
 use Rattle.std.specs.Option.{IfSome, option_map}
 use Rattle.std.proofs.lemmas.Bool.{eqb-true, and_parts}
@@ -14,7 +15,8 @@ use Rattle.circ_theory.specs.Theory.{Theory, Pair, pair_of, IsEquation, listed, 
 use Rattle.circ_theory.specs.Variables.{Variable, variables_of, sorts_of, sorted, FitVariables, given, numbered}
 use Rattle.circ_theory.specs.Derivable.{Derivable, by_equation, by_symmetry}
 use Rattle.circ_theory.specs.WellFormed.{IsWellFormed}
-use Rattle.circ_theory.proofs.Instances.{sort_of-instance_by, instance_well_sorted}
+use Rattle.circ_theory.proofs.Instances.{instance_well_sorted}
+use Rattle.circ_theory.proofs.Sorting.{sorted_to, sort_instances}
 use Rattle.circ_theory.proofs.Congruence.{KeepsDerivable, replaced_keeps}
 use Rattle.circ_theory.proofs.Numbering.{numbered-sorts_of}
 use Rattle.circ_theory.specs.Link.{from_side, to_side, Replaces, named, EquationLeads, PlainLink, Equation_link, IsInTable, Leads, Follows}
@@ -26,7 +28,8 @@ use Rattle.circ_theory.specs.declared.replay.Way.TheVariants.{Forth, Back}
 pub contains_at : {X : Type 0} (xs : List X) (i : ℕ) (x : X) → slice_get xs i ≡ Some x → Contains xs x
 contains_at xs i x g = (i, slice_get_within xs i x g, get_or_from_slice_get xs i x x g)
 
-pub named_well_sorted : (sig : Signature) (table : List Tree) (n : ℕ) → AllByRecursion (IsWellSorted sig) table → n < length table → IsWellSorted sig (named table n)
+pub named_well_sorted : (sig : Signature) (table : List Tree) (n : ℕ) → AllByRecursion (IsWellSorted sig) table → n < length table
+    → IsWellSorted sig (named table n)
 named_well_sorted sig [] n a h = absurd (omega arith)
 named_well_sorted sig (t ∷ ts) zero a h = a.0
 named_well_sorted sig (t ∷ ts) (suc n) a h = named_well_sorted sig ts n a.1 (omega arith)
@@ -37,7 +40,8 @@ all_named sig table [] a h = tt
 all_named sig table (n ∷ ns) a h = (named_well_sorted sig table n a h.0, all_named sig table ns a h.1)
 
 -- well-sorted terms of the variables' sorts make a substitution
-pub given_substitution : (sig : Signature) (vs : List Variable) (ts : List Tree) → FitVariables vs ts → AllByRecursion (IsWellSorted sig) ts → IsSubstitution sig (given vs ts)
+pub given_substitution : (sig : Signature) (vs : List Variable) (ts : List Tree) → FitVariables vs ts → AllByRecursion (IsWellSorted sig) ts
+    → IsSubstitution sig (given vs ts)
 given_substitution sig [] ts f a = λ n s h. (refl, h)
 given_substitution sig (v ∷ vs) [] f a = absurd f
 given_substitution sig (v ∷ vs) (t ∷ ts) f a = λ n s h. go n s h (given_substitution sig vs ts f.1 a.1 n s h) ((v.number == n) && (v.sort == s)) refl
@@ -52,18 +56,6 @@ sides_derivable : (th : Theory) (w : Way) (p : Pair) (σ : Substitution) → IsE
 sides_derivable th Forth p σ e s = by_equation p σ e s
 sides_derivable th Back p σ e s = by_symmetry (by_equation p σ e s)
 
-from_well_sorted : (sig : Signature) (w : Way) (p : Pair) → IsWellSortedPair sig p → IsWellSorted sig (from_side w p)
-from_well_sorted sig Forth p h = h.left
-from_well_sorted sig Back p h = h.right
-
-to_well_sorted : (sig : Signature) (w : Way) (p : Pair) → IsWellSortedPair sig p → IsWellSorted sig (to_side w p)
-to_well_sorted sig Forth p h = h.right
-to_well_sorted sig Back p h = h.left
-
-same_sort_sides : (sig : Signature) (w : Way) (p : Pair) → IsWellSortedPair sig p → sort_of (to_side w p) ≡ sort_of (from_side w p)
-same_sort_sides sig Forth p h = h.same_sort
-same_sort_sides sig Back p h = sym h.same_sort
-
 -- the instance of one side of an equation, replaced by that of the other
 pub rewrite_keeps : (th : Theory) → IsWellFormed th → (e : Equation) (w : Way) (σ : Substitution) (path : List ℕ) (t u : Tree)
     → Contains th.equations e → IsSubstitution th.signature σ → IsWellSorted th.signature t
@@ -72,9 +64,7 @@ rewrite_keeps th ok e w σ path t u c s wt r =
     let p : Pair = pair_of e in
     let h : IsWellSortedPair th.signature p = ok.equations e c in
     replaced_keeps th [] path t (instance σ (from_side w p)) (instance σ (to_side w p)) u wt r.there
-    (instance_well_sorted th.signature σ (to_side w p) s (to_well_sorted th.signature w p h))
-    (sort_of-instance_by th.signature σ (to_side w p) s (to_well_sorted th.signature w p h) ∙ same_sort_sides th.signature w p h
-    ∙ sym (sort_of-instance_by th.signature σ (from_side w p) s (from_well_sorted th.signature w p h)))
+    (instance_well_sorted th.signature σ (to_side w p) s (sorted_to th.signature w p h)) (sort_instances th.signature w p σ h s)
     (sides_derivable th w p σ (listed e c) s) r.made
 
 -- a link leads to a derivable term, which is well-sorted and of the same sort
@@ -92,11 +82,13 @@ pub named_at : (table : List Tree) (n : ℕ) (t : Tree) → n < length table →
 named_at table n t h e = ap (λ o. unwrap_or o (Var 0 0)) (slice_get_read table (length table) n t refl h e)
 
 -- the sorts that go with an equation
-pub sorts_are : (es : List Equation) (number : ℕ) (e : Equation) (ss : List ℕ) → Some e ≡ slice_get es number → Some ss ≡ option_map (λ d. sorts_of (pair_of d)) (slice_get es number) → ss ≡ sorts_of (pair_of e)
+pub sorts_are : (es : List Equation) (number : ℕ) (e : Equation) (ss : List ℕ) → Some e ≡ slice_get es number
+    → Some ss ≡ option_map (λ d. sorts_of (pair_of d)) (slice_get es number) → ss ≡ sorts_of (pair_of e)
 sorts_are es number e ss p q = same_Some ss (sorts_of (pair_of e)) (q ∙ ap (option_map (λ d. sorts_of (pair_of d))) (sym p))
 
 -- no term fits where the terms are not one for each variable, each of its sort
-pub equation_unfit : (th : Theory) → IsWellFormed th → (table : List Tree) (number : ℕ) (e : Equation) (ss : List ℕ) (way : Way) (path terms : List ℕ) (t u : Tree)
+pub equation_unfit : (th : Theory) → IsWellFormed th
+    → (table : List Tree) (number : ℕ) (e : Equation) (ss : List ℕ) (way : Way) (path terms : List ℕ) (t u : Tree)
     → Some e ≡ slice_get th.equations number → ss ≡ sorts_of (pair_of e) → (FitVariables (numbered 0 ss) (map (named table) terms) → ⊥)
     → EquationLeads th table number way path terms t u → ⊥
 equation_unfit th ok table number e ss way path terms t u there sorts unfit leads =
@@ -108,7 +100,8 @@ equation_unfit th ok table number e ss way path terms t u there sorts unfit lead
     unfit (subst Q (sym same) (subst P it leads.rewrites.fit))
 
 -- a rewriting under the substitution that the terms give is what the link does
-pub equation_follows : {E : Type 0} (th : Theory) → IsWellFormed th → (table : List Tree) (number : ℕ) (e : Equation) (ss : List ℕ) (σ : List Bound) (way : Way) (path terms : List ℕ) (t : Tree)
+pub equation_follows : {E : Type 0} (th : Theory) → IsWellFormed th
+    → (table : List Tree) (number : ℕ) (e : Equation) (ss : List ℕ) (σ : List Bound) (way : Way) (path terms : List ℕ) (t : Tree)
     → Some e ≡ slice_get th.equations number → ss ≡ sorts_of (pair_of e) → GivesSubst ss (map (named table) terms) (Some σ) → (r : Result (Option Tree) E)
     → IfOk r (GivesRewrite (substitution_of σ) (from_side way (pair_of e)) (to_side way (pair_of e)) path t)
     → IfOk r (Follows th table (Equation_link number way path terms) t)

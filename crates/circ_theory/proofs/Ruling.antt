@@ -1,5 +1,6 @@
 -- Which variables of a pair's right side are in its left side.
-use Rattle.std.proofs.Common.{◌≡◌, ◌≤◌, ℕ, Bool, true, false, ◌==◌, ◌&&◌, ◌||◌, if◌then◌else◌, List, [], ◌∷◌, ◌++◌, length, refl, ap, sym, ◌∙◌, arith, length-append}
+use Rattle.std.proofs.Common.{◌≡◌, ◌≤◌, ℕ, Bool, true, false, ◌==◌, ◌&&◌, ◌||◌, if◌then◌else◌, List, [], ◌∷◌, ◌++◌, length, refl, ap, sym, ◌∙◌, arith}
+use Rattle.std.proofs.Common.{length-append}
 use Rattle.std.specs.List.{list_any, list_all}
 use Rattle.std.proofs.lemmas.List.Folds.{list_any-append}
 use Rattle.std.proofs.lemmas.Bool.{eqb-true, eq-eqb, ne_eqb, and_parts}
@@ -62,7 +63,8 @@ same_variable v w e =
 any_seen : (v w : Variable) (us : List Variable) → list_any (is_variable v) (seen w us) ≡ (list_any (is_variable v) us || is_variable v w)
 any_seen v w us = go (list_any (is_variable w) us) refl (is_variable v w) refl
   where
-    go : (b : Bool) → list_any (is_variable w) us ≡ b → (e : Bool) → is_variable v w ≡ e → list_any (is_variable v) (if b then us else us ++ w ∷ []) ≡ (list_any (is_variable v) us || e)
+    go : (b : Bool) → list_any (is_variable w) us ≡ b → (e : Bool) → is_variable v w ≡ e
+        → list_any (is_variable v) (if b then us else us ++ w ∷ []) ≡ (list_any (is_variable v) us || e)
     go true h true e = let there : list_any (is_variable v) us ≡ true = ap (λ x. list_any (is_variable x) us) (same_variable v w e) ∙ h in rw there refl
     go true h false e = sym (or-false (list_any (is_variable v) us))
     go false h b e = list_any-append (is_variable v) us (w ∷ []) ∙ ap (λ x. list_any (is_variable v) us || x) (or-false (is_variable v w) ∙ e)

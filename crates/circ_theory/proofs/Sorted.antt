@@ -6,7 +6,8 @@ use Rattle.std.proofs.lemmas.Bool.{eqb-true, and_parts}
 use Rattle.circ_term.specs.Tree.{Tree, sort_of, trees_of}
 use Rattle.circ_theory.specs.Signature.{Signature, IsWellSorted, HaveSorts}
 
-pub have_sorts_of : (sig : Signature) (ts : List Tree) (ss : List ℕ) → pointwise nat_eq (map sort_of ts) ss ≡ true → AllByRecursion (IsWellSorted sig) ts → HaveSorts sig (trees_of ts) ss
+pub have_sorts_of : (sig : Signature) (ts : List Tree) (ss : List ℕ) → pointwise nat_eq (map sort_of ts) ss ≡ true
+    → AllByRecursion (IsWellSorted sig) ts → HaveSorts sig (trees_of ts) ss
 have_sorts_of sig [] [] e a = tt
 have_sorts_of sig [] (s ∷ ss) e a = absurd (cc)
 have_sorts_of sig (t ∷ ts) [] e a = absurd (cc)

@@ -83,14 +83,14 @@ abbrev pub with_equation : Theory → Equation → Theory
 with_equation th e = record th { equations = th.equations ++ e ∷ [] }
 
 -- the fault is the first one that there is, or memory ran out
-abbrev pub IsFirst : TheoryFault → Option TheoryFault → Type 0
-IsFirst Memory o = Unit {0}
-IsFirst f o = o ≡ Some f
+abbrev pub IsFaultOf : TheoryFault → Option TheoryFault → Type 0
+IsFaultOf Memory o = Unit {0}
+IsFaultOf f o = o ≡ Some f
 
 -- the new part has this number where there is no fault
 abbrev pub Numbers : Result ℕ TheoryFault → Option TheoryFault → ℕ → Type 0
 Numbers (Ok n) o number = (o ≡ None) × (n ≡ number)
-Numbers (Err f) o number = IsFirst f o
+Numbers (Err f) o number = IsFaultOf f o
 
 -- the operator on these terms, where there is such an operator and it takes their sorts
 abbrev pub application : Signature → ℕ → List Tree → Option Tree

@@ -4,7 +4,7 @@ use Rattle.std.specs.List.{Contains}
 use Rattle.circ_term.specs.Tree.{Tree, sort_of}
 use Rattle.circ_term.specs.Substitution.{Substitution, instance}
 use Rattle.circ_theory.specs.Signature.{IsSubstitution}
-use Rattle.circ_theory.specs.Theory.{Theory, Derivative, IsVisible}
+use Rattle.circ_theory.specs.Theory.{Theory, Pair, Derivative, IsVisible}
 use Rattle.circ_theory.specs.Derivable.{Derivable}
 
 -- a derivative with terms for its parameters
@@ -31,6 +31,10 @@ abbrev pub on : List Entry → Tree → Tree
 on [] t = t
 on (c ∷ cs) t = on cs (derived c.derivative t c.parameters)
 
--- Every fitting experiment gives derivable results on the two terms.
+-- Every fitting experiment on the two terms gives results that are derivable from one another, by the theory and the pairs H.
+abbrev pub BehavesFrom : Theory → List Pair → Tree → Tree → Type 0
+BehavesFrom th H s t = (cs : List Entry) → Fits th cs (sort_of s) → Derivable th H (on cs s) (on cs t)
+
+-- .. by the theory alone
 abbrev pub Behaves : Theory → Tree → Tree → Type 0
-Behaves th s t = (cs : List Entry) → Fits th cs (sort_of s) → Derivable th [] (on cs s) (on cs t)
+Behaves th s t = BehavesFrom th [] s t

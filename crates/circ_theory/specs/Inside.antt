@@ -1,5 +1,5 @@
 -- How a theory lies in memory.
-use Rattle.std.specs.Prelude.{◌≡◌, ℕ, List, [], nat_eq, length, map, Vec}
+use Rattle.std.specs.Prelude.{◌≡◌, ◌≤◌, ℕ, List, [], nat_eq, length, map, Vec}
 use Rattle.std.specs.List.{AllByRecursion, list_any}
 use Rattle.std.specs.Map.{lookup}
 use Rattle.std.specs.Option.{option_map_or}
@@ -28,9 +28,10 @@ pub record IsKeyOf (k : OpKey) (o : Operator) : Type 0 where
 abbrev pub IsEntry : OpKey × OpDecl → Type 0
 IsEntry e = IsKeyOf e.0 (operator_of e.1)
 
--- what is kept with an equation: the sorts of its variables, and whether it is a rule
+-- what is kept with an equation: the sorts of its variables, no more than there are numbers, and whether it is a rule
 pub record IsListed (l : Listed) : Type 0 where
   pub sorts : l.sorts.items ≡ sorts_of (pair_of l.equation)
+  pub few : length l.sorts.items ≤ 4294967296
   pub rule : l.rule ≡ is_rule l.equation
 
 -- the number kept with a derivative is that of its parameters

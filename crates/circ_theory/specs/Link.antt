@@ -35,7 +35,9 @@ named table n = unwrap_or (slice_get table n) (Var 0 0)
 -- One side of the pair under the substitution that the terms give is replaced by the other side under it.
 pub record RewritesBy (p : Pair) (way : Way) (path : List ℕ) (terms : List Tree) (t u : Tree) : Type 0 where
   pub fit : FitVariables (sorted (variables_of p)) terms
-  pub replaces : Replaces t path (instance (given (sorted (variables_of p)) terms) (from_side way p)) (instance (given (sorted (variables_of p)) terms) (to_side way p)) u
+  pub replaces : Replaces t path
+      (instance (given (sorted (variables_of p)) terms) (from_side way p))
+      (instance (given (sorted (variables_of p)) terms) (to_side way p)) u
 
 -- A link as plain data. The numbers of its terms are those of a table.
 pub data PlainLink : Type 0 where

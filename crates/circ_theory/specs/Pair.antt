@@ -1,5 +1,6 @@
 -- Pairs of terms, as equations, goals and premises are.
-use Rattle.std.specs.Prelude.{refl}
+use Rattle.std.specs.Prelude.{List, refl}
+use Rattle.std.specs.List.{Contains}
 use Rattle.std.specs.Coded.{Coded, code_by, coded×}
 use Rattle.circ_term.specs.Tree.{Tree}
 use Rattle.circ_term.specs.Code.{tree_code}
@@ -11,6 +12,10 @@ pub record Pair : Type 0 where
 
 abbrev pub pair_with : Tree → Tree → Pair
 pair_with s t = record { left = s; right = t }
+
+-- each pair of H is one of K
+abbrev pub Within : List Pair → List Pair → Type 0
+Within H K = (p : Pair) → Contains H p → Contains K p
 
 -- both sides under a substitution
 abbrev pub instance_pair : Substitution → Pair → Pair

@@ -4,7 +4,7 @@ use Rattle.std.specs.List.{slice_get, Contains}
 use Rattle.circ_term.specs.Tree.{Tree, Var, App, none, more, sort_of}
 use Rattle.circ_theory.specs.Signature.{Signature, Operator, IsWellSorted}
 use Rattle.circ_theory.specs.declared.parts.Equation.{Equation}
-pub use Rattle.circ_theory.specs.Pair.{Pair, pair_with, instance_pair}
+pub use Rattle.circ_theory.specs.Pair.{Pair, pair_with, instance_pair, Within}
 
 -- a term with a hole, which is variable 0 of this sort; the other variables are its parameters
 pub record Derivative : Type 0 where

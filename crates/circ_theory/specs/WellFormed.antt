@@ -26,7 +26,8 @@ pub record IsCaseList (th : Theory) (l : CaseList) : Type 0 where
   pub constants : (c : ℕ) → Contains l.constants c → (o : Operator) × ((slice_get th.signature.ops c ≡ Some o) × (o.args ≡ []) × (o.result ≡ l.sort))
   pub few : length l.constants ≤ MOST_CASES
 
--- Each listed equation is a well-sorted pair and numbered in order; declared variables have sorts; operators, derivatives and case lists are such; a sort has one case list at most; and no kind has too many parts.
+-- Each listed equation is a well-sorted pair and numbered in order; declared variables have sorts; operators, derivatives
+-- and case lists are such; a sort has one case list at most; and no kind has too many parts.
 pub record IsWellFormed (th : Theory) : Type 0 where
   pub equations : (e : Equation) → Contains th.equations e → IsWellSortedPair th.signature (pair_of e)
   pub in_order : (e : Equation) → Contains th.equations e → IsInOrder (pair_of e)

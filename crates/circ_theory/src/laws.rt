@@ -7,21 +7,32 @@ ghost use Rattle.circ_theory.specs.declared.forms.Piece.TheVariants.{Hole, Word}
 ghost use Rattle.circ_theory.specs.declared.forms.FormFault.TheVariants.{NoWord, BadWord};
 ghost use Rattle.circ_theory.specs.Form.{pieces_of, form_fault};
 ghost use Rattle.circ_theory.specs.Signature.{IsWellSorted, IsSubstitution};
-ghost use Rattle.circ_theory.specs.Theory.{Theory, Pair, instance_pair};
+ghost use Rattle.circ_theory.specs.Theory.{Theory, Pair, Within, instance_pair};
 ghost use Rattle.circ_theory.specs.Variables.{IsInOrder};
 ghost use Rattle.circ_theory.specs.Derivable.{Derivable};
-ghost use Rattle.circ_theory.specs.Experiment.{Fits, on, Behaves};
+ghost use Rattle.circ_theory.specs.Experiment.{Fits, on, BehavesFrom};
 ghost use Rattle.circ_theory.specs.WellFormed.{IsWellFormed};
 ghost use Rattle.circ_theory.specs.Examples.{bits, zero_bit, negation, streams, head, swapped, on_variables, pair};
 
 /// An instance of what is derivable is derivable from the instances of the premises.
 pub fn derivable_instances()
-    ensures { (th : Theory) (H : List Pair) (s t : Tree) (σ : Substitution) → IsSubstitution th.signature σ → Derivable th H s t → Derivable th (map (instance_pair σ) H) (instance σ s) (instance σ t) }
+    ensures { (th : Theory) (H : List Pair) (s t : Tree) (σ : Substitution)
+        → IsSubstitution th.signature σ → Derivable th H s t
+        → Derivable th (map (instance_pair σ) H) (instance σ s) (instance σ t) }
 {}
 
-/// Well-sorted terms of one sort that are derivable from one another behave alike, whatever their sort.
+/// What is derivable stays so under more premises.
+pub fn more_premises()
+    ensures { (th : Theory) (H K : List Pair) (s t : Tree)
+        → Within H K → Derivable th H s t → Derivable th K s t }
+{}
+
+/// Well-sorted terms of one sort that are derivable from one another behave alike, whatever their
+/// sort, under the same premises.
 pub fn derivable_pairs_behave()
-    ensures { (th : Theory) → IsWellFormed th → (s t : Tree) → IsWellSorted th.signature s → IsWellSorted th.signature t → sort_of t ≡ sort_of s → Derivable th [] s t → Behaves th s t }
+    ensures { (th : Theory) → IsWellFormed th → (H : List Pair) (s t : Tree)
+        → IsWellSorted th.signature s → IsWellSorted th.signature t → sort_of t ≡ sort_of s
+        → Derivable th H s t → BehavesFrom th H s t }
 {}
 
 /// With `not(0) = 1` and `not(1) = 0`, `not(not(0)) = 0` is derivable.

@@ -1,5 +1,5 @@
 //! The numbering of variables.
-ghost use Rattle.std.specs.Prelude.{◌≡◌, ◌↔◌, ◌∷◌, [], IsTrue, IfOk};
+ghost use Rattle.std.specs.Prelude.{◌≡◌, ◌↔◌, ◌≤◌, ◌^◌, length, ◌∷◌, [], IsTrue, IfOk};
 ghost use Rattle.std.specs.Bool.{OnTrue};
 ghost use Rattle.circ_term.specs.Tree.{trees_of};
 ghost use Rattle.circ_theory.specs.Variables.{IsInOrder, AreNumberedFrom, seen, seen_in, seen_in_all, sorts_of, numbered};
@@ -34,8 +34,11 @@ pub(crate) fn pair_variables(
 ) -> Result<PairVariables, AllocError>
     requires { IsInOrder (record { left = left.now; right = right.now }) }
     ensures sorts { IfOk result (λ v. v.sorts.items ≡ sorts_of (record { left = left.now; right = right.now })) }
+    ensures few { IfOk result (λ v. length v.sorts.items ≤ 2 ^ 32) }
     ensures bound { IfOk result (λ v. v.bound ≡ is_bound (record { left = left.now; right = right.now })) }
 {
+    left.known();
+    right.known();
     let mut sorts = Vec::new(alloc);
     visit(left, &mut sorts)?;
     let count = sorts.len();

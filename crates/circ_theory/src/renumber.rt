@@ -3,9 +3,9 @@ ghost use Rattle.std.specs.Prelude.{◌≡◌, ◌≤◌, ◌^◌, map, length, 
 ghost use Rattle.circ_term.specs.Tree.{trees_of};
 ghost use Rattle.circ_term.specs.Substitution.{instance};
 ghost use Rattle.circ_term.specs.Subst.{substitution_of};
-ghost use Rattle.circ_theory.specs.Theory.{pair_with, IsWellSortedPair};
+ghost use Rattle.circ_theory.specs.Theory.{pair_with, IsWellSortedPair, instance_pair};
 ghost use Rattle.circ_theory.specs.Signature.{Signature};
-ghost use Rattle.circ_theory.specs.Variables.{IsInOrder, seen, seen_in, seen_in_all};
+ghost use Rattle.circ_theory.specs.Variables.{IsInOrder, variables_of, seen, seen_in, seen_in_all};
 ghost use Rattle.circ_theory.specs.Renumbering.{renumbered, renumbering, Renumbers};
 ghost use Rattle.circ_theory.specs.Occurring.{variable_of};
 
@@ -27,15 +27,8 @@ pub fn renumbered(alloc: Global, left: &Term, right: &Term) -> Result<(Term, Ter
     ensures in_order { IfOk result (λ r. IsInOrder (pair_with r.0 r.1)) }
     ensures sorted { (sig : Signature) → IsWellSortedPair sig (pair_with left.now right.now) → IfOk result (λ r. IsWellSortedPair sig (pair_with r.0 r.1)) }
 {
-    left.known();
-    right.known();
-    let mut variables = IndexSet::new(alloc);
-    gather(left, &mut variables)?;
-    gather(right, &mut variables)?;
-    let subst = renumbering(alloc, variables.as_slice())?;
-    let left = instance(&subst, left)?;
-    let right = instance(&subst, right)?;
-    Ok((left, right))
+    let subst = pair_renumbering(alloc, left, right)?;
+    instances(&subst, left, right)
 }
 
 /// Adds the term's variables to those that were seen so far, by first occurrence.
@@ -62,6 +55,24 @@ fn gather_all(terms: &[Term], variables: &mut IndexSet<Occurring>) -> Result<(),
     Ok(())
 }
 
+// What numbers the variables of two terms anew.
+fn pair_renumbering(alloc: Global, left: &Term, right: &Term) -> Result<Subst, AllocError>
+    ensures { IfOk result (λ σ. Renumbers (substitution_of σ) (variables_of (pair_with left.now right.now))) }
+{
+    left.known();
+    right.known();
+    let mut variables = IndexSet::new(alloc);
+    gather_pair(left, right, &mut variables)?;
+    renumbering(alloc, variables.as_slice())
+}
+
+fn gather_pair(left: &Term, right: &Term, variables: &mut IndexSet<Occurring>) -> Result<(), AllocError>
+    ensures { OnOk result (map variable_of variables.new.keys ≡ seen_in right.now (seen_in left.now (map variable_of variables.old.keys))) }
+{
+    gather(left, variables)?;
+    gather(right, variables)
+}
+
 // Each variable is bound to the one that has its place as number.
 fn renumbering(alloc: Global, variables: &[Occurring]) -> Result<Subst, AllocError>
     requires { length variables.now ≤ 2 ^ 32 }
@@ -74,6 +85,14 @@ fn renumbering(alloc: Global, variables: &[Occurring]) -> Result<Subst, AllocErr
         subst.bind(variable.number, variable.sort, &number)?;
     }
     Ok(subst)
+}
+
+fn instances(subst: &Subst, left: &Term, right: &Term) -> Result<(Term, Term), AllocError>
+    ensures { IfOk result (λ r. pair_with r.0 r.1 ≡ instance_pair (substitution_of subst.now) (pair_with left.now right.now)) }
+{
+    let left = instance(subst, left)?;
+    let right = instance(subst, right)?;
+    Ok((left, right))
 }
 
 // A variable for each variable: the term keeps its shape, so it passes no limit.

@@ -59,8 +59,6 @@ pub fn follow(
     let Some(equation) = theory.equation(step.number) else {
         return Ok(None);
     };
-    equation.left.known();
-    equation.right.known();
     let Some(sorts) = theory.equation_sorts(step.number) else {
         return Ok(None);
     };
@@ -163,7 +161,7 @@ fn rewrite(
     let Some(new) = instance(alloc, subst, to)? else {
         return Ok(None);
     };
-    put(alloc, term, path, &new)
+    replaced_at(alloc, term, path, &new)
 }
 
 fn instance(alloc: Global, subst: &Subst, term: &Term) -> Result<Option<Term>, AllocError>
@@ -177,7 +175,12 @@ fn instance(alloc: Global, subst: &Subst, term: &Term) -> Result<Option<Term>, A
     }
 }
 
-fn put(alloc: Global, term: &Term, path: &[u16], new: &Term) -> Result<Option<Term>, AllocError>
+fn replaced_at(
+    alloc: Global,
+    term: &Term,
+    path: &[u16],
+    new: &Term,
+) -> Result<Option<Term>, AllocError>
     ensures { IfOk result (GivesReplaced term.now path.now new.now) }
 {
     match term.replace(alloc, path, new) {

@@ -1,5 +1,5 @@
 //! Theories: sorts, operators, equations, derivatives and case lists, each kind numbered from 0 in order of declaration.
-ghost use Rattle.std.specs.Prelude.{◌≡◌, ◌↔◌, ◌≤◌, ℕ, List, ◌∷◌, ◌++◌, if◌then◌else◌, [], false, ◌&&◌, is_some, map, IsTrue, IfOk, OnOk, OnErr, IfSome, nat_lt, nat_eq, not, find, length, unwrap_or};
+ghost use Rattle.std.specs.Prelude.{◌≡◌, ◌↔◌, ◌≤◌, ◌^◌, ℕ, List, ◌∷◌, ◌++◌, if◌then◌else◌, [], false, ◌&&◌, is_some, map, IsTrue, IfOk, IfErr, None, OnOk, OnErr, IfSome, nat_lt, nat_eq, not, find, length, unwrap_or};
 ghost use Rattle.std.specs.List.{slice_get, AllByRecursion, Contains};
 ghost use Rattle.std.specs.Option.{option_copied, option_map, option_map_or};
 ghost use Rattle.std.specs.Cmp.Lexicographic.{pointwise};
@@ -10,10 +10,10 @@ ghost use Rattle.circ_theory.specs.Theory.{pair_of, declared, Declared, IsWellSo
 ghost use Rattle.circ_theory.specs.Variables.{IsInOrder, sorts_of};
 ghost use Rattle.circ_theory.specs.Operators.{operator_of, is_ill_sorted, hole_count, ops_by_word};
 ghost use Rattle.circ_theory.specs.WellFormed.{IsWellFormed};
-ghost use Rattle.circ_theory.specs.Adding.{Numbers, sort_number, sort_fault, op_fault, equation_fault, var_number, old_var_fault, new_var_fault, var_fault, count_fault, unknown_sort, with_sort, with_var, with_op, with_equation, application, op_of_form};
+ghost use Rattle.circ_theory.specs.Adding.{Numbers, IsFaultOf, sort_number, sort_fault, op_fault, equation_fault, var_number, old_var_fault, new_var_fault, var_fault, count_fault, unknown_sort, with_sort, with_var, with_op, with_equation, application, op_of_form};
 ghost use Rattle.circ_theory.specs.Names.{AreDifferent, names_of};
 ghost use Rattle.circ_theory.specs.Rule.{is_rule};
-ghost use Rattle.circ_theory.specs.Observing.{AreParametersInOrder, parameters_in, first_repeated, first_or_zero, derivative_with, slots_fault, derivative_fault, with_derivative, cases_of, cases_fault, with_cases, is_hidden, is_constant, no_constants, long_fault};
+ghost use Rattle.circ_theory.specs.Observing.{AreParametersInOrder, holes_in, parameters_in, first_repeated, first_or_zero, derivative_with, slots_fault, derivative_fault, with_derivative, cases_of, cases_fault, with_cases, is_hidden, is_constant, no_constants, long_fault};
 ghost use Rattle.circ_theory.specs.Inside.{IsKeyOf, kept_under};
 
 use crate::adding::{
@@ -205,11 +205,8 @@ impl Theory {
         ensures added { OnOk result (self.new ≡ with_op self.old (operator_of decl)) }
         ensures err { OnErr result (self.new ≡ self.old) }
     {
-        let key = key_of(self.alloc, &decl)?;
-        if let Some(fault) = self.op_fault(&key, &decl) {
-            return Err(fault);
-        }
         let number = self.op_count();
+        let key = self.new_key(&decl)?;
         let parts = &mut *self.parts;
         parts.ops.reserve(1)?;
         note_word(self.alloc, &mut parts.by_word, decl.form.first_word(), number)?;
@@ -251,15 +248,8 @@ impl Theory {
         ensures added { OnOk result (self.new ≡ with_derivative self.old term) }
         ensures err { OnErr result (self.new ≡ self.old) }
     {
-        term.known();
-        let slots = slots_of(self.alloc, &term)?;
-        let repeated = first_repeated(self.alloc, slots.params.as_slice())?;
-        if let Some(fault) = self.derivative_fault(repeated, &slots) {
-            return Err(fault);
-        }
         let number = self.derivative_count();
-        let hole = first_or_zero(slots.holes.as_slice());
-        let params = slots.params.len();
+        let (hole, params) = self.hole_and_params(&term)?;
         let observer = Observer { term, hole, params };
         let parts = &mut *self.parts;
         parts.derivatives.reserve(1)?;
@@ -454,6 +444,7 @@ impl Theory {
     fn listed(&self, n: u32) -> Option<&Listed>
         ensures equation { option_map (λ l. l.now.equation) result ≡ slice_get self.now.equations n }
         ensures sorts { IfSome result (λ l. l.now.sorts.items ≡ sorts_of (pair_of l.now.equation)) }
+        ensures few { IfSome result (λ l. length l.now.sorts.items ≤ 2 ^ 32) }
         ensures rule { IfSome result (λ l. l.now.rule ≡ is_rule l.now.equation) }
     {
         self.parts.equations.get(n as usize)
@@ -471,7 +462,8 @@ impl Theory {
 
     /// The sorts of an equation's variables, by the variables' numbers.
     pub fn equation_sorts(&self, n: u32) -> Option<&[u32]>
-        ensures { option_copied result ≡ option_map (λ e. sorts_of (pair_of e)) (slice_get self.now.equations n) }
+        ensures few { IfSome result (λ sorts. length sorts.now ≤ 2 ^ 32) }
+        ensures exact { option_copied result ≡ option_map (λ e. sorts_of (pair_of e)) (slice_get self.now.equations n) }
     {
         match self.listed(n) {
             Some(listed) => Some(listed.sorts.as_slice()),
@@ -603,6 +595,19 @@ impl Theory {
         }
     }
 
+    // The key of an operator that can be added.
+    fn new_key(&self, decl: &OpDecl) -> Result<OpKey, TheoryFault>
+        ensures fault { IfErr result (λ f. IsFaultOf f (op_fault self.now (operator_of decl.now))) }
+        ensures new { IfOk result (λ _. op_fault self.now (operator_of decl.now) ≡ None) }
+        ensures key { IfOk result (λ k. IsKeyOf k (operator_of decl.now)) }
+    {
+        let key = key_of(self.alloc, decl)?;
+        match self.op_fault(&key, decl) {
+            Some(fault) => Err(fault),
+            None => Ok(key),
+        }
+    }
+
     fn op_fault(&self, key: &OpKey, decl: &OpDecl) -> Option<TheoryFault>
         requires { IsKeyOf key.now (operator_of decl.now) }
         ensures { result ≡ op_fault self.now (operator_of decl.now) }
@@ -625,6 +630,22 @@ impl Theory {
             });
         }
         count_fault(number, MOST_OPS)
+    }
+
+    // The sort of the hole and the number of the parameters of a term that can be added as a derivative.
+    fn hole_and_params(&self, term: &Term) -> Result<(u32, usize), TheoryFault>
+        ensures fault { IfErr result (λ f. IsFaultOf f (derivative_fault self.now term.now)) }
+        ensures new { IfOk result (λ _. derivative_fault self.now term.now ≡ None) }
+        ensures hole { IfOk result (λ r. r.0 ≡ first_or_zero (holes_in term.now)) }
+        ensures params { IfOk result (λ r. r.1 ≡ length (parameters_in term.now)) }
+    {
+        term.known();
+        let slots = slots_of(self.alloc, term)?;
+        let repeated = first_repeated(self.alloc, slots.params.as_slice())?;
+        if let Some(fault) = self.derivative_fault(repeated, &slots) {
+            return Err(fault);
+        }
+        Ok((first_or_zero(slots.holes.as_slice()), slots.params.len()))
     }
 
     fn derivative_fault(&self, repeated: Option<u32>, slots: &Slots) -> Option<TheoryFault>

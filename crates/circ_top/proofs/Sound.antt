@@ -67,7 +67,7 @@ all_behave : (th : Theory) → IsWellFormed th → (gs : List Pair) → AllByRec
 all_behave th ok [] w d g c = absurd (omega (arith, c.1))
 all_behave th ok (h ∷ gs) w d g (zero, l, e) =
     let P : Pair → Type 0 = λ x. Behaves th x.left x.right in
-    subst P e (derivable_behaves th ok h.left h.right w.0.left w.0.right w.0.same_sort d.0)
+    subst P e (derivable_behaves th ok [] h.left h.right w.0.left w.0.right w.0.same_sort d.0)
 all_behave th ok (h ∷ gs) w d g (suc k, l, e) = all_behave th ok gs w.1 d.1 g (k, omega arith, e)
 
 -- every goal of an accepted proof behaves

@@ -1,23 +1,11 @@
-use Rattle.std.proofs.Common.{◌≡◌, [], IfOk, length, ap, arith}
+use Rattle.std.proofs.Common.{◌≡◌, [], IfOk}
 use Rattle.circ_term.specs.Tree.{sort_of}
-use Rattle.circ_term.proofs.Limits.{within_limits}
 use Rattle.circ_theory.specs.Signature.{IsWellSorted}
-use Rattle.circ_theory.specs.Theory.{pair_of}
 use Rattle.circ_theory.specs.Derivable.{Derivable}
-use Rattle.circ_theory.proofs.Numbering.{length-sorts_of}
 use Rattle.circ_theory.specs.Link.{plain_link, Follows}
 use Rattle.circ_theory.proofs.Rewriting.{sorts_are, equation_unfit, equation_follows, link_keeps, if_follows}
 use Rattle.circ_theory.proofs.replay.follow.Goals as goal
 use Rattle.circ_theory.proofs.replay.follow.Goals.{After-drop-subst-inside}
-
-pub substitution-requires-clause-few : goal.substitution-requires-clause-few
-substitution-requires-clause-few c =
-    let e = c.in-Some.equation.now in
-    let sorts = sorts_are c.args.theory.now.equations c.step_of-step.result.number e c.in-Some-equation_sorts.sorts.now c.in-Some.ensures c.in-Some-equation_sorts.ensures in
-    let few = length-sorts_of (pair_of e) in
-    let left = (within_limits e.left c.known-2.ensures).0 in
-    let right = (within_limits e.right c.known-3.ensures).0 in
-    omega (arith, ap length sorts)
 
 pub returns-in_default-2-clause-exact : goal.returns-in_default-2-clause-exact
 returns-in_default-2-clause-exact c = λ u leads.
@@ -26,7 +14,7 @@ returns-in_default-2-clause-exact c = λ u leads.
     let e = c.in-Some.equation.now in
     let ss = c.in-Some-equation_sorts.sorts.now in
     equation_unfit th c.known.ensures c.args.table.now step.number e ss step.way step.path.now step.terms.now c.args.term.now u c.in-Some.ensures
-    (sorts_are th.equations step.number e ss c.in-Some.ensures c.in-Some-equation_sorts.ensures) (rw c.in_default-2.is at c.in_ok-subst.ensures) (rw c.step_of-step.ensures at leads)
+    (sorts_are th.equations step.number e ss c.in-Some.ensures c.in-Some-equation_sorts.ensures.exact) (rw c.in_default-2.is at c.in_ok-subst.ensures) (rw c.step_of-step.ensures at leads)
 
 exact : (c : After-drop-subst-inside) → IfOk c.rewrite.result (Follows c.args.theory.now c.args.table.now (plain_link c.args.link.now) c.args.term.now)
 exact c =
@@ -36,7 +24,7 @@ exact c =
     let ss = c.in-Some-equation_sorts.sorts.now in
     rw c.step_of-step.ensures
     (equation_follows th c.known.ensures c.args.table.now step.number e ss c.in-Some-2.subst step.way step.path.now step.terms.now c.args.term.now c.in-Some.ensures
-    (sorts_are th.equations step.number e ss c.in-Some.ensures c.in-Some-equation_sorts.ensures) (rw c.in-Some-2.is at c.in_ok-subst.ensures) c.rewrite.result
+    (sorts_are th.equations step.number e ss c.in-Some.ensures c.in-Some-equation_sorts.ensures.exact) (rw c.in-Some-2.is at c.in_ok-subst.ensures) c.rewrite.result
     (rw (c.from_side-from.ensures, c.to_side-to.ensures) at c.rewrite.ensures))
 
 pub returns-clause-exact : goal.returns-clause-exact

@@ -14,7 +14,8 @@ apply-returns-then-is_ground t c =
 pub apply-app-requires : goal.apply-app-requires
 apply-app-requires t c =
     let there = ap (λ u. length (args_of u)) c.in-Application.ensures.value in
-    omega (arith, ap length c.in-Ok.ensures.0, length-instances (substitution_of c.args.self.now) (trees_of c.in-Application.args.now), there, c.in-Application.ensures.few)
+    let same = length-instances (substitution_of c.args.self.now) (trees_of c.in-Application.args.now) in
+    omega (arith, ap length c.in-Ok.ensures.0, same, there, c.in-Application.ensures.few)
 
 pub apply-returns-in-Ok : goal.apply-returns-in-Ok
 apply-returns-in-Ok t c =

@@ -16,7 +16,8 @@ with_arg-requires t c = rw c.args-in-Ok-Some.ensures.value (slice_get_within _ _
 
 pub app-requires : goal.app-requires
 app-requires t c =
-    omega (arith, c.args-in-Ok-Some.ensures.few, ap length c.in_ok-args-in-Ok-Some.ensures, length-set c.args-in-Ok-Some.result.now c.in-Some.place.now c.in-Ok-Some.arg)
+    let same = length-set c.args-in-Ok-Some.result.now c.in-Some.place.now c.in-Ok-Some.arg in
+    omega (arith, c.args-in-Ok-Some.ensures.few, ap length c.in_ok-args-in-Ok-Some.ensures, same)
 
 pub returns-in-Err : goal.returns-in-Err
 returns-in-Err t c =

@@ -26,7 +26,7 @@ invariant_of-self-2 c =
       well_formed = subst P (sym (ap (map (λ l. l.equation)) items ∙ map-push (λ l. l.equation) p.equations.items _))
           (equation_grows th e kept.well_formed (rw (← is_theory) at c.requires.sorted) c.requires.in_order room);
       entries = kept.entries;
-      listed = subst (AllByRecursion IsListed) (sym items) (all_push IsListed p.equations.items _ kept.listed (record { sorts = c.in_ok-variables.ensures.sorts; rule = c.is_rule_with-rule.ensures ∙ ap (λ b. c.args.exec && is_some (operator_number c.args.left) && b) c.in_ok-variables.ensures.bound }));
+      listed = subst (AllByRecursion IsListed) (sym items) (all_push IsListed p.equations.items _ kept.listed (record { sorts = c.in_ok-variables.ensures.sorts; few = c.in_ok-variables.ensures.few; rule = c.is_rule_with-rule.ensures ∙ ap (λ b. c.args.exec && is_some (operator_number c.args.left) && b) c.in_ok-variables.ensures.bound }));
       observers = kept.observers;
       hidden = kept.hidden;
       by_word = kept.by_word;

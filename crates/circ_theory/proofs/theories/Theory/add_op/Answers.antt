@@ -27,13 +27,13 @@ abbrev same_keys : OpKey → OpKey → Bool
 same_keys a b = pointwise nat_eq a.form.items b.form.items && pointwise nat_eq a.args.items b.args.items
 
 is_new : (c : Joined-this) → IsNew (theory_of c.deref_mut-parts.result.now) (operator_of c.args.decl)
-is_new c = new_operator (theory_of c.deref_mut-parts.result.now) (operator_of c.args.decl) c.in_ok-key.ensures.is_form (rw (← (is_theory c)) at (sym c.op_fault.ensures ∙ c.in_default.is))
+is_new c = new_operator (theory_of c.deref_mut-parts.result.now) (operator_of c.args.decl) c.in_ok-key.ensures.key.is_form (rw (← (is_theory c)) at c.in_ok-key.ensures.new)
 
 grown : (c : Joined-this) → c.insert.new.self.entries ≡ c.deref_mut-parts.result.now.ops.entries ++ (c.in_ok-key.key, c.args.decl) ∷ []
 grown c =
     c.in-Ok.ensures.entries ∙ ap (λ es. insert_entry same_keys es c.in_ok-key.key c.args.decl) c.in_ok-reserve.ensures.entries
     ∙ entry_last same_keys c.deref_mut-parts.result.now.ops.entries c.in_ok-key.key c.args.decl
-    (key_position c.in_ok-key.key (operator_of c.args.decl) c.deref_mut-parts.result.now.ops.entries c.in_ok-key.ensures (is_kept c).entries ∙ (is_new c).number)
+    (key_position c.in_ok-key.key (operator_of c.args.decl) c.deref_mut-parts.result.now.ops.entries c.in_ok-key.ensures.key (is_kept c).entries ∙ (is_new c).number)
 
 ops_grown : (c : Joined-this) → map (λ e. operator_of e.1) c.insert.new.self.entries ≡ (theory_of c.deref_mut-parts.result.now).signature.ops ++ operator_of c.args.decl ∷ []
 ops_grown c = ap (map (λ e. operator_of e.1)) (grown c) ∙ map-push (λ e. operator_of e.1) c.deref_mut-parts.result.now.ops.entries (c.in_ok-key.key, c.args.decl)
@@ -45,7 +45,7 @@ invariant_of-self-2 c =
     let P : List Operator → Type 0 = λ os. IsWellFormed (record th { signature = record th.signature { ops = os } }) in
     record {
       well_formed = subst P (sym (ops_grown c)) (op_grows th (operator_of c.args.decl) (is_kept c).well_formed new.operator new.room);
-      entries = subst (AllByRecursion IsEntry) (sym (grown c)) (all_push IsEntry c.deref_mut-parts.result.now.ops.entries (c.in_ok-key.key, c.args.decl) (is_kept c).entries c.in_ok-key.ensures);
+      entries = subst (AllByRecursion IsEntry) (sym (grown c)) (all_push IsEntry c.deref_mut-parts.result.now.ops.entries (c.in_ok-key.key, c.args.decl) (is_kept c).entries c.in_ok-key.ensures.key);
       listed = (is_kept c).listed;
       observers = (is_kept c).observers;
       hidden = (is_kept c).hidden;

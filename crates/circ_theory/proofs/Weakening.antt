@@ -1,0 +1,37 @@
+-- What is derivable stays so under more premises.
+use Rattle.std.specs.Prelude.{◌≡◌, ◌⊎◌, ℕ, zero, suc, List, ◌∷◌}
+use Rattle.std.specs.List.{Contains}
+use Rattle.std.proofs.Common.{inl, inr, arith}
+use Rattle.circ_term.specs.Tree.{Tree, Trees}
+use Rattle.circ_theory.specs.Theory.{Theory, Pair, Within}
+use Rattle.circ_theory.specs.Derivable.{Derivable, by_same, by_symmetry, by_chain, by_operator, by_equation, by_premise, by_cases, is_case}
+use Rattle.circ_theory.specs.Derivable.{DerivableAll, no_args, more_args}
+
+pub first_or_rest : {X : Type 0} (x y : X) (xs : List X) → Contains (x ∷ xs) y → (x ≡ y) ⊎ Contains xs y
+first_or_rest x y xs (zero, h, e) = inl e
+first_or_rest x y xs (suc k, h, e) = inr (k, omega arith, e)
+
+pub in_rest : {X : Type 0} (x y : X) (xs : List X) → Contains xs y → Contains (x ∷ xs) y
+in_rest x y xs c = (suc c.0, omega (arith, c.1), c.2)
+
+pub within_more : (q : Pair) (H K : List Pair) → Within H K → Within (q ∷ H) (q ∷ K)
+within_more q H K w p c = go (first_or_rest q p H c)
+  where
+    go : (q ≡ p) ⊎ Contains H p → Contains (q ∷ K) p
+    go (inl e) = (zero, omega arith, e)
+    go (inr d) = in_rest q p K (w p d)
+
+mutual
+  pub weaken : (th : Theory) {H : List Pair} {s t : Tree} → Derivable th H s t → (K : List Pair) → Within H K → Derivable th K s t
+  weaken th (by_same t h) K w = by_same t h
+  weaken th (by_symmetry d) K w = by_symmetry (weaken th d K w)
+  weaken th (by_chain m d e) K w = by_chain m (weaken th d K w) (weaken th e K w)
+  weaken th (by_operator f k a b ds) K w = by_operator f k a b (weaken_all th ds K w)
+  weaken th (by_equation e σ c s) K w = by_equation e σ c s
+  weaken th (by_premise p c s) K w = by_premise p (w p c) s
+  weaken th (by_cases {H = H} u l c a b f) K w =
+      by_cases u l c a b (λ k h. weaken th (f k h) (is_case u l k ∷ K) (within_more (is_case u l k) H K w))
+
+  pub weaken_all : (th : Theory) {H : List Pair} {ss ts : Trees} → DerivableAll th H ss ts → (K : List Pair) → Within H K → DerivableAll th K ss ts
+  weaken_all th no_args K w = no_args
+  weaken_all th (more_args d ds) K w = more_args (weaken th d K w) (weaken_all th ds K w)
