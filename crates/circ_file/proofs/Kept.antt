@@ -161,7 +161,7 @@ module _ (sig : Signature) (table : List Tree) (e : TableLine) (t : Tree) (has :
                 (kept.marked.first n u (sym (slice_get-within marks fresh n (omega (arith, kept.marked.long, slice_get_within table n u old))) ∙ mark) old)
             go (inr new) =
                 let here : slice_get (marks ++ fresh ∷ []) n ≡ Some fresh = ap (λ k. slice_get (marks ++ fresh ∷ []) k) (new.0 ∙ sym kept.marked.long)
-                    ∙ slice_get-push marks fresh in
+                ∙ slice_get-push marks fresh in
                 let f : IsLeastNumber (table ++ t ∷ []) t (length table) = (is_first fresh enter).0 (same_Some fresh true (sym here ∙ mark)) in
                 let P : ℕ → Type 0 = λ k. IsLeastNumber (table ++ t ∷ []) t k in
                 let Q : Tree → Type 0 = λ x. IsLeastNumber (table ++ t ∷ []) x n in

@@ -60,7 +60,7 @@ module _ {X : Type 0} {f : X → List ℕ} {item : List ℕ → Option (X × Lis
       gives : (bs : List ℕ) (x : X) (r : List ℕ) → ended item t bs ≡ Some (x, r) → (bs ≡ (f x ++ t) ++ r) × Fits x
       gives bs x r e =
           let p : (q : X × List ℕ) × (item bs ≡ Some q) × (option_map (λ s. (q.0, s)) (rest_after t q.1) ≡ Some (x, r)) =
-              bind_some (λ q. option_map (λ s. (q.0, s)) (rest_after t q.1)) (item bs) (x, r) e in
+          bind_some (λ q. option_map (λ s. (q.0, s)) (rest_after t q.1)) (item bs) (x, r) e in
           let m : (s : List ℕ) × (rest_after t p.0.1 ≡ Some s) × ((p.0.0, s) ≡ (x, r)) = map_some (λ s. (p.0.0, s)) (rest_after t p.0.1) (x, r) p.2 in
           let g : (bs ≡ f x ++ p.0.1) × Fits x = is.gives bs x p.0.1 (p.1 ∙ ap (λ q. Some (q.0, p.0.1)) m.2) in
           (g.0 ∙ ap (λ s. f x ++ s) (after_gives t p.0.1 r (m.1 ∙ ap (λ q. Some (q.1)) m.2)) ∙ sym (append_assoc (f x) t r), g.1)
@@ -95,7 +95,7 @@ module _ {X : Type 0} {f : X → List ℕ} {item : List ℕ → Option (X × Lis
       gives : (bs : List ℕ) (p : X × Y) (r : List ℕ) → seq item jtem bs ≡ Some (p, r) → (bs ≡ (f p.0 ++ g p.1) ++ r) × (Fits p.0 × Good p.1)
       gives bs p r e =
           let b : (q : X × List ℕ) × (item bs ≡ Some q) × (option_map (λ s. ((q.0, s.0), s.1)) (jtem q.1) ≡ Some (p, r)) =
-              bind_some (λ q. option_map (λ s. ((q.0, s.0), s.1)) (jtem q.1)) (item bs) (p, r) e in
+          bind_some (λ q. option_map (λ s. ((q.0, s.0), s.1)) (jtem q.1)) (item bs) (p, r) e in
           let m : (s : Y × List ℕ) × (jtem b.0.1 ≡ Some s) × (((b.0.0, s.0), s.1) ≡ (p, r)) = map_some (λ s. ((b.0.0, s.0), s.1)) (jtem b.0.1) (p, r) b.2 in
           let front : (bs ≡ f p.0 ++ b.0.1) × Fits p.0 = is.gives bs p.0 b.0.1 (b.1 ∙ ap (λ q. Some (q.0.0, b.0.1)) m.2) in
           let rest : (b.0.1 ≡ g p.1 ++ r) × Good p.1 = second.gives b.0.1 p.1 r (m.1 ∙ ap (λ q. Some (q.0.1, q.1)) m.2) in
@@ -113,7 +113,7 @@ module _ {X : Type 0} {f : X → List ℕ} {item : List ℕ → Option (X × Lis
       gives : (bs : List ℕ) (x : X) (r : List ℕ) → checked test item bs ≡ Some (x, r) → (bs ≡ f x ++ r) × (Fits x × (test x ≡ true))
       gives bs x r e =
           let p : (q : X × List ℕ) × (item bs ≡ Some q) × ((if test q.0 then Some q else None) ≡ Some (x, r)) =
-              bind_some (λ q. if test q.0 then Some q else None) (item bs) (x, r) e in
+          bind_some (λ q. if test q.0 then Some q else None) (item bs) (x, r) e in
           go p.0 p.1 (test p.0.0) refl p.2
         where
           go : (q : X × List ℕ) → item bs ≡ Some q → (t : Bool) → test q.0 ≡ t → (if t then Some q else None)

@@ -69,15 +69,15 @@ table_line_item = record { gives = gives; again = again }
             → (b ∷ bs ≡ table_line_text x ++ r) × IsSmallTableLine x
         go true u is other e =
             let m : (p : (ℕ × ℕ) × List ℕ) × (pair_at (2 ^ 32) bs ≡ Some p) × ((to_variable p.0, p.1) ≡ (x, r)) =
-                map_some (λ p. (to_variable p.0, p.1)) (pair_at (2 ^ 32) bs) (x, r) e in
+            map_some (λ p. (to_variable p.0, p.1)) (pair_at (2 ^ 32) bs) (x, r) e in
             let g : (bs ≡ pair_text m.0.0 ++ m.0.1) × ((m.0.0.0 < 2 ^ 32) × (m.0.0.1 < 2 ^ 32)) = pairs.gives bs m.0.0 m.0.1 m.1 in
             let P : TableLine × List ℕ → Type 0 = λ q. (b ∷ bs ≡ table_line_text q.0 ++ q.1) × IsSmallTableLine q.0 in
             subst P m.2 (ap (λ c. c ∷ bs) (is refl) ∙ ap (λ s. 118 ∷ s) g.0 ∙ ap (λ t. t ++ m.0.1) (variable_text m.0.0.0 m.0.0.1), g.1)
         go false true other is e =
             let m : (p : (ℕ × List ℕ) × List ℕ) × (application_at bs ≡ Some p) × ((to_application p.0, p.1) ≡ (x, r)) =
-                map_some (λ p. (to_application p.0, p.1)) (application_at bs) (x, r) e in
+            map_some (λ p. (to_application p.0, p.1)) (application_at bs) (x, r) e in
             let g : (bs ≡ (number_text m.0.0.0 ++ row_text m.0.0.1) ++ m.0.1) × ((m.0.0.0 < 2 ^ 32) × AreSmall m.0.0.1) =
-                application_item.gives bs m.0.0 m.0.1 m.1 in
+            application_item.gives bs m.0.0 m.0.1 m.1 in
             let P : TableLine × List ℕ → Type 0 = λ q. (b ∷ bs ≡ table_line_text q.0 ++ q.1) × IsSmallTableLine q.0 in
             subst P m.2 (ap (λ c. c ∷ bs) (is refl) ∙ ap (λ s. 97 ∷ s) g.0 ∙ ap (λ t. t ++ m.0.1) (application_text m.0.0.0 m.0.0.1), g.1)
         go false false other is e = absurd (cc)

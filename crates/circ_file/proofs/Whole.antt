@@ -108,7 +108,7 @@ pub reads : (th : Theory) (bytes start : List ℕ) (table : List Tree) (rest : L
 reads th bytes start table rest b header tabled body =
     let h : HasRead th.signature start tabled.0 table rest = tabled.1 in
     let lines : (start ≡ texts table_line_text tabled.0 ++ rest) × AllByRecursion IsSmallTableLine tabled.0 =
-        run_gives table_line_item table_line_follows start tabled.0 rest h.run in
+    run_gives table_line_item table_line_follows start tabled.0 rest h.run in
     let end : (rest ≡ body_text b ++ []) × BodyFits table b = (body_item table (let few = h.few in omega arith)).gives rest b [] (sym body) in
     let goals = and_parts (list_all (is_one_sort table) b.0) (is_some_list b.0) end.1.0.1 in
     record {
@@ -153,9 +153,11 @@ small_lines : (th : Theory) (table : List Tree) (es : List TableLine) (ts : List
     → AllByRecursion (IsWellSorted th.signature) ts → AllByRecursion IsSmallTableLine es
 small_lines th table [] ts w few have sorted = tt
 small_lines th table (e ∷ es) [] w few have sorted = absurd have
-small_lines th table (e ∷ es) (t ∷ ts) w few have sorted =
-    (small_line th table e t w (omega arith) have.0 sorted.0, small_lines th (table ++ t ∷ []) es ts w (omega (arith, few, length-append table (t ∷ [])))
-    have.1 sorted.1)
+small_lines th table (e ∷ es) (t ∷ ts) w few have sorted = (
+  small_line th table e t w (omega arith) have.0 sorted.0,
+  small_lines th (table ++ t ∷ []) es ts w (omega (arith, few, length-append table (t ∷ [])))
+      have.1 sorted.1,
+)
 
 both_fit : {X : Type 0} (P Q : X → Type 0) (xs : List X) → AllByRecursion P xs → AllByRecursion Q xs → AllByRecursion (λ x. P x × Q x) xs
 both_fit P Q [] f g = tt
@@ -163,9 +165,14 @@ both_fit P Q (x ∷ xs) f g = ((f.0, g.0), both_fit P Q xs f.1 g.1)
 
 chains_fit : (count : ℕ) (cs : List Chain) → AllByRecursion (IsChainFor count) cs → AllByRecursion IsWritableChain cs → AllByRecursion (ChainFits count) cs
 chains_fit count [] f g = tt
-chains_fit count (c ∷ cs) f g =
-    ((both_fit (IsLinkFor count) IsWritable c.left f.0.left g.0.left, both_fit (IsLinkFor count)
-    IsWritable c.right f.0.right g.0.right), chains_fit count cs f.1 g.1)
+chains_fit count (c ∷ cs) f g = (
+  (
+    both_fit (IsLinkFor count) IsWritable c.left f.0.left g.0.left,
+    both_fit (IsLinkFor count)
+        IsWritable c.right f.0.right g.0.right,
+  ),
+  chains_fit count cs f.1 g.1,
+)
 
 good_terms : (sig : Signature) (ts : List Tree) → AllByRecursion (IsWellSorted sig) ts → AllByRecursion IsWithinLimits ts → AllByRecursion (IsGood sig) ts
 good_terms sig [] f g = tt
@@ -198,9 +205,11 @@ module _ (th : Theory) (w : IsWellFormed th) (bytes : List ℕ) (p : Proof) (r :
       let same : ◌≡◌ {A = List TableLine × List ℕ} (t.0, rest) (r.lines, body_text (p.names, p.chains)) =
       run_items_at table_line_item table_line_follows bs t.0 rest h.run t.2
       ∙ sym (run_items_at table_line_item table_line_follows bs r.lines (body_text (p.names, p.chains)) run refl) in
-      let P : List TableLine → Type 0 = λ es. HaveTerms [] es table in
-      (one_table th.signature [] r.lines table p.table (subst P (ap (λ z. z.0) same) h.terms) r.table (all_sorted th.signature table h.good) r.fits.sorted, ap
-      (λ z. z.1) same)
+      let P : List TableLine → Type 0 = λ es. HaveTerms [] es table in (
+        one_table th.signature [] r.lines table p.table (subst P (ap (λ z. z.0) same) h.terms) r.table (all_sorted th.signature table h.good) r.fits.sorted,
+        ap
+            (λ z. z.1) same,
+      )
 
   reads_body : body_at p.table (body_text (p.names, p.chains)) ≡ Some ((p.names, p.chains), [])
   reads_body =
@@ -245,12 +254,20 @@ pub one_proof : (th : Theory) → IsWellFormed th → (bytes : List ℕ) (p q : 
 one_proof th w bytes p q r s =
     let start : List ℕ = texts table_line_text s.lines ++ body_text (q.names, q.chains) in
     let header : Some start ≡ rest_after (codes "circproof 1\n") bytes = sym (reads_header th w bytes q s) in
-    let t : ReadsTable th.signature start (Some (q.table, body_text (q.names, q.chains))) =
-    (s.lines, record { run = run th w bytes q s; terms = s.table; good = good_terms th.signature q.table s.fits.sorted s.fits.within; few =
-    s.fits.short_table }, refl) in
+    let t : ReadsTable th.signature start (Some (q.table, body_text (q.names, q.chains))) = (
+      s.lines,
+      record {
+        run = run th w bytes q s;
+        terms = s.table;
+        good = good_terms th.signature q.table s.fits.sorted s.fits.within;
+        few =
+            s.fits.short_table;
+      },
+      refl,
+    ) in
     let P : List ℕ → Type 0 = λ x. ReadsTable th.signature x (Some (q.table, body_text (q.names, q.chains))) in
     let table : q.table ≡ p.table =
-        (reads_table th w bytes p r q.table (body_text (q.names, q.chains)) (subst P (sym (starts th w bytes p r start header)) t)).0 in
+    (reads_table th w bytes p r q.table (body_text (q.names, q.chains)) (subst P (sym (starts th w bytes p r start header)) t)).0 in
     let parts = same_Some {A = (List GoalNames × List Chain) × List ℕ} ((q.names, q.chains), []) ((p.names, p.chains), [])
     (sym (reads_body th w bytes q s) ∙ body_is th w bytes p r start q.table (body_text (q.names, q.chains)) header t) in
     rw (table, ap (λ z. z.0.0) parts, ap (λ z. z.0.1) parts) refl

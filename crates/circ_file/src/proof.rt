@@ -12,7 +12,7 @@ pub struct Chain {
 }
 
 /// A goal, by the numbers of its two sides in the table.
-#[derive(Debug, Clone, Copy, PartialEq, Eq)]
+#[derive(Clone, Copy)]
 pub struct GoalNames {
     /// The left side.
     pub left: u32,

@@ -28,7 +28,7 @@ returns-then-not-branch c =
 pub loop-table-smaller : goal.loop-table-smaller
 loop-table-smaller c =
     let read = rw c.in-Some.is at c.in_ok-line.ensures in
-        shorter table_line_item table_line_follows c.loop-table.rest.now (plain_table_line c.in-Some.line) c.in-Some.more.now read
+    shorter table_line_item table_line_follows c.loop-table.rest.now (plain_table_line c.in-Some.line) c.in-Some.more.now read
 
 pub loop-table-preserved : goal.loop-table-preserved
 loop-table-preserved c =
