@@ -10,25 +10,26 @@ use Rattle.circ_term.specs.Tree.{Tree, Trees, Var, App, none, more, sort_of, tre
 use Rattle.circ_theory.specs.Signature.{Signature, Operator, IsWellSorted, HaveSorts}
 use Rattle.circ_theory.specs.Adding.{application}
 use Rattle.circ_theory.proofs.Lists.{all_at}
-use Rattle.circ_file.specs.ProofText.{a, IsFirst, AreFirst, HasTerm}
+use Rattle.circ_file.specs.ProofText.{a, IsLeastNumber, AreLeastNumbers, HasTerm}
 use Rattle.circ_file.proofs.Terms.{are_first_terms}
 use Rattle.circ_file.specs.Table.{GivesApplication, GivesTerm, IsGood}
 
 -- terms for the numbers so far, where the others are left
 pub record ArgsSoFar (table : List Tree) (numbers rest : List ℕ) (out : List Tree) : Type 0 where
-  pub some : (us : List Tree) → AreFirst table (trees_of us) rest → AreFirst table (trees_of (out ++ us)) numbers
-  pub all : (vs : Trees) → AreFirst table vs numbers → (ws : Trees) × AreFirst table ws rest
+  pub some : (us : List Tree) → AreLeastNumbers table (trees_of us) rest → AreLeastNumbers table (trees_of (out ++ us)) numbers
+  pub all : (vs : Trees) → AreLeastNumbers table vs numbers → (ws : Trees) × AreLeastNumbers table ws rest
 
-pub args_more : (table : List Tree) (numbers : List ℕ) (n : ℕ) (rest : List ℕ) (out after : List Tree) (t u : Tree) → IsFirst table t n → after ≡ out ++ u ∷ [] → u ≡ t
-    → ArgsSoFar table numbers (n ∷ rest) out → ArgsSoFar table numbers rest after
-args_more table numbers n rest out after t u first pushed shared s =
+pub args_more : (table : List Tree) (numbers : List ℕ) (n : ℕ) (rest : List ℕ) (out grown : List Tree) (t u : Tree) → IsLeastNumber table t n
+    → grown ≡ out ++ u ∷ [] → u ≡ t
+    → ArgsSoFar table numbers (n ∷ rest) out → ArgsSoFar table numbers rest grown
+args_more table numbers n rest out grown t u first pushed shared s =
     let P : List Tree → Type 0 = λ ts. ArgsSoFar table numbers rest ts in
     subst P (sym (pushed ∙ ap (λ x. out ++ x ∷ []) shared)) (record {
-      some = λ us f. subst (λ xs. AreFirst table (trees_of xs) numbers) (sym (append_assoc out (t ∷ []) us)) (s.some (t ∷ us) (first, f));
-      all = λ vs f. let w : (ws : Trees) × AreFirst table ws (n ∷ rest) = s.all vs f in go w.0 w.1;
+      some = λ us f. subst (λ xs. AreLeastNumbers table (trees_of xs) numbers) (sym (append_assoc out (t ∷ []) us)) (s.some (t ∷ us) (first, f));
+      all = λ vs f. let w : (ws : Trees) × AreLeastNumbers table ws (n ∷ rest) = s.all vs f in go w.0 w.1;
     })
   where
-    go : (ws : Trees) → AreFirst table ws (n ∷ rest) → (us : Trees) × AreFirst table us rest
+    go : (ws : Trees) → AreLeastNumbers table ws (n ∷ rest) → (us : Trees) × AreLeastNumbers table us rest
     go none f = absurd f
     go (more w ws) f = (ws, f.1)
 
@@ -37,20 +38,21 @@ pub args_left : (table : List Tree) (numbers : List ℕ) (i : ℕ) (out : List T
 args_left table numbers i out l s = subst (λ r. ArgsSoFar table numbers r out) (drop_more numbers i 0 l) s
 
 pub args_end : (table : List Tree) (numbers : List ℕ) (i : ℕ) (out : List Tree) → length numbers ≤ i → ArgsSoFar table numbers (drop i numbers) out
-    → AreFirst table (trees_of out) numbers
+    → AreLeastNumbers table (trees_of out) numbers
 args_end table numbers i out l s =
     let t : ArgsSoFar table numbers [] out = subst (λ r. ArgsSoFar table numbers r out) (drop_all i numbers l) s in
-    subst (λ xs. AreFirst table (trees_of xs) numbers) (append-nil out) (t.some [] tt)
+    subst (λ xs. AreLeastNumbers table (trees_of xs) numbers) (append-nil out) (t.some [] tt)
 
-pub args_none : (table : List Tree) (numbers : List ℕ) (n : ℕ) (rest : List ℕ) (out : List Tree) → ((t : Tree) → IsFirst table t n → ⊥)
-    → ArgsSoFar table numbers (n ∷ rest) out → (ts : Trees) → AreFirst table ts numbers → ⊥
-args_none table numbers n rest out no_first s ts f = let w : (ws : Trees) × AreFirst table ws (n ∷ rest) = s.all ts f in go w.0 w.1
+pub args_none : (table : List Tree) (numbers : List ℕ) (n : ℕ) (rest : List ℕ) (out : List Tree) → ((t : Tree) → IsLeastNumber table t n → ⊥)
+    → ArgsSoFar table numbers (n ∷ rest) out → (ts : Trees) → AreLeastNumbers table ts numbers → ⊥
+args_none table numbers n rest out no_first s ts f = let w : (ws : Trees) × AreLeastNumbers table ws (n ∷ rest) = s.all ts f in go w.0 w.1
   where
-    go : (ws : Trees) → AreFirst table ws (n ∷ rest) → ⊥
+    go : (ws : Trees) → AreLeastNumbers table ws (n ∷ rest) → ⊥
     go none f = f
     go (more w ws) f = no_first w f.0
 
-pub args_sorted : (sig : Signature) (table : List Tree) (ts : List Tree) (ns : List ℕ) → AllByRecursion (IsWellSorted sig) table → AreFirst table (trees_of ts) ns
+pub args_sorted : (sig : Signature) (table : List Tree) (ts : List Tree) (ns : List ℕ) → AllByRecursion (IsWellSorted sig) table
+    → AreLeastNumbers table (trees_of ts) ns
     → AllByRecursion (IsWellSorted sig) ts
 args_sorted sig table [] ns g f = tt
 args_sorted sig table (t ∷ ts) [] g f = absurd f
@@ -82,7 +84,7 @@ pub if_ok_other : {A E : Type 0} (P Q : A → Type 0) (r : Result A E) → ((x :
 if_ok_other P Q (Ok x) f p = f x p
 if_ok_other P Q (Err e) f p = tt
 
-pub application_term : (sig : Signature) (table : List Tree) (f : ℕ) (ns : List ℕ) (ts : List Tree) (o : Option Tree) → AreFirst table (trees_of ts) ns
+pub application_term : (sig : Signature) (table : List Tree) (f : ℕ) (ns : List ℕ) (ts : List Tree) (o : Option Tree) → AreLeastNumbers table (trees_of ts) ns
     → GivesApplication sig f ts o → GivesTerm sig table (a f ns) o
 application_term sig table f ns ts (Some t) first g =
     let P : Tree → Type 0 = λ x. HasTerm table (a f ns) x in (subst P (sym g.1) (refl, first), g.2)

@@ -8,7 +8,6 @@ use Rattle.std.proofs.lemmas.Option.{same_Some}
 use Rattle.std.proofs.lemmas.Bool.{eqb-true, eqb-false, eq-eqb, ltb-true, lt-ltb, le-ltb}
 use Rattle.std.proofs.lemmas.Fmt.{decimal_digit, decimal_step, decimal_by_steps}
 use Rattle.circ_file.specs.Front.{NoDigit, digits_at, below, number_at, marked}
-use Rattle.circ_file.specs.declared.TheConstants.{MOST_NUMBER}
 use Rattle.circ_file.proofs.Many.{IsItem, CanFollow}
 
 is_digit : (d : ℕ) → d < 10 → is_ascii_digit (48 + d) ≡ true
@@ -27,9 +26,9 @@ decimal_more n b some small e =
 digits_gives : (n : ℕ) (bs : List ℕ) (m : ℕ) (r : List ℕ) → 0 < n → digits_at n bs ≡ Some (m, r) → decimal n ++ bs ≡ decimal m ++ r
 digits_gives n [] m r some e = ap (λ p. decimal p.0 ++ p.1) (same_Some (n, []) (m, r) e)
 digits_gives n (b ∷ bs) m r some e =
-    go (is_ascii_digit b) (nat_lt MOST_NUMBER (10 * n + (b - 48))) refl refl e (digits_gives (10 * n + (b - 48)) bs m r (omega arith))
+    go (is_ascii_digit b) (nat_lt 4294967295 (10 * n + (b - 48))) refl refl e (digits_gives (10 * n + (b - 48)) bs m r (omega arith))
   where
-    go : (t u : Bool) → is_ascii_digit b ≡ t → nat_lt MOST_NUMBER (10 * n + (b - 48)) ≡ u
+    go : (t u : Bool) → is_ascii_digit b ≡ t → nat_lt 4294967295 (10 * n + (b - 48)) ≡ u
         → (if t then (if u then None else digits_at (10 * n + (b - 48)) bs) else Some (n, b ∷ bs)) ≡ Some (m, r)
         → (digits_at (10 * n + (b - 48)) bs ≡ Some (m, r) → decimal (10 * n + (b - 48)) ++ bs ≡ decimal m ++ r) → decimal n ++ b ∷ bs ≡ decimal m ++ r
     go false u d l e ih = ap (λ p. decimal p.0 ++ p.1) (same_Some (n, b ∷ bs) (m, r) e)
@@ -59,8 +58,9 @@ first_digit limit n s some small =
 next_digit : (n d : ℕ) (s : List ℕ) → d < 10 → 10 * n + d < 2 ^ 32 → digits_at n ((48 + d) ∷ s) ≡ digits_at (10 * n + d) s
 next_digit n d s small fits =
     let back : 10 * n + (48 + d - 48) ≡ 10 * n + d = omega arith in
-    ap (λ t. if t then (if nat_lt MOST_NUMBER (10 * n + (48 + d - 48)) then None else digits_at (10 * n + (48 + d - 48)) s) else Some (n, (48 + d) ∷ s)) (is_digit d small)
-    ∙ ap (λ t. if t then None else digits_at (10 * n + (48 + d - 48)) s) (le-ltb MOST_NUMBER (10 * n + (48 + d - 48)) (omega arith))
+    ap (λ t. if t then (if nat_lt 4294967295 (10 * n + (48 + d - 48)) then None else digits_at (10 * n + (48 + d - 48)) s) else Some (n, (48 + d) ∷ s))
+    (is_digit d small)
+    ∙ ap (λ t. if t then None else digits_at (10 * n + (48 + d - 48)) s) (le-ltb 4294967295 (10 * n + (48 + d - 48)) (omega arith))
     ∙ ap (λ k. digits_at k s) back
 
 Starts : ℕ → List ℕ → Type 0
@@ -76,7 +76,7 @@ starts = decimal_by_steps Starts (λ n small some fits limit s. first_digit limi
 
 digits_end : (n : ℕ) (s : List ℕ) → NoDigit s → digits_at n s ≡ Some (n, s)
 digits_end n [] e = refl
-digits_end n (b ∷ bs) e = ap (λ t. if t then (if nat_lt MOST_NUMBER (10 * n + (b - 48)) then None else digits_at (10 * n + (b - 48)) bs) else Some (n, b ∷ bs)) e
+digits_end n (b ∷ bs) e = ap (λ t. if t then (if nat_lt 4294967295 (10 * n + (b - 48)) then None else digits_at (10 * n + (b - 48)) bs) else Some (n, b ∷ bs)) e
 
 zero_text : decimal 0 ≡ 48 ∷ []
 zero_text = decimal_digit 0 (omega arith)
@@ -85,13 +85,15 @@ pub number_again : (limit n : ℕ) (s : List ℕ) → limit ≤ 2 ^ 32 → n < l
 unfolding Starts
 number_again limit zero s top l e = ap (λ ds. number_at limit (ds ++ s)) zero_text ∙ below_again limit 0 s l
 number_again limit (suc k) s top l e =
-    starts (suc k) (omega arith) (omega arith) (omega arith) limit s ∙ ap (option_and_then (below limit)) (digits_end (suc k) s e) ∙ below_again limit (suc k) s l
+    starts (suc k) (omega arith) (omega arith) (omega arith) limit s ∙ ap (option_and_then (below limit)) (digits_end (suc k) s e)
+    ∙ below_again limit (suc k) s l
 
 pub number_gives : (limit : ℕ) (bs : List ℕ) (n : ℕ) (r : List ℕ) → number_at limit bs ≡ Some (n, r) → (bs ≡ decimal n ++ r) × (n < limit)
 number_gives limit [] n r e = absurd (cc)
 number_gives limit (b ∷ bs) n r e = go (b == 48) (is_ascii_digit b) (eqb-true b 48) (eqb-false b 48) refl e
   where
-    digits : (o : Option (ℕ × List ℕ)) → digits_at (b - 48) bs ≡ o → 0 < b - 48 → is_ascii_digit b ≡ true → option_and_then (below limit) o ≡ Some (n, r) → (b ∷ bs ≡ decimal n ++ r) × (n < limit)
+    digits : (o : Option (ℕ × List ℕ)) → digits_at (b - 48) bs ≡ o → 0 < b - 48 → is_ascii_digit b ≡ true → option_and_then (below limit) o
+        ≡ Some (n, r) → (b ∷ bs ≡ decimal n ++ r) × (n < limit)
     digits None q some d e = absurd (cc)
     digits (Some p) q some d e =
         let under : (p ≡ (n, r)) × (n < limit) = below_gives limit p (n, r) e in
@@ -100,7 +102,8 @@ number_gives limit (b ∷ bs) n r e = go (b == 48) (is_ascii_digit b) (eqb-true 
         (ap (λ ds. ds ++ bs) (sym spelled) ∙ digits_gives (b - 48) bs n r some (q ∙ ap (λ x. Some x) under.0), under.1)
 
     go : (t u : Bool) → (t ≡ true → b ≡ 48) → (t ≡ false → b ≡ 48 → ⊥) → is_ascii_digit b ≡ u
-        → (if t then below limit (0, bs) else if u then option_and_then (below limit) (digits_at (b - 48) bs) else None) ≡ Some (n, r) → (b ∷ bs ≡ decimal n ++ r) × (n < limit)
+        → (if t then below limit (0, bs) else if u then option_and_then (below limit) (digits_at (b - 48) bs) else None)
+        ≡ Some (n, r) → (b ∷ bs ≡ decimal n ++ r) × (n < limit)
     go true u is not d e =
         let under : ◌≡◌ {A = ℕ × List ℕ} (0, bs) (n, r) × (n < limit) = below_gives limit (0, bs) (n, r) e in
         (ap (λ x. x ∷ bs) (is refl) ∙ ap (λ ds. ds ++ bs) (sym zero_text) ∙ ap (λ p. decimal p.0 ++ p.1) under.0, under.1)

@@ -45,7 +45,8 @@ many_run {X = X} item (suc n) bs = go (item bs) refl (λ r. many_run item n r)
     go None e ih = refl
     go (Some p) e ih = (p.1, e, ih p.1)
 
-module _ {X : Type 0} {f : X → List ℕ} {item : List ℕ → Option (X × List ℕ)} {Fits : X → Type 0} {Next : List ℕ → Type 0} (is : IsItem f item Fits Next) (can : CanFollow f Next) where
+module _ {X : Type 0} {f : X → List ℕ} {item : List ℕ → Option (X × List ℕ)} {Fits : X → Type 0} {Next : List ℕ → Type 0} (is : IsItem f item Fits Next)
+    (can : CanFollow f Next) where
   pub shorter : (bs : List ℕ) (x : X) (r : List ℕ) → Some (x, r) ≡ item bs → length r < length bs
   shorter bs x r e = omega (arith, can.some x, length-append (f x) r, ap length (is.gives bs x r (sym e)).0)
 

@@ -6,7 +6,7 @@ use Rattle.std.proofs.Common.{sym, ◌∙◌, ap, subst, append_assoc}
 use Rattle.std.proofs.lemmas.Option.{same_Some}
 use Rattle.std.proofs.lemmas.Bool.{eqb-true, eq-eqb}
 use Rattle.circ_file.specs.ProofText.{texts}
-use Rattle.circ_file.specs.Front.{after, items_at, list_at, past, ended, seq, mapped, checked}
+use Rattle.circ_file.specs.Front.{rest_after, items_at, list_at, past, ended, seq, mapped, checked}
 use Rattle.circ_file.proofs.Many.{IsItem, CanFollow, items_gives, items_again}
 
 -- before any bytes
@@ -21,18 +21,18 @@ pub map_some : {A B : Type 0} (f : A → B) (o : Option A) (y : B) → option_ma
 map_some f None y e = absurd (cc)
 map_some f (Some x) y e = (x, refl, same_Some (f x) y e)
 
-pub after_gives : (t bs r : List ℕ) → after t bs ≡ Some r → bs ≡ t ++ r
+pub after_gives : (t bs r : List ℕ) → rest_after t bs ≡ Some r → bs ≡ t ++ r
 after_gives [] bs r e = same_Some bs r e
 after_gives (c ∷ cs) [] r e = absurd (cc)
 after_gives (c ∷ cs) (b ∷ bs) r e = go (b == c) (eqb-true b c) e (after_gives cs bs r)
   where
-    go : (t : Bool) → (t ≡ true → b ≡ c) → (if t then after cs bs else None) ≡ Some r → (after cs bs ≡ Some r → bs ≡ cs ++ r) → b ∷ bs ≡ c ∷ cs ++ r
+    go : (t : Bool) → (t ≡ true → b ≡ c) → (if t then rest_after cs bs else None) ≡ Some r → (rest_after cs bs ≡ Some r → bs ≡ cs ++ r) → b ∷ bs ≡ c ∷ cs ++ r
     go true same e ih = ap (λ x. x ∷ bs) (same refl) ∙ ap (λ s. c ∷ s) (ih e)
     go false same e ih = absurd (cc)
 
-pub after_again : (t r : List ℕ) → after t (t ++ r) ≡ Some r
+pub after_again : (t r : List ℕ) → rest_after t (t ++ r) ≡ Some r
 after_again [] r = refl
-after_again (c ∷ cs) r = ap (λ t. if t then after cs (cs ++ r) else None) (eq-eqb c c refl) ∙ after_again cs r
+after_again (c ∷ cs) r = ap (λ t. if t then rest_after cs (cs ++ r) else None) (eq-eqb c c refl) ∙ after_again cs r
 
 module _ {X : Type 0} {f : X → List ℕ} {item : List ℕ → Option (X × List ℕ)} {Fits : X → Type 0} {Next : List ℕ → Type 0} (is : IsItem f item Fits Next) where
   pub list_item : CanFollow f Next → IsItem (texts f) (list_at item) (AllByRecursion Fits) (λ r. Next r × (item r ≡ None))
@@ -46,7 +46,7 @@ module _ {X : Type 0} {f : X → List ℕ} {item : List ℕ → Option (X × Lis
     where
       gives : (bs : List ℕ) (x : X) (r : List ℕ) → past t item bs ≡ Some (x, r) → (bs ≡ (t ++ f x) ++ r) × Fits x
       gives bs x r e =
-          let p : (s : List ℕ) × (after t bs ≡ Some s) × (item s ≡ Some (x, r)) = bind_some item (after t bs) (x, r) e in
+          let p : (s : List ℕ) × (rest_after t bs ≡ Some s) × (item s ≡ Some (x, r)) = bind_some item (rest_after t bs) (x, r) e in
           let g : (p.0 ≡ f x ++ r) × Fits x = is.gives p.0 x r p.2 in
           (after_gives t bs p.0 p.1 ∙ ap (λ s. t ++ s) g.0 ∙ sym (append_assoc t (f x) r), g.1)
 
@@ -59,14 +59,15 @@ module _ {X : Type 0} {f : X → List ℕ} {item : List ℕ → Option (X × Lis
     where
       gives : (bs : List ℕ) (x : X) (r : List ℕ) → ended item t bs ≡ Some (x, r) → (bs ≡ (f x ++ t) ++ r) × Fits x
       gives bs x r e =
-          let p : (q : X × List ℕ) × (item bs ≡ Some q) × (option_map (λ s. (q.0, s)) (after t q.1) ≡ Some (x, r)) = bind_some (λ q. option_map (λ s. (q.0, s)) (after t q.1)) (item bs) (x, r) e in
-          let m : (s : List ℕ) × (after t p.0.1 ≡ Some s) × ((p.0.0, s) ≡ (x, r)) = map_some (λ s. (p.0.0, s)) (after t p.0.1) (x, r) p.2 in
+          let p : (q : X × List ℕ) × (item bs ≡ Some q) × (option_map (λ s. (q.0, s)) (rest_after t q.1) ≡ Some (x, r)) =
+          bind_some (λ q. option_map (λ s. (q.0, s)) (rest_after t q.1)) (item bs) (x, r) e in
+          let m : (s : List ℕ) × (rest_after t p.0.1 ≡ Some s) × ((p.0.0, s) ≡ (x, r)) = map_some (λ s. (p.0.0, s)) (rest_after t p.0.1) (x, r) p.2 in
           let g : (bs ≡ f x ++ p.0.1) × Fits x = is.gives bs x p.0.1 (p.1 ∙ ap (λ q. Some (q.0, p.0.1)) m.2) in
           (g.0 ∙ ap (λ s. f x ++ s) (after_gives t p.0.1 r (m.1 ∙ ap (λ q. Some (q.1)) m.2)) ∙ sym (append_assoc (f x) t r), g.1)
 
       again : (x : X) (r : List ℕ) → Fits x → Any r → ended item t ((f x ++ t) ++ r) ≡ Some (x, r)
       again x r fit n =
-          ap (option_and_then (λ q. option_map (λ s. (q.0, s)) (after t q.1))) (ap item (append_assoc (f x) t r) ∙ is.again x (t ++ r) fit (meets r))
+          ap (option_and_then (λ q. option_map (λ s. (q.0, s)) (rest_after t q.1))) (ap item (append_assoc (f x) t r) ∙ is.again x (t ++ r) fit (meets r))
           ∙ ap (option_map (λ s. (x, s))) (after_again t r)
 
   pub mapped_item : {Y : Type 0} (h : Y → List ℕ) (Good : Y → Type 0) (to : X → Y) (from : Y → X)
@@ -93,7 +94,8 @@ module _ {X : Type 0} {f : X → List ℕ} {item : List ℕ → Option (X × Lis
     where
       gives : (bs : List ℕ) (p : X × Y) (r : List ℕ) → seq item jtem bs ≡ Some (p, r) → (bs ≡ (f p.0 ++ g p.1) ++ r) × (Fits p.0 × Good p.1)
       gives bs p r e =
-          let b : (q : X × List ℕ) × (item bs ≡ Some q) × (option_map (λ s. ((q.0, s.0), s.1)) (jtem q.1) ≡ Some (p, r)) = bind_some (λ q. option_map (λ s. ((q.0, s.0), s.1)) (jtem q.1)) (item bs) (p, r) e in
+          let b : (q : X × List ℕ) × (item bs ≡ Some q) × (option_map (λ s. ((q.0, s.0), s.1)) (jtem q.1) ≡ Some (p, r)) =
+          bind_some (λ q. option_map (λ s. ((q.0, s.0), s.1)) (jtem q.1)) (item bs) (p, r) e in
           let m : (s : Y × List ℕ) × (jtem b.0.1 ≡ Some s) × (((b.0.0, s.0), s.1) ≡ (p, r)) = map_some (λ s. ((b.0.0, s.0), s.1)) (jtem b.0.1) (p, r) b.2 in
           let front : (bs ≡ f p.0 ++ b.0.1) × Fits p.0 = is.gives bs p.0 b.0.1 (b.1 ∙ ap (λ q. Some (q.0.0, b.0.1)) m.2) in
           let rest : (b.0.1 ≡ g p.1 ++ r) × Good p.1 = second.gives b.0.1 p.1 r (m.1 ∙ ap (λ q. Some (q.0.1, q.1)) m.2) in
@@ -110,10 +112,12 @@ module _ {X : Type 0} {f : X → List ℕ} {item : List ℕ → Option (X × Lis
     where
       gives : (bs : List ℕ) (x : X) (r : List ℕ) → checked test item bs ≡ Some (x, r) → (bs ≡ f x ++ r) × (Fits x × (test x ≡ true))
       gives bs x r e =
-          let p : (q : X × List ℕ) × (item bs ≡ Some q) × ((if test q.0 then Some q else None) ≡ Some (x, r)) = bind_some (λ q. if test q.0 then Some q else None) (item bs) (x, r) e in
+          let p : (q : X × List ℕ) × (item bs ≡ Some q) × ((if test q.0 then Some q else None) ≡ Some (x, r)) =
+          bind_some (λ q. if test q.0 then Some q else None) (item bs) (x, r) e in
           go p.0 p.1 (test p.0.0) refl p.2
         where
-          go : (q : X × List ℕ) → item bs ≡ Some q → (t : Bool) → test q.0 ≡ t → (if t then Some q else None) ≡ Some (x, r) → (bs ≡ f x ++ r) × (Fits x × (test x ≡ true))
+          go : (q : X × List ℕ) → item bs ≡ Some q → (t : Bool) → test q.0 ≡ t → (if t then Some q else None)
+              ≡ Some (x, r) → (bs ≡ f x ++ r) × (Fits x × (test x ≡ true))
           go q i true t e =
               let same : q ≡ (x, r) = same_Some q (x, r) e in
               let g : (bs ≡ f x ++ r) × Fits x = is.gives bs x r (i ∙ e) in

@@ -8,10 +8,10 @@ use Rattle.std.proofs.lemmas.Bool.{eqb-true, le-ltb, ltb-false}
 use Rattle.circ_theory.specs.Link.{PlainLink, Equation_link}
 use Rattle.circ_theory.specs.declared.replay.Way.{Way}
 use Rattle.circ_theory.specs.declared.replay.Way.TheVariants.{Forth, Back}
-use Rattle.circ_file.specs.Proof.{Chain, Name, IsLinkFor}
-use Rattle.circ_file.specs.ProofText.{Entry, v, a, texts, numbers_text, number_text, step_down, path_text, way_text, entry_text, goal_text, link_text, step_text, IsWritable}
-use Rattle.circ_file.specs.Front.{NoDigit, after, number_at, marked, items_at, list_at, mapped}
-use Rattle.circ_file.specs.Lines.{pair_at, row_at, application_at, to_variable, to_application, entry_at, to_name, goal_at, way_at, short, path_from, path_at, place_at, to_link, link_at, left_start, right_start, to_chain, chain_at}
+use Rattle.circ_file.specs.Proof.{Chain, GoalNames, IsLinkFor}
+use Rattle.circ_file.specs.ProofText.{TableLine, v, a, texts, numbers_text, number_text, step_down, path_text, way_text, table_line_text, goal_text, link_text, step_text, IsWritable}
+use Rattle.circ_file.specs.Front.{NoDigit, rest_after, number_at, marked, items_at, list_at, mapped}
+use Rattle.circ_file.specs.Lines.{pair_at, row_at, application_at, to_variable, to_application, table_line_at, to_name, goal_at, way_at, short, path_from, path_at, place_at, to_link, link_at, left_start, right_start, to_chain, chain_at}
 use Rattle.circ_file.proofs.Many.{IsItem, CanFollow, items_gives, items_again, begin_texts}
 use Rattle.circ_file.proofs.Parts.{Any, map_some, after_gives, list_item, past_item, ended_item, mapped_item, seq_item}
 use Rattle.circ_file.proofs.Decimals.{number_item, marked_item, marked_follows}
@@ -41,58 +41,62 @@ application_item : IsItem (λ p. number_text p.0 ++ row_text p.1) application_at
 application_item = seq_item (marked_item 32 (2 ^ 32) (omega arith)) (row_item (2 ^ 32) (omega arith)) (λ ns r t. row_begins ns r)
 
 -- the numbers of a line are such as the text can hold
-abbrev pub IsSmallEntry : Entry → Type 0
-IsSmallEntry (v number sort) = (number < 2 ^ 32) × (sort < 2 ^ 32)
-IsSmallEntry (a op args) = (op < 2 ^ 32) × AllByRecursion (λ n. n < 2 ^ 32) args
+abbrev pub IsSmallTableLine : TableLine → Type 0
+IsSmallTableLine (v number sort) = (number < 2 ^ 32) × (sort < 2 ^ 32)
+IsSmallTableLine (a op args) = (op < 2 ^ 32) × AllByRecursion (λ n. n < 2 ^ 32) args
 
 pair_row : (n s : ℕ) → pair_text (n, s) ≡ row_text (n ∷ s ∷ [])
 pair_row n s = ap (λ t. (number_text n ++ t) ++ codes "\n") (sym (append-nil (number_text s)))
 
-variable_text : (n s : ℕ) → 118 ∷ pair_text (n, s) ≡ entry_text (v n s)
+variable_text : (n s : ℕ) → 118 ∷ pair_text (n, s) ≡ table_line_text (v n s)
 variable_text n s = ap (λ t. 118 ∷ t) (pair_row n s)
 
-application_text : (f : ℕ) (ns : List ℕ) → 97 ∷ (number_text f ++ row_text ns) ≡ entry_text (a f ns)
+application_text : (f : ℕ) (ns : List ℕ) → 97 ∷ (number_text f ++ row_text ns) ≡ table_line_text (a f ns)
 application_text f ns = simp append_assoc
 
-pub entry_item : IsItem entry_text entry_at IsSmallEntry Any
-entry_item = record { gives = gives; again = again }
+pub table_line_item : IsItem table_line_text table_line_at IsSmallTableLine Any
+table_line_item = record { gives = gives; again = again }
   where
     pairs : IsItem pair_text (pair_at (2 ^ 32)) (λ p. (p.0 < 2 ^ 32) × (p.1 < 2 ^ 32)) Any
     pairs = pair_item (2 ^ 32) (omega arith)
 
-    gives : (bs : List ℕ) (x : Entry) (r : List ℕ) → entry_at bs ≡ Some (x, r) → (bs ≡ entry_text x ++ r) × IsSmallEntry x
+    gives : (bs : List ℕ) (x : TableLine) (r : List ℕ) → table_line_at bs ≡ Some (x, r) → (bs ≡ table_line_text x ++ r) × IsSmallTableLine x
     gives [] x r e = absurd (cc)
     gives (b ∷ bs) x r e = go (b == 118) (b == 97) (eqb-true b 118) (eqb-true b 97) e
       where
         go : (t u : Bool) → (t ≡ true → b ≡ 118) → (u ≡ true → b ≡ 97)
             → (if t then mapped to_variable (pair_at (2 ^ 32)) bs else if u then mapped to_application application_at bs else None) ≡ Some (x, r)
-            → (b ∷ bs ≡ entry_text x ++ r) × IsSmallEntry x
+            → (b ∷ bs ≡ table_line_text x ++ r) × IsSmallTableLine x
         go true u is other e =
-            let m : (p : (ℕ × ℕ) × List ℕ) × (pair_at (2 ^ 32) bs ≡ Some p) × ((to_variable p.0, p.1) ≡ (x, r)) = map_some (λ p. (to_variable p.0, p.1)) (pair_at (2 ^ 32) bs) (x, r) e in
+            let m : (p : (ℕ × ℕ) × List ℕ) × (pair_at (2 ^ 32) bs ≡ Some p) × ((to_variable p.0, p.1) ≡ (x, r)) =
+            map_some (λ p. (to_variable p.0, p.1)) (pair_at (2 ^ 32) bs) (x, r) e in
             let g : (bs ≡ pair_text m.0.0 ++ m.0.1) × ((m.0.0.0 < 2 ^ 32) × (m.0.0.1 < 2 ^ 32)) = pairs.gives bs m.0.0 m.0.1 m.1 in
-            let P : Entry × List ℕ → Type 0 = λ q. (b ∷ bs ≡ entry_text q.0 ++ q.1) × IsSmallEntry q.0 in
+            let P : TableLine × List ℕ → Type 0 = λ q. (b ∷ bs ≡ table_line_text q.0 ++ q.1) × IsSmallTableLine q.0 in
             subst P m.2 (ap (λ c. c ∷ bs) (is refl) ∙ ap (λ s. 118 ∷ s) g.0 ∙ ap (λ t. t ++ m.0.1) (variable_text m.0.0.0 m.0.0.1), g.1)
         go false true other is e =
-            let m : (p : (ℕ × List ℕ) × List ℕ) × (application_at bs ≡ Some p) × ((to_application p.0, p.1) ≡ (x, r)) = map_some (λ p. (to_application p.0, p.1)) (application_at bs) (x, r) e in
-            let g : (bs ≡ (number_text m.0.0.0 ++ row_text m.0.0.1) ++ m.0.1) × ((m.0.0.0 < 2 ^ 32) × AreSmall m.0.0.1) = application_item.gives bs m.0.0 m.0.1 m.1 in
-            let P : Entry × List ℕ → Type 0 = λ q. (b ∷ bs ≡ entry_text q.0 ++ q.1) × IsSmallEntry q.0 in
+            let m : (p : (ℕ × List ℕ) × List ℕ) × (application_at bs ≡ Some p) × ((to_application p.0, p.1) ≡ (x, r)) =
+            map_some (λ p. (to_application p.0, p.1)) (application_at bs) (x, r) e in
+            let g : (bs ≡ (number_text m.0.0.0 ++ row_text m.0.0.1) ++ m.0.1) × ((m.0.0.0 < 2 ^ 32) × AreSmall m.0.0.1) =
+            application_item.gives bs m.0.0 m.0.1 m.1 in
+            let P : TableLine × List ℕ → Type 0 = λ q. (b ∷ bs ≡ table_line_text q.0 ++ q.1) × IsSmallTableLine q.0 in
             subst P m.2 (ap (λ c. c ∷ bs) (is refl) ∙ ap (λ s. 97 ∷ s) g.0 ∙ ap (λ t. t ++ m.0.1) (application_text m.0.0.0 m.0.0.1), g.1)
         go false false other is e = absurd (cc)
 
-    again : (x : Entry) (r : List ℕ) → IsSmallEntry x → Any r → entry_at (entry_text x ++ r) ≡ Some (x, r)
+    again : (x : TableLine) (r : List ℕ) → IsSmallTableLine x → Any r → table_line_at (table_line_text x ++ r) ≡ Some (x, r)
     again (v n s) r fit t =
-        ap (λ t. entry_at (t ++ r)) (sym (variable_text n s)) ∙ ap (option_map (λ p. (to_variable p.0, p.1))) (pairs.again (n, s) r fit tt)
+        ap (λ t. table_line_at (t ++ r)) (sym (variable_text n s)) ∙ ap (option_map (λ p. (to_variable p.0, p.1))) (pairs.again (n, s) r fit tt)
     again (a f ns) r fit t =
-        ap (λ t. entry_at (t ++ r)) (sym (application_text f ns)) ∙ ap (option_map (λ p. (to_application p.0, p.1))) (application_item.again (f, ns) r fit tt)
+        ap (λ t. table_line_at (t ++ r)) (sym (application_text f ns))
+        ∙ ap (option_map (λ p. (to_application p.0, p.1))) (application_item.again (f, ns) r fit tt)
 
-pub entry_follows : CanFollow entry_text Any
-entry_follows = record { begins = λ x r. tt; some = some }
+pub table_line_follows : CanFollow table_line_text Any
+table_line_follows = record { begins = λ x r. tt; some = some }
   where
-    some : (x : Entry) → 0 < length (entry_text x)
+    some : (x : TableLine) → 0 < length (table_line_text x)
     some (v n s) = omega arith
     some (a f ns) = omega arith
 
-abbrev pub IsGoalFor : ℕ → Name → Type 0
+abbrev pub IsGoalFor : ℕ → GoalNames → Type 0
 IsGoalFor count n = (n.left < count) × (n.right < count)
 
 pub goal_item : (count : ℕ) → count ≤ 2 ^ 32 → IsItem goal_text (goal_at count) (IsGoalFor count) Any
@@ -110,7 +114,8 @@ way_item = record { gives = gives; again = again }
     gives [] w r e = absurd (cc)
     gives (b ∷ bs) w r e = go (b == 62) (b == 60) (eqb-true b 62) (eqb-true b 60) e
       where
-        go : (t u : Bool) → (t ≡ true → b ≡ 62) → (u ≡ true → b ≡ 60) → if◌then◌else◌ {A = Option (Way × List ℕ)} t (Some (Forth, bs)) (if◌then◌else◌ {A = Option (Way × List ℕ)} u (Some (Back, bs)) None) ≡ Some (w, r) → (b ∷ bs ≡ way_text w ++ r) × Unit {0}
+        go : (t u : Bool) → (t ≡ true → b ≡ 62) → (u ≡ true → b ≡ 60) → if◌then◌else◌ {A = Option (Way × List ℕ)} t (Some (Forth, bs))
+            (if◌then◌else◌ {A = Option (Way × List ℕ)} u (Some (Back, bs)) None) ≡ Some (w, r) → (b ∷ bs ≡ way_text w ++ r) × Unit {0}
         go true u is other e = (ap (λ c. c ∷ bs) (is refl) ∙ ap (λ p. way_text p.0 ++ p.1) (same_Some (Forth, bs) (w, r) e), tt)
         go false true other is e = (ap (λ c. c ∷ bs) (is refl) ∙ ap (λ p. way_text p.0 ++ p.1) (same_Some (Back, bs) (w, r) e), tt)
         go false false other is e = absurd (cc)
@@ -147,7 +152,7 @@ path_item = record { gives = gives; again = again }
       where
         go : (o : Option (ℕ × List ℕ)) → number_at (2 ^ 16) bs ≡ o → path_from bs o ≡ Some (ns, r) → (bs ≡ path_text ns ++ r) × IsPath ns
         go None q e =
-            let m : (s : List ℕ) × (after (codes "-") bs ≡ Some s) × (([], s) ≡ (ns, r)) = map_some (λ s. ([], s)) (after (codes "-") bs) (ns, r) e in
+            let m : (s : List ℕ) × (rest_after (codes "-") bs ≡ Some s) × (([], s) ≡ (ns, r)) = map_some (λ s. ([], s)) (rest_after (codes "-") bs) (ns, r) e in
             let P : List ℕ × List ℕ → Type 0 = λ p. (bs ≡ path_text p.0 ++ p.1) × IsPath p.0 in
             subst P m.2 (after_gives (codes "-") bs m.0 m.1, (omega arith, tt))
         go (Some p) q e =
@@ -220,7 +225,8 @@ ChainFits count c = AllByRecursion (FitsText count) c.left × AllByRecursion (Fi
 pub chain_item : (count : ℕ) → count ≤ 2 ^ 32 → IsItem step_text (chain_at count) (ChainFits count) Any
 chain_item count top =
     mapped_item
-    (past_item (seq_item (links_item left_start count top) (ended_item (links_item right_start count top) (codes "same\n") (λ r. (tt, refl))) meets) (codes "reduce\n"))
+    (past_item (seq_item (links_item left_start count top) (ended_item (links_item right_start count top) (codes "same\n") (λ r. (tt, refl))) meets)
+    (codes "reduce\n"))
     step_text (ChainFits count) to_chain (λ c. (c.left, c.right)) (λ c. refl) (λ p. simp append_assoc) (λ p f. f) (λ c f. f)
   where
     meets : (ls : List PlainLink) (r : List ℕ) → Any r → Any r × (link_at left_start count ((texts (link_text right_start) ls ++ codes "same\n") ++ r) ≡ None)

@@ -6,7 +6,7 @@ use Rattle.std.proofs.lemmas.Option.{same_Some, slice_get_within}
 use Rattle.circ_term.specs.Tree.{Tree, Trees, Var, App, none, more, sort_of, variable_number}
 use Rattle.circ_theory.specs.Signature.{Signature, IsWellSorted}
 use Rattle.circ_theory.proofs.Lists.{slice_get-front}
-use Rattle.circ_file.specs.ProofText.{Entry, v, a, IsFirst, AreFirst, HasTerm, HaveTerms}
+use Rattle.circ_file.specs.ProofText.{TableLine, v, a, IsLeastNumber, AreLeastNumbers, HasTerm, HaveTerms}
 
 pub slice_get-push : {X : Type 0} (xs : List X) (x : X) → slice_get (xs ++ x ∷ []) (length xs) ≡ Some x
 slice_get-push [] x = refl
@@ -22,16 +22,16 @@ slice_get-within (y ∷ xs) x (suc n) l = slice_get-within xs x n (omega arith)
 between : (n m : ℕ) → (n < m → ⊥) → (m < n → ⊥) → n ≡ m
 between n m low high = omega (arith, low, high)
 
-one_first : (table : List Tree) (t u : Tree) (n : ℕ) → IsFirst table t n → IsFirst table u n → t ≡ u
+one_first : (table : List Tree) (t u : Tree) (n : ℕ) → IsLeastNumber table t n → IsLeastNumber table u n → t ≡ u
 one_first table t u n p q = same_Some t u (sym p.there ∙ q.there)
 
-one_number : (table : List Tree) (t : Tree) (n m : ℕ) → IsFirst table t n → IsFirst table t m → n ≡ m
+one_number : (table : List Tree) (t : Tree) (n m : ℕ) → IsLeastNumber table t n → IsLeastNumber table t m → n ≡ m
 one_number table t n m p q =
     let low : n < m → ⊥ = λ l. q.least n l p.there in
     let high : m < n → ⊥ = λ l. p.least m l q.there in
     between n m low high
 
-pub are_first_terms : (table : List Tree) (ts us : Trees) (ns : List ℕ) → AreFirst table ts ns → AreFirst table us ns → ts ≡ us
+pub are_first_terms : (table : List Tree) (ts us : Trees) (ns : List ℕ) → AreLeastNumbers table ts ns → AreLeastNumbers table us ns → ts ≡ us
 are_first_terms table none none [] p q = refl
 are_first_terms table none none (n ∷ ns) p q = absurd p
 are_first_terms table none (more u us) [] p q = absurd q
@@ -41,7 +41,7 @@ are_first_terms table (more t ts) none (n ∷ ns) p q = absurd q
 are_first_terms table (more t ts) (more u us) (n ∷ ns) p q =
     ap (λ x. more x ts) (one_first table t u n p.0 q.0) ∙ ap (more u) (are_first_terms table ts us ns p.1 q.1)
 
-are_first_numbers : (table : List Tree) (ts : Trees) (ns ms : List ℕ) → AreFirst table ts ns → AreFirst table ts ms → ns ≡ ms
+are_first_numbers : (table : List Tree) (ts : Trees) (ns ms : List ℕ) → AreLeastNumbers table ts ns → AreLeastNumbers table ts ms → ns ≡ ms
 are_first_numbers table none [] [] p q = refl
 are_first_numbers table none (n ∷ ns) ms p q = absurd p
 are_first_numbers table none [] (m ∷ ms) p q = absurd q
@@ -52,7 +52,8 @@ are_first_numbers table (more t ts) (n ∷ ns) (m ∷ ms) p q =
 
 -- a line has one well-sorted term
 
-pub one_term : (sig : Signature) (table : List Tree) (e : Entry) (t u : Tree) → HasTerm table e t → HasTerm table e u → IsWellSorted sig t → IsWellSorted sig u → t ≡ u
+pub one_term : (sig : Signature) (table : List Tree) (e : TableLine) (t u : Tree) → HasTerm table e t → HasTerm table e u → IsWellSorted sig t
+    → IsWellSorted sig u → t ≡ u
 one_term sig table (v n s) t u p q gt gu = p.0 ∙ sym q.0
 one_term sig table (a f ns) (Var n s) u p q gt gu = absurd p
 one_term sig table (a f ns) (App g r ts) (Var n s) p q gt gu = absurd q
@@ -63,7 +64,7 @@ one_term sig table (a f ns) (App g r ts) (App h k us) p q gt gu =
 
 -- a term has one line
 
-pub one_line : (table : List Tree) (d e : Entry) (t : Tree) → HasTerm table d t → HasTerm table e t → d ≡ e
+pub one_line : (table : List Tree) (d e : TableLine) (t : Tree) → HasTerm table d t → HasTerm table e t → d ≡ e
 one_line table (v n s) (v m r) t p q =
     let same : Var n s ≡ Var m r = sym p.0 ∙ q.0 in
     let first : n ≡ m = same_Some n m (ap variable_number same) in
@@ -78,26 +79,26 @@ one_line table (a f ns) (a g ms) (App h k ts) p q =
 
 -- a table that grows
 
-pub first_grows : (table : List Tree) (u t : Tree) (n : ℕ) → IsFirst table t n → IsFirst (table ++ u ∷ []) t n
+pub first_grows : (table : List Tree) (u t : Tree) (n : ℕ) → IsLeastNumber table t n → IsLeastNumber (table ++ u ∷ []) t n
 first_grows table u t n p = record {
   there = slice_get-front table (u ∷ []) n t p.there;
   least = λ m l e. p.least m l (sym (slice_get-within table u m (omega (arith, slice_get_within table n t p.there))) ∙ e);
 }
 
-are_first_grow : (table : List Tree) (u : Tree) (ts : Trees) (ns : List ℕ) → AreFirst table ts ns → AreFirst (table ++ u ∷ []) ts ns
+are_first_grow : (table : List Tree) (u : Tree) (ts : Trees) (ns : List ℕ) → AreLeastNumbers table ts ns → AreLeastNumbers (table ++ u ∷ []) ts ns
 are_first_grow table u none [] p = p
 are_first_grow table u none (n ∷ ns) p = absurd p
 are_first_grow table u (more t ts) [] p = absurd p
 are_first_grow table u (more t ts) (n ∷ ns) p = (first_grows table u t n p.0, are_first_grow table u ts ns p.1)
 
-pub has_term_grows : (table : List Tree) (u : Tree) (e : Entry) (t : Tree) → HasTerm table e t → HasTerm (table ++ u ∷ []) e t
+pub has_term_grows : (table : List Tree) (u : Tree) (e : TableLine) (t : Tree) → HasTerm table e t → HasTerm (table ++ u ∷ []) e t
 has_term_grows table u (v n s) t p = p
 has_term_grows table u (a f ns) (Var n s) p = absurd p
 has_term_grows table u (a f ns) (App g r ts) p = (p.0, are_first_grow table u ts ns p.1)
 
 -- the terms of all lines
 
-pub one_table : (sig : Signature) (table : List Tree) (es : List Entry) (ts us : List Tree) → HaveTerms table es ts → HaveTerms table es us
+pub one_table : (sig : Signature) (table : List Tree) (es : List TableLine) (ts us : List Tree) → HaveTerms table es ts → HaveTerms table es us
     → AllByRecursion (IsWellSorted sig) ts → AllByRecursion (IsWellSorted sig) us → ts ≡ us
 one_table sig table [] [] [] p q gt gu = refl
 one_table sig table [] [] (u ∷ us) p q gt gu = absurd q
@@ -109,7 +110,7 @@ one_table sig table (e ∷ es) (t ∷ ts) (u ∷ us) p q gt gu =
     let P : Tree → Type 0 = λ x. HaveTerms (table ++ x ∷ []) es ts in
     ap (λ x. x ∷ ts) same ∙ ap (λ xs. u ∷ xs) (one_table sig (table ++ u ∷ []) es ts us (subst P same p.1) q.1 gt.1 gu.1)
 
-pub have_terms_push : (table : List Tree) (es : List Entry) (ts : List Tree) (e : Entry) (t : Tree) → HaveTerms table es ts → HasTerm (table ++ ts) e t
+pub have_terms_push : (table : List Tree) (es : List TableLine) (ts : List Tree) (e : TableLine) (t : Tree) → HaveTerms table es ts → HasTerm (table ++ ts) e t
     → HaveTerms table (es ++ e ∷ []) (ts ++ t ∷ [])
 have_terms_push table [] [] e t p q = (subst (λ x. HasTerm x e t) (append-nil table) q, tt)
 have_terms_push table [] (u ∷ us) e t p q = absurd p

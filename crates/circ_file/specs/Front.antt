@@ -2,7 +2,6 @@
 use Rattle.std.specs.Prelude.{◌≡◌, ℕ, ◌+◌, ◌-◌, ◌*◌, ◌==◌, nat_lt, List, [], ◌∷◌, length, zero, suc, Option, Some, None, Bool, false, if◌then◌else◌}
 use Rattle.std.specs.Char.{is_ascii_digit}
 use Rattle.std.specs.Option.{option_and_then, option_map}
-use Rattle.circ_file.specs.declared.TheConstants.{MOST_NUMBER}
 
 -- the bytes begin with no digit
 abbrev pub NoDigit : List ℕ → Type 0
@@ -10,16 +9,16 @@ NoDigit [] = Unit {0}
 NoDigit (b ∷ bs) = is_ascii_digit b ≡ false
 
 -- the bytes after a text that they begin with
-abbrev pub after : (text bytes : List ℕ) → Option (List ℕ)
-after [] bs = Some bs
-after (c ∷ cs) [] = None
-after (c ∷ cs) (b ∷ bs) = if b == c then after cs bs else None
+abbrev pub rest_after : (text bytes : List ℕ) → Option (List ℕ)
+rest_after [] bs = Some bs
+rest_after (c ∷ cs) [] = None
+rest_after (c ∷ cs) (b ∷ bs) = if b == c then rest_after cs bs else None
 
 -- the number that digits go on to after n
 abbrev pub digits_at : ℕ → List ℕ → Option (ℕ × List ℕ)
 digits_at n [] = Some (n, [])
 digits_at n (b ∷ bs) =
-    if is_ascii_digit b then (if nat_lt MOST_NUMBER (10 * n + (b - 48)) then None else digits_at (10 * n + (b - 48)) bs) else Some (n, b ∷ bs)
+    if is_ascii_digit b then (if nat_lt 4294967295 (10 * n + (b - 48)) then None else digits_at (10 * n + (b - 48)) bs) else Some (n, b ∷ bs)
 
 abbrev pub below : ℕ → ℕ × List ℕ → Option (ℕ × List ℕ)
 below limit r = if nat_lt r.0 limit then Some r else None
@@ -60,11 +59,11 @@ list_at item bs = Some (items_at item bs)
 
 -- an item after a text
 abbrev pub past : {X : Type 0} → List ℕ → (List ℕ → Option (X × List ℕ)) → List ℕ → Option (X × List ℕ)
-past t item bs = option_and_then item (after t bs)
+past t item bs = option_and_then item (rest_after t bs)
 
 -- an item before a text
 abbrev pub ended : {X : Type 0} → (List ℕ → Option (X × List ℕ)) → List ℕ → List ℕ → Option (X × List ℕ)
-ended item t bs = option_and_then (λ r. option_map (λ s. (r.0, s)) (after t r.1)) (item bs)
+ended item t bs = option_and_then (λ r. option_map (λ s. (r.0, s)) (rest_after t r.1)) (item bs)
 
 -- an item, then another
 abbrev pub seq : {X Y : Type 0} → (List ℕ → Option (X × List ℕ)) → (List ℕ → Option (Y × List ℕ)) → List ℕ → Option ((X × Y) × List ℕ)

@@ -4,9 +4,9 @@ use Rattle.std.specs.Option.{option_map}
 use Rattle.circ_theory.specs.Link.{PlainLink, Equation_link}
 use Rattle.circ_theory.specs.declared.replay.Way.{Way}
 use Rattle.circ_theory.specs.declared.replay.Way.TheVariants.{Forth, Back}
-use Rattle.circ_file.specs.Proof.{Chain, Name}
-use Rattle.circ_file.specs.ProofText.{Entry, v, a}
-use Rattle.circ_file.specs.Front.{after, number_at, marked, items_at, list_at, past, ended, seq, mapped}
+use Rattle.circ_file.specs.Proof.{Chain, GoalNames}
+use Rattle.circ_file.specs.ProofText.{TableLine, v, a}
+use Rattle.circ_file.specs.Front.{rest_after, number_at, marked, items_at, list_at, past, ended, seq, mapped}
 
 -- two numbers below the limit, up to the end of a line
 abbrev pub pair_at : (limit : ℕ) → List ℕ → Option ((ℕ × ℕ) × List ℕ)
@@ -20,23 +20,23 @@ row_at limit bs = ended (list_at (marked 32 limit)) (codes "\n") bs
 abbrev pub application_at : List ℕ → Option ((ℕ × List ℕ) × List ℕ)
 application_at bs = seq (marked 32 (2 ^ 32)) (row_at (2 ^ 32)) bs
 
-abbrev pub to_variable : ℕ × ℕ → Entry
+abbrev pub to_variable : ℕ × ℕ → TableLine
 to_variable p = v p.0 p.1
 
-abbrev pub to_application : ℕ × List ℕ → Entry
+abbrev pub to_application : ℕ × List ℕ → TableLine
 to_application p = a p.0 p.1
 
 -- a line of the table
-abbrev pub entry_at : List ℕ → Option (Entry × List ℕ)
-entry_at [] = None
-entry_at (b ∷ bs) =
+abbrev pub table_line_at : List ℕ → Option (TableLine × List ℕ)
+table_line_at [] = None
+table_line_at (b ∷ bs) =
     if b == 118 then mapped to_variable (pair_at (2 ^ 32)) bs else if b == 97 then mapped to_application application_at bs else None
 
-abbrev pub to_name : ℕ × ℕ → Name
+abbrev pub to_name : ℕ × ℕ → GoalNames
 to_name p = record { left = p.0; right = p.1 }
 
 -- a goal's line
-abbrev pub goal_at : (count : ℕ) → List ℕ → Option (Name × List ℕ)
+abbrev pub goal_at : (count : ℕ) → List ℕ → Option (GoalNames × List ℕ)
 goal_at count bs = mapped to_name (past (codes "goal") (pair_at count)) bs
 
 abbrev pub way_at : List ℕ → Option (Way × List ℕ)
@@ -51,7 +51,7 @@ abbrev pub entries_at : ℕ → List ℕ → List ℕ × List ℕ
 entries_at first bs = let s = items_at (marked 46 (2 ^ 16)) bs in (first ∷ s.0, s.1)
 
 abbrev pub path_from : List ℕ → Option (ℕ × List ℕ) → Option (List ℕ × List ℕ)
-path_from bs None = option_map (λ r. ([], r)) (after (codes "-") bs)
+path_from bs None = option_map (λ r. ([], r)) (rest_after (codes "-") bs)
 path_from bs (Some r) = short (entries_at r.0 r.1)
 
 -- a path of at most 1,000 entries

@@ -13,17 +13,17 @@ pub record Chain : Type 0 where
   pub right : List PlainLink
 
 -- A goal by the numbers of its sides in the table.
-pub record Name : Type 0 where
+pub record GoalNames : Type 0 where
   pub left : ℕ
   pub right : ℕ
 
 -- A table of terms, goals, and the chain of each `reduce` step. A `done` step ends the proof.
 pub record Proof : Type 0 where
   pub table : List Tree
-  pub names : List Name
+  pub names : List GoalNames
   pub chains : List Chain
 
-abbrev pub goal_of : List Tree → Name → Pair
+abbrev pub goal_of : List Tree → GoalNames → Pair
 goal_of table n = record { left = named table n.left; right = named table n.right }
 
 abbrev pub goals_of : Proof → List Pair
@@ -38,7 +38,7 @@ pub record IsChainFor (count : ℕ) (c : Chain) : Type 0 where
   pub right : AllByRecursion (IsLinkFor count) c.right
 
 -- the goal's numbers are in the table, and its two terms have one sort
-pub record IsNameFor (table : List Tree) (n : Name) : Type 0 where
+pub record IsNameFor (table : List Tree) (n : GoalNames) : Type 0 where
   pub left : n.left < length table
   pub right : n.right < length table
   pub same_sort : sort_of (named table n.right) ≡ sort_of (named table n.left)

@@ -6,10 +6,9 @@ mod numbers;
 mod proof;
 mod proof_text;
 mod table;
-#[cfg(test)]
-mod tests;
+mod table_line;
 
-pub use proof::{Chain, Name, Proof};
+pub use proof::{Chain, GoalNames, Proof};
 pub use proof_text::read_proof;
 
 /// The greatest number of a proof file.

@@ -2,26 +2,26 @@
 ghost use Rattle.std.specs.Prelude.{◌≡◌, ◌<◌, ◌≤◌, ◌^◌, false, IfOk, IfSome, MatchOption};
 ghost use Rattle.std.specs.Char.{is_ascii_digit};
 ghost use Rattle.std.specs.Option.{option_map};
-ghost use Rattle.circ_file.specs.Front.{after, digits_at, number_at, marked, items_at};
+ghost use Rattle.circ_file.specs.Front.{rest_after, digits_at, number_at, marked, items_at};
 
 use crate::MOST_NUMBER;
 use std::alloc::{AllocError, Global};
 
-/// The bytes after a text that they begin with.
-pub(crate) fn after_text<'a>(bytes: &'a [u8], text: &[u8]) -> Option<&'a [u8]>
-    ensures { option_map (λ r. r.now) result ≡ after text.now bytes.now }
+/// The number below the limit at the front, with the bytes after it.
+pub(crate) fn number_at(bytes: &[u8], limit: u64) -> Option<(u32, &[u8])>
+    requires { limit ≤ 2 ^ 32 }
+    ensures read { option_map (λ r. (r.0, r.1.now)) result ≡ number_at limit bytes.now }
+    ensures below { IfSome result (λ r. r.0 < limit) }
 {
-    let mut rest = bytes;
-    for c in text {
-        let [b, more @ ..] = rest else {
-            return None;
-        };
-        if *b != *c {
-            return None;
-        }
-        rest = more;
+    let (number, rest) = match bytes {
+        [b'0', rest @ ..] => (0, rest),
+        [b, rest @ ..] if b.is_ascii_digit() => digits_at((*b - b'0') as u64, rest)?,
+        _ => return None,
+    };
+    if number >= limit {
+        return None;
     }
-    Some(rest)
+    Some((number as u32, rest))
 }
 
 /// The number that digits go on to after `start`, with the bytes after them.
@@ -42,23 +42,6 @@ fn digits_at(start: u64, bytes: &[u8]) -> Option<(u64, &[u8])>
         rest = more;
     }
     Some((number, rest))
-}
-
-/// The number below the limit at the front, with the bytes after it.
-pub(crate) fn number_at(bytes: &[u8], limit: u64) -> Option<(u32, &[u8])>
-    requires { limit ≤ 2 ^ 32 }
-    ensures read { option_map (λ r. (r.0, r.1.now)) result ≡ number_at limit bytes.now }
-    ensures below { IfSome result (λ r. r.0 < limit) }
-{
-    let (number, rest) = match bytes {
-        [b'0', rest @ ..] => (0, rest),
-        [b, rest @ ..] if b.is_ascii_digit() => digits_at((*b - b'0') as u64, rest)?,
-        _ => return None,
-    };
-    if number >= limit {
-        return None;
-    }
-    Some((number as u32, rest))
 }
 
 /// The number after a mark.
@@ -89,4 +72,21 @@ pub(crate) fn numbers_at(
         rest = more;
     }
     Ok((out, rest))
+}
+
+/// The bytes after a text that they begin with.
+pub(crate) fn after_text<'a>(bytes: &'a [u8], text: &[u8]) -> Option<&'a [u8]>
+    ensures { option_map (λ r. r.now) result ≡ rest_after text.now bytes.now }
+{
+    let mut rest = bytes;
+    for c in text {
+        let [b, more @ ..] = rest else {
+            return None;
+        };
+        if *b != *c {
+            return None;
+        }
+        rest = more;
+    }
+    Some(rest)
 }

@@ -12,8 +12,8 @@ pub struct Chain {
 }
 
 /// A goal, by the numbers of its two sides in the table.
-#[derive(Debug, Clone, Copy, PartialEq, Eq)]
-pub struct Name {
+#[derive(Clone, Copy)]
+pub struct GoalNames {
     /// The left side.
     pub left: u32,
     /// The right side.
@@ -26,7 +26,7 @@ pub struct Proof {
     /// The terms that goals and links name.
     pub table: Vec<Term>,
     /// The goals.
-    pub names: Vec<Name>,
+    pub names: Vec<GoalNames>,
     /// The chains of the steps.
     pub chains: Vec<Chain>,
 }

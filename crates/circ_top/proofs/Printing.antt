@@ -10,7 +10,7 @@ use Rattle.circ_theory.specs.declared.parts.Goal.{Goal}
 use Rattle.circ_file.specs.Proof.{goal_of}
 use Rattle.circ_file.specs.Plain.{plain_name}
 use Rattle.circ_show.specs.GoalsText.{plain_goal}
-use Rattle.circ_file.specs.declared.proof.Name.{Name}
+use Rattle.circ_file.specs.declared.proof.GoalNames.{GoalNames}
 use Rattle.circ_top.proofs.Lists.{drop_there}
 
 pub prefix_part : (old new text : List ℕ) → AppendsPrefix old new text → (part : List ℕ) × ((rest : List ℕ) × ((text ≡ part ++ rest) × (new ≡ old ++ part)))
@@ -29,7 +29,7 @@ pub readings_joined : (out a f b s : List ℕ) → (((out ++ a) ++ f) ++ b) ++ s
 readings_joined out a f b s = simp append_assoc refl
 
 -- the goals go on with the next
-pub goals_step : (table : List Tree) (names : List Name) (i : ℕ) (n : Name) (old new : List Goal) (g : Goal) (goal : List Pair) → slice_get names i ≡ Some n → new ≡ old ++ g ∷ []
+pub goals_step : (table : List Tree) (names : List GoalNames) (i : ℕ) (n : GoalNames) (old new : List Goal) (g : Goal) (goal : List Pair) → slice_get names i ≡ Some n → new ≡ old ++ g ∷ []
     → plain_goal g ≡ goal_of table (plain_name n) → map plain_goal old ++ map (goal_of table) (map plain_name (drop i names)) ≡ goal
     → map plain_goal new ++ map (goal_of table) (map plain_name (drop (i + 1) names)) ≡ goal
 goals_step table names i n old new g goal there is same e =

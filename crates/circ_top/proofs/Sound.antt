@@ -13,7 +13,7 @@ use Rattle.circ_theory.proofs.Rewriting.{link_keeps, named_well_sorted}
 use Rattle.circ_theory.specs.Link.{PlainLink, Equation_link, plain_link, IsInTable}
 use Rattle.circ_theory.specs.declared.replay.Link.{Link}
 use Rattle.circ_theory.specs.declared.replay.Link.TheVariants as link
-use Rattle.circ_file.specs.Proof.{Proof, Chain, Name, IsLinkFor, IsChainFor, IsNameFor, ProofFor, goal_of, goals_of}
+use Rattle.circ_file.specs.Proof.{Proof, Chain, GoalNames, IsLinkFor, IsChainFor, IsNameFor, ProofFor, goal_of, goals_of}
 use Rattle.circ_top.specs.Accepted.{LeadAll, Justified, Reduce, Done, StepsOf, Accepted}
 
 pub links_in_table : (count : ℕ) (ls : List PlainLink) → AllByRecursion (IsLinkFor count) ls → AllByRecursion (IsInTable count) ls
@@ -55,7 +55,7 @@ goals_derivable th ok table a (c ∷ cs) n (g ∷ gs) w s =
     (justified_derivable th ok table a c n.0 g w.0 s.1.0.0, goals_derivable th ok table a cs n.1 gs w.1 (subst P s.1.0.1 s.1.1))
 
 goals_well_sorted : (sig : Signature) (table : List Tree) → AllByRecursion (IsWellSorted sig) table
-    → (ns : List Name) → AllByRecursion (IsNameFor table) ns → AllByRecursion (IsWellSortedPair sig) (map (goal_of table) ns)
+    → (ns : List GoalNames) → AllByRecursion (IsNameFor table) ns → AllByRecursion (IsWellSortedPair sig) (map (goal_of table) ns)
 goals_well_sorted sig table a [] h = tt
 goals_well_sorted sig table a (n ∷ ns) h = (
   record { left = named_well_sorted sig table n.left a h.0.left; right = named_well_sorted sig table n.right a h.0.right; same_sort = h.0.same_sort },

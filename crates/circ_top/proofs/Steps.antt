@@ -8,7 +8,7 @@ use Rattle.circ_theory.specs.Variables.{variables_of, sorted, given}
 use Rattle.circ_theory.specs.Link.{PlainLink, Equation_link, Leads, named, to_side}
 use Rattle.circ_theory.specs.declared.parts.Equation.{Equation}
 use Rattle.std.specs.List.{slice_get}
-use Rattle.circ_file.specs.Proof.{Proof, Name, Chain, goal_of}
+use Rattle.circ_file.specs.Proof.{Proof, GoalNames, Chain, goal_of}
 use Rattle.circ_top.specs.Accepted.{LeadAll, Justified, Step, Reduce, Done, StepOf, FirstFailOf, FirstFail, Accepted}
 use Rattle.circ_top.specs.Verdict.{goals_from, steps_from, StandsAt}
 use Rattle.circ_top.proofs.Lists.{drop_there, drop_past}
@@ -61,7 +61,7 @@ justified_both th table goal c l r b left right same = (
 )
 
 -- the goals and steps from a place on, where they are known there
-goals_there : (p : Proof) (k : ℕ) (name : Name) → slice_get p.names k ≡ Some name → goals_from p k ≡ goal_of p.table name ∷ goals_from p (k + 1)
+goals_there : (p : Proof) (k : ℕ) (name : GoalNames) → slice_get p.names k ≡ Some name → goals_from p k ≡ goal_of p.table name ∷ goals_from p (k + 1)
 goals_there p k name g = ap (map (goal_of p.table)) (drop_there p.names k name g)
 
 goals_past : (p : Proof) (k : ℕ) → slice_get p.names k ≡ None → goals_from p k ≡ []
@@ -81,12 +81,12 @@ stands_fails th p k gs s ss stands g q none_after = stands.fails 1 (rw (g, q) (f
 pub no_goal_fails : (th : Theory) (p : Proof) (k : ℕ) (c : Chain) → StandsAt th p k → slice_get p.names k ≡ None → slice_get p.chains k ≡ Some c → FirstFail th p (k + 1)
 no_goal_fails th p k c stands g q = stands_fails th p k [] (Reduce c) (steps_from p (k + 1)) stands (goals_past p k g) (steps_there p k c q) (λ after h. h)
 
-pub unjustified_fails : (th : Theory) (p : Proof) (k : ℕ) (name : Name) (c : Chain) → StandsAt th p k → slice_get p.names k ≡ Some name → slice_get p.chains k ≡ Some c
+pub unjustified_fails : (th : Theory) (p : Proof) (k : ℕ) (name : GoalNames) (c : Chain) → StandsAt th p k → slice_get p.names k ≡ Some name → slice_get p.chains k ≡ Some c
     → (Justified th p.table (goal_of p.table name) c → ⊥) → FirstFail th p (k + 1)
 unjustified_fails th p k name c stands g q none_is =
     stands_fails th p k (goal_of p.table name ∷ goals_from p (k + 1)) (Reduce c) (steps_from p (k + 1)) stands (goals_there p k name g) (steps_there p k c q) (λ after h. none_is h.0)
 
-pub done_fails : (th : Theory) (p : Proof) (k : ℕ) (name : Name) → StandsAt th p k → slice_get p.names k ≡ Some name → slice_get p.chains k ≡ None → FirstFail th p (k + 1)
+pub done_fails : (th : Theory) (p : Proof) (k : ℕ) (name : GoalNames) → StandsAt th p k → slice_get p.names k ≡ Some name → slice_get p.chains k ≡ None → FirstFail th p (k + 1)
 done_fails th p k name stands g q =
     stands_fails th p k (goal_of p.table name ∷ goals_from p (k + 1)) Done [] stands (goals_there p k name g) (steps_past p k q) (λ after h. h)
 
@@ -94,7 +94,7 @@ pub done_accepts : (th : Theory) (p : Proof) (k : ℕ) → StandsAt th p k → s
 done_accepts th p k stands g q = stands.accepts (rw (goals_past p k g, steps_past p k q) ([], (refl, refl)))
 
 -- a justified goal is dropped
-pub stands_next : (th : Theory) (p : Proof) (k : ℕ) (name : Name) (c : Chain) → StandsAt th p k → slice_get p.names k ≡ Some name → slice_get p.chains k ≡ Some c
+pub stands_next : (th : Theory) (p : Proof) (k : ℕ) (name : GoalNames) (c : Chain) → StandsAt th p k → slice_get p.names k ≡ Some name → slice_get p.chains k ≡ Some c
     → Justified th p.table (goal_of p.table name) c → StandsAt th p (k + 1)
 stands_next th p k name c stands g q j =
     let goals = goals_there p k name g in

@@ -3,7 +3,7 @@ ghost use Rattle.std.specs.Prelude.{◌≡◌, ◌<◌, length, slice_get};
 ghost use Rattle.std.specs.Option.{option_copied};
 ghost use Rattle.circ_theory.specs.Link.{named};
 
-use circ_file::Name;
+use circ_file::GoalNames;
 use circ_term::Term;
 
 /// The term of a number of the table.
@@ -15,7 +15,7 @@ pub(crate) fn term_at(table: &[Term], number: u32) -> &Term
 }
 
 /// The table numbers of a goal, by its own number from 0.
-pub(crate) fn name_at(names: &[Name], number: usize) -> Option<&Name>
+pub(crate) fn name_at(names: &[GoalNames], number: usize) -> Option<&GoalNames>
     ensures { option_copied result ≡ slice_get names.now number }
 {
     names.get(number)

@@ -9,7 +9,7 @@ ghost use Rattle.circ_top.specs.Texts.{accepted_text, cause_text, place_text, re
 
 use crate::goals::term_at;
 use crate::status::Status;
-use circ_file::{Name, Proof};
+use circ_file::{GoalNames, Proof};
 use circ_read::Cause;
 use circ_show::{goals_text, theory_text};
 use circ_term::Term;
@@ -24,7 +24,7 @@ fn push_number(out: &mut Vec<u8>, number: u64) -> Result<(), AllocError>
     out.extend_from_slice(buffer.format(number).as_bytes())
 }
 
-fn goal(table: &[Term], name: &Name) -> Result<Goal, AllocError>
+fn goal(table: &[Term], name: &GoalNames) -> Result<Goal, AllocError>
     requires { IsNameFor table.now (plain_name name.now) }
     ensures { IfOk result (λ g. plain_goal g ≡ goal_of table.now (plain_name name.now)) }
 {

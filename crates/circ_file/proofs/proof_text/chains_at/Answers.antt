@@ -13,10 +13,12 @@ loop-chains-smaller c =
 pub loop-chains-preserved : goal.loop-chains-preserved
 loop-chains-preserved c =
     let read = rw c.in-Some.is at c.in_ok-chain.ensures in
-    run_pushed plain_chain (chain_at c.args.count) c.args.bytes.now c.loop-chains.chains.items c.push.new.self.items c.in-Some.chain c.loop-chains.rest.now c.in-Some.more.now
+    run_pushed plain_chain (chain_at c.args.count)
+    c.args.bytes.now c.loop-chains.chains.items c.push.new.self.items c.in-Some.chain c.loop-chains.rest.now c.in-Some.more.now
     c.loop-chains.invariant read c.in_ok-push.ensures.items
 
 pub returns : goal.returns
 returns c =
     let read = rw c.in_default.is at c.in_ok-chain.ensures in
-    run_items_at (chain_item c.args.count c.requires) chain_follows c.args.bytes.now (map plain_chain c.loop-chains.chains.items) c.loop-chains.rest.now c.loop-chains.invariant read
+    run_items_at (chain_item c.args.count c.requires) chain_follows c.args.bytes.now (map plain_chain c.loop-chains.chains.items)
+    c.loop-chains.rest.now c.loop-chains.invariant read

@@ -1,5 +1,5 @@
 use Rattle.std.proofs.Common.{◌≡◌, Some, List, ℕ, map, subst}
-use Rattle.circ_file.specs.Proof.{Name, Chain}
+use Rattle.circ_file.specs.Proof.{GoalNames, Chain}
 use Rattle.circ_file.specs.Body.{body_at}
 use Rattle.circ_file.specs.Plain.{plain_name, plain_chain}
 use Rattle.circ_file.proofs.Whole.{reads, no_table, no_body, no_more, one_proof, nothing_left, something_left}
@@ -28,7 +28,7 @@ pub returns : goal.returns
 returns c =
     let t = rw c.in-Some-2.is at c.in_ok-table.ensures in
     let body = rw (c.in-Some-3.is, c.as_slice.ensures.value) at c.in_ok-parts.ensures in
-    let b : List Name × List Chain = (map plain_name c.in-Some-3.parts.0.items, map plain_chain c.in-Some-3.parts.1.items) in
+    let b : List GoalNames × List Chain = (map plain_name c.in-Some-3.parts.0.items, map plain_chain c.in-Some-3.parts.1.items) in
     let P : List ℕ → Type 0 = λ left. Some (b, left) ≡ body_at c.in-Some-2.table.items c.in-Some-2.rest.now in
     let is = reads c.args.theory.now c.args.bytes.now c.in-Some.rest.now c.in-Some-2.table.items c.in-Some-2.rest.now b c.in-Some.ensures t
     (subst P (nothing_left c.in-Some-3.rest.now c.if-not-is_empty.ensures) body) in

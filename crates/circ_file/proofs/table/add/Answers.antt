@@ -1,6 +1,6 @@
 use Rattle.std.proofs.Common.{List, Bool, ◌∷◌, ◌++◌, [], map, sym, subst}
 use Rattle.circ_term.specs.Tree.{Tree}
-use Rattle.circ_file.specs.Plain.{plain_entry}
+use Rattle.circ_file.specs.Plain.{plain_table_line}
 use Rattle.circ_file.specs.Table.{IsKept}
 use Rattle.circ_file.proofs.Kept.{kept_grows}
 use Rattle.circ_file.proofs.table.add.Goals as goal
@@ -9,9 +9,10 @@ pub returns-clause-kept : goal.returns-clause-kept
 returns-clause-kept c =
     let sig = c.args.theory.now.signature in
     let old = c.args.table.now in
-    let keys = map plain_entry c.enter.new.keys.keys in
+    let lines = map plain_table_line c.enter.new.lines.keys in
     let term = rw c.in-Some.is at c.in_ok-term.ensures in
-    let P : List Tree → Type 0 = λ ts. IsKept sig ts keys c.push.new.self.items in
-    let Q : List Bool → Type 0 = λ ms. IsKept sig (old.terms.items ++ c.in-Some.term ∷ []) keys ms in
+    let P : List Tree → Type 0 = λ ts. IsKept sig ts lines c.push.new.self.items in
+    let Q : List Bool → Type 0 = λ ms. IsKept sig (old.terms.items ++ c.in-Some.term ∷ []) lines ms in
     subst P (sym c.in_ok-push-2.ensures.items) (subst Q (sym c.in_ok-push.ensures.items)
-    (kept_grows sig old.terms.items (plain_entry c.args.key) c.in-Some.term term.0 term.1.sorted (map plain_entry old.keys.keys) keys old.marks.items c.requires c.in_ok-fresh.fresh c.in_ok-fresh.ensures))
+    (kept_grows sig old.terms.items (plain_table_line c.args.line) c.in-Some.term term.0 term.1.sorted (map plain_table_line old.lines.keys)
+    lines old.marks.items c.requires c.in_ok-fresh.fresh c.in_ok-fresh.ensures))

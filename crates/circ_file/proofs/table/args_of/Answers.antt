@@ -14,8 +14,10 @@ loop-number-preserved c =
     let ns = c.args.numbers.now in
     let i = c.loop-number.number-index in
     let so_far = args_left c.args.table.now.terms.items ns i c.loop-number.out.items c.loop-number-test.true c.loop-number.invariant in
-    args_more c.args.table.now.terms.items ns (get_or ns i 0) (drop (i + 1) ns) c.loop-number.out.items c.push.new.self.items c.in-Some.term.now c.in_ok-share.field-0
+    args_more c.args.table.now.terms.items ns (get_or ns i 0) (drop (i + 1) ns)
+    c.loop-number.out.items c.push.new.self.items c.in-Some.term.now c.in_ok-share.field-0
     c.in-Some.ensures c.in_ok-push.ensures.items c.in_ok-share.ensures.same so_far
 
 pub returns : goal.returns
-returns c = args_end c.args.table.now.terms.items c.args.numbers.now c.loop-number.number-index c.loop-number.out.items c.loop-number-test.false c.loop-number.invariant
+returns c =
+    args_end c.args.table.now.terms.items c.args.numbers.now c.loop-number.number-index c.loop-number.out.items c.loop-number-test.false c.loop-number.invariant

@@ -14,5 +14,6 @@ returns-in-Some c =
     let terms = c.args.table.now.terms.items in
     let first = rw (c.in-Some.is, c.as_slice.ensures.value) at c.in_ok-args-in-Application.ensures in
     rw c.in-Application.is
-    (if_ok_other (GivesApplication sig c.in-Application.op c.in-Some.args.items) (GivesTerm sig terms (a c.in-Application.op c.in-Application.args.items)) c.application.result
+    (if_ok_other (GivesApplication sig c.in-Application.op c.in-Some.args.items) (GivesTerm sig terms (a c.in-Application.op c.in-Application.args.items))
+    c.application.result
     (λ o g. application_term sig terms c.in-Application.op c.in-Application.args.items c.in-Some.args.items o first g) c.application.ensures)

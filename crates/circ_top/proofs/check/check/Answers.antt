@@ -8,19 +8,19 @@ use Rattle.circ_file.specs.Plain.{plain_proof, plain_name, plain_chain}
 use Rattle.circ_top.proofs.Lists.{slice_get-map, slice_get_read, slice_get_below, all_map_at}
 use Rattle.circ_top.proofs.Steps.{no_goal_fails, unjustified_fails, done_fails, done_accepts, stands_next}
 use Rattle.circ_file.specs.declared.proof.Proof.{Proof}
-use Rattle.circ_file.specs.declared.proof.Name.{Name}
+use Rattle.circ_file.specs.declared.proof.GoalNames.{GoalNames}
 use Rattle.circ_file.specs.declared.proof.Chain.{Chain}
 use Rattle.circ_top.proofs.check.check.Goals as goal
 
 -- what stands at a place in memory stands there in the plain proof
-name_there : (p : Proof) (k : ℕ) (n : Name) → slice_get p.names.items k ≡ Some n → slice_get (plain_proof p).names k ≡ Some (plain_name n)
+name_there : (p : Proof) (k : ℕ) (n : GoalNames) → slice_get p.names.items k ≡ Some n → slice_get (plain_proof p).names k ≡ Some (plain_name n)
 name_there p k n g = slice_get-map plain_name p.names.items k ∙ ap (option_map plain_name) g
 
 chain_there : (p : Proof) (k : ℕ) (x : Chain) → k < length p.chains.items → x ≡ get_or p.chains.items k x → slice_get (plain_proof p).chains k ≡ Some (plain_chain x)
 chain_there p k x h e = slice_get-map plain_chain p.chains.items k ∙ ap (option_map plain_chain) (slice_get_read p.chains.items k x h e)
 
 -- the goal of a number is one for the table
-name_fits : (p : Proof) (k : ℕ) (n : Name) → AllByRecursion (IsNameFor p.table.items) (plain_proof p).names → slice_get p.names.items k ≡ Some n → IsNameFor p.table.items (plain_name n)
+name_fits : (p : Proof) (k : ℕ) (n : GoalNames) → AllByRecursion (IsNameFor p.table.items) (plain_proof p).names → slice_get p.names.items k ≡ Some n → IsNameFor p.table.items (plain_name n)
 name_fits p k n a g = all_map_at (IsNameFor p.table.items) plain_name p.names.items k n a g
 
 pub returns-in_default : goal.returns-in_default
