@@ -8,3 +8,5 @@ mod Growing
 mod Once
 mod TextOnce
 mod StatementOnce
+mod Coming
+mod Total

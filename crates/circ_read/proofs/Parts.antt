@@ -1,5 +1,5 @@
 -- Parts added one by one, and words looked up one by one.
-use Rattle.std.proofs.Common.{◌≡◌, ℕ, List, [], ◌∷◌, ◌++◌, Option, Some, None, Result, Ok, Err, refl, ap, sym, ◌∙◌, append_assoc, length, arith}
+use Rattle.std.proofs.Common.{◌≡◌, ℕ, List, [], ◌∷◌, ◌++◌, Option, Some, None, Result, Ok, Err, refl, ap, sym, ◌∙◌, subst, append_assoc, length, arith}
 use Rattle.std.specs.Option.{option_map}
 use Rattle.std.proofs.lemmas.List.{append-nil}
 use Rattle.std.specs.declared.vec.IntoIter.{IntoIter}
@@ -9,17 +9,22 @@ use Rattle.circ_theory.specs.Theory.{Theory}
 use Rattle.circ_read.specs.declared.cause.Cause.{Cause}
 use Rattle.circ_read.specs.declared.cause.Fault.{Fault}
 use Rattle.circ_read.specs.declared.cause.Fault.TheVariants.{Because, Memory}
-use Rattle.circ_read.specs.Does.{after, all_added, all_numbers, or_cause}
-use Rattle.circ_read.specs.Steps.{Answers, ReadsTerms}
+use Rattle.circ_mixfix.specs.Answers.{GivesReading}
+use Rattle.circ_mixfix.specs.declared.parse.ParseFault.{ParseFault}
+use Rattle.circ_mixfix.specs.declared.parse.ParseFault.TheVariants as parse
+use Rattle.circ_read.specs.Adding.{all_numbers}
+use Rattle.circ_read.specs.Refusing.{ReadsNotAlone, too_many_tokens, no_reading, two_readings, terms_text}
+use Rattle.circ_read.specs.Outcomes.{followed_by, all_added, or_cause, TermsOutcome}
+use Rattle.circ_read.specs.Steps.{StepAnswers, IsUnread}
 
 module _ {A : Type 0} (add : Theory → A → Result Theory Cause) (th : Theory) (a : A) (all rest : List A) (first : all ≡ a ∷ rest) (whole : Result Theory Cause) (so_far : all_added add th all ≡ whole) where
   -- one part more is added
   pub more_added : (u : Theory) → Ok u ≡ add th a → all_added add u rest ≡ whole
-  more_added u e = ap (λ r. after r (λ v. all_added add v rest)) e ∙ ap (all_added add th) (sym first) ∙ so_far
+  more_added u e = ap (λ r. followed_by r (λ v. all_added add v rest)) e ∙ ap (all_added add th) (sym first) ∙ so_far
 
   -- one part has a cause
-  pub stopped : (f : Fault) (u v : Theory) → Answers {U = Unit {0}} (Err f) u (λ r. r ≡ add th a) → Answers {U = Unit {0}} (Err f) v (λ r. r ≡ whole)
-  stopped (Because c) u v e = ap (λ r. after r (λ v. all_added add v rest)) e ∙ ap (all_added add th) (sym first) ∙ so_far
+  pub stopped : (f : Fault) (u v : Theory) → StepAnswers {U = Unit {0}} (Err f) u (λ r. r ≡ add th a) → StepAnswers {U = Unit {0}} (Err f) v (λ r. r ≡ whole)
+  stopped (Because c) u v e = ap (λ r. followed_by r (λ v. all_added add v rest)) e ∙ ap (all_added add th) (sym first) ∙ so_far
   stopped Memory u v e = tt
 
 module _ (number : List ℕ → Option ℕ) (w : List ℕ) (ws rest : List (List ℕ)) (first : ws ≡ w ∷ rest) (before : List ℕ) (whole : Option (List ℕ))
@@ -46,18 +51,23 @@ pub all_found : (number : List ℕ → Option ℕ) (ws : List (List ℕ)) (befor
     → option_map (λ ns. before ++ ns) (all_numbers number ws) ≡ whole → or_cause whole c ≡ Ok before
 all_found number ws before whole c none e = cc (ap (all_numbers number) none, append-nil before)
 
-module _ {A : Type 0} (Gives : Result A Cause → Type 0) (add : A → Result Theory Cause) where
+module _ (too_long : Option ℕ) (Reads : List Tree → Type 0) (th : Theory) (add : List Tree → Result Theory Cause) where
   -- what was read is added
-  pub read_then_added : (a : A) (r : Result (Unit {0}) Fault) (u : Theory) → Gives (Ok a) → Answers r u (λ q. q ≡ add a) → Answers r u (λ q. (o : Result A Cause) × Gives o × (q ≡ after o add))
-  read_then_added a (Ok n) u g e = (Ok a, g, e)
-  read_then_added a (Err (Because c)) u g e = (Ok a, g, e)
-  read_then_added a (Err Memory) u g e = tt
+  pub read_then_added : (ts : List Tree) (r : Result (Unit {0}) Fault) (u : Theory) → (too_long ≡ None) × Reads ts × ((us : List Tree) → Reads us → us ≡ ts) → StepAnswers r u (λ q. q ≡ add ts)
+      → StepAnswers r u (λ q. (o : Result (List Tree) Cause) × TermsOutcome too_long Reads (terms_text th) o × (q ≡ followed_by o add))
+  read_then_added ts (Ok n) u g e = (Ok ts, record { short = g.0; reads = g.1; only = g.2 }, e)
+  read_then_added ts (Err (Because c)) u g e = (Ok ts, record { short = g.0; reads = g.1; only = g.2 }, e)
+  read_then_added ts (Err Memory) u g e = tt
 
--- nothing was read
-pub not_read : (Gives : Result (List Tree) Cause → Type 0) (add : List Tree → Result Theory Cause) (f : Fault) (u : Theory) → ReadsTerms (Err f) Gives
-    → Answers {U = Unit {0}} (Err f) u (λ q. (o : Result (List Tree) Cause) × Gives o × (q ≡ after o add))
-not_read Gives add (Because c) u g = (Err c, g, refl)
-not_read Gives add Memory u g = tt
+  -- nothing was read
+  pub not_read : (fault : ParseFault) (f : Fault) (u : Theory) → GivesReading (Err fault) too_long Reads → IsUnread f th fault
+      → StepAnswers {U = Unit {0}} (Err f) u (λ q. (o : Result (List Tree) Cause) × TermsOutcome too_long Reads (terms_text th) o × (q ≡ followed_by o add))
+  not_read (parse.TooLong n) (Because c) u g e = (Err c, subst (ReadsNotAlone too_long Reads (terms_text th)) (sym e) (too_many_tokens n g), refl)
+  not_read parse.NoParse (Because c) u g e = (Err c, subst (ReadsNotAlone too_long Reads (terms_text th)) (sym e) (no_reading g.0 g.1), refl)
+  not_read (parse.Ambiguous a b) (Because c) u g e =
+      (Err c, subst (ReadsNotAlone too_long Reads (terms_text th)) (sym e) (two_readings a.terms.items b.terms.items g.0 g.1 g.2 g.3), refl)
+  not_read parse.Memory (Because c) u g e = absurd e
+  not_read fault Memory u g e = tt
 
 none_long : {X : Type 0} (xs : List X) → length xs ≡ 0 → xs ≡ []
 none_long [] e = refl

@@ -1,14 +1,12 @@
 -- Theories of the library put into a theory.
-use Rattle.std.specs.Prelude.{◌≡◌, ℕ, List, [], ◌∷◌, ◌++◌, Bool, true, false, nat_eq, Option, Some, None, Result, Ok, Err}
+use Rattle.std.specs.Prelude.{◌≡◌, ℕ, List, [], ◌∷◌, ◌++◌, Bool, true, false, nat_eq, Option, Some, None}
 use Rattle.std.specs.List.{list_any}
 use Rattle.std.specs.Cmp.Lexicographic.{pointwise}
 use Rattle.circ_lib.specs.Library.{library_text}
 use Rattle.circ_theory.specs.Theory.{Theory, Declared}
 use Rattle.circ_statement.specs.Said.{Said, inclusion, sorts, operators, variables, equation, derivative, cases}
-use Rattle.circ_read.specs.declared.cause.Cause.{Cause}
-use Rattle.circ_read.specs.declared.cause.Cause.TheVariants.{UnknownTheory}
-use Rattle.circ_read.specs.Text.{ReadsTo, FailsAt}
-use Rattle.circ_read.specs.Does.{Does}
+use Rattle.circ_read.specs.Text.{ReadsTo}
+use Rattle.circ_read.specs.Adding.{AddsStatement}
 
 -- a theory, with the names of the library's theories that were included
 pub record Scope : Type 0 where
@@ -34,13 +32,10 @@ unfoldable pub text_named : List ℕ → Option (List ℕ)
 text_named name = library_text name
 
 -- An inclusion stands for the statements of the library's text, read in the theory as it stands, but with that text's variables alone. What is included already is passed over.
-pub data Includes (s : Scope) (name : List ℕ) : Result Scope Cause → Type 0 where
-  again : is_included s name ≡ true → Includes s name (Ok s)
-  unknown : is_included s name ≡ false → text_named name ≡ None → Includes s name (Err UnknownTheory)
-  whole : (text : List ℕ) (u : Theory) → is_included s name ≡ false → text_named name ≡ Some text → ReadsTo Does (λ _. with_variables s.theory []) text u
-      → Includes s name (Ok (scope (with_variables u s.theory.variables) (s.included ++ name ∷ [])))
-  broken : (text : List ℕ) (n : ℕ) (c : Cause) → is_included s name ≡ false → text_named name ≡ Some text → FailsAt Does (λ _. with_variables s.theory []) text n c
-      → Includes s name (Err c)
+pub data Includes (s : Scope) (name : List ℕ) : Scope → Type 0 where
+  again : is_included s name ≡ true → Includes s name s
+  anew : (text : List ℕ) (u : Theory) → is_included s name ≡ false → text_named name ≡ Some text → ReadsTo AddsStatement (λ _. with_variables s.theory []) text u
+      → Includes s name (scope (with_variables u s.theory.variables) (s.included ++ name ∷ []))
 
 abbrev pub included_name : Said → Option (List ℕ)
 included_name (inclusion name) = Some name
@@ -51,15 +46,10 @@ included_name (equation left right exec) = None
 included_name (derivative term) = None
 included_name (cases sort names) = None
 
--- an outcome in a theory, in its scope
-abbrev pub in_scope : Scope → Result Theory Cause → Result Scope Cause
-in_scope s (Ok u) = Ok (scope u s.included)
-in_scope s (Err c) = Err c
+abbrev pub AddsBy : Option (List ℕ) → Scope → Said → Scope → Type 0
+AddsBy None s said t = AddsStatement s.theory said t.theory × (t.included ≡ s.included)
+AddsBy (Some name) s said t = Includes s name t
 
-abbrev pub DoesBy : Option (List ℕ) → Scope → Said → Result Scope Cause → Type 0
-DoesBy None s said r = (o : Result Theory Cause) × Does s.theory said o × (r ≡ in_scope s o)
-DoesBy (Some name) s said r = Includes s name r
-
--- The statement has this outcome in a scope: an inclusion, or what it does to the theory.
-abbrev pub DoesIn : Scope → Said → Result Scope Cause → Type 0
-DoesIn s said r = DoesBy (included_name said) s said r
+-- The statement is accepted in a scope, and leads to this one: an inclusion, or what it adds to the theory.
+abbrev pub AddsIn : Scope → Said → Scope → Type 0
+AddsIn s said t = AddsBy (included_name said) s said t

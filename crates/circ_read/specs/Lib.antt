@@ -1,6 +1,10 @@
 pub mod Causes
 pub mod Text
-pub mod Does
+pub mod Adding
 pub mod Includes
+pub mod Refusing
+pub mod Failing
+pub mod RefusesIn
 pub mod ReadsAs
+pub mod Outcomes
 pub mod Steps

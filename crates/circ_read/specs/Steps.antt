@@ -22,16 +22,23 @@ use Rattle.circ_statement.specs.Statement.{IsStatement, IsLeftOut}
 use Rattle.circ_statement.specs.Said.{Said, said_of, LiesWithin, equation, derivative}
 use Rattle.circ_read.specs.declared.cause.ReadFault.{ReadFault}
 use Rattle.circ_read.specs.declared.cause.ReadFault.TheVariants as at
-use Rattle.circ_read.specs.Does.{Does, GivesSides, GivesHole}
+use Rattle.circ_read.specs.Outcomes.{ComesTo}
 use Rattle.circ_read.specs.Causes.{cause_of, byte_cause}
-use Rattle.circ_read.specs.Text.{HasNoStop, IsHead, IsNoHead, ending, IsNoStatement, Reaches, Breaks, ReadsTo, FailsAt}
-use Rattle.circ_read.specs.Includes.{Scope, scope, DoesIn}
+use Rattle.circ_read.specs.declared.cause.Cause.TheVariants as cause
+use Rattle.circ_mixfix.specs.declared.parse.ParseFault.{ParseFault}
+use Rattle.circ_mixfix.specs.declared.parse.ParseFault.TheVariants as parse
+use Rattle.circ_read.specs.Text.{HasNoStop, IsHead, ending, AddsTokens, Reaches, ReadsTo}
+use Rattle.circ_read.specs.Failing.{IsNoHead, IsNoStatement, RefusesTokens, Breaks, FailsAt}
+use Rattle.circ_read.specs.Adding.{AddsStatement}
+use Rattle.circ_read.specs.Refusing.{RefusesStatement, terms_text}
+use Rattle.circ_read.specs.Includes.{Scope, scope, Includes, AddsIn}
+use Rattle.circ_read.specs.RefusesIn.{RefusesInclusion, RefusesIn}
 
 -- what a call answers that has an outcome: this value; or a cause; or memory ran out
-abbrev pub Answers : {U A : Type 0} → Result U Fault → A → (Result A Cause → Type 0) → Type 0
-Answers (Ok u) a Has = Has (Ok a)
-Answers (Err (Because c)) a Has = Has (Err c)
-Answers (Err Memory) a Has = Unit {0}
+abbrev pub StepAnswers : {U A : Type 0} → Result U Fault → A → (Result A Cause → Type 0) → Type 0
+StepAnswers (Ok u) a Has = Has (Ok a)
+StepAnswers (Err (Because c)) a Has = Has (Err c)
+StepAnswers (Err Memory) a Has = Unit {0}
 
 -- the same of the value that is answered
 abbrev pub Finds : {A : Type 0} → Result A Fault → Result A Cause → Type 0
@@ -97,24 +104,20 @@ FindsAll (Ok v) o = o ≡ Ok v.items
 FindsAll (Err (Because c)) o = o ≡ Err c
 FindsAll (Err Memory) o = Unit {0}
 
--- what reading tokens as terms gives, as `Gives` says
-abbrev pub ReadsTerms : Result (Vec Tree) Fault → (Result (List Tree) Cause → Type 0) → Type 0
-ReadsTerms (Ok v) P = P (Ok v.items)
-ReadsTerms (Err (Because c)) P = P (Err c)
-ReadsTerms (Err Memory) P = Unit {0}
-
-abbrev pub ReadsSides : Result (Vec Tree) Fault → Theory → (left right : List (List ℕ)) → Type 0
-ReadsSides r th left right = ReadsTerms r (GivesSides th left right)
-
-abbrev pub ReadsHole : Result (Vec Tree) Fault → Theory → List (List ℕ) → Type 0
-ReadsHole r th term = ReadsTerms r (GivesHole th term)
-
--- what an equation does, and a derivative
+-- what adding an equation comes to, and a derivative
 abbrev pub GivesEquation : Theory → (left right : List (List ℕ)) → (exec : Bool) → Result Theory Cause → Type 0
-GivesEquation th left right exec r = Does th (equation left right exec) r
+GivesEquation th left right exec r = ComesTo th (equation left right exec) r
 
 abbrev pub GivesDerivative : Theory → List (List ℕ) → Result Theory Cause → Type 0
-GivesDerivative th term r = Does th (derivative term) r
+GivesDerivative th term r = ComesTo th (derivative term) r
+
+-- the cause that a fault of reading terms is, or want of memory
+abbrev pub IsUnread : Fault → Theory → ParseFault → Type 0
+IsUnread (Because c) th (parse.TooLong n) = c ≡ cause.TooLong n
+IsUnread (Because c) th parse.NoParse = c ≡ cause.NoParse
+IsUnread (Because c) th (parse.Ambiguous a b) = c ≡ cause.Ambiguous (terms_text th a.terms.items) (terms_text th b.terms.items)
+IsUnread (Because c) th parse.Memory = ⊥
+IsUnread Memory th f = Unit {0}
 
 -- what the tokens of a span say, or why they say nothing
 pub record IsSaid (ws : List (List ℕ)) (ts : TokenList) (s : Statement) : Type 0 where
@@ -127,26 +130,39 @@ GivesShape (Ok s) ts ws = IsSaid ws ts s
 GivesShape (Err (Because c)) ts ws = IsNoStatement ws c
 GivesShape (Err Memory) ts ws = Unit {0}
 
+-- a statement's outcome, that of its tokens, and that of an inclusion
+abbrev pub SaidOutcome : {A : Type 0} → (A → Said → A → Type 0) → (A → Said → Cause → Type 0) → A → Said → Result A Cause → Type 0
+SaidOutcome Adds Refuses a said (Ok b) = Adds a said b
+SaidOutcome Adds Refuses a said (Err c) = Refuses a said c
+
+abbrev pub TokensOutcome : {A : Type 0} → (A → Said → A → Type 0) → (A → Said → Cause → Type 0) → A → List (List ℕ) → Result A Cause → Type 0
+TokensOutcome Adds Refuses a ws (Ok b) = AddsTokens Adds a ws b
+TokensOutcome Adds Refuses a ws (Err c) = RefusesTokens Refuses a ws c
+
+abbrev pub InclusionOutcome : Scope → List ℕ → Result Scope Cause → Type 0
+InclusionOutcome s name (Ok t) = Includes s name t
+InclusionOutcome s name (Err c) = RefusesInclusion s name c
+
 -- a body's last value, or its first cause
-pub data HasBody {A : Type 0} (Does : A → Said → Result A Cause → Type 0) (first : A) (body : List (List ℕ)) (opened : Bool) : Result A Cause → Type 0 where
-  body_ends : (k : ℕ) (last : A) → Reaches Does first body k last (ending opened) → HasBody Does first body opened (Ok last)
-  body_breaks : (k : ℕ) (c : Cause) → Breaks Does first body opened k c → HasBody Does first body opened (Err c)
+abbrev pub BodyOutcome : {A : Type 0} → (A → Said → A → Type 0) → (A → Said → Cause → Type 0) → A → (body : List (List ℕ)) (opened : Bool) → Result A Cause → Type 0
+BodyOutcome Adds Refuses first body opened (Ok last) = (k : ℕ) × Reaches Adds first body k last (ending opened)
+BodyOutcome Adds Refuses first body opened (Err c) = (k : ℕ) × Breaks Adds Refuses first body opened k c
 
 -- the last theory of a text that is read in a theory, or its first cause
-pub data HasText (th : Theory) (bytes : List ℕ) : Result Theory Cause → Type 0 where
-  text_reads_to : (u : Theory) → ReadsTo Does (λ _. th) bytes u → HasText th bytes (Ok u)
-  text_fails_at : (n : ℕ) (c : Cause) → FailsAt Does (λ _. th) bytes n c → HasText th bytes (Err c)
+abbrev pub TextOutcome : Theory → (bytes : List ℕ) → Result Theory Cause → Type 0
+TextOutcome th bytes (Ok u) = ReadsTo AddsStatement (λ _. th) bytes u
+TextOutcome th bytes (Err c) = (n : ℕ) × FailsAt AddsStatement RefusesStatement (λ _. th) bytes n c
 
--- the same as `HasBody`, with the number of the statement
+-- the same as `BodyOutcome` in a scope, with the number of the statement
 abbrev pub GivesBody : Result (Unit {0}) ReadFault → (first last : Scope) → (body : List (List ℕ)) (opened : Bool) → Type 0
-GivesBody (Ok u) first last body opened = (k : ℕ) × Reaches DoesIn first body k last (ending opened)
-GivesBody (Err (at.Statement n c)) first last body opened = (k : ℕ) × (n ≡ k + 2) × Breaks DoesIn first body opened k c
+GivesBody (Ok u) first last body opened = (k : ℕ) × Reaches AddsIn first body k last (ending opened)
+GivesBody (Err (at.Statement n c)) first last body opened = (k : ℕ) × (n ≡ k + 2) × Breaks AddsIn RefusesIn first body opened k c
 GivesBody (Err at.Memory) first last body opened = Unit {0}
 
 -- the theory that a body leads to, or its first cause
 abbrev pub GivesRead : Result Theory ReadFault → (first : Scope) → (body : List (List ℕ)) (opened : Bool) → Type 0
-GivesRead (Ok th) first body opened = (k : ℕ) × ((names : List (List ℕ)) × Reaches DoesIn first body k (scope th names) (ending opened))
-GivesRead (Err (at.Statement n c)) first body opened = (k : ℕ) × (n ≡ k + 2) × Breaks DoesIn first body opened k c
+GivesRead (Ok th) first body opened = (k : ℕ) × ((names : List (List ℕ)) × Reaches AddsIn first body k (scope th names) (ending opened))
+GivesRead (Err (at.Statement n c)) first body opened = (k : ℕ) × (n ≡ k + 2) × Breaks AddsIn RefusesIn first body opened k c
 GivesRead (Err at.Memory) first body opened = Unit {0}
 
 -- a fault of a step, with the number of its statement

@@ -2,9 +2,10 @@
 ghost use Rattle.std.specs.Prelude.{◌≡◌, IfOk};
 ghost use Rattle.circ_lexer.specs.TokenList.{tokens_in, IsWithin};
 ghost use Rattle.circ_statement.specs.Said.{token_at, IsPlace};
-ghost use Rattle.circ_read.specs.Does.{adds, sort_named, word_form, one_word, of_sort, constant_number, constants_named, after};
+ghost use Rattle.circ_read.specs.Adding.{word_form, one_word, of_sort, constant_number};
+ghost use Rattle.circ_read.specs.Outcomes.{adds, sort_named, constants_named, followed_by};
 ghost use Rattle.circ_theory.specs.Observing.{cases_fault, with_cases};
-ghost use Rattle.circ_read.specs.Steps.{Answers, FindsAll};
+ghost use Rattle.circ_read.specs.Steps.{StepAnswers, FindsAll};
 
 use crate::cause::{Cause, Fault, because, done};
 use crate::names::{sort_named, word};
@@ -21,7 +22,10 @@ pub(crate) fn add_cases(
 ) -> Result<(), Fault>
     requires names { IsWithin tokens.now names }
     requires sort { IsPlace tokens.now sort }
-    ensures { Answers result theory.new (λ r. r ≡ after (sort_named theory.old (token_at tokens.now sort)) (λ s. after (constants_named theory.old s (tokens_in tokens.now names)) (λ cs. adds (cases_fault theory.old s cs) (with_cases theory.old s cs)))) }
+    ensures { StepAnswers result theory.new (λ r. r ≡
+        followed_by (sort_named theory.old (token_at tokens.now sort))
+        (λ s. followed_by (constants_named theory.old s (tokens_in tokens.now names))
+        (λ cs. adds (cases_fault theory.old s cs) (with_cases theory.old s cs)))) }
 {
     let sort = match sort_named(theory, word(tokens, sort)) {
         Ok(sort) => sort,

@@ -7,8 +7,8 @@ use circ_lexer::LexFault;
 use circ_theory::{Text, TheoryFault};
 use std::alloc::{AllocError, AllocFailed};
 
-/// Why a statement, an item or a line of a text is refused. The causes of one statement are tested in the order of the
-/// variants. Numbers of parts are counted from 0.
+/// Why a statement, an item or a line of a text is refused. The causes of one statement are tested
+/// in the order of the variants. Numbers of parts are counted from 0.
 #[derive(Drop)]
 pub enum Cause {
     /// The byte at this place, counted from 0, is 128 or more.

@@ -1,8 +1,9 @@
 //! Theory texts.
 //!
-//! [`read_theory`] gives the theory that some bytes read as, or the first cause why they read as none. What bytes read as,
-//! and what the first cause is, is defined in `specs`, statement by statement; [`laws`] states what is proved of these
-//! notions. `docs/theory-text.md` has the rules in plain words.
+//! [`read_theory`] gives the theory that some bytes read as, or the first cause why they read as
+//! none. What bytes read as, and what the first cause is, is defined in `specs`, statement by
+//! statement; [`laws`] states what is proved of these notions. `docs/theory-text.md` has the rules
+//! in plain words.
 #![tactic(auto)]
 
 mod cases;
@@ -16,8 +17,7 @@ mod operators;
 mod reader;
 mod sorts;
 mod statement;
-#[cfg(test)]
-mod tests;
+mod terms;
 mod text;
 mod variables;
 

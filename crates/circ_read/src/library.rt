@@ -1,8 +1,9 @@
 //! A text of the library, read in a theory.
 ghost use Rattle.std.specs.Prelude.{◌≡◌, drop};
 ghost use Rattle.circ_lexer.specs.TokenList.{tokens_of};
-ghost use Rattle.circ_read.specs.Does.{Does};
-ghost use Rattle.circ_read.specs.Steps.{Answers, IsHeadOf, HasBody, HasText};
+ghost use Rattle.circ_read.specs.Adding.{AddsStatement};
+ghost use Rattle.circ_read.specs.Refusing.{RefusesStatement};
+ghost use Rattle.circ_read.specs.Steps.{StepAnswers, IsHeadOf, BodyOutcome, TextOutcome};
 
 use crate::cause::{Cause, Fault, because, byte_fault};
 use crate::statement::add_tokens;
@@ -13,7 +14,7 @@ use std::alloc::Global;
 
 // Adds what the statements of a text say. No theory can be included.
 pub(crate) fn add_text(alloc: Global, theory: &mut Theory, bytes: &[u8]) -> Result<(), Fault>
-    ensures { Answers result theory.new (HasText theory.old bytes.now) }
+    ensures { StepAnswers result theory.new (TextOutcome theory.old bytes.now) }
 {
     match Tokens::of(alloc, bytes) {
         Ok(tokens) => add_all(alloc, theory, &tokens),
@@ -22,7 +23,7 @@ pub(crate) fn add_text(alloc: Global, theory: &mut Theory, bytes: &[u8]) -> Resu
 }
 
 fn add_all(alloc: Global, theory: &mut Theory, tokens: &Tokens<'_>) -> Result<(), Fault>
-    ensures { Answers result theory.new (HasText theory.old tokens.now.source) }
+    ensures { StepAnswers result theory.new (TextOutcome theory.old tokens.now.source) }
 {
     tokens.known();
     match read_head(tokens) {
@@ -38,7 +39,8 @@ fn add_body(
     head: &Head<'_>,
 ) -> Result<(), Fault>
     requires { IsHeadOf (tokens_of tokens.now) head.now }
-    ensures { Answers result theory.new (HasBody Does theory.old (drop head.now.body (tokens_of tokens.now)) head.now.opened) }
+    ensures { StepAnswers result theory.new (BodyOutcome AddsStatement RefusesStatement theory.old
+        (drop head.now.body (tokens_of tokens.now)) head.now.opened) }
 {
     let mut at = head.body;
     while let Some(stop) = next_stop(tokens, at) {

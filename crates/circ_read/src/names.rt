@@ -3,7 +3,7 @@ ghost use Rattle.std.specs.Prelude.{◌≡◌, List, map, nat_eq, IfOk};
 ghost use Rattle.std.specs.Cmp.Lexicographic.{pointwise};
 ghost use Rattle.circ_lexer.specs.TokenList.{tokens_of, tokens_in, IsWithin};
 ghost use Rattle.circ_statement.specs.Said.{token_at, IsPlace};
-ghost use Rattle.circ_read.specs.Does.{sort_named, sorts_named};
+ghost use Rattle.circ_read.specs.Outcomes.{sort_named, sorts_named};
 ghost use Rattle.circ_read.specs.Steps.{Finds, FindsAll};
 
 use crate::cause::{Cause, Fault, because};

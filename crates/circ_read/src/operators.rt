@@ -3,8 +3,9 @@ ghost use Rattle.std.specs.Prelude.{◌≡◌, map, IfOk};
 ghost use Rattle.circ_lexer.specs.TokenList.{tokens_in, IsWithin};
 ghost use Rattle.circ_theory.specs.Operators.{operator_of};
 ghost use Rattle.circ_statement.specs.Said.{token_at, IsPlace, spelled_of};
-ghost use Rattle.circ_read.specs.Does.{operator_added, operator_with, all_added, sort_named, sorts_named, after};
-ghost use Rattle.circ_read.specs.Steps.{Answers};
+ghost use Rattle.circ_read.specs.Adding.{operator_with};
+ghost use Rattle.circ_read.specs.Outcomes.{operator_added, all_added, sort_named, sorts_named, followed_by};
+ghost use Rattle.circ_read.specs.Steps.{StepAnswers};
 
 use crate::cause::{Fault, done};
 use crate::names::{sort_named, sorts_named, word};
@@ -40,7 +41,11 @@ pub(crate) fn add_operators(
 ) -> Result<(), Fault>
     requires args { IsWithin tokens.now args }
     requires result_sort { IsPlace tokens.now result_sort }
-    ensures { Answers result theory.new (λ r. r ≡ after (sorts_named theory.old (tokens_in tokens.now args)) (λ ss. after (sort_named theory.old (token_at tokens.now result_sort)) (λ s. all_added (operator_added ss s marks.assoc marks.comm marks.idem) theory.old (map spelled_of forms.items)))) }
+    ensures { StepAnswers result theory.new (λ r. r ≡
+        followed_by (sorts_named theory.old (tokens_in tokens.now args))
+        (λ ss. followed_by (sort_named theory.old (token_at tokens.now result_sort))
+        (λ s. all_added (operator_added ss s marks.assoc marks.comm marks.idem) theory.old
+        (map spelled_of forms.items)))) }
 {
     let args = match sorts_named(alloc, theory, tokens, args) {
         Ok(args) => args,
@@ -67,7 +72,10 @@ fn add_all(
     forms: Vec<Spelling>,
     rank: &Rank,
 ) -> Result<(), Fault>
-    ensures { Answers result theory.new (λ r. r ≡ all_added (operator_added rank.now.args.items rank.now.result rank.now.marks.assoc rank.now.marks.comm rank.now.marks.idem) theory.old (map spelled_of forms.items)) }
+    ensures { StepAnswers result theory.new (λ r. r ≡
+        all_added (operator_added rank.now.args.items rank.now.result
+        rank.now.marks.assoc rank.now.marks.comm rank.now.marks.idem)
+        theory.old (map spelled_of forms.items)) }
 {
     for form in forms {
         match add_operator(alloc, theory, form, rank) {
@@ -84,14 +92,19 @@ fn add_operator(
     form: Spelling,
     rank: &Rank,
 ) -> Result<(), Fault>
-    ensures { Answers result theory.new (λ r. r ≡ operator_added rank.now.args.items rank.now.result rank.now.marks.assoc rank.now.marks.comm rank.now.marks.idem theory.old (spelled_of form)) }
+    ensures { StepAnswers result theory.new (λ r. r ≡
+        operator_added rank.now.args.items rank.now.result
+        rank.now.marks.assoc rank.now.marks.comm rank.now.marks.idem
+        theory.old (spelled_of form)) }
 {
     let decl = declaration(alloc, form, rank)?;
     done(theory.add_op(decl))
 }
 
 fn declaration(alloc: Global, form: Spelling, rank: &Rank) -> Result<OpDecl, AllocError>
-    ensures { IfOk result (λ d. operator_of d ≡ operator_with rank.now.args.items rank.now.result rank.now.marks.assoc rank.now.marks.comm rank.now.marks.idem (spelled_of form)) }
+    ensures { IfOk result (λ d. operator_of d ≡
+        operator_with rank.now.args.items rank.now.result
+        rank.now.marks.assoc rank.now.marks.comm rank.now.marks.idem (spelled_of form)) }
 {
     Ok(OpDecl {
         form: form.form,

@@ -2,10 +2,10 @@
 ghost use Rattle.std.specs.Prelude.{◌≡◌, ◌+◌, IfOk, drop, nat_eq, false, Some};
 ghost use Rattle.circ_lexer.specs.TokenList.{tokens_of, tokens_in, IsWithin};
 ghost use Rattle.circ_statement.specs.Said.{said_of, LiesWithin};
-ghost use Rattle.circ_read.specs.Text.{DoTokens};
-ghost use Rattle.circ_read.specs.Includes.{is_included, Includes, DoesIn, text_named};
+ghost use Rattle.circ_read.specs.Includes.{is_included, AddsIn, text_named};
+ghost use Rattle.circ_read.specs.RefusesIn.{RefusesIn};
 ghost use Rattle.circ_read.specs.ReadsAs.{begun, GivesTheory};
-ghost use Rattle.circ_read.specs.Steps.{Answers, IsHeadOf, GivesBody, GivesRead, fault_at, scope_of};
+ghost use Rattle.circ_read.specs.Steps.{StepAnswers, SaidOutcome, TokensOutcome, InclusionOutcome, IsHeadOf, GivesBody, GivesRead, fault_at, scope_of};
 
 use crate::cause::{Cause, Fault, ReadFault, because, byte_fault};
 use crate::library::add_text;
@@ -17,8 +17,9 @@ use circ_statement::Statement;
 use circ_theory::{Text, Theory};
 use std::alloc::{AllocError, Global};
 
-/// The theory that the bytes read as. A fault has the number of the statement with the first cause: the head is statement 1,
-/// the statements are counted on, and the end has the next number. A bad byte stands under the number 0.
+/// The theory that the bytes read as. A fault has the number of the statement with the first
+/// cause: the head is statement 1, the statements are counted on, and the end has the next number.
+/// A bad byte stands under the number 0.
 pub fn read_theory(alloc: Global, bytes: &[u8]) -> Result<Theory, ReadFault>
     ensures gives { GivesTheory result bytes.now }
 {
@@ -43,7 +44,8 @@ fn theory_of(alloc: Global, tokens: &Tokens<'_>) -> Result<Theory, ReadFault>
 
 fn theory_after(alloc: Global, tokens: &Tokens<'_>, head: &Head<'_>) -> Result<Theory, ReadFault>
     requires { IsHeadOf (tokens_of tokens.now) head.now }
-    ensures { GivesRead result (begun head.now.name.now) (drop head.now.body (tokens_of tokens.now)) head.now.opened }
+    ensures { GivesRead result (begun head.now.name.now)
+        (drop head.now.body (tokens_of tokens.now)) head.now.opened }
 {
     match Reader::new(alloc, head.name) {
         Ok(reader) => reader.whole(tokens, head),
@@ -73,7 +75,8 @@ impl Reader {
     // The theory that the text after a head leads to.
     fn whole(self, tokens: &Tokens<'_>, head: &Head<'_>) -> Result<Theory, ReadFault>
         requires { IsHeadOf (tokens_of tokens.now) head.now }
-        ensures { GivesRead result (scope_of self) (drop head.now.body (tokens_of tokens.now)) head.now.opened }
+        ensures { GivesRead result (scope_of self)
+            (drop head.now.body (tokens_of tokens.now)) head.now.opened }
     {
         let mut reader = self;
         match reader.add_body(tokens, head) {
@@ -87,7 +90,8 @@ impl Reader {
 
     fn add_body(&mut self, tokens: &Tokens<'_>, head: &Head<'_>) -> Result<(), ReadFault>
         requires { IsHeadOf (tokens_of tokens.now) head.now }
-        ensures { GivesBody result (scope_of self.old) (scope_of self.new) (drop head.now.body (tokens_of tokens.now)) head.now.opened }
+        ensures { GivesBody result (scope_of self.old) (scope_of self.new)
+            (drop head.now.body (tokens_of tokens.now)) head.now.opened }
     {
         let mut at = head.body;
         let mut number = 2;
@@ -111,7 +115,8 @@ impl Reader {
 
     fn add_tokens(&mut self, tokens: &Tokens<'_>, span: Span) -> Result<(), Fault>
         requires { IsWithin tokens.now span }
-        ensures { Answers result (scope_of self.new) (DoTokens DoesIn (scope_of self.old) (tokens_in tokens.now span)) }
+        ensures { StepAnswers result (scope_of self.new) (TokensOutcome AddsIn RefusesIn
+            (scope_of self.old) (tokens_in tokens.now span)) }
     {
         match shape(self.alloc, tokens, span) {
             Ok(statement) => self.add_statement(tokens, statement),
@@ -121,7 +126,8 @@ impl Reader {
 
     fn add_statement(&mut self, tokens: &Tokens<'_>, statement: Statement) -> Result<(), Fault>
         requires { LiesWithin tokens.now statement }
-        ensures { Answers result (scope_of self.new) (DoesIn (scope_of self.old) (said_of tokens.now statement)) }
+        ensures { StepAnswers result (scope_of self.new) (SaidOutcome AddsIn RefusesIn
+            (scope_of self.old) (said_of tokens.now statement)) }
     {
         match statement {
             Statement::Inclusion { name } => self.include(word(tokens, name)),
@@ -130,7 +136,8 @@ impl Reader {
     }
 
     fn include(&mut self, name: &[u8]) -> Result<(), Fault>
-        ensures { Answers result (scope_of self.new) (Includes (scope_of self.old) name.now) }
+        ensures { StepAnswers result (scope_of self.new)
+            (InclusionOutcome (scope_of self.old) name.now) }
     {
         if self.is_included(name) {
             return Ok(());
@@ -144,7 +151,8 @@ impl Reader {
     fn include_text(&mut self, name: &[u8], text: &[u8]) -> Result<(), Fault>
         requires new { is_included (scope_of self.old) name.now ≡ false }
         requires text { text_named name.now ≡ Some text.now }
-        ensures { Answers result (scope_of self.new) (Includes (scope_of self.old) name.now) }
+        ensures { StepAnswers result (scope_of self.new)
+            (InclusionOutcome (scope_of self.old) name.now) }
     {
         self.theory.known();
         let name = Text::of(self.alloc, name)?;

@@ -1,8 +1,8 @@
 //! `sort` and `sorts`.
 ghost use Rattle.std.specs.Prelude.{◌≡◌};
 ghost use Rattle.circ_lexer.specs.TokenList.{tokens_in, IsWithin};
-ghost use Rattle.circ_read.specs.Does.{sort_added, all_added};
-ghost use Rattle.circ_read.specs.Steps.{Answers};
+ghost use Rattle.circ_read.specs.Outcomes.{sort_added, all_added};
+ghost use Rattle.circ_read.specs.Steps.{StepAnswers};
 
 use crate::cause::{Fault, done};
 use crate::names::word;
@@ -11,7 +11,8 @@ use circ_theory::Theory;
 
 pub(crate) fn add_sorts(theory: &mut Theory, tokens: &Tokens<'_>, names: Span) -> Result<(), Fault>
     requires { IsWithin tokens.now names }
-    ensures { Answers result theory.new (λ r. r ≡ all_added sort_added theory.old (tokens_in tokens.now names)) }
+    ensures { StepAnswers result theory.new (λ r. r ≡
+        all_added sort_added theory.old (tokens_in tokens.now names)) }
 {
     for n in names.from..names.to {
         match add_sort(theory, word(tokens, n)) {
@@ -23,7 +24,7 @@ pub(crate) fn add_sorts(theory: &mut Theory, tokens: &Tokens<'_>, names: Span) -
 }
 
 fn add_sort(theory: &mut Theory, name: &[u8]) -> Result<(), Fault>
-    ensures { Answers result theory.new (λ r. r ≡ sort_added theory.old name.now) }
+    ensures { StepAnswers result theory.new (λ r. r ≡ sort_added theory.old name.now) }
 {
     done(theory.add_sort(name))
 }

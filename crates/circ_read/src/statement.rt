@@ -2,9 +2,10 @@
 ghost use Rattle.std.specs.Prelude.{◌≡◌};
 ghost use Rattle.circ_lexer.specs.TokenList.{tokens_in, IsWithin};
 ghost use Rattle.circ_statement.specs.Said.{said_of, token_at, IsPlace, LiesWithin};
-ghost use Rattle.circ_read.specs.Text.{DoTokens};
-ghost use Rattle.circ_read.specs.Does.{Does};
-ghost use Rattle.circ_read.specs.Steps.{Answers, GivesShape};
+ghost use Rattle.circ_read.specs.Adding.{AddsStatement};
+ghost use Rattle.circ_read.specs.Refusing.{RefusesStatement};
+ghost use Rattle.circ_read.specs.Outcomes.{ComesTo};
+ghost use Rattle.circ_read.specs.Steps.{StepAnswers, TokensOutcome, GivesShape};
 
 use crate::cases::add_cases;
 use crate::cause::{Cause, Fault, because};
@@ -43,7 +44,7 @@ pub(crate) fn add_statement(
     statement: Statement,
 ) -> Result<(), Fault>
     requires { LiesWithin tokens.now statement }
-    ensures { Answers result theory.new (Does theory.old (said_of tokens.now statement)) }
+    ensures { StepAnswers result theory.new (ComesTo theory.old (said_of tokens.now statement)) }
 {
     match statement {
         Statement::Inclusion { .. } => Err(because(Cause::UnknownTheory)),
@@ -76,7 +77,8 @@ pub(crate) fn add_tokens(
     span: Span,
 ) -> Result<(), Fault>
     requires { IsWithin tokens.now span }
-    ensures { Answers result theory.new (DoTokens Does theory.old (tokens_in tokens.now span)) }
+    ensures { StepAnswers result theory.new (TokensOutcome AddsStatement RefusesStatement
+        theory.old (tokens_in tokens.now span)) }
 {
     match shape(alloc, tokens, span) {
         Ok(statement) => add_statement(alloc, theory, tokens, statement),

@@ -2,8 +2,8 @@
 ghost use Rattle.std.specs.Prelude.{◌≡◌};
 ghost use Rattle.circ_lexer.specs.TokenList.{tokens_in, IsWithin};
 ghost use Rattle.circ_statement.specs.Said.{token_at, IsPlace};
-ghost use Rattle.circ_read.specs.Does.{variable_added, all_added, sort_named, after};
-ghost use Rattle.circ_read.specs.Steps.{Answers};
+ghost use Rattle.circ_read.specs.Outcomes.{variable_added, all_added, sort_named, followed_by};
+ghost use Rattle.circ_read.specs.Steps.{StepAnswers};
 
 use crate::cause::{Fault, done};
 use crate::names::{sort_named, word};
@@ -18,7 +18,9 @@ pub(crate) fn add_variables(
 ) -> Result<(), Fault>
     requires names { IsWithin tokens.now names }
     requires sort { IsPlace tokens.now sort }
-    ensures { Answers result theory.new (λ r. r ≡ after (sort_named theory.old (token_at tokens.now sort)) (λ s. all_added (variable_added s) theory.old (tokens_in tokens.now names))) }
+    ensures { StepAnswers result theory.new (λ r. r ≡
+        followed_by (sort_named theory.old (token_at tokens.now sort))
+        (λ s. all_added (variable_added s) theory.old (tokens_in tokens.now names))) }
 {
     match sort_named(theory, word(tokens, sort)) {
         Ok(sort) => add_all(theory, tokens, names, sort),
@@ -28,7 +30,8 @@ pub(crate) fn add_variables(
 
 fn add_all(theory: &mut Theory, tokens: &Tokens<'_>, names: Span, sort: u32) -> Result<(), Fault>
     requires { IsWithin tokens.now names }
-    ensures { Answers result theory.new (λ r. r ≡ all_added (variable_added sort) theory.old (tokens_in tokens.now names)) }
+    ensures { StepAnswers result theory.new (λ r. r ≡
+        all_added (variable_added sort) theory.old (tokens_in tokens.now names)) }
 {
     for n in names.from..names.to {
         match add_variable(theory, word(tokens, n), sort) {
@@ -40,7 +43,7 @@ fn add_all(theory: &mut Theory, tokens: &Tokens<'_>, names: Span, sort: u32) -> 
 }
 
 fn add_variable(theory: &mut Theory, name: &[u8], sort: u32) -> Result<(), Fault>
-    ensures { Answers result theory.new (λ r. r ≡ variable_added sort theory.old name.now) }
+    ensures { StepAnswers result theory.new (λ r. r ≡ variable_added sort theory.old name.now) }
 {
     done(theory.add_var(name, sort))
 }

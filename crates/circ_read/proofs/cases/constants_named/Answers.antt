@@ -1,7 +1,7 @@
 use Rattle.std.proofs.Common.{ap, sym, ◌∙◌}
-use Rattle.circ_read.specs.Does.{constant_number}
+use Rattle.circ_read.specs.Adding.{constant_number}
 use Rattle.circ_read.specs.declared.cause.Cause.TheVariants.{NoParse}
-use Rattle.circ_read.specs.Does.{or_cause}
+use Rattle.circ_read.specs.Outcomes.{or_cause}
 use Rattle.circ_read.proofs.Tokens.{here_token, no_token}
 use Rattle.circ_read.proofs.Parts.{one_more, no_more, none_yet, all_found}
 use Rattle.circ_read.proofs.cases.constants_named.Goals as goal

@@ -1,7 +1,7 @@
 use Rattle.std.proofs.Common.{◌≡◌, ◌++◌}
 use Rattle.std.specs.Option.{option_map}
-use Rattle.circ_read.specs.Does.{constant_number}
-use Rattle.circ_read.specs.Does.{all_numbers}
+use Rattle.circ_read.specs.Adding.{constant_number}
+use Rattle.circ_read.specs.Adding.{all_numbers}
 use Rattle.circ_read.proofs.Tokens.{tokens_from}
 use Rattle.circ_read.proofs.cases.constants_named.Given as goal
 

@@ -1,6 +1,6 @@
 use Rattle.std.proofs.Common.{map, ap, sym, ◌∙◌}
 use Rattle.circ_statement.specs.Said.{spelled_of}
-use Rattle.circ_read.specs.Does.{all_added, operator_added}
+use Rattle.circ_read.specs.Outcomes.{all_added, operator_added}
 use Rattle.circ_read.proofs.Parts.{more_added, stopped, none_to_come}
 use Rattle.circ_read.proofs.operators.add_all.Goals as goal
 

@@ -1,7 +1,7 @@
 use Rattle.std.proofs.Common.{◌≡◌, map}
 use Rattle.std.specs.Vec.Iter.{into_iter_items}
 use Rattle.circ_statement.specs.Said.{spelled_of}
-use Rattle.circ_read.specs.Does.{all_added, operator_added}
+use Rattle.circ_read.specs.Outcomes.{all_added, operator_added}
 use Rattle.circ_read.proofs.operators.add_all.Given as goal
 
 abbrev pub invariant-loop-form : goal.invariant-loop-form

@@ -1,5 +1,5 @@
 use Rattle.circ_lexer.specs.TokenList.{tokens_of}
-use Rattle.circ_read.specs.Text.{at_the_head}
+use Rattle.circ_read.specs.Failing.{at_the_head}
 use Rattle.circ_read.proofs.Texts.{read_by_body}
 use Rattle.circ_read.proofs.reader.theory_of.Goals as goal
 

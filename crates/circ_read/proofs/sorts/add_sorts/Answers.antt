@@ -1,5 +1,5 @@
 use Rattle.std.proofs.Common.{ap, sym, ◌∙◌}
-use Rattle.circ_read.specs.Does.{all_added, sort_added}
+use Rattle.circ_read.specs.Outcomes.{all_added, sort_added}
 use Rattle.circ_read.proofs.Tokens.{here_token, no_token}
 use Rattle.circ_read.proofs.Parts.{more_added, stopped}
 use Rattle.circ_read.proofs.sorts.add_sorts.Goals as goal

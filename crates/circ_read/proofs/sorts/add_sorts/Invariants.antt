@@ -1,5 +1,5 @@
 use Rattle.std.proofs.Common.{◌≡◌}
-use Rattle.circ_read.specs.Does.{all_added, sort_added}
+use Rattle.circ_read.specs.Outcomes.{all_added, sort_added}
 use Rattle.circ_read.proofs.Tokens.{tokens_from}
 use Rattle.circ_read.proofs.sorts.add_sorts.Given as goal
 

@@ -1,4 +1,4 @@
-use Rattle.circ_read.specs.Text.{left_out, no_shape}
+use Rattle.circ_read.specs.Failing.{left_out, no_shape}
 use Rattle.circ_read.proofs.statement.shape.Goals as goal
 
 pub returns-in_ok-word-in-Err-LeftOut : goal.returns-in_ok-word-in-Err-LeftOut

@@ -1,5 +1,6 @@
 use Rattle.std.proofs.Common.{sym}
-use Rattle.circ_read.specs.Includes.{again, unknown, text_named}
+use Rattle.circ_read.specs.Includes.{again, text_named}
+use Rattle.circ_read.specs.RefusesIn.{unknown}
 use Rattle.circ_read.proofs.reader.Reader.include.Goals as goal
 
 pub returns-in-None : goal.returns-in-None

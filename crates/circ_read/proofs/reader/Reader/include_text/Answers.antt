@@ -2,7 +2,7 @@ use Rattle.std.proofs.Common.{◌<◌, length, ap, subst, arith}
 use Rattle.std.specs.List.{Contains}
 use Rattle.circ_read.specs.Steps.{scope_of}
 use Rattle.circ_read.proofs.Growing.{text_grows}
-use Rattle.circ_read.proofs.Texts.{included_whole, included_broken}
+use Rattle.circ_read.proofs.Texts.{included_anew, included_broken}
 use Rattle.circ_read.proofs.reader.Reader.include_text.Goals as goal
 
 pub returns-in-Err : goal.returns-in-Err
@@ -11,7 +11,7 @@ returns-in-Err c =
 
 pub returns : goal.returns
 returns c =
-    let w = included_whole (scope_of c.args.self.now) c.args.name.now c.args.text.now c.requires.new c.requires.text c.take_vars-vars.new.self c.take_vars-vars.ensures.left c.add_text.new.theory c.in-Ok.ensures in
+    let w = included_anew (scope_of c.args.self.now) c.args.name.now c.args.text.now c.requires.new c.requires.text c.take_vars-vars.new.self c.take_vars-vars.ensures.left c.add_text.new.theory c.in-Ok.ensures in
     rw (c.put_vars.ensures, c.take_vars-vars.ensures.taken, c.in_ok-push.ensures.items, c.in_ok-name.ensures) w
 
 pub put_vars-requires : goal.put_vars-requires

@@ -1,0 +1,58 @@
+-- Why a statement is refused: its first cause.
+use Rattle.std.specs.Prelude.{◌≡◌, ◌⊎◌, ℕ, List, [], ◌∷◌, true, Option, Some, None}
+use Rattle.std.proofs.Common.{Less}
+use Rattle.circ_term.specs.Tree.{Tree, trees_of}
+use Rattle.circ_term.specs.Order.{trees_cmp}
+use Rattle.circ_theory.specs.declared.fault.TheoryFault.{TheoryFault}
+use Rattle.circ_theory.specs.Theory.{Theory}
+use Rattle.circ_theory.specs.Adding.{sort_number, sort_fault, equation_fault, with_sort}
+use Rattle.circ_theory.specs.Observing.{derivative_fault, cases_fault}
+use Rattle.circ_mixfix.specs.Answers.{long_count}
+use Rattle.circ_mixfix.specs.Printing.{text_of_term, text_of_pair}
+use Rattle.circ_statement.specs.Said.{Said, inclusion, sorts, operators, variables, equation, derivative, cases}
+use Rattle.circ_read.specs.declared.cause.Cause.{Cause}
+use Rattle.circ_read.specs.declared.cause.Cause.TheVariants.{UnknownTheory, UnknownSort, TooLong, NoParse, Ambiguous}
+use Rattle.circ_read.specs.Causes.{cause_of}
+use Rattle.circ_read.specs.Adding.{first_fault, sort_numbers, constant_numbers, variable_fault, with_variable, operator_fault, with_operator, ReadsAlone, long_sides, ReadsSides, ReadsHole}
+
+-- There is a fault, which is this cause.
+abbrev pub IsCauseOf : Option TheoryFault → Cause → Type 0
+IsCauseOf None c = ⊥
+IsCauseOf (Some f) c = c ≡ cause_of f
+
+-- What is looked up is missing, which is a cause; or else the cause is one of what was found.
+abbrev pub LacksOr : {A : Type 0} → Option A → (missing : Cause) → (A → Cause → Type 0) → Cause → Type 0
+LacksOr None missing Has c = c ≡ missing
+LacksOr (Some a) missing Has c = Has a c
+
+-- Token lists do not read as the only terms: one is too long, or there is no reading, or there are two, which are shown.
+pub data ReadsNotAlone (too_long : Option ℕ) (Reads : List Tree → Type 0) (shown : List Tree → List ℕ) : Cause → Type 0 where
+  too_many_tokens : (n : ℕ) → too_long ≡ Some n → ReadsNotAlone too_long Reads shown (TooLong n)
+  no_reading : too_long ≡ None → ((ts : List Tree) → Reads ts → ⊥) → ReadsNotAlone too_long Reads shown NoParse
+  two_readings : (ts us : List Tree) → too_long ≡ None → Reads ts → Reads us → trees_cmp (trees_of ts) (trees_of us) ≡ Less
+      → ReadsNotAlone too_long Reads shown (Ambiguous (shown ts) (shown us))
+
+-- the term of a derivative as it is printed, and the two sides of an equation
+abbrev pub terms_text : Theory → List Tree → List ℕ
+terms_text th [] = []
+terms_text th (t ∷ []) = text_of_term th.signature true t
+terms_text th (t ∷ u ∷ []) = text_of_pair th.signature (record { left = t; right = u })
+terms_text th (t ∷ u ∷ v ∷ ts) = []
+
+-- The statement has this first cause in the theory. One equation a kind; `RefusesInclusion` has inclusions.
+abbrev pub RefusesStatement : Theory → Said → Cause → Type 0
+RefusesStatement th (inclusion name) c = c ≡ UnknownTheory
+RefusesStatement th (sorts names) c = IsCauseOf (first_fault sort_fault with_sort th names) c
+RefusesStatement th (operators forms args result a k i) c =
+    LacksOr (sort_numbers th args) UnknownSort
+    (λ ss. LacksOr (sort_number th.signature result) UnknownSort (λ s. IsCauseOf (first_fault (operator_fault ss s a k i) (with_operator ss s a k i) th forms))) c
+RefusesStatement th (variables names sort) c =
+    LacksOr (sort_number th.signature sort) UnknownSort (λ s. IsCauseOf (first_fault (variable_fault s) (with_variable s) th names)) c
+RefusesStatement th (equation left right exec) c =
+    ReadsNotAlone (long_sides left right) (ReadsSides th left right) (terms_text th) c
+    ⊎ ((ts : List Tree) × (ReadsAlone (long_sides left right) (ReadsSides th left right) ts × IsCauseOf (equation_fault th) c))
+RefusesStatement th (derivative term) c =
+    ReadsNotAlone (long_count term) (ReadsHole th term) (terms_text th) c
+    ⊎ ((t : Tree) × (ReadsAlone (long_count term) (ReadsHole th term) (t ∷ []) × IsCauseOf (derivative_fault th t) c))
+RefusesStatement th (cases sort names) c =
+    LacksOr (sort_number th.signature sort) UnknownSort (λ s. LacksOr (constant_numbers th s names) NoParse (λ cs. IsCauseOf (cases_fault th s cs))) c
