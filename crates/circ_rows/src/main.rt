@@ -1,0 +1,67 @@
+//! Runs each row of the tables in data/ over files and a text in memory, and prints what came of it:
+//! a line for each table, its name, and one for each row, its name and the number of the answer.
+//!
+//! A table is a text. A line that begins with `== ` begins a part, whose text is what stands below
+//! it; an empty line before a line `== row NAME` ends a row. What stands before the first row is the
+//! head, whose parts belong to every row of the table.
+#![tactic(auto)]
+
+mod part;
+mod row;
+
+use row::Row;
+use std::alloc::{AllocError, Global};
+use std::fs;
+
+/// The tables, in the order in which they are run.
+const TABLES: [&str; 10] = [
+    "rows-words",
+    "rows-faults",
+    "rows-causes",
+    "rows-limits",
+    "rows-statements",
+    "rows-terms",
+    "rows-show",
+    "rows-check",
+    "rows-chains",
+    "rows-proofs",
+];
+
+/// What ends a row and begins the next.
+const NEXT: &str = "\n\n== row ";
+
+/// What came of a row of this head and this text.
+fn outcome<'a>(
+    alloc: Global,
+    row: &mut Row<'a>,
+    head: &'a str,
+    text: &'a str,
+) -> Result<String, AllocError> {
+    row.read(alloc, head)?;
+    row.read(alloc, text)?;
+    row.outcome(alloc)
+}
+
+/// Prints what came of each row of a table.
+fn run_table(rt: &HostRuntime, table: &str) -> anyhow::Result<()> {
+    let alloc = rt.alloc();
+    let Some((head, rows)) = table.trim_end().split_once(NEXT) else {
+        println!(rt; "a table without a row")?;
+        return Ok(());
+    };
+    for text in rows.split(NEXT) {
+        let name = text.lines().next().unwrap_or("");
+        let outcome = outcome(alloc, &mut Row::new(alloc), head, text)?;
+        println!(rt; "{name}: {outcome}")?;
+    }
+    Ok(())
+}
+
+fn main(rt: HostRuntime) -> anyhow::Result<()> {
+    for name in TABLES {
+        println!(rt; "{name}")?;
+        let table = fs::read_to_string(&rt, name)?;
+        run_table(&rt, table.as_str())?;
+    }
+    Ok(())
+}
