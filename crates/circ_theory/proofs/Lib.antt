@@ -2,6 +2,7 @@ pub mod Instances
 pub mod Sorting
 pub mod Congruence
 pub mod Weakening
+pub mod BoundTerms
 pub mod Behaviour
 pub mod Numbering
 pub mod Renumbering
