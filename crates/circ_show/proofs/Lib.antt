@@ -1,4 +1,4 @@
 mod Steps
-mod Marks
+mod SortMarks
 mod Texts
-mod Marking
+mod AttributeWords

@@ -44,11 +44,11 @@ side_words o = if has_outer_holes o.form then side_word o.side else []
 abbrev pub precedence_words : Operator → List (List ℕ)
 precedence_words o = if list_any is_hole_piece o.form then (codes "prec " ++ decimal o.prec) ∷ side_words o else []
 
-abbrev pub if_marked : Bool → List ℕ → List (List ℕ)
-if_marked b w = if b then w ∷ [] else []
+abbrev pub if_set : Bool → List ℕ → List (List ℕ)
+if_set b w = if b then w ∷ [] else []
 
 abbrev pub attribute_words : Operator → List (List ℕ)
-attribute_words o = precedence_words o ++ (if_marked o.assoc (codes "assoc") ++ (if_marked o.comm (codes "comm") ++ if_marked o.idem (codes "idem")))
+attribute_words o = precedence_words o ++ (if_set o.assoc (codes "assoc") ++ (if_set o.comm (codes "comm") ++ if_set o.idem (codes "idem")))
 
 -- the words in brackets, joined by one space, after a space; nothing where there is no word
 abbrev pub in_brackets : List (List ℕ) → List ℕ

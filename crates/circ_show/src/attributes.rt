@@ -3,7 +3,7 @@ ghost use Rattle.std.specs.Prelude.{◌≡◌, ◌++◌, ◌∷◌, [], ℕ, Lis
 ghost use Rattle.std.specs.List.{list_any};
 ghost use Rattle.circ_theory.specs.Operators.{is_hole_piece, operator_of};
 ghost use Rattle.circ_show.specs.Brackets.{bracketed, WritesWords};
-ghost use Rattle.circ_show.specs.Lines.{is_hole_at, has_outer_holes, side_words, precedence_words, if_marked, attributes_text};
+ghost use Rattle.circ_show.specs.Lines.{is_hole_at, has_outer_holes, side_words, precedence_words, if_set, attributes_text};
 
 use circ_theory::{OpDecl, Piece, Side};
 use itoa::Buffer;
@@ -15,9 +15,9 @@ pub fn put_attributes(out: &mut Vec<u8>, decl: &OpDecl) -> Result<(), AllocError
         out.old.items ++ attributes_text (operator_of decl.now)) }
 {
     let begun = put_precedence(out, decl)?;
-    let begun = put_mark(out, begun, decl.assoc, b"assoc")?;
-    let begun = put_mark(out, begun, decl.comm, b"comm")?;
-    let begun = put_mark(out, begun, decl.idem, b"idem")?;
+    let begun = put_if_set(out, begun, decl.assoc, b"assoc")?;
+    let begun = put_if_set(out, begun, decl.comm, b"comm")?;
+    let begun = put_if_set(out, begun, decl.idem, b"idem")?;
     if begun {
         out.push(b']')?;
     }
@@ -73,9 +73,9 @@ fn has_hole(pieces: &[Piece]) -> bool
 }
 
 // An attribute where it is set. Answers whether there is one by now.
-fn put_mark(out: &mut Vec<u8>, begun: bool, set: bool, word: &[u8]) -> Result<bool, AllocError>
+fn put_if_set(out: &mut Vec<u8>, begun: bool, set: bool, word: &[u8]) -> Result<bool, AllocError>
     ensures { IfOk result (λ r.
-        WritesWords out.old.items out.new.items begun r (if_marked set word.now)) }
+        WritesWords out.old.items out.new.items begun r (if_set set word.now)) }
 {
     if !set {
         return Ok(begun);

@@ -1,5 +1,5 @@
 use Rattle.std.proofs.Common.{◌∙◌}
-use Rattle.circ_show.proofs.Marking.{ended, not_begun}
+use Rattle.circ_show.proofs.AttributeWords.{ended, not_begun}
 use Rattle.circ_show.proofs.attributes.put_attributes.Goals as goal
 
 pub returns-in_ok-push : goal.returns-in_ok-push

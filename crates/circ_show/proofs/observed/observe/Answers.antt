@@ -1,5 +1,5 @@
 use Rattle.std.proofs.Common.{◌≡◌, ◌<◌, length, false, true, ap, refl, arith}
-use Rattle.circ_show.proofs.Marks.{set_marks, hole_within, unmarked_set}
+use Rattle.circ_show.proofs.SortMarks.{set_marks, hole_within, unmarked_set}
 use Rattle.circ_show.proofs.observed.observe.Goals as goal
 
 pub returns-then-hole-len-clause-passed : goal.returns-then-hole-len-clause-passed

@@ -1,5 +1,5 @@
 use Rattle.std.proofs.Common.{refl}
-use Rattle.circ_show.proofs.Marks.{tell}
+use Rattle.circ_show.proofs.SortMarks.{tell}
 use Rattle.circ_show.proofs.observed.observed.Goals as goal
 
 pub returns : goal.returns

@@ -1,5 +1,5 @@
 use Rattle.std.proofs.Common.{arith}
-use Rattle.circ_show.proofs.Marks.{start_more, start_marks}
+use Rattle.circ_show.proofs.SortMarks.{start_more, start_marks}
 use Rattle.circ_show.proofs.observed.visible.Goals as goal
 
 pub loop-sort-preserved : goal.loop-sort-preserved

@@ -1,5 +1,5 @@
 use Rattle.std.proofs.Common.{◌≡◌, length}
-use Rattle.circ_show.proofs.Marks.{StartFrom}
+use Rattle.circ_show.proofs.SortMarks.{StartFrom}
 use Rattle.circ_show.proofs.observed.visible.Given as goal
 
 abbrev pub invariant-loop-sort : goal.invariant-loop-sort

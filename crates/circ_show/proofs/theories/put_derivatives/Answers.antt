@@ -1,5 +1,5 @@
 use Rattle.circ_show.specs.Lines.{derivative_line}
-use Rattle.circ_show.proofs.Marks.{by_body}
+use Rattle.circ_show.proofs.SortMarks.{by_body}
 use Rattle.circ_show.proofs.Steps.{list_step}
 use Rattle.circ_show.proofs.theories.put_derivatives.Goals as goal
 
