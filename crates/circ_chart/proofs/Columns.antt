@@ -11,15 +11,16 @@ use Rattle.circ_chart.specs.declared.few.Few.{Few}
 use Rattle.circ_chart.specs.declared.chart.Edge.{Edge}
 use Rattle.circ_chart.specs.declared.chart.Start.{Start}
 use Rattle.circ_chart.specs.declared.chart.Column.{Column}
-use Rattle.circ_chart.specs.Few.{Enough, enough_chain}
-use Rattle.circ_chart.specs.Cell.{In}
-use Rattle.circ_chart.specs.Chart.{row_at, row_in, column_in, tail_in, few_of, MadeBy}
+use Rattle.circ_chart.specs.Few.{Enough}
+use Rattle.circ_chart.proofs.Sets.{enough_chain}
+use Rattle.circ_chart.specs.Members.{In}
+use Rattle.circ_chart.specs.Chart.{rows_at, rows_in, column_in, tail_in, few_of, MadeBy}
 use Rattle.circ_chart.specs.Known.{FromEdges, edges_of, IsStarts, RowsOf, IsColumns}
 use Rattle.circ_chart.specs.Words.{HaveWords}
 use Rattle.circ_chart.specs.Fill.{IsColumn}
 use Rattle.circ_chart.specs.Small.{IsSmallFew}
 use Rattle.circ_chart.specs.declared.chart.Tails.{Tails}
-use Rattle.circ_chart.specs.declared.TheConstants.{MOST_TOKENS}
+use Rattle.circ_chart.specs.Limits.{most_tokens}
 use Rattle.circ_chart.proofs.Rows.{made, Source}
 use Rattle.circ_chart.proofs.Sizes.{reads_forward, small_rows}
 
@@ -41,7 +42,7 @@ get_before (y ∷ xs) x (suc k) h = get_before xs x k (omega arith)
 new_rows : (g : Grammar) (ts : List ℕ) (i end lo : ℕ) (starts : List Start) (fs : List Edge) (cols : List Column) (c : Column) → HaveWords g → IsStarts g ts starts lo end → Source g ts fs i end
     → IsColumns g ts cols (i + 1) end → IsColumn g ts c i end (edges_of starts i) fs cols
     → (n k : ℕ) (r : Rule) → slice_get g.rules.items n ≡ Some r → k < length r.symbols.items
-    → Enough (In (row_in c n k)) (RowsOf g ts r.op r.sort (drop (k + 1) r.symbols.items) i end)
+    → Enough (In (rows_in c n k)) (RowsOf g ts r.op r.sort (drop (k + 1) r.symbols.items) i end)
 new_rows g ts i end lo starts fs cols c words known source columns column n k r l h = go (slice_get c.tails.items n) refl
   where
     go : (o : Option Tails) → slice_get c.tails.items n ≡ o → Enough (In (tail_in o k)) (RowsOf g ts r.op r.sort (drop (k + 1) r.symbols.items) i end)
@@ -51,8 +52,8 @@ new_rows g ts i end lo starts fs cols c words known source columns column n k r 
         enough_chain (In (few_of (slice_get tail.rows.items k))) (MadeBy ts r rest n (k + 1) i end (edges_of starts i) fs cols) (RowsOf g ts r.op r.sort rest i end)
         ((column.each n r tail l e).rows k h) (made g ts r rest n (k + 1) lo i end starts fs cols words l refl known (inl source) columns)
 
-new_small : (g : Grammar) (ts : List ℕ) (i end lo : ℕ) (starts : List Start) (fs : List Edge) (cols : List Column) (c : Column) → HaveWords g → length ts ≤ MOST_TOKENS → end ≤ length ts → IsStarts g ts starts lo end → Source g ts fs i end
-    → IsColumns g ts cols (i + 1) end → IsColumn g ts c i end (edges_of starts i) fs cols → (n k : ℕ) → IsSmallFew (row_in c n k)
+new_small : (g : Grammar) (ts : List ℕ) (i end lo : ℕ) (starts : List Start) (fs : List Edge) (cols : List Column) (c : Column) → HaveWords g → length ts ≤ most_tokens → end ≤ length ts → IsStarts g ts starts lo end → Source g ts fs i end
+    → IsColumns g ts cols (i + 1) end → IsColumn g ts c i end (edges_of starts i) fs cols → (n k : ℕ) → IsSmallFew (rows_in c n k)
 new_small g ts i end lo starts fs cols c words few inside known source columns column n k = tails (slice_get c.tails.items n) refl
   where
     cells : (r : Rule) (tail : Tails) → slice_get g.rules.items n ≡ Some r → slice_get c.tails.items n ≡ Some tail → (o : Option Few) → slice_get tail.rows.items k ≡ o → IsSmallFew (few_of o)
@@ -73,7 +74,7 @@ new_small g ts i end lo starts fs cols c words few inside known source columns c
     tails None e = tt
     tails (Some tail) e = rule tail e (slice_get g.rules.items n) refl
 
-pub columns_more : (g : Grammar) (ts : List ℕ) (i end lo : ℕ) (starts : List Start) (fs : List Edge) (cols : List Column) (c : Column) → HaveWords g → length ts ≤ MOST_TOKENS → end ≤ length ts → IsStarts g ts starts lo end → Source g ts fs i end → i ≤ end
+pub columns_more : (g : Grammar) (ts : List ℕ) (i end lo : ℕ) (starts : List Start) (fs : List Edge) (cols : List Column) (c : Column) → HaveWords g → length ts ≤ most_tokens → end ≤ length ts → IsStarts g ts starts lo end → Source g ts fs i end → i ≤ end
     → IsColumns g ts cols (i + 1) end → length cols ≡ end - i → IsColumn g ts c i end (edges_of starts i) fs cols → IsColumns g ts (cols ++ c ∷ []) i end
 columns_more g ts i end lo starts fs cols c words few inside known source h2 columns len column = record {
   rows = λ m n k r a b l h. go m n k r a b l h (cases_eq m i);
@@ -84,9 +85,9 @@ columns_more g ts i end lo starts fs cols c words few inside known source h2 col
     at = ap (slice_get (cols ++ c ∷ [])) (sym len) ∙ get_last cols c
 
     go : (m n k : ℕ) (r : Rule) → i ≤ m → m ≤ end → slice_get g.rules.items n ≡ Some r → k < length r.symbols.items → ((m ≡ i) ⊎ (m ≡ i → ⊥))
-        → Enough (In (row_at (cols ++ c ∷ []) (end - m) n k)) (RowsOf g ts r.op r.sort (drop (k + 1) r.symbols.items) m end)
+        → Enough (In (rows_at (cols ++ c ∷ []) (end - m) n k)) (RowsOf g ts r.op r.sort (drop (k + 1) r.symbols.items) m end)
     go m n k r a b l h (inl w) =
-        let P : ℕ → Type 0 = λ x. Enough (In (row_at (cols ++ c ∷ []) (end - x) n k)) (RowsOf g ts r.op r.sort (drop (k + 1) r.symbols.items) x end) in
+        let P : ℕ → Type 0 = λ x. Enough (In (rows_at (cols ++ c ∷ []) (end - x) n k)) (RowsOf g ts r.op r.sort (drop (k + 1) r.symbols.items) x end) in
         let Q : Option Column → Type 0 = λ o. Enough (In (column_in o n k)) (RowsOf g ts r.op r.sort (drop (k + 1) r.symbols.items) i end) in
         subst P (sym w) (subst Q (sym at) (new_rows g ts i end lo starts fs cols c words known source columns column n k r l h))
     go m n k r a b l h (inr w) =
@@ -102,7 +103,7 @@ columns_more g ts i end lo starts fs cols c words few inside known source h2 col
         let Q : Option Column → Type 0 = λ o. IsSmallFew (column_in o n k) in
         subst Q (sym f) (columns.small d n k)
 
-    small : (d n k : ℕ) → ((d ≡ length cols) ⊎ (d ≡ length cols → ⊥)) → IsSmallFew (row_at (cols ++ c ∷ []) d n k)
+    small : (d n k : ℕ) → ((d ≡ length cols) ⊎ (d ≡ length cols → ⊥)) → IsSmallFew (rows_at (cols ++ c ∷ []) d n k)
     small d n k (inl w) =
         let f : slice_get (cols ++ c ∷ []) d ≡ Some c = ap (slice_get (cols ++ c ∷ [])) w ∙ get_last cols c in
         let Q : Option Column → Type 0 = λ o. IsSmallFew (column_in o n k) in

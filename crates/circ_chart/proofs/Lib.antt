@@ -4,6 +4,9 @@ mod Edges
 mod Ranges
 mod Columns
 mod Steps
-mod Cells
+mod Members
 mod Lists
 mod Tops
+mod Marked
+pub mod Sets
+mod Limits

@@ -9,12 +9,13 @@ use Rattle.circ_chart.specs.declared.grammar.Grammar.{Grammar}
 use Rattle.circ_chart.specs.declared.chart.Edge.{Edge}
 use Rattle.circ_chart.specs.declared.chart.Start.{Start}
 use Rattle.circ_chart.specs.declared.chart.Column.{Column}
-use Rattle.circ_chart.specs.Few.{Enough, Differ, differ_in, enough_chain}
+use Rattle.circ_chart.specs.Few.{Enough, Differ}
+use Rattle.circ_chart.proofs.Sets.{differ_in, enough_chain}
 use Rattle.circ_chart.specs.Chart.{MadeBy}
 use Rattle.circ_chart.specs.Reads.{IsToken, Reads, by_parentheses, by_variable, by_operator}
 use Rattle.circ_chart.specs.Known.{FromEdges, edges_of, IsStarts, RowsOf, IsColumns}
 use Rattle.circ_chart.specs.Words.{HaveWords}
-use Rattle.circ_chart.specs.declared.TheConstants.{CLOSING, EVERY}
+use Rattle.circ_chart.specs.Limits.{closing, every}
 use Rattle.circ_chart.specs.Found.{VariableHit, AnyVariable, AnyInner, HeadHit, AnyHead, New}
 use Rattle.circ_chart.proofs.Edges.{from_both, from_left, from_right}
 use Rattle.circ_chart.proofs.Rows.{made, long, Source}
@@ -30,12 +31,12 @@ variable_in ts i end [] m s b t n v e h = absurd (cc)
 variable_in ts i end (x ∷ vs) m s b t zero v e h = let q : v ≡ x = cc in let P : Variable → Type 0 = λ z. VariableHit ts i end z m s b t in inl (subst P q h)
 variable_in ts i end (x ∷ vs) m s b t (suc n) v e h = inr (variable_in ts i end vs m s b t n v e h)
 
-inner_out : (end : ℕ) (es : List Edge) (m s b : ℕ) (t : Tree) → AnyInner end es m s b t → (n : ℕ) × FromEdges es n s EVERY t × (n + 1 ≡ end) × (end ≡ m) × (0 < b)
+inner_out : (end : ℕ) (es : List Edge) (m s b : ℕ) (t : Tree) → AnyInner end es m s b t → (n : ℕ) × FromEdges es n s every t × (n + 1 ≡ end) × (end ≡ m) × (0 < b)
 inner_out end [] m s b t h = absurd h
 inner_out end (e ∷ es) m s b t (inl h) = (e.to, inl (record { to = refl; sort = h.sort; prec = h.prec; is = h.is }), h.before, h.to, h.below)
 inner_out end (e ∷ es) m s b t (inr h) = let k = inner_out end es m s b t h in (k.0, inr k.1, k.2, k.3, k.4)
 
-inner_in : (end : ℕ) (es : List Edge) (m s b n : ℕ) (t : Tree) → FromEdges es n s EVERY t → n + 1 ≡ end → end ≡ m → 0 < b → AnyInner end es m s b t
+inner_in : (end : ℕ) (es : List Edge) (m s b n : ℕ) (t : Tree) → FromEdges es n s every t → n + 1 ≡ end → end ≡ m → 0 < b → AnyInner end es m s b t
 inner_in end [] m s b n t h e f lo = absurd h
 inner_in end (x ∷ es) m s b n t (inl h) e f lo = let q : x.to ≡ n = h.to in inl (record { to = f; before = omega arith; prec = h.prec; below = lo; sort = h.sort; is = h.is })
 inner_in end (x ∷ es) m s b n t (inr h) e f lo = inr (inner_in end es m s b n t h e f lo)
@@ -74,8 +75,8 @@ new_sound g ts i end starts cols words known columns m s b t (inl (inl h)) =
     by_variable k.0 k.1 k.3.below k.2 k.3.token (sym k.3.to ∙ k.3.one) (sym k.3.sort) k.3.is
 new_sound g ts i end starts cols words known columns m s b t (inl (inr h)) =
     let k = inner_out end (edges_of starts (i + 1)) m s b t h.inner in
-    let P : ℕ → Type 0 = λ x. IsToken ts x CLOSING in
-    by_parentheses k.0 k.4 h.opened (known.sound (i + 1) k.0 s EVERY t k.1) (subst P (omega arith) h.closed) (omega arith)
+    let P : ℕ → Type 0 = λ x. IsToken ts x closing in
+    by_parentheses k.0 k.4 h.opened (known.sound (i + 1) k.0 s every t k.1) (subst P (omega arith) h.closed) (omega arith)
 new_sound g ts i end starts cols words known columns m s b t (inr h) =
     let k = head_out ts g.rules.items 0 i end (edges_of starts i) cols m s b t h in
     let P : ℕ → Type 0 = λ x. MadeBy ts k.1 k.1.symbols.items x 0 i end (edges_of starts i) (edges_of starts i) cols t in
@@ -85,13 +86,13 @@ new_sound g ts i end starts cols words known columns m s b t (inr h) =
 
 new_enough : (g : Grammar) (ts : List ℕ) (i end : ℕ) (starts : List Start) (cols : List Column) → HaveWords g → IsStarts g ts starts (i + 1) end → IsColumns g ts cols (i + 1) end
     → (s b : ℕ) (t : Tree) → Reads g ts b s i end t → New g ts i end starts cols end s b t ⊎ Differ (New g ts i end starts cols end s b)
-new_enough g ts i end starts cols words known columns s b t (by_parentheses m lo o r c e) = go (known.enough (i + 1) m s EVERY t r (inl (omega arith)))
+new_enough g ts i end starts cols words known columns s b t (by_parentheses m lo o r c e) = go (known.enough (i + 1) m s every t r (inl (omega arith)))
   where
     E : Tree → Type 0
-    E = FromEdges (edges_of starts (i + 1)) m s EVERY
+    E = FromEdges (edges_of starts (i + 1)) m s every
 
     up : (v : Tree) → E v → New g ts i end starts cols end s b v
-    up v h = let P : ℕ → Type 0 = λ x. IsToken ts x CLOSING in
+    up v h = let P : ℕ → Type 0 = λ x. IsToken ts x closing in
         inl (inr (record { opened = o; closed = subst P (omega arith) c; inner = inner_in end (edges_of starts (i + 1)) end s b m v h (sym e) refl lo }))
 
     go : (E t ⊎ Differ E) → New g ts i end starts cols end s b t ⊎ Differ (New g ts i end starts cols end s b)

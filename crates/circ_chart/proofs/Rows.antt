@@ -1,4 +1,4 @@
--- A cell made from known edges and columns has the rows of its symbols.
+-- What is made from known edges and columns is the rows of the symbols.
 use Rattle.std.proofs.Common.{◌≡◌, ◌⊎◌, ◌<◌, ◌≤◌, ◌+◌, ◌-◌, ℕ, zero, suc, List, [], ◌∷◌, length, drop, Some, inl, inr, sym, ◌∙◌, ap, subst, refl, arith}
 use Rattle.std.specs.List.{slice_get}
 use Rattle.circ_term.specs.Tree.{Tree, Trees, App, none, more, trees_of, list_of, args_of, trees_of-list_of}
@@ -9,9 +9,10 @@ use Rattle.circ_chart.specs.declared.grammar.Grammar.{Grammar}
 use Rattle.circ_chart.specs.declared.chart.Edge.{Edge}
 use Rattle.circ_chart.specs.declared.chart.Start.{Start}
 use Rattle.circ_chart.specs.declared.chart.Column.{Column}
-use Rattle.circ_chart.specs.Few.{Enough, Differ, Joined, enough_joined, differ_in, enough_all}
-use Rattle.circ_chart.specs.Cell.{In}
-use Rattle.circ_chart.specs.Chart.{row_at, MadeBy, AnyTaken, Taken, AfterWord, AtEnd}
+use Rattle.circ_chart.specs.Few.{Enough, Differ}
+use Rattle.circ_chart.proofs.Sets.{Joined, enough_joined, differ_in, enough_all}
+use Rattle.circ_chart.specs.Members.{In}
+use Rattle.circ_chart.specs.Chart.{rows_at, MadeBy, AnyTaken, Taken, AfterWord, AtEnd}
 use Rattle.circ_chart.specs.Reads.{IsToken, Reads, Row, row_end, row_word, row_hole}
 use Rattle.circ_chart.specs.Known.{FromEdges, edges_of, IsStarts, RowsOf, IsColumns}
 use Rattle.circ_chart.specs.Words.{words, HaveWords}
@@ -51,11 +52,11 @@ from_edges g ts r n place s b i end cols (e ∷ es) z (inr h) =
     let k = from_edges g ts r n place s b i end cols es z h in (k.0, λ t q. inr (k.1 t q), k.2)
 
 to_taken : (r : Rule) (n place s b end m : ℕ) (cols : List Column) (es : List Edge) (t rest z : Tree)
-    → FromEdges es m s b t → m ≤ end → In (row_at cols (end - m) n place) rest → z ≡ App r.op r.sort (more t (trees_of (args_of rest)))
+    → FromEdges es m s b t → m ≤ end → In (rows_at cols (end - m) n place) rest → z ≡ App r.op r.sort (more t (trees_of (args_of rest)))
     → AnyTaken r n place s b end cols es z
 to_taken r n place s b end m cols [] t rest z h k l e = absurd h
 to_taken r n place s b end m cols (x ∷ es) t rest z (inl h) k l e =
-    let P : ℕ → Type 0 = λ x. In (row_at cols (end - x) n place) rest in
+    let P : ℕ → Type 0 = λ x. In (rows_at cols (end - x) n place) rest in
     inl (record {
       sort = h.sort;
       prec = h.prec;
@@ -70,18 +71,18 @@ made_end g ts r i end = enough_all (AtEnd r i end) (RowsOf g ts r.op r.sort [] i
     (λ z h. let k = row_case g ts [] i end h.args h.row in record { same = k.0; is = h.is ∙ ap (App r.op r.sort) k.1 })
 
 made_word : (g : Grammar) (ts : List ℕ) (r : Rule) (w : ℕ) (ps : List Symbol) (n place i end : ℕ) (cols : List Column)
-    → (i < end → Enough (In (row_at cols (end - (i + 1)) n place)) (RowsOf g ts r.op r.sort ps (i + 1) end)) → HaveWords g
+    → (i < end → Enough (In (rows_at cols (end - (i + 1)) n place)) (RowsOf g ts r.op r.sort ps (i + 1) end)) → HaveWords g
     → Enough (AfterWord ts n place w i end cols) (RowsOf g ts r.op r.sort (Word w ∷ ps) i end)
 made_word g ts r w ps n place i end cols a hd = record { sound = s; enough = g2 }
   where
     R : Tree → Type 0
-    R = In (row_at cols (end - (i + 1)) n place)
+    R = In (rows_at cols (end - (i + 1)) n place)
 
-    at : (z : Tree) → In (row_at cols (end - i - 1) n place) z → R z
-    at z h = let P : ℕ → Type 0 = λ x. In (row_at cols x n place) z in subst P (omega arith) h
+    at : (z : Tree) → In (rows_at cols (end - i - 1) n place) z → R z
+    at z h = let P : ℕ → Type 0 = λ x. In (rows_at cols x n place) z in subst P (omega arith) h
 
-    back : (z : Tree) → R z → In (row_at cols (end - i - 1) n place) z
-    back z h = let P : ℕ → Type 0 = λ x. In (row_at cols x n place) z in subst P (omega arith) h
+    back : (z : Tree) → R z → In (rows_at cols (end - i - 1) n place) z
+    back z h = let P : ℕ → Type 0 = λ x. In (rows_at cols x n place) z in subst P (omega arith) h
 
     s : (z : Tree) → AfterWord ts n place w i end cols z → RowsOf g ts r.op r.sort (Word w ∷ ps) i end z
     s z h = let k = (a h.before).sound z (at z h.row) in record { args = k.args; row = row_word h.token k.row; is = k.is }
@@ -96,7 +97,7 @@ made_word g ts r w ps n place i end cols a hd = record { sound = s; enough = g2 
         let l : i < end = row_forward g ts (Word w ∷ ps) i end h.args h.row hd in
         go z k.token l ((a l).enough z (record { args = h.args; row = k.rest; is = h.is }))
 
--- the rows of a cell, by their arguments
+-- rows, by their arguments
 by_args : (g : Grammar) (ts : List ℕ) (R : Tree → Type 0) (op sort : ℕ) (ps : List Symbol) (m end : ℕ)
     → Enough R (RowsOf g ts op sort ps m end) → Enough (λ args. R (App op sort args)) (Row g ts ps m end)
 by_args g ts R op sort ps m end a = record { sound = s; enough = λ args r. go args (a.enough (App op sort args) (record { args = args; row = r; is = refl })) }
@@ -120,7 +121,7 @@ by_args g ts R op sort ps m end a = record { sound = s; enough = λ args r. go a
 made_hole : (g : Grammar) (ts : List ℕ) (r : Rule) (s b : ℕ) (ps : List Symbol) (n place i end : ℕ) (es : List Edge) (cols : List Column)
     → ((m s2 b2 : ℕ) (t : Tree) → FromEdges es m s2 b2 t → Reads g ts b2 s2 i m t) → HaveWords g
     → ((m : ℕ) (args : Trees) → Row g ts ps m end args → (t : Tree) → Reads g ts b s i m t → FromEdges es m s b t ⊎ Differ (FromEdges es m s b))
-    → ((m : ℕ) → i < m → m ≤ end → Enough (In (row_at cols (end - m) n place)) (RowsOf g ts r.op r.sort ps m end))
+    → ((m : ℕ) → i < m → m ≤ end → Enough (In (rows_at cols (end - m) n place)) (RowsOf g ts r.op r.sort ps m end))
     → Enough (AnyTaken r n place s b end cols es) (RowsOf g ts r.op r.sort (Hole s b ∷ ps) i end)
 made_hole g ts r s b ps n place i end es cols known hd dn a = record { sound = sd; enough = en }
   where
@@ -131,7 +132,7 @@ made_hole g ts r s b ps n place i end es cols known hd dn a = record { sound = s
     E m t = FromEdges es m s b t
 
     F : ℕ → Trees → Type 0
-    F m args = In (row_at cols (end - m) n place) (App r.op r.sort args)
+    F m args = In (rows_at cols (end - m) n place) (App r.op r.sort args)
 
     sd : (z : Tree) → AnyTaken r n place s b end cols es z → RowsOf g ts r.op r.sort (Hole s b ∷ ps) i end z
     sd z h =
@@ -156,7 +157,7 @@ made_hole g ts r s b ps n place i end es cols known hd dn a = record { sound = s
         let l : i < m = reads_forward g ts b s i m k.first k.reads hd in
         let near : m ≤ end = forward_le ps m end (row_forward g ts ps m end k.others k.rest hd) in
         let left : Enough (E m) (Reads g ts b s i m) = record { sound = known m s b; enough = dn m k.others k.rest } in
-        let right : Enough (F m) (Row g ts ps m end) = by_args g ts (In (row_at cols (end - m) n place)) r.op r.sort ps m end (a m l near) in
+        let right : Enough (F m) (Row g ts ps m end) = by_args g ts (In (rows_at cols (end - m) n place)) r.op r.sort ps m end (a m l near) in
         go m near z ((enough_joined f (E m) (Reads g ts b s i m) (F m) (Row g ts ps m end) (λ x y c d q. cc) (λ x y c d q. cc) left right).enough z
         (record { left = k.first; right = k.others; in_left = k.reads; in_right = k.rest; is = h.is ∙ ap (App r.op r.sort) k.is }))
 
@@ -185,10 +186,10 @@ long (Hole s b ∷ p ∷ ps) h = tt
 
 next_rows : (g : Grammar) (ts : List ℕ) (r : Rule) (p : Symbol) (ps : List Symbol) (n k i end m : ℕ) (cols : List Column)
     → slice_get g.rules.items n ≡ Some r → drop k r.symbols.items ≡ p ∷ ps → IsColumns g ts cols (i + 1) end → i < m → m ≤ end
-    → Enough (In (row_at cols (end - m) n k)) (RowsOf g ts r.op r.sort ps m end)
+    → Enough (In (rows_at cols (end - m) n k)) (RowsOf g ts r.op r.sort ps m end)
 next_rows g ts r p ps n k i end m cols l e c a b =
     let h = behind r.symbols.items k p ps e in
-    let P : List Symbol → Type 0 = λ x. Enough (In (row_at cols (end - m) n k)) (RowsOf g ts r.op r.sort x m end) in
+    let P : List Symbol → Type 0 = λ x. Enough (In (rows_at cols (end - m) n k)) (RowsOf g ts r.op r.sort x m end) in
     subst P h.1 (c.rows m n k r (omega arith) b l h.0)
 
 pub made : (g : Grammar) (ts : List ℕ) (r : Rule) (ps : List Symbol) (n k lo i end : ℕ) (starts : List Start) (fs : List Edge) (cols : List Column)

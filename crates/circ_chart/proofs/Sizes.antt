@@ -11,9 +11,9 @@ use Rattle.circ_chart.specs.declared.chart.Edge.{Edge}
 use Rattle.circ_chart.specs.declared.grammar.Symbol.{Symbol}
 use Rattle.circ_chart.specs.declared.grammar.Symbol.TheVariants.{Word, Hole}
 use Rattle.circ_chart.specs.declared.grammar.Grammar.{Grammar}
-use Rattle.circ_chart.specs.declared.TheConstants.{MOST_TOKENS}
+use Rattle.circ_chart.specs.Limits.{most_tokens}
 use Rattle.circ_chart.specs.Reads.{Reads, Row, by_parentheses, by_variable, by_operator, row_end, row_word, row_hole}
-use Rattle.circ_chart.specs.Cell.{In}
+use Rattle.circ_chart.specs.Members.{In}
 use Rattle.circ_chart.specs.Known.{FromEdges, RowsOf}
 use Rattle.circ_chart.specs.Words.{words, HaveWords}
 use Rattle.circ_chart.specs.Small.{IsSmall, AreSmall, IsSmallFew}
@@ -56,7 +56,7 @@ row_forward g ts (Hole s b ∷ ps) i j (more t args) (row_hole m d r) h =
     let k = (row_size g ts ps m j args r h).0 in let l = reads_forward g ts b s i m t d h in omega arith
 
 -- the edges that are readings are small
-pub small_edges : (g : Grammar) (ts : List ℕ) (i : ℕ) (es : List Edge) → HaveWords g → length ts ≤ MOST_TOKENS
+pub small_edges : (g : Grammar) (ts : List ℕ) (i : ℕ) (es : List Edge) → HaveWords g → length ts ≤ most_tokens
     → ((m s b : ℕ) (t : Tree) → FromEdges es m s b t → Reads g ts b s i m t) → AreSmall es
 small_edges g ts i [] h l f = tt
 small_edges g ts i (e ∷ es) h l f =
@@ -64,10 +64,10 @@ small_edges g ts i (e ∷ es) h l f =
     let k0 = k.0 in let k1 = k.1 in
     (omega arith, small_edges g ts i es h l (λ m s b t w. f m s b t (inr w)))
 
-small_row : (g : Grammar) (ts : List ℕ) (op sort : ℕ) (ps : List Symbol) (m end : ℕ) (z : Tree) → HaveWords g → length ts ≤ MOST_TOKENS → end ≤ length ts → RowsOf g ts op sort ps m end z → IsSmall z
+small_row : (g : Grammar) (ts : List ℕ) (op sort : ℕ) (ps : List Symbol) (m end : ℕ) (z : Tree) → HaveWords g → length ts ≤ most_tokens → end ≤ length ts → RowsOf g ts op sort ps m end z → IsSmall z
 small_row g ts op sort ps m end z h l w r = let k = (row_size g ts ps m end r.args r.row h).0 in let d = ap size_of r.is in omega arith
 
-pub small_rows : (g : Grammar) (ts : List ℕ) (op sort : ℕ) (ps : List Symbol) (m end : ℕ) (few : Few) → HaveWords g → length ts ≤ MOST_TOKENS → end ≤ length ts
+pub small_rows : (g : Grammar) (ts : List ℕ) (op sort : ℕ) (ps : List Symbol) (m end : ℕ) (few : Few) → HaveWords g → length ts ≤ most_tokens → end ≤ length ts
     → ((z : Tree) → In few z → RowsOf g ts op sort ps m end z) → IsSmallFew few
 small_rows g ts op sort ps m end Empty h l w f = tt
 small_rows g ts op sort ps m end (One a) h l w f = small_row g ts op sort ps m end a h l w (f a refl)

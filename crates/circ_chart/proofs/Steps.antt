@@ -11,27 +11,27 @@ use Rattle.circ_chart.specs.declared.chart.Edge.{Edge}
 use Rattle.circ_chart.specs.declared.chart.Start.{Start}
 use Rattle.circ_chart.specs.declared.chart.Tails.{Tails}
 use Rattle.circ_chart.specs.declared.chart.Column.{Column}
-use Rattle.circ_chart.specs.declared.TheConstants.{MOST_TOKENS}
+use Rattle.circ_chart.specs.Limits.{most_tokens}
 use Rattle.circ_chart.specs.Few.{Enough}
-use Rattle.circ_chart.specs.Cell.{In}
+use Rattle.circ_chart.specs.Members.{In}
 use Rattle.circ_chart.specs.Chart.{few_of, MadeBy}
 use Rattle.circ_chart.specs.Known.{FromEdges, edges_of, IsStarts, IsColumns}
 use Rattle.circ_chart.specs.Words.{HaveWords}
 use Rattle.circ_chart.specs.Found.{New}
-use Rattle.circ_chart.specs.Fill.{HasCells, IsTail, HasTails, IsColumn}
+use Rattle.circ_chart.specs.Fill.{HasRows, IsTail, HasTails, IsColumn}
 use Rattle.circ_chart.specs.Small.{AreSmall}
 use Rattle.circ_chart.proofs.Sizes.{reads_forward, small_edges}
 use Rattle.circ_chart.proofs.Rows.{Source}
 use Rattle.circ_chart.proofs.Ranges.{known_more, found_source}
 use Rattle.circ_chart.proofs.Columns.{get_last, get_before, columns_more, no_columns}
 
-pub no_cells : (ts : List ℕ) (r : Rule) (n : ℕ) (cells : List Few) (i end : ℕ) (es fs : List Edge) (cols : List Column) → cells ≡ [] → HasCells ts r n 0 cells i end es fs cols
-no_cells ts r n cells i end es fs cols e = record { count = ap length e; rows = λ k h. absurd (omega arith) }
+pub no_rows : (ts : List ℕ) (r : Rule) (n : ℕ) (fews : List Few) (i end : ℕ) (es fs : List Edge) (cols : List Column) → fews ≡ [] → HasRows ts r n 0 fews i end es fs cols
+no_rows ts r n fews i end es fs cols e = record { count = ap length e; rows = λ k h. absurd (omega arith) }
 
-pub cells_more : (ts : List ℕ) (r : Rule) (n j : ℕ) (cells new : List Few) (f : Few) (i end : ℕ) (es fs : List Edge) (cols : List Column) → new ≡ cells ++ f ∷ []
-    → Enough (In f) (MadeBy ts r (drop (j + 1) r.symbols.items) n (j + 1) i end es fs cols) → HasCells ts r n j cells i end es fs cols → HasCells ts r n (j + 1) new i end es fs cols
-cells_more ts r n j cells new f i end es fs cols e made h = record {
-  count = ap length e ∙ length-append cells (f ∷ []) ∙ ap (λ x. x + 1) h.count;
+pub rows_more : (ts : List ℕ) (r : Rule) (n j : ℕ) (fews new : List Few) (f : Few) (i end : ℕ) (es fs : List Edge) (cols : List Column) → new ≡ fews ++ f ∷ []
+    → Enough (In f) (MadeBy ts r (drop (j + 1) r.symbols.items) n (j + 1) i end es fs cols) → HasRows ts r n j fews i end es fs cols → HasRows ts r n (j + 1) new i end es fs cols
+rows_more ts r n j fews new f i end es fs cols e made h = record {
+  count = ap length e ∙ length-append fews (f ∷ []) ∙ ap (λ x. x + 1) h.count;
   rows = λ k l. go k l (cases_eq k j);
 }
   where
@@ -40,12 +40,12 @@ cells_more ts r n j cells new f i end es fs cols e made h = record {
 
     go : (k : ℕ) → k < j + 1 → ((k ≡ j) ⊎ (k ≡ j → ⊥)) → Rows k (slice_get new k)
     go k l (inl w) =
-        let q : slice_get new j ≡ Some f = ap (λ x. slice_get x j) e ∙ ap (slice_get (cells ++ f ∷ [])) (sym h.count) ∙ get_last cells f in
+        let q : slice_get new j ≡ Some f = ap (λ x. slice_get x j) e ∙ ap (slice_get (fews ++ f ∷ [])) (sym h.count) ∙ get_last fews f in
         let P : ℕ → Type 0 = λ x. Rows x (slice_get new x) in
         subst P (sym w) (subst (Rows j) (sym q) made)
     go k l (inr w) =
         let len = h.count in
-        let q : slice_get new k ≡ slice_get cells k = ap (λ x. slice_get x k) e ∙ get_before cells f k (omega arith) in
+        let q : slice_get new k ≡ slice_get fews k = ap (λ x. slice_get x k) e ∙ get_before fews f k (omega arith) in
         subst (Rows k) (sym q) (h.rows k (omega arith))
 
 pub no_tails : (g : Grammar) (ts : List ℕ) (tails : List Tails) (i end : ℕ) (es fs : List Edge) (cols : List Column) → tails ≡ [] → HasTails g ts 0 tails i end es fs cols
@@ -102,7 +102,7 @@ advance_starts g ts n end old new found cols words pos known columns f here ther
     let e : n ≡ (n - 1) + 1 = omega arith in
     known_more g ts (n - 1) end old new found cols words (subst P e known) (subst Q e columns) f here there
 
-pub advance_columns : (g : Grammar) (ts : List ℕ) (n end : ℕ) (old : List Start) (found : List Edge) (cols cols2 : List Column) (c : Column) → HaveWords g → length ts ≤ MOST_TOKENS → end ≤ length ts → 0 < n → n ≤ end → IsStarts g ts old n end → IsColumns g ts cols n end
+pub advance_columns : (g : Grammar) (ts : List ℕ) (n end : ℕ) (old : List Start) (found : List Edge) (cols cols2 : List Column) (c : Column) → HaveWords g → length ts ≤ most_tokens → end ≤ length ts → 0 < n → n ≤ end → IsStarts g ts old n end → IsColumns g ts cols n end
     → ((m s b : ℕ) → Enough (FromEdges found m s b) (New g ts (n - 1) end old cols m s b))
     → length cols ≡ end + 1 - n → IsColumn g ts c (n - 1) end (edges_of old (n - 1)) found cols → cols2 ≡ cols ++ c ∷ [] → IsColumns g ts cols2 (n - 1) end
 advance_columns g ts n end old found cols cols2 c words few inside pos l known columns f len rows e =
@@ -116,7 +116,7 @@ advance_columns g ts n end old found cols cols2 c words few inside pos l known c
 no_source : (g : Grammar) (ts : List ℕ) (end : ℕ) → HaveWords g → Source g ts [] end end
 no_source g ts end words = record { sound = λ m s b t h. absurd h; enough = λ s b t r. let k : end < end = reads_forward g ts b s end end t r words in absurd (omega arith) }
 
-pub first_columns : (g : Grammar) (ts : List ℕ) (end : ℕ) (starts : List Start) (cols cols2 : List Column) (c : Column) → HaveWords g → length ts ≤ MOST_TOKENS → end ≤ length ts → IsStarts g ts starts end end → cols ≡ [] → IsColumn g ts c end end (edges_of starts end) [] cols → cols2 ≡ cols ++ c ∷ []
+pub first_columns : (g : Grammar) (ts : List ℕ) (end : ℕ) (starts : List Start) (cols cols2 : List Column) (c : Column) → HaveWords g → length ts ≤ most_tokens → end ≤ length ts → IsStarts g ts starts end end → cols ≡ [] → IsColumn g ts c end end (edges_of starts end) [] cols → cols2 ≡ cols ++ c ∷ []
     → IsColumns g ts cols2 end end
 first_columns g ts end starts cols cols2 c words few inside known none rows e =
     let Q : List Column → Type 0 = λ x. IsColumns g ts x (end + 1) end in
@@ -125,10 +125,10 @@ first_columns g ts end starts cols cols2 c words few inside known none rows e =
     subst R (sym e) (columns_more g ts end end end starts [] cols c words few inside known (no_source g ts end words) (omega arith) (subst Q (sym none) (no_columns g ts end)) (omega arith) rows)
 
 -- the edges of the chart are small
-pub small_starts : (g : Grammar) (ts : List ℕ) (starts : List Start) (i end a : ℕ) → HaveWords g → length ts ≤ MOST_TOKENS → IsStarts g ts starts i end → AreSmall (edges_of starts a)
+pub small_starts : (g : Grammar) (ts : List ℕ) (starts : List Start) (i end a : ℕ) → HaveWords g → length ts ≤ most_tokens → IsStarts g ts starts i end → AreSmall (edges_of starts a)
 small_starts g ts starts i end a words few known = small_edges g ts a (edges_of starts a) words few (λ m s b t h. known.sound a m s b t h)
 
-pub small_found : (g : Grammar) (ts : List ℕ) (n end : ℕ) (old : List Start) (found : List Edge) (cols : List Column) → HaveWords g → length ts ≤ MOST_TOKENS → 0 < n → IsStarts g ts old n end → IsColumns g ts cols n end
+pub small_found : (g : Grammar) (ts : List ℕ) (n end : ℕ) (old : List Start) (found : List Edge) (cols : List Column) → HaveWords g → length ts ≤ most_tokens → 0 < n → IsStarts g ts old n end → IsColumns g ts cols n end
     → ((m s b : ℕ) → Enough (FromEdges found m s b) (New g ts (n - 1) end old cols m s b)) → AreSmall found
 small_found g ts n end old found cols words few pos known columns f =
     let P : ℕ → Type 0 = λ x. IsStarts g ts old x end in

@@ -1,7 +1,7 @@
 pub mod Few
-pub mod Spells
+pub mod Generates
 pub mod Reads
-pub mod Cell
+pub mod Members
 pub mod Chart
 pub mod Words
 pub mod Known
@@ -9,3 +9,5 @@ pub mod Small
 pub mod Found
 pub mod Fill
 pub mod Tops
+pub mod Usable
+pub mod Limits

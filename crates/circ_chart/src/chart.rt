@@ -2,9 +2,10 @@
 ghost use Rattle.std.specs.Prelude.{◌≡◌, ◌≤◌, ◌+◌, length, drop, IfOk};
 ghost use Rattle.std.specs.Option.{option_copied};
 ghost use Rattle.circ_term.specs.Tree.{App, more, trees_of, args_of, size_of, sizes_of};
-ghost use Rattle.circ_chart.specs.Cell.{In, IsApart};
+ghost use Rattle.circ_chart.specs.Members.{In, IsApart, AddsTerm};
 ghost use Rattle.circ_chart.specs.Few.{Enough, Or};
-ghost use Rattle.circ_chart.specs.Chart.{row_at, row_in, few_of, Extends, Keeps, Taken, AnyTaken, MadeBy, AfterWord, AtEnd};
+ghost use Rattle.circ_chart.specs.Chart.{rows_at, rows_in, few_of, Extends, KeepsTerms, Taken};
+ghost use Rattle.circ_chart.specs.Chart.{AnyTaken, MadeBy, AfterWord, AtEnd};
 ghost use Rattle.circ_chart.specs.Small.{IsSmall, AreSmall, IsSmallFew, AreSmallColumns};
 
 use crate::few::{Few, add, is_full};
@@ -27,8 +28,8 @@ pub struct Start {
     pub edges: Vec<Edge>,
 }
 
-// For each symbol of a rule the rows of the symbols behind it, from one place up to the end in hand. A row is the rule's
-// operator on the arguments from there on.
+// For each symbol of a rule the rows of the symbols behind it, from one place up to the end in
+// hand. A row is the rule's operator on the arguments from there on.
 #[derive(Drop)]
 pub struct Tails {
     pub rows: Vec<Few>,
@@ -40,8 +41,8 @@ pub struct Column {
     pub tails: Vec<Tails>,
 }
 
-fn row_of(column: &Column, number: usize, place: usize) -> Option<&Few>
-    ensures { few_of (option_copied result) ≡ row_in column.now number place }
+fn rows_in(column: &Column, number: usize, place: usize) -> Option<&Few>
+    ensures { few_of (option_copied result) ≡ rows_in column.now number place }
 {
     match column.tails.get(number) {
         Some(tails) => tails.rows.get(place),
@@ -50,11 +51,11 @@ fn row_of(column: &Column, number: usize, place: usize) -> Option<&Few>
 }
 
 // The rows behind a symbol of a rule.
-fn row(columns: &[Column], distance: usize, number: usize, place: usize) -> Option<&Few>
-    ensures { few_of (option_copied result) ≡ row_at columns.now distance number place }
+fn rows_at(columns: &[Column], distance: usize, number: usize, place: usize) -> Option<&Few>
+    ensures { few_of (option_copied result) ≡ rows_at columns.now distance number place }
 {
     match columns.get(distance) {
-        Some(column) => row_of(column, number, place),
+        Some(column) => rows_in(column, number, place),
         None => None,
     }
 }
@@ -87,7 +88,7 @@ fn extend(alloc: Global, op: u32, sort: u32, term: &Term, rest: &Term) -> Result
     Ok(application(alloc, op, sort, all)?)
 }
 
-// The cell with each row of another cell, the term put before it.
+// The rows with each of some other rows, the term put before it.
 fn join(
     alloc: Global,
     out: Few,
@@ -122,17 +123,34 @@ fn join_few(
 {
     match rows {
         Few::Empty => Ok(out),
-        Few::One(first) => Ok(add(out, extend(alloc, op, sort, term, first)?)),
+        Few::One(first) => with_row(alloc, out, op, sort, term, first),
         Few::Two(first, second) => {
-            let first = extend(alloc, op, sort, term, first)?;
-            let second = extend(alloc, op, sort, term, second)?;
-            let out = add(out, first);
-            Ok(add(out, second))
+            let one = with_row(alloc, out, op, sort, term, first)?;
+            let both = with_row(alloc, one, op, sort, term, second)?;
+            Ok(both)
         }
     }
 }
 
-// The cell with the rows that begin with the term of an edge, where that fits the hole.
+fn with_row(
+    alloc: Global,
+    out: Few,
+    op: u32,
+    sort: u32,
+    term: &Term,
+    rest: &Term,
+) -> Result<Few, AllocError>
+    requires apart { IsApart out }
+    requires term { IsSmall term.now }
+    requires rest { IsSmall rest.now }
+    ensures { IfOk result (AddsTerm out (App op sort (more term.now
+        (trees_of (args_of rest.now))))) }
+{
+    let row = extend(alloc, op, sort, term, rest)?;
+    Ok(add(out, row))
+}
+
+// The rows with those that begin with the term of an edge, where that fits the hole.
 fn with_edge(
     alloc: Global,
     out: Few,
@@ -148,7 +166,8 @@ fn with_edge(
     requires apart { IsApart out }
     requires edge { IsSmall edge.now.term }
     requires columns { AreSmallColumns columns.now }
-    ensures { IfOk result (λ v. Keeps v (Or (In out) (Taken rule.now number place sort below end columns.now edge.now))) }
+    ensures { IfOk result (λ v. KeepsTerms v (Or (In out)
+        (Taken rule.now number place sort below end columns.now edge.now))) }
 {
     if edge.sort != sort {
         return Ok(out);
@@ -159,11 +178,12 @@ fn with_edge(
     if edge.to > end {
         return Ok(out);
     }
-    let rows = row(columns, end - edge.to, number, place);
+    let rows = rows_at(columns, end - edge.to, number, place);
     join(alloc, out, rule.op, rule.sort, &edge.term, rows)
 }
 
-// The rows that begin with a hole: a term that is read from here on, and a row behind it. Two are enough.
+// The rows that begin with a hole: a term that is read from here on, and a row behind it. Two are
+// enough.
 fn holes(
     alloc: Global,
     rule: &Rule,
@@ -177,7 +197,8 @@ fn holes(
 ) -> Result<Few, AllocError>
     requires edges { AreSmall edges.now }
     requires columns { AreSmallColumns columns.now }
-    ensures { IfOk result (λ v. Keeps v (AnyTaken rule.now number place sort below end columns.now edges.now)) }
+    ensures { IfOk result (λ v. KeepsTerms v (AnyTaken rule.now number place sort below end
+        columns.now edges.now)) }
 {
     let mut out = Few::Empty;
     for edge in edges {
@@ -217,10 +238,11 @@ fn after_word(
     columns: &[Column],
 ) -> Result<Few, AllocError>
     requires { end ≤ length tokens.now }
-    ensures { IfOk result (λ v. Enough (In v) (AfterWord tokens.now number place word from end columns.now)) }
+    ensures { IfOk result (λ v. Enough (In v) (AfterWord tokens.now number place word from end
+        columns.now)) }
 {
     if from < end && tokens[from] == word {
-        Ok(shared(row(columns, end - from - 1, number, place))?)
+        Ok(shared(rows_at(columns, end - from - 1, number, place))?)
     } else {
         Ok(Few::Empty)
     }
@@ -237,9 +259,9 @@ fn at_end(alloc: Global, rule: &Rule, from: usize, end: usize) -> Result<Few, Al
     }
 }
 
-// The rows of a rule's symbols from a place on, over the tokens from `from` up to `end`. The edges are those from `from` to
-// places before `end`; the found ones go to `end`.
-pub fn cell(
+// The rows of a rule's symbols from a place on, over the tokens from `from` up to `end`. The edges
+// are those from `from` to places before `end`; the found ones go to `end`.
+pub fn rows_from(
     alloc: Global,
     tokens: &[u32],
     rule: &Rule,
@@ -256,7 +278,9 @@ pub fn cell(
     requires edges { AreSmall edges.now }
     requires found { AreSmall found.now }
     requires columns { AreSmallColumns columns.now }
-    ensures { IfOk result (λ v. Enough (In v) (MadeBy tokens.now rule.now (drop place rule.now.symbols.items) number place from end edges.now found.now columns.now)) }
+    ensures { IfOk result (λ v. Enough (In v) (MadeBy tokens.now rule.now
+        (drop place rule.now.symbols.items) number place from end edges.now found.now
+        columns.now)) }
 {
     match &rule.symbols[place..] {
         [] => at_end(alloc, rule, from, end),

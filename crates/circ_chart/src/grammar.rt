@@ -3,7 +3,7 @@ ghost use Rattle.std.specs.Prelude.{◌↔◌, ◌<◌, IsTrue};
 ghost use Rattle.circ_chart.specs.Words.{words, HaveWords};
 
 /// A symbol of a rule.
-#[derive(Drop)]
+#[derive(Clone, Copy)]
 pub enum Symbol {
     /// This token.
     Word(u32),
@@ -11,8 +11,8 @@ pub enum Symbol {
     Hole { sort: u32, below: u8 },
 }
 
-/// How an operator is spelled: by its symbols in order, whose holes are its arguments. A smaller precedence binds tighter,
-/// and each is below [`EVERY`](crate::EVERY).
+/// How an operator is spelled: by its symbols in order, whose holes are its arguments. A smaller
+/// precedence binds tighter, and each is below [`EVERY`](crate::EVERY).
 #[derive(Drop)]
 pub struct Rule {
     /// The operator's number.
@@ -23,8 +23,9 @@ pub struct Rule {
     pub symbols: Vec<Symbol>,
 }
 
-/// A token that is a variable, with the variable's number and sort. Its precedence is 0, as that of parentheses is.
-#[derive(Drop)]
+/// A token that is a variable, with the variable's number and sort. Its precedence is 0, as that of
+/// parentheses is.
+#[derive(Clone, Copy)]
 pub struct Variable {
     /// The token.
     pub word: u32,
@@ -33,8 +34,8 @@ pub struct Variable {
     pub sort: u32,
 }
 
-/// The rules and the variables of a language. The parentheses are the tokens [`OPENING`](crate::OPENING) and
-/// [`CLOSING`](crate::CLOSING), in each grammar.
+/// The rules and the variables of a language. The parentheses are the tokens
+/// [`OPENING`](crate::OPENING) and [`CLOSING`](crate::CLOSING), in each grammar.
 #[derive(Drop)]
 pub struct Grammar {
     pub rules: Vec<Rule>,

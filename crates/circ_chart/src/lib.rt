@@ -1,8 +1,9 @@
 //! Reading token lists by a grammar of mixfix terms.
 //!
-//! A [`Grammar`] has rules, whose symbols are words and holes for terms, and tokens that are variables. What a token list
-//! spells is defined in `specs`, as a relation between lists and terms. [`read_each_sort`] finds for each sort whether a list
-//! spells no term, only one, or several, by a chart of all its ranges.
+//! A [`Grammar`] has rules, whose symbols are words and holes for terms, and tokens that are
+//! variables. What a token list spells is defined in `specs`, as a relation between lists and
+//! terms. [`read_each_sort`] finds for each sort whether a list spells no term, only one, or
+//! several, by a chart of all its ranges.
 #![tactic(auto)]
 
 mod chart;
@@ -11,8 +12,7 @@ mod fill;
 mod found;
 mod grammar;
 mod readings;
-#[cfg(test)]
-mod tests;
+mod usable;
 
 pub use grammar::{Grammar, Rule, Symbol, Variable};
 pub use readings::read_each_sort;

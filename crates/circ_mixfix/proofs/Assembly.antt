@@ -15,7 +15,7 @@ use Rattle.circ_mixfix.specs.Variables.{HasVariables}
 use Rattle.circ_mixfix.specs.WordLists.{GrowsTo, BeginAlike}
 use Rattle.circ_mixfix.proofs.SymbolWords.{rule_words}
 use Rattle.circ_mixfix.proofs.RuleLists.{first_number}
-use Rattle.circ_mixfix.proofs.Written.{contains}
+use Rattle.circ_theory.specs.Rewriting.{contains_at}
 
 pub grammar_of : (sig : Signature) (vars : List Declared) (hole : Bool) (old ws : List (List ℕ)) (k : ℕ) (g : Grammar) → BeginAlike old → k ≡ length old → GrowsTo old ws k → AreDifferent ws
     → ((o : Operator) → Contains sig.ops o → IsOperator sig o) → HasRules sig ws (BeginsBefore sig ws (length ws)) g.rules.items → HasVariables sig vars hole ws k g.variables.items → IsGrammarOf sig vars hole ws k g
@@ -25,7 +25,7 @@ grammar_of sig vars hole old ws k g b e grows d operators rules variables = reco
   opening = grows.kept 0 _ b.opening;
   closing = grows.kept 1 _ b.closing;
   rules = rules.rules;
-  all_rules = λ f o l p h. let n = first_number sig ws o (operators o (contains sig.ops f o l)) h in rules.all_rules f o (o, n.0, l, slice_get_within ws n.0 (first_word o.form) n.1, n.1) l p h;
+  all_rules = λ f o l p h. let n = first_number sig ws o (operators o (contains_at sig.ops f o l)) h in rules.all_rules f o (o, n.0, l, slice_get_within ws n.0 (first_word o.form) n.1, n.1) l p h;
   variables = variables.variables;
   all_variables = variables.all_variables;
 }
@@ -34,4 +34,4 @@ pub have_words : (th : Theory) (ws : List (List ℕ)) (g : Grammar) → IsWellFo
 have_words th ws g w rules n r l =
     let h = rules.rules n r l in
     let i = h.3 in
-    rule_words th.signature ws h.1 r.symbols.items (w.operators h.1 (contains th.signature.ops h.0 h.1 h.2)) i.symbols
+    rule_words th.signature ws h.1 r.symbols.items (w.operators h.1 (contains_at th.signature.ops h.0 h.1 h.2)) i.symbols

@@ -7,7 +7,7 @@ use Rattle.circ_term.specs.Tree.{Tree, Trees, Var, App, none, more}
 use Rattle.circ_chart.specs.declared.grammar.Grammar.{Grammar}
 use Rattle.circ_chart.specs.declared.grammar.Symbol as chart_symbol
 use Rattle.circ_chart.specs.declared.grammar.Symbol.TheVariants as chart
-use Rattle.circ_chart.specs.Spells as chart_spells
+use Rattle.circ_chart.specs.Generates as generating
 use Rattle.circ_theory.specs.Signature.{Signature}
 use Rattle.circ_theory.specs.Theory.{Declared}
 use Rattle.circ_mixfix.specs.Named.{Named, NamedList, Variable, Applied, no_terms, terms}
@@ -20,18 +20,18 @@ text_is ws n w e = ap (λ o. unwrap_or o []) e
 
 mutual
   pub from_chart : (sig : Signature) (vars : List Declared) (hole : Bool) (ws : List (List ℕ)) (k : ℕ) (g : Grammar) → IsGrammarOf sig vars hole ws k g
-      → (b s : ℕ) (ns : List ℕ) (t : Tree) → chart_spells.Spells g b s ns t → Spells sig vars hole b s (texts_at ws ns) (named_by ws t)
-  from_chart sig vars hole ws k g h b s ns t (chart_spells.in_parentheses inner lo r e) =
+      → (b s : ℕ) (ns : List ℕ) (t : Tree) → generating.Generates g b s ns t → Spells sig vars hole b s (texts_at ws ns) (named_by ws t)
+  from_chart sig vars hole ws k g h b s ns t (generating.in_parentheses inner lo r e) =
       let q = from_chart sig vars hole ws k g h _ s inner t r in
       in_parentheses (texts_at ws inner) lo q
       (ap (texts_at ws) e ∙ ap (λ x. x ∷ texts_at ws (inner ++ 1 ∷ [])) (text_is ws 0 (codes "(") h.opening)
       ∙ ap (λ x. codes "(" ∷ x) (map-append (text_at ws) inner (1 ∷ []) ∙ ap (λ x. texts_at ws inner ++ x ∷ []) (text_is ws 1 (codes ")") h.closing)))
-  from_chart sig vars hole ws k g h b s ns t (chart_spells.a_variable n v lo l e f z) =
+  from_chart sig vars hole ws k g h b s ns t (generating.a_variable n v lo l e f z) =
       let q = h.variables n v l in
       let P : ℕ → Type 0 = λ x. IsVariable sig vars hole q.0 q.1 x in
       a_variable q.0 q.1 lo (subst P (sym f) q.4) (ap (texts_at ws) e ∙ ap (λ x. x ∷ []) (text_is ws v.word q.0 q.2))
       (ap (named_by ws) z ∙ ap (λ x. Variable x v.sort) (text_is ws v.number q.1 q.3) ∙ ap (Variable q.1) (sym f))
-  from_chart sig vars hole ws k g h b s ns t (chart_spells.an_operator n r args l p f row z) =
+  from_chart sig vars hole ws k g h b s ns t (generating.an_operator n r args l p f row z) =
       let q = h.rules n r l in
       let m = q.3 in
       let w = m.prec in
@@ -40,18 +40,18 @@ mutual
       (ap (named_by ws) z ∙ ap (λ x. Applied x r.sort (all_named_by ws args)) m.op ∙ ap (λ x. Applied q.0 x (all_named_by ws args)) m.sort)
 
   row_from_chart : (sig : Signature) (vars : List Declared) (hole : Bool) (ws : List (List ℕ)) (k : ℕ) (g : Grammar) → IsGrammarOf sig vars hole ws k g
-      → (ps : List Symbol) (cs : List chart_symbol.Symbol) (ns : List ℕ) (args : Trees) → chart_spells.SpellsRow g cs ns args → AreSymbols ws ps cs
+      → (ps : List Symbol) (cs : List chart_symbol.Symbol) (ns : List ℕ) (args : Trees) → generating.GeneratesRow g cs ns args → AreSymbols ws ps cs
       → SpellsSymbols sig vars hole ps (texts_at ws ns) (all_named_by ws args)
-  row_from_chart sig vars hole ws k g h [] [] ns none (chart_spells.no_symbol e) a = no_symbol (ap (texts_at ws) e)
+  row_from_chart sig vars hole ws k g h [] [] ns none (generating.no_symbol e) a = no_symbol (ap (texts_at ws) e)
   row_from_chart sig vars hole ws k g h [] [] ns (more t args) r a = elim r [ ]
   row_from_chart sig vars hole ws k g h [] (c ∷ cs) ns args r a = absurd a
   row_from_chart sig vars hole ws k g h (p ∷ ps) [] ns args r a = absurd a
-  row_from_chart sig vars hole ws k g h (Word w ∷ ps) (chart.Word n ∷ cs) ns args (chart_spells.a_word rest r e) a =
+  row_from_chart sig vars hole ws k g h (Word w ∷ ps) (chart.Word n ∷ cs) ns args (generating.a_word rest r e) a =
       a_word (texts_at ws rest) (row_from_chart sig vars hole ws k g h ps cs rest args r a.1) (ap (texts_at ws) e ∙ ap (λ x. x ∷ texts_at ws rest) (text_is ws n w a.0))
   row_from_chart sig vars hole ws k g h (Word w ∷ ps) (chart.Hole s b ∷ cs) ns args r a = absurd a.0
   row_from_chart sig vars hole ws k g h (Hole s b ∷ ps) (chart.Word n ∷ cs) ns args r a = absurd a.0
   row_from_chart sig vars hole ws k g h (Hole s b ∷ ps) (chart.Hole s2 b2 ∷ cs) ns none r a = elim r [ ]
-  row_from_chart sig vars hole ws k g h (Hole s b ∷ ps) (chart.Hole s2 b2 ∷ cs) ns (more t args) (chart_spells.a_hole first rest d r e) a =
+  row_from_chart sig vars hole ws k g h (Hole s b ∷ ps) (chart.Hole s2 b2 ∷ cs) ns (more t args) (generating.a_hole first rest d r e) a =
       let q = from_chart sig vars hole ws k g h b2 s2 first t d in
       let P : ℕ → Type 0 = λ x. Spells sig vars hole x s2 (texts_at ws first) (named_by ws t) in
       let Q : ℕ → Type 0 = λ x. Spells sig vars hole b x (texts_at ws first) (named_by ws t) in
@@ -117,19 +117,19 @@ have_numbers sig vars hole ws k c (Hole s b2 ∷ ps) us (terms q args) ns (a_hol
     (tt, have_numbers sig vars hole ws k c ps rest args f.back r f.second (below_split k f.front f.back (subst P f.is b)).1)
 
 -- a term of the chart that stands for the named one
-pub record Found (ws : List (List ℕ)) (g : Grammar) (b s : ℕ) (ns : List ℕ) (q : Named) : Type 0 where
+pub record Few (ws : List (List ℕ)) (g : Grammar) (b s : ℕ) (ns : List ℕ) (q : Named) : Type 0 where
   pub term : Tree
-  pub spells : chart_spells.Spells g b s ns term
+  pub spells : generating.Generates g b s ns term
   pub is : named_by ws term ≡ q
 
 pub record FoundRow (ws : List (List ℕ)) (g : Grammar) (cs : List chart_symbol.Symbol) (ns : List ℕ) (qs : NamedList) : Type 0 where
   pub args : Trees
-  pub spells : chart_spells.SpellsRow g cs ns args
+  pub spells : generating.GeneratesRow g cs ns args
   pub is : all_named_by ws args ≡ qs
 
 mutual
   pub to_chart : (sig : Signature) (vars : List Declared) (hole : Bool) (ws : List (List ℕ)) (k : ℕ) (g : Grammar) → IsGrammarOf sig vars hole ws k g
-      → (b s : ℕ) (us : List (List ℕ)) (q : Named) (ns : List ℕ) → Spells sig vars hole b s us q → texts_at ws ns ≡ us → AllBelow k ns → b ≤ every → Found ws g b s ns q
+      → (b s : ℕ) (us : List (List ℕ)) (q : Named) (ns : List ℕ) → Spells sig vars hole b s us q → texts_at ws ns ≡ us → AllBelow k ns → b ≤ every → Few ws g b s ns q
   to_chart sig vars hole ws k g h b s us q ns (in_parentheses inner lo d e1) e l le =
       let f = texts_first ws ns (codes "(") (inner ++ codes ")" ∷ []) (e ∙ e1) in
       let c = texts_parts ws f.rest inner (codes ")" ∷ []) f.texts in
@@ -144,7 +144,7 @@ mutual
       record {
         term = r.term;
         is = r.is;
-        spells = chart_spells.in_parentheses c.front lo r.spells
+        spells = generating.in_parentheses c.front lo r.spells
             (f.is ∙ ap (λ x. x ∷ f.rest) a ∙ ap (λ x. 0 ∷ x) (c.is ∙ ap (λ x. c.front ++ x) (z.is ∙ ap (λ x. x ∷ z.rest) y ∙ ap (λ x. 1 ∷ x) (texts_none ws z.rest z.texts))));
       }
   to_chart sig vars hole ws k g h b s us q ns (a_variable w name lo v e1 z) e l le =
@@ -156,7 +156,7 @@ mutual
       let o = a.3 in
       record {
         term = Var a.1.number a.1.sort;
-        spells = chart_spells.a_variable a.0 a.1 lo a.2 (f.is ∙ ap (λ x. x ∷ f.rest) (sym o.word) ∙ ap (λ x. a.1.word ∷ x) (texts_none ws f.rest f.texts)) (sym o.sort) refl;
+        spells = generating.a_variable a.0 a.1 lo a.2 (f.is ∙ ap (λ x. x ∷ f.rest) (sym o.word) ∙ ap (λ x. a.1.word ∷ x) (texts_none ws f.rest f.texts)) (sym o.sort) refl;
         is = ap (λ x. Variable x a.1.sort) (text_is ws a.1.number name o.number) ∙ ap (Variable name) o.sort ∙ sym z;
       }
   to_chart sig vars hole ws k g h b s us q ns (an_operator f o args lo p e2 row z) e l le =
@@ -166,14 +166,14 @@ mutual
       let r = row_to_chart sig vars hole ws k g h (symbols_of o) a.1.symbols.items us args ns row m.symbols e l in
       record {
         term = App a.1.op a.1.sort r.args;
-        spells = chart_spells.an_operator a.0 a.1 r.args a.2 (omega arith) (e2 ∙ sym m.sort) r.spells refl;
+        spells = generating.an_operator a.0 a.1 r.args a.2 (omega arith) (e2 ∙ sym m.sort) r.spells refl;
         is = ap (λ x. Applied x a.1.sort (all_named_by ws r.args)) m.op ∙ ap (λ x. Applied f x (all_named_by ws r.args)) m.sort ∙ ap (Applied f o.result) r.is ∙ sym z;
       }
 
   pub row_to_chart : (sig : Signature) (vars : List Declared) (hole : Bool) (ws : List (List ℕ)) (k : ℕ) (g : Grammar) → IsGrammarOf sig vars hole ws k g
       → (ps : List Symbol) (cs : List chart_symbol.Symbol) (us : List (List ℕ)) (qs : NamedList) (ns : List ℕ) → SpellsSymbols sig vars hole ps us qs → AreSymbols ws ps cs
       → texts_at ws ns ≡ us → AllBelow k ns → FoundRow ws g cs ns qs
-  row_to_chart sig vars hole ws k g h [] [] us no_terms ns (no_symbol e1) a e l = record { args = none; spells = chart_spells.no_symbol (texts_none ws ns (e ∙ e1)); is = refl }
+  row_to_chart sig vars hole ws k g h [] [] us no_terms ns (no_symbol e1) a e l = record { args = none; spells = generating.no_symbol (texts_none ws ns (e ∙ e1)); is = refl }
   row_to_chart sig vars hole ws k g h [] [] us (terms q qs) ns r a e l = elim r [ ]
   row_to_chart sig vars hole ws k g h [] (c ∷ cs) us qs ns r a e l = absurd a
   row_to_chart sig vars hole ws k g h (p ∷ ps) [] us qs ns r a e l = absurd a
@@ -183,7 +183,7 @@ mutual
       let m = subst P f.is l in
       let q = row_to_chart sig vars hole ws k g h ps cs rest qs f.rest r a.1 f.texts m.1 in
       let y = one_number sig vars hole ws k g h f.number n w m.0 f.text a.0 in
-      record { args = q.args; spells = chart_spells.a_word f.rest q.spells (f.is ∙ ap (λ x. x ∷ f.rest) y); is = q.is }
+      record { args = q.args; spells = generating.a_word f.rest q.spells (f.is ∙ ap (λ x. x ∷ f.rest) y); is = q.is }
   row_to_chart sig vars hole ws k g h (Word w ∷ ps) (chart.Hole s b ∷ cs) us qs ns r a e l = absurd a.0
   row_to_chart sig vars hole ws k g h (Hole s b ∷ ps) (chart.Word n ∷ cs) us qs ns r a e l = absurd a.0
   row_to_chart sig vars hole ws k g h (Hole s b ∷ ps) (chart.Hole s2 b2 ∷ cs) us no_terms ns r a e l = elim r [ ]
@@ -193,11 +193,11 @@ mutual
       let m = below_split k f.front f.back (subst P f.is l) in
       let x = to_chart sig vars hole ws k g h b s first q f.front d f.first m.0 a.0.2 in
       let y = row_to_chart sig vars hole ws k g h ps cs rest qs f.back r a.1 f.second m.1 in
-      let S : ℕ → Type 0 = λ v. chart_spells.Spells g v s f.front x.term in
-      let T : ℕ → Type 0 = λ v. chart_spells.Spells g b2 v f.front x.term in
+      let S : ℕ → Type 0 = λ v. generating.Generates g v s f.front x.term in
+      let T : ℕ → Type 0 = λ v. generating.Generates g b2 v f.front x.term in
       record {
         args = more x.term y.args;
-        spells = chart_spells.a_hole f.front f.back (subst T a.0.0 (subst S a.0.1 x.spells)) y.spells f.is;
+        spells = generating.a_hole f.front f.back (subst T a.0.0 (subst S a.0.1 x.spells)) y.spells f.is;
         is = ap (λ v. terms v (all_named_by ws y.args)) x.is ∙ ap (terms q) y.is;
       }
 
@@ -213,18 +213,18 @@ abbrev mutual
 
 mutual
   pub chart_known : (sig : Signature) (vars : List Declared) (hole : Bool) (ws : List (List ℕ)) (k : ℕ) (g : Grammar) → IsGrammarOf sig vars hole ws k g
-      → (b s : ℕ) (ns : List ℕ) (t : Tree) → chart_spells.Spells g b s ns t → AreKnown ws t
-  chart_known sig vars hole ws k g h b s ns t (chart_spells.in_parentheses inner lo r e) = chart_known sig vars hole ws k g h _ s inner t r
-  chart_known sig vars hole ws k g h b s ns t (chart_spells.a_variable n v lo l e f z) =
+      → (b s : ℕ) (ns : List ℕ) (t : Tree) → generating.Generates g b s ns t → AreKnown ws t
+  chart_known sig vars hole ws k g h b s ns t (generating.in_parentheses inner lo r e) = chart_known sig vars hole ws k g h _ s inner t r
+  chart_known sig vars hole ws k g h b s ns t (generating.a_variable n v lo l e f z) =
       let q = h.variables n v l in let P : Tree → Type 0 = AreKnown ws in subst P (sym z) (slice_get_within ws v.number q.1 q.3)
-  chart_known sig vars hole ws k g h b s ns t (chart_spells.an_operator n r args l p f row z) =
+  chart_known sig vars hole ws k g h b s ns t (generating.an_operator n r args l p f row z) =
       let P : Tree → Type 0 = AreKnown ws in subst P (sym z) (row_known sig vars hole ws k g h r.symbols.items ns args row)
 
   row_known : (sig : Signature) (vars : List Declared) (hole : Bool) (ws : List (List ℕ)) (k : ℕ) (g : Grammar) → IsGrammarOf sig vars hole ws k g
-      → (cs : List chart_symbol.Symbol) (ns : List ℕ) (args : Trees) → chart_spells.SpellsRow g cs ns args → AreAllKnown ws args
-  row_known sig vars hole ws k g h [] ns none (chart_spells.no_symbol e) = tt
-  row_known sig vars hole ws k g h (chart.Word n ∷ cs) ns args (chart_spells.a_word rest r e) = row_known sig vars hole ws k g h cs rest args r
-  row_known sig vars hole ws k g h (chart.Hole s b ∷ cs) ns (more t args) (chart_spells.a_hole first rest d r e) =
+      → (cs : List chart_symbol.Symbol) (ns : List ℕ) (args : Trees) → generating.GeneratesRow g cs ns args → AreAllKnown ws args
+  row_known sig vars hole ws k g h [] ns none (generating.no_symbol e) = tt
+  row_known sig vars hole ws k g h (chart.Word n ∷ cs) ns args (generating.a_word rest r e) = row_known sig vars hole ws k g h cs rest args r
+  row_known sig vars hole ws k g h (chart.Hole s b ∷ cs) ns (more t args) (generating.a_hole first rest d r e) =
       (chart_known sig vars hole ws k g h b s first t d, row_known sig vars hole ws k g h cs rest args r)
 
 -- terms of the chart that stand for one named term are the same
@@ -250,5 +250,5 @@ mutual
       ap (λ v. more v ts) (one_term ws d t u a.0 b.0 x) ∙ ap (more u) (one_terms ws d ts us a.1 b.1 y)
 
 pub spelled_apart : (sig : Signature) (vars : List Declared) (hole : Bool) (ws : List (List ℕ)) (k : ℕ) (g : Grammar) → IsGrammarOf sig vars hole ws k g
-    → (b s b2 s2 : ℕ) (ns : List ℕ) (t u : Tree) → chart_spells.Spells g b s ns t → chart_spells.Spells g b2 s2 ns u → named_by ws t ≡ named_by ws u → t ≡ u
+    → (b s b2 s2 : ℕ) (ns : List ℕ) (t u : Tree) → generating.Generates g b s ns t → generating.Generates g b2 s2 ns u → named_by ws t ≡ named_by ws u → t ≡ u
 spelled_apart sig vars hole ws k g h b s b2 s2 ns t u x y e = one_term ws h.different t u (chart_known sig vars hole ws k g h b s ns t x) (chart_known sig vars hole ws k g h b2 s2 ns u y) e

@@ -3,20 +3,21 @@ use Rattle.std.proofs.Common.{◌≡◌, ℕ, List, [], ◌∷◌, Bool, false, 
 use Rattle.circ_term.specs.Tree.{Tree, sort_of}
 use Rattle.circ_chart.specs.declared.grammar.Grammar.{Grammar}
 use Rattle.circ_chart.specs.declared.TheConstants.{EVERY}
-use Rattle.circ_chart.specs.Few.{Enough, Joined, Some_of, enough_all, enough_chain}
-use Rattle.circ_chart.specs.Spells as chart_spells
+use Rattle.circ_chart.specs.Few.{Enough}
+use Rattle.circ_chart.proofs.Sets.{Joined, Some_of, enough_all, enough_chain}
+use Rattle.circ_chart.specs.Generates as generating
 use Rattle.circ_chart.specs.Tops.{Among, OfSort}
 use Rattle.circ_theory.specs.Signature.{Signature}
 use Rattle.circ_theory.specs.Theory.{Declared, pair_with}
 use Rattle.circ_theory.specs.Renumbering.{renumbered}
 use Rattle.circ_theory.proofs.Renumbering.{renumbered_in_order}
-use Rattle.circ_mixfix.specs.declared.found.Found.{Found}
+use Rattle.circ_mixfix.specs.declared.few.Few.{Few}
 use Rattle.circ_mixfix.specs.Named.{Named}
 use Rattle.circ_mixfix.specs.Readings.{reading_of, ReadsOne, ReadsPair}
 use Rattle.circ_mixfix.specs.Answers.{ReadsOnly, ReadsBoth}
 use Rattle.circ_mixfix.specs.Coding.{texts_at, named_by, AllBelow, IsGrammarOf}
 use Rattle.circ_mixfix.specs.WordLists.{BeginAlike}
-use Rattle.circ_mixfix.specs.Found.{In, Keeps, Image, OneRead, BothRead, terms_of, AreInOrder}
+use Rattle.circ_mixfix.specs.Found.{In, KeepsReadings, Image, OneRead, BothRead, terms_of, AreInOrder}
 use Rattle.circ_mixfix.specs.Numbering.{numbered_anew}
 use Rattle.circ_mixfix.proofs.Coded.{AreKnown, chart_known}
 use Rattle.circ_mixfix.proofs.Images.{enough_image}
@@ -25,7 +26,7 @@ use Rattle.circ_mixfix.proofs.ReadingSets.{TwoTrees, two_named, two_trees, readi
 
 module _ (sig : Signature) (vars : List Declared) (hole : Bool) (ws : List (List ℕ)) (k : ℕ) (g : Grammar) (h : IsGrammarOf sig vars hole ws k g) (begin : BeginAlike ws) where
   abbrev Each : List ℕ → List Tree → Type 0
-  Each ns us = (s : ℕ) → Enough (OfSort us s) (chart_spells.Spells g EVERY s ns)
+  Each ns us = (s : ℕ) → Enough (OfSort us s) (generating.Generates g EVERY s ns)
 
   abbrev NamedOf : List Tree → ℕ → Named → Type 0
   NamedOf us s = Image (named_by ws) (OfSort us s)
@@ -33,10 +34,10 @@ module _ (sig : Signature) (vars : List Declared) (hole : Bool) (ws : List (List
   known : (ns : List ℕ) (us : List Tree) → Each ns us → (t : Tree) → Among us t → AreKnown ws t
   known ns us each t m = chart_known sig vars hole ws k g h EVERY (sort_of t) ns t ((each (sort_of t)).sound t (m, refl))
 
-  pub one_kept : (ns : List ℕ) (tokens : List (List ℕ)) (us : List Tree) (found : Found) → AllBelow k ns → texts_at ws ns ≡ tokens → Each ns us → Keeps found (OneRead hole us)
-      → Keeps found (ReadsOnly sig vars hole tokens)
+  pub one_kept : (ns : List ℕ) (tokens : List (List ℕ)) (us : List Tree) (found : Few) → AllBelow k ns → texts_at ws ns ≡ tokens → Each ns us → KeepsReadings found (OneRead hole us)
+      → KeepsReadings found (ReadsOnly sig vars hole tokens)
   one_kept ns tokens us found below e each kept =
-      let P : List (List ℕ) → Type 0 = λ x. Keeps found (ReadsOnly sig vars hole x) in
+      let P : List (List ℕ) → Type 0 = λ x. KeepsReadings found (ReadsOnly sig vars hole x) in
       subst P e (record {
         enough = enough_chain (In found) (OneRead hole us) (ReadsOnly sig vars hole (texts_at ws ns)) kept.enough
             (enough_chain (OneRead hole us) (Image list_of_one (Image (reading_of hole) (Some_of (NamedOf us)))) (ReadsOnly sig vars hole (texts_at ws ns))
@@ -73,7 +74,7 @@ module _ (sig : Signature) (vars : List Declared) (hole : Bool) (ws : List (List
           }
 
 -- the pairs of found terms are in order
-pub pairs_in_order : (found : Found) (lefts rights : List Tree) → Keeps found (BothRead lefts rights) → AreInOrder found
+pub pairs_in_order : (found : Few) (lefts rights : List Tree) → KeepsReadings found (BothRead lefts rights) → AreInOrder found
 pairs_in_order found lefts rights kept ts i =
     let b = kept.enough.sound ts i in
     let r = b.with_right in
@@ -81,7 +82,7 @@ pairs_in_order found lefts rights kept ts i =
 
 module _ (sig : Signature) (vars : List Declared) (ws : List (List ℕ)) (k : ℕ) (g : Grammar) (h : IsGrammarOf sig vars false ws k g) (begin : BeginAlike ws) where
   abbrev All : List ℕ → List Tree → Type 0
-  All ns us = (s : ℕ) → Enough (OfSort us s) (chart_spells.Spells g EVERY s ns)
+  All ns us = (s : ℕ) → Enough (OfSort us s) (generating.Generates g EVERY s ns)
 
   abbrev Names : List Tree → ℕ → Named → Type 0
   Names us s = Image (named_by ws) (OfSort us s)
@@ -89,11 +90,11 @@ module _ (sig : Signature) (vars : List Declared) (ws : List (List ℕ)) (k : �
   abbrev terms_in : TwoTrees → List Tree
   terms_in p = p.first ∷ p.second ∷ []
 
-  pub both_kept : (ms ns : List ℕ) (left right : List (List ℕ)) (us vs : List Tree) (found : Found) → AllBelow k ms → AllBelow k ns → texts_at ws ms ≡ left → texts_at ws ns ≡ right → All ms us → All ns vs
-      → Keeps found (BothRead us vs) → Keeps found (ReadsBoth sig vars left right)
+  pub both_kept : (ms ns : List ℕ) (left right : List (List ℕ)) (us vs : List Tree) (found : Few) → AllBelow k ms → AllBelow k ns → texts_at ws ms ≡ left → texts_at ws ns ≡ right → All ms us → All ns vs
+      → KeepsReadings found (BothRead us vs) → KeepsReadings found (ReadsBoth sig vars left right)
   both_kept ms ns left right us vs found bm bn el er am an kept =
-      let P : List (List ℕ) → Type 0 = λ x. Keeps found (ReadsBoth sig vars x right) in
-      let Q : List (List ℕ) → Type 0 = λ x. Keeps found (ReadsBoth sig vars (texts_at ws ms) x) in
+      let P : List (List ℕ) → Type 0 = λ x. KeepsReadings found (ReadsBoth sig vars x right) in
+      let Q : List (List ℕ) → Type 0 = λ x. KeepsReadings found (ReadsBoth sig vars (texts_at ws ms) x) in
       subst P el (subst Q er (record {
         enough = enough_chain (In found) (BothRead us vs) Wanted kept.enough
             (enough_chain (BothRead us vs) (Image terms_in Images) Wanted (enough_all (BothRead us vs) (Image terms_in Images) there back)

@@ -10,7 +10,7 @@ pub mod TokenNumbers
 pub mod SymbolWords
 pub mod Assembly
 pub mod Order
-pub mod FoundSets
+pub mod FewSets
 pub mod NumberNames
 pub mod Kept
 pub mod Telling

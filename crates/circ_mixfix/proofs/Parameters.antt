@@ -15,8 +15,8 @@ use Rattle.circ_theory.proofs.Numbering.{numbered_are, numbered-push, any_there,
 use Rattle.circ_theory.specs.Renumbering.{renumbering}
 use Rattle.circ_theory.proofs.Renumbering.{sorts_in, seen_number, new_number, all_seen_more}
 use Rattle.circ_mixfix.specs.declared.TheConstants.{HOLE}
-use Rattle.circ_mixfix.specs.declared.found.Found.{Found}
-use Rattle.circ_mixfix.specs.Found.{Keeps, OneRead, AreWithParameters}
+use Rattle.circ_mixfix.specs.declared.few.Few.{Few}
+use Rattle.circ_mixfix.specs.Found.{KeepsReadings, OneRead, AreWithParameters}
 use Rattle.circ_mixfix.specs.Numbering.{numbering, numbered_anew}
 
 abbrev variable : ℕ → ℕ → Variable
@@ -175,5 +175,5 @@ parameters_in_order t =
     subst P (sym e) (numbered_are 1 (sorts_in (others W)))
 
 -- what was read with a hole has its parameters in order
-pub all_with_parameters : (found : Found) (us : List Tree) → Keeps found (OneRead true us) → AreWithParameters found
+pub all_with_parameters : (found : Few) (us : List Tree) → KeepsReadings found (OneRead true us) → AreWithParameters found
 all_with_parameters found us kept ts i = let r = kept.enough.sound ts i in (numbered_anew true r.from, r.is, parameters_in_order r.from)

@@ -1,7 +1,7 @@
 -- Tokens as numbers of texts.
 use Rattle.std.proofs.Common.{◌≡◌, ◌≤◌, ◌<◌, ◌+◌, ◌-◌, ◌++◌, ℕ, suc, List, [], ◌∷◌, length, take, drop, get_or, Some, unwrap_or, sym, ◌∙◌, ap, subst, refl, arith}
 use Rattle.std.specs.List.{slice_get, slice_range}
-use Rattle.std.proofs.lemmas.List.{map-append, get_or-drop, length-take-le, length-drop}
+use Rattle.std.proofs.lemmas.List.{map-append, length-map, get_or-drop, length-take-le, length-drop}
 use Rattle.std.proofs.lemmas.Option.{slice_get_within, get_or_from_slice_get}
 use Rattle.std.proofs.Math.Seq.{take-suc}
 use Rattle.circ_mixfix.specs.Coding.{text_at, texts_at, AllBelow, AreNumbers}
@@ -55,3 +55,7 @@ range_more xs from to x l at =
 
 pub range_length : {X : Type 0} (xs : List X) (from to : ℕ) → to ≤ length xs → length (slice_range xs from to) ≡ to - from
 range_length xs from to l = let len = length-drop from xs in length-take-le (to - from) (drop from xs) (omega arith)
+
+-- there are as many numbers as texts
+pub few_numbers : (ws : List (List ℕ)) (ns : List ℕ) (us : List (List ℕ)) → texts_at ws ns ≡ us → (k : ℕ) → length us ≤ k → length ns ≤ k
+few_numbers ws ns us e k l = let a = length-map ns (text_at ws) in let b = ap length e in omega arith

@@ -17,7 +17,7 @@ use Rattle.circ_mixfix.specs.Spells.{IsVariable, a_declared_one, a_written_one, 
 use Rattle.circ_mixfix.specs.Readings.{numbers_of, ReadsOne, ReadsPair}
 use Rattle.circ_mixfix.specs.Answers.{HaveSorts}
 use Rattle.circ_mixfix.proofs.SymbolWords.{no_holes, some_hole, fits, one_more}
-use Rattle.circ_mixfix.proofs.Written.{contains}
+use Rattle.circ_theory.specs.Rewriting.{contains_at}
 
 -- the sorts of the holes
 abbrev hole_sorts : List Symbol → List ℕ
@@ -79,7 +79,7 @@ module _ (th : Theory) (vars : List Declared) (hole : Bool) (formed : IsWellForm
     spelled_sorted b s us q (a_variable w n lo v e z) = let P : Named → Type 0 = Sorted s in subst P (sym z) (refl, variable_sort w n s v)
     spelled_sorted b s us q (an_operator f o args l p e row z) =
         let P : Named → Type 0 = Sorted s in
-        let is = symbol_sorts sig o (formed.operators o (contains sig.ops f o l)) in
+        let is = symbol_sorts sig o (formed.operators o (contains_at sig.ops f o l)) in
         let Q : List ℕ → Type 0 = signature.HaveSorts sig (all_numbered ν args) in
         subst P (sym z) (sym e, (o, l, refl, subst Q is (row_sorted (symbols_of o) us args row)))
 

@@ -12,6 +12,7 @@ use Rattle.circ_chart.specs.declared.grammar.Variable as chart_variable
 use Rattle.circ_theory.specs.Signature.{Signature}
 use Rattle.circ_theory.specs.Theory.{Declared, declared}
 use Rattle.circ_theory.specs.Names.{AreDifferent, names_of}
+use Rattle.circ_theory.specs.Rewriting.{contains_at}
 use Rattle.circ_mixfix.specs.Spells.{HasNoColon, IsVariable, a_declared_one, a_written_one, the_hole}
 use Rattle.circ_mixfix.specs.Variables.{variables_named, AreDeclared, GivesVariable, AreVariablesOf, AddsVariables, HasVariables}
 use Rattle.circ_theory.proofs.Lists.{slice_get-front}
@@ -127,11 +128,6 @@ position_is ws w n e =
 contained : {X : Type 0} (xs : List X) (x : X) → Contains xs x → (k : ℕ) × (slice_get xs k ≡ Some x)
 contained xs x c = (c.0, slice_get-get_or xs c.0 x c.1 ∙ ap (λ y. Some y) c.2)
 
-pub contains : {X : Type 0} (xs : List X) (k : ℕ) (x : X) → slice_get xs k ≡ Some x → Contains xs x
-contains [] k x e = absurd (cc)
-contains (y ∷ xs) zero x e = (0, omega arith, cc)
-contains (y ∷ xs) (suc k) x e = let c = contains xs k x e in let l = c.1 in (suc c.0, omega arith, c.2)
-
 module _ (i : ℕ) (w : List ℕ) where
   abbrev here : ℕ → chart_variable.Variable
   here s = record { word = i; number = i; sort = s }
@@ -170,7 +166,7 @@ module _ (i : ℕ) (w : List ℕ) where
 
   pub named_are : (ds : List Declared) → AreDeclared ds i w (variables_named ds i w)
   named_are ds = record {
-    sound = λ n v e. let r = named_sound ds n v e in (r.0, r.1, contains ds r.2 (declared w v.sort) r.3);
+    sound = λ n v e. let r = named_sound ds n v e in (r.0, r.1, contains_at ds r.2 (declared w v.sort) r.3);
     all = λ s c. let k = contained ds (declared w s) c in named_all ds k.0 s k.1;
   }
 
@@ -203,7 +199,7 @@ module _ (i : ℕ) (w : List ℕ) where
       sound zero v f is =
           let z : here d.sort ≡ v = cc f in
           let P : chart_variable.Variable → Type 0 = λ x. (x.word ≡ i) × (x.number ≡ i) × Contains ds (declared w x.sort) in
-          subst P z (refl, refl, contains ds n (declared w d.sort) is)
+          subst P z (refl, refl, contains_at ds n (declared w d.sort) is)
       sound (suc m) v f is = absurd (cc)
 
       all : (s k : ℕ) → slice_get ds k ≡ Some (declared w s) → slice_get ds n ≡ Some (declared w d.sort) → Some (here d.sort) ≡ Some (here s)

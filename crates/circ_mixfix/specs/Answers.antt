@@ -7,10 +7,9 @@ use Rattle.circ_term.specs.Order.{trees_cmp}
 use Rattle.circ_theory.specs.Signature.{Signature, IsSort}
 use Rattle.circ_theory.specs.Theory.{Declared, declared}
 use Rattle.circ_mixfix.specs.Readings.{ReadsOne, ReadsPair}
-use Rattle.circ_mixfix.specs.declared.found.Reading.{Reading}
+use Rattle.circ_mixfix.specs.declared.few.Reading.{Reading}
 use Rattle.circ_mixfix.specs.declared.parse.ParseFault.{ParseFault}
 use Rattle.circ_mixfix.specs.declared.parse.ParseFault.TheVariants.{TooLong, NoParse, Ambiguous, Memory}
-use Rattle.circ_chart.specs.declared.TheConstants.{MOST_TOKENS}
 
 -- the variables of a list of names and sorts
 abbrev pub declared_by : List (List ℕ × ℕ) → List Declared
@@ -20,9 +19,9 @@ declared_by vs = map (λ v. declared v.0 v.1) vs
 abbrev pub HaveSorts : Signature → List Declared → Type 0
 HaveSorts sig vars = (d : Declared) → Contains vars d → IsSort sig d.sort
 
--- a number of tokens that is too great
+-- a number of tokens that is too great: more than 256
 abbrev pub too_many : ℕ → Option ℕ
-too_many n = if nat_lt MOST_TOKENS n then Some n else None
+too_many n = if nat_lt 256 n then Some n else None
 
 -- how many tokens there are, where that is too many
 abbrev pub long_count : List (List ℕ) → Option ℕ

@@ -14,6 +14,8 @@ use Rattle.circ_mixfix.specs.Named.{Named, NamedList, Variable, Applied, no_term
 use Rattle.circ_mixfix.specs.Symbols.{Symbol, Word, Hole, every, symbols_of, precedence_of}
 use Rattle.circ_mixfix.specs.Spells.{IsVariable}
 use Rattle.circ_theory.specs.Names.{AreDifferent}
+use Rattle.circ_mixfix.specs.WordLists.{BeginAlike}
+use Rattle.circ_mixfix.specs.declared.numbered.Numbered.{Numbered}
 
 abbrev pub text_at : List (List ℕ) → ℕ → List ℕ
 text_at ws n = unwrap_or (slice_get ws n) []
@@ -119,15 +121,28 @@ pub record IsVariableOf (ws : List (List ℕ)) (name : List ℕ) (k s : ℕ) (v 
   pub number : slice_get ws v.number ≡ Some name
   pub sort : v.sort ≡ s
 
--- The texts are different, the parentheses first. The grammar has a rule for each operator whose words have numbers, and no other, and a variable for each way in which one of the first k texts is one.
+-- The texts are different, the parentheses first. The grammar has a rule for each operator whose words have numbers, and no other, and a variable for each way
+-- in which one of the first k texts is one.
 pub record IsGrammarOf (sig : Signature) (vars : List Declared) (hole : Bool) (ws : List (List ℕ)) (k : ℕ) (g : Grammar) : Type 0 where
   pub different : AreDifferent ws
   pub count : k ≤ length ws
   pub opening : slice_get ws 0 ≡ Some (codes "(")
   pub closing : slice_get ws 1 ≡ Some (codes ")")
   pub rules : (n : ℕ) (r : Rule) → slice_get g.rules.items n ≡ Some r → (f : ℕ) × (o : Operator) × (slice_get sig.ops f ≡ Some o) × IsRuleOf ws f o r
-  pub all_rules : (f : ℕ) (o : Operator) → slice_get sig.ops f ≡ Some o → precedence_of o < every → HaveNumbers ws (symbols_of o) → (n : ℕ) × (r : Rule) × (slice_get g.rules.items n ≡ Some r) × IsRuleOf ws f o r
+  pub all_rules : (f : ℕ) (o : Operator) → slice_get sig.ops f ≡ Some o → precedence_of o < every → HaveNumbers ws (symbols_of o)
+      → (n : ℕ) × (r : Rule) × (slice_get g.rules.items n ≡ Some r) × IsRuleOf ws f o r
   pub variables : (n : ℕ) (v : chart_variable.Variable) → slice_get g.variables.items n ≡ Some v
       → (w name : List ℕ) × (slice_get ws v.word ≡ Some w) × (slice_get ws v.number ≡ Some name) × IsVariable sig vars hole w name v.sort
   pub all_variables : (i : ℕ) (w name : List ℕ) (s : ℕ) → i < k → slice_get ws i ≡ Some w → IsVariable sig vars hole w name s
       → (n : ℕ) × (v : chart_variable.Variable) × (slice_get g.variables.items n ≡ Some v) × IsVariableOf ws name i s v
+
+-- The texts of two token lists are numbered, and the grammar is that of the signature and the variables over these numbers.
+pub record AreNumbered (sig : Signature) (vars : List Declared) (hole : Bool) (first second : List (List ℕ)) (both : Numbered) : Type 0 where
+  pub texts : List (List ℕ)
+  pub count : ℕ
+  pub begin : BeginAlike texts
+  pub grammar : IsGrammarOf sig vars hole texts count both.grammar
+  pub left : texts_at texts both.left.items ≡ first
+  pub left_below : AllBelow count both.left.items
+  pub right : texts_at texts both.right.items ≡ second
+  pub right_below : AllBelow count both.right.items

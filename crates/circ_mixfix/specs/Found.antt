@@ -11,30 +11,30 @@ use Rattle.circ_theory.specs.Observing.{AreParametersInOrder}
 use Rattle.circ_theory.specs.Variables.{IsInOrder}
 use Rattle.circ_theory.specs.Renumbering.{renumbered}
 use Rattle.circ_mixfix.specs.Numbering.{numbered_anew}
-use Rattle.circ_mixfix.specs.declared.found.Reading.{Reading}
+use Rattle.circ_mixfix.specs.declared.few.Reading.{Reading}
 use Rattle.circ_mixfix.specs.declared.parse.ParseFault.{ParseFault}
 use Rattle.circ_mixfix.specs.declared.parse.ParseFault.TheVariants.{NoParse, Ambiguous}
-use Rattle.circ_mixfix.specs.declared.found.Found.{Found}
-use Rattle.circ_mixfix.specs.declared.found.Found.TheVariants.{Nothing, One, Two}
+use Rattle.circ_mixfix.specs.declared.few.Few.{Few}
+use Rattle.circ_mixfix.specs.declared.few.Few.TheVariants.{Empty, One, Two}
 
-abbrev pub In : Found → List Tree → Type 0
-In Nothing ts = ⊥
+abbrev pub In : Few → List Tree → Type 0
+In Empty ts = ⊥
 In (One a) ts = ts ≡ a.terms.items
 In (Two a b) ts = (ts ≡ a.terms.items) ⊎ (ts ≡ b.terms.items)
 
 -- two readings are in order
-abbrev pub AreOrdered : Found → Type 0
-AreOrdered Nothing = Unit {0}
+abbrev pub AreOrdered : Few → Type 0
+AreOrdered Empty = Unit {0}
 AreOrdered (One a) = Unit {0}
 AreOrdered (Two a b) = trees_cmp (trees_of a.terms.items) (trees_of b.terms.items) ≡ Less
 
-abbrev pub IsTwo : Found → Type 0
-IsTwo Nothing = ⊥
+abbrev pub IsTwo : Few → Type 0
+IsTwo Empty = ⊥
 IsTwo (One a) = ⊥
 IsTwo (Two a b) = Unit {0}
 
 -- the found ones are all that P is true of, or two of several
-pub record Keeps (found : Found) (P : List Tree → Type 0) : Type 0 where
+pub record KeepsReadings (found : Few) (P : List Tree → Type 0) : Type 0 where
   pub enough : Enough (In found) P
   pub ordered : AreOrdered found
 
@@ -68,14 +68,14 @@ pub record BothRead (lefts rights : List Tree) (ts : List Tree) : Type 0 where
 abbrev pub IsPairInOrder : List Tree → Type 0
 IsPairInOrder ts = (p : Pair) × (ts ≡ terms_of p) × IsInOrder p
 
-abbrev pub AreInOrder : Found → Type 0
+abbrev pub AreInOrder : Few → Type 0
 AreInOrder found = (ts : List Tree) → In found ts → IsPairInOrder ts
 
 -- the terms are one, whose parameters are numbered from 1 by first occurrence
 abbrev pub IsWithParameters : List Tree → Type 0
 IsWithParameters ts = (t : Tree) × (ts ≡ t ∷ []) × AreParametersInOrder t
 
-abbrev pub AreWithParameters : Found → Type 0
+abbrev pub AreWithParameters : Few → Type 0
 AreWithParameters found = (ts : List Tree) → In found ts → IsWithParameters ts
 
 -- the terms are one that is well-sorted
@@ -87,7 +87,7 @@ abbrev pub ArePairSorted : Signature → List Tree → Type 0
 ArePairSorted sig ts = (p : Pair) × (ts ≡ terms_of p) × IsWellSortedPair sig p
 
 -- the answer that tells of what was found
-abbrev pub Tells : Found → Result Reading ParseFault → Type 0
-Tells Nothing r = r ≡ Err NoParse
+abbrev pub Tells : Few → Result Reading ParseFault → Type 0
+Tells Empty r = r ≡ Err NoParse
 Tells (One a) r = r ≡ Ok a
 Tells (Two a b) r = r ≡ Err (Ambiguous a b)

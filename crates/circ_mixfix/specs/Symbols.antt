@@ -1,7 +1,6 @@
 -- What spells an operator.
 use Rattle.std.specs.Prelude.{ℕ, ◌+◌, List, [], ◌∷◌, ◌++◌, codes, if◌then◌else◌}
 use Rattle.std.specs.List.{list_any}
-use Rattle.circ_chart.specs.declared.TheConstants.{EVERY}
 use Rattle.circ_theory.specs.declared.forms.Piece.{Piece}
 use Rattle.circ_theory.specs.declared.forms.Piece.TheVariants as piece
 use Rattle.circ_theory.specs.declared.parts.Side.{Side}
@@ -16,7 +15,7 @@ pub data Symbol : Type 0 where
 
 -- each precedence is below this one
 abbrev pub every : ℕ
-every = EVERY
+every = 128
 
 -- What a first hole takes: an operator to the right does not stand in it without parentheses.
 abbrev pub below_first : ℕ → Side → ℕ

@@ -41,7 +41,8 @@ IsCut w (Some r) = (w ≡ r.0 ++ 58 ∷ r.1) × HasNoColon r.0
 -- the one name and the one sort that the token has as a variable
 abbrev pub GivesVariable : Signature → List Declared → Bool → List ℕ → Option (List ℕ × ℕ) → Type 0
 GivesVariable sig vars hole w None = (name : List ℕ) (s : ℕ) → IsVariable sig vars hole w name s → ⊥
-GivesVariable sig vars hole w (Some r) = IsVariable sig vars hole w r.0 r.1 × ((name : List ℕ) (s : ℕ) → IsVariable sig vars hole w name s → (name ≡ r.0) × (s ≡ r.1))
+GivesVariable sig vars hole w (Some r) = IsVariable sig vars hole w r.0 r.1 × ((name : List ℕ) (s : ℕ) → IsVariable sig vars hole w name s
+    → (name ≡ r.0) × (s ≡ r.1))
 
 -- the variables that the text of one number is
 pub record AreVariablesOf (sig : Signature) (vars : List Declared) (hole : Bool) (ws : List (List ℕ)) (i : ℕ) (w : List ℕ) (vs : List chart_variable.Variable) : Type 0 where

@@ -11,8 +11,8 @@ use crate::words::Words;
 use circ_chart::Grammar;
 use std::alloc::{AllocError, Global};
 
-// The grammar that spells, of the first texts, what the theory and the variables spell. Names of variables that are written are
-// added to the texts.
+// The grammar that spells, of the first texts, what the theory and the variables spell. Names of
+// variables that are written are added to the texts.
 pub fn grammar<'a>(
     alloc: Global,
     words: &mut Words<'a>,
@@ -22,7 +22,8 @@ pub fn grammar<'a>(
     requires begin { BeginAlike words.old }
     requires count { count ≡ length words.old }
     requires few { length words.old + count ≤ 2 ^ 32 }
-    ensures grammar { IfOk result (λ g. IsGrammarOf scope.now.theory.now.signature (vars_in scope.now) scope.now.hole words.new count g) }
+    ensures grammar { IfOk result (λ g. IsGrammarOf scope.now.theory.now.signature
+        (vars_in scope.now) scope.now.hole words.new count g) }
     ensures words { IfOk result HaveWords }
     ensures grows { OnOk result (GrowsTo words.old words.new count) }
 {

@@ -1,28 +1,26 @@
 //! Mixfix terms read from tokens.
 //!
-//! An operator of a theory is spelled by its form, a variable by its name. What a list of tokens spells is defined in
-//! `specs`, as a relation between lists and terms with named variables, which knows no table and no places. A reading is such
-//! a term with its variables numbered by first occurrence.
+//! An operator of a theory is spelled by its form, a variable by its name. What a list of tokens
+//! spells is defined in `specs`, as a relation between lists and terms with named variables, which
+//! knows no table and no places. A reading is such a term with its variables numbered by first
+//! occurrence.
 #![tactic(auto)]
 
-mod found;
+mod few;
 mod grammars;
+mod numbered;
 mod numbering;
 mod parse;
 pub mod print_laws;
-#[cfg(test)]
-mod print_tests;
 mod printing;
 mod rules;
 mod spelling;
-#[cfg(test)]
-mod tests;
 mod tokens;
 mod variables;
 mod words;
 
 pub use circ_chart::{EVERY, MOST_TOKENS};
-pub use found::Reading;
+pub use few::Reading;
 pub use parse::{ParseFault, parse_one, parse_one_declared, parse_pair, parse_pair_declared};
 pub use printing::{print, print_derivative, print_pair};
 pub use spelling::{Symbol, precedence, symbols};

@@ -11,7 +11,8 @@ use circ_theory::{Occurring, gather};
 use indexmap::IndexSet;
 use std::alloc::{AllocError, Global};
 
-// Each variable is bound to one that has the next number. Where there is a hole, it has the number 0.
+// Each variable is bound to one that has the next number. Where there is a hole, it has the number
+// 0.
 fn numbering(alloc: Global, variables: &[Occurring], hole: bool) -> Result<Subst, AllocError>
     requires { length variables.now < 2 ^ 31 }
     ensures { IfOk result (λ σ. Numbers hole (substitution_of σ) (map variable_of variables.now)) }
@@ -31,8 +32,8 @@ fn numbering(alloc: Global, variables: &[Occurring], hole: bool) -> Result<Subst
     Ok(subst)
 }
 
-// The term with its variables numbered by first occurrence, from 0; where there is a hole, it is variable 0 and the others are
-// numbered from 1.
+// The term with its variables numbered by first occurrence, from 0; where there is a hole, it is
+// variable 0 and the others are numbered from 1.
 pub fn numbered_anew(alloc: Global, term: &Term, hole: bool) -> Result<Term, AllocError>
     ensures { IfOk result (λ t. t ≡ numbered_anew hole term.now) }
 {

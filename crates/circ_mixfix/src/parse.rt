@@ -3,17 +3,17 @@ ghost use Rattle.std.specs.Prelude.{◌≡◌, ◌≤◌, ◌-◌, true, false, 
 ghost use Rattle.std.specs.Option.{option_or};
 ghost use Rattle.circ_chart.specs.declared.TheConstants.{MOST_TOKENS};
 ghost use Rattle.circ_lexer.specs.TokenList.{tokens_in, IsWithin};
-ghost use Rattle.circ_mixfix.specs.Answers.{declared_by, HaveSorts, too_many, long_count, ReadsOnly, ReadsBoth, GivesReading};
-ghost use Rattle.circ_mixfix.specs.Found.{Keeps, IsPairInOrder, AreInOrder, IsWithParameters, AreWithParameters, IsOneSorted, ArePairSorted, Tells};
+ghost use Rattle.circ_mixfix.specs.Answers.{declared_by, HaveSorts, too_many, long_count};
+ghost use Rattle.circ_mixfix.specs.Answers.{ReadsOnly, ReadsBoth, GivesReading};
+ghost use Rattle.circ_mixfix.specs.Found.{KeepsReadings, IsPairInOrder, AreInOrder};
+ghost use Rattle.circ_mixfix.specs.Found.{IsWithParameters, AreWithParameters, IsOneSorted};
+ghost use Rattle.circ_mixfix.specs.Found.{ArePairSorted, Tells};
 ghost use Rattle.circ_mixfix.specs.Variables.{vars_in};
-ghost use Rattle.circ_mixfix.specs.WordLists.{BeginAlike};
 
 use crate::MOST_TOKENS;
-use crate::found::{Found, Reading, readings_of_both, readings_of_one};
-use crate::grammars::grammar;
-use crate::tokens::numbers;
+use crate::few::{Few, Reading, readings_of_both, readings_of_one};
+use crate::numbered::number_tokens;
 use crate::variables::{Declarations, Scope};
-use crate::words::Words;
 use circ_chart::read_each_sort;
 use circ_lexer::{Span, Tokens};
 use circ_theory::{Text, Theory};
@@ -22,7 +22,8 @@ use std::alloc::{AllocError, Global};
 /// Why tokens have no only reading.
 #[derive(Drop)]
 pub enum ParseFault {
-    /// A side has more than [`MOST_TOKENS`](crate::MOST_TOKENS) tokens: how many the first such side has.
+    /// A side has more than [`MOST_TOKENS`](crate::MOST_TOKENS) tokens: how many the first such
+    /// side has.
     TooLong { count: u64 },
     /// The tokens have no reading.
     NoParse,
@@ -55,26 +56,14 @@ fn long_count(span: Span) -> Option<u64>
     None
 }
 
-// The texts that each list of texts begins with: the parentheses, and the name of the hole.
-fn first_words<'a>(alloc: Global) -> Result<Words<'a>, AllocError>
-    ensures begin { IfOk result BeginAlike }
-    ensures few { IfOk result (λ ws. length ws ≤ 3) }
-{
-    let mut words = Words::new(alloc);
-    words.add(b"(")?;
-    words.add(b")")?;
-    words.add(b"")?;
-    Ok(words)
-}
-
 // The answer that tells of these readings.
-fn answer(found: Found) -> Result<Reading, ParseFault>
+fn answer(found: Few) -> Result<Reading, ParseFault>
     ensures { Tells found result }
 {
     match found {
-        Found::Nothing => Err(ParseFault::NoParse),
-        Found::One(reading) => Ok(reading),
-        Found::Two(first, second) => Err(ParseFault::Ambiguous { first, second }),
+        Few::Empty => Err(ParseFault::NoParse),
+        Few::One(reading) => Ok(reading),
+        Few::Two(first, second) => Err(ParseFault::Ambiguous { first, second }),
     }
 }
 
@@ -83,17 +72,20 @@ fn read_one(
     scope: &Scope<'_>,
     tokens: &Tokens<'_>,
     span: Span,
-) -> Result<Found, AllocError>
+) -> Result<Few, AllocError>
     requires span { IsWithin tokens.now span }
     requires few { length (tokens_in tokens.now span) ≤ MOST_TOKENS }
-    ensures reading { IfOk result (λ f. Keeps f (ReadsOnly scope.now.theory.now.signature (vars_in scope.now) scope.now.hole (tokens_in tokens.now span))) }
+    ensures reading { IfOk result (λ f. KeepsReadings f
+        (ReadsOnly scope.now.theory.now.signature (vars_in scope.now) scope.now.hole
+        (tokens_in tokens.now span))) }
     ensures parameters { scope.now.hole ≡ true → IfOk result AreWithParameters }
 {
-    let mut words = first_words(alloc)?;
-    let numbers = numbers(alloc, &mut words, tokens, span)?;
-    let count = words.count() as u32;
-    let grammar = grammar(alloc, &mut words, scope, count)?;
-    let terms = read_each_sort(alloc, &grammar, &numbers)?;
+    let nothing = Span {
+        from: span.to,
+        to: span.to,
+    };
+    let both = number_tokens(alloc, scope, tokens, span, nothing)?;
+    let terms = read_each_sort(alloc, &both.grammar, &both.left)?;
     Ok(readings_of_one(alloc, &terms, scope.hole)?)
 }
 
@@ -103,22 +95,20 @@ fn read_both(
     tokens: &Tokens<'_>,
     left: Span,
     right: Span,
-) -> Result<Found, AllocError>
+) -> Result<Few, AllocError>
     requires hole { scope.now.hole ≡ false }
     requires left { IsWithin tokens.now left }
     requires right { IsWithin tokens.now right }
     requires few_left { length (tokens_in tokens.now left) ≤ MOST_TOKENS }
     requires few_right { length (tokens_in tokens.now right) ≤ MOST_TOKENS }
-    ensures reading { IfOk result (λ f. Keeps f (ReadsBoth scope.now.theory.now.signature (vars_in scope.now) (tokens_in tokens.now left) (tokens_in tokens.now right))) }
+    ensures reading { IfOk result (λ f. KeepsReadings f
+        (ReadsBoth scope.now.theory.now.signature (vars_in scope.now) (tokens_in tokens.now left)
+        (tokens_in tokens.now right))) }
     ensures in_order { IfOk result AreInOrder }
 {
-    let mut words = first_words(alloc)?;
-    let left = numbers(alloc, &mut words, tokens, left)?;
-    let right = numbers(alloc, &mut words, tokens, right)?;
-    let count = words.count() as u32;
-    let grammar = grammar(alloc, &mut words, scope, count)?;
-    let lefts = read_each_sort(alloc, &grammar, &left)?;
-    let rights = read_each_sort(alloc, &grammar, &right)?;
+    let both = number_tokens(alloc, scope, tokens, left, right)?;
+    let lefts = read_each_sort(alloc, &both.grammar, &both.left)?;
+    let rights = read_each_sort(alloc, &both.grammar, &both.right)?;
     Ok(readings_of_both(alloc, &lefts, &rights)?)
 }
 
@@ -129,8 +119,11 @@ fn one_in(
     span: Span,
 ) -> Result<Reading, ParseFault>
     requires span { IsWithin tokens.now span }
-    ensures reading { GivesReading result (long_count (tokens_in tokens.now span)) (ReadsOnly scope.now.theory.now.signature (vars_in scope.now) scope.now.hole (tokens_in tokens.now span)) }
-    ensures sorted { HaveSorts scope.now.theory.now.signature (vars_in scope.now) → IfOk result (λ r. IsOneSorted scope.now.theory.now.signature r.terms.items) }
+    ensures reading { GivesReading result (long_count (tokens_in tokens.now span))
+        (ReadsOnly scope.now.theory.now.signature (vars_in scope.now) scope.now.hole
+        (tokens_in tokens.now span)) }
+    ensures sorted { HaveSorts scope.now.theory.now.signature (vars_in scope.now) → IfOk result
+        (λ r. IsOneSorted scope.now.theory.now.signature r.terms.items) }
     ensures parameters { scope.now.hole ≡ true → IfOk result (λ r. IsWithParameters r.terms.items) }
 {
     scope.theory.known();
@@ -151,8 +144,11 @@ fn pair_in(
     requires hole { scope.now.hole ≡ false }
     requires left { IsWithin tokens.now left }
     requires right { IsWithin tokens.now right }
-    ensures reading { GivesReading result (option_or (long_count (tokens_in tokens.now left)) (long_count (tokens_in tokens.now right))) (ReadsBoth scope.now.theory.now.signature (vars_in scope.now) (tokens_in tokens.now left) (tokens_in tokens.now right)) }
-    ensures sorted { HaveSorts scope.now.theory.now.signature (vars_in scope.now) → IfOk result (λ r. ArePairSorted scope.now.theory.now.signature r.terms.items) }
+    ensures reading { GivesReading result (option_or (long_count (tokens_in tokens.now left))
+        (long_count (tokens_in tokens.now right))) (ReadsBoth scope.now.theory.now.signature
+        (vars_in scope.now) (tokens_in tokens.now left) (tokens_in tokens.now right)) }
+    ensures sorted { HaveSorts scope.now.theory.now.signature (vars_in scope.now) → IfOk result
+        (λ r. ArePairSorted scope.now.theory.now.signature r.terms.items) }
     ensures in_order { IfOk result (λ r. IsPairInOrder r.terms.items) }
 {
     scope.theory.known();
@@ -166,9 +162,10 @@ fn pair_in(
     answer(found)
 }
 
-/// The only reading of the span's tokens as one term, of any sort. The variables are those of `vars`, by name and sort, and
-/// those that are written `NAME:SORT`. With `hole`, `*:SORT` is variable 0 and the others are numbered from 1 by first
-/// occurrence; without it they are numbered from 0. The span counts tokens.
+/// The only reading of the span's tokens as one term, of any sort. The variables are those of
+/// `vars`, by name and sort, and those that are written `NAME:SORT`. With `hole`, `*:SORT` is
+/// variable 0 and the others are numbered from 1 by first occurrence; without it they are numbered
+/// from 0. The span counts tokens.
 pub fn parse_one(
     alloc: Global,
     theory: &Theory,
@@ -179,7 +176,8 @@ pub fn parse_one(
 ) -> Result<Reading, ParseFault>
     requires sorts { HaveSorts theory.now.signature (declared_by vars.now) }
     requires span { IsWithin tokens.now span }
-    ensures reading { GivesReading result (long_count (tokens_in tokens.now span)) (ReadsOnly theory.now.signature (declared_by vars.now) hole (tokens_in tokens.now span)) }
+    ensures reading { GivesReading result (long_count (tokens_in tokens.now span))
+        (ReadsOnly theory.now.signature (declared_by vars.now) hole (tokens_in tokens.now span)) }
     ensures sorted { IfOk result (λ r. IsOneSorted theory.now.signature r.terms.items) }
     ensures parameters { hole ≡ true → IfOk result (λ r. IsWithParameters r.terms.items) }
 {
@@ -191,8 +189,9 @@ pub fn parse_one(
     one_in(alloc, &scope, tokens, span)
 }
 
-/// The only reading of two spans' tokens as two terms of one sort. The variables are those of `vars`, by name and sort, and
-/// those that are written `NAME:SORT`, numbered from 0 over both by first occurrence, the left term first. Spans count tokens.
+/// The only reading of two spans' tokens as two terms of one sort. The variables are those of
+/// `vars`, by name and sort, and those that are written `NAME:SORT`, numbered from 0 over both by
+/// first occurrence, the left term first. Spans count tokens.
 pub fn parse_pair(
     alloc: Global,
     theory: &Theory,
@@ -204,7 +203,9 @@ pub fn parse_pair(
     requires sorts { HaveSorts theory.now.signature (declared_by vars.now) }
     requires left { IsWithin tokens.now left }
     requires right { IsWithin tokens.now right }
-    ensures reading { GivesReading result (option_or (long_count (tokens_in tokens.now left)) (long_count (tokens_in tokens.now right))) (ReadsBoth theory.now.signature (declared_by vars.now) (tokens_in tokens.now left) (tokens_in tokens.now right)) }
+    ensures reading { GivesReading result (option_or (long_count (tokens_in tokens.now left))
+        (long_count (tokens_in tokens.now right))) (ReadsBoth theory.now.signature
+        (declared_by vars.now) (tokens_in tokens.now left) (tokens_in tokens.now right)) }
     ensures sorted { IfOk result (λ r. ArePairSorted theory.now.signature r.terms.items) }
     ensures in_order { IfOk result (λ r. IsPairInOrder r.terms.items) }
 {
@@ -216,7 +217,8 @@ pub fn parse_pair(
     pair_in(alloc, &scope, tokens, left, right)
 }
 
-/// As [`parse_one`], where the declared variables are those of the theory, which are looked up by their names.
+/// As [`parse_one`], where the declared variables are those of the theory, which are looked up by
+/// their names.
 pub fn parse_one_declared(
     alloc: Global,
     theory: &Theory,
@@ -225,7 +227,8 @@ pub fn parse_one_declared(
     hole: bool,
 ) -> Result<Reading, ParseFault>
     requires { IsWithin tokens.now span }
-    ensures reading { GivesReading result (long_count (tokens_in tokens.now span)) (ReadsOnly theory.now.signature theory.now.variables hole (tokens_in tokens.now span)) }
+    ensures reading { GivesReading result (long_count (tokens_in tokens.now span))
+        (ReadsOnly theory.now.signature theory.now.variables hole (tokens_in tokens.now span)) }
     ensures sorted { IfOk result (λ r. IsOneSorted theory.now.signature r.terms.items) }
     ensures parameters { hole ≡ true → IfOk result (λ r. IsWithParameters r.terms.items) }
 {
@@ -238,7 +241,8 @@ pub fn parse_one_declared(
     one_in(alloc, &scope, tokens, span)
 }
 
-/// As [`parse_pair`], where the declared variables are those of the theory, which are looked up by their names.
+/// As [`parse_pair`], where the declared variables are those of the theory, which are looked up by
+/// their names.
 pub fn parse_pair_declared(
     alloc: Global,
     theory: &Theory,
@@ -248,7 +252,9 @@ pub fn parse_pair_declared(
 ) -> Result<Reading, ParseFault>
     requires left { IsWithin tokens.now left }
     requires right { IsWithin tokens.now right }
-    ensures reading { GivesReading result (option_or (long_count (tokens_in tokens.now left)) (long_count (tokens_in tokens.now right))) (ReadsBoth theory.now.signature theory.now.variables (tokens_in tokens.now left) (tokens_in tokens.now right)) }
+    ensures reading { GivesReading result (option_or (long_count (tokens_in tokens.now left))
+        (long_count (tokens_in tokens.now right))) (ReadsBoth theory.now.signature
+        theory.now.variables (tokens_in tokens.now left) (tokens_in tokens.now right)) }
     ensures sorted { IfOk result (λ r. ArePairSorted theory.now.signature r.terms.items) }
     ensures in_order { IfOk result (λ r. IsPairInOrder r.terms.items) }
 {

@@ -1,10 +1,14 @@
 //! Terms written as text.
-ghost use Rattle.std.specs.Prelude.{◌≡◌, ◌≤◌, ◌++◌, codes, decimal, slice_get, unwrap_or, [], OnOk, OnErr, IfOk, false, true};
+ghost use Rattle.std.specs.Prelude.{◌≡◌, ◌≤◌, ◌++◌, codes, decimal, slice_get, unwrap_or, [], OnOk};
+ghost use Rattle.std.specs.Prelude.{OnErr, IfOk, false, true};
 ghost use Rattle.circ_term.specs.Tree.{trees_of, depths_of};
 ghost use Rattle.circ_theory.specs.Signature.{IsWellSorted};
 ghost use Rattle.circ_theory.specs.Operators.{operator_of};
 ghost use Rattle.circ_mixfix.specs.Printed.{IsPrintable, IsSpelling, IsPairSpelling};
-ghost use Rattle.circ_mixfix.specs.Printing.{further, joined, piece_text, left_behind, filled, arguments_text, application_text, operator_text, printed_name, text_of_term, texts_of_terms, text_of_pair, Keeps};
+ghost use Rattle.circ_mixfix.specs.Printing.{further, joined, piece_text, left_behind, filled};
+ghost use Rattle.circ_mixfix.specs.Printing.{arguments_text, application_text, operator_text};
+ghost use Rattle.circ_mixfix.specs.Printing.{printed_name, text_of_term, texts_of_terms};
+ghost use Rattle.circ_mixfix.specs.Printing.{text_of_pair, Keeps};
 
 use crate::spelling::has_hole;
 use circ_term::{Kind, Term};
@@ -45,7 +49,9 @@ fn put_variable(
     number: u32,
     sort: u32,
 ) -> Result<(), AllocError>
-    ensures text { OnOk result (out.new.items ≡ out.old.items ++ (printed_name hole number ++ codes ":" ++ unwrap_or (slice_get theory.now.signature.sorts sort) [])) }
+    ensures text { OnOk result (out.new.items ≡ out.old.items ++
+        (printed_name hole number ++ codes ":" ++ unwrap_or
+        (slice_get theory.now.signature.sorts sort) [])) }
     ensures keeps { Keeps out.old.items out.new.items }
 {
     put_name(out, hole, number)?;
@@ -58,7 +64,8 @@ fn put_variable(
 
 #[cycle(print)]
 fn put_term(out: &mut Vec<u8>, theory: &Theory, hole: bool, term: &Term) -> Result<(), AllocError>
-    ensures text { OnOk result (out.new.items ≡ out.old.items ++ text_of_term theory.now.signature hole term.now) }
+    ensures text { OnOk result (out.new.items ≡ out.old.items ++ text_of_term theory.now.signature
+        hole term.now) }
     ensures keeps { Keeps out.old.items out.new.items }
 {
     match term.kind() {
@@ -78,7 +85,8 @@ fn put_application(
     decl: &OpDecl,
     args: &[Term],
 ) -> Result<(), AllocError>
-    ensures text { OnOk result (out.new.items ≡ out.old.items ++ application_text (operator_of decl.now) (texts_of_terms theory.now.signature hole (trees_of args.now))) }
+    ensures text { OnOk result (out.new.items ≡ out.old.items ++ application_text
+        (operator_of decl.now) (texts_of_terms theory.now.signature hole (trees_of args.now))) }
     ensures keeps { Keeps out.old.items out.new.items }
 {
     let pieces = decl.form.pieces();
@@ -100,7 +108,8 @@ fn put_pieces(
     pieces: &[Piece],
     args: &[Term],
 ) -> Result<(), AllocError>
-    ensures text { OnOk result (out.new.items ≡ out.old.items ++ joined (codes " ") (filled pieces.now (texts_of_terms theory.now.signature hole (trees_of args.now)))) }
+    ensures text { OnOk result (out.new.items ≡ out.old.items ++ joined (codes " ")
+        (filled pieces.now (texts_of_terms theory.now.signature hole (trees_of args.now)))) }
     ensures keeps { Keeps out.old.items out.new.items }
 {
     let Some((first, others)) = pieces.split_first() else {
@@ -118,7 +127,8 @@ fn put_further_pieces(
     pieces: &[Piece],
     args: &[Term],
 ) -> Result<(), AllocError>
-    ensures text { OnOk result (out.new.items ≡ out.old.items ++ further (codes " ") (filled pieces.now (texts_of_terms theory.now.signature hole (trees_of args.now)))) }
+    ensures text { OnOk result (out.new.items ≡ out.old.items ++ further (codes " ")
+        (filled pieces.now (texts_of_terms theory.now.signature hole (trees_of args.now)))) }
     ensures keeps { Keeps out.old.items out.new.items }
 {
     let mut rest = args;
@@ -138,9 +148,12 @@ fn put_piece<'a>(
     piece: &Piece,
     args: &'a [Term],
 ) -> Result<&'a [Term], AllocError>
-    ensures text { OnOk result (out.new.items ≡ out.old.items ++ piece_text piece.now (texts_of_terms theory.now.signature hole (trees_of args.now))) }
-    ensures left { IfOk result (λ r. texts_of_terms theory.now.signature hole (trees_of r.now) ≡ left_behind piece.now (texts_of_terms theory.now.signature hole (trees_of args.now))) }
-    ensures shallow { IfOk result (λ r. depths_of (trees_of r.now) ≤ depths_of (trees_of args.now)) }
+    ensures text { OnOk result (out.new.items ≡ out.old.items ++ piece_text piece.now
+        (texts_of_terms theory.now.signature hole (trees_of args.now))) }
+    ensures left { IfOk result (λ r. texts_of_terms theory.now.signature hole (trees_of r.now) ≡
+        left_behind piece.now (texts_of_terms theory.now.signature hole (trees_of args.now))) }
+    ensures shallow { IfOk result (λ r. depths_of (trees_of r.now) ≤ depths_of
+        (trees_of args.now)) }
     ensures keeps { Keeps out.old.items out.new.items }
 {
     match piece {
@@ -165,7 +178,8 @@ fn put_arguments(
     hole: bool,
     args: &[Term],
 ) -> Result<(), AllocError>
-    ensures text { OnOk result (out.new.items ≡ out.old.items ++ arguments_text (texts_of_terms theory.now.signature hole (trees_of args.now))) }
+    ensures text { OnOk result (out.new.items ≡ out.old.items ++ arguments_text
+        (texts_of_terms theory.now.signature hole (trees_of args.now))) }
     ensures keeps { Keeps out.old.items out.new.items }
 {
     let Some((first, others)) = args.split_first() else {
@@ -184,7 +198,8 @@ fn put_further_arguments(
     hole: bool,
     args: &[Term],
 ) -> Result<(), AllocError>
-    ensures text { OnOk result (out.new.items ≡ out.old.items ++ further (codes ", ") (texts_of_terms theory.now.signature hole (trees_of args.now))) }
+    ensures text { OnOk result (out.new.items ≡ out.old.items ++ further (codes ", ")
+        (texts_of_terms theory.now.signature hole (trees_of args.now))) }
     ensures keeps { Keeps out.old.items out.new.items }
 {
     for arg in args {
@@ -195,7 +210,8 @@ fn put_further_arguments(
 }
 
 fn put_pair(out: &mut Vec<u8>, theory: &Theory, left: &Term, right: &Term) -> Result<(), AllocError>
-    ensures text { OnOk result (out.new.items ≡ out.old.items ++ text_of_pair theory.now.signature (record { left = left.now; right = right.now })) }
+    ensures text { OnOk result (out.new.items ≡ out.old.items ++ text_of_pair theory.now.signature
+        (record { left = left.now; right = right.now })) }
     ensures keeps { Keeps out.old.items out.new.items }
 {
     put_term(out, theory, false, left)?;
@@ -205,7 +221,8 @@ fn put_pair(out: &mut Vec<u8>, theory: &Theory, left: &Term, right: &Term) -> Re
 
 // The text of a term, with a hole where it is a derivative's.
 fn print_as(theory: &Theory, hole: bool, term: &Term, out: &mut Vec<u8>) -> Result<(), AllocError>
-    ensures text { OnOk result (out.new.items ≡ out.old.items ++ text_of_term theory.now.signature hole term.now) }
+    ensures text { OnOk result (out.new.items ≡ out.old.items ++ text_of_term theory.now.signature
+        hole term.now) }
     ensures err { OnErr result (out.new.items ≡ out.old.items) }
 {
     let before = out.len();
@@ -224,7 +241,8 @@ fn print_sides(
     right: &Term,
     out: &mut Vec<u8>,
 ) -> Result<(), AllocError>
-    ensures text { OnOk result (out.new.items ≡ out.old.items ++ text_of_pair theory.now.signature (record { left = left.now; right = right.now })) }
+    ensures text { OnOk result (out.new.items ≡ out.old.items ++ text_of_pair theory.now.signature
+        (record { left = left.now; right = right.now })) }
     ensures err { OnErr result (out.new.items ≡ out.old.items) }
 {
     let start = out.len();
@@ -237,39 +255,46 @@ fn print_sides(
     }
 }
 
-/// Appends the text of a term. A variable of number n and sort X is `Vn:X`. An operator without holes is its words joined by
-/// one space, and its arguments in parentheses, joined by `, `. An operator with holes is its pieces joined by one space, with
-/// the arguments in the holes, in parentheses. After want of memory the bytes are as before.
+/// Appends the text of a term. A variable of number n and sort X is `Vn:X`. An operator without
+/// holes is its words joined by one space, and its arguments in parentheses, joined by `, `. An
+/// operator with holes is its pieces joined by one space, with the arguments in the holes, in
+/// parentheses. After want of memory the bytes are as before.
 pub fn print(
     _alloc: Global,
     theory: &Theory,
     term: &Term,
     out: &mut Vec<u8>,
 ) -> Result<(), AllocError>
-    ensures text { OnOk result (out.new.items ≡ out.old.items ++ text_of_term theory.now.signature false term.now) }
+    ensures text { OnOk result (out.new.items ≡ out.old.items ++ text_of_term theory.now.signature
+        false term.now) }
     ensures err { OnErr result (out.new.items ≡ out.old.items) }
-    ensures spelled { IsPrintable theory.now.signature → IsWellSorted theory.now.signature term.now → IsSpelling theory.now.signature false term.now }
+    ensures spelled { IsPrintable theory.now.signature → IsWellSorted theory.now.signature term.now
+        → IsSpelling theory.now.signature false term.now }
 {
     theory.known();
     print_as(theory, false, term, out)
 }
 
-/// Appends the text of a derivative's term, as `print` does of a term, but with `*:X` for the hole, which is variable 0.
+/// Appends the text of a derivative's term, as `print` does of a term, but with `*:X` for the hole,
+/// which is variable 0.
 pub fn print_derivative(
     _alloc: Global,
     theory: &Theory,
     term: &Term,
     out: &mut Vec<u8>,
 ) -> Result<(), AllocError>
-    ensures text { OnOk result (out.new.items ≡ out.old.items ++ text_of_term theory.now.signature true term.now) }
+    ensures text { OnOk result (out.new.items ≡ out.old.items ++ text_of_term theory.now.signature
+        true term.now) }
     ensures err { OnErr result (out.new.items ≡ out.old.items) }
-    ensures spelled { IsPrintable theory.now.signature → IsWellSorted theory.now.signature term.now → IsSpelling theory.now.signature true term.now }
+    ensures spelled { IsPrintable theory.now.signature → IsWellSorted theory.now.signature term.now
+        → IsSpelling theory.now.signature true term.now }
 {
     theory.known();
     print_as(theory, true, term, out)
 }
 
-/// Appends the text of a pair: the texts of its sides, joined by ` = `. After want of memory the bytes are as before.
+/// Appends the text of a pair: the texts of its sides, joined by ` = `. After want of memory the
+/// bytes are as before.
 pub fn print_pair(
     _alloc: Global,
     theory: &Theory,
@@ -277,9 +302,12 @@ pub fn print_pair(
     right: &Term,
     out: &mut Vec<u8>,
 ) -> Result<(), AllocError>
-    ensures text { OnOk result (out.new.items ≡ out.old.items ++ text_of_pair theory.now.signature (record { left = left.now; right = right.now })) }
+    ensures text { OnOk result (out.new.items ≡ out.old.items ++ text_of_pair theory.now.signature
+        (record { left = left.now; right = right.now })) }
     ensures err { OnErr result (out.new.items ≡ out.old.items) }
-    ensures spelled { IsPrintable theory.now.signature → IsWellSorted theory.now.signature left.now → IsWellSorted theory.now.signature right.now → IsPairSpelling theory.now.signature (record { left = left.now; right = right.now }) }
+    ensures spelled { IsPrintable theory.now.signature → IsWellSorted theory.now.signature left.now
+        → IsWellSorted theory.now.signature right.now → IsPairSpelling theory.now.signature
+        (record { left = left.now; right = right.now }) }
 {
     theory.known();
     print_sides(theory, left, right, out)

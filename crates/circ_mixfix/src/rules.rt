@@ -4,7 +4,8 @@ ghost use Rattle.std.specs.Option.{option_map};
 ghost use Rattle.circ_theory.specs.Operators.{operator_of};
 ghost use Rattle.circ_mixfix.specs.Symbols.{symbols_of, precedence_of};
 ghost use Rattle.circ_mixfix.specs.SymbolLists.{symbol_of};
-ghost use Rattle.circ_mixfix.specs.Coding.{GivesSymbol, GivesSymbols, GivesRule, HasRules, AddsRule, AddsRules, BeginsBefore, IsBelow, AreBelow};
+ghost use Rattle.circ_mixfix.specs.Coding.{GivesSymbol, GivesSymbols, GivesRule, HasRules};
+ghost use Rattle.circ_mixfix.specs.Coding.{AddsRule, AddsRules, BeginsBefore, IsBelow, AreBelow};
 ghost use Rattle.circ_chart.specs.declared.TheConstants.{EVERY};
 
 use crate::EVERY;
@@ -40,7 +41,8 @@ fn coded(
 ) -> Result<Option<Vec<ChartSymbol>>, AllocError>
     requires few { length words.now ≤ 2 ^ 32 }
     requires below { AreBelow (map symbol_of symbols.now) }
-    ensures { IfOk result (λ o. GivesSymbols words.now (map symbol_of symbols.now) (option_map (λ v. v.items) o)) }
+    ensures { IfOk result (λ o. GivesSymbols words.now (map symbol_of symbols.now)
+        (option_map (λ v. v.items) o)) }
 {
     let mut out = Vec::with_capacity(alloc, symbols.len())?;
     for symbol in symbols {
@@ -87,7 +89,8 @@ fn push_rule(
     number: u32,
 ) -> Result<(), AllocError>
     requires few { length words.now ≤ 2 ^ 32 }
-    ensures { OnOk result (AddsRule theory.now.signature words.now number out.old.items out.new.items) }
+    ensures { OnOk result (AddsRule theory.now.signature words.now number out.old.items
+        out.new.items) }
 {
     let Some(decl) = theory.op(number) else {
         return Ok(());
@@ -108,7 +111,8 @@ fn push_rules(
     numbers: &[u32],
 ) -> Result<(), AllocError>
     requires few { length words.now ≤ 2 ^ 32 }
-    ensures { OnOk result (AddsRules theory.now.signature words.now numbers.now out.old.items out.new.items) }
+    ensures { OnOk result (AddsRules theory.now.signature words.now numbers.now out.old.items
+        out.new.items) }
 {
     for number in numbers {
         push_rule(alloc, out, words, theory, *number)?;
@@ -116,10 +120,12 @@ fn push_rules(
     Ok(())
 }
 
-// The rules of the operators whose words have numbers. No other operator is looked at than those whose first word has one.
+// The rules of the operators whose words have numbers. No other operator is looked at than those
+// whose first word has one.
 pub fn rules(alloc: Global, words: &Words<'_>, theory: &Theory) -> Result<Vec<Rule>, AllocError>
     requires few { length words.now ≤ 2 ^ 32 }
-    ensures { IfOk result (λ v. HasRules theory.now.signature words.now (BeginsBefore theory.now.signature words.now (length words.now)) v.items) }
+    ensures { IfOk result (λ v. HasRules theory.now.signature words.now
+        (BeginsBefore theory.now.signature words.now (length words.now)) v.items) }
 {
     let mut out = Vec::new(alloc);
     for number in 0..words.count() {

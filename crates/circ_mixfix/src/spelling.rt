@@ -2,7 +2,9 @@
 ghost use Rattle.std.specs.Prelude.{◌≡◌, ◌<◌, ◌++◌, ◌∷◌, [], IfOk, map};
 ghost use Rattle.std.specs.List.{list_any};
 ghost use Rattle.circ_theory.specs.Operators.{is_hole_piece, operator_of};
-ghost use Rattle.circ_mixfix.specs.Symbols.{below_first, below_last, below_inner, inner_symbols, form_symbols, more_arguments, arguments, symbols_of, precedence_of};
+ghost use Rattle.circ_mixfix.specs.Symbols.{below_first, below_last, below_inner, inner_symbols};
+ghost use Rattle.circ_mixfix.specs.Symbols.{form_symbols, more_arguments, arguments, symbols_of};
+ghost use Rattle.circ_mixfix.specs.Symbols.{precedence_of};
 ghost use Rattle.circ_mixfix.specs.SymbolLists.{symbol_of};
 
 use crate::EVERY;
@@ -72,7 +74,8 @@ fn below_inner(prec: u8, side: Side, pieces: &[Piece]) -> u8
 }
 
 fn push<'a>(out: Vec<Symbol<'a>>, symbol: Symbol<'a>) -> Result<Vec<Symbol<'a>>, AllocError>
-    ensures { IfOk result (λ v. map symbol_of v.items ≡ map symbol_of out.entry.items ++ symbol_of symbol.entry ∷ []) }
+    ensures { IfOk result (λ v. map symbol_of v.items ≡ map symbol_of out.entry.items ++ symbol_of
+        symbol.entry ∷ []) }
 {
     let mut out = out;
     out.push(symbol)?;
@@ -88,7 +91,8 @@ fn with_inner<'a>(
     sorts: &[u32],
 ) -> Result<Vec<Symbol<'a>>, AllocError>
     requires { prec < EVERY }
-    ensures { IfOk result (λ v. map symbol_of v.items ≡ map symbol_of out.entry.items ++ inner_symbols prec side pieces.now sorts.now) }
+    ensures { IfOk result (λ v. map symbol_of v.items ≡ map symbol_of out.entry.items ++
+        inner_symbols prec side pieces.now sorts.now) }
 {
     let mut all = out;
     let mut rest = sorts;
@@ -117,7 +121,8 @@ fn with_form<'a>(
     sorts: &[u32],
 ) -> Result<Vec<Symbol<'a>>, AllocError>
     requires { prec < EVERY }
-    ensures { IfOk result (λ v. map symbol_of v.items ≡ map symbol_of out.entry.items ++ form_symbols prec side pieces.now sorts.now) }
+    ensures { IfOk result (λ v. map symbol_of v.items ≡ map symbol_of out.entry.items ++
+        form_symbols prec side pieces.now sorts.now) }
 {
     if let ([Piece::Hole, others @ ..], [sort, more @ ..]) = (pieces, sorts) {
         let below = below_first(prec, side);
@@ -129,7 +134,8 @@ fn with_form<'a>(
 
 // The symbols with those of arguments behind the first one.
 fn with_more<'a>(out: Vec<Symbol<'a>>, sorts: &[u32]) -> Result<Vec<Symbol<'a>>, AllocError>
-    ensures { IfOk result (λ v. map symbol_of v.items ≡ map symbol_of out.entry.items ++ more_arguments sorts.now) }
+    ensures { IfOk result (λ v. map symbol_of v.items ≡ map symbol_of out.entry.items ++
+        more_arguments sorts.now) }
 {
     let mut all = out;
     for sort in sorts {
@@ -147,7 +153,8 @@ fn with_more<'a>(out: Vec<Symbol<'a>>, sorts: &[u32]) -> Result<Vec<Symbol<'a>>,
 
 // The symbols with those of arguments in parentheses.
 fn with_arguments<'a>(out: Vec<Symbol<'a>>, sorts: &[u32]) -> Result<Vec<Symbol<'a>>, AllocError>
-    ensures { IfOk result (λ v. map symbol_of v.items ≡ map symbol_of out.entry.items ++ arguments sorts.now) }
+    ensures { IfOk result (λ v. map symbol_of v.items ≡ map symbol_of out.entry.items ++ arguments
+        sorts.now) }
 {
     let Some((first, others)) = sorts.split_first() else {
         return Ok(out);
@@ -163,8 +170,8 @@ fn with_arguments<'a>(out: Vec<Symbol<'a>>, sorts: &[u32]) -> Result<Vec<Symbol<
     Ok(with_more(out, others)?)
 }
 
-/// What spells the operator, in order: its form with the sorts and bounds of its holes; or, for a form without holes, its words,
-/// and its arguments in parentheses. The precedence is at most 127.
+/// What spells the operator, in order: its form with the sorts and bounds of its holes; or, for a
+/// form without holes, its words, and its arguments in parentheses. The precedence is at most 127.
 pub fn symbols(alloc: Global, decl: &OpDecl) -> Result<Vec<Symbol<'_>>, AllocError>
     requires { precedence_of (operator_of decl.now) < EVERY }
     ensures { IfOk result (λ v. map symbol_of v.items ≡ symbols_of (operator_of decl.now)) }

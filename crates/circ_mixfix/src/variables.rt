@@ -1,10 +1,12 @@
 //! Variables of the chart, for the tokens that are variables.
-ghost use Rattle.std.specs.Prelude.{◌≡◌, ◌↔◌, ◌⊎◌, ◌≤◌, ◌<◌, ◌+◌, ◌++◌, ◌∷◌, ◌^◌, ◌==◌, length, codes, IsTrue, IfOk, OnOk, Some};
+ghost use Rattle.std.specs.Prelude.{◌≡◌, ◌↔◌, ◌⊎◌, ◌≤◌, ◌<◌, ◌+◌, ◌++◌, ◌∷◌, ◌^◌, ◌==◌, length};
+ghost use Rattle.std.specs.Prelude.{codes, IsTrue, IfOk, OnOk, Some};
 ghost use Rattle.std.specs.List.{slice_get, list_any};
 ghost use Rattle.std.specs.Option.{option_map};
 ghost use Rattle.circ_mixfix.specs.Answers.{declared_by};
 ghost use Rattle.circ_mixfix.specs.Spells.{HasNoColon};
-ghost use Rattle.circ_mixfix.specs.Variables.{vars_in, variables_named, AddsDeclared, IsCut, GivesVariable, AddsVariables, HasVariables};
+ghost use Rattle.circ_mixfix.specs.Variables.{vars_in, variables_named, AddsDeclared, IsCut};
+ghost use Rattle.circ_mixfix.specs.Variables.{GivesVariable, AddsVariables, HasVariables};
 ghost use Rattle.circ_mixfix.specs.WordLists.{GrowsTo};
 
 use crate::words::Words;
@@ -37,7 +39,8 @@ fn push_listed(
     word: u32,
     name: &[u8],
 ) -> Result<(), AllocError>
-    ensures { OnOk result (out.new.items ≡ out.old.items ++ variables_named (declared_by vars.now) word name.now) }
+    ensures { OnOk result (out.new.items ≡ out.old.items ++ variables_named (declared_by vars.now)
+        word name.now) }
 {
     for var in vars {
         if var.0.bytes() == name {
@@ -58,7 +61,8 @@ fn push_of_theory(
     word: u32,
     name: &[u8],
 ) -> Result<(), AllocError>
-    ensures { OnOk result (AddsDeclared theory.now.variables word name.now out.old.items out.new.items) }
+    ensures { OnOk result (AddsDeclared theory.now.variables word name.now out.old.items
+        out.new.items) }
 {
     theory.known_names();
     let Some(number) = theory.var_named(name) else {
@@ -88,7 +92,8 @@ fn push_declared(
     word: u32,
     name: &[u8],
 ) -> Result<(), AllocError>
-    ensures { OnOk result (AddsDeclared (vars_in scope.now) word name.now out.old.items out.new.items) }
+    ensures { OnOk result (AddsDeclared (vars_in scope.now) word name.now out.old.items
+        out.new.items) }
 {
     match scope.declared {
         Declarations::Listed(vars) => push_listed(out, vars, word, name)?,
@@ -115,10 +120,12 @@ fn has_colon(text: &[u8]) -> bool
     text.iter().any(|byte| *byte == b':')
 }
 
-// The name and the sort of a variable that is written as name, colon and sort. The hole has the empty name.
+// The name and the sort of a variable that is written as name, colon and sort. The hole has the
+// empty name.
 fn written<'a>(scope: &Scope<'_>, name: &'a [u8], sort: &[u8]) -> Option<(&'a [u8], u32)>
     requires { HasNoColon name.now }
-    ensures { GivesVariable scope.now.theory.now.signature (vars_in scope.now) scope.now.hole (name.now ++ 58 ∷ sort.now) (option_map (λ r. (r.0.now, r.1)) result) }
+    ensures { GivesVariable scope.now.theory.now.signature (vars_in scope.now) scope.now.hole
+        (name.now ++ 58 ∷ sort.now) (option_map (λ r. (r.0.now, r.1)) result) }
 {
     if name.is_empty() {
         return None;
@@ -140,7 +147,8 @@ fn written<'a>(scope: &Scope<'_>, name: &'a [u8], sort: &[u8]) -> Option<(&'a [u
     None
 }
 
-// Adds the variable that is written as name, colon and sort, if it is one. The name's text is added.
+// Adds the variable that is written as name, colon and sort, if it is one. The name's text is
+// added.
 fn push_written<'a>(
     out: &mut Vec<Variable>,
     words: &mut Words<'a>,
@@ -151,7 +159,8 @@ fn push_written<'a>(
 ) -> Result<(), AllocError>
     requires name { HasNoColon name.now }
     requires few { length words.old < 2 ^ 32 }
-    ensures adds { OnOk result (AddsVariables scope.now.theory.now.signature (vars_in scope.now) scope.now.hole words.new word (name.now ++ 58 ∷ sort.now) out.old.items out.new.items) }
+    ensures adds { OnOk result (AddsVariables scope.now.theory.now.signature (vars_in scope.now)
+        scope.now.hole words.new word (name.now ++ 58 ∷ sort.now) out.old.items out.new.items) }
     ensures grows { OnOk result (GrowsTo words.old words.new 1) }
 {
     let Some((name, sort)) = written(scope, name, sort) else {
@@ -172,7 +181,8 @@ fn push_variables<'a>(
 ) -> Result<(), AllocError>
     requires is { slice_get words.old word ≡ Some text.now }
     requires few { length words.old < 2 ^ 32 }
-    ensures adds { OnOk result (AddsVariables scope.now.theory.now.signature (vars_in scope.now) scope.now.hole words.new word text.now out.old.items out.new.items) }
+    ensures adds { OnOk result (AddsVariables scope.now.theory.now.signature (vars_in scope.now)
+        scope.now.hole words.new word text.now out.old.items out.new.items) }
     ensures grows { OnOk result (GrowsTo words.old words.new 1) }
 {
     match cut(text) {
@@ -195,7 +205,8 @@ pub fn variables<'a>(
 ) -> Result<Vec<Variable>, AllocError>
     requires count { count ≤ length words.old }
     requires few { length words.old + count ≤ 2 ^ 32 }
-    ensures variables { IfOk result (λ v. HasVariables scope.now.theory.now.signature (vars_in scope.now) scope.now.hole words.new count v.items) }
+    ensures variables { IfOk result (λ v. HasVariables scope.now.theory.now.signature
+        (vars_in scope.now) scope.now.hole words.new count v.items) }
     ensures grows { OnOk result (GrowsTo words.old words.new count) }
 {
     let mut out = Vec::new(alloc);

@@ -2,7 +2,7 @@ use Rattle.std.proofs.Common.{◌≡◌, ◌++◌, ◌∷◌, ◌+◌, [], drop,
 use Rattle.std.proofs.lemmas.List.{drop_all}
 use Rattle.circ_term.specs.Tree.{trees_of, sizes_of}
 use Rattle.circ_chart.proofs.Sizes.{args_size}
-use Rattle.circ_chart.proofs.Cells.{drop_read}
+use Rattle.circ_chart.proofs.Members.{drop_read}
 use Rattle.circ_chart.proofs.chart.extend.Goals as goal
 
 pub loop-arg-preserved : goal.loop-arg-preserved
