@@ -19,7 +19,7 @@ use Rattle.circ_statement.specs.Statement.{IsStatement, IsLeftOut}
 use Rattle.circ_read.specs.declared.cause.Cause.{Cause}
 use Rattle.circ_read.specs.declared.cause.Cause.TheVariants as cause
 use Rattle.circ_read.specs.Causes.{cause_of, byte_cause}
-use Rattle.circ_read.specs.Text.{is_stop, HasNoStop, IsHead, ending, AddsTokens, Reaches, start, next, ReadsTo}
+use Rattle.circ_read.specs.Text.{is_stop, HasNoStop, IsTextHead, ending, AddsTokens, Reaches, start, next, ReadsTo}
 use Rattle.circ_read.specs.Failing.{left_out, no_shape, RefusesTokens, says_nothing, is_refused, Breaks, at_a_statement, at_the_end, FailsAt, at_a_byte, at_the_head, in_the_body}
 use Rattle.circ_read.specs.Adding.{AddsStatement, AddsAll, ReadsAlone, first_fault, with_all, sort_numbers, constant_numbers, variable_fault, with_variable, operator_fault, with_operator, long_sides, ReadsSides, ReadsHole}
 use Rattle.circ_read.specs.Refusing.{RefusesStatement, IsCauseOf, LacksOr, ReadsNotAlone, too_many_tokens, no_reading, two_readings, terms_text}
