@@ -18,7 +18,7 @@ use Rattle.circ_read.specs.Failing.{HasNoHead, FailsAt, at_a_byte, at_the_head, 
 use Rattle.circ_read.specs.Adding.{AddsStatement}
 use Rattle.circ_read.specs.Refusing.{RefusesStatement}
 use Rattle.circ_read.specs.Includes.{Scope, scope, is_included, with_variables, text_named, Includes, anew, AddsIn, AddsBy, included_name}
-use Rattle.circ_read.specs.RefusesIn.{RefusesInclusion, broken, RefusesIn, RefusesBy}
+use Rattle.circ_read.specs.RefusesIn.{broken, RefusesIn, RefusesBy}
 use Rattle.circ_read.specs.ReadsAs.{begun, GivesTheory}
 use Rattle.circ_read.specs.Outcomes.{ComesTo}
 use Rattle.circ_read.proofs.Coming.{outcome_as}

@@ -27,7 +27,8 @@ with_all with_one th [] = th
 with_all with_one th (a ∷ rest) = with_all with_one (with_one th a) rest
 
 -- Parts of which none has a fault are added.
-pub record AddsAll {A : Type 0} (fault : Theory → A → Option TheoryFault) (with_one : Theory → A → Theory) (th : Theory) (parts : List A) (u : Theory) : Type 0 where
+pub record AddsAll {A : Type 0} (fault : Theory → A → Option TheoryFault) (with_one : Theory → A → Theory) (th : Theory) (parts : List A) (u : Theory)
+    : Type 0 where
   pub no_fault : first_fault fault with_one th parts ≡ None
   pub is : u ≡ with_all with_one th parts
 

@@ -14,7 +14,6 @@ use Rattle.circ_read.specs.declared.cause.Fault.{Fault}
 use Rattle.circ_read.specs.declared.cause.Fault.TheVariants.{Because, Memory}
 use Rattle.circ_read.specs.declared.text.Head.{Head}
 use Rattle.circ_read.specs.declared.reader.Reader.{Reader}
-use Rattle.circ_term.specs.Tree.{Tree}
 use Rattle.circ_theory.specs.Theory.{Theory}
 use Rattle.circ_statement.specs.declared.statements.Statement.{Statement}
 use Rattle.circ_statement.specs.Words.{is_name}

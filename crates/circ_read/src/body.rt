@@ -20,12 +20,7 @@ pub(crate) trait Receiver {
     // The statement is refused, for this cause.
     ghost refuses: { Self → Said → Cause → Type 0 };
 
-    fn add(
-        &mut self,
-        alloc: Global,
-        tokens: &Tokens<'_>,
-        statement: Statement,
-    ) -> Result<(), Fault>
+    fn add(&mut self, alloc: Global, tokens: &Tokens<'_>, statement: Statement) -> Result<(), Fault>
         requires { LiesWithin tokens.now statement }
         ensures { StepAnswers result self.new
             (SaidOutcome adds refuses self.old (said_of tokens.now statement)) };
