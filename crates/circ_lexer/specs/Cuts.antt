@@ -42,9 +42,11 @@ pub data Cuts : ℕ → List ℕ → List Span → Option LexFault → Type 0 wh
   -- and so is a comment
   comment : (at : ℕ) (c bs : List ℕ) (ss : List Span) (o : Option LexFault) → IsComment c bs → Cuts (at + length c) bs ss o → Cuts at (c ++ bs) ss o
   -- a special byte is a token
-  special : (at b : ℕ) (bs : List ℕ) (ss : List Span) (o : Option LexFault) → is_special b ≡ true → Cuts (at + 1) bs ss o → Cuts at (b ∷ bs) (span at (at + 1) ∷ ss) o
+  special : (at b : ℕ) (bs : List ℕ) (ss : List Span) (o : Option LexFault) → is_special b ≡ true → Cuts (at + 1) bs ss o
+      → Cuts at (b ∷ bs) (span at (at + 1) ∷ ss) o
   -- and so is a run
-  run : (at : ℕ) (w bs : List ℕ) (ss : List Span) (o : Option LexFault) → IsRun w bs → Cuts (at + length w) bs ss o → Cuts at (w ++ bs) (span at (at + length w) ∷ ss) o
+  run : (at : ℕ) (w bs : List ℕ) (ss : List Span) (o : Option LexFault) → IsRun w bs → Cuts (at + length w) bs ss o
+      → Cuts at (w ++ bs) (span at (at + length w) ∷ ss) o
   -- a bad byte is the fault
   bad : (at : ℕ) (w : List ℕ) (b : ℕ) (bs : List ℕ) → IsBad w b bs → Cuts at (w ++ b ∷ bs) [] (Some (fault_of b (at + length w)))
 

@@ -26,3 +26,5 @@ lang_is = refl
 pub proc_is : PROC.now ≡ proc_text
 unfolding proc_text
 proc_is = refl
+
+pub ruleset written = (bits_is, stream_is, tree_is, lang_is, proc_is)

@@ -10,7 +10,7 @@ mod texts;
 use crate::texts::{BITS, LANG, PROC, STREAM, TREE};
 
 /// The text of a name. None exactly where the library has no theory of this name.
-#[tactic(auto, using(crate::proofs::Written::bits_is, crate::proofs::Written::stream_is, crate::proofs::Written::tree_is, crate::proofs::Written::lang_is, crate::proofs::Written::proc_is))]
+#[tactic(auto, using(crate::proofs::Written::written))]
 pub fn lookup(name: &[u8]) -> Option<&'static [u8]>
     ensures { option_copied result ≡ library_text name.now }
 {

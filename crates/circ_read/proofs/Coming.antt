@@ -3,8 +3,8 @@ use Rattle.std.proofs.Common.{◌≡◌, ℕ, List, [], ◌∷◌, Bool, Option,
 use Rattle.circ_term.specs.Tree.{Tree}
 use Rattle.circ_theory.specs.declared.fault.TheoryFault.{TheoryFault}
 use Rattle.circ_theory.specs.Theory.{Theory}
-use Rattle.circ_theory.specs.Adding.{sort_number, sort_fault, equation_fault, with_sort, with_equation}
-use Rattle.circ_theory.specs.Observing.{derivative_fault, with_derivative, cases_fault, with_cases}
+use Rattle.circ_theory.specs.Adding.{sort_number, sort_fault, equation_fault, with_sort}
+use Rattle.circ_theory.specs.Observing.{derivative_fault, cases_fault, with_cases}
 use Rattle.circ_statement.specs.Said.{Said, inclusion, sorts, operators, variables, equation, derivative, cases}
 use Rattle.circ_read.specs.declared.cause.Cause.{Cause}
 use Rattle.circ_read.specs.declared.cause.Cause.TheVariants.{UnknownSort, NoParse}
@@ -89,9 +89,9 @@ module _ (th : Theory) where
   adds_as (sorts names) u e = all_ok sort_fault with_sort th names u (sym e)
   adds_as (operators forms args result a k i) u e =
       let x = found (sort_numbers th args) UnknownSort
-              (λ ss. followed_by (sort_named th result) (λ s. all_added (λ v p. adds (operator_fault ss s a k i v p) (with_operator ss s a k i v p)) th forms)) u e in
+      (λ ss. followed_by (sort_named th result) (λ s. all_added (λ v p. adds (operator_fault ss s a k i v p) (with_operator ss s a k i v p)) th forms)) u e in
       let y = found (sort_number th.signature result) UnknownSort
-              (λ s. all_added (λ v p. adds (operator_fault x.value s a k i v p) (with_operator x.value s a k i v p)) th forms) u x.then in
+      (λ s. all_added (λ v p. adds (operator_fault x.value s a k i v p) (with_operator x.value s a k i v p)) th forms) u x.then in
       record {
         sorts = x.value;
         sort = y.value;

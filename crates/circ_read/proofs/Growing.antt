@@ -1,5 +1,5 @@
 -- A text takes no sort away.
-use Rattle.std.proofs.Common.{◌≡◌, ℕ, ◌≤◌, List, [], ◌∷◌, ◌++◌, length, Bool, true, false, if◌then◌else◌, is_some, sym, subst, arith}
+use Rattle.std.proofs.Common.{ℕ, ◌≤◌, List, [], ◌∷◌, ◌++◌, length, Bool, true, false, if◌then◌else◌, is_some, sym, subst, arith}
 use Rattle.std.proofs.lemmas.List.{length-append}
 use Rattle.circ_theory.specs.Theory.{Theory, declared}
 use Rattle.circ_theory.specs.Adding.{var_number, with_sort}

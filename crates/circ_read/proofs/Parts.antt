@@ -15,7 +15,7 @@ use Rattle.circ_mixfix.specs.declared.parse.ParseFault.TheVariants as parse
 use Rattle.circ_read.specs.Adding.{all_numbers}
 use Rattle.circ_read.specs.Refusing.{ReadsNotAlone, too_many_tokens, no_reading, two_readings, terms_text}
 use Rattle.circ_read.specs.Outcomes.{followed_by, all_added, or_cause, TermsOutcome}
-use Rattle.circ_read.specs.Steps.{StepAnswers, IsUnread}
+use Rattle.circ_read.specs.Steps.{StepAnswers, IsNoReading}
 
 module _ {A : Type 0} (add : Theory → A → Result Theory Cause) (th : Theory) (a : A) (all rest : List A) (first : all ≡ a ∷ rest) (whole : Result Theory Cause) (so_far : all_added add th all ≡ whole) where
   -- one part more is added
@@ -60,7 +60,7 @@ module _ (too_long : Option ℕ) (Reads : List Tree → Type 0) (th : Theory) (a
   read_then_added ts (Err Memory) u g e = tt
 
   -- nothing was read
-  pub not_read : (fault : ParseFault) (f : Fault) (u : Theory) → GivesReading (Err fault) too_long Reads → IsUnread f th fault
+  pub not_read : (fault : ParseFault) (f : Fault) (u : Theory) → GivesReading (Err fault) too_long Reads → IsNoReading f th fault
       → StepAnswers {U = Unit {0}} (Err f) u (λ q. (o : Result (List Tree) Cause) × TermsOutcome too_long Reads (terms_text th) o × (q ≡ followed_by o add))
   not_read (parse.TooLong n) (Because c) u g e = (Err c, subst (ReadsNotAlone too_long Reads (terms_text th)) (sym e) (too_many_tokens n g), refl)
   not_read parse.NoParse (Because c) u g e = (Err c, subst (ReadsNotAlone too_long Reads (terms_text th)) (sym e) (no_reading g.0 g.1), refl)

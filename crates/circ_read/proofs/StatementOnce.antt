@@ -1,5 +1,5 @@
 -- A statement has one outcome.
-use Rattle.std.proofs.Common.{◌≡◌, ℕ, List, [], ◌∷◌, ◌++◌, Option, Some, None, Result, Ok, Err, Less, ◌⊎◌, inl, inr, refl, sym, ap, ◌∙◌, subst}
+use Rattle.std.proofs.Common.{◌≡◌, ℕ, List, [], ◌∷◌, ◌++◌, Option, Some, None, Result, Ok, Err, Less, inl, inr, refl, sym, ap, ◌∙◌, subst}
 use Rattle.std.proofs.lemmas.Option.{same_Some}
 use Rattle.circ_term.specs.Tree.{Tree, trees_of}
 use Rattle.circ_term.specs.Order.{trees_cmp}
@@ -9,12 +9,11 @@ use Rattle.circ_theory.specs.Adding.{sort_number, sort_fault, equation_fault, wi
 use Rattle.circ_theory.specs.Observing.{derivative_fault, with_derivative, cases_fault, with_cases}
 use Rattle.circ_mixfix.specs.Answers.{long_count}
 use Rattle.circ_mixfix.proofs.Order.{trees_apart}
-use Rattle.circ_statement.specs.Attributes.{Spelled}
 use Rattle.circ_statement.specs.Said.{Said, inclusion, sorts, operators, variables, equation, derivative, cases}
 use Rattle.circ_read.specs.declared.cause.Cause.{Cause}
 use Rattle.circ_read.specs.declared.cause.Cause.TheVariants as cause
 use Rattle.circ_read.specs.Causes.{AreAlike, same, ambiguous, cause_of}
-use Rattle.circ_read.specs.Adding.{AddsStatement, AddsAll, ReadsAlone, first_fault, with_all, sort_numbers, constant_numbers, variable_fault, with_variable, operator_fault, with_operator, long_sides, ReadsSides, ReadsHole}
+use Rattle.circ_read.specs.Adding.{AddsStatement, AddsAll, ReadsAlone, first_fault, sort_numbers, constant_numbers, variable_fault, with_variable, operator_fault, with_operator, long_sides, ReadsSides, ReadsHole}
 use Rattle.circ_read.specs.Refusing.{RefusesStatement, IsCauseOf, LacksOr, ReadsNotAlone, too_many_tokens, no_reading, two_readings, terms_text}
 use Rattle.circ_read.specs.Text.{ReadsTo}
 use Rattle.circ_read.specs.Failing.{FailsAt}

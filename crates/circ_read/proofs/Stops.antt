@@ -2,7 +2,7 @@
 use Rattle.std.proofs.Common.{◌≡◌, ℕ, List, [], ◌∷◌, ◌++◌, Bool, true, false, codes, refl, sym, ap, ◌∙◌}
 use Rattle.std.proofs.lemmas.Bool.{or_parts}
 use Rattle.std.specs.List.{list_any}
-use Rattle.circ_read.specs.Text.{is_stop, HasNoStop, IsHead, ending}
+use Rattle.circ_read.specs.Text.{is_stop, HasNoStop, IsTextHead, ending}
 
 no_stop_here : (w : List ℕ) (ws : List (List ℕ)) → HasNoStop (w ∷ ws) → w ≡ codes "." → ⊥
 no_stop_here w ws h e = let no : is_stop w ≡ false = (or_parts (is_stop w) (list_any is_stop ws) h).0 in let yes : is_stop w ≡ true = ap is_stop e in cc
@@ -35,7 +35,7 @@ pub record SameHead (o p : Bool) (n m : List ℕ) (b d : List (List ℕ)) : Type
   pub body : b ≡ d
 
 -- a list has one head
-pub head_once : (ws : List (List ℕ)) (o p : Bool) (n m : List ℕ) (b d : List (List ℕ)) → IsHead ws o n b → IsHead ws p m d → SameHead o p n m b d
+pub head_once : (ws : List (List ℕ)) (o p : Bool) (n m : List ℕ) (b d : List (List ℕ)) → IsTextHead ws o n b → IsTextHead ws p m d → SameHead o p n m b d
 head_once ws true true n m b d h k = let e = sym h.words ∙ k.words in record { opened = refl; name = cc; body = cc }
 head_once ws true false n m b d h k = let e = sym h.words ∙ k.words in absurd (cc)
 head_once ws false true n m b d h k = let e = sym h.words ∙ k.words in absurd (cc)

@@ -7,7 +7,7 @@ use Rattle.circ_lexer.specs.TokenList.{AreTokens}
 use Rattle.circ_statement.specs.Said.{Said}
 use Rattle.circ_read.specs.declared.cause.Cause.{Cause}
 use Rattle.circ_read.specs.Causes.{AreAlike, same, byte_cause}
-use Rattle.circ_read.specs.Text.{IsHead, ending, Reaches, ReadsTo}
+use Rattle.circ_read.specs.Text.{IsTextHead, ending, Reaches, ReadsTo}
 use Rattle.circ_read.specs.Failing.{Breaks, FailsAt, at_a_byte, at_the_head, in_the_body}
 use Rattle.circ_read.specs.Steps.{SaidOutcome}
 use Rattle.circ_read.proofs.Stops.{SameHead, head_once}
@@ -25,9 +25,9 @@ module _ (cut : CutOnce) (bytes : List ℕ) where
   bad_or_tokens : (f : LexFault) (ws : List (List ℕ)) → IsFirstBad bytes f → AreTokens bytes ws → ⊥
   bad_or_tokens f ws h k = let e = (cut.one bytes h.0 k.0 (Some f) None h.1 k.1.0).1 in cc
 
-  head_same : (ws vs : List (List ℕ)) (o p : Bool) (n m : List ℕ) (b d : List (List ℕ)) → AreTokens bytes ws → AreTokens bytes vs → IsHead ws o n b → IsHead vs p m d
+  head_same : (ws vs : List (List ℕ)) (o p : Bool) (n m : List ℕ) (b d : List (List ℕ)) → AreTokens bytes ws → AreTokens bytes vs → IsTextHead ws o n b → IsTextHead vs p m d
       → SameHead o p n m b d
-  head_same ws vs o p n m b d t u h k = head_once ws o p n m b d h (subst (λ x. IsHead x p m d) (cut.tokens bytes ws vs t u) k)
+  head_same ws vs o p n m b d t u h k = head_once ws o p n m b d h (subst (λ x. IsTextHead x p m d) (cut.tokens bytes ws vs t u) k)
 
 module _ (cut : CutOnce) (law : SaidOnce) {A : Type 0} (Adds : A → Said → A → Type 0) (Refuses : A → Said → Cause → Type 0)
     (outcome_once : (a : A) (s : Said) (r q : Result A Cause) → SaidOutcome Adds Refuses a s r → SaidOutcome Adds Refuses a s q → AreAlike r q) (begin : List ℕ → A) (bytes : List ℕ) where
@@ -46,14 +46,14 @@ module _ (cut : CutOnce) (law : SaidOnce) {A : Type 0} (Adds : A → Said → A 
 
   pub leads_or_fails : (a : A) (n : ℕ) (c : Cause) → ReadsTo Adds begin bytes a → FailsAt Adds Refuses begin bytes n c → ⊥
   leads_or_fails a n c h (at_a_byte f k) = bad_or_tokens cut bytes f h.tokens k h.are_tokens
-  leads_or_fails a n c h (at_the_head ws t lacks) = lacks h.opened h.name h.body (subst (λ x. IsHead x h.opened h.name h.body) (cut.tokens bytes ws h.tokens t h.are_tokens) h.head)
+  leads_or_fails a n c h (at_the_head ws t lacks) = lacks h.opened h.name h.body (subst (λ x. IsTextHead x h.opened h.name h.body) (cut.tokens bytes ws h.tokens t h.are_tokens) h.head)
   leads_or_fails a n c h (in_the_body ws o m b k d t i e) =
       let heads = head_same cut bytes h.tokens ws h.opened o h.name m h.body b h.are_tokens t h.head i in
       ends_or_breaks law Adds Refuses outcome_once (begin h.name) h.body h.opened h.count k a c h.statements (breaks_as _ _ _ _ _ _ heads k c e)
 
-  no_head_in_body : (ws vs : List (List ℕ)) (o : Bool) (m : List ℕ) (b : List (List ℕ)) → AreTokens bytes ws → AreTokens bytes vs → ((p : Bool) (n : List ℕ) (d : List (List ℕ)) → IsHead ws p n d → ⊥)
-      → IsHead vs o m b → ⊥
-  no_head_in_body ws vs o m b t u lacks i = lacks o m b (subst (λ x. IsHead x o m b) (cut.tokens bytes ws vs t u) i)
+  no_head_in_body : (ws vs : List (List ℕ)) (o : Bool) (m : List ℕ) (b : List (List ℕ)) → AreTokens bytes ws → AreTokens bytes vs → ((p : Bool) (n : List ℕ) (d : List (List ℕ)) → IsTextHead ws p n d → ⊥)
+      → IsTextHead vs o m b → ⊥
+  no_head_in_body ws vs o m b t u lacks i = lacks o m b (subst (λ x. IsTextHead x o m b) (cut.tokens bytes ws vs t u) i)
 
   pub fails_once : (n m : ℕ) (c d : Cause) → FailsAt Adds Refuses begin bytes n c → FailsAt Adds Refuses begin bytes m d → (m ≡ n) × AreAlike {A = A} (Err c) (Err d)
   fails_once n m c d (at_a_byte f h) (at_a_byte g k) = (refl, subst (λ x. AreAlike {A = A} (Err c) (Err x)) (ap byte_cause (sym (bad_once cut bytes f g h k))) same)

@@ -13,17 +13,18 @@ use Rattle.circ_read.specs.declared.cause.Fault.TheVariants.{Because, Memory}
 use Rattle.circ_read.specs.declared.cause.ReadFault.{ReadFault}
 use Rattle.circ_read.specs.declared.cause.ReadFault.TheVariants as at
 use Rattle.circ_read.specs.declared.text.Head.{Head}
-use Rattle.circ_read.specs.Text.{ReadsTo}
-use Rattle.circ_read.specs.Failing.{IsNoHead, FailsAt, at_a_byte, at_the_head, in_the_body}
+use Rattle.circ_read.specs.Text.{ReadsTo, ending}
+use Rattle.circ_read.specs.Failing.{HasNoHead, FailsAt, at_a_byte, at_the_head, in_the_body}
 use Rattle.circ_read.specs.Adding.{AddsStatement}
 use Rattle.circ_read.specs.Refusing.{RefusesStatement}
 use Rattle.circ_read.specs.Includes.{Scope, scope, is_included, with_variables, text_named, Includes, anew, AddsIn, AddsBy, included_name}
-use Rattle.circ_read.specs.RefusesIn.{RefusesInclusion, broken, RefusesIn, RefusesBy}
+use Rattle.circ_read.specs.RefusesIn.{broken, RefusesIn, RefusesBy}
 use Rattle.circ_read.specs.ReadsAs.{begun, GivesTheory}
 use Rattle.circ_read.specs.Outcomes.{ComesTo}
 use Rattle.circ_read.proofs.Coming.{outcome_as}
-use Rattle.circ_read.proofs.Walk.{BreaksBy}
-use Rattle.circ_read.specs.Steps.{StepAnswers, byte_fault, IsHeadOf, SaidOutcome, BodyOutcome, TextOutcome, InclusionOutcome, GivesBody, GivesRead, fault_at}
+use Rattle.circ_read.specs.declared.reader.Reader.{Reader}
+use Rattle.circ_read.proofs.Walk.{AddsImage, RefusesImage, reaches_image, breaks_image}
+use Rattle.circ_read.specs.Steps.{StepAnswers, byte_fault, IsHeadOf, SaidOutcome, TextOutcome, InclusionOutcome, GivesBody, GivesRead, fault_at, without_number, scope_of}
 
 -- a bad byte
 pub bad_text : (th : Theory) (bytes : List ℕ) (f : LexFault) (u : Theory) → GivesTokens (Err f) bytes → StepAnswers {U = Unit {0}} (Err (byte_fault f)) u (TextOutcome th bytes)
@@ -37,16 +38,19 @@ bad_bytes bytes (lex.Control n) h = at_a_byte (lex.Control n) h
 bad_bytes bytes lex.Memory h = tt
 
 module _ (bytes : List ℕ) (ws : List (List ℕ)) (are : AreTokens bytes ws) where
-  pub text_headless : (th : Theory) → IsNoHead ws → TextOutcome th bytes (Err cause.Shape)
+  pub text_headless : (th : Theory) → HasNoHead ws → TextOutcome th bytes (Err cause.Shape)
   text_headless th h = (1, at_the_head ws are h)
 
   module _ (h : Head) (is : IsHeadOf ws h) where
     -- a text by its body
-    pub text_by_body : (th : Theory) (r : Result (Unit {0}) Fault) (u : Theory) → StepAnswers r u (BodyOutcome AddsStatement RefusesStatement th (drop h.body ws) h.opened) → StepAnswers r u (TextOutcome th bytes)
-    text_by_body th (Ok n) u (k, r) =
+    pub text_by_body : (th u : Theory) → GivesBody AddsStatement RefusesStatement (Ok tt) th u (drop h.body ws) h.opened → TextOutcome th bytes (Ok u)
+    text_by_body th u (k, r) =
         record { tokens = ws; are_tokens = are; opened = h.opened; name = h.name.now; body = drop h.body ws; head = is.head; count = k; statements = r }
-    text_by_body th (Err (Because c)) u (k, b) = (k + 2, in_the_body ws h.opened h.name.now (drop h.body ws) k c are is.head b)
-    text_by_body th (Err Memory) u b = tt
+
+    pub fault_by_body : (th u : Theory) (f : ReadFault) → GivesBody AddsStatement RefusesStatement (Err f) th u (drop h.body ws) h.opened
+        → StepAnswers {U = Unit {0}} (Err (without_number f)) u (TextOutcome th bytes)
+    fault_by_body th u (at.Statement n c) (k, e, b) = (k + 2, in_the_body ws h.opened h.name.now (drop h.body ws) k c are is.head b)
+    fault_by_body th u at.Memory b = tt
 
     pub read_by_body : (r : Result Theory ReadFault) → GivesRead r (begun h.name.now) (drop h.body ws) h.opened → GivesTheory r bytes
     read_by_body (Ok th) (k, (names, r)) = record {
@@ -56,14 +60,13 @@ module _ (bytes : List ℕ) (ws : List (List ℕ)) (are : AreTokens bytes ws) wh
     read_by_body (Err (at.Statement n c)) (k, e, b) = subst (λ i. FailsAt AddsIn RefusesIn begun bytes i c) (sym e) (in_the_body ws h.opened h.name.now (drop h.body ws) k c are is.head b)
     read_by_body (Err at.Memory) b = tt
 
--- a fault in a body, with its number
-pub body_fault : (first last : Scope) (body : List (List ℕ)) (opened : Bool) (k n : ℕ) (f : Fault) → n ≡ k + 2 → BreaksBy AddsIn RefusesIn first body opened k f → GivesBody (Err (fault_at n f)) first last body opened
-body_fault first last body opened k n (Because c) e b = (k, e, b)
-body_fault first last body opened k n Memory e b = tt
+module _ (first last : Reader) (body : List (List ℕ)) (opened : Bool) where
+  pub whole_read : GivesBody (AddsImage scope_of AddsIn RefusesIn) (RefusesImage scope_of AddsIn RefusesIn) (Ok tt) first last body opened → GivesRead (Ok last.theory) (scope_of first) body opened
+  whole_read (k, r) = (k, (last.included.items, reaches_image scope_of AddsIn RefusesIn first body k last (ending opened) r))
 
-pub read_fault : (first last : Scope) (body : List (List ℕ)) (opened : Bool) (f : ReadFault) → GivesBody (Err f) first last body opened → GivesRead (Err f) first body opened
-read_fault first last body opened (at.Statement n c) h = h
-read_fault first last body opened at.Memory h = tt
+  pub read_fault : (f : ReadFault) → GivesBody (AddsImage scope_of AddsIn RefusesIn) (RefusesImage scope_of AddsIn RefusesIn) (Err f) first last body opened → GivesRead (Err f) (scope_of first) body opened
+  read_fault (at.Statement n c) (k, e, b) = (k, e, breaks_image scope_of AddsIn RefusesIn first body opened k c b)
+  read_fault at.Memory h = tt
 
 -- an inclusion by its text
 module _ (s : Scope) (name text : List ℕ) (new : is_included s name ≡ false) (there : text_named name ≡ Some text) (th : Theory) (aside : th ≡ with_variables s.theory []) where

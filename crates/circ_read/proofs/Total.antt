@@ -1,5 +1,5 @@
 -- Bytes read as a theory or have a first cause, by double negation.
-use Rattle.std.proofs.Common.{◌≡◌, ℕ, zero, suc, ◌+◌, ◌<◌, ◌≤◌, List, [], ◌∷◌, ◌++◌, length, Bool, true, false, codes, Option, Some, None, Ordering, Less, Equal, Greater, ◌⊎◌, inl, inr, refl, sym, ap, subst, arith}
+use Rattle.std.proofs.Common.{◌≡◌, ℕ, zero, suc, ◌+◌, ◌<◌, ◌≤◌, List, [], ◌∷◌, ◌++◌, length, Bool, true, false, codes, Option, Some, None, Ordering, Less, Equal, Greater, ◌⊎◌, inl, inr, refl, ap, subst, arith}
 use Rattle.std.proofs.lemmas.Slice.Eq.{bytes_eq-Decides}
 use Rattle.circ_lexer.specs.declared.tokens.Span.{Span}
 use Rattle.circ_lexer.specs.declared.fault.LexFault.{LexFault}
@@ -15,11 +15,11 @@ use Rattle.circ_theory.specs.Observing.{derivative_fault, with_derivative, cases
 use Rattle.circ_mixfix.specs.Answers.{long_count}
 use Rattle.circ_mixfix.proofs.Order.{trees_equal, trees_less}
 use Rattle.circ_statement.specs.Said.{Said, inclusion, sorts, operators, variables, equation, derivative, cases}
-use Rattle.circ_statement.specs.Statement.{IsStatement, IsLeftOut}
+use Rattle.circ_statement.specs.Statement.{IsLeftOut}
 use Rattle.circ_read.specs.declared.cause.Cause.{Cause}
 use Rattle.circ_read.specs.declared.cause.Cause.TheVariants as cause
 use Rattle.circ_read.specs.Causes.{cause_of, byte_cause}
-use Rattle.circ_read.specs.Text.{is_stop, HasNoStop, IsHead, ending, AddsTokens, Reaches, start, next, ReadsTo}
+use Rattle.circ_read.specs.Text.{is_stop, HasNoStop, ending, AddsTokens, Reaches, start, next, ReadsTo}
 use Rattle.circ_read.specs.Failing.{left_out, no_shape, RefusesTokens, says_nothing, is_refused, Breaks, at_a_statement, at_the_end, FailsAt, at_a_byte, at_the_head, in_the_body}
 use Rattle.circ_read.specs.Adding.{AddsStatement, AddsAll, ReadsAlone, first_fault, with_all, sort_numbers, constant_numbers, variable_fault, with_variable, operator_fault, with_operator, long_sides, ReadsSides, ReadsHole}
 use Rattle.circ_read.specs.Refusing.{RefusesStatement, IsCauseOf, LacksOr, ReadsNotAlone, too_many_tokens, no_reading, two_readings, terms_text}
@@ -53,7 +53,7 @@ module _ {A : Type 0} (Adds : A → Said → A → Type 0) (Refuses : A → Said
   tokens_total a ws accepted refused =
       let kept : (w : List ℕ) → IsLeftOut ws w → ⊥ = λ w out. refused (cause.LeftOut w) (says_nothing (left_out w out)) in
       refused cause.Shape (says_nothing (no_shape kept (λ s is.
-          total a s (λ b h. accepted b (record { said = s; kept = kept; says = is; adds = h })) (λ c h. refused c (is_refused s kept is h)))))
+      total a s (λ b h. accepted b (record { said = s; kept = kept; says = is; adds = h })) (λ c h. refused c (is_refused s kept is h)))))
 
   module _ (first : A) (body : List (List ℕ)) (opened : Bool) (accepted : (last : A) (k : ℕ) → Reaches Adds first body k last (ending opened) → ⊥)
       (refused : (k : ℕ) (c : Cause) → Breaks Adds Refuses first body opened k c → ⊥) where
@@ -80,9 +80,9 @@ module _ {A : Type 0} (Adds : A → Said → A → Type 0) (Refuses : A → Said
             let ws = tokens_of (record { source = bytes; spans = ss }) in
             let are : AreTokens bytes ws = (ss, (c, refl)) in
             refused 1 cause.Shape (at_the_head ws are (λ opened name body h.
-                body_total (begin name) body opened
-                (λ last k r. accepted last (record { tokens = ws; are_tokens = are; opened = opened; name = name; body = body; head = h; count = k; statements = r }))
-                (λ k d b. refused (k + 2) d (in_the_body ws opened name body k d are h b)) (length body) 0 (begin name) body (omega arith) start))
+            body_total (begin name) body opened
+            (λ last k r. accepted last (record { tokens = ws; are_tokens = are; opened = opened; name = name; body = body; head = h; count = k; statements = r }))
+            (λ k d b. refused (k + 2) d (in_the_body ws opened name body k d are h b)) (length body) 0 (begin name) body (omega arith) start))
 
 fault_total : (o : Option TheoryFault) → (o ≡ None → ⊥) → ((c : Cause) → IsCauseOf o c → ⊥) → ⊥
 fault_total None accepted refused = accepted refl

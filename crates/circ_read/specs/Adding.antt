@@ -16,7 +16,8 @@ use Rattle.circ_statement.specs.Attributes.{Spelled}
 use Rattle.circ_statement.specs.Said.{Said, inclusion, sorts, operators, variables, equation, derivative, cases}
 
 -- the fault of the first part that has one, where the parts before it are added
-abbrev pub first_fault : {A : Type 0} → (fault : Theory → A → Option TheoryFault) (with_one : Theory → A → Theory) → Theory → List A → Option TheoryFault
+abbrev pub first_fault : {A : Type 0} → (fault : Theory → A → Option TheoryFault) (with_one : Theory → A → Theory) → Theory → List A
+    → Option TheoryFault
 first_fault fault with_one th [] = None
 first_fault fault with_one th (a ∷ rest) = option_or (fault th a) (first_fault fault with_one (with_one th a) rest)
 
@@ -26,7 +27,8 @@ with_all with_one th [] = th
 with_all with_one th (a ∷ rest) = with_all with_one (with_one th a) rest
 
 -- Parts of which none has a fault are added.
-pub record AddsAll {A : Type 0} (fault : Theory → A → Option TheoryFault) (with_one : Theory → A → Theory) (th : Theory) (parts : List A) (u : Theory) : Type 0 where
+pub record AddsAll {A : Type 0} (fault : Theory → A → Option TheoryFault) (with_one : Theory → A → Theory) (th : Theory) (parts : List A) (u : Theory)
+    : Type 0 where
   pub no_fault : first_fault fault with_one th parts ≡ None
   pub is : u ≡ with_all with_one th parts
 
@@ -46,7 +48,8 @@ abbrev pub with_variable : (sort : ℕ) → Theory → List ℕ → Theory
 with_variable s th name = with_var th name s
 
 abbrev pub operator_with : (args : List ℕ) (result : ℕ) (assoc comm idem : Bool) → Spelled → Operator
-operator_with args result assoc comm idem p = record { form = p.form; args = args; result = result; prec = p.prec; side = p.side; assoc = assoc; comm = comm; idem = idem }
+operator_with args result assoc comm idem p =
+    record { form = p.form; args = args; result = result; prec = p.prec; side = p.side; assoc = assoc; comm = comm; idem = idem }
 
 abbrev pub operator_fault : (args : List ℕ) (result : ℕ) (assoc comm idem : Bool) → Theory → Spelled → Option TheoryFault
 operator_fault args result assoc comm idem th p = op_fault th (operator_with args result assoc comm idem p)
@@ -98,7 +101,7 @@ pub record AddsOperators (th : Theory) (forms : List Spelled) (args : List (List
   pub result_is : sort_number th.signature result ≡ Some sort
   pub adds : AddsAll (operator_fault sorts sort assoc comm idem) (with_operator sorts sort assoc comm idem) th forms u
 
-pub record AddsVariables (th : Theory) (names : List (List ℕ)) (sort : List ℕ) (u : Theory) : Type 0 where
+pub record DeclaresVariables (th : Theory) (names : List (List ℕ)) (sort : List ℕ) (u : Theory) : Type 0 where
   pub number : ℕ
   pub sort_is : sort_number th.signature sort ≡ Some number
   pub adds : AddsAll (variable_fault number) (with_variable number) th names u
@@ -129,7 +132,7 @@ abbrev pub AddsStatement : Theory → Said → Theory → Type 0
 AddsStatement th (inclusion name) u = ⊥
 AddsStatement th (sorts names) u = AddsAll sort_fault with_sort th names u
 AddsStatement th (operators forms args result a c i) u = AddsOperators th forms args result a c i u
-AddsStatement th (variables names sort) u = AddsVariables th names sort u
+AddsStatement th (variables names sort) u = DeclaresVariables th names sort u
 AddsStatement th (equation left right exec) u = AddsEquation th left right exec u
 AddsStatement th (derivative term) u = AddsDerivative th term u
 AddsStatement th (cases sort names) u = AddsCases th sort names u

@@ -31,10 +31,12 @@ with_variables th vs = record th { variables = vs }
 unfoldable pub text_named : List ℕ → Option (List ℕ)
 text_named name = library_text name
 
--- An inclusion stands for the statements of the library's text, read in the theory as it stands, but with that text's variables alone. What is included already is passed over.
+-- An inclusion stands for the statements of the library's text, read in the theory as it stands, but with that text's variables alone.
+-- What is included already is passed over.
 pub data Includes (s : Scope) (name : List ℕ) : Scope → Type 0 where
   again : is_included s name ≡ true → Includes s name s
-  anew : (text : List ℕ) (u : Theory) → is_included s name ≡ false → text_named name ≡ Some text → ReadsTo AddsStatement (λ _. with_variables s.theory []) text u
+  anew : (text : List ℕ) (u : Theory) → is_included s name ≡ false → text_named name ≡ Some text
+      → ReadsTo AddsStatement (λ _. with_variables s.theory []) text u
       → Includes s name (scope (with_variables u s.theory.variables) (s.included ++ name ∷ []))
 
 abbrev pub included_name : Said → Option (List ℕ)

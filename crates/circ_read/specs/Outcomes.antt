@@ -46,7 +46,8 @@ abbrev pub variable_added : (sort : ℕ) → Theory → List ℕ → Result Theo
 variable_added s th name = adds (var_fault th name s) (with_var th name s)
 
 abbrev pub operator_added : (args : List ℕ) (result : ℕ) (assoc comm idem : Bool) → Theory → Spelled → Result Theory Cause
-operator_added args result assoc comm idem th p = adds (op_fault th (operator_with args result assoc comm idem p)) (with_op th (operator_with args result assoc comm idem p))
+operator_added args result assoc comm idem th p =
+    adds (op_fault th (operator_with args result assoc comm idem p)) (with_op th (operator_with args result assoc comm idem p))
 
 abbrev pub constants_named : Theory → (sort : ℕ) → List (List ℕ) → Result (List ℕ) Cause
 constants_named th s ws = or_cause (constant_numbers th s ws) NoParse

@@ -45,7 +45,8 @@ RefusesStatement th (inclusion name) c = c ≡ UnknownTheory
 RefusesStatement th (sorts names) c = IsCauseOf (first_fault sort_fault with_sort th names) c
 RefusesStatement th (operators forms args result a k i) c =
     LacksOr (sort_numbers th args) UnknownSort
-    (λ ss. LacksOr (sort_number th.signature result) UnknownSort (λ s. IsCauseOf (first_fault (operator_fault ss s a k i) (with_operator ss s a k i) th forms))) c
+    (λ ss. LacksOr (sort_number th.signature result) UnknownSort
+    (λ s. IsCauseOf (first_fault (operator_fault ss s a k i) (with_operator ss s a k i) th forms))) c
 RefusesStatement th (variables names sort) c =
     LacksOr (sort_number th.signature sort) UnknownSort (λ s. IsCauseOf (first_fault (variable_fault s) (with_variable s) th names)) c
 RefusesStatement th (equation left right exec) c =

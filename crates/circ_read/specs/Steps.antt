@@ -14,7 +14,6 @@ use Rattle.circ_read.specs.declared.cause.Fault.{Fault}
 use Rattle.circ_read.specs.declared.cause.Fault.TheVariants.{Because, Memory}
 use Rattle.circ_read.specs.declared.text.Head.{Head}
 use Rattle.circ_read.specs.declared.reader.Reader.{Reader}
-use Rattle.circ_term.specs.Tree.{Tree}
 use Rattle.circ_theory.specs.Theory.{Theory}
 use Rattle.circ_statement.specs.declared.statements.Statement.{Statement}
 use Rattle.circ_statement.specs.Words.{is_name}
@@ -27,8 +26,8 @@ use Rattle.circ_read.specs.Causes.{cause_of, byte_cause}
 use Rattle.circ_read.specs.declared.cause.Cause.TheVariants as cause
 use Rattle.circ_mixfix.specs.declared.parse.ParseFault.{ParseFault}
 use Rattle.circ_mixfix.specs.declared.parse.ParseFault.TheVariants as parse
-use Rattle.circ_read.specs.Text.{HasNoStop, IsHead, ending, AddsTokens, Reaches, ReadsTo}
-use Rattle.circ_read.specs.Failing.{IsNoHead, IsNoStatement, RefusesTokens, Breaks, FailsAt}
+use Rattle.circ_read.specs.Text.{HasNoStop, IsTextHead, ending, AddsTokens, Reaches, ReadsTo}
+use Rattle.circ_read.specs.Failing.{HasNoHead, IsNoStatement, RefusesTokens, Breaks, FailsAt}
 use Rattle.circ_read.specs.Adding.{AddsStatement}
 use Rattle.circ_read.specs.Refusing.{RefusesStatement, terms_text}
 use Rattle.circ_read.specs.Includes.{Scope, scope, Includes, AddsIn}
@@ -81,19 +80,19 @@ pub record IsNameAt (ws : List (List ℕ)) (at : ℕ) (name : List ℕ) : Type 0
   pub words : drop at ws ≡ codes "theory" ∷ name ∷ codes "is" ∷ drop (at + 3) ws
   pub within : at + 3 ≤ length ws
 
-abbrev pub GivesName : Option (List ℕ) → List (List ℕ) → (at : ℕ) → Type 0
-GivesName None ws at = (name : List ℕ) (body : List (List ℕ)) → is_name name ≡ true → drop at ws ≡ codes "theory" ∷ name ∷ codes "is" ∷ body → ⊥
-GivesName (Some name) ws at = IsNameAt ws at name
+abbrev pub GivesTextName : Option (List ℕ) → List (List ℕ) → (at : ℕ) → Type 0
+GivesTextName None ws at = (name : List ℕ) (body : List (List ℕ)) → is_name name ≡ true → drop at ws ≡ codes "theory" ∷ name ∷ codes "is" ∷ body → ⊥
+GivesTextName (Some name) ws at = IsNameAt ws at name
 
 -- the head, with the place of the body
 pub record IsHeadOf (ws : List (List ℕ)) (h : Head) : Type 0 where
-  pub head : IsHead ws h.opened h.name.now (drop h.body ws)
+  pub head : IsTextHead ws h.opened h.name.now (drop h.body ws)
   pub some : 2 < h.body
   pub within : h.body ≤ length ws
 
-abbrev pub GivesHead : Option Head → List (List ℕ) → Type 0
-GivesHead None ws = IsNoHead ws
-GivesHead (Some h) ws = IsHeadOf ws h
+abbrev pub GivesTextHead : Option Head → List (List ℕ) → Type 0
+GivesTextHead None ws = HasNoHead ws
+GivesTextHead (Some h) ws = IsHeadOf ws h
 
 abbrev pub scope_of : Reader → Scope
 scope_of r = scope r.theory r.included.items
@@ -112,12 +111,12 @@ abbrev pub GivesDerivative : Theory → List (List ℕ) → Result Theory Cause 
 GivesDerivative th term r = ComesTo th (derivative term) r
 
 -- the cause that a fault of reading terms is, or want of memory
-abbrev pub IsUnread : Fault → Theory → ParseFault → Type 0
-IsUnread (Because c) th (parse.TooLong n) = c ≡ cause.TooLong n
-IsUnread (Because c) th parse.NoParse = c ≡ cause.NoParse
-IsUnread (Because c) th (parse.Ambiguous a b) = c ≡ cause.Ambiguous (terms_text th a.terms.items) (terms_text th b.terms.items)
-IsUnread (Because c) th parse.Memory = ⊥
-IsUnread Memory th f = Unit {0}
+abbrev pub IsNoReading : Fault → Theory → ParseFault → Type 0
+IsNoReading (Because c) th (parse.TooLong n) = c ≡ cause.TooLong n
+IsNoReading (Because c) th parse.NoParse = c ≡ cause.NoParse
+IsNoReading (Because c) th (parse.Ambiguous a b) = c ≡ cause.Ambiguous (terms_text th a.terms.items) (terms_text th b.terms.items)
+IsNoReading (Because c) th parse.Memory = ⊥
+IsNoReading Memory th f = Unit {0}
 
 -- what the tokens of a span say, or why they say nothing
 pub record IsSaid (ws : List (List ℕ)) (ts : TokenList) (s : Statement) : Type 0 where
@@ -143,21 +142,17 @@ abbrev pub InclusionOutcome : Scope → List ℕ → Result Scope Cause → Type
 InclusionOutcome s name (Ok t) = Includes s name t
 InclusionOutcome s name (Err c) = RefusesInclusion s name c
 
--- a body's last value, or its first cause
-abbrev pub BodyOutcome : {A : Type 0} → (A → Said → A → Type 0) → (A → Said → Cause → Type 0) → A → (body : List (List ℕ)) (opened : Bool) → Result A Cause → Type 0
-BodyOutcome Adds Refuses first body opened (Ok last) = (k : ℕ) × Reaches Adds first body k last (ending opened)
-BodyOutcome Adds Refuses first body opened (Err c) = (k : ℕ) × Breaks Adds Refuses first body opened k c
-
 -- the last theory of a text that is read in a theory, or its first cause
 abbrev pub TextOutcome : Theory → (bytes : List ℕ) → Result Theory Cause → Type 0
 TextOutcome th bytes (Ok u) = ReadsTo AddsStatement (λ _. th) bytes u
 TextOutcome th bytes (Err c) = (n : ℕ) × FailsAt AddsStatement RefusesStatement (λ _. th) bytes n c
 
--- the same as `BodyOutcome` in a scope, with the number of the statement
-abbrev pub GivesBody : Result (Unit {0}) ReadFault → (first last : Scope) → (body : List (List ℕ)) (opened : Bool) → Type 0
-GivesBody (Ok u) first last body opened = (k : ℕ) × Reaches AddsIn first body k last (ending opened)
-GivesBody (Err (at.Statement n c)) first last body opened = (k : ℕ) × (n ≡ k + 2) × Breaks AddsIn RefusesIn first body opened k c
-GivesBody (Err at.Memory) first last body opened = Unit {0}
+-- a body's last value, or its first cause with the number of the statement
+abbrev pub GivesBody : {A : Type 0} → (A → Said → A → Type 0) → (A → Said → Cause → Type 0) → Result (Unit {0}) ReadFault
+    → (first last : A) → (body : List (List ℕ)) (opened : Bool) → Type 0
+GivesBody Adds Refuses (Ok u) first last body opened = (k : ℕ) × Reaches Adds first body k last (ending opened)
+GivesBody Adds Refuses (Err (at.Statement n c)) first last body opened = (k : ℕ) × (n ≡ k + 2) × Breaks Adds Refuses first body opened k c
+GivesBody Adds Refuses (Err at.Memory) first last body opened = Unit {0}
 
 -- the theory that a body leads to, or its first cause
 abbrev pub GivesRead : Result Theory ReadFault → (first : Scope) → (body : List (List ℕ)) (opened : Bool) → Type 0
@@ -169,3 +164,7 @@ GivesRead (Err at.Memory) first body opened = Unit {0}
 abbrev pub fault_at : ℕ → Fault → ReadFault
 fault_at n (Because c) = at.Statement n c
 fault_at n Memory = at.Memory
+
+abbrev pub without_number : ReadFault → Fault
+without_number (at.Statement n c) = Because c
+without_number at.Memory = Memory

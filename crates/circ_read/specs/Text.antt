@@ -14,7 +14,7 @@ abbrev pub HasNoStop : List (List ℕ) → Type 0
 HasNoStop ws = list_any is_stop ws ≡ false
 
 -- The tokens are a head with this name, perhaps after a parenthesis, before a body.
-pub record IsHead (ws : List (List ℕ)) (opened : Bool) (name : List ℕ) (body : List (List ℕ)) : Type 0 where
+pub record IsTextHead (ws : List (List ℕ)) (opened : Bool) (name : List ℕ) (body : List (List ℕ)) : Type 0 where
   pub is_name : is_name name ≡ true
   pub words : ws ≡ (if opened then codes "(" ∷ codes "theory" ∷ name ∷ codes "is" ∷ body else codes "theory" ∷ name ∷ codes "is" ∷ body)
 
@@ -30,10 +30,11 @@ pub record AddsTokens {A : Type 0} (Adds : A → Said → A → Type 0) (a : A) 
   pub adds : Adds a said b
 
 -- After k statements of a body, which begin at the first value, the value is `now` and these tokens are left.
-pub data Reaches {A : Type 0} (Adds : A → Said → A → Type 0) (first : A) (body : List (List ℕ)) : (k : ℕ) (now : A) (left : List (List ℕ)) → Type 0 where
+pub data Reaches {A : Type 0} (Adds : A → Said → A → Type 0) (first : A) (body : List (List ℕ))
+    : (k : ℕ) (now : A) (left : List (List ℕ)) → Type 0 where
   start : Reaches Adds first body 0 first body
-  next : (k : ℕ) (a b : A) (here ws left : List (List ℕ)) → Reaches Adds first body k a here → here ≡ ws ++ codes "." ∷ left → HasNoStop ws → AddsTokens Adds a ws b
-      → Reaches Adds first body (k + 1) b left
+  next : (k : ℕ) (a b : A) (here ws left : List (List ℕ)) → Reaches Adds first body k a here → here ≡ ws ++ codes "." ∷ left → HasNoStop ws
+      → AddsTokens Adds a ws b → Reaches Adds first body (k + 1) b left
 
 -- The bytes are a text, whose statements lead from the value for its name to this one.
 pub record ReadsTo {A : Type 0} (Adds : A → Said → A → Type 0) (begin : List ℕ → A) (bytes : List ℕ) (last : A) : Type 0 where
@@ -42,6 +43,6 @@ pub record ReadsTo {A : Type 0} (Adds : A → Said → A → Type 0) (begin : Li
   pub opened : Bool
   pub name : List ℕ
   pub body : List (List ℕ)
-  pub head : IsHead tokens opened name body
+  pub head : IsTextHead tokens opened name body
   pub count : ℕ
   pub statements : Reaches Adds (begin name) body count last (ending opened)

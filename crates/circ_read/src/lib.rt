@@ -6,6 +6,7 @@
 //! in plain words.
 #![tactic(auto)]
 
+mod body;
 mod cases;
 mod cause;
 mod derivatives;

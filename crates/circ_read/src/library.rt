@@ -1,14 +1,11 @@
 //! A text of the library, read in a theory.
-ghost use Rattle.std.specs.Prelude.{◌≡◌, drop};
-ghost use Rattle.circ_lexer.specs.TokenList.{tokens_of};
-ghost use Rattle.circ_read.specs.Adding.{AddsStatement};
-ghost use Rattle.circ_read.specs.Refusing.{RefusesStatement};
-ghost use Rattle.circ_read.specs.Steps.{StepAnswers, IsHeadOf, BodyOutcome, TextOutcome};
+ghost use Rattle.std.specs.Prelude.{◌≡◌};
+ghost use Rattle.circ_read.specs.Steps.{StepAnswers, TextOutcome, without_number};
 
-use crate::cause::{Cause, Fault, because, byte_fault};
-use crate::statement::add_tokens;
-use crate::text::{Head, is_end, next_stop, read_head};
-use circ_lexer::{Span, Tokens};
+use crate::body::add_body;
+use crate::cause::{Cause, Fault, ReadFault, because, byte_fault};
+use crate::text::read_head;
+use circ_lexer::Tokens;
 use circ_theory::Theory;
 use std::alloc::Global;
 
@@ -27,32 +24,19 @@ fn add_all(alloc: Global, theory: &mut Theory, tokens: &Tokens<'_>) -> Result<()
 {
     tokens.known();
     match read_head(tokens) {
-        Some(head) => add_body(alloc, theory, tokens, &head),
+        Some(head) => match add_body(alloc, theory, tokens, &head) {
+            Ok(()) => Ok(()),
+            Err(fault) => Err(without_number(fault)),
+        },
         None => Err(because(Cause::Shape)),
     }
 }
 
-fn add_body(
-    alloc: Global,
-    theory: &mut Theory,
-    tokens: &Tokens<'_>,
-    head: &Head<'_>,
-) -> Result<(), Fault>
-    requires { IsHeadOf (tokens_of tokens.now) head.now }
-    ensures { StepAnswers result theory.new (BodyOutcome AddsStatement RefusesStatement theory.old
-        (drop head.now.body (tokens_of tokens.now)) head.now.opened) }
+fn without_number(fault: ReadFault) -> Fault
+    ensures { result ≡ without_number fault }
 {
-    let mut at = head.body;
-    while let Some(stop) = next_stop(tokens, at) {
-        match add_tokens(alloc, theory, tokens, Span { from: at, to: stop }) {
-            Ok(()) => {}
-            Err(fault) => return Err(fault),
-        }
-        at = stop + 1;
-    }
-    if is_end(tokens, at, head.opened) {
-        Ok(())
-    } else {
-        Err(because(Cause::Shape))
+    match fault {
+        ReadFault::Statement { cause, .. } => because(cause),
+        ReadFault::Memory => Fault::Memory,
     }
 }

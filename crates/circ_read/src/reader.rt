@@ -1,18 +1,17 @@
 //! The reader of a theory text.
 ghost use Rattle.std.specs.Prelude.{◌≡◌, ◌+◌, IfOk, drop, nat_eq, false, Some};
-ghost use Rattle.circ_lexer.specs.TokenList.{tokens_of, tokens_in, IsWithin};
-ghost use Rattle.circ_statement.specs.Said.{said_of, LiesWithin};
-ghost use Rattle.circ_read.specs.Includes.{is_included, AddsIn, text_named};
-ghost use Rattle.circ_read.specs.RefusesIn.{RefusesIn};
+ghost use Rattle.circ_lexer.specs.TokenList.{tokens_of};
+ghost use Rattle.circ_read.specs.Includes.{is_included, text_named};
 ghost use Rattle.circ_read.specs.ReadsAs.{begun, GivesTheory};
-ghost use Rattle.circ_read.specs.Steps.{StepAnswers, SaidOutcome, TokensOutcome, InclusionOutcome, IsHeadOf, GivesBody, GivesRead, fault_at, scope_of};
+ghost use Rattle.circ_read.specs.Steps.{StepAnswers, InclusionOutcome, IsHeadOf, GivesRead, fault_at, scope_of};
 
+use crate::body::{Receiver, add_body, fault_at};
 use crate::cause::{Cause, Fault, ReadFault, because, byte_fault};
 use crate::library::add_text;
 use crate::names::{is_word, word};
-use crate::statement::{add_statement, shape};
-use crate::text::{Head, is_end, next_stop, read_head};
-use circ_lexer::{Span, Tokens};
+use crate::statement::add_statement;
+use crate::text::{Head, read_head};
+use circ_lexer::Tokens;
 use circ_statement::Statement;
 use circ_theory::{Text, Theory};
 use std::alloc::{AllocError, Global};
@@ -79,59 +78,12 @@ impl Reader {
             (drop head.now.body (tokens_of tokens.now)) head.now.opened }
     {
         let mut reader = self;
-        match reader.add_body(tokens, head) {
+        match add_body(reader.alloc, &mut reader, tokens, head) {
             Ok(()) => {
                 let Reader { theory, .. } = reader;
                 Ok(theory)
             }
             Err(fault) => Err(fault),
-        }
-    }
-
-    fn add_body(&mut self, tokens: &Tokens<'_>, head: &Head<'_>) -> Result<(), ReadFault>
-        requires { IsHeadOf (tokens_of tokens.now) head.now }
-        ensures { GivesBody result (scope_of self.old) (scope_of self.new)
-            (drop head.now.body (tokens_of tokens.now)) head.now.opened }
-    {
-        let mut at = head.body;
-        let mut number = 2;
-        while let Some(stop) = next_stop(tokens, at) {
-            match self.add_tokens(tokens, Span { from: at, to: stop }) {
-                Ok(()) => {}
-                Err(fault) => return Err(fault_at(number, fault)),
-            }
-            at = stop + 1;
-            number += 1;
-        }
-        if is_end(tokens, at, head.opened) {
-            Ok(())
-        } else {
-            Err(ReadFault::Statement {
-                number,
-                cause: Cause::Shape,
-            })
-        }
-    }
-
-    fn add_tokens(&mut self, tokens: &Tokens<'_>, span: Span) -> Result<(), Fault>
-        requires { IsWithin tokens.now span }
-        ensures { StepAnswers result (scope_of self.new) (TokensOutcome AddsIn RefusesIn
-            (scope_of self.old) (tokens_in tokens.now span)) }
-    {
-        match shape(self.alloc, tokens, span) {
-            Ok(statement) => self.add_statement(tokens, statement),
-            Err(fault) => Err(fault),
-        }
-    }
-
-    fn add_statement(&mut self, tokens: &Tokens<'_>, statement: Statement) -> Result<(), Fault>
-        requires { LiesWithin tokens.now statement }
-        ensures { StepAnswers result (scope_of self.new) (SaidOutcome AddsIn RefusesIn
-            (scope_of self.old) (said_of tokens.now statement)) }
-    {
-        match statement {
-            Statement::Inclusion { name } => self.include(word(tokens, name)),
-            statement => add_statement(self.alloc, &mut self.theory, tokens, statement),
         }
     }
 
@@ -173,12 +125,24 @@ impl Reader {
     }
 }
 
-// A fault of a step, with the number of its statement.
-fn fault_at(number: u64, fault: Fault) -> ReadFault
-    ensures { result ≡ fault_at number fault }
-{
-    match fault {
-        Fault::Because { cause } => ReadFault::Statement { number, cause },
-        Fault::Memory => ReadFault::Memory,
+impl Receiver for Reader {
+    ghost use Rattle.circ_read.specs.Includes.{AddsIn};
+    ghost use Rattle.circ_read.specs.RefusesIn.{RefusesIn};
+    ghost use Rattle.circ_read.specs.Steps.{scope_of};
+
+    ghost adds = { λ a s b. AddsIn (scope_of a) s (scope_of b) };
+
+    ghost refuses = { λ a s c. RefusesIn (scope_of a) s c };
+
+    fn add(
+        &mut self,
+        alloc: Global,
+        tokens: &Tokens<'_>,
+        statement: Statement,
+    ) -> Result<(), Fault> {
+        match statement {
+            Statement::Inclusion { name } => self.include(word(tokens, name)),
+            statement => add_statement(alloc, &mut self.theory, tokens, statement),
+        }
     }
 }

@@ -2,11 +2,10 @@
 ghost use Rattle.std.specs.Prelude.{◌≡◌};
 ghost use Rattle.circ_lexer.specs.TokenList.{tokens_in, IsWithin};
 ghost use Rattle.circ_statement.specs.Said.{said_of, token_at, IsPlace, LiesWithin};
-ghost use Rattle.circ_read.specs.Adding.{AddsStatement};
-ghost use Rattle.circ_read.specs.Refusing.{RefusesStatement};
 ghost use Rattle.circ_read.specs.Outcomes.{ComesTo};
-ghost use Rattle.circ_read.specs.Steps.{StepAnswers, TokensOutcome, GivesShape};
+ghost use Rattle.circ_read.specs.Steps.{StepAnswers, GivesShape};
 
+use crate::body::Receiver;
 use crate::cases::add_cases;
 use crate::cause::{Cause, Fault, because};
 use crate::derivatives::add_derivative;
@@ -69,19 +68,20 @@ pub(crate) fn add_statement(
     }
 }
 
-// Adds what the tokens of a span say, where no theory can be included.
-pub(crate) fn add_tokens(
-    alloc: Global,
-    theory: &mut Theory,
-    tokens: &Tokens<'_>,
-    span: Span,
-) -> Result<(), Fault>
-    requires { IsWithin tokens.now span }
-    ensures { StepAnswers result theory.new (TokensOutcome AddsStatement RefusesStatement
-        theory.old (tokens_in tokens.now span)) }
-{
-    match shape(alloc, tokens, span) {
-        Ok(statement) => add_statement(alloc, theory, tokens, statement),
-        Err(fault) => Err(fault),
+impl Receiver for Theory {
+    ghost use Rattle.circ_read.specs.Adding.{AddsStatement};
+    ghost use Rattle.circ_read.specs.Refusing.{RefusesStatement};
+
+    ghost adds = { AddsStatement };
+
+    ghost refuses = { RefusesStatement };
+
+    fn add(
+        &mut self,
+        alloc: Global,
+        tokens: &Tokens<'_>,
+        statement: Statement,
+    ) -> Result<(), Fault> {
+        add_statement(alloc, self, tokens, statement)
     }
 }

@@ -2,7 +2,7 @@
 ghost use Rattle.std.specs.Prelude.{◌≡◌, IfOk};
 ghost use Rattle.circ_read.specs.declared.cause.Cause.TheVariants.{Ambiguous};
 ghost use Rattle.circ_read.specs.Refusing.{terms_text};
-ghost use Rattle.circ_read.specs.Steps.{IsUnread};
+ghost use Rattle.circ_read.specs.Steps.{IsNoReading};
 
 use crate::cause::{Cause, Fault, because};
 use circ_mixfix::{ParseFault, Reading, print_derivative, print_pair};
@@ -11,7 +11,7 @@ use std::alloc::{AllocError, Global};
 
 // The cause that a fault of reading terms is.
 pub(crate) fn unread(alloc: Global, theory: &Theory, fault: ParseFault) -> Fault
-    ensures { IsUnread result theory.now fault }
+    ensures { IsNoReading result theory.now fault }
 {
     match fault {
         ParseFault::TooLong { count } => because(Cause::TooLong { count }),

@@ -3,7 +3,7 @@ ghost use Rattle.std.specs.Prelude.{◌≡◌, ◌≤◌, ◌<◌, ◌+◌, ◌^
 ghost use Rattle.std.specs.Option.{option_copied};
 ghost use Rattle.circ_lexer.specs.TokenList.{tokens_of};
 ghost use Rattle.circ_read.specs.Text.{ending};
-ghost use Rattle.circ_read.specs.Steps.{has_word_at, GivesName, GivesHead, GivesStop};
+ghost use Rattle.circ_read.specs.Steps.{has_word_at, GivesTextName, GivesTextHead, GivesStop};
 
 use crate::names::is_word;
 use circ_lexer::Tokens;
@@ -20,7 +20,7 @@ pub(crate) struct Head<'a> {
 }
 
 pub(crate) fn read_head<'a>(tokens: &Tokens<'a>) -> Option<Head<'a>>
-    ensures { GivesHead result (tokens_of tokens.now) }
+    ensures { GivesTextHead result (tokens_of tokens.now) }
 {
     if has_word(tokens, 0, b"(") {
         let name = name_after(tokens, 1)?;
@@ -42,7 +42,7 @@ pub(crate) fn read_head<'a>(tokens: &Tokens<'a>) -> Option<Head<'a>>
 // The name in the head that stands at a place.
 fn name_after<'a>(tokens: &Tokens<'a>, at: usize) -> Option<&'a [u8]>
     requires { at ≤ 1 }
-    ensures { GivesName (option_copied result) (tokens_of tokens.now) at }
+    ensures { GivesTextName (option_copied result) (tokens_of tokens.now) at }
 {
     if !has_word(tokens, at, b"theory") {
         return None;

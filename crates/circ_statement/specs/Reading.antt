@@ -79,7 +79,8 @@ GivesForeign (Some n) ts inside = IsPlace ts n × IsFirstForeign (tokens_in ts i
 abbrev pub GivesForeignMark : Option ℕ → TokenList → Span → Type 0
 GivesForeignMark None ts marks = (inside rest : List Word) (w : Word) → IsBracket (tokens_in ts marks) inside rest → IsFirstForeign inside w → ⊥
 GivesForeignMark (Some n) ts marks =
-    IsPlace ts n × ((inside : List Word) × ((rest : List Word) × (IsBracket (tokens_in ts marks) inside rest × IsFirstForeign inside (token_at ts n)))) × LiesIn marks n
+    IsPlace ts n × ((inside : List Word) × ((rest : List Word) × (IsBracket (tokens_in ts marks) inside rest × IsFirstForeign inside (token_at ts n))))
+    × LiesIn marks n
 
 -- the attribute of one word
 abbrev pub flag_of : Word → Option Attribute
@@ -116,7 +117,8 @@ attribute_in (w ∷ ws) = if is_word w (codes "prec") then prec_in ws else optio
 
 abbrev pub GivesAttribute : Option (Attribute × Span) → TokenList → Span → Type 0
 GivesAttribute None ts span = attribute_in (tokens_in ts span) ≡ None
-GivesAttribute (Some r) ts span = IsWithin ts r.1 × (span.from < r.1.from) × (r.1.to ≡ span.to) × (attribute_in (tokens_in ts span) ≡ Some (r.0, tokens_in ts r.1))
+GivesAttribute (Some r) ts span =
+    IsWithin ts r.1 × (span.from < r.1.from) × (r.1.to ≡ span.to) × (attribute_in (tokens_in ts span) ≡ Some (r.0, tokens_in ts r.1))
 
 abbrev pub GivesAdded : Option Attributes → Attributes → List Word → Type 0
 GivesAdded None a ws = (b : Attributes) → AddsAttributes a ws b → ⊥
