@@ -1,0 +1,178 @@
+//! What no clause says: that calls succeed, and what real files do.
+use circ_outer::{
+    HostShelf, HostSink, MemoryShelf, MemorySink, OuterFault, Shelf, Sink, SureShelf, SureSink,
+    write_all,
+};
+use std::alloc::Global;
+use std::fmt::Display;
+use std::io::ErrorKind;
+use std::process::Abort;
+use std::test::Fail;
+use std::{env, fs, io, process};
+
+const TEXT: &str = "abcdefgh";
+
+/// A runtime whose output is closed.
+#[derive(Drop)]
+struct ClosedOutput;
+
+impl Print for ClosedOutput {
+    fn print<D: Display + Drop>(&self, _value: D) -> io::Result<()> {
+        Err(io::Error::from(ErrorKind::BrokenPipe))
+    }
+
+    fn println<D: Display + Drop>(&self, _value: D) -> io::Result<()> {
+        Err(io::Error::from(ErrorKind::BrokenPipe))
+    }
+
+    fn write_all(&self, _bytes: &[u8]) -> io::Result<()> {
+        Err(io::Error::from(ErrorKind::BrokenPipe))
+    }
+}
+
+fn is_held(held: Option<&[u8]>, want: &[u8]) -> bool {
+    held.is_some_and(|bytes| bytes == want)
+}
+
+/// A file that is whole after three pieces of at most 5 bytes.
+fn take_all<S: Shelf>(alloc: Global, shelf: &mut S, name: &str) -> Result<Vec<u8>, OuterFault> {
+    shelf.begin(name)?;
+    let mut bytes = Vec::new(alloc);
+    let mut buf = [0u8; 5];
+    let first = shelf.piece(&mut buf)?;
+    bytes.extend_from_slice(&buf[..first])?;
+    let second = shelf.piece(&mut buf)?;
+    bytes.extend_from_slice(&buf[..second])?;
+    let third = shelf.piece(&mut buf)?;
+    bytes.extend_from_slice(&buf[..third])?;
+    match shelf.piece(&mut buf)? {
+        0 => Ok(bytes),
+        _ => Err(OuterFault::Failed),
+    }
+}
+
+/// A begin, a piece and a put, as the numbers of the calls that failed.
+fn failed_calls(alloc: Global, shelf: &mut MemoryShelf) -> Result<Vec<u64>, Fail> {
+    let mut failed = Vec::new(alloc);
+    let mut buf = [0u8; 5];
+    match shelf.begin("a") {
+        Ok(()) => {
+            if shelf.piece(&mut buf).is_err() {
+                failed.push(2)?;
+            }
+        }
+        Err(_) => failed.push(1)?,
+    }
+    if shelf.put("b", b"new").is_err() {
+        failed.push(3)?;
+    }
+    Ok(failed)
+}
+
+fn assert_shelf<S: Shelf>(
+    rt: &(impl Abort + AllocGlobal),
+    shelf: &mut S,
+    name: &str,
+    faults: u64,
+) -> Result<(), Fail> {
+    assert_eq!(rt; shelf.begin("absent"), Err(OuterFault::Failed));
+    assert_eq!(rt; shelf.faults(), faults);
+    shelf.put(name, TEXT.as_bytes())?;
+    let bytes = take_all(rt.alloc(), shelf, name)?;
+    assert_eq!(rt; bytes.as_slice(), TEXT.as_bytes());
+    shelf.put(name, b"new")?;
+    let bytes = take_all(rt.alloc(), shelf, name)?;
+    assert_eq!(rt; bytes.as_slice(), b"new".as_slice());
+    assert_eq!(rt; shelf.faults(), faults);
+    Ok(())
+}
+
+#[test]
+fn shelves_give_what_was_put(rt: HostRuntime) -> Result<(), Fail> {
+    let mut memory = MemoryShelf::new(rt.alloc(), 3);
+    memory.add("kept", b"kept")?;
+    assert_shelf(&rt, &mut memory, "a", 0)?;
+    assert!(rt; is_held(memory.get("kept"), b"kept"));
+    assert!(rt; is_held(memory.get("a"), b"new"));
+    assert!(rt; memory.get("absent").is_none());
+
+    let mut sure = SureShelf::new(rt.alloc(), 3);
+    sure.add("kept", b"kept")?;
+    assert_shelf(&rt, &mut sure, "a", 0)?;
+    assert!(rt; is_held(sure.get("kept"), b"kept"));
+    assert!(rt; is_held(sure.get("a"), b"new"));
+    assert!(rt; sure.get("absent").is_none());
+    Ok(())
+}
+
+#[test]
+fn listed_calls_fail(rt: HostRuntime) -> Result<(), Fail> {
+    for call in 1..=4 {
+        let mut shelf = MemoryShelf::new(rt.alloc(), 3);
+        shelf.add("a", TEXT.as_bytes())?;
+        shelf.fail_at(call)?;
+        // A begin that fails leaves no piece to take, so that the put is the second call.
+        let want = [[1].as_slice(), &[2], &[3], &[]];
+        let failed = failed_calls(rt.alloc(), &mut shelf)?;
+        assert_eq!(rt;
+            Some(&failed.as_slice()),
+            want.get(call as usize - 1),
+            "call {call}"
+        );
+        assert_eq!(rt; shelf.faults(), failed.len() as u64, "call {call}");
+        assert_eq!(rt; shelf.get("b").is_some(), call != 3, "call {call}");
+    }
+    Ok(())
+}
+
+#[test]
+fn sinks_take_what_they_may(rt: HostRuntime) -> Result<(), Fail> {
+    for (call, want) in [(1, ""), (2, "abc"), (3, "abcdef"), (4, TEXT)] {
+        let mut sink = MemorySink::new(rt.alloc(), 3);
+        sink.fail_at(call)?;
+        let written = write_all(&mut sink, TEXT.as_bytes());
+        assert_eq!(rt; written.is_ok(), call == 4, "call {call}");
+        assert_eq!(rt; sink.faults() == 0, call == 4, "call {call}");
+        assert_eq!(rt; sink.bytes(), want.as_bytes(), "call {call}");
+    }
+    let mut sink = SureSink::new(rt.alloc(), 3);
+    write_all(&mut sink, TEXT.as_bytes())?;
+    assert_eq!(rt; sink.bytes(), TEXT.as_bytes());
+    assert_eq!(rt; sink.faults(), 0);
+    Ok(())
+}
+
+#[test]
+fn real_files_are_read_back(rt: HostRuntime) -> Result<(), Fail> {
+    let folder = env::temp_dir(&rt)?.into_string();
+    let id = process::id(rt.process());
+    let path = format!(in rt.alloc(); "{folder}/circ_outer_test_{id}")?;
+    let mut shelf = HostShelf::new(rt.clone()?);
+    assert_shelf(&rt, &mut shelf, path.as_str(), 1)?;
+    fs::remove_file(&rt, path.as_str())?;
+    // A folder is no file, to read or to write.
+    let read = take_all(rt.alloc(), &mut shelf, "/");
+    assert!(rt; read.is_err());
+    assert_eq!(rt; shelf.faults(), 2);
+    assert_eq!(rt; shelf.put("/", b"new"), Err(OuterFault::Failed));
+    assert_eq!(rt; shelf.faults(), 3);
+    Ok(())
+}
+
+#[test]
+fn standard_output_takes_bytes(rt: HostRuntime) -> Result<(), Fail> {
+    let mut sink = HostSink::new(rt.clone()?);
+    write_all(&mut sink, b"written by a test\n")?;
+    assert_eq!(rt; sink.faults(), 0);
+    Ok(())
+}
+
+#[test]
+fn closed_output_is_a_fault(rt: HostRuntime) -> Result<(), Fail> {
+    let mut sink = HostSink::new(ClosedOutput);
+    assert_eq!(rt; write_all(&mut sink, b"lost"), Err(OuterFault::Failed));
+    assert_eq!(rt; sink.faults(), 1);
+    assert_eq!(rt; write_all(&mut sink, b""), Ok(()));
+    assert_eq!(rt; sink.faults(), 1);
+    Ok(())
+}
