@@ -15,7 +15,7 @@ use Rattle.circ_mixfix.specs.Variables.{HasVariables}
 use Rattle.circ_mixfix.specs.WordLists.{GrowsTo, BeginAlike}
 use Rattle.circ_mixfix.proofs.SymbolWords.{rule_words}
 use Rattle.circ_mixfix.proofs.RuleLists.{first_number}
-use Rattle.circ_theory.specs.Rewriting.{contains_at}
+use Rattle.circ_theory.proofs.Rewriting.{contains_at}
 
 pub grammar_of : (sig : Signature) (vars : List Declared) (hole : Bool) (old ws : List (List ℕ)) (k : ℕ) (g : Grammar) → BeginAlike old → k ≡ length old → GrowsTo old ws k → AreDifferent ws
     → ((o : Operator) → Contains sig.ops o → IsOperator sig o) → HasRules sig ws (BeginsBefore sig ws (length ws)) g.rules.items → HasVariables sig vars hole ws k g.variables.items → IsGrammarOf sig vars hole ws k g

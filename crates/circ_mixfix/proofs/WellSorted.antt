@@ -17,7 +17,7 @@ use Rattle.circ_mixfix.specs.Spells.{IsVariable, a_declared_one, a_written_one, 
 use Rattle.circ_mixfix.specs.Readings.{numbers_of, ReadsOne, ReadsPair}
 use Rattle.circ_mixfix.specs.Answers.{HaveSorts}
 use Rattle.circ_mixfix.proofs.SymbolWords.{no_holes, some_hole, fits, one_more}
-use Rattle.circ_theory.specs.Rewriting.{contains_at}
+use Rattle.circ_theory.proofs.Rewriting.{contains_at}
 
 -- the sorts of the holes
 abbrev hole_sorts : List Symbol → List ℕ

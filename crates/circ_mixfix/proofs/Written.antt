@@ -12,7 +12,7 @@ use Rattle.circ_chart.specs.declared.grammar.Variable as chart_variable
 use Rattle.circ_theory.specs.Signature.{Signature}
 use Rattle.circ_theory.specs.Theory.{Declared, declared}
 use Rattle.circ_theory.specs.Names.{AreDifferent, names_of}
-use Rattle.circ_theory.specs.Rewriting.{contains_at}
+use Rattle.circ_theory.proofs.Rewriting.{contains_at}
 use Rattle.circ_mixfix.specs.Spells.{HasNoColon, IsVariable, a_declared_one, a_written_one, the_hole}
 use Rattle.circ_mixfix.specs.Variables.{variables_named, AreDeclared, GivesVariable, AreVariablesOf, AddsVariables, HasVariables}
 use Rattle.circ_theory.proofs.Lists.{slice_get-front}
