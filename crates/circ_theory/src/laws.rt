@@ -1,5 +1,5 @@
-//! What is proved of derivations and experiments, and examples that try their definitions. The functions do nothing: a law is
-//! a contract.
+//! What is proved of derivations and experiments, and examples that try their definitions. The
+//! functions do nothing: a law is a contract.
 ghost use Rattle.std.specs.Prelude.{◌≡◌, ℕ, List, [], ◌∷◌, codes, Some, None, map};
 ghost use Rattle.circ_term.specs.Tree.{Tree, Var, App, none, more, sort_of};
 ghost use Rattle.circ_term.specs.Substitution.{Substitution, instance};
@@ -12,7 +12,8 @@ ghost use Rattle.circ_theory.specs.Variables.{IsInOrder};
 ghost use Rattle.circ_theory.specs.Derivable.{Derivable};
 ghost use Rattle.circ_theory.specs.Experiment.{Fits, on, BehavesFrom};
 ghost use Rattle.circ_theory.specs.WellFormed.{IsWellFormed};
-ghost use Rattle.circ_theory.specs.Examples.{bits, zero_bit, negation, streams, head, swapped, on_variables, pair};
+ghost use Rattle.circ_theory.specs.Examples.{bits, zero_bit, negation, streams, head};
+ghost use Rattle.circ_theory.specs.Examples.{swapped, on_variables, pair};
 
 /// An instance of what is derivable is derivable from the instances of the premises.
 pub fn derivable_instances()
@@ -60,7 +61,8 @@ pub fn numbered_left_first()
 /// A form is cut at its holes, and each bracket is a word by itself.
 pub fn forms_are_cut()
     ensures plus { pieces_of (codes "_+_") ≡ Hole ∷ Word (codes "+") ∷ Hole ∷ [] }
-    ensures brackets { pieces_of (codes "a[_]") ≡ Word (codes "a") ∷ Word (codes "[") ∷ Hole ∷ Word (codes "]") ∷ [] }
+    ensures brackets { pieces_of (codes "a[_]")
+        ≡ Word (codes "a") ∷ Word (codes "[") ∷ Hole ∷ Word (codes "]") ∷ [] }
     ensures no_word { form_fault (codes "__") ≡ Some NoWord }
     ensures bad_word { form_fault (codes "_=_") ≡ Some BadWord }
     ensures good { form_fault (codes "_==_") ≡ None }
