@@ -1,5 +1,5 @@
-//! What is proved of derivations and experiments, and examples that try their definitions. The functions do nothing: a law is
-//! a contract.
+//! What is proved of derivations and experiments, and examples that try their definitions. The
+//! functions do nothing: a law is a contract.
 ghost use Rattle.std.specs.Prelude.{◌≡◌, ℕ, List, [], ◌∷◌, codes, Some, None, map};
 ghost use Rattle.circ_term.specs.Tree.{Tree, Var, App, none, more, sort_of};
 ghost use Rattle.circ_term.specs.Substitution.{Substitution, instance};
@@ -13,16 +13,22 @@ ghost use Rattle.circ_theory.specs.Derivable.{Derivable};
 ghost use Rattle.circ_theory.specs.Experiment.{Fits, on, Behaves};
 ghost use Rattle.circ_theory.specs.WellFormed.{IsWellFormed};
 ghost use Rattle.circ_theory.specs.Instances.{instance_pair};
-ghost use Rattle.circ_theory.specs.Examples.{bits, zero_bit, negation, streams, head, swapped, on_variables, pair};
+ghost use Rattle.circ_theory.specs.Examples.{
+    bits, zero_bit, negation, streams, head, swapped, on_variables, pair
+};
 
 /// An instance of what is derivable is derivable from the instances of the premises.
 pub fn derivable_instances()
-    ensures { (th : Theory) (H : List Pair) (s t : Tree) (σ : Substitution) → IsSubstitution th.signature σ → Derivable th H s t → Derivable th (map (instance_pair σ) H) (instance σ s) (instance σ t) }
+    ensures { (th : Theory) (H : List Pair) (s t : Tree) (σ : Substitution) →
+        IsSubstitution th.signature σ → Derivable th H s t →
+        Derivable th (map (instance_pair σ) H) (instance σ s) (instance σ t) }
 {}
 
-/// Well-sorted terms of one sort that are derivable from one another behave alike, whatever their sort.
+/// Well-sorted terms of one sort that are derivable from one another behave alike, whatever their
+/// sort.
 pub fn derivable_pairs_behave()
-    ensures { (th : Theory) → IsWellFormed th → (s t : Tree) → IsWellSorted th.signature s → IsWellSorted th.signature t → sort_of t ≡ sort_of s → Derivable th [] s t → Behaves th s t }
+    ensures { (th : Theory) → IsWellFormed th → (s t : Tree) → IsWellSorted th.signature s →
+        IsWellSorted th.signature t → sort_of t ≡ sort_of s → Derivable th [] s t → Behaves th s t }
 {}
 
 /// With `not(0) = 1` and `not(1) = 0`, `not(not(0)) = 0` is derivable.
@@ -50,7 +56,8 @@ pub fn numbered_left_first()
 /// A form is cut at its holes, and each bracket is a word by itself.
 pub fn forms_are_cut()
     ensures plus { pieces_of (codes "_+_") ≡ Hole ∷ Word (codes "+") ∷ Hole ∷ [] }
-    ensures brackets { pieces_of (codes "a[_]") ≡ Word (codes "a") ∷ Word (codes "[") ∷ Hole ∷ Word (codes "]") ∷ [] }
+    ensures brackets { pieces_of (codes "a[_]") ≡ Word (codes "a") ∷
+        Word (codes "[") ∷ Hole ∷ Word (codes "]") ∷ [] }
     ensures no_word { form_fault (codes "__") ≡ Some NoWord }
     ensures bad_word { form_fault (codes "_=_") ≡ Some BadWord }
     ensures good { form_fault (codes "_==_") ≡ None }

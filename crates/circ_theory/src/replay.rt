@@ -6,10 +6,14 @@ ghost use Rattle.circ_term.specs.Tree.{sort_of};
 ghost use Rattle.circ_term.specs.Subst.{substitution_of};
 ghost use Rattle.circ_theory.specs.Signature.{IsWellSorted};
 ghost use Rattle.circ_theory.specs.Derivable.{Derivable};
-ghost use Rattle.circ_theory.specs.Link.{Follows, named, IsInTable, plain_link, Equation_link, from_side, to_side};
+ghost use Rattle.circ_theory.specs.Link.{
+    Follows, named, IsInTable, plain_link, Equation_link, from_side, to_side
+};
 ghost use Rattle.circ_theory.specs.Theory.{pair_of};
 ghost use Rattle.circ_theory.specs.Numbering.{numbered};
-ghost use Rattle.circ_theory.specs.Rewriting.{GivesInstance, GivesReplaced, GivesRewrite, GivesSubst};
+ghost use Rattle.circ_theory.specs.Rewriting.{
+    GivesInstance, GivesReplaced, GivesRewrite, GivesSubst
+};
 
 use crate::parts::Equation;
 use crate::theories::Theory;
@@ -28,8 +32,8 @@ pub enum Way {
 /// One step of rewriting, as a proof records it.
 #[derive(Drop)]
 pub enum Link {
-    /// By an equation of the theory, at a path. The terms that its variables are given go by their numbers in a table, in the
-    /// order of the variables' numbers.
+    /// By an equation of the theory, at a path. The terms that its variables are given go by their
+    /// numbers in a table, in the order of the variables' numbers.
     Equation {
         number: u32,
         way: Way,
@@ -80,7 +84,8 @@ struct Step<'a> {
 }
 
 fn step_of(link: &Link) -> Step<'_>
-    ensures { plain_link link.now ≡ Equation_link result.number result.way result.path.now result.terms.now }
+    ensures { plain_link link.now ≡ Equation_link result.number result.way result.path.now
+        result.terms.now }
 {
     match link {
         Link::Equation {
@@ -150,7 +155,8 @@ fn rewrite(
     path: &[u16],
     term: &Term,
 ) -> Result<Option<Term>, AllocError>
-    ensures { IfOk result (GivesRewrite (substitution_of subst.now) from.now to.now path.now term.now) }
+    ensures { IfOk result (GivesRewrite (substitution_of subst.now) from.now to.now path.now
+        term.now) }
 {
     let Some(old) = term.at(path) else {
         return Ok(None);
