@@ -1,8 +1,6 @@
 //! What the calls that add parts test, and how they keep the numbers of operators.
-ghost use Rattle.std.specs.Prelude.{
-    ◌≡◌, ℕ, List, [], ◌∷◌, ◌++◌, ◌&&◌, if◌then◌else◌, nat_eq, nat_lt, not, find, is_some, OnOk,
-    OnErr
-};
+ghost use Rattle.std.specs.Prelude.{◌≡◌, ℕ, List, [], ◌∷◌, ◌++◌, ◌&&◌, if◌then◌else◌, nat_eq};
+ghost use Rattle.std.specs.Prelude.{nat_lt, not, find, is_some, OnOk, OnErr};
 ghost use Rattle.std.specs.Cmp.Lexicographic.{pointwise};
 ghost use Rattle.circ_term.specs.Tree.{operator_number};
 ghost use Rattle.circ_theory.specs.Operators.{operator_of, is_ill_sorted, hole_count};

@@ -1,10 +1,9 @@
 //! Texts, and the forms in which operators are written.
 ghost use Rattle.std.specs.Prelude.{◌≡◌, ◌≤◌, ◌<◌, ◌∷◌, IfOk, length, take, drop, position};
 ghost use Rattle.std.specs.List.{list_any};
-ghost use Rattle.circ_theory.specs.Form.{
-    is_special, is_word, is_bad_byte, is_reserved, is_bad_word, is_bad_piece, first_word, pieces_of,
-    text_of, piece_of, IsForm, ReadsForm
-};
+ghost use Rattle.circ_theory.specs.Form.{is_special, is_word, is_bad_byte, is_reserved};
+ghost use Rattle.circ_theory.specs.Form.{is_bad_word, is_bad_piece, first_word, pieces_of, text_of};
+ghost use Rattle.circ_theory.specs.Form.{piece_of, IsForm, ReadsForm};
 
 use std::alloc::{AllocError, AllocFailed, Global};
 use std::marker::Model;

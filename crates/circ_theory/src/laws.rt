@@ -13,9 +13,8 @@ ghost use Rattle.circ_theory.specs.Derivable.{Derivable};
 ghost use Rattle.circ_theory.specs.Experiment.{Fits, on, Behaves};
 ghost use Rattle.circ_theory.specs.WellFormed.{IsWellFormed};
 ghost use Rattle.circ_theory.specs.Instances.{instance_pair};
-ghost use Rattle.circ_theory.specs.Examples.{
-    bits, zero_bit, negation, streams, head, swapped, on_variables, pair
-};
+ghost use Rattle.circ_theory.specs.Examples.{bits, zero_bit, negation, streams, head, swapped};
+ghost use Rattle.circ_theory.specs.Examples.{on_variables, pair};
 
 /// An instance of what is derivable is derivable from the instances of the premises.
 pub fn derivable_instances()

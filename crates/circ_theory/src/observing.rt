@@ -1,15 +1,13 @@
 //! The variables of derivatives.
-ghost use Rattle.std.specs.Prelude.{
-    ◌≡◌, ◌↔◌, ◌++◌, map, IsTrue, IfOk, OnOk, if◌then◌else◌, is_some
-};
+ghost use Rattle.std.specs.Prelude.{◌≡◌, ◌↔◌, ◌++◌, map, IsTrue, IfOk, OnOk, if◌then◌else◌};
+ghost use Rattle.std.specs.Prelude.{is_some};
 ghost use Rattle.std.specs.List.{filter};
 ghost use Rattle.circ_term.specs.Tree.{trees_of};
 ghost use Rattle.circ_theory.specs.Variables.{AreNumberedFrom};
 ghost use Rattle.circ_theory.specs.Occurring.{variable_of};
-ghost use Rattle.circ_theory.specs.Observing.{
-    holes_in, parameters_in, all_holes_in, all_parameters_in, is_parameter, AreParametersInOrder,
-    first_repeated
-};
+ghost use Rattle.circ_theory.specs.Observing.{holes_in, parameters_in, all_holes_in};
+ghost use Rattle.circ_theory.specs.Observing.{all_parameters_in, is_parameter};
+ghost use Rattle.circ_theory.specs.Observing.{AreParametersInOrder, first_repeated};
 
 use crate::renumber::{Occurring, gather};
 use circ_term::{Kind, Term};

@@ -2,9 +2,8 @@
 ghost use Rattle.std.specs.Prelude.{◌≡◌, ◌↔◌, ◌≤◌, ◌^◌, length, ◌∷◌, [], IsTrue, IfOk};
 ghost use Rattle.std.specs.Bool.{OnTrue};
 ghost use Rattle.circ_term.specs.Tree.{trees_of};
-ghost use Rattle.circ_theory.specs.Variables.{
-    IsInOrder, AreNumberedFrom, seen, seen_in, seen_in_all, sorts_of
-};
+ghost use Rattle.circ_theory.specs.Variables.{IsInOrder, AreNumberedFrom, seen, seen_in};
+ghost use Rattle.circ_theory.specs.Variables.{seen_in_all, sorts_of};
 ghost use Rattle.circ_theory.specs.Numbering.{numbered};
 ghost use Rattle.circ_theory.specs.Rule.{is_bound};
 

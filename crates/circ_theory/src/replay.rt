@@ -6,14 +6,12 @@ ghost use Rattle.circ_term.specs.Tree.{sort_of};
 ghost use Rattle.circ_term.specs.Subst.{substitution_of};
 ghost use Rattle.circ_theory.specs.Signature.{IsWellSorted};
 ghost use Rattle.circ_theory.specs.Derivable.{Derivable};
-ghost use Rattle.circ_theory.specs.Link.{
-    Follows, named, IsInTable, plain_link, Equation_link, from_side, to_side
-};
+ghost use Rattle.circ_theory.specs.Link.{Follows, named, IsInTable, plain_link, Equation_link};
+ghost use Rattle.circ_theory.specs.Link.{from_side, to_side};
 ghost use Rattle.circ_theory.specs.Theory.{pair_of};
 ghost use Rattle.circ_theory.specs.Numbering.{numbered};
-ghost use Rattle.circ_theory.specs.Rewriting.{
-    GivesInstance, GivesReplaced, GivesRewrite, GivesSubst
-};
+ghost use Rattle.circ_theory.specs.Rewriting.{GivesInstance, GivesReplaced, GivesRewrite};
+ghost use Rattle.circ_theory.specs.Rewriting.{GivesSubst};
 
 use crate::parts::Equation;
 use crate::theories::Theory;
@@ -21,7 +19,7 @@ use circ_term::{Path, Subst, Term, TermFault};
 use std::alloc::{AllocError, Global};
 
 /// Which side of a pair is looked for.
-#[derive(Clone, Copy, PartialEq, Eq, Debug)]
+#[derive(Clone, Copy, PartialEq, Eq)]
 pub enum Way {
     /// The left side, and the right side replaces it.
     Forth,

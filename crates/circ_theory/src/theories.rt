@@ -40,7 +40,7 @@ struct Observer {
     params: usize,
 }
 
-// What a theory holds. It lies behind a pointer, so that a call which drops a theory stays short.
+// What a theory holds. It is boxed, so that each exit that drops a theory does it by one call.
 #[derive(Drop)]
 struct Parts {
     name: Text,
@@ -108,8 +108,14 @@ impl Theory {
     /// The theory of this name without parts.
     pub fn new(alloc: Global, name: &[u8]) -> Result<Theory, AllocError>
         ensures { IfOk result
-            (λ th. th ≡ record { name = name.now; signature = record { sorts = []; ops = [] };
-            variables = []; equations = []; derivatives = []; cases = [] }) }
+            (λ th. th ≡ record {
+              name = name.now;
+              signature = record { sorts = []; ops = [] };
+              variables = [];
+              equations = [];
+              derivatives = [];
+              cases = [];
+            }) }
     {
         let parts = Parts {
             name: Text::of(alloc, name)?,

@@ -5,21 +5,19 @@ ghost use Rattle.circ_theory.specs.Signature.{IsSort, IsWellSorted};
 ghost use Rattle.circ_theory.specs.Theory.{Declared, IsWellSortedPair};
 ghost use Rattle.circ_theory.specs.Variables.{IsInOrder};
 ghost use Rattle.circ_theory.specs.Operators.{operator_of};
-ghost use Rattle.circ_theory.specs.Adding.{
-    Numbers, sort_fault, op_fault, equation_fault, var_number, var_fault, with_sort, with_var,
-    with_op, with_equation
-};
-ghost use Rattle.circ_theory.specs.Observing.{
-    AreParametersInOrder, derivative_fault, with_derivative, cases_fault, with_cases
-};
+ghost use Rattle.circ_theory.specs.Adding.{Numbers, sort_fault, op_fault, equation_fault};
+ghost use Rattle.circ_theory.specs.Adding.{var_number, var_fault, with_sort, with_var, with_op};
+ghost use Rattle.circ_theory.specs.Adding.{with_equation};
+ghost use Rattle.circ_theory.specs.Observing.{AreParametersInOrder, derivative_fault};
+ghost use Rattle.circ_theory.specs.Observing.{with_derivative, cases_fault, with_cases};
 
-use crate::{MOST_EQUATIONS, MOST_SORTS};
+use super::{Listed, Observer, Theory, Vars};
 use crate::adding::{count_fault, is_rule_with, note_word};
 use crate::fault::TheoryFault;
 use crate::observing::first_repeated;
 use crate::order::pair_variables;
 use crate::parts::{Equation, OpDecl};
-use super::{Listed, Observer, Theory, Vars};
+use crate::{MOST_EQUATIONS, MOST_SORTS};
 use circ_term::Term;
 use indexmap::IndexMap;
 use std::mem::replace;
@@ -80,7 +78,12 @@ impl Theory {
         let key = self.new_key(&decl)?;
         let parts = &mut *self.parts;
         parts.ops.reserve(1)?;
-        note_word(self.alloc, &mut parts.by_word, decl.form.first_word(), number)?;
+        note_word(
+            self.alloc,
+            &mut parts.by_word,
+            decl.form.first_word(),
+            number,
+        )?;
         match parts.ops.insert(key, decl) {
             Ok(_) => Ok(number),
             Err(_) => unreachable!(),

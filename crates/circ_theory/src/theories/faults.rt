@@ -1,21 +1,19 @@
 //! Why a part is not added to a theory.
 ghost use Rattle.std.specs.Prelude.{◌≡◌, ◌≤◌, IfOk, IfErr, None, not, find, length};
 ghost use Rattle.circ_theory.specs.Operators.{operator_of};
-ghost use Rattle.circ_theory.specs.Adding.{
-    Numbers, IsFaultOf, op_fault, old_var_fault, new_var_fault, unknown_sort
-};
-ghost use Rattle.circ_theory.specs.Observing.{
-    holes_in, parameters_in, first_repeated, first_or_zero, slots_fault, derivative_fault,
-    cases_fault, is_constant, no_constants
-};
+ghost use Rattle.circ_theory.specs.Adding.{Numbers, IsFaultOf, op_fault, old_var_fault};
+ghost use Rattle.circ_theory.specs.Adding.{new_var_fault, unknown_sort};
+ghost use Rattle.circ_theory.specs.Observing.{holes_in, parameters_in, first_repeated};
+ghost use Rattle.circ_theory.specs.Observing.{first_or_zero, slots_fault, derivative_fault};
+ghost use Rattle.circ_theory.specs.Observing.{cases_fault, is_constant, no_constants};
 ghost use Rattle.circ_theory.specs.Inside.{IsKeyOf};
 
-use crate::{MOST_ARGS, MOST_CASES, MOST_DERIVATIVES, MOST_OPS, MOST_PARAMS, MOST_VARS};
+use super::{OpKey, Theory};
 use crate::adding::{count_fault, first_from, first_or_zero, is_ill_sorted, long_fault};
 use crate::fault::TheoryFault;
 use crate::observing::{Slots, first_repeated, slots_of};
 use crate::parts::OpDecl;
-use super::{OpKey, Theory};
+use crate::{MOST_ARGS, MOST_CASES, MOST_DERIVATIVES, MOST_OPS, MOST_PARAMS, MOST_VARS};
 use circ_term::{MOST_NODES, Term};
 use std::alloc::{AllocError, Global};
 

@@ -10,10 +10,10 @@ ghost use Rattle.circ_theory.specs.Names.{AreDifferent, names_of};
 ghost use Rattle.circ_theory.specs.Rule.{is_rule};
 ghost use Rattle.circ_theory.specs.Observing.{parameters_in, derivative_with, cases_of, is_hidden};
 
-use crate::{MOST_DERIVATIVES, MOST_EQUATIONS, MOST_OPS, MOST_SORTS, MOST_VARS};
+use super::{Listed, Observer, OpKey, Theory};
 use crate::forms::Form;
 use crate::parts::{Equation, OpDecl};
-use super::{Listed, Observer, OpKey, Theory};
+use crate::{MOST_DERIVATIVES, MOST_EQUATIONS, MOST_OPS, MOST_SORTS, MOST_VARS};
 use circ_term::Term;
 use std::alloc::AllocError;
 
