@@ -1,13 +1,17 @@
 -- Answers over a shelf and a sink whose counts of faults stay.
-use Rattle.std.proofs.Common.{◌≡◌, ℕ, List, ◌++◌, ◌⊎◌, inl, inr, true, refl, arith, Option, Some, None}
+use Rattle.std.proofs.Common.{◌≡◌, ℕ, List, ◌⊎◌, inl, inr, true, refl, arith, Option, Some, None}
 use Rattle.std.specs.Prelude.{IsSome}
 use Rattle.circ_outer.specs.Count.{Rose}
-use Rattle.circ_top.specs.Outcome.{Held, Outside, Output, IsUnread}
-use Rattle.circ_top.specs.Causes.{IsOutcome, IsLike, Comes, printed, not_read, not_written, no_memory, AtFile, IsReadFault, HoldsFilesOf, HoldsFiles, Appends}
+use Rattle.circ_outer.specs.Shelf.{ShelfState}
+use Rattle.circ_outer.specs.Sink.{SinkState}
+use Rattle.circ_top.specs.Causes.{IsOutcome, AnswersOutcome, printed, not_read, not_written, no_memory, AtFile, IsReadFault}
 use Rattle.circ_top.specs.Command.{Command, Check, Show, Library}
+use Rattle.circ_top.specs.Files.{IsUnread}
+use Rattle.circ_top.specs.InMemory.{HoldsFilesOf, HoldsFiles, AppendsAnswer, Appends}
+use Rattle.circ_top.specs.Outcome.{Stored}
 use Rattle.circ_top.specs.declared.status.Status.{Status}
 use Rattle.circ_top.specs.declared.status.Status.TheVariants as status
-use Rattle.circ_top.proofs.Outcomes.{unread_rose}
+use Rattle.circ_top.proofs.FileFaults.{unread_rose}
 
 pub never_rose : Rose 0 0 → ⊥
 never_rose (inl l) = omega (arith, l)
@@ -17,25 +21,26 @@ some_held : {X : Type 0} (o : Option X) → IsSome o → o ≡ None → ⊥
 some_held (Some x) i e = cc
 some_held None i e = cc
 
-held_file : (o : Outside) (c : Command) → (Rose o.faults_before o.faults_after → ⊥) → HoldsFilesOf o.held c → AtFile o c (λ file name. IsUnread o name) → ⊥
-held_file o (Check theory proof) quiet h (inl u) = quiet (unread_rose o theory (some_held (o.held theory) h.0) u)
-held_file o (Check theory proof) quiet h (inr u) = quiet (unread_rose o proof (some_held (o.held proof) h.1) u.1.1.1)
-held_file o (Show theory) quiet h u = quiet (unread_rose o theory (some_held (o.held theory) h) u)
-held_file o (Library text) quiet h u = u
+held_file : (before after : ShelfState) (c : Command) → (Rose before.count after.count → ⊥) → HoldsFilesOf before.holds c → AtFile before c (λ file name. IsUnread name before after) → ⊥
+held_file before after (Check theory proof) quiet h (inl u) = quiet (unread_rose theory before after (some_held (before.holds theory) h.0) u)
+held_file before after (Check theory proof) quiet h (inr u) = quiet (unread_rose proof before after (some_held (before.holds proof) h.1) u.1.1)
+held_file before after (Show theory) quiet h u = quiet (unread_rose theory before after (some_held (before.holds theory) h) u)
+held_file before after (Library text) quiet h u = u
 
-pub always_read : (words : List (List ℕ)) (o : Outside) (out : Output) (n : ℕ) → (Rose o.faults_before o.faults_after → ⊥) → HoldsFiles words o.held → IsReadFault words o out n → ⊥
-always_read words o out n quiet held f = held_file o f.command quiet (held f.command f.asks) f.unread
+module _ (before after : ShelfState) (start end : SinkState) where
+  pub always_read : (words : List (List ℕ)) (n : ℕ) → (Rose before.count after.count → ⊥) → HoldsFiles words before.holds → IsReadFault words before after start end n → ⊥
+  always_read words n quiet held f = held_file before after f.command quiet (held f.command f.asks) f.unread
 
-pub sure_outcome : (words : List (List ℕ)) (held : Held) (out : Output) (r : Status) → out.tells ≡ true → ((n : ℕ) → r ≡ status.ReadFault n → ⊥)
-    → ((n : ℕ) → r ≡ status.WriteFault n → ⊥) → IsOutcome words held out r → Appends words held out.before out.after r
-sure_outcome words held out (status.ReadFault n) t f g c = absurd (f n refl)
-sure_outcome words held out (status.WriteFault n) t f g c = absurd (g n refl)
-sure_outcome words held out status.Memory t f g c = tt
-sure_outcome words held out r t f g c = (c.0, (c.1.0, c.1.1.printed t))
+  pub sure_outcome : (words : List (List ℕ)) (r : Status) → start.tells ≡ true → ((n : ℕ) → r ≡ status.ReadFault n → ⊥) → ((n : ℕ) → r ≡ status.WriteFault n → ⊥)
+      → IsOutcome words before after start end r → Appends words before after start end r
+  sure_outcome words (status.ReadFault n) t f g c = absurd (f n refl)
+  sure_outcome words (status.WriteFault n) t f g c = absurd (g n refl)
+  sure_outcome words status.Memory t f g c = tt
+  sure_outcome words r t f g c = record { text = c.text; stored = c.stored; outcome = c.outcome; held = c.held; appended = c.prints.printed t }
 
-pub sure_comes : (o : Outside) (out : Output) (s r : Status) (text : List ℕ) → out.tells ≡ true → (Rose o.faults_before o.faults_after → ⊥) → (Rose out.faults_before out.faults_after → ⊥)
-    → Comes o out s text r → ((given : List ℕ) × IsLike s text r given × (out.after ≡ out.before ++ given)) ⊎ (r ≡ status.Memory)
-sure_comes o out s r text t f g (printed _ given l p) = inl (given, l, p.printed t)
-sure_comes o out s _ text t f g (not_read n rose p) = absurd (f rose)
-sure_comes o out s _ text t f g (not_written n rose p) = absurd (g rose)
-sure_comes o out s _ text t f g (no_memory p) = inr refl
+  pub sure_answer : (s r : Status) (text : List ℕ) (stored : Option Stored) → start.tells ≡ true → (Rose before.count after.count → ⊥) → (Rose start.count end.count → ⊥)
+      → AnswersOutcome before after start end s text stored r → AppendsAnswer before after start end s text stored r ⊎ (r ≡ status.Memory)
+  sure_answer s r text stored t f g (printed _ given l h p) = inl (record { given = given; like = l; held = h; appended = p.printed t })
+  sure_answer s _ text stored t f g (not_read n rose p) = absurd (f rose)
+  sure_answer s _ text stored t f g (not_written n rose h p) = absurd (g rose)
+  sure_answer s _ text stored t f g (no_memory p) = inr refl

@@ -14,7 +14,7 @@ use Rattle.circ_theory.specs.Link.{PlainLink, Equation_link, plain_link, IsInTab
 use Rattle.circ_theory.specs.declared.replay.Link.{Link}
 use Rattle.circ_theory.specs.declared.replay.Link.TheVariants as link
 use Rattle.circ_file.specs.Proof.{Proof, Chain, GoalNames, IsLinkFor, IsChainFor, IsNameFor, ProofFor, goal_of, goals_of}
-use Rattle.circ_top.specs.Accepted.{LeadAll, Justified, Reduce, Done, StepsOf, Accepted}
+use Rattle.circ_top.specs.Steps.{LeadAll, Justified, Reduce, Done, StepsOf, Accepted}
 
 pub links_in_table : (count : ℕ) (ls : List PlainLink) → AllByRecursion (IsLinkFor count) ls → AllByRecursion (IsInTable count) ls
 links_in_table count [] a = tt

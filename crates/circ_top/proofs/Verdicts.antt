@@ -2,7 +2,7 @@
 use Rattle.std.proofs.Common.{◌≡◌, ℕ, ◌+◌, List, [], ◌∷◌, ◌++◌, length, suc, refl, ap, sym, ◌∙◌, subst}
 use Rattle.circ_term.specs.Tree.{Tree}
 use Rattle.circ_theory.specs.Theory.{Theory, Pair}
-use Rattle.circ_top.specs.Accepted.{Step, Reduce, Done, StepOf, StepsOf, FirstFailOf}
+use Rattle.circ_top.specs.Steps.{Step, Reduce, Done, StepOf, StepsOf, FirstFailOf}
 
 module _ (th : Theory) (table : List Tree) where
   -- a step leads to one list of goals at most

@@ -1,5 +1,5 @@
 -- What the words of a run ask for.
-use Rattle.std.specs.Prelude.{◌≡◌, List, ℕ, [], ◌∷◌, Some, codes}
+use Rattle.std.specs.Prelude.{◌≡◌, List, ℕ, [], ◌∷◌, Option, Some, None, codes}
 use Rattle.circ_lib.specs.Library.{library_text}
 use Rattle.circ_top.specs.declared.request.Request.{Request}
 use Rattle.circ_top.specs.declared.request.Request.TheVariants as request
@@ -18,6 +18,16 @@ pub data Asks (words : List (List ℕ)) : Command → Type 0 where
 
 abbrev pub IsNoCommand : List (List ℕ) → Type 0
 IsNoCommand words = (c : Command) → Asks words c → ⊥
+
+-- the name under which a command stores a file
+abbrev pub stored_name : Command → Option (List ℕ)
+stored_name (Check theory proof) = None
+stored_name (Show theory) = None
+stored_name (Library text) = None
+
+-- No command that the words ask for stores under this name.
+abbrev pub IsNotStored : (words : List (List ℕ)) → (name : List ℕ) → Type 0
+IsNotStored words name = (c : Command) → Asks words c → stored_name c ≡ Some name → ⊥
 
 -- what a request in memory asks for
 abbrev pub plain_request : Request → Command

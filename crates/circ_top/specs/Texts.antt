@@ -1,16 +1,10 @@
--- The printed texts: goals and answers.
+-- The texts of refusals.
 use Rattle.std.specs.Prelude.{ℕ, List, [], ◌++◌, codes, decimal, ◌==◌, if◌then◌else◌}
-use Rattle.circ_theory.specs.Signature.{Signature}
-use Rattle.circ_theory.specs.Theory.{Pair}
-use Rattle.circ_show.specs.GoalsText.{goal_lines}
 use Rattle.circ_read.specs.declared.cause.Cause.{Cause}
 use Rattle.circ_read.specs.declared.cause.Cause.TheVariants as cause
+use Rattle.circ_top.specs.Command.{Command, Check}
 use Rattle.circ_top.specs.declared.status.Status.{Status}
 use Rattle.circ_top.specs.declared.status.Status.TheVariants as status
-
--- the text of an accepted proof
-abbrev pub accepted_text : Signature → List Pair → List ℕ
-accepted_text sig goals = codes "accepted\n" ++ goal_lines sig goals
 
 abbrev pub cause_text : Cause → List ℕ
 cause_text (cause.NotAscii n) = codes "not ascii at " ++ decimal n
@@ -35,15 +29,26 @@ cause_text cause.Unclosed = codes "unclosed"
 cause_text cause.Line = codes "form"
 cause_text cause.LineLimit = codes "limit"
 
--- places of the proof, which is file 2, are lines
-abbrev pub place_text : ℕ → List ℕ
-place_text file = if file == 2 then codes ", line " else codes ", statement "
+-- the places of a file's text, by the command that takes the file: lines of a proof, else statements
+abbrev pub place_text : Command → (file : ℕ) → List ℕ
+place_text (Check theory proof) file = if file == 2 then codes ", line " else codes ", statement "
+place_text _ file = codes ", statement "
 
--- the text of a refusal; the other answers have texts of their own, or none
-abbrev pub refusal_text : Status → List ℕ
-refusal_text (status.Refused n) = codes "refused at " ++ decimal n ++ codes "\n"
-refusal_text (status.Unreadable file place cause) =
-    codes "unreadable: file " ++ decimal file ++ place_text file ++ decimal place ++ codes ", " ++ cause_text cause ++ codes "\n"
-refusal_text status.Usage = codes "usage: circ [--steps N] [--derives N] COMMAND WORD...\n"
-refusal_text (status.TooLong file n) = codes "too long: file " ++ decimal file ++ codes "\n"
-refusal_text _ = []
+abbrev pub refused_text : (step : ℕ) → List ℕ
+refused_text n = codes "refused at " ++ decimal n ++ codes "\n"
+
+abbrev pub unreadable_text : (place_words : List ℕ) → (file place : ℕ) → Cause → List ℕ
+unreadable_text place_words file place c = codes "unreadable: file " ++ decimal file ++ place_words ++ decimal place ++ codes ", " ++ cause_text c ++ codes "\n"
+
+abbrev pub too_long_text : (file : ℕ) → List ℕ
+too_long_text file = codes "too long: file " ++ decimal file ++ codes "\n"
+
+abbrev pub usage_text : List ℕ
+usage_text = codes "usage: circ [--steps N] [--derives N] COMMAND WORD...\n"
+
+-- the text of a command's refusal; the other answers have texts of their own, or none
+abbrev pub refusal_text : Command → Status → List ℕ
+refusal_text c (status.Refused n) = refused_text n
+refusal_text c (status.Unreadable file place cause) = unreadable_text (place_text c file) file place cause
+refusal_text c (status.TooLong file n) = too_long_text file
+refusal_text c _ = []

@@ -1,95 +1,60 @@
-//! The steps of a proof, one after the other.
-ghost use Rattle.std.specs.Prelude.{◌≡◌, ◌↔◌, ℕ, IsTrue, IfOk, IfSome, length, map};
-ghost use Rattle.std.specs.List.{AllByRecursion};
-ghost use Rattle.circ_theory.specs.Signature.{IsWellSorted};
-ghost use Rattle.circ_theory.specs.Link.{plain_link, IsInTable};
-ghost use Rattle.circ_file.specs.Proof.{IsChainFor, ProofFor};
-ghost use Rattle.circ_file.specs.Plain.{plain_chain, plain_proof};
-ghost use Rattle.circ_top.specs.Accepted.{Justified};
-ghost use Rattle.circ_top.specs.Verdict.{LeadsTo, Decides};
+//! The command `check`: a proof file is checked against a theory file.
+ghost use Rattle.std.specs.Prelude.{IfOk, IfErr};
+ghost use Rattle.circ_outer.specs.Shelf.{ShelfFrame};
+ghost use Rattle.circ_file.specs.Plain.{plain_proof};
+ghost use Rattle.circ_file.specs.Proof.{ProofFor};
+ghost use Rattle.circ_top.specs.Check.{Proves, Fails, IsAccepted, RefusesCheck};
+ghost use Rattle.circ_top.specs.Quiet.{IsQuietCall};
 
-use crate::goals::{name_at, term_at};
-use circ_file::{Chain, Proof};
-use circ_term::Term;
-use circ_theory::{Link, Theory, follow};
-use std::alloc::{AllocError, Global};
+use crate::goals::accepted;
+use crate::proof_file::take_proof;
+use crate::status::Status;
+use crate::steps::{Verdict, follow_steps};
+use crate::theory_file::take_theory;
+use circ_file::Proof;
+use circ_outer::Shelf;
+use circ_theory::Theory;
+use std::alloc::Global;
 
-/// What a proof's steps come to.
-#[derive(Clone, Copy, Debug, PartialEq, Eq)]
-pub enum Verdict {
-    /// Every step is an instance of its rule.
-    Accepted,
-    /// The first step that is none, counted from 1.
-    Refused { step: u64 },
-}
-
-/// The term to which the links lead, one after the other.
-fn lead(
+/// The text of a proof that is accepted, or the answer in its place.
+pub(crate) fn check<S: Shelf>(
     alloc: Global,
-    theory: &Theory,
-    table: &[Term],
-    links: &[Link],
-    term: &Term,
-) -> Result<Option<Term>, AllocError>
-    requires table_sorted { AllByRecursion (IsWellSorted theory.now.signature) table.now }
-    requires numbers { AllByRecursion (λ l. IsInTable (length table.now) (plain_link l)) links.now }
-    requires term_sorted { IsWellSorted theory.now.signature term.now }
-    ensures leads { IfOk result (LeadsTo theory.now table.now (map plain_link links.now) term.now) }
+    shelf: &mut S,
+    theory: &str,
+    proof: &str,
+) -> Result<Vec<u8>, Status>
+    ensures accepted { IfOk result (λ v.
+        IsAccepted theory.now proof.now v.items (S.state shelf.old)) }
+    ensures refused { IfErr result
+        (RefusesCheck theory.now proof.now (S.state shelf.old) (S.state shelf.new)) }
+    ensures quiet { IsQuietCall (S.state shelf.old) (S.state shelf.new) result }
+    ensures frame { ShelfFrame (S.state shelf.old) (S.state shelf.new) }
 {
-    let mut here = term.share()?;
-    for link in links {
-        match follow(alloc, theory, table, link, &here)? {
-            None => return Ok(None),
-            Some(next) => here = next,
-        }
-    }
-    Ok(Some(here))
+    let theory = match take_theory(alloc, shelf, theory) {
+        Ok(theory) => theory,
+        Err(status) => return Err(status),
+    };
+    let proof = match take_proof(alloc, shelf, proof, &theory) {
+        Ok(proof) => proof,
+        Err(status) => return Err(status),
+    };
+    judge(alloc, &theory, &proof)
 }
 
-/// Whether the chain leads the two sides to one term.
-fn justified(
-    alloc: Global,
-    theory: &Theory,
-    table: &[Term],
-    left: &Term,
-    right: &Term,
-    chain: &Chain,
-) -> Result<bool, AllocError>
-    requires table_sorted { AllByRecursion (IsWellSorted theory.now.signature) table.now }
-    requires numbers { IsChainFor (length table.now) (plain_chain chain.now) }
-    requires left_sorted { IsWellSorted theory.now.signature left.now }
-    requires right_sorted { IsWellSorted theory.now.signature right.now }
-    ensures { IfOk result (λ b. IsTrue b ↔ Justified theory.now table.now (record { left = left.now; right = right.now }) (plain_chain chain.now)) }
-{
-    let Some(left) = lead(alloc, theory, table, chain.left.as_slice(), left)? else {
-        return Ok(false);
-    };
-    let Some(right) = lead(alloc, theory, table, chain.right.as_slice(), right)? else {
-        return Ok(false);
-    };
-    Ok(left.same(&right))
-}
-
-/// Follows the steps up to the first that is no instance of its rule.
-pub(crate) fn check(alloc: Global, theory: &Theory, proof: &Proof) -> Result<Verdict, AllocError>
+/// The text of a proof that is accepted, or the number of its first step that is no instance of
+/// its rule.
+fn judge(alloc: Global, theory: &Theory, proof: &Proof) -> Result<Vec<u8>, Status>
     requires { ProofFor theory.now (plain_proof proof.now) }
-    ensures { IfOk result (Decides theory.now (plain_proof proof.now)) }
+    ensures accepted { IfOk result (λ v. Proves theory.now (plain_proof proof.now) v.items) }
+    ensures refused { IfErr result (Fails theory.now (plain_proof proof.now)) }
 {
-    let table = proof.table.as_slice();
-    for (done, chain) in proof.chains.iter().enumerate() {
-        let step = done as u64 + 1;
-        let Some(name) = name_at(proof.names.as_slice(), done) else {
-            return Ok(Verdict::Refused { step });
-        };
-        let left = term_at(table, name.left);
-        let right = term_at(table, name.right);
-        if !justified(alloc, theory, table, left, right, chain)? {
-            return Ok(Verdict::Refused { step });
-        }
+    theory.known();
+    match follow_steps(alloc, theory, proof) {
+        Ok(Verdict::Accepted) => match accepted(alloc, theory, proof) {
+            Ok(text) => Ok(text),
+            Err(_) => Err(Status::Memory),
+        },
+        Ok(Verdict::Refused { step }) => Err(Status::Refused { step }),
+        Err(_) => Err(Status::Memory),
     }
-    if proof.names.len() > proof.chains.len() {
-        let step = proof.chains.len() as u64 + 1;
-        return Ok(Verdict::Refused { step });
-    }
-    Ok(Verdict::Accepted)
 }

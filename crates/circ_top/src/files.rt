@@ -1,7 +1,11 @@
 //! A whole file, taken in pieces.
-ghost use Rattle.std.specs.Prelude.{◌≡◌, ◌⊎◌, ◌<◌, ◌≤◌, ◌+◌, ℕ, List, true, false, length, Some, IfOk, OnOk};
-ghost use Rattle.circ_outer.specs.Shelf.{Struck, Missing, IsQuiet};
+ghost use Rattle.std.specs.Prelude.{◌≡◌, ◌⊎◌, ◌<◌, ◌≤◌, ◌+◌, ℕ, List, true, false, length};
+ghost use Rattle.std.specs.Prelude.{Some, IfOk, IfErr};
+ghost use Rattle.circ_outer.specs.Shelf.{Struck, Missing, ShelfFrame};
+ghost use Rattle.circ_top.specs.Files.{IsUntaken};
+ghost use Rattle.circ_top.specs.Quiet.{IsQuietCall, IsQuietTaking};
 
+use crate::status::Status;
 use circ_outer::{OuterFault, Shelf};
 use std::alloc::{AllocError, Global};
 
@@ -11,8 +15,31 @@ pub const MOST_BYTES: usize = 67_108_864;
 /// The bytes that a piece takes at most.
 pub const PIECE: usize = 65_536;
 
+/// The bytes of a file, or why there are none.
+pub(crate) fn take_file<S: Shelf>(
+    alloc: Global,
+    shelf: &mut S,
+    file: u8,
+    name: &str,
+) -> Result<Vec<u8>, Status>
+    ensures content { IfOk result (λ v. (S.state shelf.old).tells ≡ true →
+        (S.state shelf.old).holds name.now ≡ Some v.items) }
+    ensures short { IfOk result (λ v. length v.items ≤ MOST_BYTES) }
+    ensures fault { IfErr result (IsUntaken file name.now (S.state shelf.old) (S.state shelf.new)) }
+    ensures quiet { IsQuietCall (S.state shelf.old) (S.state shelf.new) result }
+    ensures frame { ShelfFrame (S.state shelf.old) (S.state shelf.new) }
+{
+    match read_file(alloc, shelf, name) {
+        Ok(bytes) => Ok(bytes),
+        Err(FileFault::Failed) => Err(Status::ReadFault {
+            count: shelf.faults(),
+        }),
+        Err(FileFault::TooLong { count }) => Err(Status::TooLong { file, count }),
+        Err(FileFault::Memory) => Err(Status::Memory),
+    }
+}
+
 /// Why a file was not taken.
-#[derive(Debug, Clone, Copy, PartialEq, Eq)]
 pub enum FileFault {
     /// The outside failed, or there is no such file.
     Failed,
@@ -47,29 +74,25 @@ impl From<OuterFault> for FileFault {
     }
 }
 
-fn buffer(alloc: Global) -> Result<Vec<u8>, AllocError>
-    ensures some { IfOk result (λ v. 0 < length v.items) }
-    ensures most { IfOk result (λ v. length v.items ≤ PIECE) }
-{
-    vec![in alloc; 0u8; PIECE]
-}
-
 /// All the bytes of a file.
-pub fn read_file<S: Shelf>(alloc: Global, shelf: &mut S, name: &str) -> Result<Vec<u8>, FileFault>
-    ensures content { IfOk result (λ v. S.tells shelf.old ≡ true → S.holds shelf.old name.now ≡ Some v.items) }
+fn read_file<S: Shelf>(alloc: Global, shelf: &mut S, name: &str) -> Result<Vec<u8>, FileFault>
+    ensures content { IfOk result (λ v. (S.state shelf.old).tells ≡ true →
+        (S.state shelf.old).holds name.now ≡ Some v.items) }
     ensures short { IfOk result (λ v. length v.items ≤ MOST_BYTES) }
 
-    // The count of a file that is too long lies within one piece past the limit, and within the file.
-    ensures past { (n : ℕ) → result ≡ Err (FileFault.TooLong n) → (MOST_BYTES < n) × (n ≤ MOST_BYTES + PIECE) }
-    ensures long { (n : ℕ) → result ≡ Err (FileFault.TooLong n) → S.tells shelf.old ≡ true → (bytes : List ℕ) × (S.holds shelf.old name.now ≡ Some bytes) × (n ≤ length bytes) }
+    // The count of a file that is too long lies within one piece past the limit, and within the
+    // file.
+    ensures past { (n : ℕ) → result ≡ Err (FileFault.TooLong n) →
+        (MOST_BYTES < n) × (n ≤ MOST_BYTES + PIECE) }
+    ensures long { (n : ℕ) → result ≡ Err (FileFault.TooLong n) →
+        (S.state shelf.old).tells ≡ true → (bytes : List ℕ) ×
+        ((S.state shelf.old).holds name.now ≡ Some bytes) × (n ≤ length bytes) }
 
-    ensures failed { result ≡ Err FileFault.Failed → Struck (S.fault_count shelf.old) (S.fault_count shelf.new) (S.last_fault shelf.new) name.now false
-        ⊎ Missing (S.tells shelf.old) (S.holds shelf.old name.now) (S.fault_count shelf.old) (S.fault_count shelf.new) (S.last_fault shelf.old) (S.last_fault shelf.new) }
-    ensures quiet { OnOk result (IsQuiet (S.fault_count shelf.old) (S.fault_count shelf.new) (S.last_fault shelf.old) (S.last_fault shelf.new)) }
-    ensures count { S.fault_count shelf.old ≤ S.fault_count shelf.new }
-
-    ensures tells { S.tells shelf.new ≡ S.tells shelf.old }
-    ensures holds { (n : List ℕ) → S.holds shelf.new n ≡ S.holds shelf.old n }
+    ensures failed { result ≡ Err FileFault.Failed →
+        Struck name.now false (S.state shelf.old) (S.state shelf.new)
+        ⊎ Missing name.now (S.state shelf.old) (S.state shelf.new) }
+    ensures quiet { IsQuietTaking (S.state shelf.old) (S.state shelf.new) result }
+    ensures frame { ShelfFrame (S.state shelf.old) (S.state shelf.new) }
 {
     shelf.begin(name)?;
     let mut bytes = Vec::new(alloc);
@@ -86,4 +109,11 @@ pub fn read_file<S: Shelf>(alloc: Global, shelf: &mut S, name: &str) -> Result<V
         }
         bytes.extend_from_slice(&buf[..n])?;
     }
+}
+
+fn buffer(alloc: Global) -> Result<Vec<u8>, AllocError>
+    ensures some { IfOk result (λ v. 0 < length v.items) }
+    ensures most { IfOk result (λ v. length v.items ≤ PIECE) }
+{
+    vec![in alloc; 0u8; PIECE]
 }

@@ -6,12 +6,15 @@ mod command;
 mod files;
 mod goals;
 pub mod laws;
+mod library;
+mod proof_file;
 mod request;
+mod show;
 mod status;
+mod steps;
 pub mod sure;
-#[cfg(test)]
-mod tests;
 mod texts;
+mod theory_file;
 
 pub use command::circ;
 pub use status::Status;

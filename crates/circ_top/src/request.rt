@@ -5,6 +5,7 @@ ghost use Rattle.circ_top.specs.Command.{Asks, IsNoCommand, plain_request};
 use circ_lib::lookup;
 
 /// A command with what it takes: names of files, or the text of the library that is named.
+#[derive(Drop)]
 pub enum Request<'a> {
     /// A proof file is checked against a theory file.
     Check { theory: &'a str, proof: &'a str },
@@ -14,17 +15,30 @@ pub enum Request<'a> {
     Library { text: &'static [u8] },
 }
 
-// Whether the word is this text.
+/// The request that the words make, if they are those of a command.
+pub fn asked(words: &[String]) -> Option<Request<'_>>
+    ensures { MatchOption result (IsNoCommand (map string_bytes words.now))
+        (λ r. Asks (map string_bytes words.now) (plain_request r)) }
+{
+    match words.len() {
+        3 => of_three(words),
+        4 => of_four(words),
+        _ => None,
+    }
+}
+
+/// Whether the word is this text.
 fn is_word(word: &String, text: &[u8]) -> bool
     ensures { IsTrue result ↔ (string_bytes word.now ≡ text.now) }
 {
     word.as_bytes() == text
 }
 
-// The request of three words, of which the first is the program's name.
+/// The request of three words, of which the first is the program's name.
 fn of_three(words: &[String]) -> Option<Request<'_>>
     requires { length words.now ≡ 3 }
-    ensures { MatchOption result (IsNoCommand (map string_bytes words.now)) (λ r. Asks (map string_bytes words.now) (plain_request r)) }
+    ensures { MatchOption result (IsNoCommand (map string_bytes words.now))
+        (λ r. Asks (map string_bytes words.now) (plain_request r)) }
 {
     if is_word(&words[1], b"show") {
         return Some(Request::Show {
@@ -40,10 +54,11 @@ fn of_three(words: &[String]) -> Option<Request<'_>>
     }
 }
 
-// The request of four words, of which the first is the program's name.
+/// The request of four words, of which the first is the program's name.
 fn of_four(words: &[String]) -> Option<Request<'_>>
     requires { length words.now ≡ 4 }
-    ensures { MatchOption result (IsNoCommand (map string_bytes words.now)) (λ r. Asks (map string_bytes words.now) (plain_request r)) }
+    ensures { MatchOption result (IsNoCommand (map string_bytes words.now))
+        (λ r. Asks (map string_bytes words.now) (plain_request r)) }
 {
     if !is_word(&words[1], b"check") {
         return None;
@@ -52,15 +67,4 @@ fn of_four(words: &[String]) -> Option<Request<'_>>
         theory: words[2].as_str(),
         proof: words[3].as_str(),
     })
-}
-
-/// The request that the words make, if they are those of a command.
-pub fn asked(words: &[String]) -> Option<Request<'_>>
-    ensures { MatchOption result (IsNoCommand (map string_bytes words.now)) (λ r. Asks (map string_bytes words.now) (plain_request r)) }
-{
-    match words.len() {
-        3 => of_three(words),
-        4 => of_four(words),
-        _ => None,
-    }
 }

@@ -27,7 +27,8 @@ pub enum Status {
         file: u8,
         count: u64,
     },
-    /// A goal that the search cannot do: its block, and its place in the block, both counted from 1.
+    /// A goal that the search cannot do: its block, and its place in the block, both counted
+    /// from 1.
     Stuck {
         block: u32,
         goal: u64,

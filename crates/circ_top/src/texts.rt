@@ -1,86 +1,80 @@
-//! The printed texts: goals and answers.
-ghost use Rattle.std.specs.Prelude.{◌≡◌, ◌++◌, OnOk, IfOk, map, codes, decimal};
-ghost use Rattle.std.specs.List.{AllByRecursion};
-ghost use Rattle.circ_file.specs.Proof.{IsNameFor, goal_of, goals_of};
-ghost use Rattle.circ_file.specs.Plain.{plain_name, plain_proof};
-ghost use Rattle.circ_show.specs.GoalsText.{plain_goal};
-ghost use Rattle.circ_show.specs.TheoryText.{IsTheoryText};
-ghost use Rattle.circ_top.specs.Texts.{accepted_text, cause_text, place_text, refusal_text};
+//! The texts of refusals.
+ghost use Rattle.std.specs.Prelude.{◌≡◌, ◌++◌, OnOk, OnErr, IfOk, codes, decimal};
+ghost use Rattle.circ_top.specs.Command.{plain_request};
+ghost use Rattle.circ_top.specs.Quiet.{HasText};
+ghost use Rattle.circ_top.specs.Texts.{cause_text, place_text, refusal_text, usage_text};
 
-use crate::goals::term_at;
+use crate::request::Request;
 use crate::status::Status;
-use circ_file::{GoalNames, Proof};
 use circ_read::Cause;
-use circ_show::{goals_text, theory_text};
-use circ_term::Term;
-use circ_theory::{Goal, Theory};
 use itoa::Buffer;
 use std::alloc::{AllocError, Global};
 
-fn push_number(out: &mut Vec<u8>, number: u64) -> Result<(), AllocError>
-    ensures { OnOk result (out.new.items ≡ out.old.items ++ decimal number) }
-{
-    let mut buffer = Buffer::new();
-    out.extend_from_slice(buffer.format(number).as_bytes())
-}
-
-fn goal(table: &[Term], name: &GoalNames) -> Result<Goal, AllocError>
-    requires { IsNameFor table.now (plain_name name.now) }
-    ensures { IfOk result (λ g. plain_goal g ≡ goal_of table.now (plain_name name.now)) }
-{
-    Ok(Goal {
-        left: term_at(table, name.left).share()?,
-        right: term_at(table, name.right).share()?,
-    })
-}
-
-fn goals(alloc: Global, proof: &Proof) -> Result<Vec<Goal>, AllocError>
-    requires { AllByRecursion (IsNameFor (plain_proof proof.now).table) (plain_proof proof.now).names }
-    ensures { IfOk result (λ v. map plain_goal v.items ≡ goals_of (plain_proof proof.now)) }
-{
-    let table = proof.table.as_slice();
-    let mut goals = Vec::with_capacity(alloc, proof.names.len())?;
-    for name in &proof.names {
-        goals.push(goal(table, name)?)?;
-    }
-    Ok(goals)
-}
-
-/// The text of an accepted proof: its goals, one a line.
-pub(crate) fn accepted(alloc: Global, theory: &Theory, proof: &Proof) -> Result<Vec<u8>, AllocError>
-    requires { AllByRecursion (IsNameFor (plain_proof proof.now).table) (plain_proof proof.now).names }
-    ensures { IfOk result (λ v. v.items ≡ accepted_text theory.now.signature (goals_of (plain_proof proof.now))) }
-{
-    let goals = goals(alloc, proof)?;
-    let mut out = Vec::from_slice(alloc, b"accepted\n")?;
-    goals_text(alloc, theory, &goals, &mut out)?;
-    Ok(out)
-}
-
-/// The text of a theory.
-pub(crate) fn shown(alloc: Global, theory: &Theory) -> Result<Vec<u8>, AllocError>
-    ensures { IfOk result (λ v. IsTheoryText theory.now v.items) }
+/// The text of a command's refusal: nothing for the answers that have a text of their own, or
+/// none.
+pub(crate) fn refusal(
+    alloc: Global,
+    request: &Request<'_>,
+    status: &Status,
+) -> Result<Vec<u8>, AllocError>
+    ensures text { IfOk result (λ v.
+        v.items ≡ refusal_text (plain_request request.now) status.now) }
+    ensures memory { OnErr result (HasText status.now) }
 {
     let mut out = Vec::new(alloc);
-    theory_text(alloc, theory, &mut out)?;
+    push_refusal(&mut out, request, status)?;
     Ok(out)
 }
 
-fn push_numbered(out: &mut Vec<u8>, text: &[u8], number: u64) -> Result<(), AllocError>
-    ensures { OnOk result (out.new.items ≡ out.old.items ++ (text.now ++ decimal number)) }
+/// The text where the words are no command.
+pub(crate) fn usage() -> &'static [u8]
+    ensures { result.now ≡ usage_text }
 {
-    out.extend_from_slice(text)?;
-    push_number(out, number)
+    b"usage: circ [--steps N] [--derives N] COMMAND WORD...\n"
 }
 
 #[tactic(auto, using(crate::proofs::Rules::joins))]
-fn push_readings(out: &mut Vec<u8>, first: &[u8], second: &[u8]) -> Result<(), AllocError>
-    ensures { OnOk result (out.new.items ≡ out.old.items ++ (codes "ambiguous: " ++ first.now ++ codes " | " ++ second.now)) }
+fn push_refusal(out: &mut Vec<u8>, request: &Request<'_>, status: &Status) -> Result<(), AllocError>
+    ensures text { OnOk result (out.new.items ≡ out.old.items
+        ++ refusal_text (plain_request request.now) status.now) }
+    ensures memory { OnErr result (HasText status.now) }
 {
-    out.extend_from_slice(b"ambiguous: ")?;
-    out.extend_from_slice(first)?;
-    out.extend_from_slice(b" | ")?;
-    out.extend_from_slice(second)
+    match status {
+        Status::Refused { step } => {
+            push_numbered(out, b"refused at ", *step)?;
+            out.extend_from_slice(b"\n")
+        }
+        Status::Unreadable { file, place, cause } => {
+            push_place(out, place_words(request, *file), *file, *place)?;
+            push_cause(out, cause)?;
+            out.extend_from_slice(b"\n")
+        }
+        Status::TooLong { file, .. } => {
+            push_numbered(out, b"too long: file ", u64::from(*file))?;
+            out.extend_from_slice(b"\n")
+        }
+        _ => Ok(()),
+    }
+}
+
+/// The places of a file's text: lines of a proof, else statements.
+fn place_words(request: &Request<'_>, file: u8) -> &'static [u8]
+    ensures { result.now ≡ place_text (plain_request request.now) file }
+{
+    match request {
+        Request::Check { .. } if file == 2 => b", line ",
+        _ => b", statement ",
+    }
+}
+
+#[tactic(auto, using(crate::proofs::Rules::joins))]
+fn push_place(out: &mut Vec<u8>, words: &[u8], file: u8, place: u64) -> Result<(), AllocError>
+    ensures { OnOk result (out.new.items ≡ out.old.items ++ (codes "unreadable: file "
+        ++ decimal file ++ words.now ++ decimal place ++ codes ", ")) }
+{
+    push_numbered(out, b"unreadable: file ", u64::from(file))?;
+    push_numbered(out, words, place)?;
+    out.extend_from_slice(b", ")
 }
 
 fn push_cause(out: &mut Vec<u8>, cause: &Cause) -> Result<(), AllocError>
@@ -117,55 +111,27 @@ fn push_cause(out: &mut Vec<u8>, cause: &Cause) -> Result<(), AllocError>
     }
 }
 
-fn place_words(file: u8) -> &'static [u8]
-    ensures { result.now ≡ place_text file }
-{
-    if file == 2 {
-        b", line "
-    } else {
-        b", statement "
-    }
-}
-
 #[tactic(auto, using(crate::proofs::Rules::joins))]
-fn push_place(out: &mut Vec<u8>, file: u8, place: u64) -> Result<(), AllocError>
-    ensures { OnOk result (out.new.items ≡ out.old.items ++ (codes "unreadable: file " ++ decimal file ++ place_text file ++ decimal place ++ codes ", ")) }
+fn push_readings(out: &mut Vec<u8>, first: &[u8], second: &[u8]) -> Result<(), AllocError>
+    ensures { OnOk result (out.new.items ≡ out.old.items
+        ++ (codes "ambiguous: " ++ first.now ++ codes " | " ++ second.now)) }
 {
-    push_numbered(out, b"unreadable: file ", u64::from(file))?;
-    push_numbered(out, place_words(file), place)?;
-    out.extend_from_slice(b", ")
+    out.extend_from_slice(b"ambiguous: ")?;
+    out.extend_from_slice(first)?;
+    out.extend_from_slice(b" | ")?;
+    out.extend_from_slice(second)
 }
 
-#[tactic(auto, using(crate::proofs::Rules::joins))]
-fn push_refusal(out: &mut Vec<u8>, status: &Status) -> Result<(), AllocError>
-    ensures { OnOk result (out.new.items ≡ out.old.items ++ refusal_text status.now) }
+fn push_numbered(out: &mut Vec<u8>, text: &[u8], number: u64) -> Result<(), AllocError>
+    ensures { OnOk result (out.new.items ≡ out.old.items ++ (text.now ++ decimal number)) }
 {
-    match status {
-        Status::Refused { step } => {
-            push_numbered(out, b"refused at ", *step)?;
-            out.extend_from_slice(b"\n")
-        }
-        Status::Unreadable { file, place, cause } => {
-            push_place(out, *file, *place)?;
-            push_cause(out, cause)?;
-            out.extend_from_slice(b"\n")
-        }
-        Status::Usage => out.extend_from_slice(
-            b"usage: circ [--steps N] [--derives N] COMMAND WORD...\n",
-        ),
-        Status::TooLong { file, .. } => {
-            push_numbered(out, b"too long: file ", u64::from(*file))?;
-            out.extend_from_slice(b"\n")
-        }
-        _ => Ok(()),
-    }
+    out.extend_from_slice(text)?;
+    push_number(out, number)
 }
 
-/// The text of a refusal: nothing for the answers that have a text of their own, or none.
-pub(crate) fn refusal(alloc: Global, status: &Status) -> Result<Vec<u8>, AllocError>
-    ensures { IfOk result (λ v. v.items ≡ refusal_text status.now) }
+fn push_number(out: &mut Vec<u8>, number: u64) -> Result<(), AllocError>
+    ensures { OnOk result (out.new.items ≡ out.old.items ++ decimal number) }
 {
-    let mut out = Vec::new(alloc);
-    push_refusal(&mut out, status)?;
-    Ok(out)
+    let mut buffer = Buffer::new();
+    out.extend_from_slice(buffer.format(number).as_bytes())
 }

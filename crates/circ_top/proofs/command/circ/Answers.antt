@@ -1,37 +1,45 @@
-use Rattle.circ_top.proofs.Answering.{answers_succeed, answers_accepted, answers_refused}
-use Rattle.circ_top.proofs.Outcomes.{answers_outcome, answers_come, answers_memory, reads_once}
-use Rattle.circ_top.proofs.Faults.{answers_past_limit, answers_read_fault, answers_write_fault, read_outcome, accepted_outcome}
+use Rattle.circ_top.proofs.Answers.{answers_succeed, answers_accepted, answers_refused, answers_past_limit, answers_read_fault, answers_write_fault, read_outcome, accepted_read_outcome}
+use Rattle.circ_top.proofs.Agreeing.{ReadsOnce, reads_once}
+use Rattle.circ_top.proofs.Outcomes.{answers_outcome, answers_come, answers_memory}
 use Rattle.circ_top.proofs.command.circ.Goals as goal
 
 pub returns-clause-accepted : goal.returns-clause-accepted
-returns-clause-accepted g c = λ theory proof. answers_accepted _ _ _ c.answer.result theory proof (rw c.as_slice.ensures.value at c.answer.ensures.answers)
-
-pub returns-clause-succeeded : goal.returns-clause-succeeded
-returns-clause-succeeded g c = answers_succeed _ _ _ c.answer.result (rw c.as_slice.ensures.value at c.answer.ensures.answers)
+returns-clause-accepted g c = answers_accepted _ _ _ _ _ c.answer.result (rw c.as_slice.ensures.value at c.answer.ensures.answers) c.answer.ensures.quiet
 
 pub returns-clause-refused : goal.returns-clause-refused
-returns-clause-refused g c = λ n e. answers_refused _ _ _ c.answer.result n (rw c.as_slice.ensures.value at c.answer.ensures.answers) e
+returns-clause-refused g c = answers_refused _ _ _ _ _ c.answer.result (rw c.as_slice.ensures.value at c.answer.ensures.answers) c.answer.ensures.quiet
+
+pub returns-clause-succeeded : goal.returns-clause-succeeded
+returns-clause-succeeded g c = answers_succeed _ _ _ _ _ c.answer.result (rw c.as_slice.ensures.value at c.answer.ensures.answers) c.answer.ensures.quiet
 
 pub returns-clause-outcome : goal.returns-clause-outcome
-returns-clause-outcome g c = answers_outcome _ _ _ c.answer.result (rw c.as_slice.ensures.value at c.answer.ensures.answers)
+returns-clause-outcome g c = answers_outcome _ _ _ _ _ c.answer.result (rw c.as_slice.ensures.value at c.answer.ensures.answers)
 
 pub returns-clause-complete : goal.returns-clause-complete
-returns-clause-complete g c = answers_come (reads_once c.read_in_one_way.ensures.either c.read_in_one_way.ensures.number c.read_in_one_way.ensures.cause) c.printed_in_one_way.ensures _ _ _ c.answer.result (rw c.as_slice.ensures.value at c.answer.ensures.answers)
+returns-clause-complete g c = λ t.
+    let once : ReadsOnce = reads_once c.read_in_one_way.ensures.either c.read_in_one_way.ensures.number c.read_in_one_way.ensures.cause in
+    answers_come once c.printed_in_one_way.ensures _ _ _ t _ _ c.answer.result (rw c.as_slice.ensures.value at c.answer.ensures.answers)
 
 pub returns-clause-first_failure : goal.returns-clause-first_failure
-returns-clause-first_failure g c = λ t th p n f fail. answers_come (reads_once c.read_in_one_way.ensures.either c.read_in_one_way.ensures.number c.read_in_one_way.ensures.cause) c.printed_in_one_way.ensures _ _ _ c.answer.result (rw c.as_slice.ensures.value at c.answer.ensures.answers) t _ _ (read_outcome _ _ th p n f fail)
+returns-clause-first_failure g c = λ t th p n f fail.
+    let once : ReadsOnce = reads_once c.read_in_one_way.ensures.either c.read_in_one_way.ensures.number c.read_in_one_way.ensures.cause in
+    answers_come once c.printed_in_one_way.ensures _ _ _ t _ _ c.answer.result (rw c.as_slice.ensures.value at c.answer.ensures.answers) _ _ _ (read_outcome _ _ th p n f fail)
 
 pub returns-clause-accepted_text : goal.returns-clause-accepted_text
-returns-clause-accepted_text g c = λ t th p f a. answers_come (reads_once c.read_in_one_way.ensures.either c.read_in_one_way.ensures.number c.read_in_one_way.ensures.cause) c.printed_in_one_way.ensures _ _ _ c.answer.result (rw c.as_slice.ensures.value at c.answer.ensures.answers) t _ _ (accepted_outcome _ _ th p f a)
+returns-clause-accepted_text g c = λ t th p f a.
+    let once : ReadsOnce = reads_once c.read_in_one_way.ensures.either c.read_in_one_way.ensures.number c.read_in_one_way.ensures.cause in
+    answers_come once c.printed_in_one_way.ensures _ _ _ t _ _ c.answer.result (rw c.as_slice.ensures.value at c.answer.ensures.answers) _ _ _ (accepted_read_outcome _ _ th p f a)
 
 pub returns-clause-file_limit : goal.returns-clause-file_limit
-returns-clause-file_limit g c = λ file n. answers_past_limit _ _ _ c.answer.result file n (rw c.as_slice.ensures.value at c.answer.ensures.answers)
+returns-clause-file_limit g c = answers_past_limit _ _ _ _ _ c.answer.result (rw c.as_slice.ensures.value at c.answer.ensures.answers)
 
 pub returns-clause-read_fault : goal.returns-clause-read_fault
-returns-clause-read_fault g c = λ n. answers_read_fault _ _ _ c.answer.result n (rw c.as_slice.ensures.value at c.answer.ensures.answers)
+returns-clause-read_fault g c = answers_read_fault _ _ _ _ _ c.answer.result (rw c.as_slice.ensures.value at c.answer.ensures.answers)
 
 pub returns-clause-write_fault : goal.returns-clause-write_fault
-returns-clause-write_fault g c = λ n. answers_write_fault _ _ _ c.answer.result n (rw c.as_slice.ensures.value at c.answer.ensures.answers)
+returns-clause-write_fault g c = answers_write_fault _ _ _ _ _ c.answer.result (rw c.as_slice.ensures.value at c.answer.ensures.answers)
 
 pub returns-clause-memory : goal.returns-clause-memory
-returns-clause-memory g c = λ e. answers_memory (reads_once c.read_in_one_way.ensures.either c.read_in_one_way.ensures.number c.read_in_one_way.ensures.cause) c.printed_in_one_way.ensures _ _ _ c.answer.result (rw c.as_slice.ensures.value at c.answer.ensures.answers)
+returns-clause-memory g c = λ e t.
+    let once : ReadsOnce = reads_once c.read_in_one_way.ensures.either c.read_in_one_way.ensures.number c.read_in_one_way.ensures.cause in
+    answers_memory once c.printed_in_one_way.ensures _ _ _ t _ _ c.answer.result (rw c.as_slice.ensures.value at c.answer.ensures.answers)

@@ -1,5 +1,5 @@
 use Rattle.std.proofs.Common.{◌≡◌, ◌≢◌, [], ap, Err, true, false}
-use Rattle.circ_top.specs.Outcome.{whole, write_failed, memory_wanted}
+use Rattle.circ_top.specs.Delivery.{whole, write_failed, memory_wanted}
 use Rattle.circ_top.proofs.Printing.{prefix_part}
 use Rattle.circ_top.proofs.command.deliver.Goals as goal
 

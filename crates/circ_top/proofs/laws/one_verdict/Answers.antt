@@ -1,6 +1,6 @@
 use Rattle.std.proofs.Common.{[]}
 use Rattle.circ_file.specs.Proof.{goals_of}
-use Rattle.circ_top.specs.Accepted.{steps_of}
+use Rattle.circ_top.specs.Steps.{steps_of}
 use Rattle.circ_top.proofs.Verdicts.{not_both, one_fail}
 use Rattle.circ_top.proofs.laws.one_verdict.Goals as goal
 

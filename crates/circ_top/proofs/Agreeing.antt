@@ -1,0 +1,111 @@
+-- How the answer that is due and the outcome agree.
+use Rattle.std.proofs.Common.{◌≡◌, ℕ, List, [], ◌∷◌, ◌++◌, refl, sym, ◌∙◌, subst, append-nil, true, Option, None, Result, Err}
+use Rattle.circ_outer.specs.Count.{Rose}
+use Rattle.circ_outer.specs.Shelf.{ShelfState}
+use Rattle.circ_outer.specs.Sink.{SinkState}
+use Rattle.circ_theory.specs.Theory.{Theory}
+use Rattle.circ_read.specs.Causes.{AreAlike, same, ambiguous}
+use Rattle.circ_read.specs.Includes.{Scope}
+use Rattle.circ_read.specs.ReadsAs.{ReadsAs, FirstCause}
+use Rattle.circ_show.specs.TheoryText.{IsTheoryText}
+use Rattle.circ_read.specs.declared.cause.Cause.{Cause}
+use Rattle.circ_read.specs.declared.cause.Cause.TheVariants as cause
+use Rattle.circ_top.specs.Causes.{PrintsPartOf, AnswersOutcome, printed, not_read, not_written, no_memory}
+use Rattle.circ_top.specs.Command.{Command, Asks}
+use Rattle.circ_top.specs.Delivery.{Prints, PrintsPart, Delivers, whole, write_failed, memory_wanted}
+use Rattle.circ_top.specs.Files.{Refusal, RefusesFile, IsFileFault}
+use Rattle.circ_top.specs.Like.{IsLikeCause, same_cause, other_readings, IsLike, itself}
+use Rattle.circ_top.specs.Outcome.{Stored, OutcomeOf, Outcome, command, HoldsAfter}
+use Rattle.circ_top.specs.ProofFile.{ProofRefusal}
+use Rattle.circ_top.specs.Texts.{refusal_text}
+use Rattle.circ_top.specs.TheoryFile.{TheoryRefusal}
+use Rattle.circ_top.specs.declared.status.Status.{Status}
+use Rattle.circ_top.specs.declared.status.Status.TheVariants as status
+use Rattle.circ_top.proofs.FileFaults.{IsOneWay, FaultOf, fault_of, refuses, unread, out_of_memory}
+
+-- the answer that is due is an outcome, or there is no text, since a file was not read or memory ran out
+pub data DueIs (words : List (List ℕ)) (before after : ShelfState) : Status → List ℕ → Option Stored → Type 0 where
+  outcome : (s : Status) (text : List ℕ) (stored : Option Stored) → Outcome words before.holds s text stored → DueIs words before after s text stored
+  nothing_read : (n : ℕ) → DueIs words before after (status.ReadFault n) [] None
+  no_memory_left : DueIs words before after status.Memory [] None
+
+-- a file's fault as an outcome, by what its refusal comes to
+pub file_due : (words : List (List ℕ)) (k : Command) (before after : ShelfState) (file : ℕ) (name : List ℕ) (N : Refusal) (s : Status) → before.tells ≡ true → Asks words k
+    → IsFileFault file name N before after s → ((r : Status) → RefusesFile before.holds file name N r → OutcomeOf before.holds k r (refusal_text k r) None)
+    → DueIs words before after s (refusal_text k s) None
+file_due words k before after file name N s t i f g = go s (fault_of file name N before after s t f)
+  where
+    go : (s : Status) → FaultOf file name N before after s → DueIs words before after s (refusal_text k s) None
+    go s (refuses _ r) = outcome s (refusal_text k s) None (command k s (refusal_text k s) None i (g s r))
+    go _ (unread n e u) = nothing_read n
+    go _ out_of_memory = no_memory_left
+
+-- the due answer is like the outcome, or a file was not read, or memory ran out
+pub data Agrees (before after : ShelfState) (s : Status) (text : List ℕ) : Status → List ℕ → Type 0 where
+  alike : (r : Status) (given : List ℕ) → IsLike s text r given → Agrees before after s text r given
+  unread_file : (n : ℕ) → Rose before.count after.count → Agrees before after s text (status.ReadFault n) []
+  memory : Agrees before after s text status.Memory []
+
+-- theories are read in one way
+pub record ReadsOnce : Type 0 where
+  pub either : (bytes : List ℕ) (th : Theory) (n : ℕ) (c : Cause) → ReadsAs bytes th → FirstCause bytes n c → ⊥
+  pub alike : IsOneWay TheoryRefusal
+
+-- theories are printed in one way
+abbrev pub PrintsOnce : Type 0
+PrintsOnce = (th : Theory) (text other : List ℕ) → IsTheoryText th text → IsTheoryText th other → text ≡ other
+
+pub proofs_once : (th : Theory) → IsOneWay (ProofRefusal th)
+proofs_once th p q c d bytes a b =
+    let P : Cause → Type 0 = λ x. IsLikeCause x d in
+    let Q : Cause → Type 0 = λ x. IsLikeCause cause.Line x in
+    (a.0 ∙ sym b.0, subst P (sym a.1) (subst Q (sym b.1) (same_cause cause.Line)))
+
+-- the causes of bytes that are no theory, as the reader's law has them
+like_causes : {A : Type 0} (c d : Cause) (x y : Result A Cause) → AreAlike x y → x ≡ Err c → y ≡ Err d → IsLikeCause c d
+like_causes c d x _ same a b = let e : c ≡ d = cc in let P : Cause → Type 0 = IsLikeCause c in subst P e (same_cause c)
+like_causes c d _ _ (ambiguous {s} {t} {u} {v}) a b =
+    let P : Cause → Type 0 = λ z. IsLikeCause z d in
+    let Q : Cause → Type 0 = IsLikeCause (cause.Ambiguous s t) in
+    subst P (cc) (subst Q (cc) (other_readings s t u v))
+
+pub reads_once : ((bytes : List ℕ) (th : Theory) (n : ℕ) (c : Cause) → ReadsAs bytes th → FirstCause bytes n c → ⊥)
+    → ((bytes : List ℕ) (n m : ℕ) (c d : Cause) → FirstCause bytes n c → FirstCause bytes m d → m ≡ n)
+    → ((bytes : List ℕ) (n m : ℕ) (c d : Cause) → FirstCause bytes n c → FirstCause bytes m d → AreAlike {A = Scope} (Err c) (Err d)) → ReadsOnce
+reads_once e n l = record { either = e; alike = λ p q c d bytes a b. (sym (n bytes p q c d a b), like_causes c d (Err c) (Err d) (l bytes p q c d a b) refl refl) }
+
+-- what is printed of the text that is due is a part of the outcome's
+pub nothing_part : (text : List ℕ) (start end : SinkState) → PrintsPart [] start end → PrintsPart text start end
+nothing_part text start end p = λ t. go (p t).0 (p t).1.0 (p t).1.1.0 (p t).1.1.1
+  where
+    go : (part rest : List ℕ) → [] ≡ part ++ rest → end.written ≡ start.written ++ part
+        → (q : List ℕ) × ((r : List ℕ) × ((text ≡ q ++ r) × (end.written ≡ start.written ++ q)))
+    go [] rest e f = ([], (text, (refl, f)))
+    go (x ∷ xs) rest e f = absurd (cc)
+
+pub whole_part : (text : List ℕ) (start end : SinkState) → Prints text start end → PrintsPart text start end
+whole_part text start end p = λ t. (text, ([], (sym (append-nil text), p.printed t)))
+
+-- a part of the text itself
+itself_part : (s : Status) (text : List ℕ) (start end : SinkState) → PrintsPart text start end → PrintsPartOf s text start end
+itself_part s text start end p = record { answer = s; given = text; like = itself s text; part = p }
+
+module _ (before after : ShelfState) (start end : SinkState) (s : Status) (text : List ℕ) where
+  pub agree_answers : (stored : Option Stored) (d r : Status) (given : List ℕ) → HoldsAfter stored before after → Agrees before after s text d given → Delivers given start end d r
+      → AnswersOutcome before after start end s text stored r
+  agree_answers stored d _ given h (alike _ _ l) (whole p) = printed d given l h p
+  agree_answers stored d _ given h (alike _ _ l) (write_failed n some c rose p) = not_written n rose h (record { answer = d; given = given; like = l; part = p })
+  agree_answers stored d _ given h (alike _ _ l) (memory_wanted q p) = no_memory (record { answer = d; given = given; like = l; part = p })
+  agree_answers stored _ _ _ h (unread_file n rose) (whole p) = not_read n rose p
+  agree_answers stored _ _ _ h (unread_file n rose) (write_failed m some c up p) = absurd (some refl)
+  agree_answers stored _ _ _ h (unread_file n rose) (memory_wanted q p) = no_memory (itself_part s text start end (nothing_part text start end p))
+  agree_answers stored _ _ _ h memory (whole p) = no_memory (itself_part s text start end (nothing_part text start end (whole_part [] start end p)))
+  agree_answers stored _ _ _ h memory (write_failed m some c up p) = absurd (some refl)
+  agree_answers stored _ _ _ h memory (memory_wanted q p) = no_memory (itself_part s text start end (nothing_part text start end p))
+
+  -- whatever is answered, a part of a like answer's text is printed
+  pub answers_part : (stored : Option Stored) (r : Status) → AnswersOutcome before after start end s text stored r → PrintsPartOf s text start end
+  answers_part stored _ (printed r given l h p) = record { answer = r; given = given; like = l; part = whole_part given start end p }
+  answers_part stored _ (not_read n rose p) = itself_part s text start end (nothing_part text start end (whole_part [] start end p))
+  answers_part stored _ (not_written n rose h p) = p
+  answers_part stored _ (no_memory p) = p

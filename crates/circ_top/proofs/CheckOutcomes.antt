@@ -1,0 +1,178 @@
+-- What `check` answers, and its outcome.
+use Rattle.std.proofs.Common.{◌≡◌, ℕ, List, [], refl, ap, sym, ◌∙◌, subst, inl, inr, true, None, Result, Ok, Err}
+use Rattle.std.specs.Prelude.{IfErr}
+use Rattle.circ_outer.specs.Shelf.{ShelfState, IsQuiet}
+use Rattle.circ_theory.specs.Theory.{Theory}
+use Rattle.circ_file.specs.Proof.{Proof, goals_of}
+use Rattle.circ_file.specs.ProofText.{ReadsAsProof}
+use Rattle.circ_read.specs.ReadsAs.{ReadsAs}
+use Rattle.circ_top.specs.Causes.{AtEither}
+use Rattle.circ_top.specs.Check.{accepted_text, CheckOutcome, no_theory, no_proof, refused, accepted, Fails, IsAccepted, StepFails, RefusesCheck, theory_fault, proof_fault, step_fails}
+use Rattle.circ_top.specs.Command.{Check, Asks}
+use Rattle.circ_top.specs.Files.{IsOnly, RefusesFile, IsUnread, IsTooLong, IsFileFault}
+use Rattle.circ_top.specs.Like.{IsLike, itself}
+use Rattle.circ_top.specs.Outcome.{command}
+use Rattle.circ_top.specs.ProofFile.{ReadsProof, TakesProof, ProofRefusal}
+use Rattle.circ_top.specs.Quiet.{IsQuietBut, IsQuietCall}
+use Rattle.circ_top.specs.Steps.{Accepted, FirstFail, steps_of}
+use Rattle.circ_top.specs.Texts.{refused_text, refusal_text}
+use Rattle.circ_top.specs.TheoryFile.{ReadsTheory, TakesTheory, TheoryRefusal}
+use Rattle.circ_top.specs.declared.status.Status.{Status}
+use Rattle.circ_top.specs.declared.status.Status.TheVariants as status
+use Rattle.circ_top.proofs.Agreeing.{DueIs, outcome, file_due, Agrees, alike, unread_file, memory, ReadsOnce, proofs_once}
+use Rattle.circ_top.proofs.FileFaults.{FaultOf, fault_of, refuses, unread, out_of_memory, reads_not_refused, refused_alike, refused_held, holds_held, unread_rose, file_fault_not_ok, file_fault_not_refused}
+use Rattle.circ_top.proofs.Verdicts.{not_both, one_fail}
+
+-- a step that fails, or want of memory, refuses a `check` whose files read
+pub fails_refuses : (theory proof : List ℕ) (before after : ShelfState) (th : Theory) (p : Proof) → TakesTheory theory th before → TakesProof proof th p before
+    → (s : Status) → Fails th p s → RefusesCheck theory proof before after s
+fails_refuses theory proof before after th p a b (status.Refused n) f = step_fails n (record { th = th; p = p; fails = f; takes_theory = a; takes_proof = b })
+fails_refuses theory proof before after th p a b status.Memory f = theory_fault status.Memory tt
+fails_refuses theory proof before after th p a b s f = absurd f
+
+fails_quiet : (th : Theory) (p : Proof) (before after : ShelfState) (s : Status) → IsQuiet before after → Fails th p s → IsQuietBut before after s
+fails_quiet th p before after (status.Refused n) q f = q
+fails_quiet th p before after status.Memory q f = q
+fails_quiet th p before after s q f = absurd f
+
+pub judged_quiet : {A : Type 0} (th : Theory) (p : Proof) (before after : ShelfState) (r : Result A Status) → IsQuiet before after → IfErr r (Fails th p) → IsQuietCall before after r
+judged_quiet th p before after (Ok x) q f = q
+judged_quiet th p before after (Err s) q f = fails_quiet th p before after s q f
+
+module _ (theory proof : List ℕ) (before after : ShelfState) where
+  pub check_not_ok : (s : Status) → RefusesCheck theory proof before after s → s ≡ status.Ok → ⊥
+  check_not_ok s (theory_fault _ f) e = file_fault_not_ok 1 theory TheoryRefusal before after s e f
+  check_not_ok s (proof_fault _ th a f) e = file_fault_not_ok 2 proof (ProofRefusal th) before after s e f
+  check_not_ok _ (step_fails n f) e = cc
+
+  -- only a step that fails refuses at a step
+  pub check_refused : (s : Status) (n : ℕ) → RefusesCheck theory proof before after s → s ≡ status.Refused n → StepFails theory proof n before
+  check_refused s n (theory_fault _ f) e = absurd (file_fault_not_refused 1 theory TheoryRefusal before after s n e f)
+  check_refused s n (proof_fault _ th a f) e = absurd (file_fault_not_refused 2 proof (ProofRefusal th) before after s n e f)
+  check_refused _ n (step_fails m f) e =
+      let same : m ≡ n = cc in
+      let P : ℕ → Type 0 = λ k. StepFails theory proof k before in
+      subst P same f
+
+  pub unread_check : (s : Status) (n : ℕ) → RefusesCheck theory proof before after s → s ≡ status.ReadFault n
+      → (n ≡ after.count) × AtEither before theory proof (λ f name. IsUnread name before after)
+  unread_check s n (theory_fault _ f) e = let P : Status → Type 0 = IsFileFault 1 theory TheoryRefusal before after in let r = subst P e f in (r.0, inl r.1)
+  unread_check s n (proof_fault _ th a f) e = let P : Status → Type 0 = IsFileFault 2 proof (ProofRefusal th) before after in let r = subst P e f in (r.0, inr (th, (a, r.1)))
+  unread_check _ n (step_fails m f) e = absurd (cc)
+
+  pub past_check : (s : Status) (file n : ℕ) → RefusesCheck theory proof before after s → s ≡ status.TooLong file n
+      → AtEither before theory proof (λ f name. (f ≡ file) × IsTooLong name n before)
+  past_check s file n (theory_fault _ f) e = let P : Status → Type 0 = IsFileFault 1 theory TheoryRefusal before after in let r = subst P e f in inl (sym r.0, r.1)
+  past_check s file n (proof_fault _ th a f) e =
+      let P : Status → Type 0 = IsFileFault 2 proof (ProofRefusal th) before after in let r = subst P e f in inr (th, (a, (sym r.0, r.1)))
+  past_check _ file n (step_fails m f) e = absurd (cc)
+
+  pub unwritten_check : (s : Status) (n : ℕ) → RefusesCheck theory proof before after s → s ≡ status.WriteFault n → ⊥
+  unwritten_check s n (theory_fault _ f) e = let P : Status → Type 0 = IsFileFault 1 theory TheoryRefusal before after in subst P e f
+  unwritten_check s n (proof_fault _ th a f) e = let P : Status → Type 0 = IsFileFault 2 proof (ProofRefusal th) before after in subst P e f
+  unwritten_check _ n (step_fails m f) e = cc
+
+  -- a success is the outcome
+  pub accepted_outcome : (text : List ℕ) → before.tells ≡ true → IsAccepted theory proof text before → CheckOutcome before.holds theory proof status.Ok text
+  accepted_outcome text t a =
+      let P : List ℕ → Type 0 = λ x. CheckOutcome before.holds theory proof status.Ok x in
+      subst P (sym a.proves.text_is) (accepted a.th a.p (a.takes_theory.reads t).0 (a.takes_proof.reads t).0 a.proves.accepted)
+
+pub due_check : (words : List (List ℕ)) (theory proof : List ℕ) (before after : ShelfState) (s : Status) → before.tells ≡ true → Asks words (Check theory proof)
+    → RefusesCheck theory proof before after s → DueIs words before after s (refusal_text (Check theory proof) s) None
+due_check words theory proof before after s t i (theory_fault _ f) =
+    file_due words (Check theory proof) before after 1 theory TheoryRefusal s t i f (λ r x. (no_theory r x, refl))
+due_check words theory proof before after s t i (proof_fault _ th a f) =
+    file_due words (Check theory proof) before after 2 proof (ProofRefusal th) s t i f (λ r x. (no_proof r th (a.reads t).0 x, refl))
+due_check words theory proof before after _ t i (step_fails n f) =
+    outcome (status.Refused n) (refused_text n) None
+    (command (Check theory proof) (status.Refused n) (refused_text n) None i (refused n f.th f.p (f.takes_theory.reads t).0 (f.takes_proof.reads t).0 f.fails, refl))
+
+module _ (once : ReadsOnce) (theory proof : List ℕ) (before after : ShelfState) (t : before.tells ≡ true) where
+  theory_held : (s : Status) (text : List ℕ) → CheckOutcome before.holds theory proof s text → before.holds theory ≡ None → ⊥
+  theory_held s _ (no_theory _ r) e = refused_held before.holds 1 theory TheoryRefusal s r e
+  theory_held s _ (no_proof _ u ru r) e = holds_held before.holds theory (λ b. ReadsAs b u) ru e
+  theory_held _ _ (refused n u q ru rq f) e = holds_held before.holds theory (λ b. ReadsAs b u) ru e
+  theory_held _ _ (accepted u q ru rq a) e = holds_held before.holds theory (λ b. ReadsAs b u) ru e
+
+  not_theory : (s : Status) (u : Theory) → ReadsTheory before.holds theory u → RefusesFile before.holds 1 theory TheoryRefusal s → ⊥
+  not_theory s u ru x = reads_not_refused before.holds 1 theory TheoryRefusal (λ b. ReadsAs b u) s ru (λ p c b h n. once.either b u p c h n) x
+
+  not_proof : (s : Status) (u : Theory) (q : Proof) → ReadsProof before.holds proof u q → RefusesFile before.holds 2 proof (ProofRefusal u) s → ⊥
+  not_proof s u q rq x = reads_not_refused before.holds 2 proof (ProofRefusal u) (λ b. ReadsAsProof u b q) s rq (λ p c b h n. n.2 q h) x
+
+  -- the outcome where the theory file reads as this theory alone
+  data Fixed (th : Theory) : Status → List ℕ → Type 0 where
+    proof_refused : (s : Status) → RefusesFile before.holds 2 proof (ProofRefusal th) s → Fixed th s (refusal_text (Check theory proof) s)
+    step_refused : (n : ℕ) (q : Proof) → ReadsProof before.holds proof th q → FirstFail th q n → Fixed th (status.Refused n) (refused_text n)
+    all_accepted : (q : Proof) → ReadsProof before.holds proof th q → Accepted th q → Fixed th status.Ok (accepted_text th.signature (goals_of q))
+
+  fixed : (th : Theory) → IsOnly th (ReadsTheory before.holds theory) → (s : Status) (text : List ℕ) → CheckOutcome before.holds theory proof s text → Fixed th s text
+  fixed th only s _ (no_theory _ r) = absurd (not_theory s th only.0 r)
+  fixed th only s _ (no_proof _ u ru r) =
+      let P : Theory → Type 0 = λ v. RefusesFile before.holds 2 proof (ProofRefusal v) s in proof_refused s (subst P (only.1 u ru) r)
+  fixed th only _ _ (refused n u q ru rq f) =
+      let P : Theory → Type 0 = λ v. ReadsProof before.holds proof v q in
+      let Q : Theory → Type 0 = λ v. FirstFail v q n in
+      step_refused n q (subst P (only.1 u ru) rq) (subst Q (only.1 u ru) f)
+  fixed th only _ _ (accepted u q ru rq a) =
+      let P : Theory → Type 0 = λ v. ReadsProof before.holds proof v q in
+      let Q : Theory → Type 0 = λ v. Accepted v q in
+      let R : Theory → Type 0 = λ v. Fixed th status.Ok (accepted_text v.signature (goals_of q)) in
+      subst R (sym (only.1 u ru)) (all_accepted q (subst P (only.1 u ru) rq) (subst Q (only.1 u ru) a))
+
+  pub accepted_agrees : (given : List ℕ) → IsAccepted theory proof given before → (s : Status) (text : List ℕ) → CheckOutcome before.holds theory proof s text
+      → Agrees before after s text status.Ok given
+  accepted_agrees given a s text c = go s text (fixed a.th (a.takes_theory.reads t) s text c)
+    where
+      go : (s : Status) (text : List ℕ) → Fixed a.th s text → Agrees before after s text status.Ok given
+      go s _ (proof_refused _ r) = absurd (not_proof s a.th a.p (a.takes_proof.reads t).0 r)
+      go _ _ (step_refused n q rq f) =
+          let P : Proof → Type 0 = λ x. FirstFail a.th x n in
+          absurd (not_both a.th a.p.table (goals_of a.p) [] (steps_of a.p) n a.proves.accepted (subst P ((a.takes_proof.reads t).1 q rq) f))
+      go _ _ (all_accepted q rq _) =
+          let text : List ℕ = accepted_text a.th.signature (goals_of q) in
+          let same : text ≡ given = ap (λ x. accepted_text a.th.signature (goals_of x)) ((a.takes_proof.reads t).1 q rq) ∙ sym a.proves.text_is in
+          let P : List ℕ → Type 0 = λ x. IsLike status.Ok text status.Ok x in
+          alike status.Ok given (subst P same (itself status.Ok text))
+
+  refused_agrees : (n : ℕ) (a : StepFails theory proof n before) (s : Status) (text : List ℕ) → Fixed a.th s text → Agrees before after s text (status.Refused n) (refused_text n)
+  refused_agrees n a s _ (proof_refused _ r) = absurd (not_proof s a.th a.p (a.takes_proof.reads t).0 r)
+  refused_agrees n a _ _ (step_refused m q rq f) =
+      let P : Proof → Type 0 = λ x. FirstFail a.th x m in
+      let same : m ≡ n = one_fail a.th a.p.table (goals_of a.p) (steps_of a.p) m n (subst P ((a.takes_proof.reads t).1 q rq) f) a.fails in
+      let Q : ℕ → Type 0 = λ k. IsLike (status.Refused m) (refused_text m) (status.Refused k) (refused_text k) in
+      alike (status.Refused n) (refused_text n) (subst Q same (itself (status.Refused m) (refused_text m)))
+  refused_agrees n a _ _ (all_accepted q rq acc) =
+      let P : Proof → Type 0 = λ x. Accepted a.th x in
+      absurd (not_both a.th a.p.table (goals_of a.p) [] (steps_of a.p) n (subst P ((a.takes_proof.reads t).1 q rq) acc) a.fails)
+
+  proof_held : (th : Theory) (s : Status) (text : List ℕ) → Fixed th s text → before.holds proof ≡ None → ⊥
+  proof_held th s _ (proof_refused _ r) e = refused_held before.holds 2 proof (ProofRefusal th) s r e
+  proof_held th _ _ (step_refused n q rq f) e = holds_held before.holds proof (λ b. ReadsAsProof th b q) rq e
+  proof_held th _ _ (all_accepted q rq a) e = holds_held before.holds proof (λ b. ReadsAsProof th b q) rq e
+
+  proof_agrees : (th : Theory) (r s : Status) (text : List ℕ) → FaultOf 2 proof (ProofRefusal th) before after r → Fixed th s text
+      → Agrees before after s text r (refusal_text (Check theory proof) r)
+  proof_agrees th r s _ (refuses _ x) (proof_refused _ y) =
+      alike r (refusal_text (Check theory proof) r) (refused_alike (Check theory proof) before.holds 2 proof (ProofRefusal th) s r (proofs_once th) y x)
+  proof_agrees th r _ _ (refuses _ x) (step_refused n q rq f) = absurd (not_proof r th q rq x)
+  proof_agrees th r _ _ (refuses _ x) (all_accepted q rq a) = absurd (not_proof r th q rq x)
+  proof_agrees th _ s text (unread n e u) f = unread_file n (unread_rose proof before after (proof_held th s text f) u)
+  proof_agrees th _ s text out_of_memory f = memory
+
+  theory_agrees : (r s : Status) (text : List ℕ) → FaultOf 1 theory TheoryRefusal before after r → CheckOutcome before.holds theory proof s text
+      → Agrees before after s text r (refusal_text (Check theory proof) r)
+  theory_agrees r s _ (refuses _ x) (no_theory _ y) =
+      alike r (refusal_text (Check theory proof) r) (refused_alike (Check theory proof) before.holds 1 theory TheoryRefusal s r once.alike y x)
+  theory_agrees r s _ (refuses _ x) (no_proof _ u ru y) = absurd (not_theory r u ru x)
+  theory_agrees r _ _ (refuses _ x) (refused n u q ru rq f) = absurd (not_theory r u ru x)
+  theory_agrees r _ _ (refuses _ x) (accepted u q ru rq a) = absurd (not_theory r u ru x)
+  theory_agrees _ s text (unread n e u) c = unread_file n (unread_rose theory before after (theory_held s text c) u)
+  theory_agrees _ s text out_of_memory c = memory
+
+  pub check_agrees : (r s : Status) (text : List ℕ) → RefusesCheck theory proof before after r → CheckOutcome before.holds theory proof s text
+      → Agrees before after s text r (refusal_text (Check theory proof) r)
+  check_agrees r s text (theory_fault _ f) c = theory_agrees r s text (fault_of 1 theory TheoryRefusal before after r t f) c
+  check_agrees r s text (proof_fault _ th a f) c = proof_agrees th r s text (fault_of 2 proof (ProofRefusal th) before after r t f) (fixed th (a.reads t) s text c)
+  check_agrees _ s text (step_fails n f) c = refused_agrees n f s text (fixed f.th (f.takes_theory.reads t) s text c)

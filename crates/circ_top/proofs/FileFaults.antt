@@ -1,0 +1,169 @@
+-- The files that a run takes, one after the other.
+use Rattle.std.proofs.Common.{◌≡◌, ◌≤◌, ℕ, List, [], length, Some, None, true, sym, ◌∙◌, subst, inl, inr, refl, ap, arith, Result, Ok, Err}
+use Rattle.std.specs.Prelude.{IfOk, IfErr}
+use Rattle.std.proofs.lemmas.Option.{same_Some}
+use Rattle.circ_outer.specs.Count.{Rose}
+use Rattle.circ_outer.specs.Shelf.{ShelfState, ShelfFrame, IsQuiet}
+use Rattle.circ_theory.specs.Theory.{Theory}
+use Rattle.circ_file.specs.Proof.{Proof}
+use Rattle.circ_file.specs.ProofText.{ReadsAsProof}
+use Rattle.circ_read.specs.declared.cause.Cause.{Cause}
+use Rattle.circ_top.specs.Command.{Command}
+use Rattle.circ_top.specs.Files.{Held, Holds, HoldsMore, IsOnly, Refusal, RefusesFile, IsUnread, IsFileFault}
+use Rattle.circ_top.specs.Like.{IsLikeCause, IsLike, another_count, like_cause}
+use Rattle.circ_top.specs.ProofFile.{TakesProof}
+use Rattle.circ_top.specs.Quiet.{IsQuietBut}
+use Rattle.circ_top.specs.Texts.{place_text, too_long_text, refusal_text}
+use Rattle.circ_top.specs.declared.files.TheConstants.{MOST_BYTES}
+use Rattle.circ_top.specs.declared.status.Status.{Status}
+use Rattle.circ_top.specs.declared.status.Status.TheVariants as status
+
+-- what a file held after a call it held before
+moved : (h k : Held) (name : List ℕ) (P : List ℕ → Type 0) → k name ≡ h name → Holds k name P → Holds h name P
+moved h k name P e r = record { bytes = r.bytes; bytes_are = sym e ∙ r.bytes_are; short = r.short; are = r.are }
+
+-- what bytes alone read as, a file that holds them reads as
+pub only_read : {X : Type 0} (h : Held) (name bytes : List ℕ) (R : List ℕ → X → Type 0) (x : X) → h name ≡ Some bytes → length bytes ≤ MOST_BYTES
+    → R bytes x × ((y : X) → R bytes y → y ≡ x) → IsOnly x (λ y. Holds h name (λ bytes. R bytes y))
+only_read h name bytes R x held short r = (
+  record { bytes = bytes; bytes_are = held; short = short; are = r.0 },
+  λ y t. r.1 y (subst (λ bs. R bs y) (same_Some t.bytes bytes (sym t.bytes_are ∙ held)) t.are),
+)
+
+pub taken_before : (name : List ℕ) (th : Theory) (p : Proof) (before middle : ShelfState) → ShelfFrame before middle → TakesProof name th p middle → TakesProof name th p before
+taken_before name th p before middle f t =
+    let h : Held = before.holds in
+    let k : Held = middle.holds in
+    let same = f.holds name in
+    record {
+      bytes = t.bytes;
+      reads = λ e. let r = t.reads (f.tells ∙ e) in
+          (moved h k name (λ bytes. ReadsAsProof th bytes p) same r.0, λ q x. r.1 q (moved k h name (λ bytes. ReadsAsProof th bytes q) (sym same) x));
+    }
+
+pub quiet_after : (before middle after : ShelfState) → IsQuiet before middle → IsQuiet middle after → IsQuiet before after
+quiet_after before middle after q r = record { count = r.count ∙ q.count; last = r.last ∙ q.last }
+
+pub quiet_but_after : (before middle after : ShelfState) (s : Status) → IsQuiet before middle → IsQuietBut middle after s → IsQuietBut before after s
+quiet_but_after before middle after (status.ReadFault n) q r = tt
+quiet_but_after before middle after s q r = quiet_after before middle after q r
+
+quiet_any : (before after : ShelfState) (s : Status) → IsQuiet before after → IsQuietBut before after s
+quiet_any before after (status.ReadFault n) q = tt
+quiet_any before after s q = q
+
+-- a refusal without a text is what is answered
+pub delivered_quiet : (before after : ShelfState) (k : Command) (d r : Status) → (refusal_text k d ≡ [] → r ≡ d) → IsQuietBut before after d → IsQuietBut before after r
+delivered_quiet before after k (status.ReadFault n) r empty q = let P : Status → Type 0 = IsQuietBut before after in subst P (sym (empty refl)) tt
+delivered_quiet before after k d r empty q = quiet_any before after r q
+
+-- a fault after a quiet call is one since before it
+pub quiet_fault : (file : ℕ) (name : List ℕ) (N : Refusal) (before middle after : ShelfState) (s : Status) → ShelfFrame before middle → IsQuiet before middle
+    → IsFileFault file name N middle after s → IsFileFault file name N before after s
+quiet_fault file name N before middle after (status.ReadFault n) f q r = (r.0, unread r.1)
+  where
+    unread : IsUnread name middle after → IsUnread name before after
+    unread (inl s) = let R : ℕ → Type 0 = λ x. Rose x after.count in inl (record { rose = subst R q.count s.rose; named = s.named })
+    unread (inr s) = inr (record {
+      told = sym f.tells ∙ s.told;
+      nothing = sym (f.holds name) ∙ s.nothing;
+      quiet = quiet_after before middle after q s.quiet;
+      below = rw (sym q.count) s.below;
+    })
+quiet_fault file name N before middle after (status.TooLong g n) f q r = (
+  r.0,
+  record {
+    past = r.1.past;
+    within_piece = r.1.within_piece;
+    within_file = λ e. let m = r.1.within_file (f.tells ∙ e) in
+        record { bytes = m.bytes; bytes_are = sym (f.holds name) ∙ m.bytes_are; past = m.past; within_piece = m.within_piece; within_file = m.within_file };
+  },
+)
+quiet_fault file name N before middle after (status.Unreadable g p d) f q r = (r.0, r.1, λ e. moved before.holds middle.holds name (N p d) (f.holds name) (r.2 (f.tells ∙ e)))
+quiet_fault file name N before middle after status.Memory f q r = tt
+quiet_fault file name N before middle after s f q r = absurd r
+
+pub if_ok : {T E : Type 0} (P Q : T → Type 0) (r : Result T E) → IfOk r P → ((x : T) → P x → Q x) → IfOk r Q
+if_ok P Q (Ok x) h f = f x h
+if_ok P Q (Err e) h f = tt
+
+pub if_err : {T E : Type 0} (P Q : E → Type 0) (r : Result T E) → IfErr r P → ((e : E) → P e → Q e) → IfErr r Q
+if_err P Q (Ok x) h f = tt
+if_err P Q (Err e) h f = f e h
+
+-- a file that gives nothing: it refuses the command, or it was not read, or memory ran out
+pub data FaultOf (file : ℕ) (name : List ℕ) (N : Refusal) (before after : ShelfState) : Status → Type 0 where
+  refuses : (s : Status) → RefusesFile before.holds file name N s → FaultOf file name N before after s
+  unread : (n : ℕ) → n ≡ after.count → IsUnread name before after → FaultOf file name N before after (status.ReadFault n)
+  out_of_memory : FaultOf file name N before after status.Memory
+
+pub fault_of : (file : ℕ) (name : List ℕ) (N : Refusal) (before after : ShelfState) (s : Status) → before.tells ≡ true → IsFileFault file name N before after s
+    → FaultOf file name N before after s
+fault_of file name N before after (status.ReadFault n) t f = unread n f.0 f.1
+fault_of file name N before after (status.TooLong g n) t f = refuses (status.TooLong g n) (f.0, f.1.within_file t)
+fault_of file name N before after (status.Unreadable g p d) t f = refuses (status.Unreadable g p d) (f.0, f.2 t)
+fault_of file name N before after status.Memory t f = out_of_memory
+fault_of file name N before after s t f = absurd f
+
+-- files that read are not refused
+long_file : (held : Held) (name : List ℕ) (n : ℕ) (P : List ℕ → Type 0) → HoldsMore held name n → Holds held name P → ⊥
+long_file held name n P m h =
+    let same : m.bytes ≡ h.bytes = same_Some m.bytes h.bytes (sym m.bytes_are ∙ h.bytes_are) in
+    omega (arith, m.past, m.within_file, h.short, ap length same)
+
+pub reads_not_refused : (held : Held) (file : ℕ) (name : List ℕ) (N : Refusal) (P : List ℕ → Type 0) (s : Status) → Holds held name P
+    → ((place : ℕ) (c : Cause) (bytes : List ℕ) → P bytes → N place c bytes → ⊥) → RefusesFile held file name N s → ⊥
+reads_not_refused held file name N P (status.TooLong f n) h g r = long_file held name n P r.1 h
+reads_not_refused held file name N P (status.Unreadable f p c) h g r =
+    let x = r.1 in g p c x.bytes (subst P (same_Some h.bytes x.bytes (sym h.bytes_are ∙ x.bytes_are)) h.are) x.are
+reads_not_refused held file name N P s h g r = r
+
+-- the bytes are refused in one way, but that a like cause may be shown
+abbrev pub IsOneWay : Refusal → Type 0
+IsOneWay N = (p q : ℕ) (c d : Cause) (bytes : List ℕ) → N p c bytes → N q d bytes → (p ≡ q) × IsLikeCause c d
+
+unreadable_like : (k : Command) (f g p q : ℕ) (c d : Cause) → f ≡ g → p ≡ q → IsLikeCause c d
+    → IsLike (status.Unreadable f p c) (refusal_text k (status.Unreadable f p c)) (status.Unreadable g q d) (refusal_text k (status.Unreadable g q d))
+unreadable_like k f g p q c d e h l =
+    let text : Status → List ℕ = refusal_text k in
+    let P : ℕ → Type 0 = λ x. IsLike (status.Unreadable f p c) (text (status.Unreadable f p c)) (status.Unreadable x q d) (text (status.Unreadable x q d)) in
+    let Q : ℕ → Type 0 = λ x. IsLike (status.Unreadable f p c) (text (status.Unreadable f p c)) (status.Unreadable f x d) (text (status.Unreadable f x d)) in
+    subst P e (subst Q h (like_cause (place_text k f) f p c d l))
+
+-- two refusals of one file are alike
+pub refused_alike : (k : Command) (held : Held) (file : ℕ) (name : List ℕ) (N : Refusal) (s r : Status) → IsOneWay N → RefusesFile held file name N s → RefusesFile held file name N r
+    → IsLike s (refusal_text k s) r (refusal_text k r)
+refused_alike k held file name N (status.TooLong f n) (status.TooLong g m) o a b =
+    let P : ℕ → Type 0 = λ x. IsLike (status.TooLong f n) (too_long_text f) (status.TooLong x m) (too_long_text x) in
+    subst P (a.0 ∙ sym b.0) (another_count f n m)
+refused_alike k held file name N (status.TooLong f n) (status.Unreadable g p d) o a b = absurd (long_file held name n (N p d) a.1 b.1)
+refused_alike k held file name N (status.Unreadable f p d) (status.TooLong g m) o a b = absurd (long_file held name m (N p d) b.1 a.1)
+refused_alike k held file name N (status.Unreadable f p c) (status.Unreadable g q d) o a b =
+    let x = a.1 in
+    let y = b.1 in
+    let P : List ℕ → Type 0 = N p c in
+    let w = o p q c d y.bytes (subst P (same_Some x.bytes y.bytes (sym x.bytes_are ∙ y.bytes_are)) x.are) y.are in
+    unreadable_like k f g p q c d (a.0 ∙ sym b.0) w.0 w.1
+refused_alike k held file name N (status.TooLong f n) r o a b = absurd b
+refused_alike k held file name N (status.Unreadable f p d) r o a b = absurd b
+refused_alike k held file name N s r o a b = absurd a
+
+pub refused_held : (held : Held) (file : ℕ) (name : List ℕ) (N : Refusal) (s : Status) → RefusesFile held file name N s → held name ≡ None → ⊥
+refused_held held file name N (status.TooLong f n) r e = let never : Some r.1.bytes ≡ None = sym r.1.bytes_are ∙ e in cc
+refused_held held file name N (status.Unreadable f p d) r e = let x = r.1 in let never : Some x.bytes ≡ None = sym x.bytes_are ∙ e in cc
+refused_held held file name N s r e = r
+
+pub holds_held : (held : Held) (name : List ℕ) (P : List ℕ → Type 0) → Holds held name P → held name ≡ None → ⊥
+holds_held held name P h e = let never : Some h.bytes ≡ None = sym h.bytes_are ∙ e in cc
+
+-- a file that holds something is not read only where the shelf's count rose
+pub unread_rose : (name : List ℕ) (before after : ShelfState) → (before.holds name ≡ None → ⊥) → IsUnread name before after → Rose before.count after.count
+unread_rose name before after held (inl s) = s.rose
+unread_rose name before after held (inr m) = absurd (held m.nothing)
+
+-- a file's fault is none of the other answers
+pub file_fault_not_ok : (file : ℕ) (name : List ℕ) (N : Refusal) (before after : ShelfState) (s : Status) → s ≡ status.Ok → IsFileFault file name N before after s → ⊥
+file_fault_not_ok file name N before after s e f = let Q : Status → Type 0 = IsFileFault file name N before after in subst Q e f
+
+pub file_fault_not_refused : (file : ℕ) (name : List ℕ) (N : Refusal) (before after : ShelfState) (s : Status) (n : ℕ) → s ≡ status.Refused n → IsFileFault file name N before after s → ⊥
+file_fault_not_refused file name N before after s n e f = let Q : Status → Type 0 = IsFileFault file name N before after in subst Q e f

@@ -1,0 +1,53 @@
+-- What a run answers: each answer with its cause and its text (`AnswersDue`).
+use Rattle.std.specs.Prelude.{◌≡◌, ℕ, List, Option, None}
+use Rattle.circ_outer.specs.Shelf.{ShelfState, IsQuiet}
+use Rattle.circ_outer.specs.Sink.{SinkState}
+use Rattle.circ_top.specs.Check.{IsAccepted, RefusesCheck}
+use Rattle.circ_top.specs.Command.{Command, Check, Show, Library, Asks, IsNoCommand}
+use Rattle.circ_top.specs.Delivery.{Prints, Delivers}
+use Rattle.circ_top.specs.Library.{RefusesLibrary}
+use Rattle.circ_top.specs.Outcome.{Stored, HoldsAfter}
+use Rattle.circ_top.specs.Show.{IsShown}
+use Rattle.circ_top.specs.Texts.{usage_text, refusal_text}
+use Rattle.circ_top.specs.TheoryFile.{IsTheoryFault}
+use Rattle.circ_top.specs.declared.status.Status.{Status}
+use Rattle.circ_top.specs.declared.status.Status.TheVariants as status
+
+-- a command that ends with 0, its text, and what is stored
+abbrev pub Succeeds : Command → (text : List ℕ) → (stored : Option Stored) → (before : ShelfState) → Type 0
+Succeeds (Check theory proof) text stored before = IsAccepted theory proof text before × (stored ≡ None)
+Succeeds (Show theory) text stored before = IsShown theory text before × (stored ≡ None)
+Succeeds (Library given) text stored before = (text ≡ given) × (stored ≡ None)
+
+-- why a command is refused
+abbrev pub RefusesCommand : Command → (before after : ShelfState) → Status → Type 0
+RefusesCommand (Check theory proof) before after s = RefusesCheck theory proof before after s
+RefusesCommand (Show theory) before after s = IsTheoryFault theory before after s
+RefusesCommand (Library given) before after s = RefusesLibrary s
+
+-- The answer that is due to a run, with its text and what is stored: the words are no command, or the command succeeds, or it is refused.
+pub data DueAnswer (words : List (List ℕ)) (before after : ShelfState) : Status → (text : List ℕ) → (stored : Option Stored) → Type 0 where
+  no_command : IsNoCommand words → DueAnswer words before after status.Usage usage_text None
+  success : (c : Command) (text : List ℕ) (stored : Option Stored) → Asks words c → Succeeds c text stored before
+      → DueAnswer words before after status.Ok text stored
+  refusal : (c : Command) (s : Status) → Asks words c → RefusesCommand c before after s → DueAnswer words before after s (refusal_text c s) None
+
+-- What a run answers: the answer that is due, with its text printed; or a part of the text, and that the sink failed or memory ran out.
+pub record AnswersDue (words : List (List ℕ)) (before after : ShelfState) (start end : SinkState) (s : Status) : Type 0 where
+  pub answer : Status
+  pub text : List ℕ
+  pub stored : Option Stored
+  pub due : DueAnswer words before after answer text stored
+  pub held : HoldsAfter stored before after
+  pub delivered : Delivers text start end answer s
+
+-- Status 0: the words are those of a command that succeeds, its text was printed, and the outside did not fail.
+pub record Succeeded (words : List (List ℕ)) (before after : ShelfState) (start end : SinkState) : Type 0 where
+  pub command : Command
+  pub text : List ℕ
+  pub stored : Option Stored
+  pub asks : Asks words command
+  pub succeeds : Succeeds command text stored before
+  pub held : HoldsAfter stored before after
+  pub quiet : IsQuiet before after
+  pub prints : Prints text start end

@@ -1,0 +1,22 @@
+-- A text that is written, and what is answered where it is not written whole.
+use Rattle.std.specs.Prelude.{◌≡◌, ◌≢◌, ℕ, List, [], ◌++◌, true}
+use Rattle.circ_outer.specs.Count.{Rose}
+use Rattle.circ_outer.specs.Sink.{SinkState}
+use Rattle.circ_top.specs.declared.status.Status.{Status}
+use Rattle.circ_top.specs.declared.status.Status.TheVariants as status
+
+-- the sink got exactly this text, without a fault
+pub record Prints (text : List ℕ) (start end : SinkState) : Type 0 where
+  pub quiet : end.count ≡ start.count
+  pub printed : start.tells ≡ true → end.written ≡ start.written ++ text
+
+-- the sink got the first bytes of this text
+abbrev pub PrintsPart : (text : List ℕ) → (start end : SinkState) → Type 0
+PrintsPart text start end =
+    start.tells ≡ true → (part : List ℕ) × ((rest : List ℕ) × ((text ≡ part ++ rest) × (end.written ≡ start.written ++ part)))
+
+-- Writing a text for a status: it is printed, or a part of it and the answer says why.
+pub data Delivers (text : List ℕ) (start end : SinkState) (s : Status) : Status → Type 0 where
+  whole : Prints text start end → Delivers text start end s s
+  write_failed : (n : ℕ) → text ≢ [] → n ≡ end.count → Rose start.count end.count → PrintsPart text start end → Delivers text start end s (status.WriteFault n)
+  memory_wanted : end.count ≡ start.count → PrintsPart text start end → Delivers text start end s status.Memory

@@ -1,0 +1,39 @@
+-- What a run over files and a text in memory answers.
+use Rattle.std.specs.Prelude.{◌≡◌, ◌++◌, ℕ, List, Option, IsSome}
+use Rattle.circ_outer.specs.Shelf.{ShelfState}
+use Rattle.circ_outer.specs.Sink.{SinkState}
+use Rattle.circ_top.specs.Command.{Command, Check, Show, Library, Asks}
+use Rattle.circ_top.specs.Files.{Held}
+use Rattle.circ_top.specs.Like.{IsLike}
+use Rattle.circ_top.specs.Outcome.{Stored, Outcome, HoldsAfter}
+use Rattle.circ_top.specs.declared.status.Status.{Status}
+use Rattle.circ_top.specs.declared.status.Status.TheVariants as status
+
+-- the files of a command hold something
+abbrev pub HoldsFilesOf : Held → Command → Type 0
+HoldsFilesOf held (Check theory proof) = IsSome (held theory) × IsSome (held proof)
+HoldsFilesOf held (Show theory) = IsSome (held theory)
+HoldsFilesOf held (Library text) = Unit {0}
+
+abbrev pub HoldsFiles : List (List ℕ) → Held → Type 0
+HoldsFiles words held = (c : Command) → Asks words c → HoldsFilesOf held c
+
+-- The answer is this outcome or a like answer. Its text was appended, and afterwards the files hold what the outcome stores.
+pub record AppendsAnswer (before after : ShelfState) (start end : SinkState) (s : Status) (text : List ℕ) (stored : Option Stored) (r : Status) : Type 0 where
+  pub given : List ℕ
+  pub like : IsLike s text r given
+  pub held : HoldsAfter stored before after
+  pub appended : end.written ≡ start.written ++ given
+
+-- There is an outcome of this status, whose text was appended, and afterwards the files hold what it stores.
+pub record AppendsOutcome (words : List (List ℕ)) (before after : ShelfState) (start end : SinkState) (s : Status) : Type 0 where
+  pub text : List ℕ
+  pub stored : Option Stored
+  pub outcome : Outcome words before.holds s text stored
+  pub held : HoldsAfter stored before after
+  pub appended : end.written ≡ start.written ++ text
+
+-- The answer is an outcome; or memory ran out.
+abbrev pub Appends : List (List ℕ) → (before after : ShelfState) → (start end : SinkState) → Status → Type 0
+Appends words before after start end status.Memory = Unit {0}
+Appends words before after start end s = AppendsOutcome words before after start end s

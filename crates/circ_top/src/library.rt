@@ -1,0 +1,17 @@
+//! The command `library`: a text of the library is printed.
+ghost use Rattle.std.specs.Prelude.{◌≡◌, IfOk, IfErr};
+ghost use Rattle.circ_top.specs.Library.{RefusesLibrary};
+
+use crate::status::Status;
+use std::alloc::Global;
+
+/// A copy of the text, or the answer in its place.
+pub(crate) fn library(alloc: Global, text: &[u8]) -> Result<Vec<u8>, Status>
+    ensures given { IfOk result (λ v. v.items ≡ text.now) }
+    ensures refused { IfErr result RefusesLibrary }
+{
+    match Vec::from_slice(alloc, text) {
+        Ok(copy) => Ok(copy),
+        Err(_) => Err(Status::Memory),
+    }
+}
