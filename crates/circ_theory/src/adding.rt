@@ -1,5 +1,6 @@
 //! What the calls that add parts test, and how they keep the numbers of operators.
-ghost use Rattle.std.specs.Prelude.{◌≡◌, ℕ, List, [], ◌∷◌, ◌++◌, ◌&&◌, if◌then◌else◌, nat_eq, nat_lt, not, find, is_some, OnOk, OnErr};
+ghost use Rattle.std.specs.Prelude.{◌≡◌, ℕ, List, [], ◌∷◌, ◌++◌, ◌&&◌, if◌then◌else◌, nat_eq};
+ghost use Rattle.std.specs.Prelude.{nat_lt, not, find, is_some, OnOk, OnErr};
 ghost use Rattle.std.specs.Cmp.Lexicographic.{pointwise};
 ghost use Rattle.circ_term.specs.Tree.{operator_number};
 ghost use Rattle.circ_theory.specs.Operators.{operator_of, is_ill_sorted, hole_count};
@@ -21,8 +22,11 @@ pub(crate) fn note_word(
     word: &[u8],
     number: u32,
 ) -> Result<(), AllocError>
-    ensures noted { OnOk result ((w : List ℕ) → kept_under by_word.new.entries w ≡ (if pointwise nat_eq w word.now then kept_under by_word.old.entries w ++ number ∷ [] else kept_under by_word.old.entries w)) }
-    ensures err { OnErr result ((w : List ℕ) → kept_under by_word.new.entries w ≡ kept_under by_word.old.entries w) }
+    ensures noted { OnOk result ((w : List ℕ) → kept_under by_word.new.entries w ≡
+        (if pointwise nat_eq w word.now then kept_under by_word.old.entries w ++ number ∷
+        [] else kept_under by_word.old.entries w)) }
+    ensures err { OnErr result ((w : List ℕ) → kept_under by_word.new.entries w ≡
+        kept_under by_word.old.entries w) }
 {
     if let Some(numbers) = by_word.get_mut(word) {
         numbers.push(number)?;

@@ -3,8 +3,8 @@ use std::alloc::{AllocError, AllocFailed};
 use std::fmt;
 use thiserror::Error;
 
-/// Why a part was not added. A call tests in the order of the variants, and the first that holds is the answer. Numbers of
-/// parts are counted from 0.
+/// Why a part was not added. A call tests in the order of the variants, and the first that holds is
+/// the answer. Numbers of parts are counted from 0.
 #[derive(Drop, Clone, Copy, PartialEq, Eq, Error)]
 pub enum TheoryFault {
     /// The part is there already, under this number.
@@ -23,7 +23,8 @@ pub enum TheoryFault {
     NotVisible { sort: u32 },
     /// The sort has a case list, so it cannot become hidden.
     NowHidden { sort: u32 },
-    /// A limit is passed: by the arguments, parameters or constants that the part has, or by the parts of its kind with it.
+    /// A limit is passed: by the arguments, parameters or constants that the part has, or by the
+    /// parts of its kind with it.
     Limit { count: u64 },
     /// Memory ran out.
     Memory,

@@ -1,7 +1,9 @@
 //! Texts, and the forms in which operators are written.
 ghost use Rattle.std.specs.Prelude.{◌≡◌, ◌≤◌, ◌<◌, ◌∷◌, IfOk, length, take, drop, position};
 ghost use Rattle.std.specs.List.{list_any};
-ghost use Rattle.circ_theory.specs.Form.{is_special, is_word, is_bad_byte, is_reserved, is_bad_word, is_bad_piece, first_word, pieces_of, text_of, piece_of, IsForm, ReadsForm};
+ghost use Rattle.circ_theory.specs.Form.{is_special, is_word, is_bad_byte, is_reserved};
+ghost use Rattle.circ_theory.specs.Form.{is_bad_word, is_bad_piece, first_word, pieces_of, text_of};
+ghost use Rattle.circ_theory.specs.Form.{piece_of, IsForm, ReadsForm};
 
 use std::alloc::{AllocError, AllocFailed, Global};
 use std::marker::Model;
@@ -48,8 +50,8 @@ pub enum Piece {
     Word(Text),
 }
 
-/// How an operator is written: words, and holes where its arguments go. A form without holes is followed by its arguments
-/// in parentheses.
+/// How an operator is written: words, and holes where its arguments go. A form without holes is
+/// followed by its arguments in parentheses.
 #[derive(Drop)]
 pub struct Form {
     pieces: Vec<Piece>,
@@ -106,8 +108,8 @@ impl<T: Drop> From<AllocFailed<T>> for FormFault {
 }
 
 impl Form {
-    /// The form that a text spells: `_` is a hole, each of `[ ] { }` is a word by itself, and what stands between these is
-    /// a word.
+    /// The form that a text spells: `_` is a hole, each of `[ ] { }` is a word by itself, and what
+    /// stands between these is a word.
     pub fn read(alloc: Global, text: &[u8]) -> Result<Form, FormFault>
         ensures { ReadsForm result text.now }
     {
@@ -196,7 +198,8 @@ fn piece_len(rest: &[u8]) -> usize
     requires { 0 < length rest.now }
     ensures some { 0 < result }
     ensures within { result ≤ length rest.now }
-    ensures cut { pieces_of rest.now ≡ piece_of (take result rest.now) ∷ pieces_of (drop result rest.now) }
+    ensures cut { pieces_of rest.now ≡ piece_of (take result rest.now) ∷
+        pieces_of (drop result rest.now) }
 {
     if is_special(rest[0]) {
         return 1;

@@ -1,8 +1,9 @@
 //! Theories of many-sorted behavioural algebra, and what follows from them.
 //!
-//! A [`Theory`] holds sorts, operators, equations, derivatives and case lists, and only well-sorted parts. [`follow`] replays one recorded step of
-//! rewriting. What is derivable, what an experiment is and which terms behave alike is defined in `specs`, and [`laws`]
-//! states what is proved of these notions.
+//! A [`Theory`] holds sorts, operators, equations, derivatives and case lists, and only well-sorted
+//! parts. [`follow`] replays one recorded step of rewriting. What is derivable, what an experiment
+//! is and which terms behave alike is defined in `specs`, and [`laws`] states what is proved of
+//! these notions.
 #![tactic(auto)]
 
 mod adding;

@@ -1,18 +1,21 @@
 //! The variables of derivatives.
-ghost use Rattle.std.specs.Prelude.{◌≡◌, ◌↔◌, ◌++◌, map, IsTrue, IfOk, OnOk, if◌then◌else◌, is_some};
+ghost use Rattle.std.specs.Prelude.{◌≡◌, ◌↔◌, ◌++◌, map, IsTrue, IfOk, OnOk, if◌then◌else◌};
+ghost use Rattle.std.specs.Prelude.{is_some};
 ghost use Rattle.std.specs.List.{filter};
 ghost use Rattle.circ_term.specs.Tree.{trees_of};
 ghost use Rattle.circ_theory.specs.Variables.{AreNumberedFrom};
 ghost use Rattle.circ_theory.specs.Occurring.{variable_of};
-ghost use Rattle.circ_theory.specs.Observing.{holes_in, parameters_in, all_holes_in, all_parameters_in, is_parameter, AreParametersInOrder, first_repeated};
+ghost use Rattle.circ_theory.specs.Observing.{holes_in, parameters_in, all_holes_in};
+ghost use Rattle.circ_theory.specs.Observing.{all_parameters_in, is_parameter};
+ghost use Rattle.circ_theory.specs.Observing.{AreParametersInOrder, first_repeated};
 
 use crate::renumber::{Occurring, gather};
 use circ_term::{Kind, Term};
 use indexmap::IndexSet;
 use std::alloc::{AllocError, Global};
 
-/// Whether the parameters of a derivative's body, which are its variables but those numbered 0, have the numbers 1, 2 and so
-/// on by their first occurrence. Costs as much as the term has nodes.
+/// Whether the parameters of a derivative's body, which are its variables but those numbered 0,
+/// have the numbers 1, 2 and so on by their first occurrence. Costs as much as the term has nodes.
 pub fn parameters_in_order(alloc: Global, term: &Term) -> Result<bool, AllocError>
     ensures { IfOk result (λ b. IsTrue b ↔ AreParametersInOrder term.now) }
 {
@@ -22,7 +25,8 @@ pub fn parameters_in_order(alloc: Global, term: &Term) -> Result<bool, AllocErro
 }
 
 fn are_in_order(variables: &[Occurring]) -> bool
-    ensures { IsTrue result ↔ AreNumberedFrom 1 (filter is_parameter (map variable_of variables.now)) }
+    ensures { IsTrue result ↔ AreNumberedFrom 1 (filter is_parameter
+        (map variable_of variables.now)) }
 {
     let mut next: u64 = 1;
     for variable in variables {
@@ -57,8 +61,10 @@ pub(crate) fn slots_of(alloc: Global, term: &Term) -> Result<Slots, AllocError>
 
 #[cycle(fill)]
 fn fill(term: &Term, slots: &mut Slots) -> Result<(), AllocError>
-    ensures holes { OnOk result (slots.new.holes.items ≡ slots.old.holes.items ++ holes_in term.now) }
-    ensures params { OnOk result (slots.new.params.items ≡ slots.old.params.items ++ parameters_in term.now) }
+    ensures holes { OnOk result (slots.new.holes.items ≡ slots.old.holes.items ++
+        holes_in term.now) }
+    ensures params { OnOk result (slots.new.params.items ≡ slots.old.params.items ++
+        parameters_in term.now) }
 {
     match term.kind() {
         Kind::Variable { number: 0, sort } => {
@@ -75,8 +81,10 @@ fn fill(term: &Term, slots: &mut Slots) -> Result<(), AllocError>
 
 #[cycle(fill)]
 fn fill_all(terms: &[Term], slots: &mut Slots) -> Result<(), AllocError>
-    ensures holes { OnOk result (slots.new.holes.items ≡ slots.old.holes.items ++ all_holes_in (trees_of terms.now)) }
-    ensures params { OnOk result (slots.new.params.items ≡ slots.old.params.items ++ all_parameters_in (trees_of terms.now)) }
+    ensures holes { OnOk result (slots.new.holes.items ≡ slots.old.holes.items ++
+        all_holes_in (trees_of terms.now)) }
+    ensures params { OnOk result (slots.new.params.items ≡ slots.old.params.items ++
+        all_parameters_in (trees_of terms.now)) }
 {
     for term in terms {
         fill(term, slots)?;

@@ -20,12 +20,14 @@ pub struct Occurring {
     pub sort: u32,
 }
 
-/// The two terms with their variables numbered anew: they get the numbers 0, 1 and so on by their first occurrence, the left
-/// term first. Costs as much as the terms have nodes.
+/// The two terms with their variables numbered anew: they get the numbers 0, 1 and so on by their
+/// first occurrence, the left term first. Costs as much as the terms have nodes.
 pub fn renumbered(alloc: Global, left: &Term, right: &Term) -> Result<(Term, Term), AllocError>
-    ensures exact { IfOk result (λ r. pair_with r.0 r.1 ≡ renumbered (pair_with left.now right.now)) }
+    ensures exact { IfOk result (λ r. pair_with r.0 r.1 ≡
+        renumbered (pair_with left.now right.now)) }
     ensures in_order { IfOk result (λ r. IsInOrder (pair_with r.0 r.1)) }
-    ensures sorted { (sig : Signature) → IsWellSortedPair sig (pair_with left.now right.now) → IfOk result (λ r. IsWellSortedPair sig (pair_with r.0 r.1)) }
+    ensures sorted { (sig : Signature) → IsWellSortedPair sig (pair_with left.now right.now) →
+        IfOk result (λ r. IsWellSortedPair sig (pair_with r.0 r.1)) }
 {
     let subst = pair_renumbering(alloc, left, right)?;
     instances(&subst, left, right)
@@ -34,7 +36,8 @@ pub fn renumbered(alloc: Global, left: &Term, right: &Term) -> Result<(Term, Ter
 /// Adds the term's variables to those that were seen so far, by first occurrence.
 #[cycle(gather)]
 pub fn gather(term: &Term, variables: &mut IndexSet<Occurring>) -> Result<(), AllocError>
-    ensures { OnOk result (map variable_of variables.new.keys ≡ seen_in term.now (map variable_of variables.old.keys)) }
+    ensures { OnOk result (map variable_of variables.new.keys ≡
+        seen_in term.now (map variable_of variables.old.keys)) }
 {
     match term.kind() {
         Kind::Variable { number, sort } => {
@@ -47,7 +50,8 @@ pub fn gather(term: &Term, variables: &mut IndexSet<Occurring>) -> Result<(), Al
 
 #[cycle(gather)]
 fn gather_all(terms: &[Term], variables: &mut IndexSet<Occurring>) -> Result<(), AllocError>
-    ensures { OnOk result (map variable_of variables.new.keys ≡ seen_in_all (trees_of terms.now) (map variable_of variables.old.keys)) }
+    ensures { OnOk result (map variable_of variables.new.keys ≡
+        seen_in_all (trees_of terms.now) (map variable_of variables.old.keys)) }
 {
     for term in terms {
         gather(term, variables)?;
@@ -57,7 +61,8 @@ fn gather_all(terms: &[Term], variables: &mut IndexSet<Occurring>) -> Result<(),
 
 // What numbers the variables of two terms anew.
 fn pair_renumbering(alloc: Global, left: &Term, right: &Term) -> Result<Subst, AllocError>
-    ensures { IfOk result (λ σ. Renumbers (substitution_of σ) (variables_of (pair_with left.now right.now))) }
+    ensures { IfOk result (λ σ. Renumbers (substitution_of σ)
+        (variables_of (pair_with left.now right.now))) }
 {
     left.known();
     right.known();
@@ -66,8 +71,13 @@ fn pair_renumbering(alloc: Global, left: &Term, right: &Term) -> Result<Subst, A
     renumbering(alloc, variables.as_slice())
 }
 
-fn gather_pair(left: &Term, right: &Term, variables: &mut IndexSet<Occurring>) -> Result<(), AllocError>
-    ensures { OnOk result (map variable_of variables.new.keys ≡ seen_in right.now (seen_in left.now (map variable_of variables.old.keys))) }
+fn gather_pair(
+    left: &Term,
+    right: &Term,
+    variables: &mut IndexSet<Occurring>,
+) -> Result<(), AllocError>
+    ensures { OnOk result (map variable_of variables.new.keys ≡
+        seen_in right.now (seen_in left.now (map variable_of variables.old.keys))) }
 {
     gather(left, variables)?;
     gather(right, variables)
@@ -88,7 +98,8 @@ fn renumbering(alloc: Global, variables: &[Occurring]) -> Result<Subst, AllocErr
 }
 
 fn instances(subst: &Subst, left: &Term, right: &Term) -> Result<(Term, Term), AllocError>
-    ensures { IfOk result (λ r. pair_with r.0 r.1 ≡ instance_pair (substitution_of subst.now) (pair_with left.now right.now)) }
+    ensures { IfOk result (λ r. pair_with r.0 r.1 ≡
+        instance_pair (substitution_of subst.now) (pair_with left.now right.now)) }
 {
     let left = instance(subst, left)?;
     let right = instance(subst, right)?;

@@ -6,10 +6,12 @@ ghost use Rattle.circ_term.specs.Tree.{sort_of};
 ghost use Rattle.circ_term.specs.Subst.{substitution_of};
 ghost use Rattle.circ_theory.specs.Signature.{IsWellSorted};
 ghost use Rattle.circ_theory.specs.Derivable.{Derivable};
-ghost use Rattle.circ_theory.specs.Link.{Follows, named, IsInTable, plain_link, Equation_link, from_side, to_side};
+ghost use Rattle.circ_theory.specs.Link.{Follows, named, IsInTable, plain_link, Equation_link};
+ghost use Rattle.circ_theory.specs.Link.{from_side, to_side};
 ghost use Rattle.circ_theory.specs.Theory.{pair_of};
 ghost use Rattle.circ_theory.specs.Variables.{numbered};
-ghost use Rattle.circ_theory.specs.Rewriting.{GivesInstance, GivesReplaced, GivesRewrite, GivesSubst};
+ghost use Rattle.circ_theory.specs.Rewriting.{GivesInstance, GivesReplaced, GivesRewrite};
+ghost use Rattle.circ_theory.specs.Rewriting.{GivesSubst};
 
 use crate::parts::Equation;
 use crate::theories::Theory;
@@ -17,7 +19,7 @@ use circ_term::{Path, Subst, Term, TermFault};
 use std::alloc::{AllocError, Global};
 
 /// Which side of a pair is looked for.
-#[derive(Clone, Copy, PartialEq, Eq, Debug)]
+#[derive(Clone, Copy, PartialEq, Eq)]
 pub enum Way {
     /// The left side, and the right side replaces it.
     Forth,
@@ -28,8 +30,8 @@ pub enum Way {
 /// One step of rewriting, as a proof records it.
 #[derive(Drop)]
 pub enum Link {
-    /// By an equation of the theory, at a path. The terms that its variables are given go by their numbers in a table, in the
-    /// order of the variables' numbers.
+    /// By an equation of the theory, at a path. The terms that its variables are given go by their
+    /// numbers in a table, in the order of the variables' numbers.
     Equation {
         number: u32,
         way: Way,
@@ -80,7 +82,8 @@ struct Step<'a> {
 }
 
 fn step_of(link: &Link) -> Step<'_>
-    ensures { plain_link link.now ≡ Equation_link result.number result.way result.path.now result.terms.now }
+    ensures { plain_link link.now ≡ Equation_link result.number result.way result.path.now
+        result.terms.now }
 {
     match link {
         Link::Equation {
@@ -150,7 +153,8 @@ fn rewrite(
     path: &[u16],
     term: &Term,
 ) -> Result<Option<Term>, AllocError>
-    ensures { IfOk result (GivesRewrite (substitution_of subst.now) from.now to.now path.now term.now) }
+    ensures { IfOk result (GivesRewrite (substitution_of subst.now) from.now to.now path.now
+        term.now) }
 {
     let Some(old) = term.at(path) else {
         return Ok(None);
