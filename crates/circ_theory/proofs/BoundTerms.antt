@@ -135,7 +135,7 @@ entries-put τ v (w ∷ ws) e = go (variable_cmp v w) refl (is_before-less w v �
     go : (o : Ordering) → variable_cmp v w ≡ o → is_before w v ≡ is_lt (ordering_reverse (variable_cmp v w))
         → (list_any (is_variable v) ws ≡ false → put variable_cmp v (τ v) (entries τ ws) ≡ entries τ (put_in_order v ws))
         → by_order o ((v, τ v) ∷ (w, τ w) ∷ entries τ ws) ((w, τ v) ∷ entries τ ws) ((w, τ w) ∷ put variable_cmp v (τ v) (entries τ ws))
-            ≡ entries τ (if is_before w v then w ∷ put_in_order v ws else v ∷ w ∷ ws)
+        ≡ entries τ (if is_before w v then w ∷ put_in_order v ws else v ∷ w ∷ ws)
     go Less f b ih = let no : is_before w v ≡ false = b ∙ ap (λ x. is_lt (ordering_reverse x)) f in rw no refl
     go Equal f b ih = absurd (let z = is_variable-tied v w ∙ ap is_eq f in let y = rw z at e in cc)
     go Greater f b ih =
@@ -200,9 +200,9 @@ pub bound_terms : (bs : List Bound) (vs : List Variable) → IsStrictlySortedBy 
 bound_terms bs vs s a h =
     let τ : Variable → Tree = λ v. substitution_of bs v.number v.sort in
     let at_each : (v : Variable) → find variable_cmp v (bound_entries bs) ≡ find variable_cmp v (entries τ (sorted vs)) = λ v.
-        sym (found-find bs v) ∙ its_own (found bs v.number v.sort) (Var v.number v.sort)
-        ∙ ap (λ b. cond b (Some (τ v)) None) (h v.number v.sort ∙ sym (any_sorted v vs)) ∙ sym (find-entries τ v (sorted vs)) in
+    sym (found-find bs v) ∙ its_own (found bs v.number v.sort) (Var v.number v.sort)
+    ∙ ap (λ b. cond b (Some (τ v)) None) (h v.number v.sort ∙ sym (any_sorted v vs)) ∙ sym (find-entries τ v (sorted vs)) in
     terms_bound bs
     ∙ ap (map (λ e. e.1))
-      (same_entries variable_cmp variable_total equal_variable (bound_entries bs) (entries τ (sorted vs)) (sorted_bounds bs s) (entries-sorted τ vs a) at_each)
+    (same_entries variable_cmp variable_total equal_variable (bound_entries bs) (entries τ (sorted vs)) (sorted_bounds bs s) (entries-sorted τ vs a) at_each)
     ∙ terms_given τ (sorted vs)

@@ -5,7 +5,7 @@ use Rattle.std.proofs.lemmas.List.{length-map, map-append}
 use Rattle.std.specs.List.{list_any, slice_get}
 use Rattle.std.proofs.lemmas.Bool.{eqb-true, eq-eqb, and_parts}
 use Rattle.circ_term.specs.Tree.{Tree, Trees, Var, App, none, more, sort_of}
-use Rattle.circ_term.specs.Substitution.{Substitution, instance, instances}
+use Rattle.circ_term.specs.Substitution.{instance, instances}
 use Rattle.circ_theory.specs.Signature.{Signature, IsWellSorted, IsSubstitution}
 use Rattle.circ_theory.specs.Theory.{Pair, IsWellSortedPair}
 use Rattle.circ_theory.specs.Variables.{Variable, is_variable, seen, seen_in, seen_in_all, variables_of, numbered, IsInOrder, AreNumberedFrom}

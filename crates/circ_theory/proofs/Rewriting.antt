@@ -6,7 +6,6 @@ use Rattle.std.specs.Option.{IfSome, option_map}
 use Rattle.std.proofs.lemmas.Bool.{eqb-true, and_parts}
 use Rattle.std.proofs.lemmas.Option.{same_Some, slice_get_within, slice_get_read, get_or_from_slice_get}
 use Rattle.circ_term.specs.Tree.{Tree, Var, sort_of, replaced}
-use Rattle.circ_term.specs.Limits.{IsWithinLimits}
 use Rattle.circ_term.specs.Substitution.{Substitution, instance}
 use Rattle.circ_term.specs.Subst.{Bound, substitution_of}
 use Rattle.circ_term.proofs.Instances.{instance-same}

@@ -1,5 +1,5 @@
 -- What is derivable stays so under more premises.
-use Rattle.std.specs.Prelude.{◌≡◌, ◌⊎◌, ℕ, zero, suc, List, ◌∷◌}
+use Rattle.std.specs.Prelude.{◌≡◌, ◌⊎◌, zero, suc, List, ◌∷◌}
 use Rattle.std.specs.List.{Contains}
 use Rattle.std.proofs.Common.{inl, inr, arith}
 use Rattle.circ_term.specs.Tree.{Tree, Trees}
