@@ -1,9 +1,10 @@
-//! Runs each row of the tables in data/ over files and a text in memory, and prints what came of it:
-//! a line for each table, its name, and one for each row, its name and the number of the answer.
+//! Runs each row of the tables in data/ over files and a text in memory, and prints what came of
+//! it: a line for each table, its name, and one for each row, its name and the answer's number.
 //!
 //! A table is a text. A line that begins with `== ` begins a part, whose text is what stands below
-//! it; an empty line before a line `== row NAME` ends a row. What stands before the first row is the
-//! head, whose parts belong to every row of the table.
+//! it; an empty line before a line `== row NAME` ends a row. What stands before the first row is
+//! the head, whose parts belong to every row of the table. Where a row does not come out as it
+//! must, what came follows its name.
 #![tactic(auto)]
 
 mod part;

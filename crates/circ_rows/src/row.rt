@@ -10,7 +10,8 @@ use std::str;
 /// The kinds of parts of a run:
 /// - `circ WORDS`, the words behind the program's name, and `word TEXT`, one more, blanks and all;
 /// - `file NAME`, what a name holds;
-/// - `pieces COUNT` and `writes COUNT`, how many bytes a call of the shelf or of the sink moves at most;
+/// - `pieces COUNT` and `writes COUNT`, how many bytes a call of the shelf or of the sink moves at
+///   most;
 /// - `shelf CALL` and `sink CALL`, a call that fails.
 const RUN: [&str; 7] = ["circ", "word", "file", "pieces", "writes", "shelf", "sink"];
 
@@ -20,7 +21,7 @@ const RUN: [&str; 7] = ["circ", "word", "file", "pieces", "writes", "shelf", "si
 /// - `stores NAME`, what a name must hold, and `lacks NAME`, a name that must hold nothing.
 ///
 /// Behind each part `times COUNT` and `then` add to its text: what is below, so many times or once.
-/// In what is added by `times` each `#` stands for the number of the copy, from 0.
+/// In what is added each `#` stands for the number of the copy, from 0.
 const ANSWER: [&str; 5] = ["prints", "ends", "counts", "stores", "lacks"];
 
 /// How many bytes a call moves at most, where a row does not say it.
