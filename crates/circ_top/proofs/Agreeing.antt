@@ -30,7 +30,8 @@ pub data DueIs (words : List (List ℕ)) (before after : ShelfState) : Status �
   no_memory_left : DueIs words before after status.Memory [] None
 
 -- a file's fault as an outcome, by what its refusal comes to
-pub file_due : (words : List (List ℕ)) (k : Command) (before after : ShelfState) (file : ℕ) (name : List ℕ) (N : Refusal) (s : Status) → before.tells ≡ true → Asks words k
+pub file_due : (words : List (List ℕ)) (k : Command) (before after : ShelfState) (file : ℕ) (name : List ℕ) (N : Refusal) (s : Status) → before.tells ≡ true
+    → Asks words k
     → IsFileFault file name N before after s → ((r : Status) → RefusesFile before.holds file name N r → OutcomeOf before.holds k r (refusal_text k r) None)
     → DueIs words before after s (refusal_text k s) None
 file_due words k before after file name N s t i f g = go s (fault_of file name N before after s t f)
@@ -72,7 +73,8 @@ like_causes c d _ _ (ambiguous {s} {t} {u} {v}) a b =
 pub reads_once : ((bytes : List ℕ) (th : Theory) (n : ℕ) (c : Cause) → ReadsAs bytes th → FirstCause bytes n c → ⊥)
     → ((bytes : List ℕ) (n m : ℕ) (c d : Cause) → FirstCause bytes n c → FirstCause bytes m d → m ≡ n)
     → ((bytes : List ℕ) (n m : ℕ) (c d : Cause) → FirstCause bytes n c → FirstCause bytes m d → AreAlike {A = Scope} (Err c) (Err d)) → ReadsOnce
-reads_once e n l = record { either = e; alike = λ p q c d bytes a b. (sym (n bytes p q c d a b), like_causes c d (Err c) (Err d) (l bytes p q c d a b) refl refl) }
+reads_once e n l =
+    record { either = e; alike = λ p q c d bytes a b. (sym (n bytes p q c d a b), like_causes c d (Err c) (Err d) (l bytes p q c d a b) refl refl) }
 
 -- what is printed of the text that is due is a part of the outcome's
 pub nothing_part : (text : List ℕ) (start end : SinkState) → PrintsPart [] start end → PrintsPart text start end
@@ -91,10 +93,12 @@ itself_part : (s : Status) (text : List ℕ) (start end : SinkState) → PrintsP
 itself_part s text start end p = record { answer = s; given = text; like = itself s text; part = p }
 
 module _ (before after : ShelfState) (start end : SinkState) (s : Status) (text : List ℕ) where
-  pub agree_answers : (stored : Option Stored) (d r : Status) (given : List ℕ) → HoldsAfter stored before after → Agrees before after s text d given → Delivers given start end d r
+  pub agree_answers : (stored : Option Stored) (d r : Status) (given : List ℕ) → HoldsAfter stored before after → Agrees before after s text d given
+      → Delivers given start end d r
       → AnswersOutcome before after start end s text stored r
   agree_answers stored d _ given h (alike _ _ l) (whole p) = printed d given l h p
-  agree_answers stored d _ given h (alike _ _ l) (write_failed n some c rose p) = not_written n rose h (record { answer = d; given = given; like = l; part = p })
+  agree_answers stored d _ given h (alike _ _ l) (write_failed n some c rose p) =
+      not_written n rose h (record { answer = d; given = given; like = l; part = p })
   agree_answers stored d _ given h (alike _ _ l) (memory_wanted q p) = no_memory (record { answer = d; given = given; like = l; part = p })
   agree_answers stored _ _ _ h (unread_file n rose) (whole p) = not_read n rose p
   agree_answers stored _ _ _ h (unread_file n rose) (write_failed m some c up p) = absurd (some refl)

@@ -57,7 +57,8 @@ quiet_refused : (before after : ShelfState) (r : Status) (n : ℕ) → r ≡ sta
 quiet_refused before after r n e q = let P : Status → Type 0 = IsQuietBut before after in subst P e q
 
 -- a shelf that holds what it held holds what is stored where nothing is
-pub holds_elsewhere : (words : List (List ℕ)) (before after : ShelfState) → ShelfFrame before after → (n : List ℕ) → IsNotStored words n → after.holds n ≡ before.holds n
+pub holds_elsewhere : (words : List (List ℕ)) (before after : ShelfState) → ShelfFrame before after → (n : List ℕ) → IsNotStored words n
+    → after.holds n ≡ before.holds n
 holds_elsewhere words before after f n i = f.holds n
 
 module _ (words : List (List ℕ)) (before after : ShelfState) (start end : SinkState) (r : Status) (a : AnswersDue words before after start end r) where
@@ -67,21 +68,25 @@ module _ (words : List (List ℕ)) (before after : ShelfState) (start end : Sink
       go : (d : Status) (text : List ℕ) (stored : Option Stored) → DueAnswer words before after d text stored → HoldsAfter stored before after
           → (r : Status) → Delivers text start end d r → r ≡ status.Ok → IsQuiet before after → Succeeded words before after start end
       go _ _ _ (no_command n) h _ (whole p) e q = absurd (cc)
-      go _ text stored (success c _ _ i s) h _ (whole p) e q = record { command = c; text = text; stored = stored; asks = i; succeeds = s; held = h; quiet = q; prints = p }
+      go _ text stored (success c _ _ i s) h _ (whole p) e q =
+          record { command = c; text = text; stored = stored; asks = i; succeeds = s; held = h; quiet = q; prints = p }
       go _ _ _ (refusal c s i f) h _ (whole p) e q = absurd (command_not_ok before after c s f e)
       go d text stored x h _ (write_failed n some i rose p) e q = absurd (cc)
       go d text stored x h _ (memory_wanted m p) e q = absurd (cc)
 
-  pub answers_accepted : IsQuietBut before after r → (theory proof : List ℕ) → Asks words (Check theory proof) → r ≡ status.Ok → Accepts before after start end theory proof
+  pub answers_accepted : IsQuietBut before after r → (theory proof : List ℕ) → Asks words (Check theory proof) → r ≡ status.Ok
+      → Accepts before after start end theory proof
   answers_accepted q theory proof i e =
       let s = answers_succeed q e in
       let P : Command → Type 0 = λ c. Succeeds c s.text s.stored before in
-      record { text = s.text; accepted = (subst P (same_command words s.command (Check theory proof) s.asks i) s.succeeds).0; quiet = s.quiet; prints = s.prints }
+      let accepted = (subst P (same_command words s.command (Check theory proof) s.asks i) s.succeeds).0 in
+      record { text = s.text; accepted = accepted; quiet = s.quiet; prints = s.prints }
 
   pub answers_refused : IsQuietBut before after r → (n : ℕ) → r ≡ status.Refused n → Rejects words before after start end n
   answers_refused q n e = go a.answer a.text a.stored a.due r a.delivered e (quiet_refused before after r n e q)
     where
-      rejects : (c : Command) (s : Status) → Asks words c → RefusesCommand c before after s → s ≡ status.Refused n → Prints (refusal_text c s) start end → IsQuiet before after
+      rejects : (c : Command) (s : Status) → Asks words c → RefusesCommand c before after s → s ≡ status.Refused n → Prints (refusal_text c s) start end
+          → IsQuiet before after
           → Rejects words before after start end n
       rejects (Check theory proof) s i f e p q =
           let P : Status → Type 0 = λ x. Prints (refusal_text (Check theory proof) x) start end in
@@ -125,7 +130,8 @@ module _ (words : List (List ℕ)) (before after : ShelfState) (start end : Sink
   pub answers_write_fault : (n : ℕ) → r ≡ status.WriteFault n → IsWriteFault words before after start end n
   answers_write_fault n = go a.answer a.text a.stored a.due a.held r a.delivered
     where
-      with_text : (d : Status) (text : List ℕ) (stored : Option Stored) → text ≢ [] → DueIs words before after d text stored → Outcome words before.holds d text stored
+      with_text : (d : Status) (text : List ℕ) (stored : Option Stored) → text ≢ [] → DueIs words before after d text stored
+          → Outcome words before.holds d text stored
       with_text d text stored some (outcome _ _ _ c) = c
       with_text _ _ _ some (nothing_read m) = absurd (some refl)
       with_text _ _ _ some no_memory_left = absurd (some refl)

@@ -7,7 +7,8 @@ use Rattle.circ_file.specs.Proof.{Proof, goals_of}
 use Rattle.circ_file.specs.ProofText.{ReadsAsProof}
 use Rattle.circ_read.specs.ReadsAs.{ReadsAs}
 use Rattle.circ_top.specs.Causes.{AtEither}
-use Rattle.circ_top.specs.Check.{accepted_text, CheckOutcome, no_theory, no_proof, refused, accepted, Fails, IsAccepted, StepFails, RefusesCheck, theory_fault, proof_fault, step_fails}
+use Rattle.circ_top.specs.Check.{accepted_text, CheckOutcome, no_theory, no_proof, refused, accepted, Fails, IsAccepted, StepFails, RefusesCheck}
+use Rattle.circ_top.specs.Check.{theory_fault, proof_fault, step_fails}
 use Rattle.circ_top.specs.Command.{Check, Asks}
 use Rattle.circ_top.specs.Files.{IsOnly, RefusesFile, IsUnread, IsTooLong, IsFileFault}
 use Rattle.circ_top.specs.Like.{IsLike, itself}
@@ -20,7 +21,8 @@ use Rattle.circ_top.specs.TheoryFile.{ReadsTheory, TakesTheory, TheoryRefusal}
 use Rattle.circ_top.specs.declared.status.Status.{Status}
 use Rattle.circ_top.specs.declared.status.Status.TheVariants as status
 use Rattle.circ_top.proofs.Agreeing.{DueIs, outcome, file_due, Agrees, alike, unread_file, memory, ReadsOnce, proofs_once}
-use Rattle.circ_top.proofs.FileFaults.{FaultOf, fault_of, refuses, unread, out_of_memory, reads_not_refused, refused_alike, refused_held, holds_held, unread_rose, file_fault_not_ok, file_fault_not_refused}
+use Rattle.circ_top.proofs.FileFaults.{FaultOf, fault_of, refuses, unread, out_of_memory, reads_not_refused, refused_alike, refused_held, holds_held}
+use Rattle.circ_top.proofs.FileFaults.{unread_rose, file_fault_not_ok, file_fault_not_refused}
 use Rattle.circ_top.proofs.Verdicts.{not_both, one_fail}
 
 -- a step that fails, or want of memory, refuses a `check` whose files read
@@ -35,7 +37,8 @@ fails_quiet th p before after (status.Refused n) q f = q
 fails_quiet th p before after status.Memory q f = q
 fails_quiet th p before after s q f = absurd f
 
-pub judged_quiet : {A : Type 0} (th : Theory) (p : Proof) (before after : ShelfState) (r : Result A Status) → IsQuiet before after → IfErr r (Fails th p) → IsQuietCall before after r
+pub judged_quiet : {A : Type 0} (th : Theory) (p : Proof) (before after : ShelfState) (r : Result A Status) → IsQuiet before after → IfErr r (Fails th p)
+    → IsQuietCall before after r
 judged_quiet th p before after (Ok x) q f = q
 judged_quiet th p before after (Err s) q f = fails_quiet th p before after s q f
 
@@ -57,12 +60,14 @@ module _ (theory proof : List ℕ) (before after : ShelfState) where
   pub unread_check : (s : Status) (n : ℕ) → RefusesCheck theory proof before after s → s ≡ status.ReadFault n
       → (n ≡ after.count) × AtEither before theory proof (λ f name. IsUnread name before after)
   unread_check s n (theory_fault _ f) e = let P : Status → Type 0 = IsFileFault 1 theory TheoryRefusal before after in let r = subst P e f in (r.0, inl r.1)
-  unread_check s n (proof_fault _ th a f) e = let P : Status → Type 0 = IsFileFault 2 proof (ProofRefusal th) before after in let r = subst P e f in (r.0, inr (th, (a, r.1)))
+  unread_check s n (proof_fault _ th a f) e =
+      let P : Status → Type 0 = IsFileFault 2 proof (ProofRefusal th) before after in let r = subst P e f in (r.0, inr (th, (a, r.1)))
   unread_check _ n (step_fails m f) e = absurd (cc)
 
   pub past_check : (s : Status) (file n : ℕ) → RefusesCheck theory proof before after s → s ≡ status.TooLong file n
       → AtEither before theory proof (λ f name. (f ≡ file) × IsTooLong name n before)
-  past_check s file n (theory_fault _ f) e = let P : Status → Type 0 = IsFileFault 1 theory TheoryRefusal before after in let r = subst P e f in inl (sym r.0, r.1)
+  past_check s file n (theory_fault _ f) e =
+      let P : Status → Type 0 = IsFileFault 1 theory TheoryRefusal before after in let r = subst P e f in inl (sym r.0, r.1)
   past_check s file n (proof_fault _ th a f) e =
       let P : Status → Type 0 = IsFileFault 2 proof (ProofRefusal th) before after in let r = subst P e f in inr (th, (a, (sym r.0, r.1)))
   past_check _ file n (step_fails m f) e = absurd (cc)
@@ -86,7 +91,8 @@ due_check words theory proof before after s t i (proof_fault _ th a f) =
     file_due words (Check theory proof) before after 2 proof (ProofRefusal th) s t i f (λ r x. (no_proof r th (a.reads t).0 x, refl))
 due_check words theory proof before after _ t i (step_fails n f) =
     outcome (status.Refused n) (refused_text n) None
-    (command (Check theory proof) (status.Refused n) (refused_text n) None i (refused n f.th f.p (f.takes_theory.reads t).0 (f.takes_proof.reads t).0 f.fails, refl))
+    (command (Check theory proof) (status.Refused n) (refused_text n) None i
+        (refused n f.th f.p (f.takes_theory.reads t).0 (f.takes_proof.reads t).0 f.fails, refl))
 
 module _ (once : ReadsOnce) (theory proof : List ℕ) (before after : ShelfState) (t : before.tells ≡ true) where
   theory_held : (s : Status) (text : List ℕ) → CheckOutcome before.holds theory proof s text → before.holds theory ≡ None → ⊥
@@ -107,7 +113,8 @@ module _ (once : ReadsOnce) (theory proof : List ℕ) (before after : ShelfState
     step_refused : (n : ℕ) (q : Proof) → ReadsProof before.holds proof th q → FirstFail th q n → Fixed th (status.Refused n) (refused_text n)
     all_accepted : (q : Proof) → ReadsProof before.holds proof th q → Accepted th q → Fixed th status.Ok (accepted_text th.signature (goals_of q))
 
-  fixed : (th : Theory) → IsOnly th (ReadsTheory before.holds theory) → (s : Status) (text : List ℕ) → CheckOutcome before.holds theory proof s text → Fixed th s text
+  fixed : (th : Theory) → IsOnly th (ReadsTheory before.holds theory) → (s : Status) (text : List ℕ) → CheckOutcome before.holds theory proof s text
+      → Fixed th s text
   fixed th only s _ (no_theory _ r) = absurd (not_theory s th only.0 r)
   fixed th only s _ (no_proof _ u ru r) =
       let P : Theory → Type 0 = λ v. RefusesFile before.holds 2 proof (ProofRefusal v) s in proof_refused s (subst P (only.1 u ru) r)
@@ -136,7 +143,8 @@ module _ (once : ReadsOnce) (theory proof : List ℕ) (before after : ShelfState
           let P : List ℕ → Type 0 = λ x. IsLike status.Ok text status.Ok x in
           alike status.Ok given (subst P same (itself status.Ok text))
 
-  refused_agrees : (n : ℕ) (a : StepFails theory proof n before) (s : Status) (text : List ℕ) → Fixed a.th s text → Agrees before after s text (status.Refused n) (refused_text n)
+  refused_agrees : (n : ℕ) (a : StepFails theory proof n before) (s : Status) (text : List ℕ) → Fixed a.th s text
+      → Agrees before after s text (status.Refused n) (refused_text n)
   refused_agrees n a s _ (proof_refused _ r) = absurd (not_proof s a.th a.p (a.takes_proof.reads t).0 r)
   refused_agrees n a _ _ (step_refused m q rq f) =
       let P : Proof → Type 0 = λ x. FirstFail a.th x m in
@@ -174,5 +182,6 @@ module _ (once : ReadsOnce) (theory proof : List ℕ) (before after : ShelfState
   pub check_agrees : (r s : Status) (text : List ℕ) → RefusesCheck theory proof before after r → CheckOutcome before.holds theory proof s text
       → Agrees before after s text r (refusal_text (Check theory proof) r)
   check_agrees r s text (theory_fault _ f) c = theory_agrees r s text (fault_of 1 theory TheoryRefusal before after r t f) c
-  check_agrees r s text (proof_fault _ th a f) c = proof_agrees th r s text (fault_of 2 proof (ProofRefusal th) before after r t f) (fixed th (a.reads t) s text c)
+  check_agrees r s text (proof_fault _ th a f) c =
+      proof_agrees th r s text (fault_of 2 proof (ProofRefusal th) before after r t f) (fixed th (a.reads t) s text c)
   check_agrees _ s text (step_fails n f) c = refused_agrees n f s text (fixed f.th (f.takes_theory.reads t) s text c)

@@ -30,7 +30,8 @@ only_read h name bytes R x held short r = (
   λ y t. r.1 y (subst (λ bs. R bs y) (same_Some t.bytes bytes (sym t.bytes_are ∙ held)) t.are),
 )
 
-pub taken_before : (name : List ℕ) (th : Theory) (p : Proof) (before middle : ShelfState) → ShelfFrame before middle → TakesProof name th p middle → TakesProof name th p before
+pub taken_before : (name : List ℕ) (th : Theory) (p : Proof) (before middle : ShelfState) → ShelfFrame before middle → TakesProof name th p middle
+    → TakesProof name th p before
 taken_before name th p before middle f t =
     let h : Held = before.holds in
     let k : Held = middle.holds in
@@ -53,7 +54,8 @@ quiet_any before after (status.ReadFault n) q = tt
 quiet_any before after s q = q
 
 -- a refusal without a text is what is answered
-pub delivered_quiet : (before after : ShelfState) (k : Command) (d r : Status) → (refusal_text k d ≡ [] → r ≡ d) → IsQuietBut before after d → IsQuietBut before after r
+pub delivered_quiet : (before after : ShelfState) (k : Command) (d r : Status) → (refusal_text k d ≡ [] → r ≡ d) → IsQuietBut before after d
+    → IsQuietBut before after r
 delivered_quiet before after k (status.ReadFault n) r empty q = let P : Status → Type 0 = IsQuietBut before after in subst P (sym (empty refl)) tt
 delivered_quiet before after k d r empty q = quiet_any before after r q
 
@@ -79,7 +81,8 @@ quiet_fault file name N before middle after (status.TooLong g n) f q r = (
         record { bytes = m.bytes; bytes_are = sym (f.holds name) ∙ m.bytes_are; past = m.past; within_piece = m.within_piece; within_file = m.within_file };
   },
 )
-quiet_fault file name N before middle after (status.Unreadable g p d) f q r = (r.0, r.1, λ e. moved before.holds middle.holds name (N p d) (f.holds name) (r.2 (f.tells ∙ e)))
+quiet_fault file name N before middle after (status.Unreadable g p d) f q r =
+    (r.0, r.1, λ e. moved before.holds middle.holds name (N p d) (f.holds name) (r.2 (f.tells ∙ e)))
 quiet_fault file name N before middle after status.Memory f q r = tt
 quiet_fault file name N before middle after s f q r = absurd r
 
@@ -131,7 +134,8 @@ unreadable_like k f g p q c d e h l =
     subst P e (subst Q h (like_cause (place_text k f) f p c d l))
 
 -- two refusals of one file are alike
-pub refused_alike : (k : Command) (held : Held) (file : ℕ) (name : List ℕ) (N : Refusal) (s r : Status) → IsOneWay N → RefusesFile held file name N s → RefusesFile held file name N r
+pub refused_alike : (k : Command) (held : Held) (file : ℕ) (name : List ℕ) (N : Refusal) (s r : Status) → IsOneWay N → RefusesFile held file name N s
+    → RefusesFile held file name N r
     → IsLike s (refusal_text k s) r (refusal_text k r)
 refused_alike k held file name N (status.TooLong f n) (status.TooLong g m) o a b =
     let P : ℕ → Type 0 = λ x. IsLike (status.TooLong f n) (too_long_text f) (status.TooLong x m) (too_long_text x) in
@@ -162,8 +166,10 @@ unread_rose name before after held (inl s) = s.rose
 unread_rose name before after held (inr m) = absurd (held m.nothing)
 
 -- a file's fault is none of the other answers
-pub file_fault_not_ok : (file : ℕ) (name : List ℕ) (N : Refusal) (before after : ShelfState) (s : Status) → s ≡ status.Ok → IsFileFault file name N before after s → ⊥
+pub file_fault_not_ok : (file : ℕ) (name : List ℕ) (N : Refusal) (before after : ShelfState) (s : Status) → s ≡ status.Ok
+    → IsFileFault file name N before after s → ⊥
 file_fault_not_ok file name N before after s e f = let Q : Status → Type 0 = IsFileFault file name N before after in subst Q e f
 
-pub file_fault_not_refused : (file : ℕ) (name : List ℕ) (N : Refusal) (before after : ShelfState) (s : Status) (n : ℕ) → s ≡ status.Refused n → IsFileFault file name N before after s → ⊥
+pub file_fault_not_refused : (file : ℕ) (name : List ℕ) (N : Refusal) (before after : ShelfState) (s : Status) (n : ℕ) → s ≡ status.Refused n
+    → IsFileFault file name N before after s → ⊥
 file_fault_not_refused file name N before after s n e f = let Q : Status → Type 0 = IsFileFault file name N before after in subst Q e f

@@ -17,7 +17,8 @@ use Rattle.circ_top.proofs.Lists.{drop_there, drop_past}
 pub leads_unique : (th : Theory) (table : List Tree) (l : PlainLink) (t u v : Tree) → Leads th table l t u → Leads th table l t v → u ≡ v
 leads_unique th table (Equation_link n w p ts) t u v a b =
     let same : a.equation ≡ b.equation = same_Some _ _ (sym a.listed ∙ b.listed) in
-    let P : Equation → Type 0 = λ e. replaced t p (instance (given (sorted (variables_of (pair_of e))) (map (named table) ts)) (to_side w (pair_of e))) ≡ Some u in
+    let P : Equation → Type 0 =
+        λ e. replaced t p (instance (given (sorted (variables_of (pair_of e))) (map (named table) ts)) (to_side w (pair_of e))) ≡ Some u in
     same_Some u v (sym (subst P same a.rewrites.replaces.made) ∙ b.rewrites.replaces.made)
 
 -- what the first link leads to is what the rest starts from
@@ -74,19 +75,24 @@ steps_past : (p : Proof) (k : ℕ) → slice_get p.chains k ≡ None → steps_f
 steps_past p k g = ap (λ cs. map Reduce cs ++ Done ∷ []) (drop_past p.chains k g)
 
 -- a step that is none is the first to fail
-pub stands_fails : (th : Theory) (p : Proof) (k : ℕ) (gs : List Pair) (s : Step) (ss : List Step) → StandsAt th p k → goals_from p k ≡ gs → steps_from p k ≡ s ∷ ss
+pub stands_fails : (th : Theory) (p : Proof) (k : ℕ) (gs : List Pair) (s : Step) (ss : List Step) → StandsAt th p k → goals_from p k ≡ gs
+    → steps_from p k ≡ s ∷ ss
     → ((after : List Pair) → StepOf th p.table gs s after → ⊥) → FirstFail th p (k + 1)
 stands_fails th p k gs s ss stands g q none_after = stands.fails 1 (rw (g, q) (fails_here th p.table gs s ss none_after))
 
-pub no_goal_fails : (th : Theory) (p : Proof) (k : ℕ) (c : Chain) → StandsAt th p k → slice_get p.names k ≡ None → slice_get p.chains k ≡ Some c → FirstFail th p (k + 1)
+pub no_goal_fails : (th : Theory) (p : Proof) (k : ℕ) (c : Chain) → StandsAt th p k → slice_get p.names k ≡ None → slice_get p.chains k ≡ Some c
+    → FirstFail th p (k + 1)
 no_goal_fails th p k c stands g q = stands_fails th p k [] (Reduce c) (steps_from p (k + 1)) stands (goals_past p k g) (steps_there p k c q) (λ after h. h)
 
-pub unjustified_fails : (th : Theory) (p : Proof) (k : ℕ) (name : GoalNames) (c : Chain) → StandsAt th p k → slice_get p.names k ≡ Some name → slice_get p.chains k ≡ Some c
+pub unjustified_fails : (th : Theory) (p : Proof) (k : ℕ) (name : GoalNames) (c : Chain) → StandsAt th p k → slice_get p.names k ≡ Some name
+    → slice_get p.chains k ≡ Some c
     → (Justified th p.table (goal_of p.table name) c → ⊥) → FirstFail th p (k + 1)
 unjustified_fails th p k name c stands g q none_is =
-    stands_fails th p k (goal_of p.table name ∷ goals_from p (k + 1)) (Reduce c) (steps_from p (k + 1)) stands (goals_there p k name g) (steps_there p k c q) (λ after h. none_is h.0)
+    stands_fails th p k (goal_of p.table name ∷ goals_from p (k + 1)) (Reduce c) (steps_from p (k + 1)) stands (goals_there p k name g) (steps_there p k c q)
+        (λ after h. none_is h.0)
 
-pub done_fails : (th : Theory) (p : Proof) (k : ℕ) (name : GoalNames) → StandsAt th p k → slice_get p.names k ≡ Some name → slice_get p.chains k ≡ None → FirstFail th p (k + 1)
+pub done_fails : (th : Theory) (p : Proof) (k : ℕ) (name : GoalNames) → StandsAt th p k → slice_get p.names k ≡ Some name → slice_get p.chains k ≡ None
+    → FirstFail th p (k + 1)
 done_fails th p k name stands g q =
     stands_fails th p k (goal_of p.table name ∷ goals_from p (k + 1)) Done [] stands (goals_there p k name g) (steps_past p k q) (λ after h. h)
 
@@ -94,7 +100,8 @@ pub done_accepts : (th : Theory) (p : Proof) (k : ℕ) → StandsAt th p k → s
 done_accepts th p k stands g q = stands.accepts (rw (goals_past p k g, steps_past p k q) ([], (refl, refl)))
 
 -- a justified goal is dropped
-pub stands_next : (th : Theory) (p : Proof) (k : ℕ) (name : GoalNames) (c : Chain) → StandsAt th p k → slice_get p.names k ≡ Some name → slice_get p.chains k ≡ Some c
+pub stands_next : (th : Theory) (p : Proof) (k : ℕ) (name : GoalNames) (c : Chain) → StandsAt th p k → slice_get p.names k ≡ Some name
+    → slice_get p.chains k ≡ Some c
     → Justified th p.table (goal_of p.table name) c → StandsAt th p (k + 1)
 stands_next th p k name c stands g q j =
     let goals = goals_there p k name g in
@@ -102,6 +109,8 @@ stands_next th p k name c stands g q j =
     let P : ℕ → Type 0 = FirstFail th p in
     record {
       fails = λ n f. let sum : k + (n + 1) ≡ (k + 1) + n = omega arith in
-          subst P sum (stands.fails (n + 1) (rw (goals, steps) (fails_behind th p.table (goal_of p.table name ∷ goals_from p (k + 1)) (goals_from p (k + 1)) (Reduce c) (steps_from p (k + 1)) n (j, refl) f)));
+          subst P sum (stands.fails (n + 1)
+              (rw (goals, steps) (fails_behind th p.table (goal_of p.table name ∷ goals_from p (k + 1)) (goals_from p (k + 1)) (Reduce c)
+              (steps_from p (k + 1)) n (j, refl) f)));
       accepts = λ s. stands.accepts (rw (goals, steps) (goals_from p (k + 1), ((j, refl), s)));
     }

@@ -21,24 +21,28 @@ some_held : {X : Type 0} (o : Option X) → IsSome o → o ≡ None → ⊥
 some_held (Some x) i e = cc
 some_held None i e = cc
 
-held_file : (before after : ShelfState) (c : Command) → (Rose before.count after.count → ⊥) → HoldsFilesOf before.holds c → AtFile before c (λ file name. IsUnread name before after) → ⊥
+held_file : (before after : ShelfState) (c : Command) → (Rose before.count after.count → ⊥) → HoldsFilesOf before.holds c
+    → AtFile before c (λ file name. IsUnread name before after) → ⊥
 held_file before after (Check theory proof) quiet h (inl u) = quiet (unread_rose theory before after (some_held (before.holds theory) h.0) u)
 held_file before after (Check theory proof) quiet h (inr u) = quiet (unread_rose proof before after (some_held (before.holds proof) h.1) u.1.1)
 held_file before after (Show theory) quiet h u = quiet (unread_rose theory before after (some_held (before.holds theory) h) u)
 held_file before after (Library text) quiet h u = u
 
 module _ (before after : ShelfState) (start end : SinkState) where
-  pub always_read : (words : List (List ℕ)) (n : ℕ) → (Rose before.count after.count → ⊥) → HoldsFiles words before.holds → IsReadFault words before after start end n → ⊥
+  pub always_read : (words : List (List ℕ)) (n : ℕ) → (Rose before.count after.count → ⊥) → HoldsFiles words before.holds
+      → IsReadFault words before after start end n → ⊥
   always_read words n quiet held f = held_file before after f.command quiet (held f.command f.asks) f.unread
 
-  pub sure_outcome : (words : List (List ℕ)) (r : Status) → start.tells ≡ true → ((n : ℕ) → r ≡ status.ReadFault n → ⊥) → ((n : ℕ) → r ≡ status.WriteFault n → ⊥)
+  pub sure_outcome : (words : List (List ℕ)) (r : Status) → start.tells ≡ true → ((n : ℕ) → r ≡ status.ReadFault n → ⊥)
+      → ((n : ℕ) → r ≡ status.WriteFault n → ⊥)
       → IsOutcome words before after start end r → Appends words before after start end r
   sure_outcome words (status.ReadFault n) t f g c = absurd (f n refl)
   sure_outcome words (status.WriteFault n) t f g c = absurd (g n refl)
   sure_outcome words status.Memory t f g c = tt
   sure_outcome words r t f g c = record { text = c.text; stored = c.stored; outcome = c.outcome; held = c.held; appended = c.prints.printed t }
 
-  pub sure_answer : (s r : Status) (text : List ℕ) (stored : Option Stored) → start.tells ≡ true → (Rose before.count after.count → ⊥) → (Rose start.count end.count → ⊥)
+  pub sure_answer : (s r : Status) (text : List ℕ) (stored : Option Stored) → start.tells ≡ true → (Rose before.count after.count → ⊥)
+      → (Rose start.count end.count → ⊥)
       → AnswersOutcome before after start end s text stored r → AppendsAnswer before after start end s text stored r ⊎ (r ≡ status.Memory)
   sure_answer s r text stored t f g (printed _ given l h p) = inl (record { given = given; like = l; held = h; appended = p.printed t })
   sure_answer s _ text stored t f g (not_read n rose p) = absurd (f rose)

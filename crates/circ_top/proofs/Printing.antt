@@ -17,7 +17,8 @@ pub prefix_part : (old new text : List ℕ) → AppendsPrefix old new text → (
 prefix_part old new text a = (take a.count text, (drop a.count text, (sym (take-append-drop a.count text), a.text)))
 
 -- the last part of a joined text is appended
-pub on_ok_joined : {E : Type 0} (r : Result (Unit {0}) E) (before after part goal : List ℕ) → after ≡ (if is_ok r then before ++ part else before) → before ++ part ≡ goal
+pub on_ok_joined : {E : Type 0} (r : Result (Unit {0}) E) (before after part goal : List ℕ) → after ≡ (if is_ok r then before ++ part else before)
+    → before ++ part ≡ goal
     → OnOk r (after ≡ goal)
 on_ok_joined (Ok u) before after part goal e h = e ∙ h
 on_ok_joined (Err f) before after part goal e h = tt
@@ -25,14 +26,13 @@ on_ok_joined (Err f) before after part goal e h = tt
 pub place_joined : (out a f w p e : List ℕ) → ((out ++ (a ++ f)) ++ (w ++ p)) ++ e ≡ out ++ ((((a ++ f) ++ w) ++ p) ++ e)
 place_joined out a f w p e = simp append_assoc refl
 
-pub readings_joined : (out a f b s : List ℕ) → (((out ++ a) ++ f) ++ b) ++ s ≡ out ++ (((a ++ f) ++ b) ++ s)
-readings_joined out a f b s = simp append_assoc refl
-
 -- the goals go on with the next
-pub goals_step : (table : List Tree) (names : List GoalNames) (i : ℕ) (n : GoalNames) (old new : List Goal) (g : Goal) (goal : List Pair) → slice_get names i ≡ Some n → new ≡ old ++ g ∷ []
+pub goals_step : (table : List Tree) (names : List GoalNames) (i : ℕ) (n : GoalNames) (old new : List Goal) (g : Goal) (goal : List Pair) → slice_get names i ≡ Some n
+    → new ≡ old ++ g ∷ []
     → plain_goal g ≡ goal_of table (plain_name n) → map plain_goal old ++ map (goal_of table) (map plain_name (drop i names)) ≡ goal
     → map plain_goal new ++ map (goal_of table) (map plain_name (drop (i + 1) names)) ≡ goal
 goals_step table names i n old new g goal there is same e =
     let R : List Pair = map (goal_of table) (map plain_name (drop (i + 1) names)) in
     ap (λ gs. map plain_goal gs ++ R) is ∙ ap (λ ps. ps ++ R) (map-append plain_goal old (g ∷ [])) ∙ append_assoc (map plain_goal old) (plain_goal g ∷ []) R
-    ∙ ap (λ p. map plain_goal old ++ p ∷ R) same ∙ sym (ap (λ ns. map plain_goal old ++ map (goal_of table) (map plain_name ns)) (drop_there names i n there)) ∙ e
+    ∙ ap (λ p. map plain_goal old ++ p ∷ R) same ∙ sym
+        (ap (λ ns. map plain_goal old ++ map (goal_of table) (map plain_name ns)) (drop_there names i n there)) ∙ e

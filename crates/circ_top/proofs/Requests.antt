@@ -6,7 +6,8 @@ use Rattle.circ_lib.specs.Library.{library_text}
 use Rattle.circ_top.specs.Command.{Command, Library, Asks, check, show, library, IsNoCommand}
 
 -- three words, of which two are known
-pub three_words : {X : Type 0} (f : X → List ℕ) (xs : List X) (b c : X) → length xs ≡ 3 → b ≡ get_or xs 1 b → c ≡ get_or xs 2 c → (a : List ℕ) × (map f xs ≡ a ∷ f b ∷ f c ∷ [])
+pub three_words : {X : Type 0} (f : X → List ℕ) (xs : List X) (b c : X) → length xs ≡ 3 → b ≡ get_or xs 1 b → c ≡ get_or xs 2 c
+    → (a : List ℕ) × (map f xs ≡ a ∷ f b ∷ f c ∷ [])
 three_words f [] b c n e g = absurd (omega arith)
 three_words f (x ∷ []) b c n e g = absurd (omega arith)
 three_words f (x ∷ y ∷ []) b c n e g = absurd (omega arith)
@@ -29,7 +30,8 @@ given_three ws a b c p q e f g = rw (← f, ← g) e
 pub given_four : (ws : List (List ℕ)) (a b c d p q r : List ℕ) → ws ≡ a ∷ b ∷ c ∷ d ∷ [] → b ≡ p → c ≡ q → d ≡ r → ws ≡ a ∷ p ∷ q ∷ r ∷ []
 given_four ws a b c d p q r e f g h = rw (← f, ← g, ← h) e
 
-pub none_of_three : (ws : List (List ℕ)) (a n o : List ℕ) → ws ≡ a ∷ n ∷ o ∷ [] → (n ≡ codes "show" → ⊥) → (n ≡ codes "library" → library_text o ≡ None) → IsNoCommand ws
+pub none_of_three : (ws : List (List ℕ)) (a n o : List ℕ) → ws ≡ a ∷ n ∷ o ∷ [] → (n ≡ codes "show" → ⊥) → (n ≡ codes "library" → library_text o ≡ None)
+    → IsNoCommand ws
 none_of_three ws a n o e f g _ (check p t q i) = let never : 3 ≡ 4 = ap length (sym e ∙ i) in omega (arith, never)
 none_of_three ws a n o e f g _ (show p t i) = let k = sym e ∙ i in f (cc)
 none_of_three ws a n o e f g _ (library p name text i l) =

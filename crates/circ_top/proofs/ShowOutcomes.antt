@@ -13,14 +13,17 @@ use Rattle.circ_top.specs.TheoryFile.{ReadsTheory, TheoryRefusal, IsTheoryFault}
 use Rattle.circ_top.specs.declared.status.Status.{Status}
 use Rattle.circ_top.specs.declared.status.Status.TheVariants as status
 use Rattle.circ_top.proofs.Agreeing.{DueIs, file_due, Agrees, alike, unread_file, memory, ReadsOnce, PrintsOnce}
-use Rattle.circ_top.proofs.FileFaults.{FaultOf, fault_of, refuses, unread, out_of_memory, reads_not_refused, refused_alike, refused_held, holds_held, unread_rose}
+use Rattle.circ_top.proofs.FileFaults.{FaultOf, fault_of, refuses, unread, out_of_memory, reads_not_refused, refused_alike, refused_held, holds_held}
+use Rattle.circ_top.proofs.FileFaults.{unread_rose}
 
-pub due_show : (words : List (List ℕ)) (theory : List ℕ) (before after : ShelfState) (s : Status) → before.tells ≡ true → Asks words (Show theory) → IsTheoryFault theory before after s
+pub due_show : (words : List (List ℕ)) (theory : List ℕ) (before after : ShelfState) (s : Status) → before.tells ≡ true → Asks words (Show theory)
+    → IsTheoryFault theory before after s
     → DueIs words before after s (refusal_text (Show theory) s) None
 due_show words theory before after s t i f = file_due words (Show theory) before after 1 theory TheoryRefusal s t i f (λ r x. (not_shown r x, refl))
 
 -- a success is the outcome
-pub shown_outcome : (theory text : List ℕ) (before : ShelfState) → before.tells ≡ true → IsShown theory text before → ShowOutcome before.holds theory status.Ok text
+pub shown_outcome : (theory text : List ℕ) (before : ShelfState) → before.tells ≡ true → IsShown theory text before
+    → ShowOutcome before.holds theory status.Ok text
 shown_outcome theory text before t a = shown a.th text (a.takes_theory.reads t).0 a.text_is
 
 module _ (once : ReadsOnce) (theory : List ℕ) (before after : ShelfState) (t : before.tells ≡ true) where

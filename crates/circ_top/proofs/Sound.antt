@@ -21,7 +21,8 @@ links_in_table count [] a = tt
 links_in_table count (Equation_link n w p ts ∷ ls) a = (a.0.1, links_in_table count ls a.1)
 
 -- the same of links in memory
-pub recorded_in_table : (count : ℕ) (ls : List Link) → AllByRecursion (IsLinkFor count) (map plain_link ls) → AllByRecursion (λ l. IsInTable count (plain_link l)) ls
+pub recorded_in_table : (count : ℕ) (ls : List Link) → AllByRecursion (IsLinkFor count) (map plain_link ls)
+    → AllByRecursion (λ l. IsInTable count (plain_link l)) ls
 recorded_in_table count [] a = tt
 recorded_in_table count (link.Equation n w p ts ∷ ls) a = (a.0.1, recorded_in_table count ls a.1)
 

@@ -50,7 +50,8 @@ module _ (U : ℕ → Type 0) (d : Derivative) (ds : List Derivative) (test : �
 
 tests : (U : ℕ → Type 0) (ds : List Derivative) → ((test : ℕ → Bool) → Tells U ds test → ⊥) → ⊥
 tests U [] none_is = none_is (λ s. false) (λ s. (λ e. absurd (cc), λ h. absurd (omega (arith, h.0.1.0.1))))
-tests U (d ∷ ds) none_is = tests U ds (λ test tells. none_is test (told_without U d ds test tells (λ u. none_is (with_number d.hole test) (told_with U d ds test tells u))))
+tests U (d ∷ ds) none_is =
+    tests U ds (λ test tells. none_is test (told_without U d ds test tells (λ u. none_is (with_number d.hole test) (told_with U d ds test tells u))))
 
 pub has_text : (th : Theory) → ((text : List ℕ) → IsTheoryText th text → ⊥) → ⊥
 has_text th none_is = tests (IsUnobserved th) th.derivatives (λ test tells. none_is (text_of_theory th test) (record {

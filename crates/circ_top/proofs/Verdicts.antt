@@ -43,5 +43,6 @@ module _ (th : Theory) (table : List Tree) where
   pub one_fail : (goals : List Pair) (steps : List Step) (n m : ℕ) → FirstFailOf th table goals steps n → FirstFailOf th table goals steps m → n ≡ m
   one_fail goals steps n m f g =
       f.number
-      ∙ ap (λ k. k + 1) (as_many goals f.before g.before f.step g.step f.behind g.behind f.left g.left (sym f.steps_are ∙ g.steps_are) f.reached g.reached f.fails g.fails)
+      ∙ ap (λ k. k + 1) (as_many goals f.before g.before f.step g.step f.behind g.behind f.left g.left
+          (sym f.steps_are ∙ g.steps_are) f.reached g.reached f.fails g.fails)
       ∙ sym g.number

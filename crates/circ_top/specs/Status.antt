@@ -1,7 +1,8 @@
 -- The numbers of the answers.
 use Rattle.std.specs.Prelude.{ℕ}
 use Rattle.circ_top.specs.declared.status.Status.{Status}
-use Rattle.circ_top.specs.declared.status.Status.TheVariants.{Ok, Refused, Unreadable, Usage, TooLong, Stuck, Spent, ReadFault, WriteFault, Memory, TooBig, TooDeep}
+use Rattle.circ_top.specs.declared.status.Status.TheVariants.{Ok, Refused, Unreadable, Usage, TooLong, Stuck, Spent, ReadFault, WriteFault, Memory, TooBig}
+use Rattle.circ_top.specs.declared.status.Status.TheVariants.{TooDeep}
 
 abbrev pub number_of : Status → ℕ
 number_of Ok = 0

@@ -6,28 +6,48 @@ use Rattle.circ_top.specs.Command.{Command, Check}
 use Rattle.circ_top.specs.declared.status.Status.{Status}
 use Rattle.circ_top.specs.declared.status.Status.TheVariants as status
 
+-- the words of a cause
+abbrev pub words_of_cause : Cause → List ℕ
+words_of_cause (cause.NotAscii n) = codes "not ascii at "
+words_of_cause (cause.Control n) = codes "control at "
+words_of_cause (cause.LeftOut w) = codes "left out: "
+words_of_cause cause.Shape = codes "shape"
+words_of_cause cause.UnknownTheory = codes "unknown theory"
+words_of_cause cause.UnknownSort = codes "unknown sort"
+words_of_cause (cause.TooLong n) = codes "too long: "
+words_of_cause cause.NoParse = codes "no parse"
+words_of_cause (cause.Ambiguous first second) = codes "ambiguous: "
+words_of_cause (cause.Twice n) = codes "twice: "
+words_of_cause (cause.IllSorted n) = codes "ill sorted: "
+words_of_cause (cause.NotLinear n) = codes "not linear: "
+words_of_cause (cause.HoleCount n) = codes "holes: "
+words_of_cause cause.NoConstant = codes "no constant"
+words_of_cause (cause.NotVisible n) = codes "not visible: "
+words_of_cause (cause.NowHidden n) = codes "now hidden: "
+words_of_cause (cause.Limit n) = codes "limit: "
+words_of_cause cause.NoGoal = codes "no goal"
+words_of_cause cause.Unclosed = codes "unclosed"
+words_of_cause cause.Line = codes "form"
+words_of_cause cause.LineLimit = codes "limit"
+
+-- what stands behind them: a word, two readings, a number
+abbrev pub details_of_cause : Cause → List ℕ
+details_of_cause (cause.LeftOut w) = w
+details_of_cause (cause.Ambiguous first second) = first ++ codes " | " ++ second
+details_of_cause (cause.TooLong n) = decimal n ++ codes " tokens"
+details_of_cause (cause.NotAscii n) = decimal n
+details_of_cause (cause.Control n) = decimal n
+details_of_cause (cause.Twice n) = decimal n
+details_of_cause (cause.IllSorted n) = decimal n
+details_of_cause (cause.NotLinear n) = decimal n
+details_of_cause (cause.HoleCount n) = decimal n
+details_of_cause (cause.NotVisible n) = decimal n
+details_of_cause (cause.NowHidden n) = decimal n
+details_of_cause (cause.Limit n) = decimal n
+details_of_cause _ = []
+
 abbrev pub cause_text : Cause → List ℕ
-cause_text (cause.NotAscii n) = codes "not ascii at " ++ decimal n
-cause_text (cause.Control n) = codes "control at " ++ decimal n
-cause_text (cause.LeftOut w) = codes "left out: " ++ w
-cause_text cause.Shape = codes "shape"
-cause_text cause.UnknownTheory = codes "unknown theory"
-cause_text cause.UnknownSort = codes "unknown sort"
-cause_text (cause.TooLong n) = codes "too long: " ++ decimal n ++ codes " tokens"
-cause_text cause.NoParse = codes "no parse"
-cause_text (cause.Ambiguous first second) = codes "ambiguous: " ++ first ++ codes " | " ++ second
-cause_text (cause.Twice n) = codes "twice: " ++ decimal n
-cause_text (cause.IllSorted n) = codes "ill sorted: " ++ decimal n
-cause_text (cause.NotLinear n) = codes "not linear: " ++ decimal n
-cause_text (cause.HoleCount n) = codes "holes: " ++ decimal n
-cause_text cause.NoConstant = codes "no constant"
-cause_text (cause.NotVisible n) = codes "not visible: " ++ decimal n
-cause_text (cause.NowHidden n) = codes "now hidden: " ++ decimal n
-cause_text (cause.Limit n) = codes "limit: " ++ decimal n
-cause_text cause.NoGoal = codes "no goal"
-cause_text cause.Unclosed = codes "unclosed"
-cause_text cause.Line = codes "form"
-cause_text cause.LineLimit = codes "limit"
+cause_text c = words_of_cause c ++ details_of_cause c
 
 -- the places of a file's text, by the command that takes the file: lines of a proof, else statements
 abbrev pub place_text : Command → (file : ℕ) → List ℕ

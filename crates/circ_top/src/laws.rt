@@ -5,7 +5,8 @@ ghost use Rattle.circ_term.specs.declared.TheConstants.{MOST_ARGS as MOST_TERM_A
 ghost use Rattle.circ_theory.specs.Theory.{Theory};
 ghost use Rattle.circ_theory.specs.declared.TheConstants.{MOST_SORTS, MOST_VARS, MOST_OPS};
 ghost use Rattle.circ_theory.specs.declared.TheConstants.{MOST_EQUATIONS, MOST_ARGS};
-ghost use Rattle.circ_theory.specs.declared.TheConstants.{MOST_DERIVATIVES, MOST_PARAMS, MOST_CASES};
+ghost use Rattle.circ_theory.specs.declared.TheConstants.{MOST_DERIVATIVES, MOST_PARAMS};
+ghost use Rattle.circ_theory.specs.declared.TheConstants.{MOST_CASES};
 ghost use Rattle.circ_chart.specs.declared.TheConstants.{MOST_TOKENS};
 ghost use Rattle.circ_file.specs.Proof.{Proof};
 ghost use Rattle.circ_top.specs.Complete.{HasVerdict, ReadsOrRefused, HasOutcome};

@@ -2,7 +2,8 @@
 ghost use Rattle.std.specs.Prelude.{◌≡◌, ◌++◌, OnOk, OnErr, IfOk, codes, decimal};
 ghost use Rattle.circ_top.specs.Command.{plain_request};
 ghost use Rattle.circ_top.specs.Quiet.{HasText};
-ghost use Rattle.circ_top.specs.Texts.{cause_text, place_text, refusal_text, usage_text};
+ghost use Rattle.circ_top.specs.Texts.{words_of_cause, details_of_cause, cause_text};
+ghost use Rattle.circ_top.specs.Texts.{place_text, refusal_text, usage_text};
 
 use crate::request::Request;
 use crate::status::Status;
@@ -77,46 +78,71 @@ fn push_place(out: &mut Vec<u8>, words: &[u8], file: u8, place: u64) -> Result<(
     out.extend_from_slice(b", ")
 }
 
+#[tactic(auto, using(crate::proofs::Rules::joins))]
 fn push_cause(out: &mut Vec<u8>, cause: &Cause) -> Result<(), AllocError>
     ensures { OnOk result (out.new.items ≡ out.old.items ++ cause_text cause.now) }
 {
+    out.extend_from_slice(cause_words(cause))?;
+    push_details(out, cause)
+}
+
+/// The words of a cause, which its details follow.
+fn cause_words(cause: &Cause) -> &'static [u8]
+    ensures { result.now ≡ words_of_cause cause.now }
+{
     match cause {
-        Cause::NotAscii { place } => push_numbered(out, b"not ascii at ", *place),
-        Cause::Control { place } => push_numbered(out, b"control at ", *place),
-        Cause::LeftOut { word } => {
-            out.extend_from_slice(b"left out: ")?;
-            out.extend_from_slice(word.bytes())
+        Cause::NotAscii { .. } => b"not ascii at ",
+        Cause::Control { .. } => b"control at ",
+        Cause::LeftOut { .. } => b"left out: ",
+        Cause::Shape => b"shape",
+        Cause::UnknownTheory => b"unknown theory",
+        Cause::UnknownSort => b"unknown sort",
+        Cause::TooLong { .. } => b"too long: ",
+        Cause::NoParse => b"no parse",
+        Cause::Ambiguous { .. } => b"ambiguous: ",
+        Cause::Twice { .. } => b"twice: ",
+        Cause::IllSorted { .. } => b"ill sorted: ",
+        Cause::NotLinear { .. } => b"not linear: ",
+        Cause::HoleCount { .. } => b"holes: ",
+        Cause::NoConstant => b"no constant",
+        Cause::NotVisible { .. } => b"not visible: ",
+        Cause::NowHidden { .. } => b"now hidden: ",
+        Cause::Limit { .. } => b"limit: ",
+        Cause::NoGoal => b"no goal",
+        Cause::Unclosed => b"unclosed",
+        Cause::Line => b"form",
+        Cause::LineLimit => b"limit",
+    }
+}
+
+fn push_details(out: &mut Vec<u8>, cause: &Cause) -> Result<(), AllocError>
+    ensures { OnOk result (out.new.items ≡ out.old.items ++ details_of_cause cause.now) }
+{
+    match cause {
+        Cause::NotAscii { place: n } | Cause::Control { place: n } | Cause::Limit { count: n } => {
+            push_number(out, *n)
         }
-        Cause::Shape => out.extend_from_slice(b"shape"),
-        Cause::UnknownTheory => out.extend_from_slice(b"unknown theory"),
-        Cause::UnknownSort => out.extend_from_slice(b"unknown sort"),
+        Cause::Twice { number: n }
+        | Cause::IllSorted { operator: n }
+        | Cause::NotLinear { variable: n }
+        | Cause::HoleCount { count: n }
+        | Cause::NotVisible { sort: n }
+        | Cause::NowHidden { sort: n } => push_number(out, u64::from(*n)),
+        Cause::LeftOut { word } => out.extend_from_slice(word.bytes()),
         Cause::TooLong { count } => {
-            push_numbered(out, b"too long: ", *count)?;
+            push_number(out, *count)?;
             out.extend_from_slice(b" tokens")
         }
-        Cause::NoParse => out.extend_from_slice(b"no parse"),
         Cause::Ambiguous { first, second } => push_readings(out, first.bytes(), second.bytes()),
-        Cause::Twice { number } => push_numbered(out, b"twice: ", u64::from(*number)),
-        Cause::IllSorted { operator } => push_numbered(out, b"ill sorted: ", u64::from(*operator)),
-        Cause::NotLinear { variable } => push_numbered(out, b"not linear: ", u64::from(*variable)),
-        Cause::HoleCount { count } => push_numbered(out, b"holes: ", u64::from(*count)),
-        Cause::NoConstant => out.extend_from_slice(b"no constant"),
-        Cause::NotVisible { sort } => push_numbered(out, b"not visible: ", u64::from(*sort)),
-        Cause::NowHidden { sort } => push_numbered(out, b"now hidden: ", u64::from(*sort)),
-        Cause::Limit { count } => push_numbered(out, b"limit: ", *count),
-        Cause::NoGoal => out.extend_from_slice(b"no goal"),
-        Cause::Unclosed => out.extend_from_slice(b"unclosed"),
-        Cause::Line => out.extend_from_slice(b"form"),
-        Cause::LineLimit => out.extend_from_slice(b"limit"),
+        _ => Ok(()),
     }
 }
 
 #[tactic(auto, using(crate::proofs::Rules::joins))]
 fn push_readings(out: &mut Vec<u8>, first: &[u8], second: &[u8]) -> Result<(), AllocError>
     ensures { OnOk result (out.new.items ≡ out.old.items
-        ++ (codes "ambiguous: " ++ first.now ++ codes " | " ++ second.now)) }
+        ++ (first.now ++ codes " | " ++ second.now)) }
 {
-    out.extend_from_slice(b"ambiguous: ")?;
     out.extend_from_slice(first)?;
     out.extend_from_slice(b" | ")?;
     out.extend_from_slice(second)

@@ -1,4 +1,5 @@
-use Rattle.circ_top.proofs.Answers.{answers_succeed, answers_accepted, answers_refused, answers_past_limit, answers_read_fault, answers_write_fault, read_outcome, accepted_read_outcome}
+use Rattle.circ_top.proofs.Answers.{answers_succeed, answers_accepted, answers_refused, answers_past_limit, answers_read_fault, answers_write_fault}
+use Rattle.circ_top.proofs.Answers.{read_outcome, accepted_read_outcome}
 use Rattle.circ_top.proofs.Agreeing.{ReadsOnce, reads_once}
 use Rattle.circ_top.proofs.Outcomes.{answers_outcome, answers_come, answers_memory}
 use Rattle.circ_top.proofs.command.circ.Goals as goal
@@ -23,12 +24,14 @@ returns-clause-complete g c = λ t.
 pub returns-clause-first_failure : goal.returns-clause-first_failure
 returns-clause-first_failure g c = λ t th p n f fail.
     let once : ReadsOnce = reads_once c.read_in_one_way.ensures.either c.read_in_one_way.ensures.number c.read_in_one_way.ensures.cause in
-    answers_come once c.printed_in_one_way.ensures _ _ _ t _ _ c.answer.result (rw c.as_slice.ensures.value at c.answer.ensures.answers) _ _ _ (read_outcome _ _ th p n f fail)
+    answers_come once c.printed_in_one_way.ensures _ _ _ t _ _ c.answer.result (rw c.as_slice.ensures.value at c.answer.ensures.answers) _ _ _
+        (read_outcome _ _ th p n f fail)
 
 pub returns-clause-accepted_text : goal.returns-clause-accepted_text
 returns-clause-accepted_text g c = λ t th p f a.
     let once : ReadsOnce = reads_once c.read_in_one_way.ensures.either c.read_in_one_way.ensures.number c.read_in_one_way.ensures.cause in
-    answers_come once c.printed_in_one_way.ensures _ _ _ t _ _ c.answer.result (rw c.as_slice.ensures.value at c.answer.ensures.answers) _ _ _ (accepted_read_outcome _ _ th p f a)
+    answers_come once c.printed_in_one_way.ensures _ _ _ t _ _ c.answer.result (rw c.as_slice.ensures.value at c.answer.ensures.answers) _ _ _
+        (accepted_read_outcome _ _ th p f a)
 
 pub returns-clause-file_limit : goal.returns-clause-file_limit
 returns-clause-file_limit g c = answers_past_limit _ _ _ _ _ c.answer.result (rw c.as_slice.ensures.value at c.answer.ensures.answers)

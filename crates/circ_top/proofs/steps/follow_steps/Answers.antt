@@ -16,11 +16,13 @@ use Rattle.circ_top.proofs.steps.follow_steps.Goals as goal
 name_there : (p : Proof) (k : ℕ) (n : GoalNames) → slice_get p.names.items k ≡ Some n → slice_get (plain_proof p).names k ≡ Some (plain_name n)
 name_there p k n g = slice_get-map plain_name p.names.items k ∙ ap (option_map plain_name) g
 
-chain_there : (p : Proof) (k : ℕ) (x : Chain) → k < length p.chains.items → x ≡ get_or p.chains.items k x → slice_get (plain_proof p).chains k ≡ Some (plain_chain x)
+chain_there : (p : Proof) (k : ℕ) (x : Chain) → k < length p.chains.items → x ≡ get_or p.chains.items k x
+    → slice_get (plain_proof p).chains k ≡ Some (plain_chain x)
 chain_there p k x h e = slice_get-map plain_chain p.chains.items k ∙ ap (option_map plain_chain) (slice_get_read p.chains.items k x h e)
 
 -- the goal of a number is one for the table
-name_fits : (p : Proof) (k : ℕ) (n : GoalNames) → AllByRecursion (IsNameFor p.table.items) (plain_proof p).names → slice_get p.names.items k ≡ Some n → IsNameFor p.table.items (plain_name n)
+name_fits : (p : Proof) (k : ℕ) (n : GoalNames) → AllByRecursion (IsNameFor p.table.items) (plain_proof p).names → slice_get p.names.items k ≡ Some n
+    → IsNameFor p.table.items (plain_name n)
 name_fits p k n a g = all_map_at (IsNameFor p.table.items) plain_name p.names.items k n a g
 
 pub returns-in_default : goal.returns-in_default
@@ -28,21 +30,26 @@ returns-in_default c =
     let names : slice_get c.args.proof.now.names.items c.loop-done.done ≡ None = rw (c.in_default.is, c.as_slice.ensures.value) at (sym c.name_at.ensures) in
     no_goal_fails c.args.theory.now (plain_proof c.args.proof.now) c.loop-done.done (plain_chain c.chain-item.result) c.loop-done.invariant
     (slice_get-map plain_name c.args.proof.now.names.items c.loop-done.done ∙ ap (option_map plain_name) names)
-    (chain_there c.args.proof.now c.loop-done.done c.chain-item.result (rw c.deref-chain-items.ensures.value at c.loop-done-test.true) (rw c.deref-chain-items.ensures.value at c.chain-item.is))
+    (chain_there c.args.proof.now c.loop-done.done c.chain-item.result (rw c.deref-chain-items.ensures.value at c.loop-done-test.true)
+        (rw c.deref-chain-items.ensures.value at c.chain-item.is))
 
 pub term_at-left-requires : goal.term_at-left-requires
 term_at-left-requires c =
-    rw c.as_slice-table.ensures.value (name_fits c.args.proof.now c.loop-done.done c.in-Some.name.now c.requires.names (rw c.as_slice.ensures.value at (sym c.in-Some.ensures))).left
+    rw c.as_slice-table.ensures.value
+        (name_fits c.args.proof.now c.loop-done.done c.in-Some.name.now c.requires.names (rw c.as_slice.ensures.value at (sym c.in-Some.ensures))).left
 
 pub term_at-right-requires : goal.term_at-right-requires
 term_at-right-requires c =
-    rw c.as_slice-table.ensures.value (name_fits c.args.proof.now c.loop-done.done c.in-Some.name.now c.requires.names (rw c.as_slice.ensures.value at (sym c.in-Some.ensures))).right
+    rw c.as_slice-table.ensures.value
+        (name_fits c.args.proof.now c.loop-done.done c.in-Some.name.now c.requires.names (rw c.as_slice.ensures.value at (sym c.in-Some.ensures))).right
 
 pub justified-requires-clause-numbers : goal.justified-requires-clause-numbers
 justified-requires-clause-numbers c =
     rw c.as_slice-table.ensures.value
-    (all_map_at (IsChainFor (length c.args.proof.now.table.items)) plain_chain c.args.proof.now.chains.items c.loop-done.done c.chain-item.result c.requires.chains
-    (slice_get_read c.args.proof.now.chains.items c.loop-done.done c.chain-item.result (rw c.deref-chain-items.ensures.value at c.loop-done-test.true) (rw c.deref-chain-items.ensures.value at c.chain-item.is)))
+    (all_map_at (IsChainFor
+        (length c.args.proof.now.table.items)) plain_chain c.args.proof.now.chains.items c.loop-done.done c.chain-item.result c.requires.chains
+    (slice_get_read c.args.proof.now.chains.items c.loop-done.done c.chain-item.result (rw c.deref-chain-items.ensures.value at c.loop-done-test.true)
+        (rw c.deref-chain-items.ensures.value at c.chain-item.is)))
 
 pub justified-requires-clause-left_sorted : goal.justified-requires-clause-left_sorted
 justified-requires-clause-left_sorted c =
@@ -58,16 +65,21 @@ justified-requires-clause-right_sorted c =
 
 pub returns-then-not-branch : goal.returns-then-not-branch
 returns-then-not-branch c =
-    unjustified_fails c.args.theory.now (plain_proof c.args.proof.now) c.loop-done.done (plain_name c.in-Some.name.now) (plain_chain c.chain-item.result) c.loop-done.invariant
+    unjustified_fails c.args.theory.now (plain_proof c.args.proof.now) c.loop-done.done (plain_name c.in-Some.name.now)
+        (plain_chain c.chain-item.result) c.loop-done.invariant
     (name_there c.args.proof.now c.loop-done.done c.in-Some.name.now (rw c.as_slice.ensures.value at (sym c.in-Some.ensures)))
-    (chain_there c.args.proof.now c.loop-done.done c.chain-item.result (rw c.deref-chain-items.ensures.value at c.loop-done-test.true) (rw c.deref-chain-items.ensures.value at c.chain-item.is))
-    (λ j. let never : false ≡ true = rw c.if-not-branch.true at ((rw (c.term_at-left.ensures, c.term_at-right.ensures, c.as_slice-table.ensures.value) at c.in_ok-justified.ensures).1 j) in cc)
+    (chain_there c.args.proof.now c.loop-done.done c.chain-item.result (rw c.deref-chain-items.ensures.value at c.loop-done-test.true)
+        (rw c.deref-chain-items.ensures.value at c.chain-item.is))
+    (λ j. let never : false ≡ true = rw c.if-not-branch.true at
+        ((rw (c.term_at-left.ensures, c.term_at-right.ensures, c.as_slice-table.ensures.value) at c.in_ok-justified.ensures).1 j) in cc)
 
 pub loop-done-preserved : goal.loop-done-preserved
 loop-done-preserved c =
-    stands_next c.args.theory.now (plain_proof c.args.proof.now) c.loop-done.done (plain_name c.in-Some.name.now) (plain_chain c.chain-item.result) c.loop-done.invariant
+    stands_next c.args.theory.now (plain_proof c.args.proof.now) c.loop-done.done (plain_name c.in-Some.name.now)
+        (plain_chain c.chain-item.result) c.loop-done.invariant
     (name_there c.args.proof.now c.loop-done.done c.in-Some.name.now (rw c.as_slice.ensures.value at (sym c.in-Some.ensures)))
-    (chain_there c.args.proof.now c.loop-done.done c.chain-item.result (rw c.deref-chain-items.ensures.value at c.loop-done-test.true) (rw c.deref-chain-items.ensures.value at c.chain-item.is))
+    (chain_there c.args.proof.now c.loop-done.done c.chain-item.result (rw c.deref-chain-items.ensures.value at c.loop-done-test.true)
+        (rw c.deref-chain-items.ensures.value at c.chain-item.is))
     ((rw (c.term_at-left.ensures, c.term_at-right.ensures, c.as_slice-table.ensures.value) at c.in_ok-justified.ensures).0 (rw c.if-not-branch.false refl))
 
 pub returns-then-len : goal.returns-then-len

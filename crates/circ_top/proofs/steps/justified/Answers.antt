@@ -8,7 +8,8 @@ pub lead-requires-clause-numbers : goal.lead-requires-clause-numbers
 lead-requires-clause-numbers c = rw c.as_slice.ensures.value (recorded_in_table (length c.args.table.now) c.args.chain.now.left.items c.requires.numbers.left)
 
 pub lead-requires-2-clause-numbers : goal.lead-requires-2-clause-numbers
-lead-requires-2-clause-numbers c = rw c.as_slice-2.ensures.value (recorded_in_table (length c.args.table.now) c.args.chain.now.right.items c.requires.numbers.right)
+lead-requires-2-clause-numbers c =
+    rw c.as_slice-2.ensures.value (recorded_in_table (length c.args.table.now) c.args.chain.now.right.items c.requires.numbers.right)
 
 pub returns : goal.returns
 returns c =

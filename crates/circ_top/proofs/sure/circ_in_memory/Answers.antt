@@ -14,4 +14,5 @@ returns-clause-outcome c = λ h.
     (λ n e. never_rose (c.circ.ensures.write_fault n e).rose) (c.circ.ensures.outcome refl)
 
 pub returns-clause-complete : goal.returns-clause-complete
-returns-clause-complete c = λ s text stored h. sure_answer _ _ _ _ s c.circ.result text stored refl never_rose never_rose (c.circ.ensures.complete refl s text stored h)
+returns-clause-complete c =
+    λ s text stored h. sure_answer _ _ _ _ s c.circ.result text stored refl never_rose never_rose (c.circ.ensures.complete refl s text stored h)
