@@ -22,7 +22,7 @@ pub fn read_in_one_way()
     circ_statement::laws::said_in_one_way();
 }
 
-/// Bytes that read as no theory have a first cause.
+/// Bytes that read as no theory have a first cause: it cannot be that they have neither.
 pub fn read_or_refused()
     ensures { (bytes : List ℕ) → ReadOrRefused bytes }
 {
