@@ -21,7 +21,7 @@ const RUN: [&str; 7] = ["circ", "word", "file", "pieces", "writes", "shelf", "si
 /// - `stores NAME`, what a name must hold, and `lacks NAME`, a name that must hold nothing.
 ///
 /// Behind each part `times COUNT` and `then` add to its text: what is below, so many times or once.
-/// In what is added each `#` stands for the number of the copy, from 0.
+/// In what is added by `times` each `#` stands for the number of the copy, from 0.
 const ANSWER: [&str; 5] = ["prints", "ends", "counts", "stores", "lacks"];
 
 /// How many bytes a call moves at most, where a row does not say it.
@@ -61,14 +61,10 @@ impl<'a> Row<'a> {
     }
 
     fn take(&mut self, alloc: Global, part: Part<'a>) -> Result<(), AllocError> {
-        let times = match part.kind {
-            "times" => part.number(),
-            "then" => 1,
-            _ => return Ok(self.parts.push(part)?),
-        };
-        match self.parts.last_mut() {
-            Some(last) => last.add(alloc, part.text.as_str(), times),
-            None => Ok(()),
+        match (part.kind, self.parts.last_mut()) {
+            ("times", Some(last)) => last.add(alloc, part.text.as_str(), part.number()),
+            ("then", Some(last)) => last.text.push_str(part.text.as_str()),
+            _ => Ok(self.parts.push(part)?),
         }
     }
 
@@ -167,7 +163,7 @@ impl<'a> Row<'a> {
             return format!(in alloc; "counts {}", count(status));
         }
         match self.parts.iter().find(|part| !part.is_kept(shelf)) {
-            Some(part) => format!(in alloc; "keeps another {}", part.name),
+            Some(part) => format!(in alloc; "does not keep {} as it must", part.name),
             None => format!(in alloc; "{number}"),
         }
     }
