@@ -1,13 +1,13 @@
 -- What one answer says: a success, a step that fails, a file that was not read or is past the limit, a text that was not written.
 use Rattle.std.proofs.Common.{◌≡◌, ◌≢◌, ℕ, List, [], refl, sym, ◌∙◌, subst, Option, None}
-use Rattle.circ_outer.specs.Shelf.{ShelfState, ShelfFrame, IsQuiet}
+use Rattle.circ_outer.specs.Shelf.{ShelfState, IsQuiet}
 use Rattle.circ_outer.specs.Sink.{SinkState}
 use Rattle.circ_theory.specs.Theory.{Theory}
 use Rattle.circ_file.specs.Proof.{Proof, goals_of}
 use Rattle.circ_top.specs.Answer.{Succeeds, RefusesCommand, DueAnswer, no_command, success, refusal, AnswersDue, Succeeded}
 use Rattle.circ_top.specs.Causes.{AtFile, IsPastLimit, IsReadFault, IsWriteFault}
 use Rattle.circ_top.specs.Check.{accepted_text, refused, accepted, Accepts, Rejects, FilesRead}
-use Rattle.circ_top.specs.Command.{Command, Check, Show, Library, Asks, IsNotStored}
+use Rattle.circ_top.specs.Command.{Command, Check, Show, Library, Asks}
 use Rattle.circ_top.specs.Delivery.{Prints, Delivers, whole, write_failed, memory_wanted}
 use Rattle.circ_top.specs.Files.{Held, IsUnread, IsTooLong, IsFileFault}
 use Rattle.circ_top.specs.Outcome.{Stored, Outcome, command, HoldsAfter}
@@ -55,11 +55,6 @@ quiet_ok before after r e q = let P : Status → Type 0 = IsQuietBut before afte
 
 quiet_refused : (before after : ShelfState) (r : Status) (n : ℕ) → r ≡ status.Refused n → IsQuietBut before after r → IsQuiet before after
 quiet_refused before after r n e q = let P : Status → Type 0 = IsQuietBut before after in subst P e q
-
--- a shelf that holds what it held holds what is stored where nothing is
-pub holds_elsewhere : (words : List (List ℕ)) (before after : ShelfState) → ShelfFrame before after → (n : List ℕ) → IsNotStored words n
-    → after.holds n ≡ before.holds n
-holds_elsewhere words before after f n i = f.holds n
 
 module _ (words : List (List ℕ)) (before after : ShelfState) (start end : SinkState) (r : Status) (a : AnswersDue words before after start end r) where
   pub answers_succeed : IsQuietBut before after r → r ≡ status.Ok → Succeeded words before after start end

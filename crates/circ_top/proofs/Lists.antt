@@ -1,21 +1,10 @@
 -- Lists, one element further on.
-use Rattle.std.proofs.Common.{◌≡◌, ℕ, ◌+◌, ◌<◌, List, [], ◌∷◌, ◌++◌, length, drop, get_or, map, zero, suc, refl, ap, sym, ◌∙◌, arith, append_assoc, Some, None}
+use Rattle.std.proofs.Common.{◌≡◌, ℕ, ◌+◌, ◌<◌, List, [], ◌∷◌, length, drop, get_or, map, zero, suc, refl, ap, sym, ◌∙◌, arith, Some, None}
 use Rattle.std.specs.List.{slice_get, AllByRecursion}
 use Rattle.std.specs.Option.{option_map}
 use Rattle.std.proofs.lemmas.Option.{slice_get_within, get_or_from_slice_get}
 use Rattle.circ_term.proofs.Within.{drop_read}
 use Rattle.circ_theory.proofs.Lists.{all_at}
-use Rattle.circ_file.specs.ProofText.{texts}
-
-pub drop-map : {X Y : Type 0} (f : X → Y) (i : ℕ) (xs : List X) → drop i (map f xs) ≡ map f (drop i xs)
-drop-map f zero xs = refl
-drop-map f (suc i) [] = refl
-drop-map f (suc i) (x ∷ xs) = drop-map f i xs
-
--- a text goes on with the next item
-pub texts_step : {X : Type 0} (f : X → List ℕ) (xs : List X) (i : ℕ) (x : X) (out goal : List ℕ) → i < length xs → x ≡ get_or xs i x
-    → out ++ texts f (drop i xs) ≡ goal → (out ++ f x) ++ texts f (drop (i + 1) xs) ≡ goal
-texts_step f xs i x out goal h e t = append_assoc out (f x) (texts f (drop (i + 1) xs)) ∙ sym (ap (λ ys. out ++ texts f ys) (drop_read xs i x h e)) ∙ t
 
 -- a list from a place on, by what stands there
 pub drop_there : {X : Type 0} (xs : List X) (i : ℕ) (x : X) → slice_get xs i ≡ Some x → drop i xs ≡ x ∷ drop (i + 1) xs

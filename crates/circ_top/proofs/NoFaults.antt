@@ -4,7 +4,7 @@ use Rattle.std.specs.Prelude.{IsSome}
 use Rattle.circ_outer.specs.Count.{Rose}
 use Rattle.circ_outer.specs.Shelf.{ShelfState}
 use Rattle.circ_outer.specs.Sink.{SinkState}
-use Rattle.circ_top.specs.Causes.{IsOutcome, AnswersOutcome, printed, not_read, not_written, no_memory, AtFile, IsReadFault}
+use Rattle.circ_top.specs.Causes.{IsOutcomeOrFault, AnswersOutcome, printed, not_read, not_written, no_memory, AtFile, IsReadFault}
 use Rattle.circ_top.specs.Command.{Command, Check, Show, Library}
 use Rattle.circ_top.specs.Files.{IsUnread}
 use Rattle.circ_top.specs.InMemory.{HoldsFilesOf, HoldsFiles, AppendsAnswer, Appends}
@@ -35,7 +35,7 @@ module _ (before after : ShelfState) (start end : SinkState) where
 
   pub sure_outcome : (words : List (List ℕ)) (r : Status) → start.tells ≡ true → ((n : ℕ) → r ≡ status.ReadFault n → ⊥)
       → ((n : ℕ) → r ≡ status.WriteFault n → ⊥)
-      → IsOutcome words before after start end r → Appends words before after start end r
+      → IsOutcomeOrFault words before after start end r → Appends words before after start end r
   sure_outcome words (status.ReadFault n) t f g c = absurd (f n refl)
   sure_outcome words (status.WriteFault n) t f g c = absurd (g n refl)
   sure_outcome words status.Memory t f g c = tt

@@ -3,7 +3,7 @@ use Rattle.std.proofs.Common.{◌≡◌, ℕ, List, refl, sym, ◌∙◌, subst,
 use Rattle.circ_outer.specs.Shelf.{ShelfState}
 use Rattle.circ_outer.specs.Sink.{SinkState}
 use Rattle.circ_top.specs.Answer.{Succeeds, RefusesCommand, DueAnswer, no_command, success, refusal, AnswersDue}
-use Rattle.circ_top.specs.Causes.{PrintsOutcome, IsOutcome, PrintsPartOf, AnswersOutcome}
+use Rattle.circ_top.specs.Causes.{PrintsOutcome, IsOutcomeOrFault, PrintsPartOf, AnswersOutcome}
 use Rattle.circ_top.specs.Command.{Command, Check, Show, Library, Asks}
 use Rattle.circ_top.specs.Delivery.{Delivers, whole, write_failed, memory_wanted}
 use Rattle.circ_top.specs.Like.{IsLike, itself}
@@ -108,7 +108,7 @@ module _ (once : ReadsOnce) (printed_once : PrintsOnce) (words : List (List ℕ)
 
 -- the answer is an outcome
 printed_outcome : (words : List (List ℕ)) (before after : ShelfState) (start end : SinkState) (s : Status) → PrintsOutcome words before after start end s
-    → IsOutcome words before after start end s
+    → IsOutcomeOrFault words before after start end s
 printed_outcome words before after start end (status.ReadFault n) p = tt
 printed_outcome words before after start end (status.WriteFault n) p = tt
 printed_outcome words before after start end status.Memory p = tt
@@ -116,13 +116,13 @@ printed_outcome words before after start end s p = p
 
 pub answers_outcome : (words : List (List ℕ)) (before after : ShelfState) (start end : SinkState) (r : Status) → AnswersDue words before after start end r
     → before.tells ≡ true
-    → IsOutcome words before after start end r
+    → IsOutcomeOrFault words before after start end r
 answers_outcome words before after start end r a t =
     go a.answer r a.text a.stored (due_is words before after a.answer a.text a.stored t a.due) a.held a.delivered
   where
     go : (d r : Status) (text : List ℕ) (stored : Option Stored) → DueIs words before after d text stored → HoldsAfter stored before after
         → Delivers text start end d r
-        → IsOutcome words before after start end r
+        → IsOutcomeOrFault words before after start end r
     go d _ text stored (outcome _ _ _ c) h (whole p) =
         printed_outcome words before after start end d (record { text = text; stored = stored; outcome = c; held = h; prints = p })
     go _ _ _ _ (nothing_read n) h (whole p) = tt

@@ -22,11 +22,11 @@ pub record PrintsOutcome (words : List (List ℕ)) (before after : ShelfState) (
   pub prints : Prints text start end
 
 -- The answer is an outcome; or it is a fault of the outside or want of memory.
-abbrev pub IsOutcome : List (List ℕ) → (before after : ShelfState) → (start end : SinkState) → Status → Type 0
-IsOutcome words before after start end (status.ReadFault n) = Unit {0}
-IsOutcome words before after start end (status.WriteFault n) = Unit {0}
-IsOutcome words before after start end status.Memory = Unit {0}
-IsOutcome words before after start end s = PrintsOutcome words before after start end s
+abbrev pub IsOutcomeOrFault : List (List ℕ) → (before after : ShelfState) → (start end : SinkState) → Status → Type 0
+IsOutcomeOrFault words before after start end (status.ReadFault n) = Unit {0}
+IsOutcomeOrFault words before after start end (status.WriteFault n) = Unit {0}
+IsOutcomeOrFault words before after start end status.Memory = Unit {0}
+IsOutcomeOrFault words before after start end s = PrintsOutcome words before after start end s
 
 -- A part of the text, or of that of a like answer, was printed.
 pub record PrintsPartOf (s : Status) (text : List ℕ) (start end : SinkState) : Type 0 where

@@ -12,7 +12,7 @@ ghost use Rattle.circ_top.specs.Delivery.{Delivers};
 ghost use Rattle.circ_top.specs.Check.{accepted_text, Accepts, Rejects, FilesRead};
 ghost use Rattle.circ_top.specs.Outcome.{Stored, Outcome};
 ghost use Rattle.circ_top.specs.Answer.{Succeeds, RefusesCommand, AnswersDue, Succeeded};
-ghost use Rattle.circ_top.specs.Causes.{IsOutcome, AnswersOutcome, PrintsPartOf};
+ghost use Rattle.circ_top.specs.Causes.{IsOutcomeOrFault, AnswersOutcome, PrintsPartOf};
 ghost use Rattle.circ_top.specs.Causes.{IsPastLimit, IsReadFault, IsWriteFault};
 ghost use Rattle.circ_top.specs.Quiet.{IsQuietBut, IsQuietCall};
 
@@ -59,7 +59,7 @@ pub fn circ<S: Shelf, K: Sink>(
     // Where the shelf tells, no other answer comes than the outcome of the words and the files,
     // with exactly its text, and it comes unless a count of faults rose or memory ran out.
     ensures outcome { (S.state shelf.old).tells ≡ true →
-        IsOutcome (map string_bytes words.now.items)
+        IsOutcomeOrFault (map string_bytes words.now.items)
         (S.state shelf.old) (S.state shelf.new) (K.state out.old) (K.state out.new) result }
     ensures complete { (S.state shelf.old).tells ≡ true →
         (s : Status) (text : List ℕ) (stored : Option Stored) →
