@@ -5,12 +5,12 @@ use Rattle.circ_term.specs.Tree.{Tree}
 use Rattle.circ_theory.specs.Theory.{Theory, Pair}
 use Rattle.circ_file.specs.Proof.{Proof, Chain, goals_of}
 use Rattle.circ_file.specs.ProofText.{ReadsAsProof}
-use Rattle.circ_read.specs.ReadsAs.{ReadsAs}
+use Rattle.circ_read.specs.ReadsAs.{ReadsAs, ReadOrRefused}
 use Rattle.circ_read.specs.declared.cause.Cause.{Cause}
 use Rattle.circ_read.specs.declared.cause.Cause.TheVariants as cause
 use Rattle.circ_top.specs.Check.{accepted_text, no_theory, no_proof, refused, accepted}
 use Rattle.circ_top.specs.Command.{Command, Check, Show, Library, Asks}
-use Rattle.circ_top.specs.Complete.{HasVerdict, ReadsOrRefused}
+use Rattle.circ_top.specs.Complete.{HasVerdict}
 use Rattle.circ_top.specs.Files.{Held, Refusal, RefusesFile, Holds}
 use Rattle.circ_top.specs.InMemory.{HoldsFilesOf, HoldsFiles}
 use Rattle.circ_top.specs.Outcome.{Stored, Outcome, usage, command}
@@ -72,7 +72,7 @@ file_decides held file name N R some decides no_read no_refusal = go (held name)
 proof_decides : (th : Theory) (bytes : List ℕ) → ((p : Proof) → ReadsAsProof th bytes p → ⊥) → ((place : ℕ) (c : Cause) → ProofRefusal th place c bytes → ⊥) → ⊥
 proof_decides th bytes no_proof_is no_refusal = no_refusal 0 cause.Line (refl, refl, no_proof_is)
 
-module _ (reads : ReadsOrRefused) (words : List (List ℕ)) (held : Held)
+module _ (reads : (bytes : List ℕ) → ReadOrRefused bytes) (words : List (List ℕ)) (held : Held)
     (none_is : (s : Status) (text : List ℕ) (stored : Option Stored) → Outcome words held s text stored → ⊥) where
   no_check : (theory proof : List ℕ) → Asks words (Check theory proof) → HoldsFilesOf held (Check theory proof) → ⊥
   no_check theory proof i h = file_decides held 1 theory TheoryRefusal ReadsAs h.0 reads

@@ -2,8 +2,6 @@
 use Rattle.std.specs.Prelude.{ℕ, List, Option}
 use Rattle.circ_theory.specs.Theory.{Theory}
 use Rattle.circ_file.specs.Proof.{Proof}
-use Rattle.circ_read.specs.ReadsAs.{ReadsAs, FirstCause}
-use Rattle.circ_read.specs.declared.cause.Cause.{Cause}
 use Rattle.circ_top.specs.Files.{Held}
 use Rattle.circ_top.specs.Outcome.{Stored, Outcome}
 use Rattle.circ_top.specs.Steps.{Accepted, FirstFail}
@@ -12,10 +10,6 @@ use Rattle.circ_top.specs.declared.status.Status.{Status}
 -- The proof is accepted, or one of its steps is the first that is no instance of its rule.
 abbrev pub HasVerdict : Theory → Proof → Type 0
 HasVerdict th p = ((n : ℕ) → FirstFail th p n → ⊥) → (Accepted th p → ⊥) → ⊥
-
--- All bytes read as a theory, or have a first cause.
-abbrev pub ReadsOrRefused : Type 0
-ReadsOrRefused = (bytes : List ℕ) → ((th : Theory) → ReadsAs bytes th → ⊥) → ((place : ℕ) (c : Cause) → FirstCause bytes place c → ⊥) → ⊥
 
 -- The words and what the named files hold have an outcome.
 abbrev pub HasOutcome : (words : List (List ℕ)) → Held → Type 0

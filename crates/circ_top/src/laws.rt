@@ -9,11 +9,13 @@ ghost use Rattle.circ_theory.specs.declared.TheConstants.{MOST_DERIVATIVES, MOST
 ghost use Rattle.circ_theory.specs.declared.TheConstants.{MOST_CASES};
 ghost use Rattle.circ_chart.specs.declared.TheConstants.{MOST_TOKENS};
 ghost use Rattle.circ_file.specs.Proof.{Proof};
-ghost use Rattle.circ_top.specs.Complete.{HasVerdict, ReadsOrRefused, HasOutcome};
+ghost use Rattle.circ_top.specs.Complete.{HasVerdict, HasOutcome};
 ghost use Rattle.circ_top.specs.Files.{Held};
 ghost use Rattle.circ_top.specs.InMemory.{HoldsFiles};
 ghost use Rattle.circ_top.specs.Steps.{Accepted, FirstFail};
 ghost use Rattle.circ_top.specs.declared.files.TheConstants.{MOST_BYTES, PIECE};
+
+use circ_read::laws::read_or_refused;
 
 /// The limits in numbers: bytes of a file and of a piece, nodes, levels and arguments of a term,
 /// sorts, variables, operators, their arguments, equations and derivatives of a theory, parameters
@@ -45,10 +47,11 @@ pub fn one_verdict()
 {}
 
 /// Nothing is left out: a proof without a first failing step is accepted, and where a command's
-/// files hold something there is an outcome, since all bytes read as a theory or have a first
-/// cause.
+/// files hold something there is an outcome.
 pub fn nothing_left_out()
     ensures verdict { (th : Theory) (p : Proof) → HasVerdict th p }
-    ensures outcome { ReadsOrRefused → (words : List (List ℕ)) (held : Held) →
+    ensures outcome { (words : List (List ℕ)) (held : Held) →
         HoldsFiles words held → HasOutcome words held }
-{}
+{
+    read_or_refused();
+}

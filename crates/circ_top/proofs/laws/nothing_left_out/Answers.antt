@@ -5,4 +5,4 @@ pub returns-clause-verdict : goal.returns-clause-verdict
 returns-clause-verdict c = has_verdict
 
 pub returns-clause-outcome : goal.returns-clause-outcome
-returns-clause-outcome c = λ reads words held h none_is. nothing_left reads words held none_is h
+returns-clause-outcome c = λ words held h none_is. nothing_left c.read_or_refused.ensures words held none_is h
