@@ -92,7 +92,7 @@ due_check words theory proof before after s t i (proof_fault _ th a f) =
 due_check words theory proof before after _ t i (step_fails n f) =
     outcome (status.Refused n) (refused_text n) None
     (command (Check theory proof) (status.Refused n) (refused_text n) None i
-        (refused n f.th f.p (f.takes_theory.reads t).0 (f.takes_proof.reads t).0 f.fails, refl))
+    (refused n f.th f.p (f.takes_theory.reads t).0 (f.takes_proof.reads t).0 f.fails, refl))
 
 module _ (once : ReadsOnce) (theory proof : List ℕ) (before after : ShelfState) (t : before.tells ≡ true) where
   theory_held : (s : Status) (text : List ℕ) → CheckOutcome before.holds theory proof s text → before.holds theory ≡ None → ⊥

@@ -18,7 +18,7 @@ pub leads_unique : (th : Theory) (table : List Tree) (l : PlainLink) (t u v : Tr
 leads_unique th table (Equation_link n w p ts) t u v a b =
     let same : a.equation ≡ b.equation = same_Some _ _ (sym a.listed ∙ b.listed) in
     let P : Equation → Type 0 =
-        λ e. replaced t p (instance (given (sorted (variables_of (pair_of e))) (map (named table) ts)) (to_side w (pair_of e))) ≡ Some u in
+    λ e. replaced t p (instance (given (sorted (variables_of (pair_of e))) (map (named table) ts)) (to_side w (pair_of e))) ≡ Some u in
     same_Some u v (sym (subst P same a.rewrites.replaces.made) ∙ b.rewrites.replaces.made)
 
 -- what the first link leads to is what the rest starts from
@@ -89,7 +89,7 @@ pub unjustified_fails : (th : Theory) (p : Proof) (k : ℕ) (name : GoalNames) (
     → (Justified th p.table (goal_of p.table name) c → ⊥) → FirstFail th p (k + 1)
 unjustified_fails th p k name c stands g q none_is =
     stands_fails th p k (goal_of p.table name ∷ goals_from p (k + 1)) (Reduce c) (steps_from p (k + 1)) stands (goals_there p k name g) (steps_there p k c q)
-        (λ after h. none_is h.0)
+    (λ after h. none_is h.0)
 
 pub done_fails : (th : Theory) (p : Proof) (k : ℕ) (name : GoalNames) → StandsAt th p k → slice_get p.names k ≡ Some name → slice_get p.chains k ≡ None
     → FirstFail th p (k + 1)
@@ -110,7 +110,7 @@ stands_next th p k name c stands g q j =
     record {
       fails = λ n f. let sum : k + (n + 1) ≡ (k + 1) + n = omega arith in
           subst P sum (stands.fails (n + 1)
-              (rw (goals, steps) (fails_behind th p.table (goal_of p.table name ∷ goals_from p (k + 1)) (goals_from p (k + 1)) (Reduce c)
-              (steps_from p (k + 1)) n (j, refl) f)));
+          (rw (goals, steps) (fails_behind th p.table (goal_of p.table name ∷ goals_from p (k + 1)) (goals_from p (k + 1)) (Reduce c)
+          (steps_from p (k + 1)) n (j, refl) f)));
       accepts = λ s. stands.accepts (rw (goals, steps) (goals_from p (k + 1), ((j, refl), s)));
     }

@@ -79,11 +79,11 @@ module _ (reads : (bytes : List ℕ) → ReadOrRefused bytes) (words : List (Lis
       (λ th rt. file_decides held 2 proof (ProofRefusal th) (ReadsAsProof th) h.1 (proof_decides th)
       (λ p rp. has_verdict th p
       (λ n f. none_is (status.Refused n) (refused_text n) None
-          (command (Check theory proof) (status.Refused n) (refused_text n) None i (refused n th p rt rp f, refl)))
+      (command (Check theory proof) (status.Refused n) (refused_text n) None i (refused n th p rt rp f, refl)))
       (λ a. let text : List ℕ = accepted_text th.signature (goals_of p) in
       none_is status.Ok text None (command (Check theory proof) status.Ok text None i (accepted th p rt rp a, refl))))
       (λ s x. let text : List ℕ = refusal_text (Check theory proof) s in none_is s text None
-          (command (Check theory proof) s text None i (no_proof s th rt x, refl))))
+      (command (Check theory proof) s text None i (no_proof s th rt x, refl))))
       (λ s x. let text : List ℕ = refusal_text (Check theory proof) s in none_is s text None (command (Check theory proof) s text None i (no_theory s x, refl)))
 
   no_show : (theory : List ℕ) → Asks words (Show theory) → HoldsFilesOf held (Show theory) → ⊥

@@ -100,7 +100,7 @@ module _ (once : ReadsOnce) (printed_once : PrintsOnce) (words : List (List ℕ)
       let same : a.stored ≡ stored = due_stored words before after a.answer a.text a.stored a.due ∙ sym (outcome_stored words before.holds s text stored c) in
       let H : Option Stored → Type 0 = λ x. HoldsAfter x before after in
       agree_answers before after start end s text stored a.answer r a.text (subst H same a.held)
-          (due_agrees s a.answer text a.text stored a.stored c a.due) a.delivered
+      (due_agrees s a.answer text a.text stored a.stored c a.due) a.delivered
 
   pub answers_memory : (start end : SinkState) (r : Status) → AnswersDue words before after start end r → (s : Status) (text : List ℕ) (stored : Option Stored)
       → Outcome words before.holds s text stored → PrintsPartOf s text start end

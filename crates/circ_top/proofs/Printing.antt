@@ -35,4 +35,4 @@ goals_step table names i n old new g goal there is same e =
     let R : List Pair = map (goal_of table) (map plain_name (drop (i + 1) names)) in
     ap (λ gs. map plain_goal gs ++ R) is ∙ ap (λ ps. ps ++ R) (map-append plain_goal old (g ∷ [])) ∙ append_assoc (map plain_goal old) (plain_goal g ∷ []) R
     ∙ ap (λ p. map plain_goal old ++ p ∷ R) same ∙ sym
-        (ap (λ ns. map plain_goal old ++ map (goal_of table) (map plain_name ns)) (drop_there names i n there)) ∙ e
+    (ap (λ ns. map plain_goal old ++ map (goal_of table) (map plain_name ns)) (drop_there names i n there)) ∙ e

@@ -44,5 +44,5 @@ module _ (th : Theory) (table : List Tree) where
   one_fail goals steps n m f g =
       f.number
       ∙ ap (λ k. k + 1) (as_many goals f.before g.before f.step g.step f.behind g.behind f.left g.left
-          (sym f.steps_are ∙ g.steps_are) f.reached g.reached f.fails g.fails)
+      (sym f.steps_are ∙ g.steps_are) f.reached g.reached f.fails g.fails)
       ∙ sym g.number

@@ -12,7 +12,7 @@ pub returns-in-Err-take_proof-clause-refused : goal.returns-in-Err-take_proof-cl
 returns-in-Err-take_proof-clause-refused g c =
     proof_fault c.in-Err-take_proof.status c.in-Ok.theory c.in-Ok.ensures.takes
     (quiet_fault 2 c.args.proof.now
-        (ProofRefusal c.in-Ok.theory) _ _ _ c.in-Err-take_proof.status c.in-Ok.ensures.frame c.in-Ok.ensures.quiet c.in-Err-take_proof.ensures.fault)
+    (ProofRefusal c.in-Ok.theory) _ _ _ c.in-Err-take_proof.status c.in-Ok.ensures.frame c.in-Ok.ensures.quiet c.in-Err-take_proof.ensures.fault)
 
 pub returns-in-Err-take_proof-clause-quiet : goal.returns-in-Err-take_proof-clause-quiet
 returns-in-Err-take_proof-clause-quiet g c =

@@ -25,13 +25,13 @@ pub returns-clause-first_failure : goal.returns-clause-first_failure
 returns-clause-first_failure g c = λ t th p n f fail.
     let once : ReadsOnce = reads_once c.read_in_one_way.ensures.either c.read_in_one_way.ensures.number c.read_in_one_way.ensures.cause in
     answers_come once c.printed_in_one_way.ensures _ _ _ t _ _ c.answer.result (rw c.as_slice.ensures.value at c.answer.ensures.answers) _ _ _
-        (read_outcome _ _ th p n f fail)
+    (read_outcome _ _ th p n f fail)
 
 pub returns-clause-accepted_text : goal.returns-clause-accepted_text
 returns-clause-accepted_text g c = λ t th p f a.
     let once : ReadsOnce = reads_once c.read_in_one_way.ensures.either c.read_in_one_way.ensures.number c.read_in_one_way.ensures.cause in
     answers_come once c.printed_in_one_way.ensures _ _ _ t _ _ c.answer.result (rw c.as_slice.ensures.value at c.answer.ensures.answers) _ _ _
-        (accepted_read_outcome _ _ th p f a)
+    (accepted_read_outcome _ _ th p f a)
 
 pub returns-clause-file_limit : goal.returns-clause-file_limit
 returns-clause-file_limit g c = answers_past_limit _ _ _ _ _ c.answer.result (rw c.as_slice.ensures.value at c.answer.ensures.answers)

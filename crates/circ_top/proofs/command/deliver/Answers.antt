@@ -10,7 +10,7 @@ pub returns-in-Err-Failed-clause-delivers : goal.returns-in-Err-Failed-clause-de
 returns-in-Err-Failed-clause-delivers g c =
     let some : c.args.text.now ≢ [] = λ e. let never : false ≡ true = c.in-Err-Failed.ensures.empty_ok e in cc in
     write_failed c.faults.result some c.faults.ensures (c.in-Err-Failed.ensures.failed (ap Err c.in-Err-Failed.field-0-is))
-        (λ t. prefix_part _ _ _ (c.in-Err-Failed.ensures.err t))
+    (λ t. prefix_part _ _ _ (c.in-Err-Failed.ensures.err t))
 
 pub returns-clause-delivers : goal.returns-clause-delivers
 returns-clause-delivers g c =

@@ -19,9 +19,9 @@ loop-name-preserved c =
     let names = c.args.proof.now.names.items in
     let i = c.loop-name.name-index in
     let there : slice_get names i ≡ Some (get_or names i (record { left = 0; right = 0 })) =
-        slice_get_or names i (record { left = 0; right = 0 }) (rw c.deref-name-items.ensures.value at c.loop-name-test.true) in
+    slice_get_or names i (record { left = 0; right = 0 }) (rw c.deref-name-items.ensures.value at c.loop-name-test.true) in
     goals_step c.args.proof.now.table.items names i
-        (get_or names i (record { left = 0; right = 0 })) c.loop-name.goals.items c.push.new.self.items c.in_ok-goal.field-0
+    (get_or names i (record { left = 0; right = 0 })) c.loop-name.goals.items c.push.new.self.items c.in_ok-goal.field-0
     (goals_of (plain_proof c.args.proof.now)) there c.in_ok-push.ensures.items
-        (rw (c.as_slice-table.ensures.value, c.deref-name-items.ensures.value) at c.in_ok-goal.ensures)
+    (rw (c.as_slice-table.ensures.value, c.deref-name-items.ensures.value) at c.in_ok-goal.ensures)
     c.loop-name.invariant

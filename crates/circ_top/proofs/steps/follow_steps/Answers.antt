@@ -31,25 +31,25 @@ returns-in_default c =
     no_goal_fails c.args.theory.now (plain_proof c.args.proof.now) c.loop-done.done (plain_chain c.chain-item.result) c.loop-done.invariant
     (slice_get-map plain_name c.args.proof.now.names.items c.loop-done.done ∙ ap (option_map plain_name) names)
     (chain_there c.args.proof.now c.loop-done.done c.chain-item.result (rw c.deref-chain-items.ensures.value at c.loop-done-test.true)
-        (rw c.deref-chain-items.ensures.value at c.chain-item.is))
+    (rw c.deref-chain-items.ensures.value at c.chain-item.is))
 
 pub term_at-left-requires : goal.term_at-left-requires
 term_at-left-requires c =
     rw c.as_slice-table.ensures.value
-        (name_fits c.args.proof.now c.loop-done.done c.in-Some.name.now c.requires.names (rw c.as_slice.ensures.value at (sym c.in-Some.ensures))).left
+    (name_fits c.args.proof.now c.loop-done.done c.in-Some.name.now c.requires.names (rw c.as_slice.ensures.value at (sym c.in-Some.ensures))).left
 
 pub term_at-right-requires : goal.term_at-right-requires
 term_at-right-requires c =
     rw c.as_slice-table.ensures.value
-        (name_fits c.args.proof.now c.loop-done.done c.in-Some.name.now c.requires.names (rw c.as_slice.ensures.value at (sym c.in-Some.ensures))).right
+    (name_fits c.args.proof.now c.loop-done.done c.in-Some.name.now c.requires.names (rw c.as_slice.ensures.value at (sym c.in-Some.ensures))).right
 
 pub justified-requires-clause-numbers : goal.justified-requires-clause-numbers
 justified-requires-clause-numbers c =
     rw c.as_slice-table.ensures.value
     (all_map_at (IsChainFor
-        (length c.args.proof.now.table.items)) plain_chain c.args.proof.now.chains.items c.loop-done.done c.chain-item.result c.requires.chains
+    (length c.args.proof.now.table.items)) plain_chain c.args.proof.now.chains.items c.loop-done.done c.chain-item.result c.requires.chains
     (slice_get_read c.args.proof.now.chains.items c.loop-done.done c.chain-item.result (rw c.deref-chain-items.ensures.value at c.loop-done-test.true)
-        (rw c.deref-chain-items.ensures.value at c.chain-item.is)))
+    (rw c.deref-chain-items.ensures.value at c.chain-item.is)))
 
 pub justified-requires-clause-left_sorted : goal.justified-requires-clause-left_sorted
 justified-requires-clause-left_sorted c =
@@ -66,20 +66,20 @@ justified-requires-clause-right_sorted c =
 pub returns-then-not-branch : goal.returns-then-not-branch
 returns-then-not-branch c =
     unjustified_fails c.args.theory.now (plain_proof c.args.proof.now) c.loop-done.done (plain_name c.in-Some.name.now)
-        (plain_chain c.chain-item.result) c.loop-done.invariant
+    (plain_chain c.chain-item.result) c.loop-done.invariant
     (name_there c.args.proof.now c.loop-done.done c.in-Some.name.now (rw c.as_slice.ensures.value at (sym c.in-Some.ensures)))
     (chain_there c.args.proof.now c.loop-done.done c.chain-item.result (rw c.deref-chain-items.ensures.value at c.loop-done-test.true)
-        (rw c.deref-chain-items.ensures.value at c.chain-item.is))
+    (rw c.deref-chain-items.ensures.value at c.chain-item.is))
     (λ j. let never : false ≡ true = rw c.if-not-branch.true at
-        ((rw (c.term_at-left.ensures, c.term_at-right.ensures, c.as_slice-table.ensures.value) at c.in_ok-justified.ensures).1 j) in cc)
+    ((rw (c.term_at-left.ensures, c.term_at-right.ensures, c.as_slice-table.ensures.value) at c.in_ok-justified.ensures).1 j) in cc)
 
 pub loop-done-preserved : goal.loop-done-preserved
 loop-done-preserved c =
     stands_next c.args.theory.now (plain_proof c.args.proof.now) c.loop-done.done (plain_name c.in-Some.name.now)
-        (plain_chain c.chain-item.result) c.loop-done.invariant
+    (plain_chain c.chain-item.result) c.loop-done.invariant
     (name_there c.args.proof.now c.loop-done.done c.in-Some.name.now (rw c.as_slice.ensures.value at (sym c.in-Some.ensures)))
     (chain_there c.args.proof.now c.loop-done.done c.chain-item.result (rw c.deref-chain-items.ensures.value at c.loop-done-test.true)
-        (rw c.deref-chain-items.ensures.value at c.chain-item.is))
+    (rw c.deref-chain-items.ensures.value at c.chain-item.is))
     ((rw (c.term_at-left.ensures, c.term_at-right.ensures, c.as_slice-table.ensures.value) at c.in_ok-justified.ensures).0 (rw c.if-not-branch.false refl))
 
 pub returns-then-len : goal.returns-then-len
