@@ -7,7 +7,7 @@ use Rattle.std.specs.Option.{option_map}
 use Rattle.std.proofs.lemmas.Bool.{eqb-true, eq-eqb}
 use Rattle.std.proofs.lemmas.List.{length-map}
 use Rattle.std.proofs.lemmas.Map.Steps.{length-le_from_distinct_below}
-use Rattle.circ_theory.specs.declared.TheConstants.{MOST_SORTS}
+use Rattle.circ_theory.specs.Limits.{sort_limit}
 use Rattle.circ_theory.specs.Theory.{Theory, Derivative, CaseList, IsHidden}
 use Rattle.circ_theory.specs.WellFormed.{IsWellFormed}
 use Rattle.circ_theory.specs.Observing.{case_list, is_hidden}
@@ -27,7 +27,7 @@ sorts_exist n (l ∷ ls) h q e = go (sorts_exist n ls (λ m c. h m (contains_nex
     go ih false f = ih (rw f at e)
 
 -- there are no more case lists than sorts
-pub few_lists : (th : Theory) → IsWellFormed th → length th.cases ≤ MOST_SORTS
+pub few_lists : (th : Theory) → IsWellFormed th → length th.cases ≤ sort_limit
 few_lists th w =
     let ss = map (λ l. l.sort) th.cases in
     let n = length th.signature.sorts in

@@ -9,7 +9,7 @@ use Rattle.std.proofs.lemmas.List.Elements.{Contains-push, Contains-append_left}
 use Rattle.std.proofs.lemmas.Grind.{common_steps}
 use Rattle.circ_theory.specs.declared.fault.TheoryFault.{TheoryFault}
 use Rattle.circ_theory.specs.declared.fault.TheoryFault.TheVariants.{Twice, UnknownSort, IllSorted, Limit}
-use Rattle.circ_theory.specs.declared.TheConstants.{MOST_ARGS, MOST_OPS, MOST_VARS}
+use Rattle.circ_theory.specs.Limits.{argument_limit, operator_limit, variable_limit}
 use Rattle.circ_theory.specs.Form.{IsForm}
 use Rattle.circ_theory.specs.Signature.{Signature, Operator, IsSort}
 use Rattle.circ_theory.specs.Theory.{Theory}
@@ -18,7 +18,7 @@ use Rattle.circ_theory.specs.Adding.{count_fault, is_no_sort, new_var_fault, unk
 
 -- the first fault, from what each test answers
 pub op_fault_by : (th : Theory) (o : Operator) (a b : Option ℕ) (v w : Bool) (f : Option TheoryFault)
-    → a ≡ op_number th.signature o → b ≡ unknown_sort th.signature o → v ≡ is_ill_sorted o → w ≡ nat_lt MOST_ARGS (length o.args) → f ≡ count_fault MOST_OPS (length th.signature.ops)
+    → a ≡ op_number th.signature o → b ≡ unknown_sort th.signature o → v ≡ is_ill_sorted o → w ≡ nat_lt argument_limit (length o.args) → f ≡ count_fault operator_limit (length th.signature.ops)
     → option_or (option_map Twice a) (option_or (option_map UnknownSort b) (option_or (if v then Some (IllSorted (length th.signature.ops)) else None) (option_or (if w then Some (Limit (length o.args)) else None) f)))
     ≡ op_fault th o
 op_fault_by th o a b v w f p q r s t = λ i. option_or (option_map Twice (p i)) (option_or (option_map UnknownSort (q i)) (option_or (if r i then Some (IllSorted (length th.signature.ops)) else None) (option_or (if s i then Some (Limit (length o.args)) else None) (t i))))
@@ -80,16 +80,16 @@ fits_by o = go (form_fits o) (has_mark o) (is_binary o)
 pub record IsNew (th : Theory) (o : Operator) : Type 0 where
   pub number : op_number th.signature o ≡ None
   pub operator : IsOperator th.signature o
-  pub room : length th.signature.ops < MOST_OPS
+  pub room : length th.signature.ops < operator_limit
 
 pub new_operator : (th : Theory) (o : Operator) → IsForm o.form → op_fault th o ≡ None → IsNew th o
 new_operator th o is_form e =
     let a = option_or_none (option_map Twice (op_number th.signature o)) _ e in
     let b = option_or_none (option_map UnknownSort (unknown_sort th.signature o)) _ a.1 in
     let c = option_or_none (if is_ill_sorted o then Some (IllSorted (length th.signature.ops)) else None) _ b.1 in
-    let d = option_or_none (if nat_lt MOST_ARGS (length o.args) then Some (Limit (length o.args)) else None) _ c.1 in
+    let d = option_or_none (if nat_lt argument_limit (length o.args) then Some (Limit (length o.args)) else None) _ c.1 in
     let sorts : unknown_sort th.signature o ≡ None = option_map_none UnknownSort (unknown_sort th.signature o) b.0 in
-    let few : nat_lt MOST_ARGS (length o.args) ≡ false = only_if (nat_lt MOST_ARGS (length o.args)) (Limit (length o.args)) d.0 in
+    let few : nat_lt argument_limit (length o.args) ≡ false = only_if (nat_lt argument_limit (length o.args)) (Limit (length o.args)) d.0 in
     let fit = fits_by o (only_if (is_ill_sorted o) (IllSorted (length th.signature.ops)) c.0) in
     record {
       number = option_map_none Twice (op_number th.signature o) a.0;
@@ -101,11 +101,11 @@ new_operator th o is_form e =
         fits = fit.0;
         marked = λ m. (bytes_decides o.args (o.result ∷ o.result ∷ [])).0 (fit.1 m);
       };
-      room = room_left MOST_OPS (length th.signature.ops) d.1;
+      room = room_left operator_limit (length th.signature.ops) d.1;
     }
 
 -- a new variable without a fault has a sort, and there is room for it
-pub new_variable : (th : Theory) (s : ℕ) → new_var_fault th s ≡ None → IsSort th.signature s × (length th.variables < MOST_VARS)
+pub new_variable : (th : Theory) (s : ℕ) → new_var_fault th s ≡ None → IsSort th.signature s × (length th.variables < variable_limit)
 new_variable th s e =
-    let parts = option_or_none (if is_no_sort th.signature s then Some (UnknownSort s) else None) (count_fault MOST_VARS (length th.variables)) e in
-    (known_sort th.signature s (only_if (is_no_sort th.signature s) (UnknownSort s) parts.0), room_left MOST_VARS (length th.variables) parts.1)
+    let parts = option_or_none (if is_no_sort th.signature s then Some (UnknownSort s) else None) (count_fault variable_limit (length th.variables)) e in
+    (known_sort th.signature s (only_if (is_no_sort th.signature s) (UnknownSort s) parts.0), room_left variable_limit (length th.variables) parts.1)

@@ -4,7 +4,7 @@ use Rattle.std.specs.List.{slice_get, Contains}
 use Rattle.std.proofs.lemmas.List.Elements.{Contains-push_cases}
 use Rattle.circ_term.specs.Tree.{Tree, Trees, Var, App, none, more}
 use Rattle.circ_theory.specs.declared.parts.Equation.{Equation}
-use Rattle.circ_theory.specs.declared.TheConstants.{MOST_SORTS, MOST_VARS, MOST_OPS, MOST_EQUATIONS}
+use Rattle.circ_theory.specs.Limits.{sort_limit, variable_limit, operator_limit, equation_limit}
 use Rattle.circ_theory.specs.Signature.{Signature, Operator, IsSort, IsWellSorted, HaveSorts}
 use Rattle.circ_theory.specs.Theory.{Theory, Declared, Derivative, CaseList, IsWellSortedPair, pair_of}
 use Rattle.circ_theory.specs.Variables.{IsInOrder}
@@ -58,7 +58,7 @@ pub length-push : {X : Type 0} (xs : List X) (x : X) → length (xs ++ x ∷ [])
 length-push [] x = refl
 length-push (y ∷ xs) x = let e = length-push xs x in omega arith
 
-pub sort_grows : (th : Theory) (name : List ℕ) → IsWellFormed th → length th.signature.sorts < MOST_SORTS → IsWellFormed (with_sort th name)
+pub sort_grows : (th : Theory) (name : List ℕ) → IsWellFormed th → length th.signature.sorts < sort_limit → IsWellFormed (with_sort th name)
 sort_grows th name h room =
     let b : Signature = (with_sort th name).signature in
     let l = length-push th.signature.sorts name in
@@ -79,7 +79,7 @@ sort_grows th name h room =
     }
 
 -- other variables, of sorts that exist
-pub vars_change : (th : Theory) (ds : List Declared) → IsWellFormed th → ((d : Declared) → Contains ds d → IsSort th.signature d.sort) → length ds ≤ MOST_VARS
+pub vars_change : (th : Theory) (ds : List Declared) → IsWellFormed th → ((d : Declared) → Contains ds d → IsSort th.signature d.sort) → length ds ≤ variable_limit
     → IsWellFormed (record th { variables = ds })
 vars_change th ds h sorts few = record {
   equations = h.equations;
@@ -96,7 +96,7 @@ vars_change th ds h sorts few = record {
   few_derivatives = h.few_derivatives;
 }
 
-pub var_grows : (th : Theory) (d : Declared) → IsWellFormed th → IsSort th.signature d.sort → length th.variables < MOST_VARS
+pub var_grows : (th : Theory) (d : Declared) → IsWellFormed th → IsSort th.signature d.sort → length th.variables < variable_limit
     → IsWellFormed (record th { variables = th.variables ++ d ∷ [] })
 var_grows th d h sort room =
     let l = length-push th.variables d in
@@ -106,7 +106,7 @@ var_grows th d h sort room =
     either e (inl c) = h.variables e c
     either e (inr q) = let P : Declared → Type 0 = λ x. IsSort th.signature x.sort in subst P q sort
 
-pub op_grows : (th : Theory) (o : Operator) → IsWellFormed th → IsOperator th.signature o → length th.signature.ops < MOST_OPS → IsWellFormed (with_op th o)
+pub op_grows : (th : Theory) (o : Operator) → IsWellFormed th → IsOperator th.signature o → length th.signature.ops < operator_limit → IsWellFormed (with_op th o)
 op_grows th o h new room =
     let b : Signature = (with_op th o).signature in
     let l = length-push th.signature.ops o in
@@ -131,7 +131,7 @@ op_grows th o h new room =
     either x p (inr e) = let P : Operator → Type 0 = IsOperator (with_op th o).signature in subst P e (operator_stays th.signature (with_op th o).signature x o new)
 
 pub equation_grows : (th : Theory) (e : Equation) → IsWellFormed th → IsWellSortedPair th.signature (pair_of e) → IsInOrder (pair_of e)
-    → length th.equations < MOST_EQUATIONS
+    → length th.equations < equation_limit
     → IsWellFormed (with_equation th e)
 equation_grows th e h sorted order room =
     let l = length-push th.equations e in

@@ -12,7 +12,7 @@ use Rattle.std.specs.Cmp.{nat_eq_equiv}
 use Rattle.circ_term.specs.Tree.{Tree}
 use Rattle.circ_theory.specs.declared.fault.TheoryFault.{TheoryFault}
 use Rattle.circ_theory.specs.declared.fault.TheoryFault.TheVariants.{Twice, UnknownSort, IllSorted, NotLinear, NoConstant, NotVisible, NowHidden, Limit}
-use Rattle.circ_theory.specs.declared.TheConstants.{MOST_DERIVATIVES, MOST_PARAMS, MOST_CASES}
+use Rattle.circ_theory.specs.Limits.{derivative_limit, parameter_limit, constant_limit}
 use Rattle.circ_theory.specs.Signature.{Signature, Operator, IsWellSorted}
 use Rattle.circ_theory.specs.Theory.{Theory, Derivative, CaseList}
 use Rattle.circ_theory.specs.Adding.{is_no_sort}
@@ -31,8 +31,8 @@ pub record IsNewDerivative (th : Theory) (t : Tree) : Type 0 where
   pub linear : first_repeated (parameters_in t) ≡ None
   pub one_hole : length (holes_in t) ≡ 1
   pub no_cases : cases_of th (first_or_zero (holes_in t)) ≡ None
-  pub few : length (parameters_in t) ≤ MOST_PARAMS
-  pub room : length th.derivatives < MOST_DERIVATIVES
+  pub few : length (parameters_in t) ≤ parameter_limit
+  pub room : length th.derivatives < derivative_limit
 
 no_list : (o : Option (List ℕ)) (f : TheoryFault) → (if is_some o then Some f else None) ≡ None → o ≡ None
 no_list None f e = refl
@@ -53,13 +53,13 @@ new_derivative th t e =
     let a = option_or_none (option_map NotLinear (first_repeated (parameters_in t))) _ e in
     let b = option_or_none (hole_fault (length (holes_in t))) _ a.1 in
     let c = option_or_none (now_hidden th (first_or_zero (holes_in t))) _ b.1 in
-    let d = option_or_none (long_fault MOST_PARAMS (length (parameters_in t))) _ c.1 in
+    let d = option_or_none (long_fault parameter_limit (length (parameters_in t))) _ c.1 in
     record {
       linear = option_map_none NotLinear (first_repeated (parameters_in t)) a.0;
       one_hole = one_hole_by (length (holes_in t)) b.0;
       no_cases = no_list (cases_of th (first_or_zero (holes_in t))) (NowHidden (first_or_zero (holes_in t))) c.0;
-      few = short_by MOST_PARAMS (length (parameters_in t)) d.0;
-      room = room_left MOST_DERIVATIVES (length th.derivatives) d.1;
+      few = short_by parameter_limit (length (parameters_in t)) d.0;
+      room = room_left derivative_limit (length th.derivatives) d.1;
     }
 
 -- a sort without a case list is the sort of none
@@ -146,7 +146,7 @@ new_list th s cs e =
         some = λ q. absurd (let z = sym (only_if (length cs == 0) NoConstant f.1) ∙ ap (λ cs. length cs == 0) q in cc);
         different = distinct_by cs (option_map_none Twice (first_repeated cs) twice.1);
         constants = λ x k. constant_by th.signature s x (not_false (is_constant th.signature s x) (find_none (λ c. not (is_constant th.signature s c)) cs x fits k));
-        few = short_by MOST_CASES (length cs) c.1;
+        few = short_by constant_limit (length cs) c.1;
       };
     }
 

@@ -8,7 +8,7 @@ use Rattle.circ_theory.specs.declared.forms.Piece.{Piece}
 use Rattle.circ_theory.specs.declared.parts.Equation.{Equation}
 use Rattle.circ_theory.specs.declared.fault.TheoryFault.{TheoryFault}
 use Rattle.circ_theory.specs.declared.fault.TheoryFault.TheVariants.{Twice, UnknownSort, IllSorted, Limit, Memory}
-use Rattle.circ_theory.specs.declared.TheConstants.{MOST_SORTS, MOST_VARS, MOST_OPS, MOST_EQUATIONS, MOST_ARGS}
+use Rattle.circ_theory.specs.Limits.{sort_limit, variable_limit, operator_limit, equation_limit, argument_limit}
 use Rattle.circ_theory.specs.Signature.{Signature, Operator}
 use Rattle.circ_theory.specs.Theory.{Theory, declared}
 use Rattle.circ_theory.specs.Operators.{is_same_piece, is_same_operator, is_ill_sorted}
@@ -23,7 +23,7 @@ count_fault most count = if nat_lt most (count + 1) then Some (Limit (count + 1)
 
 -- why a sort is not added
 abbrev pub sort_fault : Theory → List ℕ → Option TheoryFault
-sort_fault th name = option_or (option_map Twice (sort_number th.signature name)) (count_fault MOST_SORTS (length th.signature.sorts))
+sort_fault th name = option_or (option_map Twice (sort_number th.signature name)) (count_fault sort_limit (length th.signature.sorts))
 
 abbrev pub is_no_sort : Signature → ℕ → Bool
 is_no_sort sig s = not (nat_lt s (length sig.sorts))
@@ -42,7 +42,7 @@ old_var_fault th sort n = option_and_then (λ d. if d.sort == sort then None els
 
 -- why a variable of a new name is not added
 abbrev pub new_var_fault : Theory → (sort : ℕ) → Option TheoryFault
-new_var_fault th sort = option_or (if is_no_sort th.signature sort then Some (UnknownSort sort) else None) (count_fault MOST_VARS (length th.variables))
+new_var_fault th sort = option_or (if is_no_sort th.signature sort then Some (UnknownSort sort) else None) (count_fault variable_limit (length th.variables))
 
 -- why a variable is not declared
 abbrev pub var_fault : Theory → List ℕ → (sort : ℕ) → Option TheoryFault
@@ -62,12 +62,12 @@ op_fault th o =
     option_or (option_map Twice (op_number th.signature o))
     (option_or (option_map UnknownSort (unknown_sort th.signature o))
     (option_or (if is_ill_sorted o then Some (IllSorted (length th.signature.ops)) else None)
-    (option_or (if nat_lt MOST_ARGS (length o.args) then Some (Limit (length o.args)) else None)
-    (count_fault MOST_OPS (length th.signature.ops)))))
+    (option_or (if nat_lt argument_limit (length o.args) then Some (Limit (length o.args)) else None)
+    (count_fault operator_limit (length th.signature.ops)))))
 
 -- why an equation is not added
 abbrev pub equation_fault : Theory → Option TheoryFault
-equation_fault th = count_fault MOST_EQUATIONS (length th.equations)
+equation_fault th = count_fault equation_limit (length th.equations)
 
 abbrev pub with_sort : Theory → List ℕ → Theory
 with_sort th name = record th { signature = record th.signature { sorts = th.signature.sorts ++ name ∷ [] } }

@@ -1,3 +1,4 @@
+pub mod Limits
 pub mod Form
 pub mod Signature
 pub mod Pair

@@ -7,7 +7,7 @@ use Rattle.circ_term.specs.Tree.{Tree, Trees}
 use Rattle.circ_theory.specs.declared.fault.TheoryFault.{TheoryFault}
 use Rattle.circ_theory.specs.declared.fault.TheoryFault.TheVariants.{Twice, UnknownSort, IllSorted, NotLinear, HoleCount, NoConstant, NotVisible}
 use Rattle.circ_theory.specs.declared.fault.TheoryFault.TheVariants.{NowHidden, Limit}
-use Rattle.circ_theory.specs.declared.TheConstants.{MOST_DERIVATIVES, MOST_PARAMS, MOST_CASES}
+use Rattle.circ_theory.specs.Limits.{derivative_limit, parameter_limit, constant_limit}
 use Rattle.circ_theory.specs.Signature.{Signature}
 use Rattle.circ_theory.specs.Theory.{Theory, Derivative, CaseList}
 use Rattle.circ_theory.specs.Variables.{Variable, occurrences, all_occurrences, seen_in, AreNumberedFrom}
@@ -79,8 +79,8 @@ slots_fault th repeated holes params =
     option_or (option_map NotLinear repeated)
     (option_or (hole_fault (length holes))
     (option_or (now_hidden th (first_or_zero holes))
-    (option_or (long_fault MOST_PARAMS params)
-    (count_fault MOST_DERIVATIVES (length th.derivatives)))))
+    (option_or (long_fault parameter_limit params)
+    (count_fault derivative_limit (length th.derivatives)))))
 
 -- why a derivative is not added
 abbrev pub derivative_fault : Theory → Tree → Option TheoryFault
@@ -107,7 +107,7 @@ no_constants th s cs =
 abbrev pub cases_fault : Theory → (sort : ℕ) → List ℕ → Option TheoryFault
 cases_fault th s cs =
     option_or (twice_listed th s cs)
-    (option_or (no_constants th s cs) (option_or (if is_hidden th s then Some (NotVisible s) else None) (long_fault MOST_CASES (length cs))))
+    (option_or (no_constants th s cs) (option_or (if is_hidden th s then Some (NotVisible s) else None) (long_fault constant_limit (length cs))))
 
 abbrev pub case_list : ℕ → List ℕ → CaseList
 case_list s cs = record { sort = s; constants = cs }

@@ -5,7 +5,7 @@ use Rattle.std.specs.Cmp.Lexicographic.{pointwise}
 use Rattle.circ_theory.specs.declared.forms.Piece.{Piece}
 use Rattle.circ_theory.specs.declared.forms.Piece.TheVariants.{Hole, Word}
 use Rattle.circ_theory.specs.declared.parts.OpDecl.{OpDecl}
-use Rattle.circ_theory.specs.declared.TheConstants.{MOST_ARGS}
+use Rattle.circ_theory.specs.Limits.{argument_limit}
 use Rattle.circ_theory.specs.Form.{IsForm, first_word}
 use Rattle.circ_theory.specs.Signature.{Signature, Operator, IsSort}
 
@@ -58,7 +58,7 @@ pub record IsOperator (sig : Signature) (o : Operator) : Type 0 where
   pub is_form : IsForm o.form
   pub args : (s : ℕ) → Contains o.args s → IsSort sig s
   pub result : IsSort sig o.result
-  pub few : length o.args ≤ MOST_ARGS
+  pub few : length o.args ≤ argument_limit
   pub fits : form_fits o ≡ true
   pub marked : has_mark o ≡ true → o.args ≡ o.result ∷ o.result ∷ []
 

@@ -2,7 +2,7 @@
 use Rattle.std.specs.Prelude.{◌≡◌, ◌≢◌, ℕ, ◌≤◌, [], ◌∷◌, Some, nat_eq, length, map}
 use Rattle.std.specs.List.{slice_get, filter, Contains, IsDistinct}
 use Rattle.circ_theory.specs.declared.parts.Equation.{Equation}
-use Rattle.circ_theory.specs.declared.TheConstants.{MOST_SORTS, MOST_VARS, MOST_OPS, MOST_EQUATIONS, MOST_DERIVATIVES, MOST_PARAMS, MOST_CASES}
+use Rattle.circ_theory.specs.Limits.{sort_limit, variable_limit, operator_limit, equation_limit, derivative_limit, parameter_limit, constant_limit}
 use Rattle.circ_theory.specs.Signature.{Signature, Operator, IsSort, IsWellSorted}
 use Rattle.circ_theory.specs.Theory.{Theory, Declared, Derivative, CaseList, IsVisible, pair_of, IsWellSortedPair}
 use Rattle.circ_theory.specs.Variables.{occurrences, AreNumberedFrom, IsInOrder}
@@ -15,7 +15,7 @@ pub record IsDerivative (sig : Signature) (d : Derivative) : Type 0 where
   pub body : IsWellSorted sig d.body
   pub one_hole : holes_in d.body ≡ d.hole ∷ []
   pub numbered : AreNumberedFrom 1 (filter is_parameter (occurrences d.body))
-  pub few : length (parameters_in d.body) ≤ MOST_PARAMS
+  pub few : length (parameters_in d.body) ≤ parameter_limit
 
 -- A case list: at least one constant of a visible sort, all different.
 pub record IsCaseList (th : Theory) (l : CaseList) : Type 0 where
@@ -24,7 +24,7 @@ pub record IsCaseList (th : Theory) (l : CaseList) : Type 0 where
   pub some : l.constants ≢ []
   pub different : IsDistinct nat_eq l.constants
   pub constants : (c : ℕ) → Contains l.constants c → (o : Operator) × ((slice_get th.signature.ops c ≡ Some o) × (o.args ≡ []) × (o.result ≡ l.sort))
-  pub few : length l.constants ≤ MOST_CASES
+  pub few : length l.constants ≤ constant_limit
 
 -- Each listed equation is a well-sorted pair and numbered in order; declared variables have sorts; operators, derivatives
 -- and case lists are such; a sort has one case list at most; and no kind has too many parts.
@@ -36,8 +36,8 @@ pub record IsWellFormed (th : Theory) : Type 0 where
   pub derivatives : (d : Derivative) → Contains th.derivatives d → IsDerivative th.signature d
   pub cases : (l : CaseList) → Contains th.cases l → IsCaseList th l
   pub one_list : IsDistinct nat_eq (map (λ l. l.sort) th.cases)
-  pub few_sorts : length th.signature.sorts ≤ MOST_SORTS
-  pub few_variables : length th.variables ≤ MOST_VARS
-  pub few_ops : length th.signature.ops ≤ MOST_OPS
-  pub few_equations : length th.equations ≤ MOST_EQUATIONS
-  pub few_derivatives : length th.derivatives ≤ MOST_DERIVATIVES
+  pub few_sorts : length th.signature.sorts ≤ sort_limit
+  pub few_variables : length th.variables ≤ variable_limit
+  pub few_ops : length th.signature.ops ≤ operator_limit
+  pub few_equations : length th.equations ≤ equation_limit
+  pub few_derivatives : length th.derivatives ≤ derivative_limit

@@ -1,10 +1,16 @@
-//! What is proved of derivations and experiments, and examples that try their definitions. The
-//! functions do nothing: a law is a contract.
+//! What is proved of derivations, experiments and limits, and examples that try the definitions.
+//! The functions do nothing: a law is a contract.
 ghost use Rattle.std.specs.Prelude.{◌≡◌, ℕ, List, [], ◌∷◌, codes, Some, None, map};
 ghost use Rattle.circ_term.specs.Tree.{Tree, Var, App, none, more, sort_of};
 ghost use Rattle.circ_term.specs.Substitution.{Substitution, instance};
 ghost use Rattle.circ_theory.specs.declared.forms.Piece.TheVariants.{Hole, Word};
 ghost use Rattle.circ_theory.specs.declared.forms.FormFault.TheVariants.{NoWord, BadWord};
+ghost use Rattle.circ_theory.specs.declared.TheConstants.{MOST_SORTS, MOST_VARS, MOST_OPS};
+ghost use Rattle.circ_theory.specs.declared.TheConstants.{MOST_EQUATIONS, MOST_DERIVATIVES};
+ghost use Rattle.circ_theory.specs.declared.TheConstants.{MOST_ARGS, MOST_PARAMS, MOST_CASES};
+ghost use Rattle.circ_theory.specs.Limits.{sort_limit, variable_limit, operator_limit};
+ghost use Rattle.circ_theory.specs.Limits.{equation_limit, derivative_limit};
+ghost use Rattle.circ_theory.specs.Limits.{argument_limit, parameter_limit, constant_limit};
 ghost use Rattle.circ_theory.specs.Form.{pieces_of, form_fault};
 ghost use Rattle.circ_theory.specs.Signature.{IsWellSorted, IsSubstitution};
 ghost use Rattle.circ_theory.specs.Theory.{Theory, Pair, Within, instance_pair};
@@ -66,4 +72,16 @@ pub fn forms_are_cut()
     ensures no_word { form_fault (codes "__") ≡ Some NoWord }
     ensures bad_word { form_fault (codes "_=_") ≡ Some BadWord }
     ensures good { form_fault (codes "_==_") ≡ None }
+{}
+
+/// The limits of the code are those that the definitions state.
+pub fn limits_are_stated()
+    ensures sorts { MOST_SORTS ≡ sort_limit }
+    ensures variables { MOST_VARS ≡ variable_limit }
+    ensures operators { MOST_OPS ≡ operator_limit }
+    ensures equations { MOST_EQUATIONS ≡ equation_limit }
+    ensures derivatives { MOST_DERIVATIVES ≡ derivative_limit }
+    ensures arguments { MOST_ARGS ≡ argument_limit }
+    ensures parameters { MOST_PARAMS ≡ parameter_limit }
+    ensures constants { MOST_CASES ≡ constant_limit }
 {}

@@ -9,7 +9,6 @@ mod faults;
 mod reading;
 mod terms;
 
-use crate::MOST_VARS;
 use crate::forms::Text;
 use crate::parts::{Equation, OpDecl};
 use circ_term::Term;
@@ -82,11 +81,11 @@ impl Model for Vars {
 
     ghost use Rattle.std.specs.Prelude.{◌≤◌, map, length};
     ghost use Rattle.circ_theory.specs.Theory.{declared};
-    ghost use Rattle.circ_theory.specs.declared.TheConstants.{MOST_VARS};
+    ghost use Rattle.circ_theory.specs.Limits.{variable_limit};
 
     ghost view = { λ a. map (λ e. declared e.0.items e.1) a.vars.entries };
 
-    ghost invariant = { λ a. length a.vars.entries ≤ MOST_VARS };
+    ghost invariant = { λ a. length a.vars.entries ≤ variable_limit };
 }
 
 impl Model for Theory {

@@ -2,6 +2,8 @@
 ghost use Rattle.std.specs.Prelude.{◌≡◌, ◌↔◌, ◌≤◌, ◌^◌, false, IsTrue, IfOk, IfSome, length};
 ghost use Rattle.std.specs.List.{slice_get};
 ghost use Rattle.std.specs.Option.{option_copied, option_map, option_map_or};
+ghost use Rattle.circ_theory.specs.Limits.{sort_limit, variable_limit, operator_limit};
+ghost use Rattle.circ_theory.specs.Limits.{equation_limit, derivative_limit};
 ghost use Rattle.circ_theory.specs.Theory.{pair_of, declared, IsHidden};
 ghost use Rattle.circ_theory.specs.Variables.{sorts_of};
 ghost use Rattle.circ_theory.specs.Operators.{operator_of, ops_by_word};
@@ -13,7 +15,6 @@ ghost use Rattle.circ_theory.specs.Observing.{parameters_in, derivative_with, ca
 use super::{Listed, Observer, OpKey, Theory};
 use crate::forms::Form;
 use crate::parts::{Equation, OpDecl};
-use crate::{MOST_DERIVATIVES, MOST_EQUATIONS, MOST_OPS, MOST_SORTS, MOST_VARS};
 use circ_term::Term;
 use std::alloc::AllocError;
 
@@ -28,7 +29,7 @@ impl Theory {
     /// The number of sorts, whose names are different.
     pub fn sort_count(&self) -> u32
         ensures count { result ≡ length self.now.signature.sorts }
-        ensures few { result ≤ MOST_SORTS }
+        ensures few { result ≤ sort_limit }
         ensures different { AreDifferent self.now.signature.sorts }
     {
         self.parts.sorts.len() as u32
@@ -57,7 +58,7 @@ impl Theory {
     /// The number of declared variables, whose names are different.
     pub fn var_count(&self) -> u32
         ensures count { result ≡ length self.now.variables }
-        ensures few { result ≤ MOST_VARS }
+        ensures few { result ≤ variable_limit }
         ensures different { AreDifferent (names_of self.now.variables) }
     {
         self.parts.vars.len() as u32
@@ -86,7 +87,7 @@ impl Theory {
     /// The number of operators.
     pub fn op_count(&self) -> u32
         ensures count { result ≡ length self.now.signature.ops }
-        ensures few { result ≤ MOST_OPS }
+        ensures few { result ≤ operator_limit }
     {
         self.parts.ops.len() as u32
     }
@@ -104,7 +105,7 @@ impl Theory {
     /// The number of equations.
     pub fn equation_count(&self) -> u32
         ensures count { result ≡ length self.now.equations }
-        ensures few { result ≤ MOST_EQUATIONS }
+        ensures few { result ≤ equation_limit }
     {
         self.parts.equations.len() as u32
     }
@@ -156,7 +157,7 @@ impl Theory {
     /// The number of derivatives.
     pub fn derivative_count(&self) -> u32
         ensures count { result ≡ length self.now.derivatives }
-        ensures few { result ≤ MOST_DERIVATIVES }
+        ensures few { result ≤ derivative_limit }
     {
         self.parts.derivatives.len() as u32
     }

@@ -1,7 +1,7 @@
 use Rattle.std.proofs.Common.{◌<◌, ◌&&◌, is_some, List, map, length, ap, sym, subst, ◌∙◌, ◌≡◌}
 use Rattle.std.specs.List.{AllByRecursion}
 use Rattle.circ_term.specs.Tree.{operator_number}
-use Rattle.circ_theory.specs.declared.TheConstants.{MOST_EQUATIONS}
+use Rattle.circ_theory.specs.Limits.{equation_limit}
 use Rattle.circ_theory.specs.declared.parts.Equation.{Equation}
 use Rattle.circ_theory.specs.Theory.{Theory}
 use Rattle.circ_theory.specs.WellFormed.{IsWellFormed}
@@ -18,8 +18,8 @@ invariant_of-self-2 c =
     let kept : IsKept p = subst IsKept (sym c.deref_mut.ensures.value) c.self.invariant in
     let th : Theory = theory_of p in
     let e : Equation = record { left = c.args.left; right = c.args.right; exec = c.args.exec } in
-    let room : length th.equations < MOST_EQUATIONS =
-    rw (← is_theory) at (rw c.equation_count-number.ensures.count at (room_left MOST_EQUATIONS c.equation_count-number.result (sym c.count_fault.ensures ∙ c.in_default.is))) in
+    let room : length th.equations < equation_limit =
+    rw (← is_theory) at (rw c.equation_count-number.ensures.count at (room_left equation_limit c.equation_count-number.result (sym c.count_fault.ensures ∙ c.in_default.is))) in
     let P : List Equation → Type 0 = λ es. IsWellFormed (record th { equations = es }) in
     let items = c.in_ok-push.ensures.items in
     record {

@@ -1,5 +1,5 @@
 use Rattle.std.proofs.Common.{◌≡◌, ◌<◌, List, ℕ, ◌∷◌, ◌++◌, [], map, length, None, ap, sym, subst, ◌∙◌}
-use Rattle.circ_theory.specs.declared.TheConstants.{MOST_SORTS}
+use Rattle.circ_theory.specs.Limits.{sort_limit}
 use Rattle.circ_theory.specs.Theory.{Theory}
 use Rattle.circ_theory.specs.WellFormed.{IsWellFormed}
 use Rattle.circ_theory.specs.Adding.{sort_number}
@@ -24,8 +24,8 @@ grown c =
 pub invariant_of-self-2 : goal.invariant_of-self-2
 invariant_of-self-2 c =
     let th : Theory = theory_of c.deref_mut.result.now in
-    let room : length th.signature.sorts < MOST_SORTS =
-    rw (← (is_theory c)) at (rw c.sort_count-number.ensures.count at (room_left MOST_SORTS c.sort_count-number.result (sym c.count_fault.ensures ∙ c.in_default-count_fault.is))) in
+    let room : length th.signature.sorts < sort_limit =
+    rw (← (is_theory c)) at (rw c.sort_count-number.ensures.count at (room_left sort_limit c.sort_count-number.result (sym c.count_fault.ensures ∙ c.in_default-count_fault.is))) in
     let P : List (List ℕ) → Type 0 = λ ss. IsWellFormed (record th { signature = record th.signature { sorts = ss } }) in
     record {
       well_formed = subst P (sym (grown c)) (sort_grows th c.args.name.now (is_kept c).well_formed room);
