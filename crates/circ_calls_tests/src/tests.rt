@@ -1,0 +1,201 @@
+//! What no clause says: that a call does not want memory where there is enough.
+ghost use Rattle.std.specs.Prelude.{IsTrue};
+ghost use Rattle.circ_mixfix.specs.Answers.{declared_by, HaveSorts};
+
+use circ_lexer::{LexFault, Span, Tokens};
+use circ_mixfix::{ParseFault, Reading, parse_one, parse_pair, print};
+use circ_outer::{SureShelf, SureSink};
+use circ_read::read_theory;
+use circ_show::unobserved;
+use circ_term::{Subst, Term};
+use circ_theory::{Form, FormFault, Text, Theory, in_order, parameters_in_order};
+use circ_top::sure::circ_in_memory;
+use std::alloc::{AllocError, Global};
+use std::test::Fail;
+
+// Each of the variables 0 and 1 is bound to the other.
+fn exchanged(subst: &mut Subst) -> Result<Vec<Term>, AllocError> {
+    subst.bind(1, 0, &Term::var(0, 0))?;
+    subst.bind(0, 0, &Term::var(1, 0))?;
+    subst.terms()
+}
+
+fn are_exchanged(terms: &[Term]) -> bool {
+    match terms {
+        [first, second] => first.var_number() == Some(1) && second.var_number() == Some(0),
+        _ => false,
+    }
+}
+
+#[test]
+fn bound_terms(rt: HostRuntime) -> Result<(), Fail> {
+    let terms = exchanged(&mut Subst::new(rt.alloc()))?;
+    assert!(rt; are_exchanged(&terms));
+    Ok(())
+}
+
+fn are_in_order(alloc: Global, left: u32, right: u32) -> Result<bool, AllocError> {
+    in_order(alloc, &Term::var(left, 0), &Term::var(right, 0))
+}
+
+#[test]
+fn numbers(rt: HostRuntime) -> Result<(), Fail> {
+    assert!(rt; are_in_order(rt.alloc(), 0, 1)?);
+    assert!(rt; !are_in_order(rt.alloc(), 1, 0)?);
+    assert!(rt; parameters_in_order(rt.alloc(), &Term::var(1, 0))?);
+    Ok(())
+}
+
+fn is_spelled(alloc: Global, text: &[u8]) -> Result<bool, FormFault> {
+    Ok(Form::read(alloc, text)?.text(alloc)?.bytes() == text)
+}
+
+#[test]
+fn forms(rt: HostRuntime) -> Result<(), Fail> {
+    assert!(rt; is_spelled(rt.alloc(), b"if_[then]_")?);
+    Ok(())
+}
+
+const SUMS: &[u8] = b"theory T is
+  sorts X Y .
+  op _+_ : X X -> X .
+  op c : -> X .
+  op next : Y -> Y .
+  derivative next(*:Y) .
+endtheory";
+
+// Whether the sorts of these variables exist.
+fn have_sorts(theory: &Theory, vars: &[(Text, u32)]) -> bool
+    ensures { IsTrue result → HaveSorts theory.now.signature (declared_by vars.now) }
+{
+    for var in vars {
+        if var.1 >= theory.sort_count() {
+            return false;
+        }
+    }
+    true
+}
+
+// The variables `A` and `B` of sort X, which the theory does not declare.
+fn variables(alloc: Global) -> Result<Vec<(Text, u32)>, AllocError> {
+    let mut vars = Vec::new(alloc);
+    for name in [b"A", b"B"] {
+        vars.push((Text::of(alloc, name)?, 0))?;
+    }
+    Ok(vars)
+}
+
+// The tokens as one term, with or without a hole, or as two terms, of which the left has one token.
+#[derive(Clone, Copy)]
+enum Kind {
+    One,
+    Holed,
+    Pair,
+}
+
+fn read(
+    alloc: Global,
+    theory: &Theory,
+    vars: &[(Text, u32)],
+    tokens: &Tokens<'_>,
+    kind: Kind,
+) -> Result<Reading, ParseFault> {
+    let count = tokens.count();
+    if count == 0 || !have_sorts(theory, vars) {
+        return Err(ParseFault::NoParse);
+    }
+    let left = Span { from: 0, to: 1 };
+    let right = Span { from: 1, to: count };
+    let all = Span { from: 0, to: count };
+    match kind {
+        Kind::One => parse_one(alloc, theory, vars, tokens, all, false),
+        Kind::Holed => parse_one(alloc, theory, vars, tokens, all, true),
+        Kind::Pair => parse_pair(alloc, theory, vars, tokens, left, right),
+    }
+}
+
+// The terms' texts, one behind the other.
+fn printed(alloc: Global, theory: &Theory, terms: &[Term]) -> Result<Vec<u8>, AllocError> {
+    let mut out = Vec::new(alloc);
+    for term in terms {
+        print(alloc, theory, term, &mut out)?;
+    }
+    Ok(out)
+}
+
+fn is_printed(
+    alloc: Global,
+    theory: &Theory,
+    found: Result<Reading, ParseFault>,
+    wanted: &[u8],
+) -> Result<bool, AllocError> {
+    match found {
+        Ok(reading) => Ok(printed(alloc, theory, &reading.terms)?.as_slice() == wanted),
+        Err(_) => Ok(false),
+    }
+}
+
+type Row = (Kind, &'static [u8], &'static [u8]);
+
+const ROWS: [Row; 3] = [
+    (Kind::One, b"B + (A + B)", b"(V0:X + (V1:X + V0:X))"),
+    (Kind::Holed, b"A + *:X", b"(V1:X + V0:X)"),
+    (Kind::Pair, b"B A + B", b"V0:X(V1:X + V0:X)"),
+];
+
+fn is_read(alloc: Global, theory: &Theory, row: &Row) -> Result<bool, LexFault> {
+    let (kind, text, wanted) = *row;
+    let tokens = Tokens::of(alloc, text)?;
+    let vars = variables(alloc)?;
+    let found = read(alloc, theory, &vars, &tokens, kind);
+    Ok(is_printed(alloc, theory, found, wanted)?)
+}
+
+fn are_read(alloc: Global, theory: &Theory) -> bool {
+    ROWS.iter()
+        .all(|row| is_read(alloc, theory, row).is_ok_and(|read| read))
+}
+
+#[test]
+fn terms(rt: HostRuntime) {
+    let theory = read_theory(rt.alloc(), SUMS);
+    assert!(rt; theory.is_ok_and(|theory| are_read(rt.alloc(), &theory)));
+}
+
+#[test]
+fn sorts(rt: HostRuntime) {
+    let theory = read_theory(rt.alloc(), SUMS);
+    assert!(rt; theory.is_ok_and(|theory| unobserved(rt.alloc(), &theory, 1) == Ok(true)));
+}
+
+const FILE: &[u8] = b"theory NOT is sort Bit . ops 0 1 : -> Bit . endtheory";
+
+const PROOF: &[u8] = b"circproof 1\na 0\nblock\ngoal 0 0\nreduce\nsame\ndone\nend\n";
+
+fn words(alloc: Global) -> Result<Vec<String>, AllocError> {
+    let mut words = Vec::new(alloc);
+    for text in ["circ", "check", "t", "p"] {
+        words.push(String::from_str(alloc, text)?)?;
+    }
+    Ok(words)
+}
+
+// Runs the program over these files, and answers the number of its answer.
+fn written(alloc: Global, shelf: &mut SureShelf, out: &mut SureSink) -> Result<u8, AllocError> {
+    shelf.add("t", FILE)?;
+    shelf.add("p", PROOF)?;
+    Ok(circ_in_memory(alloc, &words(alloc)?, shelf, out).number())
+}
+
+#[test]
+fn runs(rt: HostRuntime) -> Result<(), Fail> {
+    let mut out = SureSink::new(rt.alloc(), 4);
+    let number = written(
+        rt.alloc(),
+        &mut SureShelf::new(rt.alloc(), 65_536),
+        &mut out,
+    )?;
+    assert_eq!(rt; number, 0);
+    assert!(rt; out.bytes() == b"accepted\ngoal: 0 = 0\n".as_slice());
+    Ok(())
+}
