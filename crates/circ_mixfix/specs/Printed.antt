@@ -1,6 +1,6 @@
 -- What printed text spells.
 use Rattle.std.specs.Prelude.{◌≡◌, ◌≢◌, ℕ, ◌<◌, List, [], ◌∷◌, ◌++◌, Bool, true, false, codes, decimal, ◌==◌, ◌&&◌, if◌then◌else◌}
-use Rattle.std.specs.List.{list_any, list_all, Contains}
+use Rattle.std.specs.List.{list_all, Contains}
 use Rattle.circ_lexer.specs.Bytes.{is_plain, begins_comment}
 use Rattle.circ_lexer.specs.TokenList.{AreTokens}
 use Rattle.circ_term.specs.Tree.{Tree, Trees, Var, App, none, more, sort_of}
@@ -9,7 +9,7 @@ use Rattle.circ_theory.specs.declared.parts.Side.TheVariants.{Neither}
 use Rattle.circ_theory.specs.Form.{is_reserved}
 use Rattle.circ_theory.specs.Signature.{Signature, Operator}
 use Rattle.circ_theory.specs.Theory.{Declared, Pair}
-use Rattle.circ_theory.specs.Operators.{is_hole_piece}
+use Rattle.circ_theory.specs.Operators.{has_hole}
 use Rattle.circ_mixfix.specs.Named.{Named, NamedList, Variable, Applied, no_terms, terms}
 use Rattle.circ_mixfix.specs.Symbols.{every}
 use Rattle.circ_mixfix.specs.Spells.{HasNoColon, Spells}
@@ -26,8 +26,8 @@ pub record IsName (w : List ℕ) : Type 0 where
 -- No word of the operator begins as a comment. With holes its precedence is below every one, and above 0 where it groups to a side.
 pub record IsPrintableOperator (o : Operator) : Type 0 where
   pub words : (w : List ℕ) → Contains o.form (Word w) → begins_comment w ≡ false
-  pub below : list_any is_hole_piece o.form ≡ true → o.prec < every
-  pub sided : list_any is_hole_piece o.form ≡ true → o.side ≢ Neither → 0 < o.prec
+  pub below : has_hole o.form ≡ true → o.prec < every
+  pub sided : has_hole o.form ≡ true → o.side ≢ Neither → 0 < o.prec
 
 -- Terms of the signature are spelled by what is printed: each sort has a name, and each operator is printable.
 pub record IsPrintable (sig : Signature) : Type 0 where

@@ -1,10 +1,10 @@
 -- Terms as they are printed.
 use Rattle.std.specs.Prelude.{◌≡◌, ℕ, List, [], ◌∷◌, ◌++◌, Bool, false, Option, Some, None, codes, decimal, unwrap_or, ◌==◌, ◌&&◌, if◌then◌else◌}
-use Rattle.std.specs.List.{slice_get, list_any}
+use Rattle.std.specs.List.{slice_get}
 use Rattle.circ_term.specs.Tree.{Tree, Trees, Var, App, none, more}
 use Rattle.circ_theory.specs.Signature.{Signature, Operator}
 use Rattle.circ_theory.specs.Theory.{Pair}
-use Rattle.circ_theory.specs.Operators.{is_hole_piece}
+use Rattle.circ_theory.specs.Operators.{has_hole}
 use Rattle.circ_theory.specs.declared.forms.Piece.{Piece}
 use Rattle.circ_theory.specs.declared.forms.Piece.TheVariants.{Hole, Word}
 
@@ -43,7 +43,7 @@ arguments_text (a ∷ args) = codes "(" ++ joined (codes ", ") (a ∷ args) ++ c
 -- An operator with holes is in parentheses, with its arguments in the holes. One without is its words, and its arguments in parentheses.
 abbrev pub application_text : Operator → List (List ℕ) → List ℕ
 application_text o args =
-    if list_any is_hole_piece o.form then codes "(" ++ joined (codes " ") (filled o.form args) ++ codes ")" else joined (codes " ") (filled o.form []) ++ arguments_text args
+    if has_hole o.form then codes "(" ++ joined (codes " ") (filled o.form args) ++ codes ")" else joined (codes " ") (filled o.form []) ++ arguments_text args
 
 abbrev pub operator_text : Option Operator → List (List ℕ) → List ℕ
 operator_text None args = []

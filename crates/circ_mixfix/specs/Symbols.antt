@@ -1,12 +1,11 @@
 -- What spells an operator.
 use Rattle.std.specs.Prelude.{ℕ, ◌+◌, List, [], ◌∷◌, ◌++◌, codes, if◌then◌else◌}
-use Rattle.std.specs.List.{list_any}
 use Rattle.circ_theory.specs.declared.forms.Piece.{Piece}
 use Rattle.circ_theory.specs.declared.forms.Piece.TheVariants as piece
 use Rattle.circ_theory.specs.declared.parts.Side.{Side}
 use Rattle.circ_theory.specs.declared.parts.Side.TheVariants.{Neither, Left, Right}
 use Rattle.circ_theory.specs.Signature.{Operator}
-use Rattle.circ_theory.specs.Operators.{is_hole_piece}
+use Rattle.circ_theory.specs.Operators.{has_hole}
 
 -- a word, or a hole for a term of this sort and of a precedence below `below`
 pub data Symbol : Type 0 where
@@ -59,7 +58,7 @@ arguments (s ∷ ss) = Word (codes "(") ∷ Hole s every ∷ more_arguments ss
 
 -- An operator with holes is spelled by its form, and one without by its words and its arguments in parentheses.
 abbrev pub symbols_of : Operator → List Symbol
-symbols_of o = if list_any is_hole_piece o.form then form_symbols o.prec o.side o.form o.args else inner_symbols 0 o.side o.form [] ++ arguments o.args
+symbols_of o = if has_hole o.form then form_symbols o.prec o.side o.form o.args else inner_symbols 0 o.side o.form [] ++ arguments o.args
 
 abbrev pub precedence_of : Operator → ℕ
-precedence_of o = if list_any is_hole_piece o.form then o.prec else 0
+precedence_of o = if has_hole o.form then o.prec else 0

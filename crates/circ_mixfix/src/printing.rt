@@ -10,7 +10,6 @@ ghost use Rattle.circ_mixfix.specs.Printing.{arguments_text, application_text, o
 ghost use Rattle.circ_mixfix.specs.Printing.{printed_name, text_of_term, texts_of_terms};
 ghost use Rattle.circ_mixfix.specs.Printing.{text_of_pair, Keeps};
 
-use crate::spelling::has_hole;
 use circ_term::{Kind, Term};
 use circ_theory::{OpDecl, Piece, Theory};
 use itoa::Buffer;
@@ -90,7 +89,7 @@ fn put_application(
     ensures keeps { Keeps out.old.items out.new.items }
 {
     let pieces = decl.form.pieces();
-    if has_hole(pieces) {
+    if decl.form.has_hole() {
         put(out, b"(")?;
         put_pieces(out, theory, hole, pieces, args)?;
         return put(out, b")");

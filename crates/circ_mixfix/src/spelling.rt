@@ -1,7 +1,6 @@
 //! What spells an operator: words, and holes for its arguments.
 ghost use Rattle.std.specs.Prelude.{◌≡◌, ◌<◌, ◌++◌, ◌∷◌, [], IfOk, map};
-ghost use Rattle.std.specs.List.{list_any};
-ghost use Rattle.circ_theory.specs.Operators.{is_hole_piece, operator_of};
+ghost use Rattle.circ_theory.specs.Operators.{operator_of};
 ghost use Rattle.circ_mixfix.specs.Symbols.{below_first, below_last, below_inner, inner_symbols};
 ghost use Rattle.circ_mixfix.specs.Symbols.{form_symbols, more_arguments, arguments, symbols_of};
 ghost use Rattle.circ_mixfix.specs.Symbols.{precedence_of};
@@ -20,24 +19,11 @@ pub enum Symbol<'a> {
     Hole { sort: u32, below: u8 },
 }
 
-pub(crate) fn has_hole(pieces: &[Piece]) -> bool
-    ensures { result ≡ list_any is_hole_piece pieces.now }
-{
-    pieces.iter().any(|piece| match piece {
-        Piece::Hole => true,
-        Piece::Word(_) => false,
-    })
-}
-
 /// The precedence of an operator's terms. One without holes has 0, whatever is declared.
 pub fn precedence(decl: &OpDecl) -> u8
     ensures { result ≡ precedence_of (operator_of decl.now) }
 {
-    if has_hole(decl.form.pieces()) {
-        decl.prec
-    } else {
-        0
-    }
+    if decl.form.has_hole() { decl.prec } else { 0 }
 }
 
 fn below_first(prec: u8, side: Side) -> u8
@@ -177,7 +163,7 @@ pub fn symbols(alloc: Global, decl: &OpDecl) -> Result<Vec<Symbol<'_>>, AllocErr
     ensures { IfOk result (λ v. map symbol_of v.items ≡ symbols_of (operator_of decl.now)) }
 {
     let pieces = decl.form.pieces();
-    if has_hole(pieces) {
+    if decl.form.has_hole() {
         return Ok(with_form(Vec::new(alloc), decl.prec, decl.side, pieces, &decl.args)?);
     }
     let words = with_inner(Vec::new(alloc), 0, decl.side, pieces, &[])?;

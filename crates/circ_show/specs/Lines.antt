@@ -1,6 +1,6 @@
 -- The lines of a theory's text. A word that is empty leaves no second space.
 use Rattle.std.specs.Prelude.{ℕ, ◌-◌, List, [], ◌∷◌, ◌++◌, Bool, true, false, ◌&&◌, length, flat_map, codes, decimal, unwrap_or, if◌then◌else◌}
-use Rattle.std.specs.List.{slice_get, list_any}
+use Rattle.std.specs.List.{slice_get}
 use Rattle.std.specs.Option.{option_map_or}
 use Rattle.circ_term.specs.Tree.{Tree}
 use Rattle.circ_theory.specs.declared.forms.Piece.{Piece}
@@ -10,7 +10,7 @@ use Rattle.circ_theory.specs.declared.parts.Equation.{Equation}
 use Rattle.circ_theory.specs.Form.{text_of}
 use Rattle.circ_theory.specs.Signature.{Signature, Operator}
 use Rattle.circ_theory.specs.Theory.{Theory, Declared, pair_of}
-use Rattle.circ_theory.specs.Operators.{is_hole_piece}
+use Rattle.circ_theory.specs.Operators.{is_hole_piece, has_hole}
 use Rattle.circ_theory.specs.Observing.{cases_of}
 use Rattle.circ_mixfix.specs.Printing.{joined, text_of_term, text_of_pair}
 
@@ -42,7 +42,7 @@ side_words o = if has_outer_holes o.form then side_word o.side else []
 
 -- the precedence and the side, of an operator with holes
 abbrev pub precedence_words : Operator → List (List ℕ)
-precedence_words o = if list_any is_hole_piece o.form then (codes "prec " ++ decimal o.prec) ∷ side_words o else []
+precedence_words o = if has_hole o.form then (codes "prec " ++ decimal o.prec) ∷ side_words o else []
 
 abbrev pub if_set : Bool → List ℕ → List (List ℕ)
 if_set b w = if b then w ∷ [] else []

@@ -1,7 +1,6 @@
 //! The attributes of an operator as text.
 ghost use Rattle.std.specs.Prelude.{◌≡◌, ◌++◌, ◌∷◌, [], ℕ, List, true, false, codes, decimal, IfOk, OnOk};
-ghost use Rattle.std.specs.List.{list_any};
-ghost use Rattle.circ_theory.specs.Operators.{is_hole_piece, operator_of};
+ghost use Rattle.circ_theory.specs.Operators.{operator_of};
 ghost use Rattle.circ_show.specs.Brackets.{bracketed, WritesWords};
 ghost use Rattle.circ_show.specs.Lines.{is_hole_at, has_outer_holes, side_words, precedence_words, if_set, attributes_text};
 
@@ -29,7 +28,7 @@ fn put_precedence(out: &mut Vec<u8>, decl: &OpDecl) -> Result<bool, AllocError>
     ensures { IfOk result (λ r. WritesWords out.old.items out.new.items false r
         (precedence_words (operator_of decl.now))) }
 {
-    if !has_hole(decl.form.pieces()) {
+    if !decl.form.has_hole() {
         return Ok(false);
     }
     out.extend_from_slice(b" [prec ")?;
@@ -64,12 +63,6 @@ fn is_hole_at(pieces: &[Piece], place: usize) -> bool
     ensures { result ≡ is_hole_at pieces.now place }
 {
     matches!(pieces.get(place), Some(Piece::Hole))
-}
-
-fn has_hole(pieces: &[Piece]) -> bool
-    ensures { result ≡ list_any is_hole_piece pieces.now }
-{
-    pieces.iter().any(|piece| matches!(piece, Piece::Hole))
 }
 
 // An attribute where it is set. Answers whether there is one by now.

@@ -1,12 +1,11 @@
 -- The attributes of operators, and what they make of a form.
 use Rattle.std.specs.Prelude.{◌≡◌, ◌⊎◌, ℕ, List, [], ◌∷◌, ◌++◌, Bool, true, false, ◌==◌, ◌&&◌, ◌||◌, not, nat_le, is_none, codes, decimal, if◌then◌else◌, Option, Some, None}
-use Rattle.std.specs.List.{list_any}
 use Rattle.std.specs.Option.{option_and_then}
 use Rattle.circ_theory.specs.declared.forms.Piece.{Piece}
 use Rattle.circ_theory.specs.declared.parts.Side.{Side}
 use Rattle.circ_theory.specs.declared.parts.Side.TheVariants.{Neither, Left, Right}
 use Rattle.circ_theory.specs.Form.{pieces_of, form_fault}
-use Rattle.circ_theory.specs.Operators.{is_hole_piece}
+use Rattle.circ_theory.specs.Operators.{is_hole_piece, has_hole}
 use Rattle.circ_statement.specs.declared.attributes.Attribute.{Attribute}
 use Rattle.circ_statement.specs.declared.attributes.Attribute.TheVariants.{Prec, ToLeft, ToRight, Assoc, Comm, Idem}
 use Rattle.circ_statement.specs.declared.attributes.Attributes.{Attributes}
@@ -64,9 +63,6 @@ pub record Spelled : Type 0 where
   pub form : List Piece
   pub prec : ℕ
   pub side : Side
-
-abbrev pub has_hole : List Piece → Bool
-has_hole ps = list_any is_hole_piece ps
 
 abbrev pub begins_with_hole : List Piece → Bool
 begins_with_hole [] = false

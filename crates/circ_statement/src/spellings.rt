@@ -2,7 +2,8 @@
 ghost use Rattle.std.specs.Prelude.{◌≡◌, true};
 ghost use Rattle.circ_lexer.specs.TokenList.{tokens_in, IsWithin};
 ghost use Rattle.circ_theory.specs.Operators.{is_hole_piece};
-ghost use Rattle.circ_statement.specs.Attributes.{has_hole, begins_with_hole, ends_with_hole, is_between, precedence_of, side_of, is_fitting};
+ghost use Rattle.circ_statement.specs.Attributes.{begins_with_hole, ends_with_hole, is_between};
+ghost use Rattle.circ_statement.specs.Attributes.{precedence_of, side_of, is_fitting};
 ghost use Rattle.circ_statement.specs.Statement.{forms_of};
 ghost use Rattle.circ_statement.specs.Reading.{GivesForm, GivesSpelling, GivesSpellings};
 
@@ -20,12 +21,6 @@ fn is_hole(piece: &Piece) -> bool
         Piece::Hole => true,
         Piece::Word(_) => false,
     }
-}
-
-fn has_hole(pieces: &[Piece]) -> bool
-    ensures { result ≡ has_hole pieces.now }
-{
-    pieces.iter().any(|piece| is_hole(piece))
 }
 
 fn begins_with_hole(pieces: &[Piece]) -> bool
@@ -78,10 +73,11 @@ fn side_of(given: Attributes, pieces: &[Piece]) -> Side
 }
 
 // Whether the attributes may be given to a form.
-fn is_fitting(given: Attributes, pieces: &[Piece]) -> bool
-    ensures { result ≡ is_fitting given pieces.now }
+fn is_fitting(given: Attributes, form: &Form) -> bool
+    ensures { result ≡ is_fitting given form.now }
 {
-    (given.prec.is_none() || has_hole(pieces)) && (is_neither(given.side) || is_between(pieces))
+    (given.prec.is_none() || form.has_hole())
+        && (is_neither(given.side) || is_between(form.pieces()))
 }
 
 fn form_of(alloc: Global, text: &[u8]) -> Result<Form, StatementFault>
@@ -103,7 +99,7 @@ fn spelling(alloc: Global, text: &[u8], given: Attributes) -> Result<Spelling, S
     let prec = precedence_of(given.prec, form.pieces());
     let side = side_of(given, form.pieces());
     let is_above = is_neither(side) || prec != 0;
-    if is_above && is_fitting(given, form.pieces()) {
+    if is_above && is_fitting(given, &form) {
         Ok(Spelling { form, prec, side })
     } else {
         Err(StatementFault::Shape)

@@ -79,7 +79,8 @@ sort_grows th name h room =
     }
 
 -- other variables, of sorts that exist
-pub vars_change : (th : Theory) (ds : List Declared) → IsWellFormed th → ((d : Declared) → Contains ds d → IsSort th.signature d.sort) → length ds ≤ variable_limit
+pub vars_change : (th : Theory) (ds : List Declared) → IsWellFormed th → ((d : Declared) → Contains ds d → IsSort th.signature d.sort)
+    → length ds ≤ variable_limit
     → IsWellFormed (record th { variables = ds })
 vars_change th ds h sorts few = record {
   equations = h.equations;
@@ -106,7 +107,8 @@ var_grows th d h sort room =
     either e (inl c) = h.variables e c
     either e (inr q) = let P : Declared → Type 0 = λ x. IsSort th.signature x.sort in subst P q sort
 
-pub op_grows : (th : Theory) (o : Operator) → IsWellFormed th → IsOperator th.signature o → length th.signature.ops < operator_limit → IsWellFormed (with_op th o)
+pub op_grows : (th : Theory) (o : Operator) → IsWellFormed th → IsOperator th.signature o → length th.signature.ops < operator_limit
+    → IsWellFormed (with_op th o)
 op_grows th o h new room =
     let b : Signature = (with_op th o).signature in
     let l = length-push th.signature.ops o in

@@ -1,6 +1,6 @@
 -- Declared operators, and when two of them are the same.
 use Rattle.std.specs.Prelude.{◌≡◌, ℕ, ◌+◌, ◌≤◌, if◌then◌else◌, List, [], ◌∷◌, Bool, true, false, ◌==◌, ◌&&◌, ◌||◌, not, nat_eq, length}
-use Rattle.std.specs.List.{count_by, Contains}
+use Rattle.std.specs.List.{list_any, count_by, Contains}
 use Rattle.std.specs.Cmp.Lexicographic.{pointwise}
 use Rattle.circ_theory.specs.declared.forms.Piece.{Piece}
 use Rattle.circ_theory.specs.declared.forms.Piece.TheVariants.{Hole, Word}
@@ -35,6 +35,9 @@ is_same_operator o p = pointwise is_same_piece o.form p.form && pointwise nat_eq
 abbrev pub is_hole_piece : Piece → Bool
 is_hole_piece Hole = true
 is_hole_piece (Word w) = false
+
+abbrev pub has_hole : List Piece → Bool
+has_hole ps = list_any is_hole_piece ps
 
 abbrev pub hole_count : List Piece → ℕ
 hole_count ps = count_by is_hole_piece ps

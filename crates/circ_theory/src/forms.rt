@@ -4,6 +4,7 @@ ghost use Rattle.std.specs.List.{list_any};
 ghost use Rattle.circ_theory.specs.Form.{is_special, is_word, is_bad_byte, is_reserved};
 ghost use Rattle.circ_theory.specs.Form.{is_bad_word, is_bad_piece, first_word, pieces_of, text_of};
 ghost use Rattle.circ_theory.specs.Form.{piece_of, IsForm, ReadsForm};
+ghost use Rattle.circ_theory.specs.Operators.{has_hole};
 
 use std::alloc::{AllocError, AllocFailed, Global};
 use std::marker::Model;
@@ -128,6 +129,16 @@ impl Form {
         ensures { result.now ≡ self.now }
     {
         self.pieces.as_slice()
+    }
+
+    /// Whether an argument goes into the form, and not behind it.
+    pub fn has_hole(&self) -> bool
+        ensures { result ≡ has_hole self.now }
+    {
+        self.pieces.iter().any(|piece| match piece {
+            Piece::Hole => true,
+            Piece::Word(_) => false,
+        })
     }
 
     /// The first word.
