@@ -11,7 +11,6 @@ use circ_term::{Subst, Term};
 use circ_theory::{Form, FormFault, Text, Theory, in_order, parameters_in_order};
 use circ_top::sure::circ_in_memory;
 use std::alloc::{AllocError, Global};
-use std::test::Fail;
 
 // Each of the variables 0 and 1 is bound to the other.
 fn exchanged(subst: &mut Subst) -> Result<Vec<Term>, AllocError> {
@@ -28,22 +27,17 @@ fn are_exchanged(terms: &[Term]) -> bool {
 }
 
 #[test]
-fn bound_terms(rt: HostRuntime) -> Result<(), Fail> {
-    let terms = exchanged(&mut Subst::new(rt.alloc()))?;
-    assert!(rt; are_exchanged(&terms));
-    Ok(())
-}
-
-fn are_in_order(alloc: Global, left: u32, right: u32) -> Result<bool, AllocError> {
-    in_order(alloc, &Term::var(left, 0), &Term::var(right, 0))
+fn bound_terms(rt: HostRuntime) {
+    let terms = exchanged(&mut Subst::new(rt.alloc()));
+    assert!(rt; terms.is_ok_and(|terms| are_exchanged(&terms)));
 }
 
 #[test]
-fn numbers(rt: HostRuntime) -> Result<(), Fail> {
-    assert!(rt; are_in_order(rt.alloc(), 0, 1)?);
-    assert!(rt; !are_in_order(rt.alloc(), 1, 0)?);
-    assert!(rt; parameters_in_order(rt.alloc(), &Term::var(1, 0))?);
-    Ok(())
+fn numbers(rt: HostRuntime) {
+    let (zero, one) = (Term::var(0, 0), Term::var(1, 0));
+    let in_order = in_order(rt.alloc(), &zero, &one) == Ok(true);
+    let parameters = parameters_in_order(rt.alloc(), &one) == Ok(true);
+    assert!(rt; in_order && parameters);
 }
 
 fn is_spelled(alloc: Global, text: &[u8]) -> Result<bool, FormFault> {
@@ -51,9 +45,8 @@ fn is_spelled(alloc: Global, text: &[u8]) -> Result<bool, FormFault> {
 }
 
 #[test]
-fn forms(rt: HostRuntime) -> Result<(), Fail> {
-    assert!(rt; is_spelled(rt.alloc(), b"if_[then]_")?);
-    Ok(())
+fn forms(rt: HostRuntime) {
+    assert!(rt; is_spelled(rt.alloc(), b"if_[then]_") == Ok(true));
 }
 
 const SUMS: &[u8] = b"theory T is
@@ -188,14 +181,12 @@ fn written(alloc: Global, shelf: &mut SureShelf, out: &mut SureSink) -> Result<u
 }
 
 #[test]
-fn runs(rt: HostRuntime) -> Result<(), Fail> {
+fn runs(rt: HostRuntime) {
     let mut out = SureSink::new(rt.alloc(), 4);
     let number = written(
         rt.alloc(),
         &mut SureShelf::new(rt.alloc(), 65_536),
         &mut out,
-    )?;
-    assert_eq!(rt; number, 0);
-    assert!(rt; out.bytes() == b"accepted\ngoal: 0 = 0\n".as_slice());
-    Ok(())
+    );
+    assert!(rt; number == Ok(0) && out.bytes() == b"accepted\ngoal: 0 = 0\n".as_slice());
 }
