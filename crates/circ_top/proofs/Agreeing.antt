@@ -12,7 +12,7 @@ use Rattle.circ_read.specs.declared.cause.Cause.{Cause}
 use Rattle.circ_read.specs.declared.cause.Cause.TheVariants as cause
 use Rattle.circ_top.specs.Causes.{PrintsPartOf, AnswersOutcome, printed, not_read, not_written, no_memory}
 use Rattle.circ_top.specs.Command.{Command, Asks}
-use Rattle.circ_top.specs.Delivery.{Prints, PrintsPart, Delivers, whole, write_failed, memory_wanted}
+use Rattle.circ_top.specs.Delivery.{Prints, PrintsPart, PrintsFront, Delivers, whole, write_failed, memory_wanted, text_wanted}
 use Rattle.circ_top.specs.Files.{Refusal, RefusesFile, IsFileFault}
 use Rattle.circ_top.specs.Like.{IsLikeCause, same_cause, other_readings, IsLike, itself}
 use Rattle.circ_top.specs.Outcome.{Stored, OutcomeOf, Outcome, command, HoldsAfter}
@@ -88,6 +88,10 @@ nothing_part text start end p = λ t. go (p t).0 (p t).1.0 (p t).1.1.0 (p t).1.1
 pub whole_part : (text : List ℕ) (start end : SinkState) → Prints text start end → PrintsPart text start end
 whole_part text start end p = λ t. (text, ([], (sym (append-nil text), p.printed t)))
 
+-- what is not the whole is a part
+pub front_part : (text : List ℕ) (start end : SinkState) → PrintsFront text start end → PrintsPart text start end
+front_part text start end p = λ t. ((p t).0, ((p t).1.0, (p t).1.1.1))
+
 -- a part of the text itself
 itself_part : (s : Status) (text : List ℕ) (start end : SinkState) → PrintsPart text start end → PrintsPartOf s text start end
 itself_part s text start end p = record { answer = s; given = text; like = itself s text; part = p }
@@ -98,14 +102,18 @@ module _ (before after : ShelfState) (start end : SinkState) (s : Status) (text 
       → AnswersOutcome before after start end s text stored r
   agree_answers stored d _ given h (alike _ _ l) (whole p) = printed d given l h p
   agree_answers stored d _ given h (alike _ _ l) (write_failed n some c rose p) =
-      not_written n rose h (record { answer = d; given = given; like = l; part = p })
-  agree_answers stored d _ given h (alike _ _ l) (memory_wanted q p) = no_memory (record { answer = d; given = given; like = l; part = p })
+      not_written n rose h (record { answer = d; given = given; like = l; part = front_part given start end p })
+  agree_answers stored d _ given h (alike _ _ l) (memory_wanted q p) = no_memory (record { answer = d; given = given; like = l; part = front_part given start end p })
+  agree_answers stored d _ given h (alike _ _ l) (text_wanted p) =
+      no_memory (record { answer = d; given = given; like = l; part = nothing_part given start end (whole_part [] start end p) })
   agree_answers stored _ _ _ h (unread_file n rose) (whole p) = not_read n rose p
   agree_answers stored _ _ _ h (unread_file n rose) (write_failed m some c up p) = absurd (some refl)
-  agree_answers stored _ _ _ h (unread_file n rose) (memory_wanted q p) = no_memory (itself_part s text start end (nothing_part text start end p))
+  agree_answers stored _ _ _ h (unread_file n rose) (memory_wanted q p) = no_memory (itself_part s text start end (nothing_part text start end (front_part [] start end p)))
+  agree_answers stored _ _ _ h (unread_file n rose) (text_wanted p) = no_memory (itself_part s text start end (nothing_part text start end (whole_part [] start end p)))
   agree_answers stored _ _ _ h memory (whole p) = no_memory (itself_part s text start end (nothing_part text start end (whole_part [] start end p)))
   agree_answers stored _ _ _ h memory (write_failed m some c up p) = absurd (some refl)
-  agree_answers stored _ _ _ h memory (memory_wanted q p) = no_memory (itself_part s text start end (nothing_part text start end p))
+  agree_answers stored _ _ _ h memory (memory_wanted q p) = no_memory (itself_part s text start end (nothing_part text start end (front_part [] start end p)))
+  agree_answers stored _ _ _ h memory (text_wanted p) = no_memory (itself_part s text start end (nothing_part text start end (whole_part [] start end p)))
 
   -- whatever is answered, a part of a like answer's text is printed
   pub answers_part : (stored : Option Stored) (r : Status) → AnswersOutcome before after start end s text stored r → PrintsPartOf s text start end

@@ -8,7 +8,7 @@ use Rattle.circ_top.specs.Answer.{Succeeds, RefusesCommand, DueAnswer, no_comman
 use Rattle.circ_top.specs.Causes.{AtFile, IsPastLimit, IsReadFault, IsWriteFault}
 use Rattle.circ_top.specs.Check.{accepted_text, refused, accepted, Accepts, Rejects, FilesRead}
 use Rattle.circ_top.specs.Command.{Command, Check, Show, Library, Asks}
-use Rattle.circ_top.specs.Delivery.{Prints, Delivers, whole, write_failed, memory_wanted}
+use Rattle.circ_top.specs.Delivery.{Prints, Delivers, whole, write_failed, memory_wanted, text_wanted}
 use Rattle.circ_top.specs.Files.{Held, IsUnread, IsTooLong, IsFileFault}
 use Rattle.circ_top.specs.Outcome.{Stored, Outcome, command, HoldsAfter}
 use Rattle.circ_top.specs.Quiet.{IsQuietBut}
@@ -68,6 +68,7 @@ module _ (words : List (List ℕ)) (before after : ShelfState) (start end : Sink
       go _ _ _ (refusal c s i f) h _ (whole p) e q = absurd (command_not_ok before after c s f e)
       go d text stored x h _ (write_failed n some i rose p) e q = absurd (cc)
       go d text stored x h _ (memory_wanted m p) e q = absurd (cc)
+      go d text stored x h _ (text_wanted p) e q = absurd (cc)
 
   pub answers_accepted : IsQuietBut before after r → (theory proof : List ℕ) → Asks words (Check theory proof) → r ≡ status.Ok
       → Accepts before after start end theory proof
@@ -96,6 +97,7 @@ module _ (words : List (List ℕ)) (before after : ShelfState) (start end : Sink
       go _ _ _ (refusal c s i f) _ (whole p) e q = rejects c s i f e p q
       go d text stored x _ (write_failed m some i rose p) e q = absurd (cc)
       go d text stored x _ (memory_wanted m p) e q = absurd (cc)
+      go d text stored x _ (text_wanted p) e q = absurd (cc)
 
   pub answers_read_fault : (n : ℕ) → r ≡ status.ReadFault n → IsReadFault words before after start end n
   answers_read_fault n = go a.answer a.text a.stored a.due r a.delivered
@@ -110,6 +112,7 @@ module _ (words : List (List ℕ)) (before after : ShelfState) (start end : Sink
           record { command = c; asks = i; unread = u.1; counted = u.0; nothing = subst P e p }
       go d text stored x _ (write_failed m some i rose p) e = absurd (cc)
       go d text stored x _ (memory_wanted m p) e = absurd (cc)
+      go d text stored x _ (text_wanted p) e = absurd (cc)
 
   pub answers_past_limit : (file n : ℕ) → r ≡ status.TooLong file n → IsPastLimit words before file n
   answers_past_limit file n = go a.answer a.text a.stored a.due r a.delivered
@@ -121,6 +124,7 @@ module _ (words : List (List ℕ)) (before after : ShelfState) (start end : Sink
       go _ _ _ (refusal c s i f) _ (whole p) e = record { command = c; asks = i; past = past_command before after c s file n f e }
       go d text stored x _ (write_failed m some i rose p) e = absurd (cc)
       go d text stored x _ (memory_wanted m p) e = absurd (cc)
+      go d text stored x _ (text_wanted p) e = absurd (cc)
 
   pub answers_write_fault : (n : ℕ) → r ≡ status.WriteFault n → IsWriteFault words before after start end n
   answers_write_fault n = go a.answer a.text a.stored a.due a.held r a.delivered
@@ -149,6 +153,7 @@ module _ (words : List (List ℕ)) (before after : ShelfState) (start end : Sink
             part = p;
           }
       go d text stored x h _ (memory_wanted m p) e = absurd (cc)
+      go d text stored x h _ (text_wanted p) e = absurd (cc)
 
 -- the two special cases where both files read
 

@@ -5,7 +5,7 @@ use Rattle.circ_outer.specs.Sink.{SinkState}
 use Rattle.circ_top.specs.Answer.{Succeeds, RefusesCommand, DueAnswer, no_command, success, refusal, AnswersDue}
 use Rattle.circ_top.specs.Causes.{PrintsOutcome, IsOutcomeOrFault, PrintsPartOf, AnswersOutcome}
 use Rattle.circ_top.specs.Command.{Command, Check, Show, Library, Asks}
-use Rattle.circ_top.specs.Delivery.{Delivers, whole, write_failed, memory_wanted}
+use Rattle.circ_top.specs.Delivery.{Delivers, whole, write_failed, memory_wanted, text_wanted}
 use Rattle.circ_top.specs.Like.{IsLike, itself}
 use Rattle.circ_top.specs.Outcome.{Stored, OutcomeOf, Outcome, usage, command, HoldsAfter}
 use Rattle.circ_top.specs.Texts.{usage_text, refusal_text}
@@ -129,3 +129,4 @@ answers_outcome words before after start end r a t =
     go _ _ _ _ no_memory_left h (whole p) = tt
     go d _ text stored x h (write_failed n some c rose p) = tt
     go d _ text stored x h (memory_wanted q p) = tt
+    go d _ text stored x h (text_wanted p) = tt

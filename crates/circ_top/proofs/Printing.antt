@@ -1,7 +1,7 @@
 -- A part of a text.
-use Rattle.std.proofs.Common.{◌≡◌, ℕ, List, [], ◌∷◌, ◌++◌, ◌+◌, map, take, drop, Some, sym, ap, refl, ◌∙◌, append_assoc, Result, Ok, Err}
+use Rattle.std.proofs.Common.{◌≡◌, ◌≢◌, ◌-◌, ℕ, List, [], ◌∷◌, ◌++◌, ◌+◌, length, map, take, drop, Some, sym, ap, refl, arith, ◌∙◌, append_assoc, Result, Ok, Err}
 use Rattle.std.specs.Prelude.{is_ok, OnOk, if◌then◌else◌}
-use Rattle.std.proofs.lemmas.List.{take-append-drop, map-append}
+use Rattle.std.proofs.lemmas.List.{take-append-drop, map-append, length-drop}
 use Rattle.std.specs.List.{slice_get}
 use Rattle.circ_outer.specs.Sink.{AppendsPrefix}
 use Rattle.circ_term.specs.Tree.{Tree}
@@ -13,8 +13,14 @@ use Rattle.circ_show.specs.GoalsText.{plain_goal}
 use Rattle.circ_file.specs.declared.proof.GoalNames.{GoalNames}
 use Rattle.circ_top.proofs.Lists.{drop_there}
 
-pub prefix_part : (old new text : List ℕ) → AppendsPrefix old new text → (part : List ℕ) × ((rest : List ℕ) × ((text ≡ part ++ rest) × (new ≡ old ++ part)))
-prefix_part old new text a = (take a.count text, (drop a.count text, (sym (take-append-drop a.count text), a.text)))
+pub prefix_front : (old new text : List ℕ) → AppendsPrefix old new text
+    → (part : List ℕ) × ((rest : List ℕ) × ((rest ≢ []) × ((text ≡ part ++ rest) × (new ≡ old ++ part))))
+prefix_front old new text a =
+    let some : drop a.count text ≢ [] = λ e.
+    let none : length (drop a.count text) ≡ 0 = ap length e in
+    let left : length (drop a.count text) ≡ length text - a.count = length-drop a.count text in
+    absurd (omega (arith, none, left, a.within)) in
+    (take a.count text, (drop a.count text, (some, (sym (take-append-drop a.count text), a.text))))
 
 -- the last part of a joined text is appended
 pub on_ok_joined : {E : Type 0} (r : Result (Unit {0}) E) (before after part goal : List ℕ) → after ≡ (if is_ok r then before ++ part else before)

@@ -5,7 +5,7 @@ use Rattle.circ_outer.specs.Shelf.{ShelfState}
 use Rattle.circ_outer.specs.Sink.{SinkState}
 use Rattle.circ_theory.specs.Theory.{Theory}
 use Rattle.circ_top.specs.Command.{Command, Check, Show, Library, Asks}
-use Rattle.circ_top.specs.Delivery.{Prints, PrintsPart}
+use Rattle.circ_top.specs.Delivery.{Prints, PrintsPart, PrintsFront}
 use Rattle.circ_top.specs.Files.{IsUnread, IsTooLong}
 use Rattle.circ_top.specs.Like.{IsLike}
 use Rattle.circ_top.specs.Outcome.{Stored, Outcome, HoldsAfter}
@@ -77,4 +77,4 @@ pub record IsWriteFault (words : List (List ℕ)) (before after : ShelfState) (s
   pub held : HoldsAfter stored before after
   pub rose : Rose start.count end.count
   pub counted : count ≡ end.count
-  pub part : PrintsPart text start end
+  pub part : PrintsFront text start end

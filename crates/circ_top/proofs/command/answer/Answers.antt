@@ -1,7 +1,7 @@
 use Rattle.std.proofs.Common.{[], None, refl, sym, append-nil}
 use Rattle.circ_top.specs.Answer.{no_command, success, refusal}
 use Rattle.circ_top.specs.Command.{plain_request}
-use Rattle.circ_top.specs.Delivery.{memory_wanted}
+use Rattle.circ_top.specs.Delivery.{text_wanted}
 use Rattle.circ_top.specs.Texts.{usage_text, refusal_text}
 use Rattle.circ_top.specs.declared.status.Status.TheVariants as status
 use Rattle.circ_top.proofs.FileFaults.{delivered_quiet}
@@ -53,5 +53,5 @@ returns-in-Err-refusal-clause-answers g c =
       stored = None;
       due = refusal k c.in-Err.status (rw c.in-Some.request-is at c.in-Some.ensures) c.in-Err.ensures.refuses;
       held = c.run.ensures.frame.holds;
-      delivered = memory_wanted refl (λ t. ([], (refusal_text k c.in-Err.status, (refl, sym (append-nil _)))));
+      delivered = text_wanted (record { quiet = refl; printed = λ t. sym (append-nil _) });
     }
