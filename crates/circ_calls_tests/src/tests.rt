@@ -119,7 +119,7 @@ fn printed(alloc: Global, theory: &Theory, terms: &[Term]) -> Result<Vec<u8>, Al
 fn is_printed(
     alloc: Global,
     theory: &Theory,
-    found: Result<Reading, ParseFault>,
+    found: &Result<Reading, ParseFault>,
     wanted: &[u8],
 ) -> Result<bool, AllocError> {
     match found {
@@ -128,6 +128,7 @@ fn is_printed(
     }
 }
 
+// What the tokens are to be read as, a text, and what is printed then.
 type Row = (Kind, &'static [u8], &'static [u8]);
 
 const ROWS: [Row; 3] = [
@@ -136,23 +137,30 @@ const ROWS: [Row; 3] = [
     (Kind::Pair, b"B A + B", b"V0:X(V1:X + V0:X)"),
 ];
 
-fn is_read(alloc: Global, theory: &Theory, row: &Row) -> Result<bool, LexFault> {
+fn is_read(
+    alloc: Global,
+    theory: &Theory,
+    vars: &[(Text, u32)],
+    row: &Row,
+) -> Result<bool, LexFault> {
     let (kind, text, wanted) = *row;
     let tokens = Tokens::of(alloc, text)?;
-    let vars = variables(alloc)?;
-    let found = read(alloc, theory, &vars, &tokens, kind);
-    Ok(is_printed(alloc, theory, found, wanted)?)
+    let found = read(alloc, theory, vars, &tokens, kind);
+    Ok(is_printed(alloc, theory, &found, wanted)?)
 }
 
-fn are_read(alloc: Global, theory: &Theory) -> bool {
-    ROWS.iter()
-        .all(|row| is_read(alloc, theory, row).is_ok_and(|read| read))
+fn are_read(alloc: Global, theory: &Theory) -> Result<bool, AllocError> {
+    let vars = variables(alloc)?;
+    Ok(
+        ROWS.iter()
+            .all(|row| is_read(alloc, theory, &vars, row) == Ok(true)),
+    )
 }
 
 #[test]
 fn terms(rt: HostRuntime) {
     let theory = read_theory(rt.alloc(), SUMS);
-    assert!(rt; theory.is_ok_and(|theory| are_read(rt.alloc(), &theory)));
+    assert!(rt; theory.is_ok_and(|theory| are_read(rt.alloc(), &theory) == Ok(true)));
 }
 
 #[test]
