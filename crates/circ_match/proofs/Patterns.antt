@@ -1,25 +1,24 @@
--- How bindings are extended at a ground pattern, at an operator and from argument to argument.
+-- How bindings are extended: by a ground pattern, by an operator's arguments one after another, by two patterns.
 use Rattle.std.proofs.Common.{◌≡◌, ◌↔◌, ℕ, Bool, true, false, ◌||◌, List, length, Result, Ok, Err, IfOk, IsTrue, [], is_some, unwrap_or, refl, ap, sym, ◌∙◌}
 use Rattle.circ_term.specs.Tree.{Tree, Trees, Var, App, none, more, list_of, trees_of, list_of-trees_of, is_ground, are_ground}
 use Rattle.circ_term.specs.Substitution.{Substitution, KeepsSorts, instance, instances}
 use Rattle.circ_term.specs.Subst.{Bound, found, substitution_of}
 use Rattle.circ_term.proofs.Instances.{instance-is_ground, length-instances}
 use Rattle.std.proofs.lemmas.Bool.{and_parts}
-use Rattle.circ_match.specs.Matcher.{IsMatcher, Makes, MakeAll, has_variable, have_variable}
-use Rattle.circ_match.specs.Extending.{Agrees, Extends, BindsBesides}
+use Rattle.circ_match.specs.Matcher.{IsMatcher, Makes, has_variable, have_variable}
+use Rattle.circ_match.specs.Extending.{MakeAll, Agrees, Extends, BindsBesides}
 
--- what asks the same of a substitution extends alike
+-- problems that the same substitutions solve
 extends_alike : (σ ρ : List Bound) (P Q : Substitution → Type 0) (b : Bool) → ((τ : Substitution) → P τ ↔ Q τ) → Extends σ ρ P b → Extends σ ρ Q b
 extends_alike σ ρ P Q true e h = λ τ k. ((λ a. let x = (h τ k).0 a in (x.0, (e τ).0 x.1)), (λ x. (h τ k).1 (x.0, (e τ).1 x.1)))
 extends_alike σ ρ P Q false e h = λ τ k a q. h τ k a ((e τ).1 q)
 
--- a ground pattern is its own instance
+-- a ground pattern is its own instance, and binds nothing
 pub extends_ground : (σ : List Bound) (pattern term : Tree) (b : Bool) → is_ground pattern ≡ true → (IsTrue b ↔ (pattern ≡ term))
     → Extends σ σ (Makes pattern term) b
 extends_ground σ pattern term true g h = λ τ k. ((λ a. (a, instance-is_ground τ pattern g ∙ h.0 refl)), (λ x. x.0))
 extends_ground σ pattern term false g h = λ τ k a m. absurd (let z = h.1 (sym (instance-is_ground τ pattern g) ∙ m) in cc)
 
--- a ground pattern has no variable
 mutual
   pub has_variable-is_ground : (t : Tree) (n s : ℕ) → is_ground t ≡ true → has_variable t n s ≡ false
   has_variable-is_ground (Var m k) n s g = absurd (cc)
@@ -55,12 +54,12 @@ extends_application (Ok b) σ ρ pattern term f s g k ps ts p t same_op same_sor
     back : (τ : Substitution) → instance τ pattern ≡ term → instances τ ps ≡ ts
     back τ e = args (instances τ ps) ts (ap (instance τ) p ∙ e ∙ sym t)
 
--- lists of different lengths
-pub other_length : (τ : Substitution) (ps ts : List Tree) → MakeAll (trees_of ps) (trees_of ts) τ → length ps ≡ length ts
-other_length τ ps ts e =
+-- only as many terms as there are patterns
+pub same_length : (τ : Substitution) (ps ts : List Tree) → MakeAll (trees_of ps) (trees_of ts) τ → length ps ≡ length ts
+same_length τ ps ts e =
     sym (ap length (list_of-trees_of ps)) ∙ sym (length-instances τ (trees_of ps)) ∙ ap (λ us. length (list_of us)) e ∙ ap length (list_of-trees_of ts)
 
--- the first argument is made by what is bound at it, the others by what is bound behind
+-- from one argument to the next
 pub makes_next : (τ : Substitution) (A B C : Type 0) (p t : Tree) (ps ts : Trees) → (B ↔ (A × Makes p t τ)) → ((A × MakeAll (more p ps) (more t ts) τ) ↔ C)
     → (B × MakeAll ps ts τ) ↔ C
 makes_next τ A B C p t ps ts one all = (
@@ -75,7 +74,7 @@ binds_next false b c d e p q = rw p q
 agrees_itself : (σ : List Bound) → Agrees (substitution_of σ) σ
 agrees_itself σ n s t e = ap (λ o. unwrap_or o (Var n s)) e
 
--- what two patterns ask, one after the other
+-- the bindings that two patterns make, one after the other, from none
 pub matcher_of_both : (σ ρ : List Bound) (P Q : Substitution → Type 0) (vs ws : (number sort : ℕ) → Bool) → KeepsSorts (substitution_of ρ)
     → Extends [] σ P true → Extends σ ρ Q true → BindsBesides [] σ vs true → BindsBesides σ ρ ws true
     → IsMatcher (λ τ. P τ × Q τ) (λ n s. vs n s || ws n s) ρ

@@ -1,13 +1,13 @@
-//! Patterns are gone over from the left beside their terms, and the variables are bound on the way.
+//! A pattern is gone over from the left beside its term, and its variables are bound on the way.
 ghost use Rattle.std.specs.Prelude.{◌||◌, IfOk};
 ghost use Rattle.circ_term.specs.Tree.{Var, trees_of};
-ghost use Rattle.circ_match.specs.Matcher.{Makes, MakeAll, has_variable, have_variable, Matches};
-ghost use Rattle.circ_match.specs.Extending.{Extends, BindsBesides};
+ghost use Rattle.circ_match.specs.Matcher.{Makes, Matches, has_variable, have_variable};
+ghost use Rattle.circ_match.specs.Extending.{MakeAll, Extends, BindsBesides};
 
 use circ_term::{Kind, Subst, Term};
 use std::alloc::{AllocError, Global};
 
-/// The substitution that makes the pattern the term. A variable is matched only by a term of its
+/// The substitution that makes the pattern the term. A variable can be given only a term of its
 /// sort.
 pub fn match_term(alloc: Global, pattern: &Term, term: &Term) -> Result<Option<Subst>, AllocError>
     ensures { IfOk result (Matches (Makes pattern.now term.now) (has_variable pattern.now)) }
@@ -20,7 +20,8 @@ pub fn match_term(alloc: Global, pattern: &Term, term: &Term) -> Result<Option<S
     Ok(Some(subst))
 }
 
-/// The one substitution that makes `left` the term `a` and `right` the term `b`.
+/// The substitution that makes `left` the term `a` and `right` the term `b`: a variable that both
+/// have is given one term.
 pub fn match_pair(
     alloc: Global,
     left: &Term,

@@ -3,9 +3,9 @@ use Rattle.std.proofs.lemmas.List.{drop_all}
 use Rattle.circ_term.specs.Tree.{trees_of}
 use Rattle.circ_term.specs.Subst.{found}
 use Rattle.circ_term.proofs.Within.{depth_at, drop_read}
-use Rattle.circ_match.specs.Matcher.{MakeAll, has_variable, have_variable}
-use Rattle.circ_match.specs.Extending.{Agrees}
-use Rattle.circ_match.proofs.Patterns.{extends_ground, binds_ground, extends_application, other_length, makes_next, binds_next}
+use Rattle.circ_match.specs.Matcher.{has_variable, have_variable}
+use Rattle.circ_match.specs.Extending.{MakeAll, Agrees}
+use Rattle.circ_match.proofs.Patterns.{extends_ground, binds_ground, extends_application, same_length, makes_next, binds_next}
 use Rattle.circ_match.proofs.matching.+extend.Goals as goal
 
 pub extend-returns-then-is_ground-clause-makes : goal.extend-returns-then-is_ground-clause-makes
@@ -24,7 +24,7 @@ extend-returns-else-sort-term_sort-clause-makes t c =
     c.in-Application-Application.ensures.value c.in-Application-Application.ensures'.value (cc) (cc) c.extend_all.ensures.makes
 
 pub extend_all-returns-then-patterns-terms-clause-makes : goal.extend_all-returns-then-patterns-terms-clause-makes
-extend_all-returns-then-patterns-terms-clause-makes t c = λ τ k a e. absurd (omega (arith, other_length τ c.args.patterns.now c.args.terms.now e))
+extend_all-returns-then-patterns-terms-clause-makes t c = λ τ k a e. absurd (omega (arith, same_length τ c.args.patterns.now c.args.terms.now e))
 
 pub extend_all-extend-requires : goal.extend_all-extend-requires
 extend_all-extend-requires t c = (omega (arith, depth_at c.args.patterns.now c.loop-i.i c.index-patterns-i.result (omega arith) c.index-patterns-i.is), tt)

@@ -2,8 +2,8 @@ use Rattle.std.proofs.Common.{◌≡◌, ◌↔◌, ◌||◌, ◌+◌, ◌*◌, 
 use Rattle.circ_term.specs.Tree.{trees_of, depth_of, depths_of}
 use Rattle.circ_term.specs.Substitution.{Substitution, KeepsSorts}
 use Rattle.circ_term.specs.Subst.{found}
-use Rattle.circ_match.specs.Matcher.{MakeAll, have_variable}
-use Rattle.circ_match.specs.Extending.{Agrees}
+use Rattle.circ_match.specs.Matcher.{have_variable}
+use Rattle.circ_match.specs.Extending.{MakeAll, Agrees}
 use Rattle.circ_match.proofs.matching.+extend.Given as goal
 
 abbrev pub decreases-extend : goal.decreases-extend
