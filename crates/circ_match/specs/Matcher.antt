@@ -1,5 +1,5 @@
 -- Matching: which substitutions make patterns the terms.
-use Rattle.std.specs.Prelude.{◌≡◌, ℕ, Bool, false, ◌==◌, ◌&&◌, ◌||◌, List, Option, Some, None, is_some}
+use Rattle.std.specs.Prelude.{◌≡◌, ◌↔◌, ℕ, Bool, true, false, ◌==◌, ◌&&◌, ◌||◌, List, Option, Some, None, is_some}
 use Rattle.circ_term.specs.Tree.{Tree, Trees, Var, App, none, more}
 use Rattle.circ_term.specs.Substitution.{Substitution, KeepsSorts, instance}
 use Rattle.circ_term.specs.Subst.{Bound, found, substitution_of}
@@ -28,3 +28,8 @@ pub record IsMatcher (Solves : Substitution → Type 0) (variables : (number sor
 abbrev pub Matches : (Solves : Substitution → Type 0) (variables : (number sort : ℕ) → Bool) → Option (List Bound) → Type 0
 Matches Solves variables (Some σ) = IsMatcher Solves variables σ
 Matches Solves variables None = (τ : Substitution) → KeepsSorts τ → Solves τ → ⊥
+
+-- Two substitutions make the same of a pattern exactly where they give its variables the same terms.
+abbrev pub VariablesDecide : Type 0
+VariablesDecide = (σ τ : Substitution) (pattern : Tree)
+    → (instance σ pattern ≡ instance τ pattern) ↔ ((n s : ℕ) → has_variable pattern n s ≡ true → σ n s ≡ τ n s)

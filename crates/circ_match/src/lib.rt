@@ -5,6 +5,7 @@
 //! once, beside its term, and what a variable is bound to is shared, not copied.
 #![tactic(auto)]
 
+pub mod laws;
 mod matching;
 
 pub use matching::{match_pair, match_term};
