@@ -1,15 +1,10 @@
 -- In a larger set more paths are special, and more is guarded.
 use Rattle.std.specs.Prelude.{ℕ, List, [], ◌∷◌}
-use Rattle.std.specs.List.{Contains}
 use Rattle.circ_term.specs.Tree.{Tree, Var, App}
 use Rattle.circ_theory.specs.Theory.{Theory}
 use Rattle.circ_special.specs.declared.place.Place.{Place}
-use Rattle.circ_special.specs.Special.{IsSpecial, place}
+use Rattle.circ_special.specs.Special.{IsSpecial, IsWithin, place}
 use Rattle.circ_special.specs.Guarded.{IsGuardedAt, by_visible, by_place, by_hidden, Guarded}
-
--- each place of G is one of F
-abbrev pub IsWithin : (G F : List Place) → Type 0
-IsWithin G F = (g : Place) → Contains G g → Contains F g
 
 pub special_more : (G F : List Place) → IsWithin G F → (t : Tree) (p : List ℕ) → IsSpecial G t p → IsSpecial F t p
 special_more G F w t [] h = tt

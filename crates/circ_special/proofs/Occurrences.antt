@@ -1,6 +1,7 @@
 -- What the steps of `guarded` find is what it means.
 use Rattle.std.proofs.Common.{◌≡◌, ◌<◌, ◌≤◌, ◌+◌, ℕ, Bool, List, [], ◌∷◌, ◌++◌, Option, Some, None, IsTrue, ◌↔◌, ◌⊎◌, inl, inr}
 use Rattle.std.proofs.Common.{length, length-append, take, drop, zero, suc, refl, sym, ap, subst, ◌∙◌, arith}
+use Rattle.std.proofs.Common.{append-nil, append_assoc, take-take, take_at, drop_at}
 use Rattle.std.specs.Prelude.{slice_set}
 use Rattle.std.specs.List.{slice_get, Contains}
 use Rattle.std.proofs.lemmas.Bool.{cases_lt}
@@ -11,18 +12,16 @@ use Rattle.circ_term.proofs.Paths.{nowhere, Down, down}
 use Rattle.circ_theory.specs.Theory.{Derivative}
 use Rattle.circ_theory.specs.WellFormed.{IsWellFormed}
 use Rattle.circ_theory.specs.Experiment.{derived}
-use Rattle.circ_special.specs.declared.guard.Question.{Question}
+use Rattle.circ_theory.proofs.Rewriting.{contains_at}
+use Rattle.circ_special.specs.declared.guard.Asked.{Asked}
 use Rattle.circ_special.specs.Special.{IsSpecial}
 use Rattle.circ_special.specs.Guarded.{IsInstanceAt, by_visible, by_place, by_hidden}
 use Rattle.circ_special.specs.Occurrences.{IsGuarded, GuardedBelow, AllGuardedBelow, Counts, IsHoleAt, IsHoleOf, IsObserved}
 use Rattle.circ_special.proofs.Instances.{fits_exactly}
 
-contains_at : {X : Type 0} (xs : List X) (i : ℕ) (x : X) → slice_get xs i ≡ Some x → Contains xs x
-contains_at xs i x g = (i, slice_get_within xs i x g, get_or_from_slice_get xs i x x g)
-
 -- ---- an occurrence that is observed
 
-observed_guards : (a : Question) → IsWellFormed a.theory.now → (p : List ℕ) → IsObserved a p → IsGuarded a p
+observed_guards : (a : Asked) → IsWellFormed a.theory.now → (p : List ℕ) → IsObserved a p → IsGuarded a p
 observed_guards a ok p (k, o) =
     let th = a.theory.now in
     let d = o.derivative in
@@ -38,7 +37,7 @@ observed_guards a ok p (k, o) =
       | inr v ↦ by_hidden d q r o.hole.cut i v.0 v.1
     ]
 
-instance_observed : (a : Question) → IsWellFormed a.theory.now → (p : List ℕ) (d : Derivative) (q r : List ℕ) → p ≡ q ++ r
+instance_observed : (a : Asked) → IsWellFormed a.theory.now → (p : List ℕ) (d : Derivative) (q r : List ℕ) → p ≡ q ++ r
     → IsInstanceAt a.theory.now a.root.now a.id a.sort d q r → Counts a q d.body → IsObserved a p
 instance_observed a ok p d q r cut i counts =
     let th = a.theory.now in
@@ -59,50 +58,42 @@ instance_observed a ok p d q r cut i counts =
     )
 
 -- an occurrence that is guarded stands at a special path, or a derivative observes it
-guarded_by : (a : Question) → IsWellFormed a.theory.now → (p : List ℕ) → IsGuarded a p → IsSpecial a.gamma.now a.root.now p ⊎ IsObserved a p
+guarded_by : (a : Asked) → IsWellFormed a.theory.now → (p : List ℕ) → IsGuarded a p → IsSpecial a.gamma.now a.root.now p ⊎ IsObserved a p
 guarded_by a ok p (by_visible d q r cut i v) = inr (instance_observed a ok p d q r cut i (inl v))
 guarded_by a ok p (by_place h) = inl h
 guarded_by a ok p (by_hidden d q r cut i k h) = inr (instance_observed a ok p d q r cut i (inr (k, h)))
 
-pub guarded_exact : (a : Question) → IsWellFormed a.theory.now → (p : List ℕ) (r : Bool) → (IsSpecial a.gamma.now a.root.now p → ⊥)
+pub guarded_exact : (a : Asked) → IsWellFormed a.theory.now → (p : List ℕ) (r : Bool) → (IsSpecial a.gamma.now a.root.now p → ⊥)
     → (IsTrue r ↔ IsObserved a p) → IsTrue r ↔ IsGuarded a p
 guarded_exact a ok p r off e =
     ((λ h. observed_guards a ok p (e.0 h)), (λ g. elim (guarded_by a ok p g) [ inl h ↦ absurd (off h) | inr h ↦ e.1 h ]))
 
 -- ---- below a variable, and below an application
 
-append_nil : (xs : List ℕ) → xs ++ [] ≡ xs
-append_nil [] = refl
-append_nil (x ∷ xs) = ap (λ ys. x ∷ ys) (append_nil xs)
-
-append_one : (xs : List ℕ) (i : ℕ) (p : List ℕ) → (xs ++ i ∷ []) ++ p ≡ xs ++ i ∷ p
-append_one [] i p = refl
-append_one (x ∷ xs) i p = ap (λ ys. x ∷ ys) (append_one xs i p)
-
-pub variable_below : (a : Question) (q : List ℕ) (m k : ℕ) (r : Bool) → IsTrue r ↔ (Var m k ≡ Var a.id a.sort → IsGuarded a q)
+pub variable_below : (a : Asked) (q : List ℕ) (m k : ℕ) (r : Bool) → IsTrue r ↔ (Var m k ≡ Var a.id a.sort → IsGuarded a q)
     → IsTrue r ↔ GuardedBelow a q (Var m k)
-variable_below a q m k r e = ((λ h. below (e.0 h)), (λ g. e.1 (λ z. subst (IsGuarded a) (append_nil q) (g [] (ap Some z)))))
+variable_below a q m k r e = ((λ h. below (e.0 h)), (λ g. e.1 (λ z. subst (IsGuarded a) (append-nil q) (g [] (ap Some z)))))
   where
     below : (Var m k ≡ Var a.id a.sort → IsGuarded a q) → GuardedBelow a q (Var m k)
-    below f [] z = subst (IsGuarded a) (sym (append_nil q)) (f (same_Some (Var m k) (Var a.id a.sort) z))
+    below f [] z = subst (IsGuarded a) (sym (append-nil q)) (f (same_Some (Var m k) (Var a.id a.sort) z))
     below f (i ∷ p) z = nowhere p (Var a.id a.sort) z
 
-pub application_below : (a : Question) (q : List ℕ) (f k : ℕ) (ts : Trees) (r : Bool) → IsTrue r ↔ AllGuardedBelow a q (list_of ts)
+pub application_below : (a : Asked) (q : List ℕ) (f k : ℕ) (ts : Trees) (r : Bool) → IsTrue r ↔ AllGuardedBelow a q (list_of ts)
     → IsTrue r ↔ GuardedBelow a q (App f k ts)
 application_below a q f k ts r e =
-    ((λ h. below (e.0 h)), (λ g. e.1 (λ i t z p y. subst (IsGuarded a) (sym (append_one q i p)) (g (i ∷ p) (rw z y)))))
+    ((λ h. below (e.0 h)), (λ g. e.1 (λ i t z p y. subst (IsGuarded a) (sym (append_assoc q (i ∷ []) p)) (g (i ∷ p) (rw z y)))))
   where
     at_arg : AllGuardedBelow a q (list_of ts) → (i : ℕ) (p : List ℕ) (o : Option Tree) → slice_get (list_of ts) i ≡ o
         → at (App f k ts) (i ∷ p) ≡ Some (Var a.id a.sort) → IsGuarded a (q ++ i ∷ p)
     at_arg all i p None z y = nowhere p (Var a.id a.sort) (rw z at y)
-    at_arg all i p (Some t) z y = subst (IsGuarded a) (append_one q i p) (all i t z p (rw z at y))
+    at_arg all i p (Some t) z y = subst (IsGuarded a) (append_assoc q (i ∷ []) p) (all i t z p (rw z at y))
 
     below : AllGuardedBelow a q (list_of ts) → GuardedBelow a q (App f k ts)
     below all [] z = absurd (let y = same_Some (App f k ts) (Var a.id a.sort) z in cc)
     below all (i ∷ p) z = at_arg all i p (slice_get (list_of ts) i) refl z
 
 -- the first arguments, and one more
-pub one_more : (a : Question) (q : List ℕ) (ts : List Tree) (i : ℕ) (t : Tree) → slice_get ts i ≡ Some t → GuardedBelow a (q ++ i ∷ []) t
+pub one_more : (a : Asked) (q : List ℕ) (ts : List Tree) (i : ℕ) (t : Tree) → slice_get ts i ≡ Some t → GuardedBelow a (q ++ i ∷ []) t
     → ((k : ℕ) (u : Tree) → k < i → slice_get ts k ≡ Some u → GuardedBelow a (q ++ k ∷ []) u)
     → (k : ℕ) (u : Tree) → k < i + 1 → slice_get ts k ≡ Some u → GuardedBelow a (q ++ k ∷ []) u
 one_more a q ts i t e g each k u l z = elim (cases_lt k i) [
@@ -116,34 +107,17 @@ one_more a q ts i t e g each k u l z = elim (cases_lt k i) [
 
 -- ---- the path in its room
 
-take_shorter : (n : ℕ) (xs ys : List ℕ) → take (n + 1) xs ≡ take (n + 1) ys → take n xs ≡ take n ys
-take_shorter n xs ys e = sym (shorter n xs) ∙ ap (take n) e ∙ shorter n ys
-  where
-    succ : (n : ℕ) → suc n + 1 ≡ suc (n + 1)
-    succ n = omega arith
-
-    shorter : (n : ℕ) (xs : List ℕ) → take n (take (n + 1) xs) ≡ take n xs
-    shorter zero xs = refl
-    shorter (suc n) [] = rw (succ n) refl
-    shorter (suc n) (x ∷ xs) = rw (succ n) (ap (λ ys. x ∷ ys) (shorter n xs))
-
 pub path_here : (len i : ℕ) (old now : List ℕ) → len < length now → take len now ≡ take len old
     → take (len + 1) (slice_set now len i) ≡ take len old ++ i ∷ []
 path_here len i old now h e = take_more_set now len i h ∙ ap (λ q. q ++ i ∷ []) e
 
 pub path_kept : (len i : ℕ) (old now new : List ℕ) → take len now ≡ take len old → take (len + 1) new ≡ take (len + 1) (slice_set now len i)
     → take len new ≡ take len old
-path_kept len i old now new e f = take_shorter len new (slice_set now len i) f ∙ take-set now len i ∙ e
+path_kept len i old now new e f =
+    let shorter : (xs : List ℕ) → take len (take (len + 1) xs) ≡ take len xs = λ xs. take-take len (len + 1) xs (omega arith) in
+    sym (shorter new) ∙ ap (take len) f ∙ shorter (slice_set now len i) ∙ take-set now len i ∙ e
 
 -- ---- where a path can be cut
-
-front_of : (xs ys : List ℕ) → take (length xs) (xs ++ ys) ≡ xs
-front_of [] ys = refl
-front_of (x ∷ xs) ys = ap (λ zs. x ∷ zs) (front_of xs ys)
-
-rest_of : (xs ys : List ℕ) → drop (length xs) (xs ++ ys) ≡ ys
-rest_of [] ys = refl
-rest_of (x ∷ xs) ys = rest_of xs ys
 
 arg_depth : (ts : Trees) (i : ℕ) (a : Tree) → slice_get (list_of ts) i ≡ Some a → depth_of a ≤ depths_of ts
 arg_depth none i a e = absurd (cc)
@@ -159,13 +133,13 @@ at_short (i ∷ p) t u e =
     omega (arith, at_short p d.arg u d.there, arg_depth d.args i d.arg d.got, ap depth_of d.is)
 
 -- a cut is at a number of steps, of which at most the body's depth are left
-pub record IsCutAt (a : Question) (p : List ℕ) (body : Tree) : Type 0 where
+pub record IsCutAt (a : Asked) (p : List ℕ) (body : Tree) : Type 0 where
   pub number : ℕ
   pub within : number ≤ length p
   pub late : length p < number + depth_of body
   pub hole : IsHoleAt a (take number p) (drop number p) body
 
-pub cut_at : (a : Question) (p : List ℕ) (body : Tree) → IsHoleOf a p body → IsCutAt a p body
+pub cut_at : (a : Asked) (p : List ℕ) (body : Tree) → IsHoleOf a p body → IsCutAt a p body
 cut_at a p body h =
     let k = length h.front in
     let P : List ℕ → Type 0 = λ xs. IsHoleAt a xs (drop k p) body in
@@ -175,5 +149,5 @@ cut_at a p body h =
       number = k;
       within = omega arith;
       late = omega (arith, at_short h.rest body (Var 0 a.sort) h.hole.hole);
-      hole = subst P (sym (ap (take k) h.cut ∙ front_of h.front h.rest)) (subst Q (sym (ap (drop k) h.cut ∙ rest_of h.front h.rest)) h.hole);
+      hole = subst P (sym (ap (take k) h.cut ∙ take_at h.front h.rest k refl)) (subst Q (sym (ap (drop k) h.cut ∙ drop_at h.front h.rest k refl)) h.hole);
     }

@@ -37,3 +37,7 @@ abbrev pub IsSpecial : List Place → Tree → List ℕ → Type 0
 IsSpecial G t [] = Unit {0}
 IsSpecial G (Var n s) (i ∷ p) = ⊥
 IsSpecial G (App f s ts) (i ∷ p) = Contains G (place f i) × (a : Tree) × (slice_get (list_of ts) i ≡ Some a) × IsSpecial G a p
+
+-- each place of G is one of F
+abbrev pub IsWithin : (G F : List Place) → Type 0
+IsWithin G F = (g : Place) → Contains G g → Contains F g

@@ -22,7 +22,7 @@ pub fn guarded(theory: &Theory, gamma: &Gamma, term: &Term, id: u32, sort: u32) 
     ensures { IsTrue result ↔ Guarded theory.now gamma.now term.now id sort }
 {
     term.known();
-    let question = Question {
+    let asked = Asked {
         theory,
         gamma,
         root: term,
@@ -30,10 +30,10 @@ pub fn guarded(theory: &Theory, gamma: &Gamma, term: &Term, id: u32, sort: u32) 
         sort,
     };
     let mut path = room();
-    question.below(term, &mut path, 0)
+    asked.below(term, &mut path, 0)
 }
 
-// Room for each path in a term.
+// Room for each path in a term, which has fewer steps than the term is deep.
 fn room() -> [u16; 1000]
     ensures { length result ≡ MOST_DEPTH }
 {
@@ -42,7 +42,7 @@ fn room() -> [u16; 1000]
 
 // What is asked: whether the variable is guarded in the root.
 #[derive(Clone, Copy)]
-struct Question<'a> {
+struct Asked<'a> {
     theory: &'a Theory,
     gamma: &'a Gamma,
     root: &'a Term,
@@ -50,7 +50,7 @@ struct Question<'a> {
     sort: u32,
 }
 
-impl Question<'_> {
+impl Asked<'_> {
     // Whether each occurrence in the subterm at the path, which has this length, is guarded.
     #[cycle(below)]
     fn below(&self, term: &Term, path: &mut [u16], len: usize) -> bool
@@ -84,7 +84,8 @@ impl Question<'_> {
 
     // Whether the variable at the path is another one, or is guarded.
     fn at_variable(&self, variable: &Term, path: &[u16]) -> bool
-        ensures { IsTrue result ↔ (variable.now ≡ Var self.now.id self.now.sort → IsGuarded self.now path.now) }
+        ensures { IsTrue result ↔
+            (variable.now ≡ Var self.now.id self.now.sort → IsGuarded self.now path.now) }
     {
         if is_variable(variable, self.id, self.sort) {
             self.is_guarded(path)
@@ -160,13 +161,13 @@ impl Question<'_> {
     }
 
     // Whether an instance of the body at the path counts: it is visible, or the path is special.
-    fn counts(&self, path: &[u16], body: &Term) -> bool
-        ensures { IsTrue result ↔ Counts self.now path.now body.now }
+    fn counts(&self, front: &[u16], body: &Term) -> bool
+        ensures { IsTrue result ↔ Counts self.now front.now body.now }
     {
         if !self.theory.is_hidden(body.sort()) {
             return true;
         }
-        self.gamma.on_path(self.root, path)
+        self.gamma.on_path(self.root, front)
     }
 }
 

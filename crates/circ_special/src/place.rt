@@ -9,15 +9,17 @@ use circ_term::{Kind, Term};
 use circ_theory::Theory;
 use std::marker::Model;
 
-/// An argument of an operator, by the operator's number and the argument's, from 0.
+/// An argument of an operator.
 #[derive(Clone, Copy, PartialEq, Eq)]
 pub struct Place {
+    /// The operator's number.
     pub op: u32,
+    /// The argument's number, from 0.
     pub arg: u16,
 }
 
-/// A special set: places that increase by operator, then argument. It holds places of the theory
-/// that it was made for.
+/// A special set: places that increase by operator, then argument. The type keeps their order, and
+/// not that they are places of the theory that the set was made for.
 #[derive(Drop)]
 pub struct Gamma {
     places: Vec<Place>,

@@ -2,7 +2,7 @@ use Rattle.std.proofs.Common.{◌≡◌, ℕ, ◌<◌, ◌+◌, ◌*◌, ◌++�
 use Rattle.std.specs.List.{slice_get}
 use Rattle.circ_term.specs.Tree.{Tree, depth_of, depths_of, trees_of}
 use Rattle.circ_special.specs.Occurrences.{GuardedBelow}
-use Rattle.circ_special.proofs.guard.Question.+below.Given as goal
+use Rattle.circ_special.proofs.guard.Asked.+below.Given as goal
 
 abbrev pub invariant-all_below-loop-i : goal.invariant-all_below-loop-i
 invariant-all_below-loop-i l = record {

@@ -1,4 +1,4 @@
-use Rattle.circ_special.proofs.guard.Question.at_variable.Goals as goal
+use Rattle.circ_special.proofs.guard.Asked.at_variable.Goals as goal
 
 pub returns-then-is_variable : goal.returns-then-is_variable
 returns-then-is_variable c =

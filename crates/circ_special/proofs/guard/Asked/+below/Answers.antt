@@ -4,7 +4,7 @@ use Rattle.circ_term.specs.Tree.{Tree, args_of, trees_of, list_of-trees_of, dept
 use Rattle.circ_term.proofs.Within.{depth_at}
 use Rattle.circ_special.specs.Occurrences.{GuardedBelow, AllGuardedBelow}
 use Rattle.circ_special.proofs.Occurrences.{variable_below, application_below, path_here, path_kept, one_more}
-use Rattle.circ_special.proofs.guard.Question.+below.Goals as goal
+use Rattle.circ_special.proofs.guard.Asked.+below.Goals as goal
 
 pub below-all_below-requires : goal.below-all_below-requires
 below-all_below-requires t c =

@@ -2,7 +2,7 @@ use Rattle.std.proofs.Common.{◌≡◌, ℕ, subst, inl, inr, arith}
 use Rattle.std.proofs.lemmas.Bool.{cases_lt}
 use Rattle.std.proofs.lemmas.Option.{slice_get_within}
 use Rattle.circ_special.specs.Occurrences.{IsObservedBy}
-use Rattle.circ_special.proofs.guard.Question.is_observed.Goals as goal
+use Rattle.circ_special.proofs.guard.Asked.is_observed.Goals as goal
 
 pub loop-number-preserved : goal.loop-number-preserved
 loop-number-preserved c = λ k l o. elim (cases_lt k c.loop-number.number) [
