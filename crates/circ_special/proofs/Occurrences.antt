@@ -3,10 +3,10 @@ use Rattle.std.proofs.Common.{◌≡◌, ◌<◌, ◌≤◌, ◌+◌, ℕ, Bool,
 use Rattle.std.proofs.Common.{length, length-append, take, drop, zero, suc, refl, sym, ap, subst, ◌∙◌, arith}
 use Rattle.std.proofs.Common.{append-nil, append_assoc, take-take, take_at, drop_at}
 use Rattle.std.specs.Prelude.{slice_set}
-use Rattle.std.specs.List.{slice_get, Contains}
+use Rattle.std.specs.List.{slice_get}
 use Rattle.std.proofs.lemmas.Bool.{cases_lt}
 use Rattle.std.proofs.lemmas.List.{take-set, take_more_set}
-use Rattle.std.proofs.lemmas.Option.{same_Some, slice_get_within, get_or_from_slice_get, slice_get_read}
+use Rattle.std.proofs.lemmas.Option.{same_Some, slice_get_read}
 use Rattle.circ_term.specs.Tree.{Tree, Trees, Var, App, none, more, list_of, depth_of, depths_of, at}
 use Rattle.circ_term.proofs.Paths.{nowhere, Down, down}
 use Rattle.circ_theory.specs.Theory.{Derivative}
