@@ -1,0 +1,5 @@
+pub mod Special
+pub mod Guarded
+pub mod Places
+pub mod Fitting
+pub mod Occurrences
