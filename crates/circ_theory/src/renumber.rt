@@ -33,7 +33,8 @@ pub fn renumbered(alloc: Global, left: &Term, right: &Term) -> Result<(Term, Ter
     instances(&subst, left, right)
 }
 
-/// Adds the term's variables to those that were seen so far, by first occurrence.
+/// Adds the term's variables to those that were seen so far, by first occurrence. After want of
+/// memory some of them are added.
 #[cycle(gather)]
 pub fn gather(term: &Term, variables: &mut IndexSet<Occurring>) -> Result<(), AllocError>
     ensures { OnOk result (map variable_of variables.new.keys ≡
