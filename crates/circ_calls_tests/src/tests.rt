@@ -3,6 +3,7 @@ ghost use Rattle.std.specs.Prelude.{IsTrue};
 ghost use Rattle.circ_mixfix.specs.Answers.{declared_by, HaveSorts};
 
 use circ_lexer::{LexFault, Span, Tokens};
+use circ_match::{match_pair, match_term};
 use circ_mixfix::{ParseFault, Reading, parse_one, parse_pair, print};
 use circ_outer::{SureShelf, SureSink};
 use circ_read::read_theory;
@@ -30,6 +31,22 @@ fn are_exchanged(terms: &[Term]) -> bool {
 fn bound_terms(rt: HostRuntime) {
     let terms = exchanged(&mut Subst::new(rt.alloc()));
     assert!(rt; terms.is_ok_and(|terms| are_exchanged(&terms)));
+}
+
+fn is_bound(matcher: &Option<Subst>, number: u32) -> bool {
+    match matcher {
+        Some(matcher) => matcher.get(number, 0).is_some(),
+        None => false,
+    }
+}
+
+#[test]
+fn matchers(rt: HostRuntime) {
+    let (zero, one) = (Term::var(0, 0), Term::var(1, 0));
+    let of_term = match_term(rt.alloc(), &zero, &one);
+    let of_pair = match_pair(rt.alloc(), &zero, &one, &one, &zero);
+    assert!(rt; of_term.is_ok_and(|matcher| is_bound(&matcher, 0)));
+    assert!(rt; of_pair.is_ok_and(|matcher| is_bound(&matcher, 1)));
 }
 
 #[test]
