@@ -6,5 +6,10 @@
 #![tactic(auto)]
 
 mod links;
+mod table;
 
 pub use links::{Chain, Link, Way, Why};
+pub use table::TableBuilder;
+
+/// The most terms of a table.
+pub const MOST_TERMS: usize = 16_777_216;
