@@ -5,7 +5,8 @@ use Rattle.std.proofs.Common.{ap, sym, subst, ◌∙◌, arith, append_assoc, ap
 use Rattle.circ_term.specs.Tree.{Tree, Trees, App, list_of, trees_of, list_of-trees_of}
 use Rattle.circ_term.proofs.Within.{drop_read}
 use Rattle.circ_replay.specs.declared.TheConstants.{MOST_TERMS}
-use Rattle.circ_replay.specs.Table.{has, number_in, entered, added, all_added, Continues, Enters, SoFar, NumbersSoFar}
+use Rattle.circ_replay.specs.Table.{has, number_in, entered, added, all_added, Numbers}
+use Rattle.circ_replay.specs.Growing.{Continues, SoFar, NumbersSoFar}
 use Rattle.circ_replay.specs.Roots.{application, HasRoot}
 use Rattle.circ_replay.proofs.Tables.{added_has, all_added_have, added_continues, all_added_continues, continues_self, continues_more, continues_length, number_stays}
 
@@ -39,7 +40,7 @@ module _ (old mid : List Tree) (f s : ℕ) (ts : List Tree) (t : Tree) (is : App
       let Q : List Tree → Type 0 = λ table. AllByRecursion (λ a. has table a ≡ true) (list_of (trees_of ts)) in
       subst P is (record { arguments = subst Q (sym m) (all_added_have old (trees_of ts)); root = ap (application f s) e })
 
-  pub application_added : {E : Type 0} (new : List Tree) (r : Result (Option ℕ) E) → Enters mid new t r → NumbersSoFar old new t r
+  pub application_added : {E : Type 0} (new : List Tree) (r : Result (Option ℕ) E) → Numbers mid new (entered mid t) t r → NumbersSoFar old new t r
   application_added {E = E} new r x = go r x
     where
       whole : entered mid t ≡ added old t
@@ -48,7 +49,7 @@ module _ (old mid : List Tree) (f s : ℕ) (ts : List Tree) (t : Tree) (is : App
       on : new ≡ mid → Continues old new
       on e = let P : List Tree → Type 0 = Continues old in subst P (sym (e ∙ m)) (all_added_continues old (trees_of ts))
 
-      go : (r : Result (Option ℕ) E) → Enters mid new t r → NumbersSoFar old new t r
+      go : (r : Result (Option ℕ) E) → Numbers mid new (entered mid t) t r → NumbersSoFar old new t r
       go (Ok (Some n)) x = (x.0 ∙ whole, x.1)
       go (Ok None) x = let P : List Tree → Type 0 = λ table. MOST_TERMS < length table in (on x.0, subst P whole x.1)
       go (Err e) x = on x

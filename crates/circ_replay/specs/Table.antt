@@ -1,7 +1,7 @@
 -- The table of a proof that is being written: a list of terms, each of which is there once and after its arguments.
-use Rattle.std.specs.Prelude.{◌≡◌, ℕ, ◌≤◌, ◌<◌, Bool, true, false, if◌then◌else◌, List, [], ◌∷◌, ◌++◌, length, map, Option, Some, None, Result, Ok, Err}
+use Rattle.std.specs.Prelude.{◌≡◌, ℕ, ◌≤◌, ◌<◌, Bool, true, false, if◌then◌else◌, List, [], ◌∷◌, ◌++◌, length, Option, Some, None, Result, Ok, Err}
 use Rattle.std.specs.List.{AllByRecursion, list_any, position_or_len}
-use Rattle.circ_term.specs.Tree.{Tree, Trees, Var, App, none, more, args_of, list_of}
+use Rattle.circ_term.specs.Tree.{Tree, Trees, Var, App, none, more, args_of}
 use Rattle.circ_term.specs.Order.{is_same}
 use Rattle.circ_replay.specs.declared.TheConstants.{MOST_TERMS}
 
@@ -27,11 +27,11 @@ abbrev mutual
   all_added table none = table
   all_added table (more t ts) = all_added (added table t) ts
 
--- The number of the term in the table that has it. Or that table would be too long, and the old one stays.
-abbrev pub Numbers : {E : Type 0} → (old new : List Tree) → Tree → Result (Option ℕ) E → Type 0
-Numbers old new t (Ok (Some n)) = (new ≡ added old t) × (n ≡ number_in new t)
-Numbers old new t (Ok None) = (new ≡ old) × (MOST_TERMS < length (added old t))
-Numbers old new t (Err e) = new ≡ old
+-- What a call answers: the term's number in the table grown. Or that would be too long, and the old one stays.
+abbrev pub Numbers : {E : Type 0} → (old new grown : List Tree) → Tree → Result (Option ℕ) E → Type 0
+Numbers old new grown t (Ok (Some n)) = (new ≡ grown) × (n ≡ number_in new t)
+Numbers old new grown t (Ok None) = (new ≡ old) × (MOST_TERMS < length grown)
+Numbers old new grown t (Err e) = new ≡ old
 
 -- a term that can go last: its arguments are there, and it is not
 pub record IsNext (before : List Tree) (t : Tree) : Type 0 where
@@ -42,33 +42,7 @@ abbrev pub AreNext : List Tree → List Tree → Type 0
 AreNext before [] = Unit {0}
 AreNext before (t ∷ ts) = IsNext before t × AreNext (before ++ t ∷ []) ts
 
+-- each term can go last in the table before it
 pub record IsTable (table : List Tree) : Type 0 where
   pub few : length table ≤ MOST_TERMS
   pub in_order : AreNext [] table
-
--- what the calls answer on the way, where a refusal leaves what was added
-
--- the second table begins with the first
-abbrev pub Continues : (old new : List Tree) → Type 0
-Continues old new = (rest : List Tree) × (new ≡ old ++ rest)
-
-abbrev pub SoFar : {N E : Type 0} → (old new goal : List Tree) → (N → Type 0) → Result (Option N) E → Type 0
-SoFar old new goal right (Ok (Some n)) = (new ≡ goal) × right n
-SoFar old new goal right (Ok None) = Continues old new × (MOST_TERMS < length goal)
-SoFar old new goal right (Err e) = Continues old new
-
-abbrev pub NumbersSoFar : {E : Type 0} → (old new : List Tree) → Tree → Result (Option ℕ) E → Type 0
-NumbersSoFar old new t r = SoFar old new (added old t) (λ n. n ≡ number_in new t) r
-
-abbrev pub NumbersAllSoFar : {N E : Type 0} → (old new : List Tree) → Trees → (N → List ℕ) → Result (Option N) E → Type 0
-NumbersAllSoFar old new ts view r = SoFar old new (all_added old ts) (λ v. view v ≡ map (number_in new) (list_of ts)) r
-
-abbrev pub Enters : {E : Type 0} → (old new : List Tree) → Tree → Result (Option ℕ) E → Type 0
-Enters old new t (Ok (Some n)) = (new ≡ entered old t) × (n ≡ number_in new t)
-Enters old new t (Ok None) = (new ≡ old) × (MOST_TERMS < length (entered old t))
-Enters old new t (Err e) = new ≡ old
-
-abbrev pub Puts : {E : Type 0} → (old new : List Tree) → Tree → Result Bool E → Type 0
-Puts old new t (Ok true) = (new ≡ old ++ t ∷ []) × (length old < MOST_TERMS)
-Puts old new t (Ok false) = (new ≡ old) × (MOST_TERMS ≤ length old)
-Puts old new t (Err e) = new ≡ old

@@ -1,10 +1,10 @@
 //! The table of a proof that is being written.
-ghost use Rattle.std.specs.Prelude.{◌≡◌, [], take, IfOk};
+ghost use Rattle.std.specs.Prelude.{◌≡◌, [], take, Some, IfOk};
 ghost use Rattle.std.specs.List.{slice_get};
 ghost use Rattle.std.specs.Option.{IfSome};
-ghost use Rattle.std.specs.Prelude.{Some};
 ghost use Rattle.circ_term.specs.Tree.{trees_of};
-ghost use Rattle.circ_replay.specs.Table.{IsTable, Numbers, NumbersSoFar, NumbersAllSoFar, Enters, Puts};
+ghost use Rattle.circ_replay.specs.Table.{IsTable, Numbers, added, entered};
+ghost use Rattle.circ_replay.specs.Growing.{NumbersSoFar, NumbersAllSoFar, Puts};
 ghost use Rattle.circ_replay.specs.Roots.{HasRoot, plain_root};
 
 use crate::MOST_TERMS;
@@ -71,7 +71,7 @@ impl TableBuilder {
     /// where the table would then have too many terms. It is unchanged then, and after want of
     /// memory. Costs a look-up for each node of the term, counted as a tree, and copies none.
     pub fn number(&mut self, term: &Term) -> Result<Option<u32>, AllocError>
-        ensures exact { Numbers self.old self.new term.now result }
+        ensures exact { Numbers self.old self.new (added self.old term.now) term.now result }
         ensures named { IfOk result (λ o. IfSome o (λ n. slice_get self.new n ≡ Some term.now)) }
     {
         let count = self.terms.len();
@@ -129,7 +129,7 @@ impl TableBuilder {
     // The number of the term with this root. The term goes last where it is new.
     fn enter(&mut self, root: Root, term: &Term) -> Result<Option<u32>, AllocError>
         requires { HasRoot self.old (plain_root root) term.now }
-        ensures { Enters self.old self.new term.now result }
+        ensures { Numbers self.old self.new (entered self.old term.now) term.now result }
     {
         let (number, fresh) = self.roots.insert_full(root)?;
         if !fresh {
