@@ -8,7 +8,8 @@ use Rattle.circ_replay.specs.declared.TheConstants.{MOST_TERMS}
 use Rattle.circ_replay.specs.Table.{has, number_in, entered, added, all_added, Numbers}
 use Rattle.circ_replay.specs.Growing.{Continues, SoFar, NumbersSoFar}
 use Rattle.circ_replay.specs.Roots.{application, HasRoot}
-use Rattle.circ_replay.proofs.Tables.{added_has, all_added_have, added_continues, all_added_continues, continues_self, continues_more, continues_length, number_stays}
+use Rattle.circ_replay.proofs.Tables.{added_has, all_added_have, added_continues, all_added_continues}
+use Rattle.circ_replay.proofs.Tables.{continues_self, continues_more, continues_length, number_stays}
 
 pub too_many : (table : List Tree) (t : Tree) (ts : Trees) → MOST_TERMS < length (added table t) → MOST_TERMS < length (all_added (added table t) ts)
 too_many table t ts h =
@@ -19,7 +20,8 @@ module _ (table : List Tree) (ts : List Tree) (i : ℕ) (t : Tree) (h : i < leng
   pub next_added : all_added table (trees_of (drop i ts)) ≡ all_added (added table t) (trees_of (drop (i + 1) ts))
   next_added = ap (λ us. all_added table (trees_of us)) (drop_read ts i t h e)
 
-  pub next_number : (grown later : List Tree) (ns more : List ℕ) (n : ℕ) → grown ≡ added table t → n ≡ number_in grown t → more ≡ ns ++ n ∷ [] → Continues grown later
+  pub next_number : (grown later : List Tree) (ns more : List ℕ) (n : ℕ) → grown ≡ added table t → n ≡ number_in grown t
+      → more ≡ ns ++ n ∷ [] → Continues grown later
       → ((any : List Tree) → Continues table any → ns ++ map (number_in any) (drop i ts) ≡ map (number_in any) ts)
       → more ++ map (number_in later) (drop (i + 1) ts) ≡ map (number_in later) ts
   next_number grown later ns more n g m p longer so_far =
@@ -61,9 +63,11 @@ module _ (table ts : List Tree) (i : ℕ) (e : drop i ts ≡ []) where
       → (table ≡ all_added old (trees_of ts)) × (ns ≡ map (number_in table) (list_of (trees_of ts)))
   all_numbered old ns made numbers = (
     ap (λ us. all_added table (trees_of us)) (sym e) ∙ made,
-    sym (append-nil ns) ∙ ap (λ us. ns ++ map (number_in table) us) (sym e) ∙ numbers table (continues_self table) ∙ ap (map (number_in table)) (sym (list_of-trees_of ts)),
+    sym (append-nil ns) ∙ ap (λ us. ns ++ map (number_in table) us) (sym e) ∙ numbers table (continues_self table)
+        ∙ ap (map (number_in table)) (sym (list_of-trees_of ts)),
   )
 
-pub refused : {N E : Type 0} (old new goal : List Tree) (right : N → Type 0) (r : Result (Option N) E) → IsErr r → Continues old new → SoFar old new goal right r
+pub refused : {N E : Type 0} (old new goal : List Tree) (right : N → Type 0) (r : Result (Option N) E) → IsErr r → Continues old new
+    → SoFar old new goal right r
 refused old new goal right (Ok o) e h = absurd (cc)
 refused old new goal right (Err f) e h = h

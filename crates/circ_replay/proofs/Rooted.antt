@@ -1,5 +1,6 @@
 -- A table finds its terms by their roots.
-use Rattle.std.specs.Prelude.{◌≡◌, ℕ, zero, suc, ◌+◌, ◌<◌, ◌≤◌, ◌==◌, ◌&&◌, nat_eq, Bool, true, false, ◌||◌, not, if◌then◌else◌, List, [], ◌∷◌, ◌++◌, length, take, map, refl}
+use Rattle.std.specs.Prelude.{◌≡◌, ℕ, zero, suc, ◌+◌, ◌<◌, ◌≤◌, ◌==◌, nat_eq, Bool, true, false, ◌&&◌, ◌||◌, not, if◌then◌else◌}
+use Rattle.std.specs.Prelude.{List, [], ◌∷◌, ◌++◌, length, take, map, refl}
 use Rattle.std.specs.List.{slice_get, AllByRecursion, list_any, position_or_len}
 use Rattle.std.specs.Cmp.Lexicographic.{pointwise}
 use Rattle.std.proofs.Common.{ap, sym, subst, ◌∙◌, arith, append_assoc, append-nil, length-append, length-take}
@@ -98,7 +99,8 @@ in_order before (t ∷ ts) (r ∷ rs) h = (h.0, in_order (before ++ t ∷ []) ts
 
 -- the look-up of a root is that of its term
 
-module _ (eq : Root → Root → Bool) (right : (j k : Root) → eq j k ≡ true → plain_root j ≡ plain_root k) (whole : (j k : Root) → plain_root j ≡ plain_root k → eq j k ≡ true)
+module _ (eq : Root → Root → Bool) (right : (j k : Root) → eq j k ≡ true → plain_root j ≡ plain_root k)
+    (whole : (j k : Root) → plain_root j ≡ plain_root k → eq j k ≡ true)
     (table : List Tree) (r : Root) (t : Tree) (root : HasRoot table (plain_root r) t) where
   one_test : (k : Root) (u : Tree) → Have table (args_of u) → plain_root k ≡ root_in table u → eq r k ≡ is_same t u
   one_test k u h e = go (eq r k) (is_same t u) refl refl

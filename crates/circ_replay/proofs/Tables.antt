@@ -65,7 +65,8 @@ pub number_absent : (table : List Tree) (t : Tree) → has table t ≡ false →
 number_absent [] t h = refl
 number_absent (u ∷ table) t h = go (is_same t u) (number_absent table t) h
   where
-    go : (b : Bool) → (has table t ≡ false → number_in table t ≡ length table) → (b || has table t) ≡ false → (if not b then 1 + number_in table t else 0) ≡ length (u ∷ table)
+    go : (b : Bool) → (has table t ≡ false → number_in table t ≡ length table) → (b || has table t) ≡ false
+        → (if not b then 1 + number_in table t else 0) ≡ length (u ∷ table)
     go true ih h = absurd (cc)
     go false ih h = let r = ih h in omega (arith, r)
 

@@ -28,8 +28,8 @@ enum Root {
     },
 }
 
-/// The terms of a proof, each of which is there once and after its arguments. A term's number is its
-/// place.
+/// The terms of a proof, each of which is there once and after its arguments. A term's number is
+/// its place.
 #[derive(Drop)]
 pub struct TableBuilder {
     alloc: Global,
