@@ -1,0 +1,20 @@
+use Rattle.std.proofs.Common.{◌≡◌, ◌++◌, ◌+◌, ◌*◌, List, drop, map}
+use Rattle.circ_term.specs.Tree.{Tree, trees_of, depth_of, depths_of}
+use Rattle.circ_replay.specs.Table.{number_in, all_added}
+use Rattle.circ_replay.specs.Growing.{Continues}
+use Rattle.circ_replay.proofs.table.TableBuilder.+add.Given as goal
+
+abbrev pub decreases-add : goal.decreases-add
+decreases-add l = 2 * depth_of l.term.now
+
+abbrev pub decreases-add_all : goal.decreases-add_all
+decreases-add_all l = 2 * depths_of (trees_of l.terms.now) + 1
+
+abbrev pub invariant-add_all-loop-term : goal.invariant-add_all-loop-term
+invariant-add_all-loop-term l =
+    let rest = drop l.term-index l.terms in
+    record {
+      continues : Continues l.fn.self l.self;
+      made : all_added l.self (trees_of rest) ≡ all_added l.fn.self (trees_of l.terms);
+      numbers : (table : List Tree) → Continues l.self table → l.numbers.items ++ map (number_in table) rest ≡ map (number_in table) l.terms;
+    }

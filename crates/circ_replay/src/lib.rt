@@ -1,0 +1,15 @@
+//! What a proof records of rewriting: links, chains of links, why a goal holds, and the table whose
+//! numbers stand in them for terms.
+//!
+//! Contracts see a link as plain data in which numbers stand for terms, or the terms themselves
+//! (`LinkOf`), and so chains and whys. A [`TableBuilder`] is seen as the list of its terms.
+#![tactic(auto)]
+
+mod links;
+mod table;
+
+pub use links::{Chain, Link, Way, Why};
+pub use table::TableBuilder;
+
+/// The most terms of a table.
+pub const MOST_TERMS: usize = 16_777_216;
