@@ -7,6 +7,7 @@ use circ_match::{match_pair, match_term};
 use circ_mixfix::{ParseFault, Reading, parse_one, parse_pair, print};
 use circ_outer::{SureShelf, SureSink};
 use circ_read::read_theory;
+use circ_replay::TableBuilder;
 use circ_show::unobserved;
 use circ_term::{Subst, Term};
 use circ_theory::{Form, FormFault, Text, Theory, in_order, parameters_in_order};
@@ -47,6 +48,13 @@ fn matchers(rt: HostRuntime) {
     let of_pair = match_pair(rt.alloc(), &zero, &one, &one, &zero);
     assert!(rt; of_term.is_ok_and(|matcher| is_bound(&matcher, 0)));
     assert!(rt; of_pair.is_ok_and(|matcher| is_bound(&matcher, 1)));
+}
+
+#[test]
+fn table_numbers(rt: HostRuntime) {
+    let mut table = TableBuilder::new(rt.alloc());
+    let number = table.number(&Term::var(0, 0));
+    assert!(rt; number == Ok(Some(0)));
 }
 
 #[test]

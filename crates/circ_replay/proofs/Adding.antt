@@ -4,14 +4,13 @@ use Rattle.std.specs.List.{AllByRecursion}
 use Rattle.std.proofs.Common.{ap, sym, subst, ◌∙◌, arith, append_assoc, append-nil, get_or}
 use Rattle.circ_term.specs.Tree.{Tree, Trees, App, list_of, trees_of, list_of-trees_of}
 use Rattle.circ_term.proofs.Within.{drop_read}
-use Rattle.circ_replay.specs.declared.TheConstants.{MOST_TERMS}
-use Rattle.circ_replay.specs.Table.{has, number_in, entered, added, all_added, Numbers}
+use Rattle.circ_replay.specs.Table.{has, number_in, entered, added, all_added, Numbers, term_limit}
 use Rattle.circ_replay.specs.Growing.{Continues, SoFar, NumbersSoFar}
 use Rattle.circ_replay.specs.Roots.{application, HasRoot}
 use Rattle.circ_replay.proofs.Tables.{added_has, all_added_have, added_continues, all_added_continues}
 use Rattle.circ_replay.proofs.Tables.{continues_self, continues_more, continues_length, number_stays}
 
-pub too_many : (table : List Tree) (t : Tree) (ts : Trees) → MOST_TERMS < length (added table t) → MOST_TERMS < length (all_added (added table t) ts)
+pub too_many : (table : List Tree) (t : Tree) (ts : Trees) → term_limit < length (added table t) → term_limit < length (all_added (added table t) ts)
 too_many table t ts h =
     let l = continues_length (added table t) (all_added (added table t) ts) (all_added_continues (added table t) ts) in omega (arith, l, h)
 
@@ -53,7 +52,7 @@ module _ (old mid : List Tree) (f s : ℕ) (ts : List Tree) (t : Tree) (is : App
 
       go : (r : Result (Option ℕ) E) → Numbers mid new (entered mid t) t r → NumbersSoFar old new t r
       go (Ok (Some n)) x = (x.0 ∙ whole, x.1)
-      go (Ok None) x = let P : List Tree → Type 0 = λ table. MOST_TERMS < length table in (on x.0, subst P whole x.1)
+      go (Ok None) x = let P : List Tree → Type 0 = λ table. term_limit < length table in (on x.0, subst P whole x.1)
       go (Err e) x = on x
 
 -- at the end of a list

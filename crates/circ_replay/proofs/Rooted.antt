@@ -13,9 +13,8 @@ use Rattle.circ_term.specs.Order.{is_same}
 use Rattle.circ_term.proofs.Order.{same_here, same_itself}
 use Rattle.circ_replay.specs.declared.table.Root.{Root}
 use Rattle.circ_replay.specs.declared.table.Root.TheVariants.{Variable, Application}
-use Rattle.circ_replay.specs.declared.TheConstants.{MOST_TERMS}
 use Rattle.circ_replay.specs.contracts.table.RootPartialEq.TheImpl.{eq-value}
-use Rattle.circ_replay.specs.Table.{has, number_in, entered, AreNext}
+use Rattle.circ_replay.specs.Table.{has, number_in, entered, AreNext, term_limit}
 use Rattle.circ_replay.specs.Roots.{PlainRoot, variable, application, plain_root, root_in, HasRoot, AreRoots, IsKept}
 use Rattle.circ_replay.proofs.Tables.{has_front, number_names, number_stays, number_bound, number_absent}
 
@@ -217,7 +216,7 @@ module _ (r : Root) {table : List Tree} {t : Tree} {rs ss : List Root} {n : ℕ}
 
 -- the table with the new term, and without it again
 module _ {table : List Tree} {t : Tree} {rs ss : List Root} {r : Root} {n : ℕ} (k : IsKept table rs) (new : IsNew table t rs ss r n) where
-  pub kept_push : HasRoot table (plain_root r) t → length table < MOST_TERMS → IsKept (table ++ t ∷ []) ss
+  pub kept_push : HasRoot table (plain_root r) t → length table < term_limit → IsKept (table ++ t ∷ []) ss
   kept_push root room =
       let P : List Root → Type 0 = IsKept (table ++ t ∷ []) in
       let l = length-append table (t ∷ []) in

@@ -1,8 +1,7 @@
 -- A table that grows by a term's subterms, one after another. A refusal leaves what was added.
 use Rattle.std.specs.Prelude.{◌≡◌, ℕ, ◌≤◌, ◌<◌, Bool, true, false, List, [], ◌∷◌, ◌++◌, length, map, Option, Some, None, Result, Ok, Err}
 use Rattle.circ_term.specs.Tree.{Tree, Trees, list_of}
-use Rattle.circ_replay.specs.Table.{number_in, added, all_added}
-use Rattle.circ_replay.specs.declared.TheConstants.{MOST_TERMS}
+use Rattle.circ_replay.specs.Table.{number_in, added, all_added, term_limit}
 
 -- the second table begins with the first
 abbrev pub Continues : (old new : List Tree) → Type 0
@@ -11,7 +10,7 @@ Continues old new = (rest : List Tree) × (new ≡ old ++ rest)
 -- the table is grown, and the answer is right; or that table would be too long
 abbrev pub SoFar : {N E : Type 0} → (old new grown : List Tree) → (N → Type 0) → Result (Option N) E → Type 0
 SoFar old new grown right (Ok (Some n)) = (new ≡ grown) × right n
-SoFar old new grown right (Ok None) = Continues old new × (MOST_TERMS < length grown)
+SoFar old new grown right (Ok None) = Continues old new × (term_limit < length grown)
 SoFar old new grown right (Err e) = Continues old new
 
 -- the number of a term, and those of terms
@@ -23,6 +22,6 @@ NumbersAllSoFar old new ts view r = SoFar old new (all_added old ts) (λ v. view
 
 -- one term goes last, where there is room
 abbrev pub Puts : {E : Type 0} → (old new : List Tree) → Tree → Result Bool E → Type 0
-Puts old new t (Ok true) = (new ≡ old ++ t ∷ []) × (length old < MOST_TERMS)
-Puts old new t (Ok false) = (new ≡ old) × (MOST_TERMS ≤ length old)
+Puts old new t (Ok true) = (new ≡ old ++ t ∷ []) × (length old < term_limit)
+Puts old new t (Ok false) = (new ≡ old) × (term_limit ≤ length old)
 Puts old new t (Err e) = new ≡ old

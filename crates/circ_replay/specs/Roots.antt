@@ -2,8 +2,7 @@
 use Rattle.std.specs.Prelude.{◌≡◌, ℕ, ◌≤◌, true, List, [], ◌∷◌, ◌++◌, length, map}
 use Rattle.std.specs.List.{AllByRecursion}
 use Rattle.circ_term.specs.Tree.{Tree, Var, App, args_of, list_of}
-use Rattle.circ_replay.specs.Table.{has, number_in, IsNext}
-use Rattle.circ_replay.specs.declared.TheConstants.{MOST_TERMS}
+use Rattle.circ_replay.specs.Table.{has, number_in, IsNext, term_limit}
 use Rattle.circ_replay.specs.declared.table.Root.{Root}
 use Rattle.circ_replay.specs.declared.table.Root.TheVariants as root
 
@@ -32,5 +31,5 @@ AreRoots before (t ∷ ts) [] = ⊥
 AreRoots before (t ∷ ts) (r ∷ rs) = IsNext before t × (plain_root r ≡ root_in before t) × AreRoots (before ++ t ∷ []) ts rs
 
 pub record IsKept (table : List Tree) (roots : List Root) : Type 0 where
-  pub few : length table ≤ MOST_TERMS
+  pub few : length table ≤ term_limit
   pub rooted : AreRoots [] table roots

@@ -3,7 +3,10 @@ use Rattle.std.specs.Prelude.{◌≡◌, ℕ, ◌≤◌, ◌<◌, Bool, true, fa
 use Rattle.std.specs.List.{AllByRecursion, list_any, position_or_len}
 use Rattle.circ_term.specs.Tree.{Tree, Trees, Var, App, none, more, args_of}
 use Rattle.circ_term.specs.Order.{is_same}
-use Rattle.circ_replay.specs.declared.TheConstants.{MOST_TERMS}
+
+-- the most terms of a table
+abbrev pub term_limit : ℕ
+term_limit = 16777216
 
 -- whether the term is in the table
 abbrev pub has : List Tree → Tree → Bool
@@ -30,7 +33,7 @@ abbrev mutual
 -- What a call answers: the term's number in the table grown. Or that would be too long, and the old one stays.
 abbrev pub Numbers : {E : Type 0} → (old new grown : List Tree) → Tree → Result (Option ℕ) E → Type 0
 Numbers old new grown t (Ok (Some n)) = (new ≡ grown) × (n ≡ number_in new t)
-Numbers old new grown t (Ok None) = (new ≡ old) × (MOST_TERMS < length grown)
+Numbers old new grown t (Ok None) = (new ≡ old) × (term_limit < length grown)
 Numbers old new grown t (Err e) = new ≡ old
 
 -- a term that can go last: its arguments are there, and it is not
@@ -44,5 +47,5 @@ AreNext before (t ∷ ts) = IsNext before t × AreNext (before ++ t ∷ []) ts
 
 -- each term can go last in the table before it
 pub record IsTable (table : List Tree) : Type 0 where
-  pub few : length table ≤ MOST_TERMS
+  pub few : length table ≤ term_limit
   pub in_order : AreNext [] table

@@ -2,9 +2,8 @@ use Rattle.std.proofs.Common.{◌∙◌, ◌+◌, ◌<◌, List, drop, length, a
 use Rattle.std.proofs.lemmas.List.{drop_all}
 use Rattle.circ_term.specs.Tree.{Tree, trees_of}
 use Rattle.circ_term.proofs.Within.{depth_at}
-use Rattle.circ_replay.specs.Table.{all_added}
+use Rattle.circ_replay.specs.Table.{all_added, term_limit}
 use Rattle.circ_replay.specs.Growing.{Continues}
-use Rattle.circ_replay.specs.declared.TheConstants.{MOST_TERMS}
 use Rattle.circ_replay.proofs.Tables.{added_continues, continues_more}
 use Rattle.circ_replay.proofs.Adding.{too_many, next_added, next_number, application_root, application_added, all_numbered, refused}
 use Rattle.circ_replay.proofs.table.TableBuilder.+add.Goals as goal
@@ -33,7 +32,7 @@ add_all-returns-in_default t c =
     let ts = c.args.terms.now in
     let more = rw c.in_default.is at c.in_ok-number.ensures in
     let next = next_added at.self ts at.term-index c.term-item.result c.loop-term-test.true c.term-item.is in
-    let P : List Tree → Type 0 = λ table. MOST_TERMS < length table in (
+    let P : List Tree → Type 0 = λ table. term_limit < length table in (
       continues_more c.args.self.now at.self c.add.new.self at.invariant.continues more.0,
       subst P (sym next ∙ at.invariant.made) (too_many at.self c.term-item.result (trees_of (drop (at.term-index + 1) ts)) more.1),
     )

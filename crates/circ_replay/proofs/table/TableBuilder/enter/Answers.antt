@@ -1,8 +1,7 @@
 use Rattle.std.proofs.Common.{◌∙◌, ◌∷◌, [], List, length, ◌<◌, length-append, arith, subst, sym, ap}
 use Rattle.circ_term.specs.Tree.{Tree}
-use Rattle.circ_replay.specs.Table.{number_in}
+use Rattle.circ_replay.specs.Table.{number_in, term_limit}
 use Rattle.circ_replay.specs.Roots.{IsKept}
-use Rattle.circ_replay.specs.declared.TheConstants.{MOST_TERMS}
 use Rattle.circ_replay.specs.declared.table.Root.{Root}
 use Rattle.circ_replay.proofs.Tables.{number_last}
 use Rattle.circ_replay.proofs.Rooted.{number_found, old_term, new_term, kept_push, kept_cut}
@@ -67,5 +66,5 @@ returns-in-Ok-false c =
     let new = new_term c.args.root c.self.invariant (rw (← c.self.view_is) at c.requires) e.added e.index e.keys c.if-not-fresh.false in
     let put = rw c.in-Ok-false.field-0-test at c.in-Ok-false.ensures in
     let l = length-append c.self.inside.terms.items (c.args.term.now ∷ []) in
-    let P : List Tree → Type 0 = λ ts. MOST_TERMS < length ts in
+    let P : List Tree → Type 0 = λ ts. term_limit < length ts in
     rw (← c.self.view_is) (put.0, subst P new.grown (omega (arith, l, put.1)))
