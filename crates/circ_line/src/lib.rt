@@ -1,0 +1,2 @@
+//! The text of one line of a proof file, both ways.
+#![tactic(auto)]
