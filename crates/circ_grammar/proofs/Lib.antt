@@ -1,0 +1,9 @@
+pub mod Spelled
+pub mod Complete
+pub mod Finish
+pub mod FirstBad
+pub mod OneAnswer
+pub mod NothingLeftOut
+pub mod Shown
+pub mod ShownBy
+pub mod Now
