@@ -5,16 +5,14 @@ use Rattle.std.specs.List.{AllByRecursion}
 use Rattle.std.proofs.Common.{sym, ◌∙◌, ap, arith, append_assoc, append-nil, zero-add}
 use Rattle.std.proofs.lemmas.Bool.{eq-eqb}
 use Rattle.circ_replay.specs.Plain.{LinkOf, ChainOf, WhyOf, WhysOf, Same_why, Split_why, no_why, more_whys}
-use Rattle.circ_line.specs.Line.{TableLine, Line, head_line, certificate_line, block_line, simplify_line, reduce_line}
-use Rattle.circ_line.specs.Line.{derive_line, done_line, same_line, split_line, end_line}
-use Rattle.circ_grammar.specs.Grammar.{NumberedStep, Simplify_step, Reduce_step, Derive_step, NumberedBlock, NumberedProof, why_count, lines_of, table_lines}
-use Rattle.circ_grammar.specs.Grammar.{place_lines, left_lines, right_lines, goal_lines, chain_lines, why_lines, whys_lines, step_lines, certificate_lines}
-use Rattle.circ_grammar.specs.Grammar.{block_lines, proof_lines, HasGoals, HasParts, BeginsProof}
+use Rattle.circ_line.specs.Line.{TableLine, Line, head_line, certificate_line, block_line, simplify_line, reduce_line, derive_line, done_line, same_line}
+use Rattle.circ_line.specs.Line.{split_line, end_line}
+use Rattle.circ_grammar.specs.Grammar.{NumberedStep, Simplify_step, Reduce_step, Derive_step, NumberedBlock, NumberedProof, why_count, lines_of}
+use Rattle.circ_grammar.specs.Grammar.{table_lines, place_lines, left_lines, right_lines, goal_lines, chain_lines, why_lines, whys_lines, step_lines}
+use Rattle.circ_grammar.specs.Grammar.{certificate_lines, block_lines, proof_lines, HasGoals, HasParts, BeginsProof}
 use Rattle.circ_grammar.specs.Machine.{Front, OpenBlock, OpenSplit, State, begin, tabling, placing, certifying, opened, stepping, simplifying, reducing}
-use Rattle.circ_grammar.specs.Machine.{closed, ended, empty, front, no_steps, open_block, with_goal, with_step, push_why}
-use Rattle.circ_grammar.specs.Machine.{open_split}
-use Rattle.circ_grammar.specs.Machine.{give_why, to_front, to_block, to_step}
-use Rattle.circ_grammar.specs.Machine.{next, run}
+use Rattle.circ_grammar.specs.Machine.{closed, ended, empty, front, no_steps, open_block, with_goal, with_step, push_why, open_split, give_why, to_front}
+use Rattle.circ_grammar.specs.Machine.{to_block, to_step, next, run}
 use Rattle.circ_grammar.proofs.Spelled.{why_count-push, close_block}
 
 -- one line

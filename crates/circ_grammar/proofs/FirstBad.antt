@@ -7,8 +7,7 @@ use Rattle.std.proofs.lemmas.Option.{same_Some, none-some}
 use Rattle.circ_line.specs.Line.{Line}
 use Rattle.circ_line.specs.Text.{line_text, IsInRange}
 use Rattle.circ_grammar.specs.Grammar.{NumberedBlock, NumberedProof, HasParts, proof_lines}
-use Rattle.circ_grammar.specs.FirstBad.{Rules, file_text, AllInRange, AllPass, NoLimit, IsTextOf, Follows, IsGood, PassesLimit, Line_fault}
-use Rattle.circ_grammar.specs.FirstBad.{Limit_fault}
+use Rattle.circ_grammar.specs.FirstBad.{Rules, file_text, AllInRange, AllPass, NoLimit, IsTextOf, Follows, IsGood, PassesLimit, Line_fault, Limit_fault}
 use Rattle.circ_grammar.specs.FirstBad.{IsFaultless, IsFirstBadLine}
 use Rattle.circ_grammar.specs.Machine.{Front, State, begin, ended, next, run, proof_of, front}
 use Rattle.circ_grammar.specs.Reading.{At, NoFeed, NextLine, IsNoLine, IsEnded, HasTexts}
@@ -39,7 +38,7 @@ all-append : (P : Line → Type 0) (a b : List Line) → AllByRecursion P a → 
 all-append P [] b h k = k
 all-append P (l ∷ a) b h k = (h.0, all-append P a b h.1 k)
 
-all_front : (P : Line → Type 0) (a b : List Line) → AllByRecursion P (a ++ b) → AllByRecursion P a
+pub all_front : (P : Line → Type 0) (a b : List Line) → AllByRecursion P (a ++ b) → AllByRecursion P a
 all_front P [] b h = tt
 all_front P (l ∷ a) b h = (h.0, all_front P a b h.1)
 
@@ -78,7 +77,7 @@ cut_list (suc k) [] h = absurd (omega arith)
 cut_list (suc k) (l ∷ ls) h = let c : (a : List Line) × (b : List Line) × (ls ≡ a ++ b) × (length a ≡ k) = cut_list k ls (omega arith) in
     (l ∷ c.0, c.1, ap (λ x. l ∷ x) c.2, omega (arith, c.3))
 
-pass_front : (r : Rules) (before a b : List Line) → AllPass r before (a ++ b) → AllPass r before a
+pub pass_front : (r : Rules) (before a b : List Line) → AllPass r before (a ++ b) → AllPass r before a
 pass_front r before [] b h = tt
 pass_front r before (l ∷ a) b h = (h.0, pass_front r (before ++ (l ∷ [])) a b h.1)
 
@@ -119,7 +118,7 @@ at_faultless ok r bytes ls rest m at = record {
         absurd (false_true (sym no ∙ reached))
 
 -- one line more than has been read
-more_line : HasTexts → (r : Rules) (bytes : List ℕ) (ls : List Line) (rest : List ℕ) (m : State) → At r bytes ls rest m
+pub more_line : HasTexts → (r : Rules) (bytes : List ℕ) (ls : List Line) (rest : List ℕ) (m : State) → At r bytes ls rest m
     → (xs : List Line) (after : List ℕ) → length xs ≡ length ls + 1 → bytes ≡ file_text xs ++ after → AllInRange xs
     → (l : Line) × (xs ≡ ls ++ (l ∷ [])) × (rest ≡ line_text l ++ (10 ∷ after)) × IsInRange l
 more_line ok r bytes ls rest m at xs after len text fit =
@@ -136,7 +135,7 @@ more_line ok r bytes ls rest m at xs after len text fit =
     go (l ∷ k ∷ more) e t n = absurd (omega arith)
 
 -- The next line is bad where no good line follows, and the file is not whole.
-first_bad : HasTexts → (r : Rules) (bytes : List ℕ) (ls : List Line) (rest : List ℕ) (m : State) → At r bytes ls rest m
+pub first_bad : HasTexts → (r : Rules) (bytes : List ℕ) (ls : List Line) (rest : List ℕ) (m : State) → At r bytes ls rest m
     → (IsGood r bytes (length ls + 1) → ⊥) → (rest ≡ [] → IsEnded m → ⊥) → IsFirstBadLine r bytes (Line_fault (length ls + 1))
 first_bad ok r bytes ls rest m at bad open_yet =
     let e : length ls + 1 - 1 ≡ length ls = omega arith in
@@ -159,7 +158,7 @@ first_bad ok r bytes ls rest m at bad open_yet =
             = same_front ok (proof_lines p) ls [] rest t.fit at.fit (omega arith) (append-nil (file_text (proof_lines p)) ∙ (sym t.text ∙ at.text)) in
         ends p t s.0 s.1 s.2
 
-follows_fit : (xs : List Line) → Follows xs → AllInRange xs
+pub follows_fit : (xs : List Line) → Follows xs → AllInRange xs
 follows_fit xs (p, more, parts, e, fit) = let P : List Line → Type 0 = AllInRange in all_front IsInRange xs more (subst P e fit)
 
 -- 1. No line feed comes any more, and the file is not whole.
@@ -199,7 +198,7 @@ next_line ok r bytes ls rest after m at l (fits, split) xs later len text fit =
     let s : l ≡ q.0 = ok.one l q.0 fits q.3 c.0 in
     q.1 ∙ ap (λ x. ls ++ (x ∷ [])) (sym s)
 
-run_push : (m : State) (ls : List Line) (l : Line) → run begin ls ≡ Some m → (n : State) → run begin (ls ++ (l ∷ [])) ≡ Some n → next m l ≡ Some n
+pub run_push : (m : State) (ls : List Line) (l : Line) → run begin ls ≡ Some m → (n : State) → run begin (ls ++ (l ∷ [])) ≡ Some n → next m l ≡ Some n
 run_push m ls l e n f = let s : (q : State) × (run begin ls ≡ Some q) × (run q (l ∷ []) ≡ Some n) = run-front begin n ls (l ∷ []) f in
     let t : q_of s ≡ m = same_Some (q_of s) m (sym s.1 ∙ e) in
     let P : State → Type 0 = λ q. run q (l ∷ []) ≡ Some n in

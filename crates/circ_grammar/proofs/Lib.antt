@@ -4,6 +4,7 @@ pub mod Finish
 pub mod FirstBad
 pub mod OneAnswer
 pub mod NothingLeftOut
+pub mod WholeTexts
 pub mod Shown
 pub mod ShownBy
 pub mod Now

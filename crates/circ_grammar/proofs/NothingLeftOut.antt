@@ -6,8 +6,7 @@ use Rattle.circ_line.specs.Line.{Line}
 use Rattle.circ_line.specs.Text.{line_text}
 use Rattle.circ_grammar.specs.Grammar.{NumberedProof}
 use Rattle.circ_grammar.specs.FirstBad.{Rules, IsTextOf, LineFault, Line_fault, Limit_fault, IsFirstBadLine}
-use Rattle.circ_grammar.specs.Machine.{State, begin, tabling, placing, certifying, opened, stepping, simplifying, reducing}
-use Rattle.circ_grammar.specs.Machine.{closed, ended, next, proof_of}
+use Rattle.circ_grammar.specs.Machine.{State, begin, tabling, placing, certifying, opened, stepping, simplifying, reducing, closed, ended, next, proof_of}
 use Rattle.circ_grammar.specs.Reading.{At, NoFeed, NextLine, IsEnded, HasTexts}
 use Rattle.circ_grammar.proofs.FirstBad.{bad_cut, bad_form, bad_next, bad_check, bad_limit, go_on, whole}
 

@@ -1,23 +1,17 @@
 -- The part under way goes on as the state does, and tells what a line shows.
-use Rattle.std.specs.Prelude.{map, ◌≡◌, ℕ, ◌+◌, List, [], ◌∷◌, ◌++◌, length, refl, Option, Some, None, cond}
-use Rattle.std.specs.Prelude.{nat_eq, Bool, true, false}
+use Rattle.std.specs.Prelude.{map, ◌≡◌, ℕ, ◌+◌, List, [], ◌∷◌, ◌++◌, length, refl, Option, Some, None, cond, nat_eq, Bool, true, false}
 use Rattle.std.specs.Option.{option_map}
 use Rattle.std.proofs.Common.{◌∙◌, ap}
 use Rattle.std.proofs.lemmas.List.{map-append}
 use Rattle.circ_replay.specs.Plain.{ChainOf, WhyOf, Same_why, Split_why, no_why}
-use Rattle.circ_line.specs.Line.{Line, head_line, table_line, place_line, certificate_line, block_line, goal_line, simplify_line, reduce_line}
-use Rattle.circ_line.specs.Line.{derive_line, done_line, same_line, split_line, left_line, right_line, end_line}
+use Rattle.circ_line.specs.Line.{Line, head_line, table_line, place_line, certificate_line, block_line, goal_line, simplify_line, reduce_line, derive_line}
+use Rattle.circ_line.specs.Line.{done_line, same_line, split_line, left_line, right_line, end_line}
 use Rattle.circ_grammar.specs.Grammar.{Derive_step, why_count}
-use Rattle.circ_grammar.specs.Machine.{OpenBlock, OpenSplit, State, begin, tabling, placing, certifying, opened, stepping, simplifying, reducing}
-use Rattle.circ_grammar.specs.Machine.{closed, ended, empty, no_steps, with_step, push_why}
-use Rattle.circ_grammar.specs.Machine.{open_split}
-use Rattle.circ_grammar.specs.Machine.{give_why, to_step, add_left}
-use Rattle.circ_grammar.specs.Machine.{next}
+use Rattle.circ_grammar.specs.Machine.{OpenBlock, OpenSplit, State, begin, tabling, placing, certifying, opened, stepping, simplifying, reducing, closed}
+use Rattle.circ_grammar.specs.Machine.{ended, empty, no_steps, with_step, push_why, open_split, give_why, to_step, add_left, next}
 use Rattle.circ_grammar.specs.Parts.{Step_part, Done_part}
 use Rattle.circ_grammar.specs.Shown.{at_front, at_step, at_why, at_same, at_split, brings}
-use Rattle.circ_grammar.specs.Now.{Now, Opened, Stepping, Simplifying, Reducing, Closed, now, give_why_now}
-use Rattle.circ_grammar.specs.Now.{is_step, next_now}
-use Rattle.circ_grammar.specs.Now.{front_part, step_part}
+use Rattle.circ_grammar.specs.Now.{Now, Opened, Stepping, Simplifying, Reducing, Closed, now, give_why_now, is_step, next_now, front_part, step_part}
 use Rattle.circ_grammar.specs.Now.{why_part, same_part, split_part, line_part, with_table}
 use Rattle.circ_grammar.proofs.Spelled.{close_block}
 

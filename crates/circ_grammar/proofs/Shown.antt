@@ -1,22 +1,19 @@
 -- Each line shows its parts, and what lines show are the first parts of each proof that begins with them.
-use Rattle.std.specs.Prelude.{◌≡◌, ℕ, ◌+◌, List, [], ◌∷◌, ◌++◌, length, refl, Option, Some, None, cond}
-use Rattle.std.specs.Prelude.{nat_eq, Bool, true, false}
+use Rattle.std.specs.Prelude.{◌≡◌, ℕ, ◌+◌, List, [], ◌∷◌, ◌++◌, length, refl, Option, Some, None, cond, nat_eq, Bool, true, false}
 use Rattle.std.specs.Option.{option_map, option_and_then}
 use Rattle.std.proofs.Common.{sym, ◌∙◌, ap, append_assoc, append-nil, subst}
 use Rattle.std.proofs.lemmas.Option.{same_Some}
 use Rattle.circ_replay.specs.Plain.{LinkOf, ChainOf, WhyOf, Same_why, Split_why, no_why}
 use Rattle.circ_line.specs.Line.{TableLine, Line, head_line, table_line, place_line, certificate_line, block_line, goal_line, simplify_line, reduce_line}
 use Rattle.circ_line.specs.Line.{derive_line, done_line, same_line, split_line, left_line, right_line, end_line}
-use Rattle.circ_grammar.specs.Grammar.{NumberedStep, Simplify_step, Reduce_step, Derive_step, NumberedBlock, NumberedProof, why_count}
-use Rattle.circ_grammar.specs.Grammar.{proof_lines, HasParts}
+use Rattle.circ_grammar.specs.Grammar.{NumberedStep, Simplify_step, Reduce_step, Derive_step, NumberedBlock, NumberedProof, why_count, proof_lines}
+use Rattle.circ_grammar.specs.Grammar.{HasParts}
 use Rattle.circ_grammar.specs.Machine.{Front, OpenBlock, OpenSplit, State, begin, tabling, placing, certifying, opened, stepping, simplifying, reducing}
-use Rattle.circ_grammar.specs.Machine.{closed, ended, empty, front, with_certificate, no_steps, open_block, with_step, block_of, push_why}
-use Rattle.circ_grammar.specs.Machine.{open_split}
-use Rattle.circ_grammar.specs.Machine.{give_why, to_front, to_block, to_step, add_left, on_head, on_table, on_place, on_goal, on_same}
-use Rattle.circ_grammar.specs.Machine.{on_split, on_left, on_right, on_end, next, run}
+use Rattle.circ_grammar.specs.Machine.{closed, ended, empty, front, with_certificate, no_steps, open_block, with_step, block_of, push_why, open_split}
+use Rattle.circ_grammar.specs.Machine.{give_why, to_front, to_block, to_step, add_left, on_head, on_table, on_place, on_goal, on_same, on_split, on_left}
+use Rattle.circ_grammar.specs.Machine.{on_right, on_end, next, run}
 use Rattle.circ_grammar.specs.Parts.{Head_part, Certificate_part, Goals_part, Step_part, Done_part, NumberedPart, step_parts, certificate_parts}
-use Rattle.circ_grammar.specs.Parts.{block_parts}
-use Rattle.circ_grammar.specs.Parts.{blocks_parts, parts_of}
+use Rattle.circ_grammar.specs.Parts.{block_parts, blocks_parts, parts_of}
 use Rattle.circ_grammar.specs.Shown.{front_parts, parts_with, open_parts, shown, at_front, at_step, at_why, at_same, at_split, brings}
 use Rattle.circ_grammar.proofs.Spelled.{option_map_some, close_block}
 use Rattle.circ_grammar.proofs.Complete.{proof_run, run-front}

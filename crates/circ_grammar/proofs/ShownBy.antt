@@ -1,6 +1,6 @@
 -- A reader's state shows just the parts that so many lines show.
-use Rattle.std.specs.Prelude.{if◌then◌else◌, ◌≡◌, ℕ, ◌+◌, ◌-◌, ◌<◌, ◌≤◌, ◌⊎◌, List, [], ◌∷◌, ◌++◌, length, refl, Option, Some, None, cond}
-use Rattle.std.specs.Prelude.{nat_eq, Bool, true, false}
+use Rattle.std.specs.Prelude.{if◌then◌else◌, ◌≡◌, ℕ, ◌+◌, ◌-◌, ◌<◌, ◌≤◌, ◌⊎◌, List, [], ◌∷◌, ◌++◌, length, refl, Option, Some, None, cond, nat_eq, Bool}
+use Rattle.std.specs.Prelude.{true, false}
 use Rattle.std.specs.Option.{option_map, option_and_then}
 use Rattle.std.specs.List.{AllByRecursion}
 use Rattle.std.proofs.Common.{sym, ◌∙◌, ap, arith, append_assoc, append-nil, length-append, inl, inr, subst}
@@ -10,17 +10,14 @@ use Rattle.std.proofs.lemmas.Bool.{lt-ltb, le-ltb, true≢false}
 use Rattle.circ_replay.specs.Plain.{LinkOf, ChainOf, WhyOf, WhysOf, Same_why, Split_why, no_why, more_whys}
 use Rattle.circ_line.specs.Line.{TableLine, Line, head_line, table_line, place_line, certificate_line, block_line, goal_line, simplify_line, reduce_line}
 use Rattle.circ_line.specs.Line.{derive_line, done_line, same_line, split_line, left_line, right_line, end_line}
-use Rattle.circ_grammar.specs.Grammar.{NumberedStep, Simplify_step, Reduce_step, Derive_step, NumberedBlock, NumberedProof, why_count, lines_of, table_lines}
-use Rattle.circ_grammar.specs.Grammar.{place_lines, left_lines, right_lines, goal_lines, chain_lines, why_lines, whys_lines, step_lines, certificate_lines}
-use Rattle.circ_grammar.specs.Grammar.{block_lines, proof_lines, HasParts}
+use Rattle.circ_grammar.specs.Grammar.{NumberedStep, Simplify_step, Reduce_step, Derive_step, NumberedBlock, NumberedProof, why_count, lines_of}
+use Rattle.circ_grammar.specs.Grammar.{table_lines, place_lines, left_lines, right_lines, goal_lines, chain_lines, why_lines, whys_lines, step_lines}
+use Rattle.circ_grammar.specs.Grammar.{certificate_lines, block_lines, proof_lines, HasParts}
 use Rattle.circ_grammar.specs.Machine.{Front, OpenBlock, OpenSplit, State, begin, tabling, placing, certifying, opened, stepping, simplifying, reducing}
-use Rattle.circ_grammar.specs.Machine.{closed, ended, empty, front, with_step, push_why}
-use Rattle.circ_grammar.specs.Machine.{open_split}
-use Rattle.circ_grammar.specs.Machine.{give_why, to_front, to_block, to_step, add_left, on_head, on_table, on_place, on_goal, on_same}
-use Rattle.circ_grammar.specs.Machine.{on_split, on_left, on_right, on_end, next, run}
+use Rattle.circ_grammar.specs.Machine.{closed, ended, empty, front, with_step, push_why, open_split, give_why, to_front, to_block, to_step, add_left}
+use Rattle.circ_grammar.specs.Machine.{on_head, on_table, on_place, on_goal, on_same, on_split, on_left, on_right, on_end, next, run}
 use Rattle.circ_grammar.specs.Parts.{Head_part, Certificate_part, Goals_part, Step_part, Done_part, NumberedPart, step_parts, certificate_parts}
-use Rattle.circ_grammar.specs.Parts.{block_parts}
-use Rattle.circ_grammar.specs.Parts.{blocks_parts, parts_of, part_lines, is_open, wants, shown_by}
+use Rattle.circ_grammar.specs.Parts.{block_parts, blocks_parts, parts_of, part_lines, is_open, wants, shown_by}
 use Rattle.circ_grammar.specs.Shown.{front_parts, parts_with, open_parts, shown}
 use Rattle.circ_grammar.proofs.Spelled.{front_lines, stack_lines, so_far, run_so_far, option_map_some, close_block}
 use Rattle.circ_grammar.proofs.Complete.{run-front, why_run}

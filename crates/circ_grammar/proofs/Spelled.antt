@@ -7,12 +7,10 @@ use Rattle.std.proofs.lemmas.Bool.{eqb-true}
 use Rattle.circ_replay.specs.Plain.{LinkOf, ChainOf, WhyOf, WhysOf, Same_why, Split_why, no_why, more_whys}
 use Rattle.circ_line.specs.Line.{TableLine, Line, head_line, table_line, place_line, certificate_line, block_line, goal_line, simplify_line, reduce_line}
 use Rattle.circ_line.specs.Line.{derive_line, done_line, same_line, split_line, left_line, right_line, end_line}
-use Rattle.circ_grammar.specs.Grammar.{Simplify_step, Reduce_step, Derive_step, NumberedBlock, why_count, lines_of, table_lines}
-use Rattle.circ_grammar.specs.Grammar.{place_lines, left_lines, right_lines, goal_lines, chain_lines, why_lines, whys_lines, step_lines, certificate_lines}
-use Rattle.circ_grammar.specs.Grammar.{block_lines}
+use Rattle.circ_grammar.specs.Grammar.{Simplify_step, Reduce_step, Derive_step, NumberedBlock, why_count, lines_of, table_lines, place_lines, left_lines}
+use Rattle.circ_grammar.specs.Grammar.{right_lines, goal_lines, chain_lines, why_lines, whys_lines, step_lines, certificate_lines, block_lines}
 use Rattle.circ_grammar.specs.Machine.{Front, OpenBlock, OpenSplit, State, begin, tabling, placing, certifying, opened, stepping, simplifying, reducing}
-use Rattle.circ_grammar.specs.Machine.{closed, ended, empty, front, with_certificate, no_steps, open_block, with_step, block_of, push_why}
-use Rattle.circ_grammar.specs.Machine.{open_split}
+use Rattle.circ_grammar.specs.Machine.{closed, ended, empty, front, with_certificate, no_steps, open_block, with_step, block_of, push_why, open_split}
 use Rattle.circ_grammar.specs.Machine.{give_why, to_front, to_block, to_step, add_left_to, add_left, on_head, on_table, on_place, on_goal, on_same}
 use Rattle.circ_grammar.specs.Machine.{on_split, on_left, on_right, on_end, next, run}
 

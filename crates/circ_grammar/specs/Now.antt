@@ -2,13 +2,11 @@
 use Rattle.std.specs.Prelude.{ℕ, ◌+◌, List, [], ◌∷◌, ◌++◌, length, Option, Some, None, cond, nat_eq, Bool, true, false}
 use Rattle.std.specs.Option.{option_map}
 use Rattle.circ_replay.specs.Plain.{LinkOf, ChainOf, WhyOf, Same_why, Split_why, no_why}
-use Rattle.circ_line.specs.Line.{Line, head_line, table_line, place_line, certificate_line, block_line, goal_line, simplify_line, reduce_line}
-use Rattle.circ_line.specs.Line.{derive_line, done_line, same_line, split_line, left_line, right_line, end_line}
+use Rattle.circ_line.specs.Line.{Line, head_line, table_line, place_line, certificate_line, block_line, goal_line, simplify_line, reduce_line, derive_line}
+use Rattle.circ_line.specs.Line.{done_line, same_line, split_line, left_line, right_line, end_line}
 use Rattle.circ_grammar.specs.Grammar.{Simplify_step, Reduce_step, Derive_step, why_count}
-use Rattle.circ_grammar.specs.Machine.{OpenSplit, State, begin, tabling, placing, certifying, opened, stepping, simplifying, reducing}
-use Rattle.circ_grammar.specs.Machine.{closed, ended, empty, push_why}
-use Rattle.circ_grammar.specs.Machine.{open_split}
-use Rattle.circ_grammar.specs.Machine.{add_left, add_right}
+use Rattle.circ_grammar.specs.Machine.{OpenSplit, State, begin, tabling, placing, certifying, opened, stepping, simplifying, reducing, closed, ended, empty}
+use Rattle.circ_grammar.specs.Machine.{push_why, open_split, add_left, add_right}
 use Rattle.circ_grammar.specs.Parts.{PartOf, Head_part, Certificate_part, Goals_part, Step_part, Done_part, NumberedPart}
 
 pub data Now : Type 0 where
@@ -116,7 +114,7 @@ next_now n (left_line l) = next_left n l
 next_now n (right_line l) = next_right n l
 next_now n end_line = next_end n
 
--- The parts that a line shows, by the terms of the table and the part under way.
+-- The parts that a line shows, by the part under way and what stands for the table.
 
 abbrev pub front_part : {T : Type 0} → T → Now → List (PartOf T)
 front_part ts Tabling = Head_part ts [] ∷ []

@@ -1,11 +1,12 @@
 //! What is proved of the grammar. The functions do nothing: a law is a contract.
-ghost use Rattle.std.specs.Prelude.{◌≡◌, ℕ, List, ◌++◌, length, map, Some};
+ghost use Rattle.std.specs.Prelude.{◌≡◌, ℕ, ◌+◌, List, ◌∷◌, ◌++◌, length, map, Some};
 ghost use Rattle.std.specs.Option.{option_map};
 ghost use Rattle.circ_line.specs.Line.{TableLine, Line};
 ghost use Rattle.circ_grammar.specs.Grammar.{NumberedProof, HasParts, BeginsProof, proof_lines};
-ghost use Rattle.circ_grammar.specs.FirstBad.{Rules, IsTextOf, LineFault, IsFirstBadLine};
+ghost use Rattle.circ_grammar.specs.FirstBad.{Rules, file_text, IsTextOf, LineFault, Line_fault};
+ghost use Rattle.circ_grammar.specs.FirstBad.{IsFirstBadLine};
 ghost use Rattle.circ_grammar.specs.Machine.{State, begin, next, run};
-ghost use Rattle.circ_grammar.specs.Reading.{HasTexts};
+ghost use Rattle.circ_grammar.specs.Reading.{HasTexts, NoFeed};
 ghost use Rattle.circ_grammar.specs.Parts.{NumberedPart, parts_of, shown_by};
 ghost use Rattle.circ_grammar.specs.Shown.{shown, brings};
 ghost use Rattle.circ_grammar.specs.Now.{now, next_now, line_part, with_table};
@@ -25,6 +26,18 @@ pub fn nothing_left_out()
     ensures { HasTexts → (r : Rules) (bytes : List ℕ) →
         ((p : NumberedProof) → IsTextOf r p bytes → ⊥) →
         ((f : LineFault) → IsFirstBadLine r bytes f → ⊥) → ⊥ }
+{}
+
+/// Where a proof's text breaks off, the next line is the first bad one, with or without bytes after
+/// the last line feed. So it is where bytes come after the end of a proof's text.
+pub fn whole_texts_only()
+    ensures broken_off { HasTexts → (r : Rules) (p : NumberedProof) (bytes : List ℕ) →
+        IsTextOf r p bytes → (ls : List Line) (l : Line) (later : List Line) (rest : List ℕ) →
+        proof_lines p ≡ ls ++ (l ∷ later) → NoFeed rest →
+        IsFirstBadLine r (file_text ls ++ rest) (Line_fault (length ls + 1)) }
+    ensures goes_on { HasTexts → (r : Rules) (p : NumberedProof) (bytes : List ℕ) →
+        IsTextOf r p bytes → (b : ℕ) (more : List ℕ) →
+        IsFirstBadLine r (bytes ++ (b ∷ more)) (Line_fault (length (proof_lines p) + 1)) }
 {}
 
 /// The machine runs through a list of lines exactly where the list begins a proof.
