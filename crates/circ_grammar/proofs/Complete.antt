@@ -63,11 +63,13 @@ certificates_run : (m : State) (es : List TableLine) (ps : List (ℕ × ℕ)) (c
 certificates_run m es ps cs [] k e = (m, e ∙ ap (λ r. Some (front es ps r)) (sym (append-nil cs)), refl)
 certificates_run m es ps cs (x ∷ xs) k e =
     let r : (n : State) × (to_front n ≡ Some (front es ps ((cs ++ (x ∷ [])) ++ xs)))
-        × (run (certifying (front es ps cs) x) (lines_of certificate_lines xs k) ≡ run n k) =
-        certificates_run (certifying (front es ps cs) x) es ps (cs ++ (x ∷ [])) xs k refl in
-    (r.0, r.1 ∙ ap (λ c. Some (front es ps c)) (append_assoc cs (x ∷ []) xs),
-        step m (certifying (front es ps cs) []) certificate_line _ (ap (λ o. option_map (λ f. certifying f []) o) e)
-            ∙ (certificate_run (front es ps cs) [] x _ ∙ r.2))
+    × (run (certifying (front es ps cs) x) (lines_of certificate_lines xs k) ≡ run n k) =
+    certificates_run (certifying (front es ps cs) x) es ps (cs ++ (x ∷ [])) xs k refl in (
+      r.0,
+      r.1 ∙ ap (λ c. Some (front es ps c)) (append_assoc cs (x ∷ []) xs),
+      step m (certifying (front es ps cs) []) certificate_line _ (ap (λ o. option_map (λ f. certifying f []) o) e)
+          ∙ (certificate_run (front es ps cs) [] x _ ∙ r.2),
+    )
 
 lefts_simplify : (o : OpenBlock) (ls xs : List (LinkOf ℕ)) (k : List Line)
     → run (simplifying o (chain_of ls [])) (lines_of left_lines xs k) ≡ run (simplifying o (chain_of (ls ++ xs) [])) k
@@ -106,15 +108,15 @@ not_eq a b h = grind arith
 whys_rest : (o : OpenBlock) (fs : List OpenSplit) (c : ChainOf ℕ) (t n : ℕ) (ds : WhysOf ℕ) (w : WhyOf ℕ) (vs : WhysOf ℕ) (k : List Line)
     → why_count ds + (why_count vs + 1) ≡ n
     → (0 < why_count vs → run (reducing o (open_split c t n (push_why ds w) ∷ fs) empty) (whys_lines vs k)
-        ≡ run (give_why o fs (Split_why c t (join (push_why ds w) vs))) k)
+    ≡ run (give_why o fs (Split_why c t (join (push_why ds w) vs))) k)
     → run (give_why o (open_split c t n ds ∷ fs) w) (whys_lines vs k) ≡ run (give_why o fs (Split_why c t (join ds (more_whys w vs)))) k
 whys_rest o fs c t n ds w no_why k e ih =
     ap (λ b. run (cond b (give_why o fs (Split_why c t (push_why ds w))) (reducing o (open_split c t n (push_why ds w) ∷ fs) empty)) k)
-        (eq-eqb (why_count ds + 1) n (omega arith))
+    (eq-eqb (why_count ds + 1) n (omega arith))
     ∙ ap (λ r. run (give_why o fs (Split_why c t r)) k) (push-join ds w)
 whys_rest o fs c t n ds w (more_whys v vs) k e ih =
     ap (λ b. run (cond b (give_why o fs (Split_why c t (push_why ds w))) (reducing o (open_split c t n (push_why ds w) ∷ fs) empty))
-        (why_lines v (whys_lines vs k))) (not_eq (why_count ds + 1) n (omega arith))
+    (why_lines v (whys_lines vs k))) (not_eq (why_count ds + 1) n (omega arith))
     ∙ (ih (omega arith) ∙ ap (λ r. run (give_why o fs (Split_why c t r)) k) (join-push ds w (more_whys v vs)))
 
 split_rest : (o : OpenBlock) (fs : List OpenSplit) (c : ChainOf ℕ) (t : ℕ) (ws : WhysOf ℕ) (k : List Line)
@@ -134,6 +136,7 @@ mutual
   why_run o fs (Same_why c) k = chain_reduce o fs c (same_line ∷ k)
   why_run o fs (Split_why c t ws) k = chain_reduce o fs c (split_line t (why_count ws) ∷ whys_lines ws k)
       ∙ split_rest o fs c t ws k (λ h. whys_run o fs c t (why_count ws) no_why ws k h (zero-add (why_count ws)))
+
   pub whys_run : (o : OpenBlock) (fs : List OpenSplit) (c : ChainOf ℕ) (t n : ℕ) (ds : WhysOf ℕ) (ws : WhysOf ℕ) (k : List Line) → 0 < why_count ws
       → why_count ds + why_count ws ≡ n
       → run (reducing o (open_split c t n ds ∷ fs) empty) (whys_lines ws k) ≡ run (give_why o fs (Split_why c t (join ds ws))) k
@@ -154,21 +157,30 @@ goals_run o (g ∷ gs) k = goals_run (with_goal o g.0 g.1) gs k
 
 one_step : (m : State) (o : OpenBlock) (s : NumberedStep) (k : List Line) → to_step m ≡ Some o → (n : State) × (to_step n ≡ Some (with_step o s))
     × (run m (step_lines s k) ≡ run n k)
-one_step m o (Simplify_step c) k e = (simplifying o c, refl,
-    step m (simplifying o empty) simplify_line _ (ap (λ r. option_map (λ q. simplifying q empty) r) e) ∙ chain_simplify o c k)
-one_step m o (Reduce_step w) k e = (stepping (with_step o (Reduce_step w)), refl,
-    step m (reducing o [] empty) reduce_line _ (ap (λ r. option_map (λ q. reducing q [] empty) r) e) ∙ why_run o [] w k)
-one_step m o Derive_step k e = (stepping (with_step o Derive_step), refl,
-    step m (stepping (with_step o Derive_step)) derive_line k (ap (λ r. option_map (λ q. stepping (with_step q Derive_step)) r) e))
+one_step m o (Simplify_step c) k e = (
+  simplifying o c,
+  refl,
+  step m (simplifying o empty) simplify_line _ (ap (λ r. option_map (λ q. simplifying q empty) r) e) ∙ chain_simplify o c k,
+)
+one_step m o (Reduce_step w) k e = (
+  stepping (with_step o (Reduce_step w)),
+  refl,
+  step m (reducing o [] empty) reduce_line _ (ap (λ r. option_map (λ q. reducing q [] empty) r) e) ∙ why_run o [] w k,
+)
+one_step m o Derive_step k e = (
+  stepping (with_step o Derive_step),
+  refl,
+  step m (stepping (with_step o Derive_step)) derive_line k (ap (λ r. option_map (λ q. stepping (with_step q Derive_step)) r) e),
+)
 
 steps_run : (m : State) (o : OpenBlock) (ss : List NumberedStep) (k : List Line) → to_step m ≡ Some o → (n : State) × (to_step n ≡ Some (with_steps o ss))
     × (run m (lines_of step_lines ss k) ≡ run n k)
 steps_run m o [] k e = (m, e ∙ ap (λ r. Some (record { front = o.front; blocks = o.blocks; goals = o.goals; steps = r })) (sym (append-nil o.steps)), refl)
 steps_run m o (s ∷ ss) k e =
     let a : (n : State) × (to_step n ≡ Some (with_step o s)) × (run m (step_lines s (lines_of step_lines ss k)) ≡ run n (lines_of step_lines ss k)) =
-        one_step m o s (lines_of step_lines ss k) e in
+    one_step m o s (lines_of step_lines ss k) e in
     let b : (n : State) × (to_step n ≡ Some (with_steps (with_step o s) ss)) × (run a.0 (lines_of step_lines ss k) ≡ run n k) =
-        steps_run a.0 (with_step o s) ss k a.1 in
+    steps_run a.0 (with_step o s) ss k a.1 in
     (b.0, b.1 ∙ ap (λ r. Some (record { front = o.front; blocks = o.blocks; goals = o.goals; steps = r })) (append_assoc o.steps (s ∷ []) ss), a.2 ∙ b.2)
 
 block_run : (m : State) (f : Front) (bs : List NumberedBlock) (b : NumberedBlock) (k : List Line) → HasGoals b → to_block m ≡ Some (open_block f bs)
@@ -198,13 +210,13 @@ front_block _ f e = absurd (cc)
 
 parts_run : (es : List TableLine) (ps : List (ℕ × ℕ)) (cs : List (List (LinkOf ℕ))) (bs : List NumberedBlock) → 0 < length bs → AllByRecursion HasGoals bs
     → run begin (head_line ∷ lines_of table_lines es (lines_of place_lines ps (lines_of certificate_lines cs (lines_of block_lines bs (end_line ∷ [])))))
-        ≡ Some (ended (front es ps cs) bs)
+    ≡ Some (ended (front es ps cs) bs)
 parts_run es ps cs [] h hs = absurd (omega arith)
 parts_run es ps cs (b ∷ xs) h hs =
     let r : (n : State) × (to_front n ≡ Some (front es ps cs))
-        × (run (placed es ps) (lines_of certificate_lines cs (lines_of block_lines (b ∷ xs) (end_line ∷ [])))
-        ≡ run n (lines_of block_lines (b ∷ xs) (end_line ∷ [])))
-        = certificates_run (placed es ps) es ps [] cs _ (placed_front es ps) in
+    × (run (placed es ps) (lines_of certificate_lines cs (lines_of block_lines (b ∷ xs) (end_line ∷ [])))
+    ≡ run n (lines_of block_lines (b ∷ xs) (end_line ∷ [])))
+    = certificates_run (placed es ps) es ps [] cs _ (placed_front es ps) in
     table_run [] es _ ∙ (places_run es ps _ ∙ (r.2 ∙ blocks_run r.0 (front es ps cs) [] b xs (end_line ∷ []) hs.0 hs.1 (front_block r.0 (front es ps cs) r.1)))
 
 -- The lines of a proof lead to that proof.
@@ -225,4 +237,4 @@ run-front m n (l ∷ a) b e = go (next m l) (λ q. run-front q n a b) e
 pub begins_run : (ls : List Line) → BeginsProof ls → (m : State) × (run begin ls ≡ Some m)
 begins_run ls (p, rest, h, e) =
     let r : (q : State) × (run begin ls ≡ Some q) × (run q rest ≡ Some (ended (front p.table p.places p.certificates) p.blocks)) =
-        run-front begin _ ls rest (ap (run begin) (sym e) ∙ proof_run p h) in (r.0, r.1)
+    run-front begin _ ls rest (ap (run begin) (sym e) ∙ proof_run p h) in (r.0, r.1)

@@ -75,8 +75,8 @@ step_ends m o e = ends_next m (close_block o) done_line refl (ap (option_map clo
 block_ends : (m : State) (o : OpenBlock) → to_block m ≡ Some o → Ends m
 block_ends m o e = ends_next m (opened o) block_line refl (ap (option_map (λ o. opened o)) e)
     (ends_next (opened o) (opened (with_goal o 0 0)) (goal_line 0 0) refl refl (step_ends (opened (with_goal o 0 0)) _
-        (ap (λ z. cond z None (Some (no_steps (with_goal o 0 0))))
-            (not_empty (length (o.goals ++ ((0, 0) ∷ []))) (omega (arith, length-append o.goals ((0, 0) ∷ [])))))))
+    (ap (λ z. cond z None (Some (no_steps (with_goal o 0 0))))
+    (not_empty (length (o.goals ++ ((0, 0) ∷ []))) (omega (arith, length-append o.goals ((0, 0) ∷ [])))))))
 
 -- An open split gets `same` until it is whole.
 frame_ends : (o : OpenBlock) (fs : List OpenSplit) (c : ChainOf ℕ) (t m : ℕ) → ((w : WhyOf ℕ) → Ends (give_why o fs w))
@@ -84,14 +84,14 @@ frame_ends : (o : OpenBlock) (fs : List OpenSplit) (c : ChainOf ℕ) (t m : ℕ)
 frame_ends o fs c t m ih zero ds w e =
     let P : State → Type 0 = Ends in
     subst P (ap (λ b. cond b (give_why o fs (Split_why c t (push_why ds w))) (reducing o (open_split c t m (push_why ds w) ∷ fs) empty))
-        (sym (eq-eqb (why_count ds + 1) m (omega arith)))) (ih (Split_why c t (push_why ds w)))
+    (sym (eq-eqb (why_count ds + 1) m (omega arith)))) (ih (Split_why c t (push_why ds w)))
 frame_ends o fs c t m ih (suc n) ds w e =
     let P : State → Type 0 = Ends in
     subst P (ap (λ b. cond b (give_why o fs (Split_why c t (push_why ds w))) (reducing o (open_split c t m (push_why ds w) ∷ fs) empty))
-        (sym (not_eq (why_count ds + 1) m (omega arith))))
-        (ends_next (reducing o (open_split c t m (push_why ds w) ∷ fs) empty)
-            (give_why o (open_split c t m (push_why ds w) ∷ fs) (Same_why empty)) same_line refl refl
-            (frame_ends o fs c t m ih n (push_why ds w) (Same_why empty) (omega (arith, why_count-push ds w))))
+    (sym (not_eq (why_count ds + 1) m (omega arith))))
+    (ends_next (reducing o (open_split c t m (push_why ds w) ∷ fs) empty)
+    (give_why o (open_split c t m (push_why ds w) ∷ fs) (Same_why empty)) same_line refl refl
+    (frame_ends o fs c t m ih n (push_why ds w) (Same_why empty) (omega (arith, why_count-push ds w))))
 
 give_why_ends : (o : OpenBlock) (fs : List OpenSplit) → AllByRecursion Waits fs → (w : WhyOf ℕ) → Ends (give_why o fs w)
 give_why_ends o [] hs w = step_ends (stepping (with_step o (Reduce_step w))) _ refl
@@ -105,8 +105,8 @@ sound_ends (tabling es) h = inl (block_ends (tabling es) _ refl)
 sound_ends (placing es ps) h = inl (block_ends (placing es ps) _ refl)
 sound_ends (certifying f ls) h = inl (block_ends (certifying f ls) _ refl)
 sound_ends (opened o) h = inl (ends_next (opened o) (opened (with_goal o 0 0)) (goal_line 0 0) refl refl (step_ends (opened (with_goal o 0 0)) _
-        (ap (λ z. cond z None (Some (no_steps (with_goal o 0 0))))
-            (not_empty (length (o.goals ++ ((0, 0) ∷ []))) (omega (arith, length-append o.goals ((0, 0) ∷ [])))))))
+    (ap (λ z. cond z None (Some (no_steps (with_goal o 0 0))))
+    (not_empty (length (o.goals ++ ((0, 0) ∷ []))) (omega (arith, length-append o.goals ((0, 0) ∷ [])))))))
 sound_ends (stepping o) h = inl (step_ends (stepping o) o refl)
 sound_ends (simplifying o c) h = inl (step_ends (simplifying o c) _ refl)
 sound_ends (reducing o fs c) h = inl (ends_next (reducing o fs c) (give_why o fs (Same_why c)) same_line refl refl (give_why_ends o fs h.1 (Same_why c)))
@@ -127,7 +127,7 @@ give_sound o (f ∷ fs) w h hs = go (give_sound o fs (Split_why f.chain f.term (
   where
     go : IsSound (give_why o fs (Split_why f.chain f.term (push_why f.whys w))) → (b : Bool) → nat_eq (why_count f.whys + 1) f.count ≡ b
         → IsSound (cond b (give_why o fs (Split_why f.chain f.term (push_why f.whys w)))
-            (reducing o (open_split f.chain f.term f.count (push_why f.whys w) ∷ fs) empty))
+        (reducing o (open_split f.chain f.term f.count (push_why f.whys w) ∷ fs) empty))
     go ih true e = ih
     go ih false e = let below : why_count f.whys < f.count = hs.0 in
         let other : why_count f.whys + 1 ≡ f.count → ⊥ = eqb-false (why_count f.whys + 1) f.count e in
@@ -255,6 +255,7 @@ run_begins ls m e = go (sound_ends m (run_sound begin m ls tt e))
         → (p : NumberedProof) × (rest : List Line) × HasParts p × (proof_lines p ≡ ls ++ rest) × AllByRecursion (λ l. is_plain l ≡ true) rest
     whole k f bs r ps = let all : run begin (ls ++ k) ≡ Some (ended f bs) = run-append begin m (ended f bs) ls k e r in
         (proof_of f bs, k, run_sound begin (ended f bs) (ls ++ k) tt all, run_so_far begin (ended f bs) (ls ++ k) [] all ∙ append-nil (ls ++ k), ps)
+
     go : (Ends m) ⊎ ((f : Front) × (bs : List NumberedBlock) × (m ≡ ended f bs)) → (p : NumberedProof) × (rest : List Line) × HasParts p
         × (proof_lines p ≡ ls ++ rest) × AllByRecursion (λ l. is_plain l ≡ true) rest
     go (inl (k, f, bs, r, ps)) = whole k f bs r ps

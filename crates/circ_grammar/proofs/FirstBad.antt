@@ -57,9 +57,9 @@ same_front ok [] bs x y h k n e = (bs, refl, e)
 same_front ok (a ∷ xs) [] x y h k n e = absurd (omega arith)
 same_front ok (a ∷ xs) (b ∷ bs) x y h k n e =
     let f : line_text a ++ (10 ∷ (file_text xs ++ x)) ≡ line_text b ++ (10 ∷ (file_text bs ++ y))
-        = sym (append_assoc (line_text a) (10 ∷ file_text xs) x) ∙ (e ∙ append_assoc (line_text b) (10 ∷ file_text bs) y) in
+    = sym (append_assoc (line_text a) (10 ∷ file_text xs) x) ∙ (e ∙ append_assoc (line_text b) (10 ∷ file_text bs) y) in
     let c : (line_text a ≡ line_text b) × (file_text xs ++ x ≡ file_text bs ++ y)
-        = cut (line_text a) (line_text b) (file_text xs ++ x) (file_text bs ++ y) (ok.no_feed a h.0) (ok.no_feed b k.0) f in
+    = cut (line_text a) (line_text b) (file_text xs ++ x) (file_text bs ++ y) (ok.no_feed a h.0) (ok.no_feed b k.0) f in
     let s : a ≡ b = ok.one a b h.0 k.0 c.0 in
     let i : (more : List Line) × (bs ≡ xs ++ more) × (x ≡ file_text more ++ y) = same_front ok xs bs x y h.1 k.1 (omega arith) c.1 in
     (i.0, cc (s, i.1), i.2)
@@ -67,7 +67,7 @@ same_front ok (a ∷ xs) (b ∷ bs) x y h k n e =
 at_follows : (ls : List Line) (m : State) → run begin ls ≡ Some m → AllInRange ls → Follows ls
 at_follows ls m e h =
     let g : (p : NumberedProof) × (rest : List Line) × HasParts p × (proof_lines p ≡ ls ++ rest) × AllByRecursion (λ l. is_plain l ≡ true) rest
-        = run_begins ls m e in
+    = run_begins ls m e in
     let P : List Line → Type 0 = AllInRange in
     (g.0, g.1, g.2, g.3, subst P (sym g.3) (all-append IsInRange ls g.1 h (all_plain g.1 g.4)))
 
@@ -85,12 +85,15 @@ pass_front r before (l ∷ a) b h = (h.0, pass_front r (before ++ (l ∷ [])) a 
 pub good_front : (r : Rules) (bytes : List ℕ) (n k : ℕ) → IsGood r bytes n → k ≤ n → IsGood r bytes k
 good_front r bytes n k (ls, rest, len, text, (p, more, parts, e, fit), pass) h =
     let c : (a : List Line) × (b : List Line) × (ls ≡ a ++ b) × (length a ≡ k) = cut_list k ls (omega arith) in
-    let P : List Line → Type 0 = AllPass r [] in
-    (c.0, file_text c.1 ++ rest, c.3,
-        text ∙ (ap (λ x. file_text x ++ rest) c.2
-        ∙ (ap (λ x. x ++ rest) (file_text-append c.0 c.1) ∙ append_assoc (file_text c.0) (file_text c.1) rest)),
-        (p, c.1 ++ more, parts, e ∙ (ap (λ x. x ++ more) c.2 ∙ append_assoc c.0 c.1 more), fit),
-        pass_front r [] c.0 c.1 (subst P c.2 pass))
+    let P : List Line → Type 0 = AllPass r [] in (
+      c.0,
+      file_text c.1 ++ rest,
+      c.3,
+      text ∙ (ap (λ x. file_text x ++ rest) c.2
+          ∙ (ap (λ x. x ++ rest) (file_text-append c.0 c.1) ∙ append_assoc (file_text c.0) (file_text c.1) rest)),
+      (p, c.1 ++ more, parts, e ∙ (ap (λ x. x ++ more) c.2 ∙ append_assoc c.0 c.1 more), fit),
+      pass_front r [] c.0 c.1 (subst P c.2 pass),
+    )
 
 pub at_good : (r : Rules) (bytes : List ℕ) (ls : List Line) (rest : List ℕ) (m : State) → At r bytes ls rest m → IsGood r bytes (length ls)
 at_good r bytes ls rest m at = (ls, rest, refl, at.text, at_follows ls m at.state at.fit, at.pass)
@@ -106,13 +109,14 @@ limit_at r before (c ∷ a) l more h = ap (λ x. r.limit x l) (sym (append_assoc
 pub at_faultless : HasTexts → (r : Rules) (bytes : List ℕ) (ls : List Line) (rest : List ℕ) (m : State) → At r bytes ls rest m
     → IsFaultless r bytes (length ls)
 at_faultless ok r bytes ls rest m at = record {
-    good = λ k h. good_front r bytes (length ls) k (at_good r bytes ls rest m at) h;
-    within = λ k h z. none_passes k h z }
+  good = λ k h. good_front r bytes (length ls) k (at_good r bytes ls rest m at) h;
+  within = λ k h z. none_passes k h z;
+}
   where
     none_passes : (k : ℕ) → k ≤ length ls → PassesLimit r bytes k → ⊥
     none_passes k h (before, l, after, len, text, fit, reached) =
         let s : (more : List Line) × (ls ≡ (before ++ (l ∷ [])) ++ more) × (after ≡ file_text more ++ rest)
-            = same_front ok (before ++ (l ∷ [])) ls after rest fit at.fit (omega (arith, length-append before (l ∷ []))) (sym text ∙ at.text) in
+        = same_front ok (before ++ (l ∷ [])) ls after rest fit at.fit (omega (arith, length-append before (l ∷ []))) (sym text ∙ at.text) in
         let P : List Line → Type 0 = NoLimit r [] in
         let no : r.limit before l ≡ false = limit_at r [] before l s.0 (subst P s.1 at.within) in
         absurd (false_true (sym no ∙ reached))
@@ -123,7 +127,7 @@ pub more_line : HasTexts → (r : Rules) (bytes : List ℕ) (ls : List Line) (re
     → (l : Line) × (xs ≡ ls ++ (l ∷ [])) × (rest ≡ line_text l ++ (10 ∷ after)) × IsInRange l
 more_line ok r bytes ls rest m at xs after len text fit =
     let s : (more : List Line) × (xs ≡ ls ++ more) × (rest ≡ file_text more ++ after)
-        = same_front ok ls xs rest after at.fit fit (omega arith) (sym at.text ∙ text) in
+    = same_front ok ls xs rest after at.fit fit (omega arith) (sym at.text ∙ text) in
     go s.0 s.1 s.2 (omega (arith, length-append ls s.0, ap length s.1))
   where
     go : (more : List Line) → xs ≡ ls ++ more → rest ≡ file_text more ++ after → length more ≡ 1
@@ -144,18 +148,32 @@ first_bad ok r bytes ls rest m at bad open_yet =
   where
     le_or_more : (a b : ℕ) → (a ≤ b) ⊎ (b < a)
     le_or_more a b = grind arith
+
     ends : (p : NumberedProof) → IsTextOf r p bytes → (more : List Line) → ls ≡ proof_lines p ++ more → [] ≡ file_text more ++ rest → ⊥
-    ends p t [] e f = open_yet (sym f) (front p.table p.places p.certificates, p.blocks,
-        same_Some m (ended (front p.table p.places p.certificates) p.blocks)
-            (sym at.state ∙ (ap (run begin) (e ∙ append-nil (proof_lines p)) ∙ proof_run p t.parts)))
-    ends p t (l ∷ more) e f = omega (arith, ap length f, length-append (line_text l ++ (10 ∷ file_text more)) rest,
-        length-append (line_text l) (10 ∷ file_text more))
+    ends p t [] e f = open_yet (sym f) (
+      front p.table p.places p.certificates,
+      p.blocks,
+      same_Some m (ended (front p.table p.places p.certificates) p.blocks)
+          (sym at.state ∙ (ap (run begin) (e ∙ append-nil (proof_lines p)) ∙ proof_run p t.parts)),
+    )
+    ends p t (l ∷ more) e f = omega (
+      arith,
+      ap length f,
+      length-append (line_text l ++ (10 ∷ file_text more)) rest,
+      length-append (line_text l) (10 ∷ file_text more),
+    )
+
     no_text : (p : NumberedProof) → IsTextOf r p bytes → (length ls + 1 ≤ length (proof_lines p)) ⊎ (length (proof_lines p) < length ls + 1) → ⊥
-    no_text p t (inl h) = bad (good_front r bytes (length (proof_lines p)) (length ls + 1)
-        (proof_lines p, [], refl, t.text ∙ sym (append-nil (file_text (proof_lines p))),
-            (p, [], t.parts, sym (append-nil (proof_lines p)), t.fit), t.pass) h)
+    no_text p t (inl h) = bad (good_front r bytes (length (proof_lines p)) (length ls + 1) (
+      proof_lines p,
+      [],
+      refl,
+      t.text ∙ sym (append-nil (file_text (proof_lines p))),
+      (p, [], t.parts, sym (append-nil (proof_lines p)), t.fit),
+      t.pass,
+    ) h)
     no_text p t (inr h) = let s : (more : List Line) × (ls ≡ proof_lines p ++ more) × ([] ≡ file_text more ++ rest)
-            = same_front ok (proof_lines p) ls [] rest t.fit at.fit (omega arith) (append-nil (file_text (proof_lines p)) ∙ (sym t.text ∙ at.text)) in
+        = same_front ok (proof_lines p) ls [] rest t.fit at.fit (omega arith) (append-nil (file_text (proof_lines p)) ∙ (sym t.text ∙ at.text)) in
         ends p t s.0 s.1 s.2
 
 pub follows_fit : (xs : List Line) → Follows xs → AllInRange xs
@@ -169,7 +187,7 @@ bad_cut ok r bytes ls rest m at h open_yet = first_bad ok r bytes ls rest m at n
     no_good : IsGood r bytes (length ls + 1) → ⊥
     no_good (xs, after, len, text, follows, pass) =
         let q : (l : Line) × (xs ≡ ls ++ (l ∷ [])) × (rest ≡ line_text l ++ (10 ∷ after)) × IsInRange l
-            = more_line ok r bytes ls rest m at xs after len text (follows_fit xs follows) in
+        = more_line ok r bytes ls rest m at xs after len text (follows_fit xs follows) in
         no_cut rest (line_text q.0) after h q.2
 
 not_empty_text : (b after rest : List ℕ) → rest ≡ b ++ (10 ∷ after) → rest ≡ [] → ⊥
@@ -183,7 +201,7 @@ bad_form ok r bytes ls rest b after m at h split none = first_bad ok r bytes ls 
     no_good : IsGood r bytes (length ls + 1) → ⊥
     no_good (xs, later, len, text, follows, pass) =
         let q : (l : Line) × (xs ≡ ls ++ (l ∷ [])) × (rest ≡ line_text l ++ (10 ∷ later)) × IsInRange l
-            = more_line ok r bytes ls rest m at xs later len text (follows_fit xs follows) in
+        = more_line ok r bytes ls rest m at xs later len text (follows_fit xs follows) in
         let c : (b ≡ line_text q.0) × (after ≡ later) = cut b (line_text q.0) after later h (ok.no_feed q.0 q.3) (sym split ∙ q.2) in
         none q.0 q.3 c.0
 
@@ -194,7 +212,7 @@ next_line : HasTexts → (r : Rules) (bytes : List ℕ) (ls : List Line) (rest a
 next_line ok r bytes ls rest after m at l (fits, split) xs later len text fit =
     let q : (l : Line) × (xs ≡ ls ++ (l ∷ [])) × (rest ≡ line_text l ++ (10 ∷ later)) × IsInRange l = more_line ok r bytes ls rest m at xs later len text fit in
     let c : (line_text l ≡ line_text q.0) × (after ≡ later)
-        = cut (line_text l) (line_text q.0) after later (ok.no_feed l fits) (ok.no_feed q.0 q.3) (sym split ∙ q.2) in
+    = cut (line_text l) (line_text q.0) after later (ok.no_feed l fits) (ok.no_feed q.0 q.3) (sym split ∙ q.2) in
     let s : l ≡ q.0 = ok.one l q.0 fits q.3 c.0 in
     q.1 ∙ ap (λ x. ls ++ (x ∷ [])) (sym s)
 
@@ -206,6 +224,7 @@ run_push m ls l e n f = let s : (q : State) × (run begin ls ≡ Some q) × (run
   where
     q_of : (q : State) × (run begin ls ≡ Some q) × (run q (l ∷ []) ≡ Some n) → State
     q_of s = s.0
+
     one : (o : Option State) → option_and_then (λ q. run q []) o ≡ Some n → o ≡ Some n
     one None e = absurd (cc)
     one (Some x) e = e
@@ -264,30 +283,39 @@ bad_limit ok r bytes ls rest after m n at l (fits, split) f pass reached =
     let z : length ls + 1 - 1 ≡ length ls = omega arith in
     let P : ℕ → Type 0 = IsFaultless r bytes in
     let fit : AllInRange (ls ++ (l ∷ [])) = all-append IsInRange ls (l ∷ []) at.fit (fits, tt) in
-    let text : bytes ≡ file_text (ls ++ (l ∷ [])) ++ after = pushed_text bytes ls rest after at.text l split in
-    (omega arith, subst P (sym z) (at_faultless ok r bytes ls rest m at),
-        (ls ++ (l ∷ []), after, omega (arith, length-append ls (l ∷ [])), text,
-            at_follows (ls ++ (l ∷ [])) n (run-append begin m n ls (l ∷ []) at.state (ap (λ o. option_and_then (λ q. run q []) o) f)) fit,
-            pass-push r [] ls l at.pass pass),
-        (ls, l, after, refl, text, fit, reached))
+    let text : bytes ≡ file_text (ls ++ (l ∷ [])) ++ after = pushed_text bytes ls rest after at.text l split in (
+      omega arith,
+      subst P (sym z) (at_faultless ok r bytes ls rest m at),
+      (
+        ls ++ (l ∷ []),
+        after,
+        omega (arith, length-append ls (l ∷ [])),
+        text,
+        at_follows (ls ++ (l ∷ [])) n (run-append begin m n ls (l ∷ []) at.state (ap (λ o. option_and_then (λ q. run q []) o) f)) fit,
+        pass-push r [] ls l at.pass pass,
+      ),
+      (ls, l, after, refl, text, fit, reached),
+    )
 
 -- 6. The next line is read.
 pub go_on : (r : Rules) (bytes : List ℕ) (ls : List Line) (rest after : List ℕ) (m n : State) → At r bytes ls rest m
     → (l : Line) → NextLine rest l after → next m l ≡ Some n → r.passes ls l ≡ true → r.limit ls l ≡ false → At r bytes (ls ++ (l ∷ [])) after n
 go_on r bytes ls rest after m n at l (fits, split) f pass within = record {
-    text = pushed_text bytes ls rest after at.text l split;
-    state = run-append begin m n ls (l ∷ []) at.state (ap (λ o. option_and_then (λ q. run q []) o) f);
-    fit = all-append IsInRange ls (l ∷ []) at.fit (fits, tt);
-    pass = pass-push r [] ls l at.pass pass;
-    within = within-push r [] ls l at.within within }
+  text = pushed_text bytes ls rest after at.text l split;
+  state = run-append begin m n ls (l ∷ []) at.state (ap (λ o. option_and_then (λ q. run q []) o) f);
+  fit = all-append IsInRange ls (l ∷ []) at.fit (fits, tt);
+  pass = pass-push r [] ls l at.pass pass;
+  within = within-push r [] ls l at.within within;
+}
 
 -- 7. The file is whole.
 pub whole : (r : Rules) (bytes : List ℕ) (ls : List Line) (f : Front) (bs : List NumberedBlock) → At r bytes ls [] (ended f bs)
     → IsTextOf r (proof_of f bs) bytes
 whole r bytes ls f bs at = let w : HasParts (proof_of f bs) × (proof_lines (proof_of f bs) ≡ ls) = run_whole ls f bs at.state in
     let F : List Line → Type 0 = AllInRange in let P : List Line → Type 0 = AllPass r [] in let N : List Line → Type 0 = NoLimit r [] in record {
-    parts = w.0;
-    fit = subst F (sym w.1) at.fit;
-    text = at.text ∙ (append-nil (file_text ls) ∙ ap file_text (sym w.1));
-    pass = subst P (sym w.1) at.pass;
-    within = subst N (sym w.1) at.within }
+      parts = w.0;
+      fit = subst F (sym w.1) at.fit;
+      text = at.text ∙ (append-nil (file_text ls) ∙ ap file_text (sym w.1));
+      pass = subst P (sym w.1) at.pass;
+      within = subst N (sym w.1) at.within;
+    }

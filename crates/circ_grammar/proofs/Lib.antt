@@ -8,3 +8,4 @@ pub mod WholeTexts
 pub mod Shown
 pub mod ShownBy
 pub mod Now
+pub mod Feeding

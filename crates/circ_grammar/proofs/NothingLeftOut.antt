@@ -56,9 +56,11 @@ at_line ok r bytes ls rest after m at l line = go (next m l) refl
         → HasAnswer r bytes ⊎ ((n : State) × At r bytes (ls ++ (l ∷ [])) after n)
     limits n e pass true reached = inl (inr (Limit_fault (length ls + 1), bad_limit ok r bytes ls rest after m n at l line e pass reached))
     limits n e pass false within = inr (n, go_on r bytes ls rest after m n at l line e pass within)
+
     checks : (n : State) → next m l ≡ Some n → (b : Bool) → r.passes ls l ≡ b → HasAnswer r bytes ⊎ ((n : State) × At r bytes (ls ++ (l ∷ [])) after n)
     checks n e false fails = inl (inr (Line_fault (length ls + 1), bad_check ok r bytes ls rest after m at l line fails))
     checks n e true pass = limits n e pass (r.limit ls l) refl
+
     go : (o : Option State) → next m l ≡ o → HasAnswer r bytes ⊎ ((n : State) × At r bytes (ls ++ (l ∷ [])) after n)
     go None e = inl (inr (Line_fault (length ls + 1), bad_next ok r bytes ls rest after m at l line e))
     go (Some n) e = checks n e (r.passes ls l) refl
@@ -73,11 +75,15 @@ answer_after ok r bytes none n ls rest m at h ih = go (first_feed rest)
         → HasAnswer r bytes ⊎ ((q : State) × At r bytes (ls ++ (l ∷ [])) after q) → ⊥
     read l after e (inl a) = none a
     read l after e (inr (q, further)) = ih l after q further (omega (arith, h, ap length e, length-append (line_text l) (10 ∷ after)))
+
     go : NoFeed rest ⊎ HasFeed rest → ⊥
     go (inl z) = none (at_end ok r bytes ls rest m at z)
-    go (inr (b, after, z, s)) = none (inr (Line_fault (length ls + 1), bad_form ok r bytes ls rest b after m at z s (λ l fits e.
-        let t : rest ≡ line_text l ++ (10 ∷ after) = s ∙ ap (λ x. x ++ (10 ∷ after)) e in
-        read l after t (at_line ok r bytes ls rest after m at l (fits, t)))))
+    go (inr (b, after, z, s)) = none (inr (
+      Line_fault (length ls + 1),
+      bad_form ok r bytes ls rest b after m at z s (λ l fits e.
+          let t : rest ≡ line_text l ++ (10 ∷ after) = s ∙ ap (λ x. x ++ (10 ∷ after)) e in
+          read l after t (at_line ok r bytes ls rest after m at l (fits, t))),
+    ))
 
 some_answer_from : HasTexts → (r : Rules) (bytes : List ℕ) → (HasAnswer r bytes → ⊥) → (n : ℕ) (ls : List Line) (rest : List ℕ) (m : State)
     → At r bytes ls rest m → length rest < n → ⊥
@@ -93,5 +99,6 @@ some_answer ok r bytes no_text no_bad = some_answer_from ok r bytes none (length
     none : HasAnswer r bytes → ⊥
     none (inl (p, t)) = no_text p t
     none (inr (f, h)) = no_bad f h
+
     start : At r bytes [] bytes begin
     start = record { text = refl; state = refl; fit = tt; pass = tt; within = tt }

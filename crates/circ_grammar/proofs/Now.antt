@@ -21,7 +21,7 @@ give_why_is o (f ∷ fs) w = go (give_why_is o fs (Split_why f.chain f.term (pus
   where
     go : now (give_why o fs (Split_why f.chain f.term (push_why f.whys w))) ≡ give_why_now fs (Split_why f.chain f.term (push_why f.whys w)) → (b : Bool)
         → now (cond b (give_why o fs (Split_why f.chain f.term (push_why f.whys w)))
-            (reducing o (open_split f.chain f.term f.count (push_why f.whys w) ∷ fs) empty))
+        (reducing o (open_split f.chain f.term f.count (push_why f.whys w) ∷ fs) empty))
         ≡ cond b (give_why_now fs (Split_why f.chain f.term (push_why f.whys w))) (Reducing (open_split f.chain f.term f.count (push_why f.whys w) ∷ fs) empty)
     go ih true = ih
     go ih false = refl
@@ -40,7 +40,7 @@ opened_now q f n h = go (nat_eq (length q.goals) 0)
 
 split_is : (o : OpenBlock) (fs : List OpenSplit) (c : ChainOf ℕ) (t k : ℕ) (b : Bool)
     → now (cond b (give_why o fs (Split_why c t no_why)) (reducing o (open_split c t k no_why ∷ fs) empty))
-        ≡ cond b (give_why_now fs (Split_why c t no_why)) (Reducing (open_split c t k no_why ∷ fs) empty)
+    ≡ cond b (give_why_now fs (Split_why c t no_why)) (Reducing (open_split c t k no_why ∷ fs) empty)
 split_is o fs c t k true = give_why_is o fs (Split_why c t no_why)
 split_is o fs c t k false = refl
 
@@ -197,7 +197,6 @@ next_is (ended f bs) (left_line l) = refl
 next_is (ended f bs) (right_line l) = refl
 next_is (ended f bs) end_line = refl
 
-
 why_is : {T : Type 0} (ts : T) (fs : List OpenSplit) (w : WhyOf ℕ) → map (with_table ts) (at_why fs w) ≡ why_part fs w
 why_is ts [] w = refl
 why_is ts (f ∷ fs) w = go (why_is ts fs (Split_why f.chain f.term (push_why f.whys w))) (nat_eq (why_count f.whys + 1) f.count)
@@ -205,7 +204,7 @@ why_is ts (f ∷ fs) w = go (why_is ts fs (Split_why f.chain f.term (push_why f.
     go : map (with_table ts) (at_why fs (Split_why f.chain f.term (push_why f.whys w))) ≡ why_part fs (Split_why f.chain f.term (push_why f.whys w))
         → (b : Bool)
         → map (with_table ts) (cond b (at_why fs (Split_why f.chain f.term (push_why f.whys w))) [])
-            ≡ cond b (why_part fs (Split_why f.chain f.term (push_why f.whys w))) []
+        ≡ cond b (why_part fs (Split_why f.chain f.term (push_why f.whys w))) []
     go ih true = ih
     go ih false = refl
 

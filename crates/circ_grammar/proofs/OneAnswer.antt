@@ -18,8 +18,12 @@ proof_at _ = record { table = []; places = []; certificates = []; blocks = [] }
 
 no_more : (a b : List Line) (more : List Line) (rest : List ℕ) → b ≡ a ++ more → [] ≡ file_text more ++ rest → b ≡ a
 no_more a b [] rest e f = e ∙ append-nil a
-no_more a b (l ∷ more) rest e f = absurd (omega (arith, ap length f, length-append (line_text l ++ (10 ∷ file_text more)) rest,
-    length-append (line_text l) (10 ∷ file_text more)))
+no_more a b (l ∷ more) rest e f = absurd (omega (
+  arith,
+  ap length f,
+  length-append (line_text l ++ (10 ∷ file_text more)) rest,
+  length-append (line_text l) (10 ∷ file_text more),
+))
 
 at_most : (a b : ℕ) → (a ≤ b) ⊎ (b < a)
 at_most a b = grind arith
@@ -31,11 +35,13 @@ one_proof ok r bytes p q t u = go (at_most (length (proof_lines p)) (length (pro
     lines : (x y : NumberedProof) → IsTextOf r x bytes → IsTextOf r y bytes → length (proof_lines x) ≤ length (proof_lines y)
         → proof_lines y ≡ proof_lines x
     lines x y v w h = let s : (more : List Line) × (proof_lines y ≡ proof_lines x ++ more) × ([] ≡ file_text more ++ [])
-            = same_front ok (proof_lines x) (proof_lines y) [] [] v.fit w.fit h (ap (λ z. z ++ []) (sym v.text ∙ w.text)) in
+        = same_front ok (proof_lines x) (proof_lines y) [] [] v.fit w.fit h (ap (λ z. z ++ []) (sym v.text ∙ w.text)) in
         no_more (proof_lines x) (proof_lines y) s.0 [] s.1 s.2
+
     same : proof_lines q ≡ proof_lines p → p ≡ q
     same e = ap proof_at (same_Some (ended (front p.table p.places p.certificates) p.blocks) (ended (front q.table q.places q.certificates) q.blocks)
         (sym (proof_run p t.parts) ∙ (ap (run begin) (sym e) ∙ proof_run q u.parts)))
+
     go : (length (proof_lines p) ≤ length (proof_lines q)) ⊎ (length (proof_lines q) < length (proof_lines p)) → p ≡ q
     go (inl h) = same (lines p q t u h)
     go (inr h) = same (sym (lines q p u t (omega arith)))
@@ -48,17 +54,19 @@ no_fault ok r bytes p t (Limit_fault n) h = go h.3
     within : (ls : List Line) (l : Line) (more : List Line) → proof_lines p ≡ (ls ++ (l ∷ [])) ++ more → r.limit ls l ≡ true → ⊥
     within ls l more e reached = let N : List Line → Type 0 = NoLimit r [] in
         false_true (sym (limit_at r [] ls l more (subst N e t.within)) ∙ reached)
+
     cases : (ls : List Line) (l : Line) (rest : List ℕ) → bytes ≡ file_text (ls ++ (l ∷ [])) ++ rest → AllInRange (ls ++ (l ∷ [])) → r.limit ls l ≡ true
         → (length (ls ++ (l ∷ [])) ≤ length (proof_lines p)) ⊎ (length (proof_lines p) < length (ls ++ (l ∷ []))) → ⊥
     cases ls l rest text fit reached (inl h) =
         let s : (more : List Line) × (proof_lines p ≡ (ls ++ (l ∷ [])) ++ more) × (rest ≡ file_text more ++ [])
-            = same_front ok (ls ++ (l ∷ [])) (proof_lines p) rest [] fit t.fit h (sym text ∙ (t.text ∙ sym (append-nil (file_text (proof_lines p))))) in
+        = same_front ok (ls ++ (l ∷ [])) (proof_lines p) rest [] fit t.fit h (sym text ∙ (t.text ∙ sym (append-nil (file_text (proof_lines p))))) in
         within ls l s.0 s.1 reached
     cases ls l rest text fit reached (inr h) =
         let s : (more : List Line) × (ls ++ (l ∷ []) ≡ proof_lines p ++ more) × ([] ≡ file_text more ++ rest)
-            = same_front ok (proof_lines p) (ls ++ (l ∷ [])) [] rest t.fit fit (omega arith)
-                (append-nil (file_text (proof_lines p)) ∙ (sym t.text ∙ text)) in
+        = same_front ok (proof_lines p) (ls ++ (l ∷ [])) [] rest t.fit fit (omega arith)
+        (append-nil (file_text (proof_lines p)) ∙ (sym t.text ∙ text)) in
         omega (arith, h, ap length (no_more (proof_lines p) (ls ++ (l ∷ [])) s.0 rest s.1 s.2))
+
     go : PassesLimit r bytes n → ⊥
     go (ls, l, rest, len, text, fit, reached) = cases ls l rest text fit reached (at_most (length (ls ++ (l ∷ []))) (length (proof_lines p)))
 

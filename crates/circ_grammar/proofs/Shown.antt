@@ -78,7 +78,7 @@ give_why_shown o (f ∷ fs) w = go (give_why_shown o fs (Split_why f.chain f.ter
     go : shown (give_why o fs (Split_why f.chain f.term (push_why f.whys w))) ≡ open_parts o ++ at_why fs (Split_why f.chain f.term (push_why f.whys w))
         → (b : Bool)
         → shown (cond b (give_why o fs (Split_why f.chain f.term (push_why f.whys w)))
-            (reducing o (open_split f.chain f.term f.count (push_why f.whys w) ∷ fs) empty))
+        (reducing o (open_split f.chain f.term f.count (push_why f.whys w) ∷ fs) empty))
         ≡ open_parts o ++ cond b (at_why fs (Split_why f.chain f.term (push_why f.whys w))) []
     go ih true = ih
     go ih false = sym (append-nil (open_parts o))
@@ -150,7 +150,7 @@ next_shown m n reduce_line e = let p : (o : OpenBlock) × (to_step m ≡ Some o)
 next_shown m n derive_line e = let p : (o : OpenBlock) × (to_step m ≡ Some o) × (stepping (with_step o Derive_step) ≡ n) =
     option_map_some (λ o. stepping (with_step o Derive_step)) (to_step m) n e in
     ap shown (sym p.2) ∙ with_step-push p.0 Derive_step ∙ ap (λ r. r ++ Step_part Derive_step ∷ []) (to_step_shown m p.0 p.1)
-        ∙ append_assoc (shown m) (at_step m) (Step_part Derive_step ∷ [])
+    ∙ append_assoc (shown m) (at_step m) (Step_part Derive_step ∷ [])
 next_shown m n done_line e = let p : (o : OpenBlock) × (to_step m ≡ Some o) × (close_block o ≡ n) = option_map_some close_block (to_step m) n e in
     ap shown (sym p.2) ∙ done-push p.0 ∙ ap (λ r. r ++ Done_part ∷ []) (to_step_shown m p.0 p.1) ∙ append_assoc (shown m) (at_step m) (Done_part ∷ [])
 next_shown m n same_line e = same_shown m n e
@@ -174,7 +174,7 @@ pub shown_first : (ls rest : List Line) (m : State) (p : NumberedProof) → run 
     → (xs : List NumberedPart) × (parts_of p ≡ shown m ++ xs)
 shown_first ls rest m p e h f =
     let a : (q : State) × (run begin ls ≡ Some q) × (run q rest ≡ Some (ended (front p.table p.places p.certificates) p.blocks))
-        = run-front begin (ended (front p.table p.places p.certificates) p.blocks) ls rest (ap (run begin) (sym f) ∙ proof_run p h) in
+    = run-front begin (ended (front p.table p.places p.certificates) p.blocks) ls rest (ap (run begin) (sym f) ∙ proof_run p h) in
     let s : a.0 ≡ m = same_Some a.0 m (sym a.1 ∙ e) in
     let P : State → Type 0 = λ x. run x rest ≡ Some (ended (front p.table p.places p.certificates) p.blocks) in
     run_shown m (ended (front p.table p.places p.certificates) p.blocks) rest (subst P s a.2)

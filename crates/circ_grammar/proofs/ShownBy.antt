@@ -31,7 +31,7 @@ lines_before : {A : Type 0} (f : A → List Line → List Line) → ((x : A) (k 
 lines_before f h [] k = refl
 lines_before f h (x ∷ xs) k =
     ap (f x) (lines_before f h xs k) ∙ h x (lines_of f xs [] ++ k) ∙ sym (append_assoc (f x []) (lines_of f xs []) k)
-        ∙ ap (λ y. y ++ k) (sym (h x (lines_of f xs [])))
+    ∙ ap (λ y. y ++ k) (sym (h x (lines_of f xs [])))
 
 chain_before : (c : ChainOf ℕ) (k : List Line) → chain_lines c k ≡ chain_lines c [] ++ k
 chain_before c k =
@@ -47,7 +47,7 @@ mutual
   why_before (Split_why c t ws) k =
       ap (λ y. chain_lines c (split_line t (why_count ws) ∷ y)) (whys_before ws k)
       ∙ chain_before c (split_line t (why_count ws) ∷ (whys_lines ws [] ++ k))
-          ∙ sym (append_assoc (chain_lines c []) (split_line t (why_count ws) ∷ whys_lines ws []) k)
+      ∙ sym (append_assoc (chain_lines c []) (split_line t (why_count ws) ∷ whys_lines ws []) k)
       ∙ ap (λ y. y ++ k) (sym (chain_before c (split_line t (why_count ws) ∷ whys_lines ws [])))
 
   whys_before : (ws : WhysOf ℕ) (k : List Line) → whys_lines ws k ≡ whys_lines ws [] ++ k
@@ -60,7 +60,7 @@ part_before : (x : NumberedPart) (k : List Line) → part_lines x k ≡ part_lin
 part_before (Head_part es ps) k = ap (λ y. head_line ∷ y)
     (ap (lines_of table_lines es) (lines_before place_lines (λ x k. refl) ps k) ∙ lines_before table_lines (λ x k. refl) es (lines_of place_lines ps [] ++ k)
     ∙ sym (append_assoc (lines_of table_lines es []) (lines_of place_lines ps []) k)
-        ∙ ap (λ y. y ++ k) (sym (lines_before table_lines (λ x k. refl) es (lines_of place_lines ps []))))
+    ∙ ap (λ y. y ++ k) (sym (lines_before table_lines (λ x k. refl) es (lines_of place_lines ps []))))
 part_before (Certificate_part ls) k = ap (λ y. certificate_line ∷ y) (lines_before left_lines (λ x k. refl) ls k)
 part_before (Goals_part gs) k = ap (λ y. block_line ∷ y) (lines_before goal_lines (λ x k. refl) gs k)
 part_before (Step_part (Simplify_step c)) k = ap (λ y. simplify_line ∷ y) (chain_before c k)
@@ -243,7 +243,7 @@ give_shut o (f ∷ fs) w = go (give_shut o fs (Split_why f.chain f.term (push_wh
   where
     go : IsShut (give_why o fs (Split_why f.chain f.term (push_why f.whys w))) → (b : Bool)
         → IsShut (cond b (give_why o fs (Split_why f.chain f.term (push_why f.whys w)))
-            (reducing o (open_split f.chain f.term f.count (push_why f.whys w) ∷ fs) empty))
+        (reducing o (open_split f.chain f.term f.count (push_why f.whys w) ∷ fs) empty))
     go ih true = ih
     go ih false = tt
 
@@ -333,8 +333,12 @@ total (x ∷ xs) = length (part_lines x []) + total xs
 
 total_lines : (xs : List NumberedPart) (k : List Line) → length (lines_of part_lines xs k) ≡ total xs + length k
 total_lines [] k = omega arith
-total_lines (x ∷ xs) k = omega (arith, ap length (part_before x (lines_of part_lines xs k)), length-append (part_lines x []) (lines_of part_lines xs k),
-    total_lines xs k)
+total_lines (x ∷ xs) k = omega (
+  arith,
+  ap length (part_before x (lines_of part_lines xs k)),
+  length-append (part_lines x []) (lines_of part_lines xs k),
+  total_lines xs k,
+)
 
 some_line : (x : NumberedPart) → 0 < length (part_lines x [])
 some_line (Head_part es ps) = omega arith
@@ -385,7 +389,7 @@ shown_by_front (x ∷ y ∷ xs) ys n k e h =
 done_ends : (b : NumberedBlock) (bs : List NumberedBlock) (xs : List NumberedPart) (k : ℕ) → EndsWell (xs ++ blocks_parts (b ∷ bs)) k
 done_ends b [] xs k =
     let e : xs ++ blocks_parts (b ∷ []) ≡ (xs ++ Goals_part b.goals ∷ step_parts b.steps) ++ Done_part ∷ []
-        = ap (λ y. xs ++ y) (append-nil (block_parts b)) ∙ sym (append_assoc xs (Goals_part b.goals ∷ step_parts b.steps) (Done_part ∷ [])) in
+    = ap (λ y. xs ++ y) (append-nil (block_parts b)) ∙ sym (append_assoc xs (Goals_part b.goals ∷ step_parts b.steps) (Done_part ∷ [])) in
     subst (λ y. EndsWell y k) (sym e) (ends_after (xs ++ Goals_part b.goals ∷ step_parts b.steps) [] Done_part k (omega arith))
 done_ends b (c ∷ bs) xs k = subst (λ y. EndsWell y k) (append_assoc xs (block_parts b) (blocks_parts (c ∷ bs))) (done_ends c bs (xs ++ block_parts b) k)
 
@@ -419,7 +423,7 @@ not_whole : (ls before : List Line) (o : OpenBlock) (fs : List OpenSplit) (c : C
     → ls ≡ before ++ (reduce_line ∷ why_lines w []) → ⊥
 not_whole ls before o fs c w e f =
     let r : (q : State) × (run begin before ≡ Some q) × (run q (reduce_line ∷ why_lines w []) ≡ Some (reducing o fs c))
-        = run-front begin (reducing o fs c) before (reduce_line ∷ why_lines w []) (ap (run begin) (sym f) ∙ e) in
+    = run-front begin (reducing o fs c) before (reduce_line ∷ why_lines w []) (ap (run begin) (sym f) ∙ e) in
     go (to_step r.0) r.2
   where
     go : (s : Option OpenBlock) → option_and_then (λ n. run n (why_lines w [])) (option_map (λ o. reducing o [] empty) s) ≡ Some (reducing o fs c) → ⊥
@@ -434,7 +438,7 @@ not_shown : (ls : List Line) (m : State) (x : NumberedPart) (xs : List NumberedP
 not_shown ls m x xs rest e f g =
     let b : (l : Line) × (k : List Line) × (lines_of part_lines xs (end_line ∷ []) ≡ l ∷ k) × (begins_part l ≡ true) = first_begins xs in
     let short : length (pending m) ≤ length (part_lines x [])
-        = opening_short (part_lines x []) (pending m) b.0 b.1 rest (some_line x) (pending_opening m) b.3 (ap (λ y. part_lines x [] ++ y) (sym b.2) ∙ g) in
+    = opening_short (part_lines x []) (pending m) b.0 b.1 rest (some_line x) (pending_opening m) b.3 (ap (λ y. part_lines x [] ++ y) (sym b.2) ∙ g) in
     go x m e f g short
   where
     go : (x : NumberedPart) (m : State) → run begin ls ≡ Some m → ls ≡ lines_of part_lines (shown m) (pending m)
@@ -459,16 +463,18 @@ not_shown ls m x xs rest e f g =
       where
         less_or_same : (a b : ℕ) → a ≤ b → (a < b) ⊎ (a ≡ b)
         less_or_same a b h = grind arith
+
         same_front_lines : (a b c d : List Line) → length a ≡ length b → a ++ c ≡ b ++ d → a ≡ b
         same_front_lines [] [] c d l e = refl
         same_front_lines [] (y ∷ b) c d l e = absurd (omega arith)
         same_front_lines (x ∷ a) [] c d l e = absurd (omega arith)
         same_front_lines (x ∷ a) (y ∷ b) c d l e = let h : x ≡ y = cc in let r : a ≡ b = same_front_lines a b c d (omega arith) (cc) in cc
+
         reduce_short : (o : OpenBlock) (fs : List OpenSplit) (c : ChainOf ℕ) (w : WhyOf ℕ) → run begin ls ≡ Some (reducing o fs c)
             → ls ≡ lines_of part_lines (shown (reducing o fs c)) (pending (reducing o fs c))
             → part_lines (Step_part (Reduce_step w)) [] ++ lines_of part_lines xs (end_line ∷ []) ≡ pending (reducing o fs c) ++ rest
             → length (pending (reducing o fs c)) ≤ length (part_lines (Step_part (Reduce_step w)) [])
-                → length (pending (reducing o fs c)) < wants (Step_part (Reduce_step w))
+            → length (pending (reducing o fs c)) < wants (Step_part (Reduce_step w))
         reduce_short o fs c w e f g s = cases (less_or_same (length (pending (reducing o fs c))) (length (part_lines (Step_part (Reduce_step w)) [])) s)
           where
             cases : (length (pending (reducing o fs c)) < length (part_lines (Step_part (Reduce_step w)) []))
@@ -477,8 +483,8 @@ not_shown ls m x xs rest e f g =
             cases (inl h) = omega arith
             cases (inr h) =
                 let same_lines : pending (reducing o fs c) ≡ part_lines (Step_part (Reduce_step w)) []
-                    = same_front_lines (pending (reducing o fs c)) (part_lines (Step_part (Reduce_step w)) []) rest
-                        (lines_of part_lines xs (end_line ∷ [])) h (sym g) in
+                = same_front_lines (pending (reducing o fs c)) (part_lines (Step_part (Reduce_step w)) []) rest
+                (lines_of part_lines xs (end_line ∷ [])) h (sym g) in
                 absurd (not_whole ls (lines_of part_lines (shown (reducing o fs c)) []) o fs c w e
                 (f ∙ ap (lines_of part_lines (shown (reducing o fs c))) same_lines ∙ parts_before (shown (reducing o fs c)) (reduce_line ∷ why_lines w [])))
     go (Step_part (Reduce_step w)) _ e f g s = absurd (cc)
@@ -491,13 +497,13 @@ shown_is ls rest m p e h f =
     let is : ls ≡ lines_of part_lines (shown m) (pending m) = sym (append-nil ls) ∙ sym (run_so_far begin m ls [] e) ∙ so_far_is m in
     let n : length ls ≡ total (shown m) + length (pending m) = ap length is ∙ total_lines (shown m) (pending m) in
     let rest_is : lines_of part_lines x.0 (end_line ∷ []) ≡ pending m ++ rest =
-        append_cancel_left (lines_of part_lines (shown m) []) (lines_of part_lines x.0 (end_line ∷ [])) (pending m ++ rest)
-        (sym (parts_before (shown m) (lines_of part_lines x.0 (end_line ∷ []))) ∙ sym (parts-append (shown m) x.0 (end_line ∷ []))
-            ∙ ap (λ y. lines_of part_lines y (end_line ∷ [])) (sym x.1)
-        ∙ proof_lines_are p ∙ f ∙ ap (λ y. y ++ rest) (is ∙ parts_before (shown m) (pending m))
-            ∙ append_assoc (lines_of part_lines (shown m) []) (pending m) rest) in
+    append_cancel_left (lines_of part_lines (shown m) []) (lines_of part_lines x.0 (end_line ∷ [])) (pending m ++ rest)
+    (sym (parts_before (shown m) (lines_of part_lines x.0 (end_line ∷ []))) ∙ sym (parts-append (shown m) x.0 (end_line ∷ []))
+    ∙ ap (λ y. lines_of part_lines y (end_line ∷ [])) (sym x.1)
+    ∙ proof_lines_are p ∙ f ∙ ap (λ y. y ++ rest) (is ∙ parts_before (shown m) (pending m))
+    ∙ append_assoc (lines_of part_lines (shown m) []) (pending m) rest) in
     sym (ap (shown_by (length ls)) x.1 ∙ shown_by_front (shown m) x.0 (length ls) (length (pending m)) n
-        (shown_ends m (run_sound begin m ls tt e) (run_shut begin m ls tt e))
+    (shown_ends m (run_sound begin m ls tt e) (run_shut begin m ls tt e))
     ∙ ap (λ y. shown m ++ y) (none_more x.0 is rest_is) ∙ append-nil (shown m))
   where
     none_more : (xs : List NumberedPart) → ls ≡ lines_of part_lines (shown m) (pending m) → lines_of part_lines xs (end_line ∷ []) ≡ pending m ++ rest

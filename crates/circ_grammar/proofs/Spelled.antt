@@ -69,12 +69,12 @@ give_why_so_far o (f ∷ fs) w k = go (give_why_so_far o fs (Split_why f.chain f
     go : so_far (give_why o fs (Split_why f.chain f.term (push_why f.whys w))) k
         ≡ open_lines o (reduce_line ∷ stack_lines fs (why_lines (Split_why f.chain f.term (push_why f.whys w)) k))
         → (b : Bool) → nat_eq (why_count f.whys + 1) f.count ≡ b
-            → so_far (cond b (give_why o fs (Split_why f.chain f.term (push_why f.whys w)))
-            (reducing o (open_split f.chain f.term f.count (push_why f.whys w) ∷ fs) empty)) k
+        → so_far (cond b (give_why o fs (Split_why f.chain f.term (push_why f.whys w)))
+        (reducing o (open_split f.chain f.term f.count (push_why f.whys w) ∷ fs) empty)) k
         ≡ open_lines o (reduce_line ∷ stack_lines fs (chain_lines f.chain (split_line f.term f.count ∷ whys_lines f.whys (why_lines w k))))
     go ih true e = ih
         ∙ (ap (λ n. open_lines o (reduce_line ∷ stack_lines fs (chain_lines f.chain (split_line f.term n ∷ whys_lines (push_why f.whys w) k))))
-            (why_count-push f.whys w ∙ eqb-true _ _ e)
+        (why_count-push f.whys w ∙ eqb-true _ _ e)
         ∙ ap (λ r. open_lines o (reduce_line ∷ stack_lines fs (chain_lines f.chain (split_line f.term f.count ∷ r)))) (whys_lines-push f.whys w k))
     go ih false e = ap (λ r. open_lines o (reduce_line ∷ stack_lines fs (chain_lines f.chain (split_line f.term f.count ∷ r)))) (whys_lines-push f.whys w k)
 
@@ -185,10 +185,10 @@ next_so_far m n reduce_line k e = let p : (o : OpenBlock) × (to_step m ≡ Some
 next_so_far m n derive_line k e = let p : (o : OpenBlock) × (to_step m ≡ Some o) × (stepping (with_step o Derive_step) ≡ n) =
     option_map_some (λ o. stepping (with_step o Derive_step)) (to_step m) n e in
     sym (ap (λ x. so_far x k) p.2) ∙ (ap (λ r. blocks_lines p.0.front p.0.blocks (block_line ∷ lines_of goal_lines p.0.goals r))
-        (lines_of-push step_lines p.0.steps Derive_step k) ∙ to_step_so_far m p.0 (derive_line ∷ k) p.1)
+    (lines_of-push step_lines p.0.steps Derive_step k) ∙ to_step_so_far m p.0 (derive_line ∷ k) p.1)
 next_so_far m n done_line k e = let p : (o : OpenBlock) × (to_step m ≡ Some o) × (close_block o ≡ n) = option_map_some close_block (to_step m) n e in
     sym (ap (λ x. so_far x k) p.2) ∙ (ap (front_lines p.0.front) (lines_of-push block_lines p.0.blocks (block_of p.0) k)
-        ∙ to_step_so_far m p.0 (done_line ∷ k) p.1)
+    ∙ to_step_so_far m p.0 (done_line ∷ k) p.1)
 next_so_far m n same_line k e = on_same_so_far m n k e
 next_so_far m n (split_line t c) k e = on_split_so_far m n t c k e
 next_so_far m n (left_line l) k e = on_left_so_far m n l k e

@@ -42,14 +42,15 @@ front_at : (r : Rules) (p : NumberedProof) (bytes : List ℕ) → IsTextOf r p b
     → (m : State) × At r (file_text ls ++ rest) ls rest m × (run m later ≡ Some (last p))
 front_at r p bytes t ls later rest e =
     let q : (q : State) × (run begin ls ≡ Some q) × (run q later ≡ Some (last p))
-        = run-front begin (last p) ls later (ap (run begin) (sym e) ∙ proof_run p t.parts) in
+    = run-front begin (last p) ls later (ap (run begin) (sym e) ∙ proof_run p t.parts) in
     let F : List Line → Type 0 = AllInRange in let P : List Line → Type 0 = AllPass r [] in let N : List Line → Type 0 = NoLimit r [] in
     let at : At r (file_text ls ++ rest) ls rest q.0 = record {
-        text = refl;
-        state = q.1;
-        fit = all_front IsInRange ls later (subst F e t.fit);
-        pass = pass_front r [] ls later (subst P e t.pass);
-        within = limit_front r [] ls later (subst N e t.within) } in
+      text = refl;
+      state = q.1;
+      fit = all_front IsInRange ls later (subst F e t.fit);
+      pass = pass_front r [] ls later (subst P e t.pass);
+      within = limit_front r [] ls later (subst N e t.within);
+    } in
     (q.0, at, q.2)
 
 pub broken_off : HasTexts → (r : Rules) (p : NumberedProof) (bytes : List ℕ) → IsTextOf r p bytes → (ls : List Line) (l : Line) (later : List Line)
@@ -69,10 +70,11 @@ goes_on ok r p bytes t b more =
   where
     at : At r (bytes ++ (b ∷ more)) (proof_lines p) (b ∷ more) (last p)
     at = record { text = ap (λ x. x ++ (b ∷ more)) t.text; state = proof_run p t.parts; fit = t.fit; pass = t.pass; within = t.within }
+
     bad : IsGood r (bytes ++ (b ∷ more)) (length (proof_lines p) + 1) → ⊥
     bad (xs, later, len, text, follows, pass) =
         let q : (l : Line) × (xs ≡ proof_lines p ++ (l ∷ [])) × (b ∷ more ≡ line_text l ++ (10 ∷ later)) × IsInRange l
-            = more_line ok r (bytes ++ (b ∷ more)) (proof_lines p) (b ∷ more) (last p) at xs later len text (follows_fit xs follows) in
+        = more_line ok r (bytes ++ (b ∷ more)) (proof_lines p) (b ∷ more) (last p) at xs later len text (follows_fit xs follows) in
         let n : (n : State) × (run begin xs ≡ Some n) = begins_run xs (follows.0, follows.1, follows.2, follows.3) in
         let f : next (last p) q.0 ≡ Some n.0 = run_push (last p) (proof_lines p) q.0 (proof_run p t.parts) n.0 (ap (run begin) (sym q.1) ∙ n.1) in
         none-some n.0 (sym (ended_stops (front p.table p.places p.certificates) p.blocks q.0) ∙ f)

@@ -5,3 +5,4 @@ pub mod Reading
 pub mod Parts
 pub mod Shown
 pub mod Now
+pub mod Feeding
