@@ -83,25 +83,27 @@ fn put_link(out: &mut Vec<u8>, side: &[u8], link: &Link) -> Result<(), AllocErro
     ensures keeps { Keeps out.old.items out.new.items }
 {
     put(out, side)?;
+    put_link_words(out, link)
+}
+
+fn put_link_words(out: &mut Vec<u8>, link: &Link) -> Result<(), AllocError>
+    ensures text { OnOk result (out.new.items ≡
+        out.old.items ++ joined 32 (link_words (plain_link link.now))) }
+    ensures keeps { Keeps out.old.items out.new.items }
+{
     match link {
         Link::Equation {
             number,
             way,
             path,
             terms,
-        } => {
-            put_rule(out, b"equation", *way, *number, path)?;
-            put_numbers(out, terms)
-        }
+        } => put_instance(out, b"equation", *way, *number, path, terms),
         Link::Hypothesis {
             number,
             way,
             path,
             terms,
-        } => {
-            put_rule(out, b"hypothesis", *way, *number, path)?;
-            put_numbers(out, terms)
-        }
+        } => put_instance(out, b"hypothesis", *way, *number, path, terms),
         Link::Assumption { number, way, path } => {
             put_rule(out, b"assumption", *way, *number, path)
         }
@@ -112,6 +114,24 @@ fn put_link(out: &mut Vec<u8>, side: &[u8], link: &Link) -> Result<(), AllocErro
             put_number(out, *term)
         }
     }
+}
+
+/// A rule, and the numbers of the terms that its variables are given.
+fn put_instance(
+    out: &mut Vec<u8>,
+    word: &[u8],
+    way: Way,
+    number: u32,
+    path: &Path,
+    terms: &[u32],
+) -> Result<(), AllocError>
+    ensures text { OnOk result (out.new.items ≡ out.old.items ++
+        joined 32 (word.now ∷ way_word way ∷ decimal number ∷ path_word path.now.items ∷
+        map decimal terms.now)) }
+    ensures keeps { Keeps out.old.items out.new.items }
+{
+    put_rule(out, word, way, number, path)?;
+    put_numbers(out, terms)
 }
 
 /// A word, which way a rule is used, its number, and where.
