@@ -1,2 +1,5 @@
 pub mod Line
 pub mod Text
+pub mod Front
+pub mod Read
+pub mod Plain
