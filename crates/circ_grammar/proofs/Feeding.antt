@@ -5,10 +5,11 @@ use Rattle.std.proofs.Common.{sym, ◌∙◌, ap, subst, arith, append_assoc, ap
 use Rattle.std.proofs.lemmas.Option.{same_Some}
 use Rattle.circ_line.specs.Line.{Line}
 use Rattle.circ_line.specs.Text.{line_text, IsInRange}
+use Rattle.circ_line.specs.Plain.{NoFeed, ReadsLine}
 use Rattle.circ_grammar.specs.Grammar.{NumberedBlock, NumberedProof}
 use Rattle.circ_grammar.specs.FirstBad.{Rules, file_text, IsTextOf, Line_fault, Limit_fault, IsFirstBadLine}
 use Rattle.circ_grammar.specs.Machine.{Front, State, begin, ended, next, run, proof_of}
-use Rattle.circ_grammar.specs.Reading.{At, NoFeed, NextLine, IsNoLine, IsEnded, HasTexts}
+use Rattle.circ_grammar.specs.Reading.{At, NextLine, IsEnded}
 use Rattle.circ_grammar.specs.Now.{Now, Begin, Ended, now, next_now}
 use Rattle.circ_grammar.specs.Feeding.{Kept, IsFed}
 use Rattle.circ_grammar.proofs.Spelled.{option_map_some}
@@ -75,19 +76,19 @@ fed_line r bytes more ls m k l n f fits e g pass within =
 
 -- The faults of a line that is whole, whatever comes later.
 
-pub fed_form : HasTexts → (r : Rules) (bytes more later : List ℕ) (ls : List Line) (m : State) (k : Kept) → IsFed r bytes ls m k → NoFeed more
-    → IsNoLine (k.rest ++ more) → IsFirstBadLine r ((bytes ++ (more ++ (10 ∷ []))) ++ later) (Line_fault (k.lines + 1))
-fed_form ok r bytes more later ls m k f n none =
+pub fed_form : (r : Rules) (bytes more later : List ℕ) (ls : List Line) (m : State) (k : Kept) → IsFed r bytes ls m k → NoFeed more
+    → ReadsLine (k.rest ++ more) None → IsFirstBadLine r ((bytes ++ (more ++ (10 ∷ []))) ++ later) (Line_fault (k.lines + 1))
+fed_form r bytes more later ls m k f n none =
     let P : ℕ → Type 0 = λ i. IsFirstBadLine r ((bytes ++ (more ++ (10 ∷ []))) ++ later) (Line_fault (i + 1)) in
-    subst P (sym f.count) (bad_form ok r ((bytes ++ (more ++ (10 ∷ []))) ++ later) ls (k.rest ++ ((more ++ (10 ∷ [])) ++ later)) (k.rest ++ more) later m
+    subst P (sym f.count) (bad_form r ((bytes ++ (more ++ (10 ∷ []))) ++ later) ls (k.rest ++ ((more ++ (10 ∷ [])) ++ later)) (k.rest ++ more) later m
         (after_line r bytes more later ls k.rest m f.at) (no_feed_append k.rest more f.no_feed n) (cut_at k.rest more later) none)
 
-pub fed_next : HasTexts → (r : Rules) (bytes more later : List ℕ) (ls : List Line) (m : State) (k : Kept) (l : Line) → IsFed r bytes ls m k
+pub fed_next : (r : Rules) (bytes more later : List ℕ) (ls : List Line) (m : State) (k : Kept) (l : Line) → IsFed r bytes ls m k
     → IsInRange l → k.rest ++ more ≡ line_text l → next_now k.under_way l ≡ None
     → IsFirstBadLine r ((bytes ++ (more ++ (10 ∷ []))) ++ later) (Line_fault (k.lines + 1))
-fed_next ok r bytes more later ls m k l f fits e g =
+fed_next r bytes more later ls m k l f fits e g =
     let P : ℕ → Type 0 = λ i. IsFirstBadLine r ((bytes ++ (more ++ (10 ∷ []))) ++ later) (Line_fault (i + 1)) in
-    subst P (sym f.count) (bad_next ok r ((bytes ++ (more ++ (10 ∷ []))) ++ later) ls (k.rest ++ ((more ++ (10 ∷ [])) ++ later)) later m
+    subst P (sym f.count) (bad_next r ((bytes ++ (more ++ (10 ∷ []))) ++ later) ls (k.rest ++ ((more ++ (10 ∷ [])) ++ later)) later m
         (after_line r bytes more later ls k.rest m f.at) l (fits, line_at k.rest more later l e)
         (go (next m l) (next_is m l ∙ (ap (λ x. next_now x l) f.part ∙ g))))
   where
@@ -95,22 +96,22 @@ fed_next ok r bytes more later ls m k l f fits e g =
     go None e = refl
     go (Some x) e = absurd (cc)
 
-pub fed_check : HasTexts → (r : Rules) (bytes more later : List ℕ) (ls : List Line) (m : State) (k : Kept) (l : Line) → IsFed r bytes ls m k
+pub fed_check : (r : Rules) (bytes more later : List ℕ) (ls : List Line) (m : State) (k : Kept) (l : Line) → IsFed r bytes ls m k
     → IsInRange l → k.rest ++ more ≡ line_text l → r.passes ls l ≡ false
     → IsFirstBadLine r ((bytes ++ (more ++ (10 ∷ []))) ++ later) (Line_fault (k.lines + 1))
-fed_check ok r bytes more later ls m k l f fits e g =
+fed_check r bytes more later ls m k l f fits e g =
     let P : ℕ → Type 0 = λ i. IsFirstBadLine r ((bytes ++ (more ++ (10 ∷ []))) ++ later) (Line_fault (i + 1)) in
-    subst P (sym f.count) (bad_check ok r ((bytes ++ (more ++ (10 ∷ []))) ++ later) ls (k.rest ++ ((more ++ (10 ∷ [])) ++ later)) later m
+    subst P (sym f.count) (bad_check r ((bytes ++ (more ++ (10 ∷ []))) ++ later) ls (k.rest ++ ((more ++ (10 ∷ [])) ++ later)) later m
         (after_line r bytes more later ls k.rest m f.at) l (fits, line_at k.rest more later l e) g)
 
-pub fed_limit : HasTexts → (r : Rules) (bytes more later : List ℕ) (ls : List Line) (m : State) (k : Kept) (l : Line) (n : Now) → IsFed r bytes ls m k
+pub fed_limit : (r : Rules) (bytes more later : List ℕ) (ls : List Line) (m : State) (k : Kept) (l : Line) (n : Now) → IsFed r bytes ls m k
     → IsInRange l → k.rest ++ more ≡ line_text l → next_now k.under_way l ≡ Some n → r.passes ls l ≡ true → r.limit ls l ≡ true
     → IsFirstBadLine r ((bytes ++ (more ++ (10 ∷ []))) ++ later) (Limit_fault (k.lines + 1))
-fed_limit ok r bytes more later ls m k l n f fits e g pass reached =
+fed_limit r bytes more later ls m k l n f fits e g pass reached =
     let P : ℕ → Type 0 = λ i. IsFirstBadLine r ((bytes ++ (more ++ (10 ∷ []))) ++ later) (Limit_fault (i + 1)) in
     let o : option_map now (next m l) ≡ Some n = next_is m l ∙ (ap (λ x. next_now x l) f.part ∙ g) in
     let q : (q : State) × (next m l ≡ Some q) × (now q ≡ n) = option_map_some now (next m l) n o in
-    subst P (sym f.count) (bad_limit ok r ((bytes ++ (more ++ (10 ∷ []))) ++ later) ls (k.rest ++ ((more ++ (10 ∷ [])) ++ later)) later m q.0
+    subst P (sym f.count) (bad_limit r ((bytes ++ (more ++ (10 ∷ []))) ++ later) ls (k.rest ++ ((more ++ (10 ∷ [])) ++ later)) later m q.0
         (after_line r bytes more later ls k.rest m f.at) l (fits, line_at k.rest more later l e) q.1 pass reached)
 
 -- The bytes are at their end, and whole.
@@ -123,17 +124,17 @@ fed_whole r bytes ls m k f e u = go m f.at (f.part ∙ u)
     go _ a s = absurd (cc)
 
 -- The bytes are at their end, and not whole.
-pub fed_end : HasTexts → (r : Rules) (bytes : List ℕ) (ls : List Line) (m : State) (k : Kept) → IsFed r bytes ls m k
+pub fed_end : (r : Rules) (bytes : List ℕ) (ls : List Line) (m : State) (k : Kept) → IsFed r bytes ls m k
     → (k.rest ≡ [] → k.under_way ≡ Ended → ⊥) → IsFirstBadLine r bytes (Line_fault (k.lines + 1))
-fed_end ok r bytes ls m k f open_yet =
+fed_end r bytes ls m k f open_yet =
     let P : ℕ → Type 0 = λ i. IsFirstBadLine r bytes (Line_fault (i + 1)) in
-    subst P (sym f.count) (bad_cut ok r bytes ls k.rest m f.at f.no_feed (λ e z. open_yet e (sym f.part ∙ ap now z.2)))
+    subst P (sym f.count) (bad_cut r bytes ls k.rest m f.at f.no_feed (λ e z. open_yet e (sym f.part ∙ ap now z.2)))
 
 -- the whole lines of the bytes and what comes after them are determined
-one_cut : HasTexts → (r : Rules) (bytes : List ℕ) (us bs : List Line) (x y : List ℕ) (m n : State) → At r bytes us x m → At r bytes bs y n → NoFeed x
+one_cut : (r : Rules) (bytes : List ℕ) (us bs : List Line) (x y : List ℕ) (m n : State) → At r bytes us x m → At r bytes bs y n → NoFeed x
     → length us ≤ length bs → (bs ≡ us) × (y ≡ x)
-one_cut ok r bytes us bs x y m n a b f l =
-    let s : (k : List Line) × (bs ≡ us ++ k) × (x ≡ file_text k ++ y) = same_front ok us bs x y a.fit b.fit l (sym a.text ∙ b.text) in go s.0 s.1 s.2
+one_cut r bytes us bs x y m n a b f l =
+    let s : (k : List Line) × (bs ≡ us ++ k) × (x ≡ file_text k ++ y) = same_front us bs x y a.fit b.fit l (sym a.text ∙ b.text) in go s.0 s.1 s.2
   where
     go : (k : List Line) → bs ≡ us ++ k → x ≡ file_text k ++ y → (bs ≡ us) × (y ≡ x)
     go [] e g = (e ∙ append-nil us, sym g)
@@ -143,9 +144,9 @@ abbrev kept_of : ℕ → List ℕ → Now → Kept
 kept_of n x u = record { lines = n; rest = x; under_way = u }
 
 -- What is kept depends on the bytes alone.
-pub one_fed : HasTexts → (r : Rules) (bytes : List ℕ) (ls bs : List Line) (m n : State) (k j : Kept) → IsFed r bytes ls m k → IsFed r bytes bs n j
+pub one_fed : (r : Rules) (bytes : List ℕ) (ls bs : List Line) (m n : State) (k j : Kept) → IsFed r bytes ls m k → IsFed r bytes bs n j
     → (ls ≡ bs) × (m ≡ n) × (k ≡ j)
-one_fed ok r bytes ls bs m n k j f g = go (le_or_le (length ls) (length bs))
+one_fed r bytes ls bs m n k j f g = go (le_or_le (length ls) (length bs))
   where
     le_or_le : (a b : ℕ) → (a ≤ b) ⊎ (b ≤ a)
     le_or_le a b = grind arith
@@ -157,5 +158,5 @@ one_fed ok r bytes ls bs m n k j f g = go (le_or_le (length ls) (length bs))
         let q : m ≡ n = same_Some m n (sym f.at.state ∙ (ap (run begin) e ∙ g.at.state)) in
         (e, q, kept k j (f.count ∙ (ap length e ∙ sym g.count)) s (sym f.part ∙ (ap now q ∙ g.part)))
     go : (length ls ≤ length bs) ⊎ (length bs ≤ length ls) → (ls ≡ bs) × (m ≡ n) × (k ≡ j)
-    go (inl l) = let c : (bs ≡ ls) × (j.rest ≡ k.rest) = one_cut ok r bytes ls bs k.rest j.rest m n f.at g.at f.no_feed l in same (sym c.0) (sym c.1)
-    go (inr l) = let c : (ls ≡ bs) × (k.rest ≡ j.rest) = one_cut ok r bytes bs ls j.rest k.rest n m g.at f.at g.no_feed l in same c.0 c.1
+    go (inl l) = let c : (bs ≡ ls) × (j.rest ≡ k.rest) = one_cut r bytes ls bs k.rest j.rest m n f.at g.at f.no_feed l in same (sym c.0) (sym c.1)
+    go (inr l) = let c : (ls ≡ bs) × (k.rest ≡ j.rest) = one_cut r bytes bs ls j.rest k.rest n m g.at f.at g.no_feed l in same c.0 c.1

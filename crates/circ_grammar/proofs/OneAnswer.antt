@@ -8,7 +8,7 @@ use Rattle.circ_grammar.specs.Grammar.{NumberedProof, proof_lines}
 use Rattle.circ_grammar.specs.FirstBad.{Rules, file_text, AllInRange, NoLimit, IsTextOf, IsGood, PassesLimit, LineFault, Line_fault, Limit_fault}
 use Rattle.circ_grammar.specs.FirstBad.{IsFirstBadLine}
 use Rattle.circ_grammar.specs.Machine.{State, begin, ended, run, proof_of, front}
-use Rattle.circ_grammar.specs.Reading.{HasTexts}
+use Rattle.circ_grammar.specs.Reading.{}
 use Rattle.circ_grammar.proofs.Complete.{proof_run}
 use Rattle.circ_grammar.proofs.FirstBad.{same_front, limit_at, false_true}
 
@@ -29,13 +29,13 @@ at_most : (a b : ℕ) → (a ≤ b) ⊎ (b < a)
 at_most a b = grind arith
 
 -- A file is the text of one proof at most.
-pub one_proof : HasTexts → (r : Rules) (bytes : List ℕ) (p q : NumberedProof) → IsTextOf r p bytes → IsTextOf r q bytes → p ≡ q
-one_proof ok r bytes p q t u = go (at_most (length (proof_lines p)) (length (proof_lines q)))
+pub one_proof : (r : Rules) (bytes : List ℕ) (p q : NumberedProof) → IsTextOf r p bytes → IsTextOf r q bytes → p ≡ q
+one_proof r bytes p q t u = go (at_most (length (proof_lines p)) (length (proof_lines q)))
   where
     lines : (x y : NumberedProof) → IsTextOf r x bytes → IsTextOf r y bytes → length (proof_lines x) ≤ length (proof_lines y)
         → proof_lines y ≡ proof_lines x
     lines x y v w h = let s : (more : List Line) × (proof_lines y ≡ proof_lines x ++ more) × ([] ≡ file_text more ++ [])
-        = same_front ok (proof_lines x) (proof_lines y) [] [] v.fit w.fit h (ap (λ z. z ++ []) (sym v.text ∙ w.text)) in
+        = same_front (proof_lines x) (proof_lines y) [] [] v.fit w.fit h (ap (λ z. z ++ []) (sym v.text ∙ w.text)) in
         no_more (proof_lines x) (proof_lines y) s.0 [] s.1 s.2
 
     same : proof_lines q ≡ proof_lines p → p ≡ q
@@ -47,9 +47,9 @@ one_proof ok r bytes p q t u = go (at_most (length (proof_lines p)) (length (pro
     go (inr h) = same (sym (lines q p u t (omega arith)))
 
 -- The text of a proof has no first bad line.
-pub no_fault : HasTexts → (r : Rules) (bytes : List ℕ) (p : NumberedProof) → IsTextOf r p bytes → (f : LineFault) → IsFirstBadLine r bytes f → ⊥
-no_fault ok r bytes p t (Line_fault n) h = h.3 p t
-no_fault ok r bytes p t (Limit_fault n) h = go h.3
+pub no_fault : (r : Rules) (bytes : List ℕ) (p : NumberedProof) → IsTextOf r p bytes → (f : LineFault) → IsFirstBadLine r bytes f → ⊥
+no_fault r bytes p t (Line_fault n) h = h.3 p t
+no_fault r bytes p t (Limit_fault n) h = go h.3
   where
     within : (ls : List Line) (l : Line) (more : List Line) → proof_lines p ≡ (ls ++ (l ∷ [])) ++ more → r.limit ls l ≡ true → ⊥
     within ls l more e reached = let N : List Line → Type 0 = NoLimit r [] in
@@ -59,11 +59,11 @@ no_fault ok r bytes p t (Limit_fault n) h = go h.3
         → (length (ls ++ (l ∷ [])) ≤ length (proof_lines p)) ⊎ (length (proof_lines p) < length (ls ++ (l ∷ []))) → ⊥
     cases ls l rest text fit reached (inl h) =
         let s : (more : List Line) × (proof_lines p ≡ (ls ++ (l ∷ [])) ++ more) × (rest ≡ file_text more ++ [])
-        = same_front ok (ls ++ (l ∷ [])) (proof_lines p) rest [] fit t.fit h (sym text ∙ (t.text ∙ sym (append-nil (file_text (proof_lines p))))) in
+        = same_front (ls ++ (l ∷ [])) (proof_lines p) rest [] fit t.fit h (sym text ∙ (t.text ∙ sym (append-nil (file_text (proof_lines p))))) in
         within ls l s.0 s.1 reached
     cases ls l rest text fit reached (inr h) =
         let s : (more : List Line) × (ls ++ (l ∷ []) ≡ proof_lines p ++ more) × ([] ≡ file_text more ++ rest)
-        = same_front ok (proof_lines p) (ls ++ (l ∷ [])) [] rest t.fit fit (omega arith)
+        = same_front (proof_lines p) (ls ++ (l ∷ [])) [] rest t.fit fit (omega arith)
         (append-nil (file_text (proof_lines p)) ∙ (sym t.text ∙ text)) in
         omega (arith, h, ap length (no_more (proof_lines p) (ls ++ (l ∷ [])) s.0 rest s.1 s.2))
 

@@ -6,10 +6,11 @@ use Rattle.std.proofs.lemmas.Option.{none-some}
 use Rattle.circ_line.specs.Line.{Line, head_line, table_line, place_line, certificate_line, block_line, goal_line, simplify_line, reduce_line}
 use Rattle.circ_line.specs.Line.{derive_line, done_line, same_line, split_line, left_line, right_line, end_line}
 use Rattle.circ_line.specs.Text.{line_text, IsInRange}
+use Rattle.circ_line.specs.Plain.{NoFeed, ReadsLine}
 use Rattle.circ_grammar.specs.Grammar.{NumberedBlock, NumberedProof, proof_lines}
 use Rattle.circ_grammar.specs.FirstBad.{Rules, file_text, AllInRange, AllPass, NoLimit, IsTextOf, IsGood, Line_fault, IsFirstBadLine}
 use Rattle.circ_grammar.specs.Machine.{Front, State, begin, ended, next, run, front}
-use Rattle.circ_grammar.specs.Reading.{At, NoFeed, IsEnded, HasTexts}
+use Rattle.circ_grammar.specs.Reading.{At, IsEnded}
 use Rattle.circ_grammar.proofs.Complete.{proof_run, run-front, begins_run}
 use Rattle.circ_grammar.proofs.FirstBad.{all_front, pass_front, more_line, run_push, follows_fit, first_bad, bad_cut}
 
@@ -53,20 +54,20 @@ front_at r p bytes t ls later rest e =
     } in
     (q.0, at, q.2)
 
-pub broken_off : HasTexts → (r : Rules) (p : NumberedProof) (bytes : List ℕ) → IsTextOf r p bytes → (ls : List Line) (l : Line) (later : List Line)
+pub broken_off : (r : Rules) (p : NumberedProof) (bytes : List ℕ) → IsTextOf r p bytes → (ls : List Line) (l : Line) (later : List Line)
     (rest : List ℕ) → proof_lines p ≡ ls ++ (l ∷ later) → NoFeed rest → IsFirstBadLine r (file_text ls ++ rest) (Line_fault (length ls + 1))
-broken_off ok r p bytes t ls l later rest e h =
+broken_off r p bytes t ls l later rest e h =
     let a : (m : State) × At r (file_text ls ++ rest) ls rest m × (run m (l ∷ later) ≡ Some (last p)) = front_at r p bytes t ls (l ∷ later) rest e in
-    bad_cut ok r (file_text ls ++ rest) ls rest a.0 a.1 h (λ z. not_ended a.0 a.2)
+    bad_cut r (file_text ls ++ rest) ls rest a.0 a.1 h (λ z. not_ended a.0 a.2)
   where
     not_ended : (m : State) → run m (l ∷ later) ≡ Some (last p) → IsEnded m → ⊥
     not_ended m e (f, bs, q) = let P : State → Type 0 = λ x. run x (l ∷ later) ≡ Some (last p) in
         none-some (last p) (sym (ap (λ o. option_and_then (λ n. run n later) o) (ended_stops f bs l)) ∙ subst P q e)
 
-pub goes_on : HasTexts → (r : Rules) (p : NumberedProof) (bytes : List ℕ) → IsTextOf r p bytes → (b : ℕ) (more : List ℕ)
+pub goes_on : (r : Rules) (p : NumberedProof) (bytes : List ℕ) → IsTextOf r p bytes → (b : ℕ) (more : List ℕ)
     → IsFirstBadLine r (bytes ++ (b ∷ more)) (Line_fault (length (proof_lines p) + 1))
-goes_on ok r p bytes t b more =
-    first_bad ok r (bytes ++ (b ∷ more)) (proof_lines p) (b ∷ more) (last p) at bad (λ z. absurd (omega (arith, ap length z)))
+goes_on r p bytes t b more =
+    first_bad r (bytes ++ (b ∷ more)) (proof_lines p) (b ∷ more) (last p) at bad (λ z. absurd (omega (arith, ap length z)))
   where
     at : At r (bytes ++ (b ∷ more)) (proof_lines p) (b ∷ more) (last p)
     at = record { text = ap (λ x. x ++ (b ∷ more)) t.text; state = proof_run p t.parts; fit = t.fit; pass = t.pass; within = t.within }
@@ -74,7 +75,7 @@ goes_on ok r p bytes t b more =
     bad : IsGood r (bytes ++ (b ∷ more)) (length (proof_lines p) + 1) → ⊥
     bad (xs, later, len, text, follows, pass) =
         let q : (l : Line) × (xs ≡ proof_lines p ++ (l ∷ [])) × (b ∷ more ≡ line_text l ++ (10 ∷ later)) × IsInRange l
-        = more_line ok r (bytes ++ (b ∷ more)) (proof_lines p) (b ∷ more) (last p) at xs later len text (follows_fit xs follows) in
+        = more_line r (bytes ++ (b ∷ more)) (proof_lines p) (b ∷ more) (last p) at xs later len text (follows_fit xs follows) in
         let n : (n : State) × (run begin xs ≡ Some n) = begins_run xs (follows.0, follows.1, follows.2, follows.3) in
         let f : next (last p) q.0 ≡ Some n.0 = run_push (last p) (proof_lines p) q.0 (proof_run p t.parts) n.0 (ap (run begin) (sym q.1) ∙ n.1) in
         none-some n.0 (sym (ended_stops (front p.table p.places p.certificates) p.blocks q.0) ∙ f)

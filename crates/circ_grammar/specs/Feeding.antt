@@ -1,9 +1,10 @@
 -- What a reader keeps that is fed the bytes in pieces.
 use Rattle.std.specs.Prelude.{◌≡◌, ℕ, List, length}
 use Rattle.circ_line.specs.Line.{Line}
+use Rattle.circ_line.specs.Plain.{NoFeed}
 use Rattle.circ_grammar.specs.FirstBad.{Rules}
 use Rattle.circ_grammar.specs.Machine.{State}
-use Rattle.circ_grammar.specs.Reading.{At, NoFeed}
+use Rattle.circ_grammar.specs.Reading.{At}
 use Rattle.circ_grammar.specs.Now.{Now, now}
 
 -- the number of whole lines, the bytes after the last line feed, and the part under way
