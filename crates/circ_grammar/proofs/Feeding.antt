@@ -6,10 +6,10 @@ use Rattle.std.proofs.lemmas.Option.{same_Some}
 use Rattle.circ_line.specs.Line.{Line}
 use Rattle.circ_line.specs.Text.{line_text, IsInRange}
 use Rattle.circ_line.specs.Plain.{NoFeed, ReadsLine}
-use Rattle.circ_grammar.specs.Grammar.{NumberedBlock, NumberedProof}
+use Rattle.circ_grammar.specs.Grammar.{NumberedBlock}
 use Rattle.circ_grammar.specs.FirstBad.{Rules, file_text, IsTextOf, Line_fault, Limit_fault, IsFirstBadLine}
 use Rattle.circ_grammar.specs.Machine.{Front, State, begin, ended, next, run, proof_of}
-use Rattle.circ_grammar.specs.Reading.{At, NextLine, IsEnded}
+use Rattle.circ_grammar.specs.Reading.{At}
 use Rattle.circ_grammar.specs.Now.{Now, Begin, Ended, now, next_now}
 use Rattle.circ_grammar.specs.Feeding.{Kept, IsFed}
 use Rattle.circ_grammar.proofs.Spelled.{option_map_some}

@@ -4,7 +4,7 @@ use Rattle.std.proofs.Common.{◌∙◌, ap, arith, length-append, inl, inr, sub
 use Rattle.std.proofs.lemmas.Bool.{eqb-true}
 use Rattle.circ_line.specs.Line.{Line}
 use Rattle.circ_line.specs.Text.{line_text}
-use Rattle.circ_line.specs.Plain.{NoFeed, ReadsLine}
+use Rattle.circ_line.specs.Plain.{NoFeed}
 use Rattle.circ_grammar.specs.Grammar.{NumberedProof}
 use Rattle.circ_grammar.specs.FirstBad.{Rules, IsTextOf, LineFault, Line_fault, Limit_fault, IsFirstBadLine}
 use Rattle.circ_grammar.specs.Machine.{State, begin, tabling, placing, certifying, opened, stepping, simplifying, reducing, closed, ended, next, proof_of}

@@ -8,7 +8,6 @@ use Rattle.circ_grammar.specs.Grammar.{NumberedProof, proof_lines}
 use Rattle.circ_grammar.specs.FirstBad.{Rules, file_text, AllInRange, NoLimit, IsTextOf, IsGood, PassesLimit, LineFault, Line_fault, Limit_fault}
 use Rattle.circ_grammar.specs.FirstBad.{IsFirstBadLine}
 use Rattle.circ_grammar.specs.Machine.{State, begin, ended, run, proof_of, front}
-use Rattle.circ_grammar.specs.Reading.{}
 use Rattle.circ_grammar.proofs.Complete.{proof_run}
 use Rattle.circ_grammar.proofs.FirstBad.{same_front, limit_at, false_true}
 

@@ -6,7 +6,7 @@ use Rattle.std.proofs.lemmas.Option.{none-some}
 use Rattle.circ_line.specs.Line.{Line, head_line, table_line, place_line, certificate_line, block_line, goal_line, simplify_line, reduce_line}
 use Rattle.circ_line.specs.Line.{derive_line, done_line, same_line, split_line, left_line, right_line, end_line}
 use Rattle.circ_line.specs.Text.{line_text, IsInRange}
-use Rattle.circ_line.specs.Plain.{NoFeed, ReadsLine}
+use Rattle.circ_line.specs.Plain.{NoFeed}
 use Rattle.circ_grammar.specs.Grammar.{NumberedBlock, NumberedProof, proof_lines}
 use Rattle.circ_grammar.specs.FirstBad.{Rules, file_text, AllInRange, AllPass, NoLimit, IsTextOf, IsGood, Line_fault, IsFirstBadLine}
 use Rattle.circ_grammar.specs.Machine.{Front, State, begin, ended, next, run, front}

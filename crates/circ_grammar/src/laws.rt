@@ -7,6 +7,7 @@ ghost use Rattle.circ_grammar.specs.Grammar.{NumberedProof, HasParts, BeginsProo
 ghost use Rattle.circ_grammar.specs.FirstBad.{Rules, file_text, IsTextOf, LineFault, Line_fault};
 ghost use Rattle.circ_grammar.specs.FirstBad.{IsFirstBadLine};
 ghost use Rattle.circ_grammar.specs.Machine.{State, begin, next, run};
+ghost use Rattle.circ_grammar.specs.Feeding.{Kept, IsFed};
 ghost use Rattle.circ_grammar.specs.Parts.{NumberedPart, parts_of, shown_by};
 ghost use Rattle.circ_grammar.specs.Shown.{shown, brings};
 ghost use Rattle.circ_grammar.specs.Now.{now, next_now, line_part, with_table};
@@ -64,4 +65,10 @@ pub fn part_under_way()
     ensures goes_on { (m : State) (l : Line) → option_map now (next m l) ≡ next_now (now m) l }
     ensures shows { (table : List TableLine) (m : State) (l : Line) →
         map (with_table table) (brings m l) ≡ line_part table (now m) l }
+{}
+
+/// What a reader keeps that is fed in pieces depends on the bytes alone, whatever the pieces were.
+pub fn fed_in_pieces()
+    ensures { (r : Rules) (bytes : List ℕ) (ls bs : List Line) (m n : State) (k j : Kept) →
+        IsFed r bytes ls m k → IsFed r bytes bs n j → (ls ≡ bs) × (m ≡ n) × (k ≡ j) }
 {}
