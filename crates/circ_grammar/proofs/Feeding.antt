@@ -19,19 +19,21 @@ use Rattle.circ_grammar.proofs.Now.{next_is}
 -- Nothing was fed.
 pub fed_nothing : (r : Rules) → IsFed r [] [] begin (record { lines = 0; rest = []; under_way = Begin })
 fed_nothing r = record {
-    at = record { text = refl; state = refl; fit = tt; pass = tt; within = tt };
-    no_feed = tt;
-    count = refl;
-    part = refl }
+  at = record { text = refl; state = refl; fit = tt; pass = tt; within = tt };
+  no_feed = tt;
+  count = refl;
+  part = refl;
+}
 
 -- more bytes after what is kept
 at_later : (r : Rules) (bytes later : List ℕ) (ls : List Line) (x : List ℕ) (m : State) → At r bytes ls x m → At r (bytes ++ later) ls (x ++ later) m
 at_later r bytes later ls x m a = record {
-    text = ap (λ y. y ++ later) a.text ∙ append_assoc (file_text ls) x later;
-    state = a.state;
-    fit = a.fit;
-    pass = a.pass;
-    within = a.within }
+  text = ap (λ y. y ++ later) a.text ∙ append_assoc (file_text ls) x later;
+  state = a.state;
+  fit = a.fit;
+  pass = a.pass;
+  within = a.within;
+}
 
 no_feed_append : (a b : List ℕ) → NoFeed a → NoFeed b → NoFeed (a ++ b)
 no_feed_append [] b f g = g
@@ -41,10 +43,11 @@ no_feed_append (c ∷ a) b f g = (f.0, no_feed_append a b f.1 g)
 pub fed_rest : (r : Rules) (bytes piece : List ℕ) (ls : List Line) (m : State) (k : Kept) → IsFed r bytes ls m k → NoFeed piece
     → IsFed r (bytes ++ piece) ls m (record { lines = k.lines; rest = k.rest ++ piece; under_way = k.under_way })
 fed_rest r bytes piece ls m k f n = record {
-    at = at_later r bytes piece ls k.rest m f.at;
-    no_feed = no_feed_append k.rest piece f.no_feed n;
-    count = f.count;
-    part = f.part }
+  at = at_later r bytes piece ls k.rest m f.at;
+  no_feed = no_feed_append k.rest piece f.no_feed n;
+  count = f.count;
+  part = f.part;
+}
 
 after_line : (r : Rules) (bytes more later : List ℕ) (ls : List Line) (x : List ℕ) (m : State) → At r bytes ls x m
     → At r ((bytes ++ (more ++ (10 ∷ []))) ++ later) ls (x ++ ((more ++ (10 ∷ [])) ++ later)) m
@@ -62,17 +65,21 @@ line_at x more later l e = cut_at x more later ∙ ap (λ y. y ++ (10 ∷ later)
 pub fed_line : (r : Rules) (bytes more : List ℕ) (ls : List Line) (m : State) (k : Kept) (l : Line) (n : Now) → IsFed r bytes ls m k
     → IsInRange l → k.rest ++ more ≡ line_text l → next_now k.under_way l ≡ Some n → r.passes ls l ≡ true → r.limit ls l ≡ false
     → (q : State) × (next m l ≡ Some q)
-        × IsFed r (bytes ++ (more ++ (10 ∷ []))) (ls ++ (l ∷ [])) q (record { lines = k.lines + 1; rest = []; under_way = n })
+    × IsFed r (bytes ++ (more ++ (10 ∷ []))) (ls ++ (l ∷ [])) q (record { lines = k.lines + 1; rest = []; under_way = n })
 fed_line r bytes more ls m k l n f fits e g pass within =
     let o : option_map now (next m l) ≡ Some n = next_is m l ∙ (ap (λ x. next_now x l) f.part ∙ g) in
     let q : (q : State) × (next m l ≡ Some q) × (now q ≡ n) = option_map_some now (next m l) n o in
     let a : At r (bytes ++ (more ++ (10 ∷ []))) ls (k.rest ++ (more ++ (10 ∷ []))) m = at_later r bytes (more ++ (10 ∷ [])) ls k.rest m f.at in
-    let t : k.rest ++ (more ++ (10 ∷ [])) ≡ line_text l ++ (10 ∷ []) = sym (append_assoc k.rest more (10 ∷ [])) ∙ ap (λ y. y ++ (10 ∷ [])) e in
-    (q.0, q.1, record {
+    let t : k.rest ++ (more ++ (10 ∷ [])) ≡ line_text l ++ (10 ∷ []) = sym (append_assoc k.rest more (10 ∷ [])) ∙ ap (λ y. y ++ (10 ∷ [])) e in (
+      q.0,
+      q.1,
+      record {
         at = go_on r (bytes ++ (more ++ (10 ∷ []))) ls (k.rest ++ (more ++ (10 ∷ []))) [] m q.0 a l (fits, t) q.1 pass within;
         no_feed = tt;
         count = omega (arith, f.count, length-append ls (l ∷ []));
-        part = q.2 })
+        part = q.2;
+      },
+    )
 
 -- The faults of a line that is whole, whatever comes later.
 
@@ -81,7 +88,7 @@ pub fed_form : (r : Rules) (bytes more later : List ℕ) (ls : List Line) (m : S
 fed_form r bytes more later ls m k f n none =
     let P : ℕ → Type 0 = λ i. IsFirstBadLine r ((bytes ++ (more ++ (10 ∷ []))) ++ later) (Line_fault (i + 1)) in
     subst P (sym f.count) (bad_form r ((bytes ++ (more ++ (10 ∷ []))) ++ later) ls (k.rest ++ ((more ++ (10 ∷ [])) ++ later)) (k.rest ++ more) later m
-        (after_line r bytes more later ls k.rest m f.at) (no_feed_append k.rest more f.no_feed n) (cut_at k.rest more later) none)
+    (after_line r bytes more later ls k.rest m f.at) (no_feed_append k.rest more f.no_feed n) (cut_at k.rest more later) none)
 
 pub fed_next : (r : Rules) (bytes more later : List ℕ) (ls : List Line) (m : State) (k : Kept) (l : Line) → IsFed r bytes ls m k
     → IsInRange l → k.rest ++ more ≡ line_text l → next_now k.under_way l ≡ None
@@ -89,8 +96,8 @@ pub fed_next : (r : Rules) (bytes more later : List ℕ) (ls : List Line) (m : S
 fed_next r bytes more later ls m k l f fits e g =
     let P : ℕ → Type 0 = λ i. IsFirstBadLine r ((bytes ++ (more ++ (10 ∷ []))) ++ later) (Line_fault (i + 1)) in
     subst P (sym f.count) (bad_next r ((bytes ++ (more ++ (10 ∷ []))) ++ later) ls (k.rest ++ ((more ++ (10 ∷ [])) ++ later)) later m
-        (after_line r bytes more later ls k.rest m f.at) l (fits, line_at k.rest more later l e)
-        (go (next m l) (next_is m l ∙ (ap (λ x. next_now x l) f.part ∙ g))))
+    (after_line r bytes more later ls k.rest m f.at) l (fits, line_at k.rest more later l e)
+    (go (next m l) (next_is m l ∙ (ap (λ x. next_now x l) f.part ∙ g))))
   where
     go : (o : Option State) → option_map now o ≡ None → o ≡ None
     go None e = refl
@@ -102,7 +109,7 @@ pub fed_check : (r : Rules) (bytes more later : List ℕ) (ls : List Line) (m : 
 fed_check r bytes more later ls m k l f fits e g =
     let P : ℕ → Type 0 = λ i. IsFirstBadLine r ((bytes ++ (more ++ (10 ∷ []))) ++ later) (Line_fault (i + 1)) in
     subst P (sym f.count) (bad_check r ((bytes ++ (more ++ (10 ∷ []))) ++ later) ls (k.rest ++ ((more ++ (10 ∷ [])) ++ later)) later m
-        (after_line r bytes more later ls k.rest m f.at) l (fits, line_at k.rest more later l e) g)
+    (after_line r bytes more later ls k.rest m f.at) l (fits, line_at k.rest more later l e) g)
 
 pub fed_limit : (r : Rules) (bytes more later : List ℕ) (ls : List Line) (m : State) (k : Kept) (l : Line) (n : Now) → IsFed r bytes ls m k
     → IsInRange l → k.rest ++ more ≡ line_text l → next_now k.under_way l ≡ Some n → r.passes ls l ≡ true → r.limit ls l ≡ true
@@ -112,7 +119,7 @@ fed_limit r bytes more later ls m k l n f fits e g pass reached =
     let o : option_map now (next m l) ≡ Some n = next_is m l ∙ (ap (λ x. next_now x l) f.part ∙ g) in
     let q : (q : State) × (next m l ≡ Some q) × (now q ≡ n) = option_map_some now (next m l) n o in
     subst P (sym f.count) (bad_limit r ((bytes ++ (more ++ (10 ∷ []))) ++ later) ls (k.rest ++ ((more ++ (10 ∷ [])) ++ later)) later m q.0
-        (after_line r bytes more later ls k.rest m f.at) l (fits, line_at k.rest more later l e) q.1 pass reached)
+    (after_line r bytes more later ls k.rest m f.at) l (fits, line_at k.rest more later l e) q.1 pass reached)
 
 -- The bytes are at their end, and whole.
 pub fed_whole : (r : Rules) (bytes : List ℕ) (ls : List Line) (m : State) (k : Kept) → IsFed r bytes ls m k → k.rest ≡ [] → k.under_way ≡ Ended
@@ -150,13 +157,16 @@ one_fed r bytes ls bs m n k j f g = go (le_or_le (length ls) (length bs))
   where
     le_or_le : (a b : ℕ) → (a ≤ b) ⊎ (b ≤ a)
     le_or_le a b = grind arith
+
     kept : (a b : Kept) → a.lines ≡ b.lines → a.rest ≡ b.rest → a.under_way ≡ b.under_way → a ≡ b
     kept a b x y z = ap (λ t. kept_of t a.rest a.under_way) x
         ∙ (ap (λ t. kept_of b.lines t a.under_way) y ∙ ap (λ t. kept_of b.lines b.rest t) z)
+
     same : ls ≡ bs → k.rest ≡ j.rest → (ls ≡ bs) × (m ≡ n) × (k ≡ j)
     same e s =
         let q : m ≡ n = same_Some m n (sym f.at.state ∙ (ap (run begin) e ∙ g.at.state)) in
         (e, q, kept k j (f.count ∙ (ap length e ∙ sym g.count)) s (sym f.part ∙ (ap now q ∙ g.part)))
+
     go : (length ls ≤ length bs) ⊎ (length bs ≤ length ls) → (ls ≡ bs) × (m ≡ n) × (k ≡ j)
     go (inl l) = let c : (bs ≡ ls) × (j.rest ≡ k.rest) = one_cut r bytes ls bs k.rest j.rest m n f.at g.at f.no_feed l in same (sym c.0) (sym c.1)
     go (inr l) = let c : (ls ≡ bs) × (k.rest ≡ j.rest) = one_cut r bytes bs ls j.rest k.rest n m g.at f.at g.no_feed l in same c.0 c.1
