@@ -11,7 +11,7 @@ use Rattle.circ_replay.specs.Plain.{LinkOf, Equation_link, Hypothesis_link, Assu
 use Rattle.circ_line.specs.Line.{Variable_line, Application_line, Line, head_line, table_line, place_line, certificate_line, block_line, goal_line, simplify_line, reduce_line, derive_line, done_line, same_line, split_line, left_line, right_line, end_line}
 use Rattle.circ_line.specs.Text.{joined, way_word, link_words, line_text, AreNumbers, IsPathInRange, IsLinkInRange, IsInRange}
 use Rattle.circ_line.specs.Front.{whole, then_whole}
-use Rattle.circ_line.specs.Read.{field_at, numbers_of, number_of, pair_of, path_at, rule_at, to_equation, to_hypothesis, to_assumption, to_content, link_of, first_of, to_variable, to_goal, to_place, to_split, short_line, to_application, line_of}
+use Rattle.circ_line.specs.Read.{field_at, numbers_of, number_of, pair_of, path_at, rule_at, to_equation, to_hypothesis, to_assumption, to_content, link_of, first_of, frame_lines, to_variable, to_goal, to_place, to_split, short_line, to_application, line_of}
 use Rattle.circ_line.proofs.Parts.{IsText, or_gives, kind_gives, whole_text, then_text}
 use Rattle.circ_line.proofs.FieldTexts.{field, words_after, path_field, rule_field, IsNumber, IsRule, field_item, path_item, rule_item, number_text, pair_text, numbers_text, instance_text, words_no_digit}
 
@@ -116,7 +116,7 @@ short_gives bs l e = or_gives (codes "v") bs _ _ l e
     (λ e. or_gives (codes "split") bs _ _ l e
     (λ r first q. pair_gives to_split (codes "split") bs r l (λ p. refl) (λ p f. (f.0, (f.1, tt))) first q)
     (λ e. first_gives
-    (same_line ∷ reduce_line ∷ derive_line ∷ simplify_line ∷ certificate_line ∷ block_line ∷ done_line ∷ end_line ∷ head_line ∷ [])
+    (same_line ∷ reduce_line ∷ derive_line ∷ simplify_line ∷ frame_lines)
     bs l (tt, (tt, (tt, (tt, (tt, (tt, (tt, (tt, (tt, tt))))))))) e))))
 
 pub line_gives : (bs : List ℕ) (l : Line) → line_of bs ≡ Some l → Is bs l

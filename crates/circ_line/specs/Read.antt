@@ -76,10 +76,12 @@ abbrev pub first_of : List Line → List ℕ → Option Line
 first_of [] bs = None
 first_of (line ∷ lines) bs = if bytes_eq bs (line_text line) then Some line else first_of lines bs
 
+abbrev pub frame_lines : List Line
+frame_lines = certificate_line ∷ block_line ∷ done_line ∷ end_line ∷ head_line ∷ []
+
 -- a line without numbers
 abbrev pub word_line : List ℕ → Option Line
-word_line bs =
-    first_of (same_line ∷ reduce_line ∷ derive_line ∷ simplify_line ∷ certificate_line ∷ block_line ∷ done_line ∷ end_line ∷ head_line ∷ []) bs
+word_line bs = first_of (same_line ∷ reduce_line ∷ derive_line ∷ simplify_line ∷ frame_lines) bs
 
 abbrev pub to_variable : ℕ × ℕ → Line
 to_variable p = table_line (Variable_line p.0 p.1)
