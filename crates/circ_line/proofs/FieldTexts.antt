@@ -1,6 +1,5 @@
 -- The fields of a line: each has one text, and each text is read.
 use Rattle.std.specs.Prelude.{◌≡◌, ℕ, ◌<◌, ◌^◌, List, [], ◌∷◌, ◌++◌, map, flat_map, refl, Option, Some, None, codes, decimal}
-use Rattle.std.specs.List.{AllByRecursion}
 use Rattle.std.specs.Option.{option_map}
 use Rattle.std.proofs.Common.{sym, ◌∙◌, ap, subst, arith, append_assoc, append-nil}
 use Rattle.std.proofs.lemmas.Option.{same_Some}
@@ -72,7 +71,7 @@ way_item = record { gives = gives; again = again }
     gives bs w r e = or_gives (codes " >") bs (λ s. Some (Forth, s)) (option_map (λ s. (Back, s)) (rest_after (codes " <") bs)) (w, r) e
         (λ s first q. (first ∙ ap (λ p. (32 ∷ way_word p.0) ++ p.1) (same_Some (Forth, s) (w, r) q), tt))
         (λ q. let m : (s : List ℕ) × (rest_after (codes " <") bs ≡ Some s) × ((Back, s) ≡ (w, r)) = map_some (λ s. (Back, s)) (rest_after (codes " <") bs) (w, r) q in
-            (after_gives (codes " <") bs m.0 m.1 ∙ ap (λ p. (32 ∷ way_word p.0) ++ p.1) m.2, tt))
+        (after_gives (codes " <") bs m.0 m.1 ∙ ap (λ p. (32 ∷ way_word p.0) ++ p.1) m.2, tt))
 
     again : (w : Way) (r : List ℕ) → Unit {0} → Any r → way_at ((32 ∷ way_word w) ++ r) ≡ Some (w, r)
     again Forth r fit t = refl
@@ -104,9 +103,10 @@ path_item = record { gives = gives; again = again }
             let front : (bs ≡ field p.0 ++ p.1) × (p.0 < 2 ^ 16) = first_item.gives bs p.0 p.1 q in
             let rest : (p.1 ≡ flat_map step s.0 ++ s.1) × IsPathInRange s.0 = items_gives steps_item steps_follow p.1 s.0 s.1 refl in
             let P : List ℕ × List ℕ → Type 0 = λ z. (bs ≡ path_field z.0 ++ z.1) × IsPathInRange z.0 in
-            subst P (same_Some (p.0 ∷ s.0, s.1) (ns, r) e)
-            (front.0 ∙ ap (λ z. field p.0 ++ z) (rest.0 ∙ ap (λ z. z ++ s.1) (words_are 46 s.0)) ∙ sym (append_assoc (field p.0) (words_after 46 s.0) s.1),
-             (front.1, rest.1))
+            subst P (same_Some (p.0 ∷ s.0, s.1) (ns, r) e) (
+              front.0 ∙ ap (λ z. field p.0 ++ z) (rest.0 ∙ ap (λ z. z ++ s.1) (words_are 46 s.0)) ∙ sym (append_assoc (field p.0) (words_after 46 s.0) s.1),
+              (front.1, rest.1),
+            )
 
     again : (ns r : List ℕ) → IsPathInRange ns → EndsPath r → path_at (path_field ns ++ r) ≡ Some (ns, r)
     again [] r fit n = refl

@@ -5,3 +5,4 @@ pub mod FieldTexts
 pub mod LineTexts
 pub mod OneText
 pub mod TakenBack
+pub mod TwoParts

@@ -1,17 +1,17 @@
 -- Links and lines: each has one text, and each text is read.
-use Rattle.std.specs.Prelude.{◌≡◌, ℕ, ◌<◌, ◌^◌, List, [], ◌∷◌, ◌++◌, map, flat_map, refl, Option, Some, None, Bool, true, false, if◌then◌else◌, codes, decimal}
+use Rattle.std.specs.Prelude.{◌≡◌, ℕ, List, [], ◌∷◌, ◌++◌, flat_map, refl, Some, Bool, true, false, if◌then◌else◌, codes, decimal}
 use Rattle.std.specs.List.{AllByRecursion}
 use Rattle.std.specs.Option.{option_map}
 use Rattle.std.specs.Str.{bytes_eq}
-use Rattle.std.proofs.Common.{sym, ◌∙◌, ap, subst, arith, append_assoc, append-nil}
+use Rattle.std.proofs.Common.{sym, ◌∙◌, ap, subst, append_assoc, append-nil}
 use Rattle.std.proofs.lemmas.Option.{same_Some}
 use Rattle.std.proofs.lemmas.Slice.Eq.{bytes_eq-Decides}
 use Rattle.circ_theory.specs.declared.replay.Way.{Way}
 use Rattle.circ_replay.specs.Plain.{LinkOf, Equation_link, Hypothesis_link, Assumption_link, Content_link}
-use Rattle.circ_line.specs.Line.{TableLine, Variable_line, Application_line, Line, head_line, table_line, place_line, certificate_line, block_line, goal_line, simplify_line, reduce_line, derive_line, done_line, same_line, split_line, left_line, right_line, end_line}
+use Rattle.circ_line.specs.Line.{Variable_line, Application_line, Line, head_line, table_line, place_line, certificate_line, block_line, goal_line, simplify_line, reduce_line, derive_line, done_line, same_line, split_line, left_line, right_line, end_line}
 use Rattle.circ_line.specs.Text.{joined, way_word, link_words, line_text, AreNumbers, IsPathInRange, IsLinkInRange, IsInRange}
-use Rattle.circ_line.specs.Front.{rest_after, whole, then_whole, after_or}
-use Rattle.circ_line.specs.Read.{field_at, numbers_of, number_of, pair_of, path_at, rule_at, instance_of, to_equation, to_hypothesis, to_assumption, to_content, link_of, first_of, word_line, to_variable, to_goal, to_place, to_split, short_line, to_application, line_of}
+use Rattle.circ_line.specs.Front.{whole, then_whole}
+use Rattle.circ_line.specs.Read.{field_at, numbers_of, number_of, pair_of, path_at, rule_at, to_equation, to_hypothesis, to_assumption, to_content, link_of, first_of, frame_lines, to_variable, to_goal, to_place, to_split, short_line, to_application, line_of}
 use Rattle.circ_line.proofs.Parts.{IsText, or_gives, kind_gives, whole_text, then_text}
 use Rattle.circ_line.proofs.FieldTexts.{field, words_after, path_field, rule_field, IsNumber, IsRule, field_item, path_item, rule_item, number_text, pair_text, numbers_text, instance_text, words_no_digit}
 
@@ -116,8 +116,8 @@ short_gives bs l e = or_gives (codes "v") bs _ _ l e
     (λ e. or_gives (codes "split") bs _ _ l e
     (λ r first q. pair_gives to_split (codes "split") bs r l (λ p. refl) (λ p f. (f.0, (f.1, tt))) first q)
     (λ e. first_gives
-        (same_line ∷ reduce_line ∷ derive_line ∷ simplify_line ∷ certificate_line ∷ block_line ∷ done_line ∷ end_line ∷ head_line ∷ [])
-        bs l (tt, (tt, (tt, (tt, (tt, (tt, (tt, (tt, (tt, tt))))))))) e))))
+    (same_line ∷ reduce_line ∷ derive_line ∷ simplify_line ∷ frame_lines)
+    bs l (tt, (tt, (tt, (tt, (tt, (tt, (tt, (tt, (tt, tt))))))))) e))))
 
 pub line_gives : (bs : List ℕ) (l : Line) → line_of bs ≡ Some l → Is bs l
 line_gives bs l e = or_gives (codes "left ") bs _ _ l e

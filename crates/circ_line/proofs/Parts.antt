@@ -3,8 +3,8 @@ use Rattle.std.specs.Prelude.{◌≡◌, ℕ, ◌==◌, List, [], ◌∷◌, ◌
 use Rattle.std.specs.Option.{option_and_then, option_map}
 use Rattle.std.proofs.Common.{sym, ◌∙◌, ap, subst, append_assoc, append-nil}
 use Rattle.std.proofs.lemmas.Option.{same_Some}
-use Rattle.std.proofs.lemmas.Bool.{eqb-true, eq-eqb}
-use Rattle.circ_line.specs.Front.{rest_after, seq, is_end, ended, whole, then_whole, after_or}
+use Rattle.std.proofs.lemmas.Bool.{eqb-true}
+use Rattle.circ_line.specs.Front.{rest_after, seq, ended, whole, then_whole, after_or}
 use Rattle.circ_line.proofs.Many.{IsItem}
 
 -- What is read is the text of a fitting value, and each such text is read.

@@ -3,3 +3,4 @@ pub mod Text
 pub mod Front
 pub mod Read
 pub mod Plain
+pub mod Written

@@ -1,12 +1,12 @@
 -- The line that bytes are the text of.
-use Rattle.std.specs.Prelude.{◌≡◌, ◌^◌, ℕ, List, [], ◌∷◌, Option, Some, None, Bool, if◌then◌else◌, codes}
+use Rattle.std.specs.Prelude.{◌^◌, ℕ, List, [], ◌∷◌, Option, Some, None, if◌then◌else◌, codes}
 use Rattle.std.specs.Option.{option_map}
 use Rattle.std.specs.Str.{bytes_eq}
 use Rattle.circ_theory.specs.declared.replay.Way.{Way}
 use Rattle.circ_theory.specs.declared.replay.Way.TheVariants.{Forth, Back}
 use Rattle.circ_replay.specs.Plain.{LinkOf, Equation_link, Hypothesis_link, Assumption_link, Content_link}
-use Rattle.circ_line.specs.Line.{TableLine, Variable_line, Application_line, Line, head_line, table_line, place_line, certificate_line, block_line, goal_line, simplify_line, reduce_line, derive_line, done_line, same_line, split_line, left_line, right_line, end_line}
-use Rattle.circ_line.specs.Text.{line_text, IsInRange}
+use Rattle.circ_line.specs.Line.{Variable_line, Application_line, Line, head_line, table_line, place_line, certificate_line, block_line, goal_line, simplify_line, reduce_line, derive_line, done_line, same_line, split_line, left_line, right_line, end_line}
+use Rattle.circ_line.specs.Text.{line_text}
 use Rattle.circ_line.specs.Front.{rest_after, marked, items_at, seq, ended, whole, then_whole, after_or}
 
 -- a number after a space
@@ -76,10 +76,12 @@ abbrev pub first_of : List Line → List ℕ → Option Line
 first_of [] bs = None
 first_of (line ∷ lines) bs = if bytes_eq bs (line_text line) then Some line else first_of lines bs
 
+abbrev pub frame_lines : List Line
+frame_lines = certificate_line ∷ block_line ∷ done_line ∷ end_line ∷ head_line ∷ []
+
 -- a line without numbers
 abbrev pub word_line : List ℕ → Option Line
-word_line bs =
-    first_of (same_line ∷ reduce_line ∷ derive_line ∷ simplify_line ∷ certificate_line ∷ block_line ∷ done_line ∷ end_line ∷ head_line ∷ []) bs
+word_line bs = first_of (same_line ∷ reduce_line ∷ derive_line ∷ simplify_line ∷ frame_lines) bs
 
 abbrev pub to_variable : ℕ × ℕ → Line
 to_variable p = table_line (Variable_line p.0 p.1)

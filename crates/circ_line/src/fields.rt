@@ -17,10 +17,7 @@ pub(crate) struct Rule {
     pub(crate) path: Path,
 }
 
-pub(crate) fn rule_at(
-    alloc: Global,
-    bytes: &[u8],
-) -> Result<Option<(Rule, &[u8])>, AllocError>
+pub(crate) fn rule_at(alloc: Global, bytes: &[u8]) -> Result<Option<(Rule, &[u8])>, AllocError>
     ensures { IfOk result (λ o. option_map
         (λ r. ((r.0.way, (r.0.number, r.0.path.items)), r.1.now)) o ≡ rule_at bytes.now) }
 {

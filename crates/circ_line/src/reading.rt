@@ -1,7 +1,7 @@
 //! Lines as text is read.
 ghost use Rattle.std.specs.Prelude.{◌≡◌, IfOk};
 ghost use Rattle.std.specs.Option.{option_map};
-ghost use Rattle.circ_line.specs.Read.{line_of, application_of, short_line, word_line};
+ghost use Rattle.circ_line.specs.Read.{line_of, application_of, short_line, frame_lines, first_of, word_line};
 ghost use Rattle.circ_line.specs.Plain.{plain_line, ReadsLine};
 
 use crate::line::{Line, TableLine};
@@ -79,7 +79,16 @@ fn word_line(bytes: &[u8]) -> Option<Line>
         Some(Line::Derive)
     } else if bytes == b"simplify".as_slice() {
         Some(Line::Simplify)
-    } else if bytes == b"cert".as_slice() {
+    } else {
+        frame_line(bytes)
+    }
+}
+
+/// A line that stands once, or once for each block or place.
+fn frame_line(bytes: &[u8]) -> Option<Line>
+    ensures { option_map plain_line result ≡ first_of frame_lines bytes.now }
+{
+    if bytes == b"cert".as_slice() {
         Some(Line::Certificate)
     } else if bytes == b"block".as_slice() {
         Some(Line::Block)

@@ -1,7 +1,8 @@
 //! Lines as text is written.
 ghost use Rattle.std.specs.Prelude.{◌≡◌, ◌++◌, ◌∷◌, [], codes, decimal, flat_map, map, OnOk, OnErr};
 ghost use Rattle.circ_replay.specs.Plain.{plain_link};
-ghost use Rattle.circ_line.specs.Text.{joined, path_word, way_word, link_words, table_words, line_text};
+ghost use Rattle.circ_line.specs.Text.{path_word, way_word, link_words, table_words, line_words, line_text};
+ghost use Rattle.circ_line.specs.Written.{first_word, spaced, further};
 ghost use Rattle.circ_line.specs.Plain.{plain_table_line, plain_line, Keeps};
 
 use crate::line::{Line, TableLine};
@@ -26,69 +27,98 @@ pub fn write_line(line: &Line, out: &mut Vec<u8>) -> Result<(), AllocError>
     }
 }
 
+#[tactic(auto, using(crate::proofs::TwoParts::two_parts))]
 fn put_line(out: &mut Vec<u8>, line: &Line) -> Result<(), AllocError>
     ensures text { OnOk result (out.new.items ≡
         out.old.items ++ line_text (plain_line line.now)) }
     ensures keeps { Keeps out.old.items out.new.items }
 {
+    put(out, first_word(line))?;
+    put_fields(out, line)
+}
+
+fn first_word(line: &Line) -> &'static [u8]
+    ensures { result.now ≡ first_word (line_words (plain_line line.now)) }
+{
     match line {
-        Line::Head => put(out, b"circproof 1"),
-        Line::Table { line } => put_table_line(out, line),
-        Line::Place { op, arg } => put_pair(out, b"place", *op, *arg),
-        Line::Certificate => put(out, b"cert"),
-        Line::Block => put(out, b"block"),
-        Line::Goal { left, right } => put_pair(out, b"goal", *left, *right),
-        Line::Simplify => put(out, b"simplify"),
-        Line::Reduce => put(out, b"reduce"),
-        Line::Derive => put(out, b"derive"),
-        Line::Done => put(out, b"done"),
-        Line::Same => put(out, b"same"),
-        Line::Split { term, count } => put_pair(out, b"split", *term, *count),
-        Line::Left { link } => put_link(out, b"left ", link),
-        Line::Right { link } => put_link(out, b"right ", link),
-        Line::End => put(out, b"end"),
+        Line::Head => b"circproof",
+        Line::Table { line } => table_word(line),
+        Line::Place { .. } => b"place",
+        Line::Certificate => b"cert",
+        Line::Block => b"block",
+        Line::Goal { .. } => b"goal",
+        Line::Simplify => b"simplify",
+        Line::Reduce => b"reduce",
+        Line::Derive => b"derive",
+        Line::Done => b"done",
+        Line::Same => b"same",
+        Line::Split { .. } => b"split",
+        Line::Left { .. } => b"left",
+        Line::Right { .. } => b"right",
+        Line::End => b"end",
     }
 }
 
-fn put_table_line(out: &mut Vec<u8>, line: &TableLine) -> Result<(), AllocError>
+fn table_word(line: &TableLine) -> &'static [u8]
+    ensures { result.now ≡ first_word (table_words (plain_table_line line.now)) }
+{
+    match line {
+        TableLine::Variable { .. } => b"v",
+        TableLine::Application { .. } => b"a",
+    }
+}
+
+/// What comes after the first word.
+fn put_fields(out: &mut Vec<u8>, line: &Line) -> Result<(), AllocError>
     ensures text { OnOk result (out.new.items ≡
-        out.old.items ++ joined 32 (table_words (plain_table_line line.now))) }
+        out.old.items ++ further (line_words (plain_line line.now))) }
     ensures keeps { Keeps out.old.items out.new.items }
 {
     match line {
-        TableLine::Variable { number, sort } => put_pair(out, b"v", *number, *sort),
+        Line::Head => put(out, b" 1"),
+        Line::Table { line } => put_table_fields(out, line),
+        Line::Place { op, arg } => put_pair(out, *op, *arg),
+        Line::Goal { left, right } => put_pair(out, *left, *right),
+        Line::Split { term, count } => put_pair(out, *term, *count),
+        Line::Left { link } => put_link(out, link),
+        Line::Right { link } => put_link(out, link),
+        Line::Certificate
+        | Line::Block
+        | Line::Simplify
+        | Line::Reduce
+        | Line::Derive
+        | Line::Done
+        | Line::Same
+        | Line::End => Ok(()),
+    }
+}
+
+fn put_table_fields(out: &mut Vec<u8>, line: &TableLine) -> Result<(), AllocError>
+    ensures text { OnOk result (out.new.items ≡
+        out.old.items ++ further (table_words (plain_table_line line.now))) }
+    ensures keeps { Keeps out.old.items out.new.items }
+{
+    match line {
+        TableLine::Variable { number, sort } => put_pair(out, *number, *sort),
         TableLine::Application { op, args } => {
-            put(out, b"a")?;
             put_number(out, *op)?;
             put_numbers(out, args)
         }
     }
 }
 
-/// A word and two numbers.
-fn put_pair(out: &mut Vec<u8>, word: &[u8], first: u32, second: u32) -> Result<(), AllocError>
+fn put_pair(out: &mut Vec<u8>, first: u32, second: u32) -> Result<(), AllocError>
     ensures text { OnOk result (out.new.items ≡
-        out.old.items ++ joined 32 (word.now ∷ decimal first ∷ decimal second ∷ [])) }
+        out.old.items ++ spaced (decimal first ∷ decimal second ∷ [])) }
     ensures keeps { Keeps out.old.items out.new.items }
 {
-    put(out, word)?;
     put_number(out, first)?;
     put_number(out, second)
 }
 
-/// A link after its side.
-fn put_link(out: &mut Vec<u8>, side: &[u8], link: &Link) -> Result<(), AllocError>
+fn put_link(out: &mut Vec<u8>, link: &Link) -> Result<(), AllocError>
     ensures text { OnOk result (out.new.items ≡
-        out.old.items ++ side.now ++ joined 32 (link_words (plain_link link.now))) }
-    ensures keeps { Keeps out.old.items out.new.items }
-{
-    put(out, side)?;
-    put_link_words(out, link)
-}
-
-fn put_link_words(out: &mut Vec<u8>, link: &Link) -> Result<(), AllocError>
-    ensures text { OnOk result (out.new.items ≡
-        out.old.items ++ joined 32 (link_words (plain_link link.now))) }
+        out.old.items ++ spaced (link_words (plain_link link.now))) }
     ensures keeps { Keeps out.old.items out.new.items }
 {
     match link {
@@ -97,18 +127,18 @@ fn put_link_words(out: &mut Vec<u8>, link: &Link) -> Result<(), AllocError>
             way,
             path,
             terms,
-        } => put_instance(out, b"equation", *way, *number, path, terms),
+        } => put_instance(out, b" equation", *way, *number, path, terms),
         Link::Hypothesis {
             number,
             way,
             path,
             terms,
-        } => put_instance(out, b"hypothesis", *way, *number, path, terms),
+        } => put_instance(out, b" hypothesis", *way, *number, path, terms),
         Link::Assumption { number, way, path } => {
-            put_rule(out, b"assumption", *way, *number, path)
+            put_rule(out, b" assumption", *way, *number, path)
         }
         Link::Content { op, path, term } => {
-            put(out, b"content")?;
+            put(out, b" content")?;
             put_number(out, *op)?;
             put_path(out, path)?;
             put_number(out, *term)
@@ -125,8 +155,8 @@ fn put_instance(
     path: &Path,
     terms: &[u32],
 ) -> Result<(), AllocError>
-    ensures text { OnOk result (out.new.items ≡ out.old.items ++
-        joined 32 (word.now ∷ way_word way ∷ decimal number ∷ path_word path.now.items ∷
+    ensures text { OnOk result (out.new.items ≡ out.old.items ++ word.now ++
+        spaced (way_word way ∷ decimal number ∷ path_word path.now.items ∷
         map decimal terms.now)) }
     ensures keeps { Keeps out.old.items out.new.items }
 {
@@ -142,8 +172,8 @@ fn put_rule(
     number: u32,
     path: &Path,
 ) -> Result<(), AllocError>
-    ensures text { OnOk result (out.new.items ≡ out.old.items ++
-        joined 32 (word.now ∷ way_word way ∷ decimal number ∷ path_word path.now.items ∷ [])) }
+    ensures text { OnOk result (out.new.items ≡ out.old.items ++ word.now ++
+        spaced (way_word way ∷ decimal number ∷ path_word path.now.items ∷ [])) }
     ensures keeps { Keeps out.old.items out.new.items }
 {
     put(out, word)?;
@@ -192,7 +222,7 @@ fn put_steps(out: &mut Vec<u8>, steps: &[u16]) -> Result<(), AllocError>
 /// Numbers with a space before each.
 fn put_numbers(out: &mut Vec<u8>, numbers: &[u32]) -> Result<(), AllocError>
     ensures text { OnOk result (out.new.items ≡
-        out.old.items ++ flat_map (λ w. 32 ∷ w) (map decimal numbers.now)) }
+        out.old.items ++ spaced (map decimal numbers.now)) }
     ensures keeps { Keeps out.old.items out.new.items }
 {
     for number in numbers {
