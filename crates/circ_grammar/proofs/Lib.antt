@@ -1,0 +1,11 @@
+pub mod Spelled
+pub mod Complete
+pub mod Finish
+pub mod FirstBad
+pub mod OneAnswer
+pub mod NothingLeftOut
+pub mod WholeTexts
+pub mod Shown
+pub mod ShownBy
+pub mod Now
+pub mod Feeding

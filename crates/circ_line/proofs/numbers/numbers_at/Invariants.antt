@@ -1,0 +1,10 @@
+use Rattle.std.proofs.Common.{length}
+use Rattle.circ_line.specs.Front.{Run}
+use Rattle.circ_line.specs.Read.{field_at}
+use Rattle.circ_line.proofs.numbers.numbers_at.Given as goal
+
+abbrev pub invariant-loop-number : goal.invariant-loop-number
+invariant-loop-number l = Run field_at l.bytes l.out.items l.rest
+
+abbrev pub decreases-loop-number : goal.decreases-loop-number
+decreases-loop-number l = length l.rest

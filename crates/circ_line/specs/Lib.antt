@@ -1,0 +1,6 @@
+pub mod Line
+pub mod Text
+pub mod Front
+pub mod Read
+pub mod Plain
+pub mod Written

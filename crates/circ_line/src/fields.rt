@@ -1,0 +1,72 @@
+//! The fields of a link at the front of bytes, a space before each.
+ghost use Rattle.std.specs.Prelude.{◌≡◌, IfOk};
+ghost use Rattle.std.specs.Option.{option_map};
+ghost use Rattle.circ_line.specs.Read.{way_at, entries_at, path_at, rule_at};
+
+use crate::ENTRIES;
+use crate::numbers::{after_text, field_at, marked};
+use circ_replay::Way;
+use circ_term::Path;
+use std::alloc::{AllocError, Global};
+
+/// Which way a rule is used, its number, and where.
+#[derive(Drop)]
+pub(crate) struct Rule {
+    pub(crate) way: Way,
+    pub(crate) number: u32,
+    pub(crate) path: Path,
+}
+
+pub(crate) fn rule_at(alloc: Global, bytes: &[u8]) -> Result<Option<(Rule, &[u8])>, AllocError>
+    ensures { IfOk result (λ o. option_map
+        (λ r. ((r.0.way, (r.0.number, r.0.path.items)), r.1.now)) o ≡ rule_at bytes.now) }
+{
+    let Some((way, rest)) = way_at(bytes) else {
+        return Ok(None);
+    };
+    let Some((number, rest)) = field_at(rest) else {
+        return Ok(None);
+    };
+    let Some((path, rest)) = path_at(alloc, rest)? else {
+        return Ok(None);
+    };
+    Ok(Some((Rule { way, number, path }, rest)))
+}
+
+fn way_at(bytes: &[u8]) -> Option<(Way, &[u8])>
+    ensures { option_map (λ r. (r.0, r.1.now)) result ≡ way_at bytes.now }
+{
+    if let Some(rest) = after_text(bytes, b" >") {
+        return Some((Way::Forth, rest));
+    }
+    let rest = after_text(bytes, b" <")?;
+    Some((Way::Back, rest))
+}
+
+/// The path, with the bytes after it.
+pub(crate) fn path_at(alloc: Global, bytes: &[u8]) -> Result<Option<(Path, &[u8])>, AllocError>
+    ensures { IfOk result (λ o. option_map (λ r. (r.0.items, r.1.now)) o ≡ path_at bytes.now) }
+{
+    let Some((first, rest)) = marked(bytes, b' ', ENTRIES) else {
+        let Some(rest) = after_text(bytes, b" -") else {
+            return Ok(None);
+        };
+        return Ok(Some((Path::new(alloc), rest)));
+    };
+    let (path, rest) = entries_at(alloc, first as u16, rest)?;
+    Ok(Some((path, rest)))
+}
+
+/// The entries of a path after the first, with it.
+fn entries_at(alloc: Global, first: u16, bytes: &[u8]) -> Result<(Path, &[u8]), AllocError>
+    ensures { IfOk result (λ r. (r.0.items, r.1.now) ≡ entries_at first bytes.now) }
+{
+    let mut path = Path::new(alloc);
+    path.push(first)?;
+    let mut rest = bytes;
+    while let Some((entry, more)) = marked(rest, b'.', ENTRIES) {
+        path.push(entry as u16)?;
+        rest = more;
+    }
+    Ok((path, rest))
+}

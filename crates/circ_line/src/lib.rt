@@ -1,0 +1,23 @@
+//! The text of one line of a proof file, both ways: [`read_line`] gives the one line that bytes are
+//! the text of, [`write_line`] appends the text of a line. What order lines have is not told here.
+//!
+//! Contracts see a line as plain data (`Line` of specs/), in which numbers stand for terms.
+#![tactic(auto)]
+
+mod fields;
+pub mod laws;
+mod line;
+mod links;
+mod numbers;
+mod reading;
+mod writing;
+
+pub use line::{Line, TableLine};
+pub use reading::read_line;
+pub use writing::write_line;
+
+/// Numbers of a line are below this.
+const NUMBERS: u64 = 4_294_967_296;
+
+/// Entries of a path are below this.
+const ENTRIES: u64 = 65_536;

@@ -1,0 +1,44 @@
+//! The kinds of lines.
+use circ_replay::Link;
+
+/// A line of the table. It stands for a term, and terms go by the numbers of their lines.
+#[derive(Drop)]
+pub enum TableLine {
+    /// A variable of a sort.
+    Variable { number: u32, sort: u32 },
+    /// An operator at terms.
+    Application { op: u32, args: Vec<u32> },
+}
+
+/// One line of a proof file.
+#[derive(Drop)]
+pub enum Line {
+    /// The first line, which names the format.
+    Head,
+    Table { line: TableLine },
+    /// A place of the special set: an argument of an operator.
+    Place { op: u32, arg: u32 },
+    /// A certificate begins: the links of its one chain follow.
+    Certificate,
+    /// A block begins: its goals follow, then its steps.
+    Block,
+    Goal { left: u32, right: u32 },
+    /// A step that rewrites a goal: its links follow.
+    Simplify,
+    /// A step that ends a goal: the reason why it holds follows.
+    Reduce,
+    /// A step that puts a goal's derivatives in its place.
+    Derive,
+    /// A block ends.
+    Done,
+    /// A reason ends: its two sides are one term.
+    Same,
+    /// A reason goes on by the cases of a term: as many reasons follow.
+    Split { term: u32, count: u32 },
+    /// A link on the left side.
+    Left { link: Link },
+    /// A link on the right side.
+    Right { link: Link },
+    /// The last line.
+    End,
+}

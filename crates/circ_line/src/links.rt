@@ -1,0 +1,87 @@
+//! Links as text is read.
+ghost use Rattle.std.specs.Prelude.{◌≡◌, IfOk};
+ghost use Rattle.std.specs.Option.{option_map};
+ghost use Rattle.circ_replay.specs.Plain.{plain_link};
+ghost use Rattle.circ_line.specs.Read.{link_of, instance_of, assumption_of, content_of};
+
+use crate::fields::{Rule, path_at, rule_at};
+use crate::numbers::{after_text, field_at, is_end, number_of, numbers_of};
+use circ_replay::Link;
+use std::alloc::{AllocError, Global};
+
+/// The link that the bytes are the text of, after its side.
+pub(crate) fn link_of(alloc: Global, bytes: &[u8]) -> Result<Option<Link>, AllocError>
+    ensures { IfOk result (λ o. option_map plain_link o ≡ link_of bytes.now) }
+{
+    if let Some(rest) = after_text(bytes, b"equation") {
+        return Ok(instance_of(alloc, rest)?.map(|(rule, terms)| {
+            let Rule { way, number, path } = rule;
+            Link::Equation {
+                number,
+                way,
+                path,
+                terms,
+            }
+        }));
+    }
+    if let Some(rest) = after_text(bytes, b"hypothesis") {
+        return Ok(instance_of(alloc, rest)?.map(|(rule, terms)| {
+            let Rule { way, number, path } = rule;
+            Link::Hypothesis {
+                number,
+                way,
+                path,
+                terms,
+            }
+        }));
+    }
+    if let Some(rest) = after_text(bytes, b"assumption") {
+        return assumption_of(alloc, rest);
+    }
+    match after_text(bytes, b"content") {
+        Some(rest) => content_of(alloc, rest),
+        None => Ok(None),
+    }
+}
+
+/// A rule, and the terms that its variables are given.
+fn instance_of(alloc: Global, bytes: &[u8]) -> Result<Option<(Rule, Vec<u32>)>, AllocError>
+    ensures { IfOk result (λ o. option_map
+        (λ r. ((r.0.way, (r.0.number, r.0.path.items)), r.1.items)) o ≡ instance_of bytes.now) }
+{
+    let Some((rule, rest)) = rule_at(alloc, bytes)? else {
+        return Ok(None);
+    };
+    let Some(terms) = numbers_of(alloc, rest)? else {
+        return Ok(None);
+    };
+    Ok(Some((rule, terms)))
+}
+
+fn assumption_of(alloc: Global, bytes: &[u8]) -> Result<Option<Link>, AllocError>
+    ensures { IfOk result (λ o. option_map plain_link o ≡ assumption_of bytes.now) }
+{
+    let Some((rule, rest)) = rule_at(alloc, bytes)? else {
+        return Ok(None);
+    };
+    if !is_end(rest) {
+        return Ok(None);
+    }
+    let Rule { way, number, path } = rule;
+    Ok(Some(Link::Assumption { number, way, path }))
+}
+
+fn content_of(alloc: Global, bytes: &[u8]) -> Result<Option<Link>, AllocError>
+    ensures { IfOk result (λ o. option_map plain_link o ≡ content_of bytes.now) }
+{
+    let Some((op, rest)) = field_at(bytes) else {
+        return Ok(None);
+    };
+    let Some((path, rest)) = path_at(alloc, rest)? else {
+        return Ok(None);
+    };
+    let Some(term) = number_of(rest) else {
+        return Ok(None);
+    };
+    Ok(Some(Link::Content { op, path, term }))
+}

@@ -1,0 +1,104 @@
+//! Lines as text is read.
+ghost use Rattle.std.specs.Prelude.{◌≡◌, IfOk};
+ghost use Rattle.std.specs.Option.{option_map};
+ghost use Rattle.circ_line.specs.Read.{line_of, application_of, short_line, frame_lines, first_of, word_line};
+ghost use Rattle.circ_line.specs.Plain.{plain_line, ReadsLine};
+
+use crate::line::{Line, TableLine};
+use crate::links::link_of;
+use crate::numbers::{after_text, field_at, numbers_of, pair_of};
+use std::alloc::{AllocError, Global};
+
+/// The line that the bytes are the text of, or `None` where they are no line's text. A line feed
+/// is no part of the text.
+pub fn read_line(alloc: Global, bytes: &[u8]) -> Result<Option<Line>, AllocError>
+    ensures { IfOk result (λ o. ReadsLine bytes.now (option_map plain_line o)) }
+{
+    line_of(alloc, bytes)
+}
+
+fn line_of(alloc: Global, bytes: &[u8]) -> Result<Option<Line>, AllocError>
+    ensures { IfOk result (λ o. option_map plain_line o ≡ line_of bytes.now) }
+{
+    if let Some(rest) = after_text(bytes, b"left ") {
+        return Ok(link_of(alloc, rest)?.map(|link| Line::Left { link }));
+    }
+    if let Some(rest) = after_text(bytes, b"right ") {
+        return Ok(link_of(alloc, rest)?.map(|link| Line::Right { link }));
+    }
+    match after_text(bytes, b"a") {
+        Some(rest) => application_of(alloc, rest),
+        None => Ok(short_line(bytes)),
+    }
+}
+
+fn application_of(alloc: Global, bytes: &[u8]) -> Result<Option<Line>, AllocError>
+    ensures { IfOk result (λ o. option_map plain_line o ≡ application_of bytes.now) }
+{
+    let Some((op, rest)) = field_at(bytes) else {
+        return Ok(None);
+    };
+    let Some(args) = numbers_of(alloc, rest)? else {
+        return Ok(None);
+    };
+    Ok(Some(Line::Table {
+        line: TableLine::Application { op, args },
+    }))
+}
+
+/// A line of two numbers, or of none.
+fn short_line(bytes: &[u8]) -> Option<Line>
+    ensures { option_map plain_line result ≡ short_line bytes.now }
+{
+    if let Some(rest) = after_text(bytes, b"v") {
+        return pair_of(rest).map(|(number, sort)| Line::Table {
+            line: TableLine::Variable { number, sort },
+        });
+    }
+    if let Some(rest) = after_text(bytes, b"goal") {
+        return pair_of(rest).map(|(left, right)| Line::Goal { left, right });
+    }
+    if let Some(rest) = after_text(bytes, b"place") {
+        return pair_of(rest).map(|(op, arg)| Line::Place { op, arg });
+    }
+    if let Some(rest) = after_text(bytes, b"split") {
+        return pair_of(rest).map(|(term, count)| Line::Split { term, count });
+    }
+    word_line(bytes)
+}
+
+/// A line without numbers.
+fn word_line(bytes: &[u8]) -> Option<Line>
+    ensures { option_map plain_line result ≡ word_line bytes.now }
+{
+    if bytes == b"same".as_slice() {
+        Some(Line::Same)
+    } else if bytes == b"reduce".as_slice() {
+        Some(Line::Reduce)
+    } else if bytes == b"derive".as_slice() {
+        Some(Line::Derive)
+    } else if bytes == b"simplify".as_slice() {
+        Some(Line::Simplify)
+    } else {
+        frame_line(bytes)
+    }
+}
+
+/// A line that stands once, or once for each block or place.
+fn frame_line(bytes: &[u8]) -> Option<Line>
+    ensures { option_map plain_line result ≡ first_of frame_lines bytes.now }
+{
+    if bytes == b"cert".as_slice() {
+        Some(Line::Certificate)
+    } else if bytes == b"block".as_slice() {
+        Some(Line::Block)
+    } else if bytes == b"done".as_slice() {
+        Some(Line::Done)
+    } else if bytes == b"end".as_slice() {
+        Some(Line::End)
+    } else if bytes == b"circproof 1".as_slice() {
+        Some(Line::Head)
+    } else {
+        None
+    }
+}
