@@ -76,7 +76,7 @@ impl Subst {
     {
         let mut terms = Vec::with_capacity(self.alloc, self.terms.len())?;
         for term in self.terms.values() {
-            terms.push(term.share()?)?;
+            term.share_to(&mut terms)?;
         }
         Ok(terms)
     }
@@ -104,12 +104,12 @@ impl Subst {
         ensures { Builds result (instance (substitution_of self.now) term.now) }
     {
         if term.is_ground() {
-            return Ok(term.share()?);
+            return shared(term);
         }
         match term.kind() {
             Kind::Variable { number, sort } => match self.get(number, sort) {
-                Some(bound) => Ok(bound.share()?),
-                None => Ok(term.share()?),
+                Some(bound) => shared(bound),
+                None => shared(term),
             },
             Kind::Application { op, sort, args } => match self.apply_all(args) {
                 Err(fault) => Err(fault),
@@ -179,4 +179,11 @@ impl Subst {
         }
         true
     }
+}
+
+// The same term once more.
+fn shared(term: &Term) -> Result<Term, TermFault>
+    ensures { Builds result term.now }
+{
+    Ok(term.share()?)
 }

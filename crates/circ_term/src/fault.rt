@@ -1,11 +1,11 @@
 //! Why a term is not built.
 use std::alloc::{AllocError, AllocFailed};
+use std::fmt;
 use thiserror::Error;
 
 /// Why no term was built. A limit is reported at the first application that passes one, arguments
 /// first, from the left; where one application passes both limits, its number of nodes is reported.
-#[derive(Debug, Drop, Clone, Copy, PartialEq, Eq, Error)]
-#[error("the term is not built")]
+#[derive(Drop, Clone, Copy, PartialEq, Eq, Error)]
 pub enum TermFault {
     /// An application would have this many nodes, counted as a tree.
     TooBig { nodes: u64 },
@@ -13,6 +13,18 @@ pub enum TermFault {
     TooDeep { depth: u64 },
     /// Memory ran out.
     Memory,
+}
+
+impl fmt::Display for TermFault {
+    fn fmt<W: fmt::Write>(&self, f: &mut fmt::Formatter<W>) -> fmt::Result {
+        f.write_str("the term is not built")
+    }
+}
+
+impl fmt::Debug for TermFault {
+    fn fmt<W: fmt::Write>(&self, f: &mut fmt::Formatter<W>) -> fmt::Result {
+        f.write_str("the term is not built")
+    }
 }
 
 impl From<AllocError> for TermFault {

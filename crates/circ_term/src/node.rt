@@ -1,5 +1,6 @@
 //! A term: a variable, or an operator on terms, whose nodes are shared.
-ghost use Rattle.std.specs.Prelude.{◌≡◌, ◌≤◌, ◌<◌, ◌↔◌, IsTrue, length, slice_set, IfOk};
+ghost use Rattle.std.specs.Prelude.{◌≡◌, ◌≤◌, ◌<◌, ◌↔◌, ◌++◌, ◌∷◌, [], IsTrue, length, slice_set};
+ghost use Rattle.std.specs.Prelude.{IfOk, OnOk, OnErr, Some};
 ghost use Rattle.std.specs.List.{slice_get};
 ghost use Rattle.std.specs.Option.{option_copied};
 ghost use Rattle.circ_term.specs.Tree.{Var, App, trees_of, args_of, at, replaced};
@@ -245,6 +246,15 @@ impl Term {
         }
     }
 
+    /// Puts the same term once more at the end of a list, which is as before where memory runs out.
+    pub fn share_to(&self, list: &mut Vec<Term>) -> Result<(), AllocError>
+        ensures put { OnOk result (list.new.items ≡ list.old.items ++ self.now ∷ []) }
+        ensures err { OnErr result (list.new.items ≡ list.old.items) }
+    {
+        list.push(self.share()?)?;
+        Ok(())
+    }
+
     /// The subterm at a path.
     #[tactic(auto, using(crate::proofs::Within::rows))]
     pub fn at(&self, path: &[u16]) -> Option<&Term>
@@ -339,12 +349,28 @@ impl Term {
         match arg.replace(alloc, rest, new) {
             Err(fault) => Err(fault),
             Ok(None) => Ok(None),
-            Ok(Some(arg)) => {
-                let args = with_arg(alloc, self.args(), place, arg)?;
-                let term = Term::app(alloc, node.op, node.sort, args)?;
-                Ok(Some(term))
-            }
+            Ok(Some(arg)) => rebuilt(alloc, node.op, node.sort, self.args(), place, arg),
         }
+    }
+}
+
+// The operator on these arguments, with another one at a place.
+fn rebuilt(
+    alloc: Global,
+    op: u32,
+    sort: u32,
+    args: &[Term],
+    place: usize,
+    arg: Term,
+) -> Result<Option<Term>, TermFault>
+    requires place { place < length args.now }
+    requires few { length args.now ≤ MOST_ARGS }
+    ensures { BuildsSome result (Some (App op sort (trees_of (slice_set args.now place arg)))) }
+{
+    let args = with_arg(alloc, args, place, arg)?;
+    match Term::app(alloc, op, sort, args) {
+        Ok(term) => Ok(Some(term)),
+        Err(fault) => Err(fault),
     }
 }
 
@@ -352,11 +378,19 @@ fn with_arg(alloc: Global, args: &[Term], place: usize, arg: Term) -> Result<Vec
     requires { place < length args.now }
     ensures { IfOk result (λ v. v.items ≡ slice_set args.now place arg) }
 {
-    let mut copy = Vec::with_capacity(alloc, args.len())?;
-    for old in args {
-        copy.push(old.share()?)?;
-    }
+    let mut copy = share_all(alloc, args)?;
     copy[place] = arg;
+    Ok(copy)
+}
+
+/// The same terms once more. Their nodes are shared, and none is copied.
+pub fn share_all(alloc: Global, terms: &[Term]) -> Result<Vec<Term>, AllocError>
+    ensures { IfOk result (λ v. v.items ≡ terms.now) }
+{
+    let mut copy = Vec::with_capacity(alloc, terms.len())?;
+    for term in terms {
+        term.share_to(&mut copy)?;
+    }
     Ok(copy)
 }
 

@@ -1,5 +1,5 @@
 -- How a theory lies in memory.
-use Rattle.std.specs.Prelude.{◌≡◌, ◌≤◌, ℕ, List, [], nat_eq, length, map, Vec}
+use Rattle.std.specs.Prelude.{◌≡◌, ◌≤◌, ℕ, List, [], Bool, ◌&&◌, nat_eq, length, map, Vec}
 use Rattle.std.specs.List.{AllByRecursion, list_any}
 use Rattle.std.specs.Map.{lookup}
 use Rattle.std.specs.Option.{option_map_or}
@@ -23,6 +23,10 @@ pub record IsKeyOf (k : OpKey) (o : Operator) : Type 0 where
   pub form : k.form.items ≡ text_of o.form
   pub is_form : IsForm o.form
   pub args : k.args.items ≡ o.args
+
+-- the keys have the same text and the same sorts
+abbrev pub is_same_key : OpKey → OpKey → Bool
+is_same_key a b = pointwise nat_eq a.form.items b.form.items && pointwise nat_eq a.args.items b.args.items
 
 -- an operator stands under its key
 abbrev pub IsEntry : OpKey × OpDecl → Type 0

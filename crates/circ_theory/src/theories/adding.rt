@@ -1,25 +1,33 @@
 //! The calls that add parts to a theory.
-ghost use Rattle.std.specs.Prelude.{◌≡◌, [], OnOk, OnErr, length, unwrap_or};
+ghost use Rattle.std.specs.Prelude.{◌≡◌, ◌≤◌, ◌<◌, ◌^◌, ℕ, List, [], ◌∷◌, ◌++◌, nat_eq, None};
+ghost use Rattle.std.specs.Prelude.{if◌then◌else◌, IfOk, IfErr, OnOk, OnErr, length, unwrap_or};
+ghost use Rattle.std.specs.Prelude.{vec_len, vec_capacity};
+ghost use Rattle.std.specs.Cmp.Lexicographic.{pointwise};
+ghost use Rattle.indexmap.specs.IndexMap.{spare, insert_entry};
+ghost use Rattle.indexmap.specs.IndexSet.{insert_key};
 ghost use Rattle.std.specs.List.{Contains};
 ghost use Rattle.circ_theory.specs.Signature.{IsSort, IsWellSorted};
 ghost use Rattle.circ_theory.specs.Theory.{Declared, IsWellSortedPair};
-ghost use Rattle.circ_theory.specs.Variables.{IsInOrder};
+ghost use Rattle.circ_theory.specs.Variables.{IsInOrder, sorts_of};
 ghost use Rattle.circ_theory.specs.Operators.{operator_of};
 ghost use Rattle.circ_theory.specs.Adding.{Numbers, sort_fault, op_fault, equation_fault};
 ghost use Rattle.circ_theory.specs.Adding.{var_number, var_fault, with_sort, with_var, with_op};
-ghost use Rattle.circ_theory.specs.Adding.{with_equation};
+ghost use Rattle.circ_theory.specs.Adding.{with_equation, IsFaultOf};
+ghost use Rattle.circ_theory.specs.Rule.{is_bound};
+ghost use Rattle.circ_theory.specs.Inside.{kept_under, is_same_key};
 ghost use Rattle.circ_theory.specs.Observing.{AreParametersInOrder, derivative_fault};
 ghost use Rattle.circ_theory.specs.Observing.{with_derivative, cases_fault, with_cases};
 
-use super::{Listed, Observer, Theory, Vars};
+use super::{Listed, Observer, OpKey, Theory, Vars};
 use crate::adding::{count_fault, is_rule_with, note_word};
 use crate::fault::TheoryFault;
 use crate::observing::first_repeated;
-use crate::order::pair_variables;
+use crate::order::{PairVariables, pair_variables};
 use crate::parts::{Equation, OpDecl};
 use crate::{MOST_EQUATIONS, MOST_SORTS};
 use circ_term::Term;
-use indexmap::IndexMap;
+use indexmap::{IndexMap, IndexSet};
+use std::alloc::{AllocError, Global};
 use std::mem::replace;
 
 impl Theory {
@@ -77,17 +85,10 @@ impl Theory {
         let number = self.op_count();
         let key = self.new_key(&decl)?;
         let parts = &mut *self.parts;
-        parts.ops.reserve(1)?;
-        note_word(
-            self.alloc,
-            &mut parts.by_word,
-            decl.form.first_word(),
-            number,
-        )?;
-        match parts.ops.insert(key, decl) {
-            Ok(_) => Ok(number),
-            Err(_) => unreachable!(),
-        }
+        let word = decl.form.first_word();
+        note_op(self.alloc, &mut parts.ops, &mut parts.by_word, word, number)?;
+        put_op(&mut parts.ops, key, decl);
+        Ok(number)
     }
 
     /// Adds an equation, and answers its number.
@@ -101,10 +102,7 @@ impl Theory {
         ensures err { OnErr result (self.new ≡ self.old) }
     {
         let number = self.equation_count();
-        if let Some(fault) = count_fault(number, MOST_EQUATIONS) {
-            return Err(fault);
-        }
-        let variables = pair_variables(self.alloc, &left, &right)?;
+        let variables = self.new_variables(&left, &right)?;
         let rule = is_rule_with(exec, &left, variables.bound);
         self.parts.equations.push(Listed {
             equation: Equation { left, right, exec },
@@ -128,14 +126,10 @@ impl Theory {
     {
         let number = self.derivative_count();
         let (hole, sorts) = self.hole_and_params(&term)?;
-        let observer = Observer { term, hole, sorts };
         let parts = &mut *self.parts;
-        parts.derivatives.reserve(1)?;
-        parts.hidden.insert(hole)?;
-        match parts.derivatives.push(observer) {
-            Ok(()) => Ok(number),
-            Err(_) => unreachable!(),
-        }
+        note_hole(&mut parts.derivatives, &mut parts.hidden, hole)?;
+        put_observer(&mut parts.derivatives, Observer { term, hole, sorts });
+        Ok(number)
     }
 
     /// Adds the case list of a sort, and answers its number. `Twice` carries the sort, where it has
@@ -175,9 +169,82 @@ impl Theory {
         self.parts.vars = vars.vars;
     }
 
+    // The variables of an equation that can be added.
+    fn new_variables(&self, left: &Term, right: &Term) -> Result<PairVariables, TheoryFault>
+        requires { IsInOrder (record { left = left.now; right = right.now }) }
+        ensures fault { IfErr result (λ f. IsFaultOf f (equation_fault self.now)) }
+        ensures new { IfOk result (λ _. equation_fault self.now ≡ None) }
+        ensures sorts { IfOk result (λ v. v.sorts.items ≡
+            sorts_of (record { left = left.now; right = right.now })) }
+        ensures few { IfOk result (λ v. length v.sorts.items ≤ 2 ^ 32) }
+        ensures bound { IfOk result (λ v. v.bound ≡ is_bound
+            (record { left = left.now; right = right.now })) }
+    {
+        match count_fault(self.equation_count(), MOST_EQUATIONS) {
+            Some(fault) => Err(fault),
+            None => Ok(pair_variables(self.alloc, left, right)?),
+        }
+    }
+
     fn case_count(&self) -> u32
         ensures { result ≡ length self.now.cases }
     {
         self.parts.cases.len() as u32
+    }
+}
+
+// Makes room for an operator, and keeps its number under the first word of its form.
+fn note_op(
+    alloc: Global,
+    ops: &mut IndexMap<OpKey, OpDecl>,
+    by_word: &mut IndexMap<Vec<u8>, Vec<u32>>,
+    word: &[u8],
+    number: u32,
+) -> Result<(), AllocError>
+    ensures ops { ops.new.entries ≡ ops.old.entries }
+    ensures room { OnOk result (0 < spare ops.new) }
+    ensures noted { OnOk result ((w : List ℕ) → kept_under by_word.new.entries w ≡
+        (if pointwise nat_eq w word.now then kept_under by_word.old.entries w ++ number ∷
+        [] else kept_under by_word.old.entries w)) }
+    ensures err { OnErr result ((w : List ℕ) → kept_under by_word.new.entries w ≡
+        kept_under by_word.old.entries w) }
+{
+    ops.reserve(1)?;
+    note_word(alloc, by_word, word, number)
+}
+
+fn put_op(ops: &mut IndexMap<OpKey, OpDecl>, key: OpKey, decl: OpDecl)
+    requires { 0 < spare ops.old }
+    ensures { ops.new.entries ≡ insert_entry is_same_key ops.old.entries key decl }
+{
+    match ops.insert(key, decl) {
+        Ok(_) => {}
+        Err(_) => unreachable!(),
+    }
+}
+
+// Makes room for a derivative, and keeps the sort of its hole.
+fn note_hole(
+    derivatives: &mut Vec<Observer>,
+    hidden: &mut IndexSet<u32>,
+    hole: u32,
+) -> Result<(), AllocError>
+    ensures derivatives { derivatives.new.items ≡ derivatives.old.items }
+    ensures room { OnOk result (vec_len derivatives.new < vec_capacity derivatives.new) }
+    ensures noted { OnOk result (hidden.new.keys ≡ insert_key nat_eq hidden.old.keys hole) }
+    ensures err { OnErr result (hidden.new.keys ≡ hidden.old.keys) }
+{
+    derivatives.reserve(1)?;
+    hidden.insert(hole)?;
+    Ok(())
+}
+
+fn put_observer(derivatives: &mut Vec<Observer>, observer: Observer)
+    requires { vec_len derivatives.old < vec_capacity derivatives.old }
+    ensures { derivatives.new.items ≡ derivatives.old.items ++ observer ∷ [] }
+{
+    match derivatives.push(observer) {
+        Ok(()) => {}
+        Err(_) => unreachable!(),
     }
 }

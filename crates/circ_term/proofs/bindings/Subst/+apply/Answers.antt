@@ -8,8 +8,7 @@ use Rattle.circ_term.proofs.bindings.Subst.+apply.Goals as goal
 
 pub apply-returns-then-is_ground : goal.apply-returns-then-is_ground
 apply-returns-then-is_ground t c =
-    rw (instance-is_ground (substitution_of c.args.self.now) c.args.term.now (sym c.is_ground.ensures ∙ c.if-is_ground.true))
-    (c.in_ok-share.ensures.same, c.in_ok-share.ensures.within)
+    rw (instance-is_ground (substitution_of c.args.self.now) c.args.term.now (sym c.is_ground.ensures ∙ c.if-is_ground.true)) c.shared.ensures
 
 pub apply-app-requires : goal.apply-app-requires
 apply-app-requires t c =

@@ -15,7 +15,7 @@ loop-term-init c =
 pub loop-term-preserved : goal.loop-term-preserved
 loop-term-preserved c =
     let made = c.loop-term.terms.items in
-    rw (c.in_ok-push.ensures.items, c.in_ok-share.ensures.same) (
+    rw c.in_ok-share_to.ensures.put (
     append_assoc made (c.in-Some.term.now ∷ []) c.next.new.self
     ∙ ap (λ ts. made ++ ts) (sym c.in-Some.ensures.steps) ∙ c.loop-term.invariant
     )

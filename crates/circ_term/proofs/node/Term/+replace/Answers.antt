@@ -1,5 +1,5 @@
-use Rattle.std.proofs.Common.{Some, arith, sym, ap, ◌∙◌, length}
-use Rattle.std.proofs.lemmas.List.{nil_from_length, length-set}
+use Rattle.std.proofs.Common.{Some, sym, ap, ◌∙◌}
+use Rattle.std.proofs.lemmas.List.{nil_from_length}
 use Rattle.std.proofs.lemmas.Option.{slice_get_within}
 use Rattle.circ_term.proofs.Replaced.{kept_within, fault_at}
 use Rattle.circ_term.specs.Tree.{replaced}
@@ -11,13 +11,8 @@ returns-in_default t c = (
   rw c.in_ok-share.ensures.same c.in_ok-share.ensures.within,
 )
 
-pub with_arg-requires : goal.with_arg-requires
-with_arg-requires t c = rw c.args-in-Ok-Some.ensures.value (slice_get_within _ _ _ (sym c.in-Some-arg.ensures))
-
-pub app-requires : goal.app-requires
-app-requires t c =
-    let same = length-set c.args-in-Ok-Some.result.now c.in-Some.place.now c.in-Ok-Some.arg in
-    omega (arith, c.args-in-Ok-Some.ensures.few, ap length c.in_ok-args-in-Ok-Some.ensures, same)
+pub rebuilt-requires-clause-place : goal.rebuilt-requires-clause-place
+rebuilt-requires-clause-place t c = rw c.args-in-Ok-Some.ensures.value (slice_get_within _ _ _ (sym c.in-Some-arg.ensures))
 
 pub returns-in-Err : goal.returns-in-Err
 returns-in-Err t c =

@@ -18,8 +18,7 @@ invariant_of-self-2 c =
     let kept : IsKept p = subst IsKept (sym c.deref_mut.ensures.value) c.self.invariant in
     let th : Theory = theory_of p in
     let e : Equation = record { left = c.args.left; right = c.args.right; exec = c.args.exec } in
-    let room : length th.equations < equation_limit =
-    rw (← is_theory) at (rw c.equation_count-number.ensures.count at (room_left equation_limit c.equation_count-number.result (sym c.count_fault.ensures ∙ c.in_default.is))) in
+    let room : length th.equations < equation_limit = room_left equation_limit (length th.equations) (rw (← is_theory) at c.in_ok-variables.ensures.new) in
     let P : List Equation → Type 0 = λ es. IsWellFormed (record th { equations = es }) in
     let items = c.in_ok-push.ensures.items in
     record {

@@ -1,60 +1,65 @@
-use Rattle.std.proofs.Common.{◌≡◌, List, ◌∷◌, ◌++◌, [], Bool, ◌&&◌, nat_eq, map, ap, sym, subst, ◌∙◌}
-use Rattle.std.specs.List.{AllByRecursion}
+use Rattle.std.proofs.Common.{◌≡◌, List, ◌∷◌, ◌++◌, [], nat_eq, map, None, ap, sym, subst, ◌∙◌}
+use Rattle.std.specs.List.{AllByRecursion, position}
+use Rattle.std.specs.Cmp.Lexicographic.{pointwise}
+use Rattle.indexmap.specs.IndexMap.{insert_entry}
+use Rattle.circ_theory.specs.declared.parts.OpDecl.{OpDecl}
 use Rattle.circ_theory.specs.declared.theories.OpKey.{OpKey}
+use Rattle.circ_theory.specs.Form.{first_word}
 use Rattle.circ_theory.specs.Signature.{Operator}
 use Rattle.circ_theory.specs.Theory.{Theory}
-use Rattle.circ_theory.specs.Operators.{operator_of, places_from}
+use Rattle.circ_theory.specs.Operators.{operator_of, is_same_operator, places_from}
 use Rattle.circ_theory.specs.WellFormed.{IsWellFormed}
-use Rattle.circ_theory.specs.Inside.{theory_of, IsEntry, IsKept}
+use Rattle.circ_theory.specs.Inside.{theory_of, IsKeyOf, IsEntry, IsKept, is_same_key}
 use Rattle.circ_theory.proofs.Lists.{entry_last, map-push, all_push}
 use Rattle.circ_theory.proofs.Keys.{key_position}
 use Rattle.circ_theory.proofs.Growing.{op_grows}
 use Rattle.circ_theory.proofs.Noting.{word_more}
-use Rattle.std.specs.Cmp.Lexicographic.{pointwise}
-use Rattle.circ_theory.specs.Form.{first_word}
-use Rattle.indexmap.specs.IndexMap.{insert_entry}
 use Rattle.circ_theory.proofs.Faults.{IsNew, new_operator}
 use Rattle.circ_theory.proofs.theories.Theory.add_op.Goals as goal
-use Rattle.circ_theory.proofs.theories.Theory.add_op.Goals.{Joined-this}
 
-is_theory : (c : Joined-this) → theory_of c.deref_mut-parts.result.now ≡ c.args.self.now
-is_theory c = ap theory_of c.deref_mut-parts.ensures.value ∙ c.self.view_is
+abbrev declared : List (OpKey × OpDecl) → List Operator
+declared es = map (λ e. operator_of e.1) es
 
-is_kept : (c : Joined-this) → IsKept c.deref_mut-parts.result.now
-is_kept c = subst IsKept (sym c.deref_mut-parts.ensures.value) c.self.invariant
-
-abbrev same_keys : OpKey → OpKey → Bool
-same_keys a b = pointwise nat_eq a.form.items b.form.items && pointwise nat_eq a.args.items b.args.items
-
-is_new : (c : Joined-this) → IsNew (theory_of c.deref_mut-parts.result.now) (operator_of c.args.decl)
-is_new c = new_operator (theory_of c.deref_mut-parts.result.now) (operator_of c.args.decl) c.in_ok-key.ensures.key.is_form (rw (← (is_theory c)) at c.in_ok-key.ensures.new)
-
-grown : (c : Joined-this) → c.insert.new.self.entries ≡ c.deref_mut-parts.result.now.ops.entries ++ (c.in_ok-key.key, c.args.decl) ∷ []
-grown c =
-    c.in-Ok.ensures.entries ∙ ap (λ es. insert_entry same_keys es c.in_ok-key.key c.args.decl) c.in_ok-reserve.ensures.entries
-    ∙ entry_last same_keys c.deref_mut-parts.result.now.ops.entries c.in_ok-key.key c.args.decl
-    (key_position c.in_ok-key.key (operator_of c.args.decl) c.deref_mut-parts.result.now.ops.entries c.in_ok-key.ensures.key (is_kept c).entries ∙ (is_new c).number)
-
-ops_grown : (c : Joined-this) → map (λ e. operator_of e.1) c.insert.new.self.entries ≡ (theory_of c.deref_mut-parts.result.now).signature.ops ++ operator_of c.args.decl ∷ []
-ops_grown c = ap (map (λ e. operator_of e.1)) (grown c) ∙ map-push (λ e. operator_of e.1) c.deref_mut-parts.result.now.ops.entries (c.in_ok-key.key, c.args.decl)
+-- a new operator's entry goes last
+grown : (old mid new : List (OpKey × OpDecl)) (k : OpKey) (d : OpDecl) → IsKeyOf k (operator_of d) → AllByRecursion IsEntry old
+    → position (is_same_operator (operator_of d)) (declared old) ≡ None → mid ≡ old → new ≡ insert_entry is_same_key mid k d → new ≡ old ++ (k, d) ∷ []
+grown old mid new k d key entries absent kept put =
+    put ∙ ap (λ es. insert_entry is_same_key es k d) kept ∙ entry_last is_same_key old k d (key_position k (operator_of d) old key entries ∙ absent)
 
 pub invariant_of-self-2 : goal.invariant_of-self-2
 invariant_of-self-2 c =
-    let th : Theory = theory_of c.deref_mut-parts.result.now in
-    let new : IsNew th (operator_of c.args.decl) = is_new c in
+    let p = c.deref_mut-parts.result.now in
+    let is_theory : theory_of p ≡ c.args.self.now = ap theory_of c.deref_mut-parts.ensures.value ∙ c.self.view_is in
+    let kept : IsKept p = subst IsKept (sym c.deref_mut-parts.ensures.value) c.self.invariant in
+    let th : Theory = theory_of p in
+    let k = c.in_ok-key.key in
+    let d = c.args.decl in
+    let key = c.in_ok-key.ensures.key in
+    let new : IsNew th (operator_of d) = new_operator th (operator_of d) key.is_form (rw (← is_theory) at c.in_ok-key.ensures.new) in
+    let more = grown p.ops.entries c.note_op.new.ops.entries c.put_op.new.ops.entries k d key kept.entries new.number c.in_ok-note_op.ensures.ops c.put_op.ensures in
+    let ops = ap declared more ∙ map-push (λ e. operator_of e.1) p.ops.entries (k, d) in
+    let number = rw (← is_theory) at c.op_count-number.ensures.count in
     let P : List Operator → Type 0 = λ os. IsWellFormed (record th { signature = record th.signature { ops = os } }) in
     record {
-      well_formed = subst P (sym (ops_grown c)) (op_grows th (operator_of c.args.decl) (is_kept c).well_formed new.operator new.room);
-      entries = subst (AllByRecursion IsEntry) (sym (grown c)) (all_push IsEntry c.deref_mut-parts.result.now.ops.entries (c.in_ok-key.key, c.args.decl) (is_kept c).entries c.in_ok-key.ensures.key);
-      listed = (is_kept c).listed;
-      observers = (is_kept c).observers;
-      hidden = (is_kept c).hidden;
-      by_word = λ w. c.in_ok-note_word.ensures.noted w
-          ∙ word_more th.signature (operator_of c.args.decl) w c.first_word.result.now _ c.op_count-number.result c.first_word.ensures ((is_kept c).by_word w) (rw (← (is_theory c)) at c.op_count-number.ensures.count)
-          ∙ ap (places_from (λ o. pointwise nat_eq w (first_word o.form)) 0) (sym (ops_grown c));
+      well_formed = subst P (sym ops) (op_grows th (operator_of d) kept.well_formed new.operator new.room);
+      entries = subst (AllByRecursion IsEntry) (sym more) (all_push IsEntry p.ops.entries (k, d) kept.entries key);
+      listed = kept.listed;
+      observers = kept.observers;
+      hidden = kept.hidden;
+      by_word = λ w. c.in_ok-note_op.ensures.noted w
+          ∙ word_more th.signature (operator_of d) w c.first_word-word.result.now _ c.op_count-number.result c.first_word-word.ensures (kept.by_word w) number
+          ∙ ap (places_from (λ o. pointwise nat_eq w (first_word o.form)) 0) (sym ops);
     }
 
 pub returns-clause-added : goal.returns-clause-added
 returns-clause-added c =
-    let th : Theory = theory_of c.deref_mut-parts.result.now in
-    rw (← (is_theory c)) (ap (λ os. record th { signature = record th.signature { ops = os } }) (ops_grown c))
+    let p = c.deref_mut-parts.result.now in
+    let is_theory : theory_of p ≡ c.args.self.now = ap theory_of c.deref_mut-parts.ensures.value ∙ c.self.view_is in
+    let kept : IsKept p = subst IsKept (sym c.deref_mut-parts.ensures.value) c.self.invariant in
+    let th : Theory = theory_of p in
+    let k = c.in_ok-key.key in
+    let d = c.args.decl in
+    let key = c.in_ok-key.ensures.key in
+    let new : IsNew th (operator_of d) = new_operator th (operator_of d) key.is_form (rw (← is_theory) at c.in_ok-key.ensures.new) in
+    let more = grown p.ops.entries c.note_op.new.ops.entries c.put_op.new.ops.entries k d key kept.entries new.number c.in_ok-note_op.ensures.ops c.put_op.ensures in
+    rw (← is_theory) (ap (λ os. record th { signature = record th.signature { ops = os } }) (ap declared more ∙ map-push (λ e. operator_of e.1) p.ops.entries (k, d)))
