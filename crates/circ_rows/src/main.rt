@@ -12,7 +12,7 @@ mod row;
 
 use row::Row;
 use std::alloc::{AllocError, Global};
-use std::fs;
+use std::{fs, io};
 
 /// The tables, in the order in which they are run.
 const TABLES: [&str; 10] = [
@@ -44,7 +44,7 @@ fn outcome<'a>(
 }
 
 /// Prints what came of each row of a table.
-fn run_table(rt: &HostRuntime, table: &str) -> anyhow::Result<()> {
+fn run_table(rt: &HostRuntime, table: &str) -> io::Result<()> {
     let alloc = rt.alloc();
     let Some((head, rows)) = table.trim_end().split_once(NEXT) else {
         println!(rt; "a table without a row")?;
@@ -58,7 +58,7 @@ fn run_table(rt: &HostRuntime, table: &str) -> anyhow::Result<()> {
     Ok(())
 }
 
-fn main(rt: HostRuntime) -> anyhow::Result<()> {
+fn main(rt: HostRuntime) -> io::Result<()> {
     for name in TABLES {
         println!(rt; "{name}")?;
         let table = fs::read_to_string(&rt, name)?;
