@@ -80,7 +80,7 @@ fn are_apart(decl: &OpDecl, op: u32, a: &Term, b: &Term) -> bool
 }
 
 // Whether the operator joins nothing in the term.
-fn is_alone(decl: &OpDecl, op: u32, term: &Term) -> bool
+pub(crate) fn is_alone(decl: &OpDecl, op: u32, term: &Term) -> bool
     ensures { IsTrue result → content (operator_of decl.now) op term.now ≡ term.now ∷ [] }
 {
     match marked_operands(decl, op, term) {

@@ -13,7 +13,7 @@ use Rattle.circ_aci.specs.Canonical.{join, canonical, IsCanonicalFormOf}
 use Rattle.circ_aci.proofs.Settled.{settled_some, all_settled, settled_again, IsSome}
 use Rattle.circ_aci.proofs.Regroup.{IsLeaf, HasLeaves, all_leaf, leaves_some}
 use Rattle.circ_aci.proofs.Finding.{content_leaf, leaves_leaf, content_twice, leaves_twice}
-use Rattle.circ_aci.proofs.Contents.{HasContent, alone, grouped, repeated, apart, has_content, other_way, two_settled, content_leads, content_fits}
+use Rattle.circ_aci.proofs.Deriving.{HasContent, alone, grouped, repeated, apart, has_content, other_way, two_settled, content_leads, content_fits}
 
 content_many : (o : Operator) (f k : ℕ) (a b : Tree) → has_mark o ≡ true → o.assoc ≡ true
     → content o f (twice f k a b) ≡ settled o (leaves f a ++ leaves f b)
