@@ -15,6 +15,7 @@ use Rattle.circ_theory.proofs.Rewriting.{contains_at}
 use Rattle.circ_aci.specs.Content.{sorted_terms, settled, leaves, content}
 use Rattle.circ_aci.specs.Canonical.{join}
 use Rattle.circ_aci.proofs.Settled.{settled_by, settled_some, all_settled, all_sorted, all_drop, IsSome}
+use Rattle.circ_aci.proofs.Finding.{by_marks}
 use Rattle.circ_aci.proofs.Regroup.{IsJoiner, IsOf, HasLeaves, leaf, node, leaves_some}
 use Rattle.circ_aci.proofs.Regroup.{same, exchange, merge, sorted_leads, drop_leads, two_fit, some_fit, leaves_fit, whole_fit, leaves_lead}
 
@@ -62,18 +63,6 @@ pub data HasContent (th : Theory) (f : ℕ) (o : Operator) : Tree → List Tree 
       → HasContent th f o (twice f o.result a a) xs
   apart : (a b : Tree) → IsJoiner th f o → has_mark o ≡ true → o.assoc ≡ false → IsOf th.signature o.result a → IsOf th.signature o.result b
       → (o.idem ≡ true → is_same a b ≡ false) → HasContent th f o (twice f o.result a b) (settled o (a ∷ b ∷ []))
-
--- the content of an operator on two arguments, by the marks
-by_marks : (P : List Tree → Type 0) (o : Operator) (i c r : Bool) (one many few : List Tree)
-    → (c ≡ true → P (settled o many))
-    → (c ≡ false → i ≡ true → r ≡ true → P one)
-    → (c ≡ false → (i ≡ true → r ≡ false) → P (settled o few))
-    → P (cond (i && not c && r) one (settled o (cond c many few)))
-by_marks P o true true r one many few x y z = x refl
-by_marks P o false true r one many few x y z = x refl
-by_marks P o false false r one many few x y z = z refl (λ e. absurd (cc))
-by_marks P o true false true one many few x y z = y refl refl refl
-by_marks P o true false false one many few x y z = z refl (λ e. refl)
 
 pub has_content : (th : Theory) → IsWellFormed th → (f : ℕ) (o : Operator) → slice_get th.signature.ops f ≡ Some o
     → (t : Tree) → IsWellSorted th.signature t → HasContent th f o t (content o f t)

@@ -123,11 +123,26 @@ content_of_both o f a b =
 pub content_twice : (o : Operator) (f k : ℕ) (a b : Tree) → has_mark o ≡ true → content o f (twice f k a b) ≡ content_of_both o f a b
 content_twice o f k a b m = cond-false _ (twice f k a b ∷ []) (content_of_both o f a b) (rw (eq-eqb f f refl, m) refl)
 
-content_of_two : (o : Operator) (f : ℕ) (t a b : Tree) → Some (a, b) ≡ marked_operands o f t → content o f t ≡ content_of_both o f a b
-content_of_two o f t a b e = elim (cases_Bool (has_mark o)) [
-  | inl m ↦ let h = stands_on f t a b (rw m at e) in ap (content o f) h.is ∙ content_twice o f h.sort a b m
+-- the content of an operator on two arguments, by the marks
+pub by_marks : (P : List Tree → Type 0) (o : Operator) (i c r : Bool) (one many few : List Tree)
+    → (c ≡ true → P (settled o many))
+    → (c ≡ false → i ≡ true → r ≡ true → P one)
+    → (c ≡ false → (i ≡ true → r ≡ false) → P (settled o few))
+    → P (cond (i && not c && r) one (settled o (cond c many few)))
+by_marks P o true true r one many few x y z = x refl
+by_marks P o false true r one many few x y z = x refl
+by_marks P o false false r one many few x y z = z refl (λ e. absurd (cc))
+by_marks P o true false true one many few x y z = y refl refl refl
+by_marks P o true false false one many few x y z = z refl (λ e. refl)
+
+pub marked_on : (o : Operator) (f : ℕ) (t a b : Tree) → Some (a, b) ≡ marked_operands o f t → (has_mark o ≡ true) × StandsOn f t a b
+marked_on o f t a b e = elim (cases_Bool (has_mark o)) [
+  | inl m ↦ (m, stands_on f t a b (rw m at e))
   | inr n ↦ absurd (let z : Some (a, b) ≡ None = rw n at e in cc)
 ]
+
+content_of_two : (o : Operator) (f : ℕ) (t a b : Tree) → Some (a, b) ≡ marked_operands o f t → content o f t ≡ content_of_both o f a b
+content_of_two o f t a b e = let h = marked_on o f t a b e in ap (content o f) h.1.is ∙ content_twice o f h.1.sort a b h.0
 
 -- whether one of two arguments counts, and what both come to
 pub content_of_one : (o : Operator) (f : ℕ) (t a b : Tree) → Some (a, b) ≡ marked_operands o f t

@@ -5,3 +5,4 @@ pub mod Regroup
 pub mod Deriving
 pub mod Again
 pub mod Joined
+pub mod Rows

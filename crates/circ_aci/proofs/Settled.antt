@@ -39,12 +39,12 @@ mutual
     | inr after ↦ rw after (e, (after, r.1))
   ]
 
-sorted_rises : (xs : List Tree) → Rises (sorted_terms xs)
+pub sorted_rises : (xs : List Tree) → Rises (sorted_terms xs)
 sorted_rises [] = tt
 sorted_rises (x ∷ xs) = put_rises x (sorted_terms xs) (sorted_rises xs)
 
 -- a sorted list stays as it is
-sorted_same : (xs : List Tree) → Rises xs → sorted_terms xs ≡ xs
+pub sorted_same : (xs : List Tree) → Rises xs → sorted_terms xs ≡ xs
 sorted_same [] r = refl
 sorted_same (x ∷ []) r = refl
 sorted_same (x ∷ y ∷ ys) r = ap (put_term x) (sorted_same (y ∷ ys) r.1) ∙ rw r.0 refl
@@ -118,7 +118,7 @@ sorted_is xs ys p s =
 
 -- ---- dropping repetitions
 
-drop_rises : (x : Tree) (xs : List Tree) → Rises (x ∷ xs) → Rises (dedup_from is_same x xs)
+pub drop_rises : (x : Tree) (xs : List Tree) → Rises (x ∷ xs) → Rises (dedup_from is_same x xs)
 drop_rises x [] r = tt
 drop_rises x (y ∷ ys) r = elim (cases_Bool (is_same y x)) [
   | inl same ↦ rw same (drop_rises x ys (let P : Tree → Type 0 = λ z. Rises (z ∷ ys) in subst P (same_here y x same) r.1))

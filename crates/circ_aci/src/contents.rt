@@ -99,7 +99,7 @@ fn are_same(a: &[Term], b: &[Term]) -> bool
 }
 
 // The two arguments of the operator, where it is the term's operator.
-fn operands(op: u32, term: &Term) -> Option<(&Term, &Term)>
+pub(crate) fn operands(op: u32, term: &Term) -> Option<(&Term, &Term)>
     ensures { option_map (λ p. (p.0.now, p.1.now)) result ≡ operands op term.now }
 {
     match term.kind() {
@@ -124,7 +124,7 @@ fn two(args: &[Term]) -> Option<(&Term, &Term)>
 }
 
 // The same, where the operator has a mark.
-fn marked_operands<'a>(decl: &OpDecl, op: u32, term: &'a Term) -> Option<(&'a Term, &'a Term)>
+pub(crate) fn marked_operands<'a>(decl: &OpDecl, op: u32, term: &'a Term) -> Option<(&'a Term, &'a Term)>
     ensures { option_map (λ p. (p.0.now, p.1.now)) result
         ≡ marked_operands (operator_of decl.now) op term.now }
 {
@@ -230,7 +230,7 @@ fn drop_repeated(parts: &mut Vec<Term>)
     parts.dedup_by(|a, b| is_same(a, b));
 }
 
-fn is_same(a: &Term, b: &Term) -> bool
+pub(crate) fn is_same(a: &Term, b: &Term) -> bool
     ensures { result ≡ is_same a.now b.now }
 {
     a.same(b)

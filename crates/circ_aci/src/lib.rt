@@ -8,6 +8,8 @@
 mod contents;
 mod joining;
 pub mod laws;
+mod row;
 
 pub use contents::{content, same_content};
 pub use joining::canonical;
+pub use row::is_canonical;
