@@ -1,8 +1,8 @@
 -- A term's content joined again has the same content: what canonical forms keep.
-use Rattle.std.proofs.Common.{◌≡◌, ℕ, ◌==◌, ◌&&◌, not, Bool, true, false, cond, List, [], ◌∷◌, ◌++◌, Option, Some, None, refl, sym, ap, subst, ◌∙◌, inl, inr}
+use Rattle.std.proofs.Common.{◌≡◌, ℕ, ◌&&◌, not, Bool, true, false, cond, List, [], ◌∷◌, ◌++◌, Some, None, refl, sym, ap, ◌∙◌, inl}
+use Rattle.std.proofs.Common.{inr}
 use Rattle.std.specs.List.{AllByRecursion, slice_get}
-use Rattle.std.proofs.lemmas.Bool.{cases_Bool, eq-eqb}
-use Rattle.circ_term.specs.Tree.{Tree, App, none, more}
+use Rattle.circ_term.specs.Tree.{Tree}
 use Rattle.circ_term.specs.Order.{is_same}
 use Rattle.circ_theory.specs.Signature.{Signature, Operator, IsWellSorted}
 use Rattle.circ_theory.specs.Theory.{Theory, twice}
@@ -12,7 +12,7 @@ use Rattle.circ_aci.specs.Content.{settled, leaves, content}
 use Rattle.circ_aci.specs.Canonical.{join, canonical, IsCanonicalFormOf}
 use Rattle.circ_aci.specs.Operands.{operands}
 use Rattle.circ_aci.proofs.Settled.{settled_some, all_settled, settled_again, IsSome}
-use Rattle.circ_aci.proofs.Regroup.{IsLeaf, HasLeaves, all_leaf, leaves_some}
+use Rattle.circ_aci.proofs.Regroup.{IsLeaf, all_leaf, leaves_some}
 use Rattle.circ_aci.proofs.Finding.{content_leaf, leaves_leaf, content_twice, leaves_twice}
 use Rattle.circ_aci.proofs.Deriving.{HasContent, alone, grouped, repeated, apart, has_content, other_way, two_settled, content_leads, content_fits}
 
@@ -21,7 +21,8 @@ pub content_many : (o : Operator) (f k : ℕ) (a b : Tree) → has_mark o ≡ tr
 content_many o f k a b m c = content_twice o f k a b m ∙ many o.idem o.assoc c
   where
     many : (i c : Bool) → c ≡ true
-        → cond (i && not c && is_same a b) (content o f a) (settled o (cond c (leaves f a ++ leaves f b) (a ∷ b ∷ []))) ≡ settled o (leaves f a ++ leaves f b)
+        → cond (i && not c && is_same a b) (content o f a) (settled o (cond c (leaves f a ++ leaves f b) (a ∷ b ∷ [])))
+        ≡ settled o (leaves f a ++ leaves f b)
     many true true e = refl
     many false true e = refl
     many i false e = absurd (cc)
@@ -73,7 +74,7 @@ content_again th f o (repeated {xs = xs} a j i p h) = content_again th f o h
 content_again th f o (apart a b j m c p q n) = elim (two_settled o a b n) [
   | inl e ↦ rw e (content_two o f o.result a b m c n ∙ e)
   | inr e ↦ rw e.1
-    (content_two o f o.result b a m c (λ i. other_way a b (n i)) ∙ ap (settled o) (sym e.1) ∙ settled_again o a (b ∷ []) ∙ e.1)
+      (content_two o f o.result b a m c (λ i. other_way a b (n i)) ∙ ap (settled o) (sym e.1) ∙ settled_again o a (b ∷ []) ∙ e.1)
 ]
 
 pub is_canonical : (th : Theory) → IsWellFormed th → (f : ℕ) (o : Operator) → slice_get th.signature.ops f ≡ Some o

@@ -1,9 +1,10 @@
 -- How the code finds a content: by the two arguments at the top, by comparing terms and lists of terms, and by sizes.
-use Rattle.std.proofs.Common.{◌≡◌, ◌↔◌, ℕ, ◌+◌, ◌==◌, ◌&&◌, ◌<◌, not, Bool, true, false, cond, Ordering, Less, Equal, Greater, List, [], ◌∷◌, ◌++◌, length, Option, Some, None, IsTrue, refl, sym, ap, subst, ◌∙◌, arith, inl, inr}
+use Rattle.std.proofs.Common.{◌≡◌, ◌↔◌, ℕ, ◌==◌, ◌&&◌, not, Bool, true, false, cond, Ordering, Less, Equal, Greater, List, [], ◌∷◌}
+use Rattle.std.proofs.Common.{◌++◌, length, Option, Some, None, IsTrue, refl, sym, ap, subst, ◌∙◌, inl, inr}
 use Rattle.std.specs.Ordering.{is_eq}
 use Rattle.std.proofs.lemmas.Bool.{cases_Bool, cond-true, cond-false, eq-eqb, eqb-true}
 use Rattle.std.proofs.lemmas.Option.{same_Some}
-use Rattle.circ_term.specs.Tree.{Tree, Trees, Var, App, none, more, list_of, trees_of, list_of-trees_of, depth_of}
+use Rattle.circ_term.specs.Tree.{Tree, Trees, App, none, more, list_of, trees_of, list_of-trees_of}
 use Rattle.circ_term.specs.Order.{is_same, trees_cmp}
 use Rattle.circ_term.proofs.Order.{same_here, same_itself, trees_same, trees_equal}
 use Rattle.circ_theory.specs.Signature.{Operator}
@@ -71,28 +72,6 @@ leaves_leaf f (App g s (more a (more b none))) e = elim (cases_Bool (f == g)) [
 ]
 leaves_leaf f t e = refl
 
-content_unmarked : (o : Operator) (f : ℕ) (t : Tree) → has_mark o ≡ false → content o f t ≡ t ∷ []
-content_unmarked o f (App g s (more a (more b none))) e = elim (cases_Bool (f == g)) [
-  | inl q ↦ rw (q, e) refl
-  | inr n ↦ rw n refl
-]
-content_unmarked o f t e = refl
-
-pub content_alone : (o : Operator) (f : ℕ) (t : Tree) → marked_operands o f t ≡ None → content o f t ≡ t ∷ []
-content_alone o f t e = elim (cases_Bool (has_mark o)) [
-  | inl m ↦ content_leaf o f t (rw m at e)
-  | inr n ↦ content_unmarked o f t n
-]
-
--- different terms that are their own contents differ in content
-pub alone_apart : (o : Operator) (f : ℕ) (a b : Tree) → (a ≡ b → ⊥) → content o f a ≡ a ∷ [] → content o f b ≡ b ∷ []
-    → content o f a ≡ content o f b → ⊥
-alone_apart o f a b n p q e = n (ap first (sym p ∙ e ∙ q))
-  where
-    first : List Tree → Tree
-    first [] = a
-    first (x ∷ xs) = x
-
 -- ---- where it has two
 
 -- f stands on a and b at the top of t
@@ -103,8 +82,8 @@ pub record StandsOn (f : ℕ) (t a b : Tree) : Type 0 where
 pub stands_on : (f : ℕ) (t a b : Tree) → Some (a, b) ≡ operands f t → StandsOn f t a b
 stands_on f (App g s (more x (more y none))) a b e = elim (cases_Bool (f == g)) [
   | inl q ↦ let z : Some (a, b) ≡ Some (x, y) = rw q at e in
-    let p : (a, b) ≡ (x, y) = same_Some (a, b) (x, y) z in
-    record { sort = s; is = ap (λ n. App n s (more x (more y none))) (sym (eqb-true f g q)) ∙ ap (λ v. twice f s v.0 v.1) (sym p) }
+      let p : (a, b) ≡ (x, y) = same_Some (a, b) (x, y) z in
+      record { sort = s; is = ap (λ n. App n s (more x (more y none))) (sym (eqb-true f g q)) ∙ ap (λ v. twice f s v.0 v.1) (sym p) }
   | inr n ↦ absurd (let z : Some (a, b) ≡ None = rw n at e in cc)
 ]
 stands_on f t a b e = absurd (cc)

@@ -1,7 +1,8 @@
 -- A term is its own canonical form exactly where what its operator joins stands in a row, settled.
-use Rattle.std.proofs.Common.{◌≡◌, ◌↔◌, ℕ, ◌+◌, ◌<◌, ◌≤◌, ◌==◌, ◌&&◌, not, Bool, true, false, cond, List, [], ◌∷◌, ◌++◌, Option, Some, None, is_none, refl, sym, ap, subst, ◌∙◌, arith, inl, inr}
+use Rattle.std.proofs.Common.{◌≡◌, ◌↔◌, ℕ, ◌==◌, ◌&&◌, not, Bool, true, false, cond, List, [], ◌∷◌, ◌++◌, Option, Some, None}
+use Rattle.std.proofs.Common.{is_none, refl, sym, ap, subst, ◌∙◌, arith, inl, inr}
 use Rattle.std.specs.List.{AllByRecursion, dedup, dedup_from}
-use Rattle.std.proofs.lemmas.Bool.{cases_Bool, cond-true, cond-false, eq-eqb, eqb-true, and_parts}
+use Rattle.std.proofs.lemmas.Bool.{cases_Bool, eq-eqb, eqb-true, and_parts}
 use Rattle.circ_term.specs.Tree.{Tree, App, none, more, size_of, sort_of}
 use Rattle.circ_term.specs.Order.{is_same, comes_before}
 use Rattle.circ_theory.specs.Signature.{Operator}
@@ -136,8 +137,8 @@ in_row o f (App g s (more a (more b none))) e = elim (cases_Bool (f == g)) [
           rest = first ∷ below.rest;
           starts = rw q (ap (λ xs. xs ++ leaves f b) (leaves_leaf f a (is_none_so (operands f a) i.0)) ∙ ap (λ xs. a ∷ xs) below.starts);
           joined = rw q (ap (twice f o.result a) below.joined
-            ∙ ap (λ n. App n o.result (more a (more b none))) (eqb-true f g q)
-            ∙ ap (λ n. App g n (more a (more b none))) (sym (eqb-true s o.result h.0)));
+              ∙ ap (λ n. App n o.result (more a (more b none))) (eqb-true f g q)
+              ∙ ap (λ n. App g n (more a (more b none))) (sym (eqb-true s o.result h.0)));
           rows = rw q (rows_more o a first below.rest j.0 below.rows);
         }
 in_row o f t e = record { rest = []; starts = refl; joined = refl; rows = ((λ c. tt), (λ i. tt)) }
@@ -247,11 +248,11 @@ two_told o f k a b m c = (forth, back)
     apart n e = elim (two_settled o a b n) [
       | inl s ↦ (sym (ap sort_of (ap (join f o.result) (sym s) ∙ e)), in_place s)
       | inr s ↦
-        let whole : twice f o.result b a ≡ t = ap (join f o.result) (sym s.1) ∙ e in
-        let same : b ≡ a = ap first_of whole in
-        let P : Tree → Type 0 = λ x. settled o (a ∷ b ∷ []) ≡ x ∷ a ∷ [] in
-        let Q : Tree → Type 0 = λ x. settled o (a ∷ b ∷ []) ≡ a ∷ x ∷ [] in
-        (sym (ap sort_of whole), in_place (subst Q (sym same) (subst P same s.1)))
+          let whole : twice f o.result b a ≡ t = ap (join f o.result) (sym s.1) ∙ e in
+          let same : b ≡ a = ap first_of whole in
+          let P : Tree → Type 0 = λ x. settled o (a ∷ b ∷ []) ≡ x ∷ a ∷ [] in
+          let Q : Tree → Type 0 = λ x. settled o (a ∷ b ∷ []) ≡ a ∷ x ∷ [] in
+          (sym (ap sort_of whole), in_place (subst Q (sym same) (subst P same s.1)))
     ]
 
     back : canonical o f t ≡ t → (k ≡ o.result) × (may_follow o a b ≡ true)

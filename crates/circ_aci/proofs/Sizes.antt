@@ -1,5 +1,6 @@
 -- The size of a term and of its content: the content is no larger, and it tells the size where the operator is not idempotent.
-use Rattle.std.proofs.Common.{◌≡◌, ℕ, ◌+◌, ◌<◌, ◌≤◌, ◌==◌, ◌&&◌, Bool, true, false, not, cond, List, [], ◌∷◌, ◌++◌, refl, sym, ap, ◌∙◌, arith, inl, inr}
+use Rattle.std.proofs.Common.{◌≡◌, ℕ, ◌+◌, ◌<◌, ◌≤◌, ◌==◌, ◌&&◌, Bool, true, false, not, cond, List, [], ◌∷◌, ◌++◌}
+use Rattle.std.proofs.Common.{refl, ap, ◌∙◌, arith, inl, inr}
 use Rattle.std.specs.List.{dedup, dedup_from}
 use Rattle.std.proofs.lemmas.Bool.{cases_Bool, cond-false}
 use Rattle.circ_term.specs.Tree.{Tree, Var, App, none, more, size_of}
@@ -46,7 +47,10 @@ nodes-leaves f t = omega arith
 
 nodes-content : (o : Operator) (f : ℕ) (t : Tree) → o.idem ≡ false → nodes (content o f t) ≡ size_of t + 1
 nodes-content o f (App g s (more a (more b none))) i = elim (cases_Bool ((f == g) && has_mark o)) [
-  | inl e ↦ rw e (ap nodes (cond-false (o.idem && not o.assoc && is_same a b) (content o f a) _ (rw i refl)) ∙ nodes-settled o (cond o.assoc (leaves f a ++ leaves f b) (a ∷ b ∷ [])) i ∙ parts o.assoc)
+  | inl e ↦ rw e
+    (ap nodes (cond-false (o.idem && not o.assoc && is_same a b) (content o f a) _ (rw i refl))
+    ∙ nodes-settled o (cond o.assoc (leaves f a ++ leaves f b) (a ∷ b ∷ [])) i
+    ∙ parts o.assoc)
   | inr n ↦ rw n (omega arith)
 ]
   where
@@ -84,9 +88,9 @@ nodes_settled o xs = unless o.comm o.idem
 nodes_content : (o : Operator) (f : ℕ) (t : Tree) → nodes (content o f t) ≤ size_of t + 1
 nodes_content o f (App g s (more a (more b none))) = elim (cases_Bool ((f == g) && has_mark o)) [
   | inl e ↦ rw e (by_marks Small o o.idem o.assoc (is_same a b) (content o f a) (leaves f a ++ leaves f b) (a ∷ b ∷ [])
-    (λ c. omega (arith, nodes_settled o (leaves f a ++ leaves f b), nodes-append (leaves f a) (leaves f b), nodes-leaves f a, nodes-leaves f b))
-    (λ c i r. omega (arith, nodes_content o f a))
-    (λ c n. omega (arith, nodes_settled o (a ∷ b ∷ []))))
+      (λ c. omega (arith, nodes_settled o (leaves f a ++ leaves f b), nodes-append (leaves f a) (leaves f b), nodes-leaves f a, nodes-leaves f b))
+      (λ c i r. omega (arith, nodes_content o f a))
+      (λ c n. omega (arith, nodes_settled o (a ∷ b ∷ []))))
   | inr n ↦ rw n (omega arith)
 ]
   where

@@ -1,14 +1,13 @@
-//! Contents, and terms of the same content.
-ghost use Rattle.std.specs.Prelude.{◌≡◌, ◌↔◌, ◌++◌, ◌∷◌, [], ◌&&◌, not, if◌then◌else◌, IsTrue, IfOk, OnOk};
-ghost use Rattle.std.specs.Option.{option_map};
+//! The content of a term.
+ghost use Rattle.std.specs.Prelude.{◌≡◌, ◌++◌, ◌∷◌, [], ◌&&◌, not};
+ghost use Rattle.std.specs.Prelude.{if◌then◌else◌, IfOk, OnOk};
 ghost use Rattle.std.specs.List.{dedup};
-ghost use Rattle.circ_term.specs.Tree.{trees_of};
 ghost use Rattle.circ_term.specs.Order.{is_same};
-ghost use Rattle.circ_theory.specs.Operators.{operator_of, has_mark};
+ghost use Rattle.circ_theory.specs.Operators.{operator_of};
 ghost use Rattle.circ_aci.specs.Content.{sorted_terms, settled, leaves, content, content_under};
-ghost use Rattle.circ_aci.specs.Operands.{two_of, operands, marked_operands};
 
-use circ_term::{Kind, Term, cmp_all};
+use crate::operands::{is_same, marked_operands, operands};
+use circ_term::Term;
 use circ_theory::{OpDecl, Theory};
 use std::alloc::{AllocError, Global};
 
@@ -31,110 +30,7 @@ pub fn content(
     }
 }
 
-/// Whether two terms have the same content under an operator. Terms that are the same, that the
-/// operator does not join, or whose sizes tell them apart are answered without taking memory.
-pub fn same_content(
-    alloc: Global,
-    theory: &Theory,
-    op: u32,
-    a: &Term,
-    b: &Term,
-) -> Result<bool, AllocError>
-    ensures { IfOk result (λ r. IsTrue r ↔
-        (content_under theory.now.signature op a.now
-            ≡ content_under theory.now.signature op b.now)) }
-{
-    if a.same(b) {
-        return Ok(true);
-    }
-    match theory.op(op) {
-        Some(decl) => compare(alloc, decl, op, a, b),
-        None => Ok(false),
-    }
-}
-
-// Whether two different terms have the same content.
-fn compare(alloc: Global, decl: &OpDecl, op: u32, a: &Term, b: &Term) -> Result<bool, AllocError>
-    requires { a.now ≡ b.now → ⊥ }
-    ensures { IfOk result (λ r. IsTrue r ↔
-        (content (operator_of decl.now) op a.now ≡ content (operator_of decl.now) op b.now)) }
-{
-    if are_apart(decl, op, a, b) {
-        return Ok(false);
-    }
-    let a = content_of(alloc, decl, op, a)?;
-    let b = content_of(alloc, decl, op, b)?;
-    Ok(are_same(a.as_slice(), b.as_slice()))
-}
-
-// Whether sizes or operators already tell that two different terms differ in content.
-fn are_apart(decl: &OpDecl, op: u32, a: &Term, b: &Term) -> bool
-    requires { a.now ≡ b.now → ⊥ }
-    ensures { IsTrue result
-        → content (operator_of decl.now) op a.now ≡ content (operator_of decl.now) op b.now → ⊥ }
-{
-    if !decl.idem && a.size() != b.size() {
-        return true;
-    }
-    is_alone(decl, op, a) && is_alone(decl, op, b)
-}
-
-// Whether the operator joins nothing in the term.
-pub(crate) fn is_alone(decl: &OpDecl, op: u32, term: &Term) -> bool
-    ensures { IsTrue result → content (operator_of decl.now) op term.now ≡ term.now ∷ [] }
-{
-    match marked_operands(decl, op, term) {
-        Some(_) => false,
-        None => true,
-    }
-}
-
-fn are_same(a: &[Term], b: &[Term]) -> bool
-    ensures { IsTrue result ↔ (a.now ≡ b.now) }
-{
-    if a.len() != b.len() {
-        return false;
-    }
-    cmp_all(a, b).is_eq()
-}
-
-// The two arguments of the operator, where it is the term's operator.
-pub(crate) fn operands(op: u32, term: &Term) -> Option<(&Term, &Term)>
-    ensures { option_map (λ p. (p.0.now, p.1.now)) result ≡ operands op term.now }
-{
-    match term.kind() {
-        Kind::Variable { .. } => None,
-        Kind::Application { op: top, args, .. } => {
-            if top == op {
-                two(args)
-            } else {
-                None
-            }
-        }
-    }
-}
-
-fn two(args: &[Term]) -> Option<(&Term, &Term)>
-    ensures { option_map (λ p. (p.0.now, p.1.now)) result ≡ two_of (trees_of args.now) }
-{
-    if args.len() != 2 {
-        return None;
-    }
-    Some((&args[0], &args[1]))
-}
-
-// The same, where the operator has a mark.
-pub(crate) fn marked_operands<'a>(decl: &OpDecl, op: u32, term: &'a Term) -> Option<(&'a Term, &'a Term)>
-    ensures { option_map (λ p. (p.0.now, p.1.now)) result
-        ≡ marked_operands (operator_of decl.now) op term.now }
-{
-    if decl.assoc || decl.comm || decl.idem {
-        operands(op, term)
-    } else {
-        None
-    }
-}
-
+/// The same under an operator that is given.
 pub(crate) fn content_of(
     alloc: Global,
     decl: &OpDecl,
@@ -179,7 +75,7 @@ fn parts_of(
 ) -> Result<Vec<Term>, AllocError>
     ensures { IfOk result (λ v. v.items
         ≡ if decl.now.assoc then leaves op first.now ++ leaves op second.now
-            else first.now ∷ second.now ∷ []) }
+        else first.now ∷ second.now ∷ []) }
 {
     let mut parts = Vec::with_capacity(alloc, 2)?;
     if decl.assoc {
@@ -228,10 +124,4 @@ fn drop_repeated(parts: &mut Vec<Term>)
     ensures { parts.new.items ≡ dedup is_same parts.old.items }
 {
     parts.dedup_by(|a, b| is_same(a, b));
-}
-
-pub(crate) fn is_same(a: &Term, b: &Term) -> bool
-    ensures { result ≡ is_same a.now b.now }
-{
-    a.same(b)
 }

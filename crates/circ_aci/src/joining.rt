@@ -6,7 +6,8 @@ ghost use Rattle.circ_theory.specs.Operators.{operator_of};
 ghost use Rattle.circ_theory.specs.Theory.{twice};
 ghost use Rattle.circ_aci.specs.Canonical.{join, canonical, canonical_under};
 
-use crate::contents::{content_of, is_alone};
+use crate::contents::content_of;
+use crate::row::stands;
 use circ_term::{Term, TermFault};
 use circ_theory::{OpDecl, Theory};
 use std::alloc::Global;
@@ -14,7 +15,8 @@ use std::alloc::Global;
 /// The canonical form of the term under an operator: the operator on the term's content, grouped to
 /// the right. Where the content is the term alone, it is the term.
 ///
-/// It is TooDeep where the content has too many entries. It is never larger than the term.
+/// It is TooDeep where the content has too many entries. It is never larger than the term. A term
+/// that is canonical is shared, and takes no memory.
 pub fn canonical(alloc: Global, theory: &Theory, op: u32, term: &Term) -> Result<Term, TermFault>
     ensures { Builds result (canonical_under theory.now.signature op term.now) }
 {
@@ -24,15 +26,10 @@ pub fn canonical(alloc: Global, theory: &Theory, op: u32, term: &Term) -> Result
     }
 }
 
-fn canonical_of(
-    alloc: Global,
-    decl: &OpDecl,
-    op: u32,
-    term: &Term,
-) -> Result<Term, TermFault>
+fn canonical_of(alloc: Global, decl: &OpDecl, op: u32, term: &Term) -> Result<Term, TermFault>
     ensures { Builds result (canonical (operator_of decl.now) op term.now) }
 {
-    if is_alone(decl, op, term) {
+    if stands(decl, op, term) {
         return Ok(term.share()?);
     }
     let parts = content_of(alloc, decl, op, term)?;
@@ -50,7 +47,7 @@ fn join(alloc: Global, op: u32, sort: u32, parts: Vec<Term>) -> Result<Term, Ter
     };
     let mut joined = last;
     while let Some(part) = parts.pop() {
-        match two(alloc, op, sort, part, joined) {
+        match on_two(alloc, op, sort, part, joined) {
             Ok(term) => joined = term,
             Err(fault) => return Err(fault),
         }
@@ -68,7 +65,7 @@ fn known(terms: &[Term])
     }
 }
 
-fn two(alloc: Global, op: u32, sort: u32, first: Term, second: Term) -> Result<Term, TermFault>
+fn on_two(alloc: Global, op: u32, sort: u32, first: Term, second: Term) -> Result<Term, TermFault>
     ensures { Builds result (twice op sort first second) }
 {
     let mut args = Vec::with_capacity(alloc, 2)?;

@@ -13,16 +13,16 @@ ghost use Rattle.circ_aci.specs.Examples.{marked, a, b, f};
 
 /// Well-sorted terms of the same content are derivable from one another.
 pub fn equal_content()
-    ensures { (th : Theory) → IsWellFormed th → (H : List Pair) (f : ℕ) (o : Operator) (a b : Tree)
-        → slice_get th.signature.ops f ≡ Some o
+    ensures { (th : Theory) → IsWellFormed th → (H : List Pair) (f : ℕ) (o : Operator)
+        → slice_get th.signature.ops f ≡ Some o → (a b : Tree)
         → IsWellSorted th.signature a → IsWellSorted th.signature b
         → content o f a ≡ content o f b → Derivable th H a b }
 {}
 
 /// Well-sorted terms of the same content have the same sort.
 pub fn content_keeps_sort()
-    ensures { (th : Theory) → IsWellFormed th → (f : ℕ) (o : Operator) (a b : Tree)
-        → slice_get th.signature.ops f ≡ Some o
+    ensures { (th : Theory) → IsWellFormed th → (f : ℕ) (o : Operator)
+        → slice_get th.signature.ops f ≡ Some o → (a b : Tree)
         → IsWellSorted th.signature a → IsWellSorted th.signature b
         → content o f a ≡ content o f b → sort_of b ≡ sort_of a }
 {}
@@ -37,8 +37,8 @@ pub fn content_is_derivable()
 /// The canonical form of a well-sorted term has the term's content, is its own canonical form, is
 /// well-sorted and of the term's sort, and is derivable from the term.
 pub fn canonical_form()
-    ensures { (th : Theory) → IsWellFormed th → (f : ℕ) (o : Operator) (t : Tree)
-        → slice_get th.signature.ops f ≡ Some o → IsWellSorted th.signature t
+    ensures { (th : Theory) → IsWellFormed th → (f : ℕ) (o : Operator)
+        → slice_get th.signature.ops f ≡ Some o → (t : Tree) → IsWellSorted th.signature t
         → IsCanonicalFormOf th o f t (canonical o f t) }
 {}
 

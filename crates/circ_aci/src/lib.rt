@@ -5,11 +5,14 @@
 //! content again. Terms of the same content are derivable from one another ([`laws`]).
 #![tactic(auto)]
 
+mod comparing;
 mod contents;
 mod joining;
 pub mod laws;
+mod operands;
 mod row;
 
-pub use contents::{content, same_content};
+pub use comparing::same_content;
+pub use contents::content;
 pub use joining::canonical;
 pub use row::is_canonical;

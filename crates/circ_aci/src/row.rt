@@ -4,7 +4,7 @@ ghost use Rattle.circ_theory.specs.Operators.{operator_of};
 ghost use Rattle.circ_aci.specs.Canonical.{canonical, canonical_under};
 ghost use Rattle.circ_aci.specs.Row.{may_follow, first_in, is_row};
 
-use crate::contents::{is_same, marked_operands, operands};
+use crate::operands::{is_same, marked_operands, operands};
 use circ_term::Term;
 use circ_theory::{OpDecl, Theory};
 

@@ -1,4 +1,4 @@
-use Rattle.std.proofs.Common.{◌≡◌, ◌∙◌, List, IfOk, sym, subst}
+use Rattle.std.proofs.Common.{◌≡◌, ◌∙◌, List, IfOk, subst}
 use Rattle.circ_term.specs.Tree.{Tree}
 use Rattle.circ_theory.specs.Operators.{operator_of}
 use Rattle.circ_aci.proofs.Finding.{content_of_one, content_of_parts}

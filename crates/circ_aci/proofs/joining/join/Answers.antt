@@ -31,8 +31,8 @@ returns-in-Err c =
     let before = c.pop-in-loop-part.new.self.items in
     let P : Tree → Type 0 = λ t. Names c.in-Err.fault (first_limit t) in
     let whole =
-      sym (folded-push f k before c.in-Some-pop.part c.loop-part.joined)
-      ∙ ap (λ xs. folded f k xs c.loop-part.joined) (sym c.in-Some-pop.ensures.items)
-      ∙ c.loop-part.invariant.same in
+    sym (folded-push f k before c.in-Some-pop.part c.loop-part.joined)
+    ∙ ap (λ xs. folded f k xs c.loop-part.joined) (sym c.in-Some-pop.ensures.items)
+    ∙ c.loop-part.invariant.same in
     let within = limits-push before c.in-Some-pop.part (rw c.in-Some-pop.ensures.items at c.loop-part.invariant.within) in
     subst P whole (folded_fault f k before (twice f k c.in-Some-pop.part c.loop-part.joined) c.in-Err.fault within c.in-Err.ensures)
