@@ -48,9 +48,9 @@ nodes-leaves f t = omega arith
 nodes-content : (o : Operator) (f : ℕ) (t : Tree) → o.idem ≡ false → nodes (content o f t) ≡ size_of t + 1
 nodes-content o f (App g s (more a (more b none))) i = elim (cases_Bool ((f == g) && has_mark o)) [
   | inl e ↦ rw e
-    (ap nodes (cond-false (o.idem && not o.assoc && is_same a b) (content o f a) _ (rw i refl))
-    ∙ nodes-settled o (cond o.assoc (leaves f a ++ leaves f b) (a ∷ b ∷ [])) i
-    ∙ parts o.assoc)
+      (ap nodes (cond-false (o.idem && not o.assoc && is_same a b) (content o f a) _ (rw i refl))
+      ∙ nodes-settled o (cond o.assoc (leaves f a ++ leaves f b) (a ∷ b ∷ [])) i
+      ∙ parts o.assoc)
   | inr n ↦ rw n (omega arith)
 ]
   where

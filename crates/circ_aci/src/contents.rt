@@ -45,7 +45,8 @@ pub(crate) fn content_of(
     if is_repeated(decl, first, second) {
         return content_of(alloc, decl, op, first);
     }
-    let mut parts = parts_of(alloc, decl, op, first, second)?;
+    let mut parts = Vec::new(alloc);
+    push_parts(decl, op, first, second, &mut parts)?;
     settle(decl, &mut parts);
     Ok(parts)
 }
@@ -61,31 +62,29 @@ fn alone(alloc: Global, term: &Term) -> Result<Vec<Term>, AllocError>
     ensures { IfOk result (λ v. v.items ≡ term.now ∷ []) }
 {
     let mut parts = Vec::new(alloc);
-    parts.push(term.share()?)?;
+    push(term, &mut parts)?;
     Ok(parts)
 }
 
-// Two arguments, or the leaves below them where the operator is associative.
-fn parts_of(
-    alloc: Global,
+// Adds two arguments, or the leaves below them where the operator is associative.
+fn push_parts(
     decl: &OpDecl,
     op: u32,
     first: &Term,
     second: &Term,
-) -> Result<Vec<Term>, AllocError>
-    ensures { IfOk result (λ v. v.items
-        ≡ if decl.now.assoc then leaves op first.now ++ leaves op second.now
-        else first.now ∷ second.now ∷ []) }
+    parts: &mut Vec<Term>,
+) -> Result<(), AllocError>
+    ensures { OnOk result (parts.new.items ≡ parts.old.items
+        ++ (if decl.now.assoc then leaves op first.now ++ leaves op second.now
+        else first.now ∷ second.now ∷ [])) }
 {
-    let mut parts = Vec::with_capacity(alloc, 2)?;
     if decl.assoc {
-        push_leaves(op, first, &mut parts)?;
-        push_leaves(op, second, &mut parts)?;
+        push_leaves(op, first, parts)?;
+        push_leaves(op, second, parts)
     } else {
-        parts.push(first.share()?)?;
-        parts.push(second.share()?)?;
+        push(first, parts)?;
+        push(second, parts)
     }
-    Ok(parts)
 }
 
 fn push_leaves(op: u32, term: &Term, parts: &mut Vec<Term>) -> Result<(), AllocError>
@@ -96,11 +95,15 @@ fn push_leaves(op: u32, term: &Term, parts: &mut Vec<Term>) -> Result<(), AllocE
             push_leaves(op, first, parts)?;
             push_leaves(op, second, parts)
         }
-        None => {
-            parts.push(term.share()?)?;
-            Ok(())
-        }
+        None => push(term, parts),
     }
+}
+
+fn push(term: &Term, parts: &mut Vec<Term>) -> Result<(), AllocError>
+    ensures { OnOk result (parts.new.items ≡ parts.old.items ++ term.now ∷ []) }
+{
+    parts.push(term.share()?)?;
+    Ok(())
 }
 
 fn settle(decl: &OpDecl, parts: &mut Vec<Term>)

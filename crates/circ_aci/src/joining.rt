@@ -68,8 +68,5 @@ fn known(terms: &[Term])
 fn on_two(alloc: Global, op: u32, sort: u32, first: Term, second: Term) -> Result<Term, TermFault>
     ensures { Builds result (twice op sort first second) }
 {
-    let mut args = Vec::with_capacity(alloc, 2)?;
-    args.push(first)?;
-    args.push(second)?;
-    Term::app(alloc, op, sort, args)
+    Term::app(alloc, op, sort, vec![in alloc; first, second]?)
 }

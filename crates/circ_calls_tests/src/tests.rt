@@ -200,28 +200,29 @@ const SETS: &[u8] = b"theory T is
   op _+_ : X X -> X [assoc comm idem] .
 endtheory";
 
-fn sum(alloc: Global, first: &Term, second: &Term) -> Result<Term, TermFault> {
-    let mut args = Vec::new(alloc);
-    args.push(first.share()?)?;
-    args.push(second.share()?)?;
-    Term::app(alloc, 0, 0, args)
+fn sum(alloc: Global, first: Term, second: Term) -> Result<Term, TermFault> {
+    Term::app(alloc, 0, 0, vec![in alloc; first, second]?)
 }
 
-// Whether `B + (A + B)` holds two terms, as `A + B` does, which is its canonical form.
-fn holds_two(alloc: Global, theory: &Theory) -> Result<bool, TermFault> {
-    let (first, second) = (Term::var(0, 0), Term::var(1, 0));
-    let two = sum(alloc, &first, &second)?;
-    let three = sum(alloc, &second, &two)?;
-    let count = content(alloc, theory, 0, &three)?.len();
-    let are_same = same_content(alloc, theory, 0, &three, &two)?;
-    let form = canonical(alloc, theory, 0, &three)?;
-    Ok(count == 2 && are_same && form.same(&two))
+// Whether the first holds two terms, and the second is its canonical form.
+fn holds_two(alloc: Global, theory: &Theory, a: &Term, b: &Term) -> Result<bool, TermFault> {
+    let count = content(alloc, theory, 0, a)?.len();
+    let are_same = same_content(alloc, theory, 0, a, b)?;
+    let form = canonical(alloc, theory, 0, a)?;
+    Ok(count == 2 && are_same && form.same(b))
+}
+
+// The same for `B + (A + B)` and `A + B`.
+fn sums_hold_two(alloc: Global, theory: &Theory) -> Result<bool, TermFault> {
+    let two = sum(alloc, Term::var(0, 0), Term::var(1, 0))?;
+    let three = sum(alloc, Term::var(1, 0), two.share()?)?;
+    holds_two(alloc, theory, &three, &two)
 }
 
 #[test]
 fn contents(rt: HostRuntime) {
     let theory = read_theory(rt.alloc(), SETS);
-    assert!(rt; theory.is_ok_and(|theory| holds_two(rt.alloc(), &theory).is_ok_and(|two| two)));
+    assert!(rt; theory.is_ok_and(|theory| sums_hold_two(rt.alloc(), &theory).is_ok_and(|two| two)));
 }
 
 const FILE: &[u8] = b"theory NOT is sort Bit . ops 0 1 : -> Bit . endtheory";
