@@ -1,0 +1,4 @@
+//! Contents.
+#![tactic(auto)]
+
+pub const STUB: usize = 1;

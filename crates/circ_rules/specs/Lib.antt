@@ -1,0 +1,7 @@
+pub mod Fresh
+pub mod Rules
+pub mod Certified
+pub mod Proof
+pub mod Accepted
+pub mod Plain
+pub mod Answers
