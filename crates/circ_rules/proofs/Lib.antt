@@ -3,3 +3,4 @@ pub mod Leading
 pub mod Sorted
 pub mod Stepping
 pub mod Certifying
+pub mod Plain

@@ -8,6 +8,7 @@
 
 mod admitting;
 mod applying;
+mod basis;
 mod proof;
 mod state;
 
