@@ -4,3 +4,4 @@ pub mod Sorted
 pub mod Stepping
 pub mod Certifying
 pub mod Plain
+pub mod Simplifying
