@@ -5,3 +5,4 @@ pub mod Stepping
 pub mod Certifying
 pub mod Plain
 pub mod Simplifying
+pub mod Deriving

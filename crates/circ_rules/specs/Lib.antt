@@ -5,3 +5,4 @@ pub mod Accepted
 pub mod Plain
 pub mod Answers
 pub mod Basis
+pub mod Deriving

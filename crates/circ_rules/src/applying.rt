@@ -50,7 +50,7 @@ pub fn apply(
     match step {
         Step::Simplify { chain } => basis.simplify(state, chain),
         Step::Reduce { why } => basis.reduce(state, why),
-        Step::Derive => Err(AllocError),
+        Step::Derive => basis.derive(state),
         Step::Done => Ok(state.goals.is_empty()),
     }
 }
