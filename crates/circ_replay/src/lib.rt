@@ -5,9 +5,11 @@
 //! (`LinkOf`), and so chains and whys. A [`TableBuilder`] is seen as the list of its terms.
 #![tactic(auto)]
 
+mod following;
 mod links;
 mod table;
 
+pub use following::{follow, follow_why};
 pub use links::{Chain, Link, Way, Why};
 pub use table::TableBuilder;
 

@@ -1,0 +1,6 @@
+//! The checker of proofs.
+#![tactic(auto)]
+
+mod checking;
+
+pub use checking::{Verdict, check, derived};

@@ -1,0 +1,19 @@
+-- What following links and whys answers.
+use Rattle.std.specs.Prelude.{◌↔◌, ℕ, List, [], Option, Some, None}
+use Rattle.circ_term.specs.Tree.{Tree}
+use Rattle.circ_theory.specs.Theory.{Theory, Pair}
+use Rattle.circ_theory.specs.Derivable.{Derivable}
+use Rattle.circ_replay.specs.Plain.{LinkOf, Equation_link, Hypothesis_link, Assumption_link, Content_link}
+use Rattle.circ_replay.specs.Link.{Setting, Leads}
+
+-- the one term that the link leads to, or that there is none
+abbrev pub Follows : Setting → LinkOf Tree → Tree → Option Tree → Type 0
+Follows c l t None = (u : Tree) → Leads c l t u → ⊥
+Follows c l t (Some u) = Leads c l t u
+
+-- What a link leads to is derivable: by the theory alone for an equation's link and one of content, and from the assumptions for an assumption's.
+abbrev pub LinkDerives : Theory → (assumptions : List Pair) → {T : Type 0} → LinkOf T → Tree → Tree → Type 0
+LinkDerives th A (Equation_link number way path terms) t u = Derivable th [] t u
+LinkDerives th A (Hypothesis_link number way path terms) t u = Unit {0}
+LinkDerives th A (Assumption_link number way path) t u = Derivable th A t u
+LinkDerives th A (Content_link op path term) t u = Derivable th [] t u

@@ -1,0 +1,128 @@
+-- Proofs as plain data, and when one fits a theory (`ProofFor`).
+use Rattle.std.specs.Prelude.{◌≡◌, ◌≢◌, ◌≤◌, ◌<◌, ◌+◌, ◌-◌, ◌^◌, ℕ, true, List, [], ◌∷◌, ◌++◌, length, map}
+use Rattle.std.specs.List.{AllByRecursion}
+use Rattle.circ_term.specs.Tree.{Tree, Var, App, sort_of, list_of}
+use Rattle.circ_term.specs.Limits.{IsWithinLimits}
+use Rattle.circ_theory.specs.Signature.{IsWellSorted}
+use Rattle.circ_theory.specs.Theory.{Theory}
+use Rattle.circ_theory.specs.Link.{named}
+use Rattle.circ_theory.specs.declared.parts.Goal.{Goal}
+use Rattle.circ_special.specs.declared.place.Place.{Place}
+use Rattle.circ_special.specs.Special.{IsSet}
+use Rattle.circ_replay.specs.Plain.{LinkOf, Equation_link, Hypothesis_link, Assumption_link, Content_link, ChainOf, WhyOf, WhysOf, Same_why, Split_why, no_why, more_whys}
+use Rattle.circ_replay.specs.Table.{has, term_limit}
+use Rattle.circ_replay.specs.Goals.{goal}
+use Rattle.circ_rules.specs.Rules.{ProofStep, Simplify, Reduce, Derive, Done}
+use Rattle.circ_rules.specs.Certified.{due}
+
+-- Goals, with the table's numbers of their sides, and steps.
+pub record Block : Type 0 where
+  pub goals : List Goal
+  pub names : List (ℕ × ℕ)
+  pub steps : List (ProofStep ℕ)
+
+-- A table of terms, a special set with its certificates, and blocks.
+pub record Proof : Type 0 where
+  pub table : List Tree
+  pub places : List Place
+  pub certificates : List (List (LinkOf ℕ))
+  pub blocks : List Block
+
+abbrev pub goal_of : (table : List Tree) → ℕ × ℕ → Goal
+goal_of table n = goal (named table n.0) (named table n.1)
+
+-- a number that the text of a proof can hold
+abbrev pub IsNumber : ℕ → Type 0
+IsNumber n = n < 2 ^ 32
+
+-- at most 1,000 entries, each at most 65,535
+abbrev pub IsPath : List ℕ → Type 0
+IsPath path = (length path ≤ 1000) × AllByRecursion (λ i. i < 2 ^ 16) path
+
+-- the terms of a link are in a table of this length
+abbrev pub IsLinkFor : (count : ℕ) → LinkOf ℕ → Type 0
+IsLinkFor count (Equation_link number way path terms) = IsNumber number × IsPath path × AllByRecursion (λ n. n < count) terms
+IsLinkFor count (Hypothesis_link number way path terms) = IsNumber number × IsPath path × AllByRecursion (λ n. n < count) terms
+IsLinkFor count (Assumption_link number way path) = IsNumber number × IsPath path
+IsLinkFor count (Content_link op path term) = IsNumber op × IsPath path × (term < count)
+
+abbrev pub AreLinksFor : (count : ℕ) → List (LinkOf ℕ) → Type 0
+AreLinksFor count ls = AllByRecursion (IsLinkFor count) ls
+
+abbrev pub IsChainFor : (count : ℕ) → ChainOf ℕ → Type 0
+IsChainFor count c = AreLinksFor count c.left × AreLinksFor count c.right
+
+abbrev pub why_count : {T : Type 0} → WhysOf T → ℕ
+why_count no_why = 0
+why_count (more_whys w ws) = why_count ws + 1
+
+-- at most so many splits stand inside one another, each of a number of whys that the text can hold
+abbrev mutual
+  pub IsWhyFor : (count splits : ℕ) → WhyOf ℕ → Type 0
+  IsWhyFor count splits (Same_why chain) = IsChainFor count chain
+  IsWhyFor count splits (Split_why chain term whys) =
+      IsChainFor count chain × (term < count) × (1 ≤ splits) × IsNumber (why_count whys) × AreWhysFor count (splits - 1) whys
+
+  pub AreWhysFor : (count splits : ℕ) → WhysOf ℕ → Type 0
+  AreWhysFor count splits no_why = Unit {0}
+  AreWhysFor count splits (more_whys w ws) = IsWhyFor count splits w × AreWhysFor count splits ws
+
+-- the most splits inside one another
+abbrev pub split_limit : ℕ
+split_limit = 8
+
+abbrev pub IsStepFor : (count : ℕ) → ProofStep ℕ → Type 0
+IsStepFor count (Simplify chain) = IsChainFor count chain
+IsStepFor count (Reduce why) = IsWhyFor count split_limit why
+IsStepFor count Derive = Unit {0}
+IsStepFor count Done = Unit {0}
+
+-- the last step and no other is Done
+abbrev pub IsEnded : List (ProofStep ℕ) → Type 0
+IsEnded [] = ⊥
+IsEnded (s ∷ []) = s ≡ Done
+IsEnded (s ∷ t ∷ ss) = (s ≢ Done) × IsEnded (t ∷ ss)
+
+-- the goal's numbers are in the table, and its two terms have one sort
+pub record IsNameFor (table : List Tree) (n : ℕ × ℕ) : Type 0 where
+  pub left : n.0 < length table
+  pub right : n.1 < length table
+  pub same_sort : sort_of (named table n.1) ≡ sort_of (named table n.0)
+
+pub record IsBlockFor (table : List Tree) (b : Block) : Type 0 where
+  pub some_goal : b.names ≢ []
+  pub names : AllByRecursion (IsNameFor table) b.names
+  pub goals : b.goals ≡ map (goal_of table) b.names
+  pub steps : AllByRecursion (IsStepFor (length table)) b.steps
+  pub ended : IsEnded b.steps
+
+-- a term of the table after the terms before it: each argument of an application is one of these
+abbrev pub IsEntry : (before : List Tree) → Tree → Type 0
+IsEntry before (Var n s) = IsNumber n
+IsEntry before (App f s ts) = AllByRecursion (λ a. has before a ≡ true) (list_of ts)
+
+abbrev pub AreEntries : (before table : List Tree) → Type 0
+AreEntries before [] = Unit {0}
+AreEntries before (t ∷ ts) = IsEntry before t × AreEntries (before ++ t ∷ []) ts
+
+-- the number of steps, Done included
+abbrev pub steps_in : List Block → ℕ
+steps_in [] = 0
+steps_in (b ∷ bs) = length b.steps + steps_in bs
+
+-- the most steps
+abbrev pub step_limit : ℕ
+step_limit = 100000
+
+-- The proof fits the theory.
+pub record ProofFor (th : Theory) (p : Proof) : Type 0 where
+  pub sorted : AllByRecursion (IsWellSorted th.signature) p.table
+  pub within : AllByRecursion IsWithinLimits p.table
+  pub entries : AreEntries [] p.table
+  pub short_table : length p.table ≤ term_limit
+  pub places : IsSet th p.places
+  pub one_each : length p.certificates ≡ length (due th p.places)
+  pub certificates : AllByRecursion (AreLinksFor (length p.table)) p.certificates
+  pub some_block : p.blocks ≢ []
+  pub blocks : AllByRecursion (IsBlockFor p.table) p.blocks
+  pub few_steps : steps_in p.blocks ≤ step_limit

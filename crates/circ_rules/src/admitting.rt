@@ -1,0 +1,45 @@
+//! Certificates.
+ghost use Rattle.std.specs.Prelude.{◌≡◌, ◌<◌, length, map, IfOk};
+ghost use Rattle.std.specs.List.{AllByRecursion};
+ghost use Rattle.circ_theory.specs.Signature.{IsWellSorted};
+ghost use Rattle.circ_theory.specs.Link.{named};
+ghost use Rattle.circ_special.specs.Special.{IsSet};
+ghost use Rattle.circ_replay.specs.Plain.{map_link};
+ghost use Rattle.circ_replay.specs.Link.{AllOfLinks};
+ghost use Rattle.circ_rules.specs.Certified.{due};
+ghost use Rattle.circ_rules.specs.Plain.{plain_certificates};
+ghost use Rattle.circ_rules.specs.Answers.{Admits};
+
+use circ_replay::Link;
+use circ_special::Gamma;
+use circ_term::Term;
+use circ_theory::Theory;
+use std::alloc::{AllocError, Global};
+
+/// What the certificates of a special set come to.
+#[derive(Clone, Copy, PartialEq, Eq)]
+pub enum Admission {
+    /// Each one certifies what is due.
+    Yes,
+    /// The first that does not, counted from 1.
+    No { number: u64 },
+}
+
+/// Whether each certificate leads from its start term to a term that is guarded by the set.
+pub fn admit(
+    alloc: Global,
+    theory: &Theory,
+    table: &[Term],
+    gamma: &Gamma,
+    certificates: &[Vec<Link>],
+) -> Result<Admission, AllocError>
+    requires in_table { AllByRecursion (AllOfLinks (λ n. n < length table.now))
+        (plain_certificates certificates.now) }
+    requires table_sorted { AllByRecursion (IsWellSorted theory.now.signature) table.now }
+    requires places { IsSet theory.now gamma.now }
+    requires one_each { length certificates.now ≡ length (due theory.now gamma.now) }
+    ensures { IfOk result (Admits theory.now gamma.now
+        (map (map (map_link (named table.now))) (plain_certificates certificates.now))) }
+{
+    Err(AllocError)
+}

@@ -1,0 +1,47 @@
+//! Proofs as data.
+use circ_replay::{Chain, Link, Why};
+use circ_special::Gamma;
+use circ_term::Term;
+use circ_theory::Goal;
+
+/// A step of a proof. Each but `Done` acts on the first goal.
+#[derive(Drop)]
+pub enum Step {
+    /// The goal is rewritten, and stays first.
+    Simplify {
+        chain: Chain,
+    },
+    /// The goal holds, and is dropped (rule Reduce).
+    Reduce {
+        why: Why,
+    },
+    /// The goal becomes a hypothesis, and its derivatives become goals (rule Derive).
+    Derive,
+    /// No goal is left (rule Done).
+    Done,
+}
+
+/// Goals that are proved together, with their steps.
+#[derive(Drop)]
+pub struct Block {
+    /// The goals: at least one.
+    pub goals: Vec<Goal>,
+    /// The goals' sides, by their numbers in the proof's table.
+    pub names: Vec<(u32, u32)>,
+    /// The steps. The last and no other is `Done`.
+    pub steps: Vec<Step>,
+}
+
+/// A proof. Its links name terms by their numbers in its table.
+#[derive(Drop)]
+pub struct Proof {
+    /// The terms that links and goals name, each after its arguments.
+    pub table: Vec<Term>,
+    /// The special set.
+    pub gamma: Gamma,
+    /// The certificates: for each place of the set in order, one for each derivative of the place's
+    /// result sort in order.
+    pub certificates: Vec<Vec<Link>>,
+    /// The blocks: at least one. The goals of a block are hypotheses of those after it.
+    pub blocks: Vec<Block>,
+}
