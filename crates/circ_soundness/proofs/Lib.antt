@@ -1,0 +1,5 @@
+pub mod Members
+pub mod Filling
+pub mod Changing
+pub mod Parameters
+pub mod Agreeing

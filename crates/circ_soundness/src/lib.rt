@@ -1,0 +1,2 @@
+//! Why an accepted proof is to be believed: its goals and its derived hypotheses behave.
+#![tactic(auto)]
