@@ -1,1 +1,4 @@
 pub mod Content
+pub mod Canonical
+pub mod Operands
+pub mod Examples
