@@ -3,3 +3,7 @@ pub mod Filling
 pub mod Changing
 pub mod Parameters
 pub mod Agreeing
+pub mod Guarding
+pub mod Keeping
+pub mod Justifying
+pub mod Placing
