@@ -6,4 +6,5 @@ pub mod Agreeing
 pub mod Guarding
 pub mod Keeping
 pub mod Justifying
+pub mod Starting
 pub mod Placing
