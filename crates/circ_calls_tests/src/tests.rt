@@ -194,6 +194,26 @@ fn sorts(rt: HostRuntime) {
     assert!(rt; theory.is_ok_and(|theory| unobserved(rt.alloc(), &theory, 1) == Ok(true)));
 }
 
+// Whether derivative 0, which has no parameter, has an instance on the term.
+fn is_derived(theory: &Theory, term: &Term) -> bool {
+    let Some(hole) = theory.hole_sort(0) else {
+        return false;
+    };
+    let Some(sorts) = theory.parameter_sorts(0) else {
+        return false;
+    };
+    if term.sort() != hole || !sorts.is_empty() {
+        return false;
+    }
+    theory.instance(0, &[], term).is_ok()
+}
+
+#[test]
+fn derivatives(rt: HostRuntime) {
+    let theory = read_theory(rt.alloc(), SUMS);
+    assert!(rt; theory.is_ok_and(|theory| is_derived(&theory, &Term::var(0, 1))));
+}
+
 const FILE: &[u8] = b"theory NOT is sort Bit . ops 0 1 : -> Bit . endtheory";
 
 const PROOF: &[u8] = b"circproof 1\na 0\nblock\ngoal 0 0\nreduce\nsame\ndone\nend\n";

@@ -1,0 +1,5 @@
+pub mod Running
+pub mod Leading
+pub mod Sorted
+pub mod Stepping
+pub mod Certifying

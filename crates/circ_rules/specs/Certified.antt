@@ -2,7 +2,7 @@
 use Rattle.std.specs.Prelude.{◌≡◌, ◌⊎◌, ℕ, ◌+◌, zero, suc, List, [], ◌∷◌, ◌++◌, length, map}
 use Rattle.std.specs.List.{slice_get}
 use Rattle.std.specs.Option.{option_map_or}
-use Rattle.circ_term.specs.Tree.{Tree, Trees, Var, App, none, more}
+use Rattle.circ_term.specs.Tree.{Tree, Trees, Var, App, none, more, trees_of}
 use Rattle.circ_term.specs.Limits.{IsWithinLimits}
 use Rattle.circ_theory.specs.Signature.{Operator}
 use Rattle.circ_theory.specs.Theory.{Theory, Derivative}
@@ -13,17 +13,12 @@ use Rattle.circ_special.specs.Guarded.{Guarded}
 use Rattle.circ_replay.specs.Plain.{LinkOf}
 use Rattle.circ_replay.specs.Runs.{Runs}
 use Rattle.circ_replay.specs.Link.{setting, Leads}
-use Rattle.circ_rules.specs.Fresh.{numbered_from, derivatives_of}
-
--- variables numbered from k, of these sorts
-abbrev pub variables_from : (k : ℕ) (sorts : List ℕ) → Trees
-variables_from k [] = none
-variables_from k (s ∷ ss) = more (Var k s) (variables_from (k + 1) ss)
+use Rattle.circ_theory.specs.Fresh.{numbered_from, variables_from, derivatives_of}
 
 -- variable 0 at one place, and variables numbered from k at the others from the left
 abbrev pub start_args : (place k : ℕ) (sorts : List ℕ) → Trees
 start_args i k [] = none
-start_args zero k (s ∷ ss) = more (Var 0 s) (variables_from k ss)
+start_args zero k (s ∷ ss) = more (Var 0 s) (trees_of (variables_from k ss))
 start_args (suc i) k (s ∷ ss) = more (Var k s) (start_args i (k + 1) ss)
 
 -- the derivative on the operator applied to these variables; its parameters get the next numbers

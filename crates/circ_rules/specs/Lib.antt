@@ -1,4 +1,3 @@
-pub mod Fresh
 pub mod Rules
 pub mod Certified
 pub mod Proof

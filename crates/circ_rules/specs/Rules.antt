@@ -13,7 +13,7 @@ use Rattle.circ_replay.specs.Goals.{goal, sides, AreSortedGoals}
 use Rattle.circ_replay.specs.Runs.{Runs}
 use Rattle.circ_replay.specs.Link.{setting, Leads}
 use Rattle.circ_replay.specs.Justified.{ChainLeads, Justified, AllOfChain, AllOfWhy}
-use Rattle.circ_rules.specs.Fresh.{fresh_after, numbered_from, derivatives_of}
+use Rattle.circ_theory.specs.Fresh.{fresh_after, numbered_from, derivatives_of}
 
 -- what is taken as proved, and what is still to be proved, in order
 pub record State : Type 0 where

@@ -1,6 +1,6 @@
 -- Case lists and hidden sorts.
 use Rattle.std.proofs.Common.{◌≡◌, ◌↔◌, ◌≤◌, ◌<◌, ℕ, zero, suc, Bool, true, false, ◌==◌, ◌||◌, nat_eq, IsTrue, List, [], ◌∷◌, map, find, length, refl}
-use Rattle.std.proofs.Common.{ap, sym, ◌∙◌, arith}
+use Rattle.std.proofs.Common.{◌⊎◌, inl, inr, ap, sym, ◌∙◌, arith}
 use Rattle.std.specs.List.{list_any, Contains}
 use Rattle.std.specs.Map.{lookup}
 use Rattle.std.specs.Option.{option_map}
@@ -8,7 +8,7 @@ use Rattle.std.proofs.lemmas.Bool.{eqb-true, eq-eqb}
 use Rattle.std.proofs.lemmas.List.{length-map}
 use Rattle.std.proofs.lemmas.Map.Steps.{length-le_from_distinct_below}
 use Rattle.circ_theory.specs.Limits.{sort_limit}
-use Rattle.circ_theory.specs.Theory.{Theory, Derivative, CaseList, IsHidden}
+use Rattle.circ_theory.specs.Theory.{Theory, Derivative, CaseList, IsHidden, IsVisible}
 use Rattle.circ_theory.specs.WellFormed.{IsWellFormed}
 use Rattle.circ_theory.specs.Observing.{case_list, is_hidden}
 
@@ -70,3 +70,10 @@ hidden_tells th s = (
   (λ e. let r = hole_there th.derivatives s e in record { derivative = r.0; listed = r.1.0; hole = r.1.1 }),
   (λ h. there_hole th.derivatives s h.derivative h.listed h.hole),
 )
+
+pub hidden_or_visible : (th : Theory) (s : ℕ) → IsHidden th s ⊎ IsVisible th s
+hidden_or_visible th s = go (is_hidden th s) (hidden_tells th s)
+  where
+    go : (b : Bool) → (IsTrue b ↔ IsHidden th s) → IsHidden th s ⊎ IsVisible th s
+    go true e = inl (e.0 refl)
+    go false e = inr (λ h. absurd (let z = e.1 h in cc))

@@ -9,7 +9,7 @@ use Rattle.std.proofs.lemmas.Bool.{eqb-true}
 use Rattle.indexmap.specs.IndexSet.{insert_key}
 use Rattle.circ_term.specs.Tree.{Tree, Trees, more, trees_of}
 use Rattle.circ_theory.specs.Variables.{Variable, occurrences, all_occurrences}
-use Rattle.circ_theory.specs.Observing.{is_hole, is_parameter, holes_in, all_holes_in, parameters_in, all_parameters_in, first_repeated}
+use Rattle.circ_theory.specs.Observing.{is_hole, is_parameter, holes_in, all_holes_in, parameters_in, all_parameters_in, parameter_sorts_in, all_parameter_sorts_in, first_repeated}
 
 picked : (f : Variable → ℕ) (p : Variable → Bool) (us vs : List Variable) → map f (filter p (us ++ vs)) ≡ map f (filter p us) ++ map f (filter p vs)
 picked f p us vs = ap (map f) (filter-append p us vs) ∙ map-append f (filter p us) (filter p vs)
@@ -19,6 +19,9 @@ holes_more t ts = picked (λ v. v.sort) is_hole (occurrences t) (all_occurrences
 
 pub parameters_more : (t : Tree) (ts : Trees) → all_parameters_in (more t ts) ≡ parameters_in t ++ all_parameters_in ts
 parameters_more t ts = picked (λ v. v.number) is_parameter (occurrences t) (all_occurrences ts)
+
+pub parameter_sorts_more : (t : Tree) (ts : Trees) → all_parameter_sorts_in (more t ts) ≡ parameter_sorts_in t ++ all_parameter_sorts_in ts
+parameter_sorts_more t ts = picked (λ v. v.sort) is_parameter (occurrences t) (all_occurrences ts)
 
 -- one term more was read
 pub read_more : (f : Tree → List ℕ) (all : Trees → List ℕ) → ((t : Tree) (ts : Trees) → all (more t ts) ≡ f t ++ all ts)

@@ -23,3 +23,5 @@ pub mod Casing
 pub mod Noting
 pub mod Linear
 pub mod Observers
+pub mod Ground
+pub mod Derived

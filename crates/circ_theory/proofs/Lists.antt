@@ -13,6 +13,10 @@ pub all_push : {X : Type 0} (P : X → Type 0) (xs : List X) (x : X) → AllByRe
 all_push P [] x a p = (p, tt)
 all_push P (y ∷ ys) x a p = (a.0, all_push P ys x a.1 p)
 
+pub all_by : {X : Type 0} (P Q : X → Type 0) (xs : List X) → ((x : X) → P x → Q x) → AllByRecursion P xs → AllByRecursion Q xs
+all_by P Q [] f a = tt
+all_by P Q (x ∷ xs) f a = (f x a.0, all_by P Q xs f a.1)
+
 pub all_at : {X : Type 0} (P : X → Type 0) (xs : List X) (i : ℕ) (x : X) → AllByRecursion P xs → slice_get xs i ≡ Some x → P x
 all_at P [] i x a g = absurd (cc)
 all_at P (y ∷ ys) zero x a g = subst P (same_Some y x g) a.0

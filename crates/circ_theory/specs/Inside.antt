@@ -15,7 +15,7 @@ use Rattle.circ_theory.specs.Theory.{Theory, declared, pair_of}
 use Rattle.circ_theory.specs.Variables.{sorts_of}
 use Rattle.circ_theory.specs.Operators.{operator_of, ops_by_word}
 use Rattle.circ_theory.specs.Rule.{is_rule}
-use Rattle.circ_theory.specs.Observing.{parameters_in, derivative_with, is_hidden, case_list}
+use Rattle.circ_theory.specs.Observing.{parameter_sorts_in, derivative_with, is_hidden, case_list}
 use Rattle.circ_theory.specs.WellFormed.{IsWellFormed}
 
 -- the key of an operator in the map of operators: the text of its form, which gives the form back, and the argument sorts
@@ -34,9 +34,9 @@ pub record IsListed (l : Listed) : Type 0 where
   pub few : length l.sorts.items ≤ 4294967296
   pub rule : l.rule ≡ is_rule l.equation
 
--- the number kept with a derivative is that of its parameters
+-- the sorts kept with a derivative are those of its parameters
 abbrev pub IsObserver : Observer → Type 0
-IsObserver o = o.params ≡ length (parameters_in o.term)
+IsObserver o = o.sorts.items ≡ parameter_sorts_in o.term
 
 -- the numbers kept under a word
 abbrev pub kept_under : {A B : Type 0} → List (Vec ℕ A × Vec ℕ B) → List ℕ → List ℕ

@@ -9,6 +9,7 @@ pub mod Experiment
 pub mod Operators
 pub mod Rule
 pub mod Observing
+pub mod Fresh
 pub mod WellFormed
 pub mod Adding
 pub mod Code

@@ -34,6 +34,13 @@ parameters_in t = map (λ v. v.number) (filter is_parameter (occurrences t))
 abbrev pub all_parameters_in : Trees → List ℕ
 all_parameters_in ts = map (λ v. v.number) (filter is_parameter (all_occurrences ts))
 
+-- the sorts of the parameters, one for each place from the left
+abbrev pub parameter_sorts_in : Tree → List ℕ
+parameter_sorts_in t = map (λ v. v.sort) (filter is_parameter (occurrences t))
+
+abbrev pub all_parameter_sorts_in : Trees → List ℕ
+all_parameter_sorts_in ts = map (λ v. v.sort) (filter is_parameter (all_occurrences ts))
+
 -- The parameters are numbered from 1, by first occurrence.
 abbrev pub AreParametersInOrder : Tree → Type 0
 AreParametersInOrder t = AreNumberedFrom 1 (filter is_parameter (seen_in t []))

@@ -9,6 +9,7 @@
 mod adding;
 mod fault;
 mod forms;
+mod fresh;
 pub mod laws;
 mod observing;
 mod order;
@@ -19,6 +20,7 @@ mod theories;
 
 pub use fault::TheoryFault;
 pub use forms::{Form, FormFault, Piece, Text};
+pub use fresh::{above, fresh_after};
 pub use observing::parameters_in_order;
 pub use order::in_order;
 pub use parts::{Equation, Goal, OpDecl, Script, Side};

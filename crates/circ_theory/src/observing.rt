@@ -7,6 +7,7 @@ ghost use Rattle.circ_theory.specs.Variables.{AreNumberedFrom};
 ghost use Rattle.circ_theory.specs.Occurring.{variable_of};
 ghost use Rattle.circ_theory.specs.Observing.{holes_in, parameters_in, all_holes_in};
 ghost use Rattle.circ_theory.specs.Observing.{all_parameters_in, is_parameter};
+ghost use Rattle.circ_theory.specs.Observing.{parameter_sorts_in, all_parameter_sorts_in};
 ghost use Rattle.circ_theory.specs.Observing.{AreParametersInOrder, first_repeated};
 
 use crate::renumber::{Occurring, gather};
@@ -40,20 +41,24 @@ fn are_in_order(variables: &[Occurring]) -> bool
     true
 }
 
-// The sorts of a term's holes and the numbers of its parameters, one for each place from the left.
+// The sorts of a term's holes, and the numbers and the sorts of its parameters, one for each place
+// from the left.
 #[derive(Drop)]
 pub(crate) struct Slots {
     pub(crate) holes: Vec<u32>,
     pub(crate) params: Vec<u32>,
+    pub(crate) sorts: Vec<u32>,
 }
 
 pub(crate) fn slots_of(alloc: Global, term: &Term) -> Result<Slots, AllocError>
     ensures holes { IfOk result (λ s. s.holes.items ≡ holes_in term.now) }
     ensures params { IfOk result (λ s. s.params.items ≡ parameters_in term.now) }
+    ensures sorts { IfOk result (λ s. s.sorts.items ≡ parameter_sorts_in term.now) }
 {
     let mut slots = Slots {
         holes: Vec::new(alloc),
         params: Vec::new(alloc),
+        sorts: Vec::new(alloc),
     };
     fill(term, &mut slots)?;
     Ok(slots)
@@ -65,14 +70,17 @@ fn fill(term: &Term, slots: &mut Slots) -> Result<(), AllocError>
         holes_in term.now) }
     ensures params { OnOk result (slots.new.params.items ≡ slots.old.params.items ++
         parameters_in term.now) }
+    ensures sorts { OnOk result (slots.new.sorts.items ≡ slots.old.sorts.items ++
+        parameter_sorts_in term.now) }
 {
     match term.kind() {
         Kind::Variable { number: 0, sort } => {
             slots.holes.push(sort)?;
             Ok(())
         }
-        Kind::Variable { number, .. } => {
+        Kind::Variable { number, sort } => {
             slots.params.push(number)?;
+            slots.sorts.push(sort)?;
             Ok(())
         }
         Kind::Application { args, .. } => fill_all(args, slots),
@@ -85,6 +93,8 @@ fn fill_all(terms: &[Term], slots: &mut Slots) -> Result<(), AllocError>
         all_holes_in (trees_of terms.now)) }
     ensures params { OnOk result (slots.new.params.items ≡ slots.old.params.items ++
         all_parameters_in (trees_of terms.now)) }
+    ensures sorts { OnOk result (slots.new.sorts.items ≡ slots.old.sorts.items ++
+        all_parameter_sorts_in (trees_of terms.now)) }
 {
     for term in terms {
         fill(term, slots)?;

@@ -31,12 +31,12 @@ struct Listed {
     rule: bool,
 }
 
-// A derivative, with the sort of its hole and the number of its parameters.
+// A derivative, with the sort of its hole and the sorts of its parameters by number.
 #[derive(Drop)]
 struct Observer {
     term: Term,
     hole: u32,
-    params: usize,
+    sorts: Vec<u32>,
 }
 
 // What a theory holds. It is boxed, so that each exit that drops a theory does it by one call.

@@ -127,8 +127,8 @@ impl Theory {
         ensures err { OnErr result (self.new ≡ self.old) }
     {
         let number = self.derivative_count();
-        let (hole, params) = self.hole_and_params(&term)?;
-        let observer = Observer { term, hole, params };
+        let (hole, sorts) = self.hole_and_params(&term)?;
+        let observer = Observer { term, hole, sorts };
         let parts = &mut *self.parts;
         parts.derivatives.reserve(1)?;
         parts.hidden.insert(hole)?;

@@ -3,7 +3,7 @@ ghost use Rattle.std.specs.Prelude.{◌≡◌, ◌≤◌, IfOk, IfErr, None, not
 ghost use Rattle.circ_theory.specs.Operators.{operator_of};
 ghost use Rattle.circ_theory.specs.Adding.{Numbers, IsFaultOf, op_fault, old_var_fault};
 ghost use Rattle.circ_theory.specs.Adding.{new_var_fault, unknown_sort};
-ghost use Rattle.circ_theory.specs.Observing.{holes_in, parameters_in, first_repeated};
+ghost use Rattle.circ_theory.specs.Observing.{holes_in, parameter_sorts_in, first_repeated};
 ghost use Rattle.circ_theory.specs.Observing.{first_or_zero, slots_fault, derivative_fault};
 ghost use Rattle.circ_theory.specs.Observing.{cases_fault, is_constant, no_constants};
 ghost use Rattle.circ_theory.specs.Inside.{IsKeyOf};
@@ -88,13 +88,13 @@ impl Theory {
         }
     }
 
-    // The sort of the hole and the number of the parameters of a term that can be added as a
+    // The sort of the hole and the sorts of the parameters of a term that can be added as a
     // derivative.
-    pub(super) fn hole_and_params(&self, term: &Term) -> Result<(u32, usize), TheoryFault>
+    pub(super) fn hole_and_params(&self, term: &Term) -> Result<(u32, Vec<u32>), TheoryFault>
         ensures fault { IfErr result (λ f. IsFaultOf f (derivative_fault self.now term.now)) }
         ensures new { IfOk result (λ _. derivative_fault self.now term.now ≡ None) }
         ensures hole { IfOk result (λ r. r.0 ≡ first_or_zero (holes_in term.now)) }
-        ensures params { IfOk result (λ r. r.1 ≡ length (parameters_in term.now)) }
+        ensures sorts { IfOk result (λ r. r.1.items ≡ parameter_sorts_in term.now) }
     {
         term.known();
         let slots = slots_of(self.alloc, term)?;
@@ -102,7 +102,7 @@ impl Theory {
         if let Some(fault) = self.derivative_fault(repeated, &slots) {
             return Err(fault);
         }
-        Ok((first_or_zero(slots.holes.as_slice()), slots.params.len()))
+        Ok((first_or_zero(slots.holes.as_slice()), slots.sorts))
     }
 
     fn derivative_fault(&self, repeated: Option<u32>, slots: &Slots) -> Option<TheoryFault>

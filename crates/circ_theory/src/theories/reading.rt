@@ -11,6 +11,8 @@ ghost use Rattle.circ_theory.specs.Adding.{sort_number, var_number, op_of_form};
 ghost use Rattle.circ_theory.specs.Names.{AreDifferent, names_of};
 ghost use Rattle.circ_theory.specs.Rule.{is_rule};
 ghost use Rattle.circ_theory.specs.Observing.{parameters_in, derivative_with, cases_of, is_hidden};
+ghost use Rattle.circ_theory.specs.Observing.{parameter_sorts_in};
+ghost use Rattle.circ_theory.specs.Fresh.{parameter_sorts};
 
 use super::{Listed, Observer, OpKey, Theory};
 use crate::forms::Form;
@@ -162,10 +164,10 @@ impl Theory {
         self.parts.derivatives.len() as u32
     }
 
-    fn observer(&self, n: u32) -> Option<&Observer>
+    pub(super) fn observer(&self, n: u32) -> Option<&Observer>
         ensures derivative { option_map (λ o. derivative_with o.now.hole o.now.term) result ≡
             slice_get self.now.derivatives n }
-        ensures params { IfSome result (λ o. o.now.params ≡ length (parameters_in o.now.term)) }
+        ensures sorts { IfSome result (λ o. o.now.sorts.items ≡ parameter_sorts_in o.now.term) }
     {
         self.parts.derivatives.get(n as usize)
     }
@@ -197,7 +199,18 @@ impl Theory {
             (slice_get self.now.derivatives n) }
     {
         match self.observer(n) {
-            Some(observer) => Some(observer.params),
+            Some(observer) => Some(observer.sorts.len()),
+            None => None,
+        }
+    }
+
+    /// The sorts of a derivative's parameters 1, 2 and so on.
+    pub fn parameter_sorts(&self, derivative: u32) -> Option<&[u32]>
+        ensures { option_copied result ≡ option_map parameter_sorts
+            (slice_get self.now.derivatives derivative) }
+    {
+        match self.observer(derivative) {
+            Some(observer) => Some(observer.sorts.as_slice()),
             None => None,
         }
     }

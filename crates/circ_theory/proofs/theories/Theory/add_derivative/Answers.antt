@@ -18,7 +18,7 @@ is_kept : (c : In-Ok) → IsKept c.deref_mut-parts.result.now
 is_kept c = subst IsKept (sym c.deref_mut-parts.ensures.value) c.self.invariant
 
 abbrev observer : In-Ok → Observer
-observer c = record { term = c.args.term; hole = c.in_ok-hole.hole; params = c.in_ok-hole.params }
+observer c = record { term = c.args.term; hole = c.in_ok-hole.hole; sorts = c.in_ok-hole.sorts }
 
 pushed : (c : In-Ok) → c.push.new.self.items ≡ c.deref_mut-parts.result.now.derivatives.items ++ observer c ∷ []
 pushed c = c.in-Ok.ensures.items ∙ ap (λ os. os ++ observer c ∷ []) c.in_ok-reserve.ensures.items
@@ -42,7 +42,7 @@ invariant_of-self-2 c =
           (derivative_grows th c.args.term (is_kept c).well_formed (rw (← (is_theory c)) at c.requires.sorted) c.requires.in_order (is_new c));
       entries = (is_kept c).entries;
       listed = (is_kept c).listed;
-      observers = subst (AllByRecursion IsObserver) (sym (pushed c)) (all_push IsObserver c.deref_mut-parts.result.now.derivatives.items (observer c) (is_kept c).observers c.in_ok-hole.ensures.params);
+      observers = subst (AllByRecursion IsObserver) (sym (pushed c)) (all_push IsObserver c.deref_mut-parts.result.now.derivatives.items (observer c) (is_kept c).observers c.in_ok-hole.ensures.sorts);
       hidden = λ s. hidden_more th c.deref_mut-parts.result.now.hidden.keys c.insert.new.self.keys c.in_ok-hole.hole s (derivative_with c.in_ok-hole.hole c.args.term)
           ((is_kept c).hidden s) (ap (list_any (nat_eq s)) c.in_ok-insert.ensures.keys ∙ any_inserted c.deref_mut-parts.result.now.hidden.keys c.in_ok-hole.hole s) refl
           ∙ ap (list_any (λ d. s == d.hole)) (sym (grown c));
