@@ -8,3 +8,9 @@ pub mod Keeping
 pub mod Justifying
 pub mod Starting
 pub mod Placing
+pub mod Running
+pub mod Resolving
+pub mod Ending
+pub mod Blocks
+pub mod Sound
+pub mod Failing

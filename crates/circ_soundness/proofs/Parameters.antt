@@ -13,7 +13,7 @@ use Rattle.circ_theory.specs.WellFormed.{IsDerivative}
 use Rattle.circ_theory.specs.Experiment.{plug, derived}
 use Rattle.circ_special.proofs.Agreeing.{stands, same_instance}
 use Rattle.circ_special.proofs.Distinct.{IsHoleOfSort, body_holes}
-use Rattle.circ_rules.specs.Fresh.{above, all_above, numbered_from}
+use Rattle.circ_theory.specs.Fresh.{above, all_above, numbered_from}
 use Rattle.circ_soundness.proofs.Changing.{DifferAt}
 
 -- ---- what stands at the hole, and at the parameters

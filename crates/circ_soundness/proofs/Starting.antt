@@ -4,7 +4,7 @@ use Rattle.std.proofs.Common.{refl, ap, sym, subst, ◌∙◌, arith}
 use Rattle.std.specs.List.{slice_get, AllByRecursion, Contains}
 use Rattle.std.proofs.lemmas.Bool.{cases_Bool, eqb-true, ne_eqb, and_parts}
 use Rattle.std.proofs.lemmas.Option.{same_Some, slice_get_within}
-use Rattle.circ_term.specs.Tree.{Tree, Trees, Var, App, none, more, sort_of, list_of, at, put_at, replaced}
+use Rattle.circ_term.specs.Tree.{Tree, Trees, Var, App, none, more, sort_of, list_of, trees_of, at, put_at, replaced}
 use Rattle.circ_term.specs.Substitution.{Substitution, instance}
 use Rattle.circ_term.proofs.Paths.{at_instance}
 use Rattle.circ_theory.specs.Signature.{Signature, Operator, IsSort, IsWellSorted, HaveSorts, IsSubstitution}
@@ -23,8 +23,8 @@ use Rattle.circ_special.proofs.Agreeing.{stands}
 use Rattle.circ_special.proofs.Distinct.{AreDistinct}
 use Rattle.circ_replay.specs.Plain.{LinkOf}
 use Rattle.circ_replay.specs.Link.{Setting, setting, AllOfLinks}
-use Rattle.circ_rules.specs.Fresh.{above, all_above, numbered_from}
-use Rattle.circ_rules.specs.Certified.{variables_from, start_args, start_term, Certified}
+use Rattle.circ_theory.specs.Fresh.{above, all_above, variables_from}
+use Rattle.circ_rules.specs.Certified.{start_args, start_term}
 use Rattle.circ_soundness.specs.Levels.{Agree, HypothesesAgree, PlacesAgree, Keeps}
 use Rattle.circ_soundness.proofs.Members.{nothing}
 use Rattle.circ_soundness.proofs.Filling.{FillsAll, IsOfSort, MakesAll, all_distinct_make}
@@ -36,11 +36,15 @@ use Rattle.circ_soundness.proofs.Keeping.{IsGood, links_keep}
 
 -- ---- the variables of a start term
 
+-- variables of these sorts, numbered from k
+abbrev variables : ℕ → List ℕ → Trees
+variables k ss = trees_of (variables_from k ss)
+
 -- each of these sorts exists
 abbrev pub AreSorts : Signature → List ℕ → Type 0
 AreSorts sig ss = (s : ℕ) → Contains ss s → IsSort sig s
 
-variables_sorts : (sig : Signature) (k : ℕ) (ss : List ℕ) → AreSorts sig ss → HaveSorts sig (variables_from k ss) ss
+variables_sorts : (sig : Signature) (k : ℕ) (ss : List ℕ) → AreSorts sig ss → HaveSorts sig (variables k ss) ss
 variables_sorts sig k [] h = tt
 variables_sorts sig k (s ∷ ss) h = (refl, h s (contains_first s ss), variables_sorts sig (k + 1) ss (λ r c. h r (in_rest s r ss c)))
 
@@ -50,7 +54,7 @@ start_sorts sig zero k (s ∷ ss) h = (refl, h s (contains_first s ss), variable
 start_sorts sig (suc i) k (s ∷ ss) h = (refl, h s (contains_first s ss), start_sorts sig i (k + 1) ss (λ r c. h r (in_rest s r ss c)))
 
 -- any arguments of these sorts fill them
-variables_fill : (sig : Signature) (k : ℕ) (ss : List ℕ) (ts : Trees) → HaveSorts sig ts ss → FillsAll (IsOfSort sig) (variables_from k ss) ts
+variables_fill : (sig : Signature) (k : ℕ) (ss : List ℕ) (ts : Trees) → HaveSorts sig ts ss → FillsAll (IsOfSort sig) (variables k ss) ts
 variables_fill sig k [] none h = tt
 variables_fill sig k [] (more t ts) h = absurd h
 variables_fill sig k (s ∷ ss) none h = absurd h
@@ -65,7 +69,7 @@ start_fills sig (suc i) k (s ∷ ss) none h = absurd h
 start_fills sig (suc i) k (s ∷ ss) (more t ts) h = ((h.0, h.1), start_fills sig i (k + 1) ss ts h.2)
 
 -- no variable of a lesser number stands among them
-none_lesser : (j r k : ℕ) (ss : List ℕ) → j < k → stands j r (all_occurrences (variables_from k ss)) ≡ false
+none_lesser : (j r k : ℕ) (ss : List ℕ) → j < k → stands j r (all_occurrences (variables k ss)) ≡ false
 none_lesser j r k [] l = refl
 none_lesser j r k (s ∷ ss) l = rw (ne_eqb j k (λ e. absurd (omega arith)), none_lesser j r (k + 1) ss (omega arith)) refl
 
@@ -75,7 +79,7 @@ none_between j r zero k (s ∷ ss) p l = rw (ne_eqb j 0 (λ e. absurd (omega ari
 none_between j r (suc i) k (s ∷ ss) p l = rw (ne_eqb j k (λ e. absurd (omega arith)), none_between j r i (k + 1) ss p (omega arith)) refl
 
 -- so no variable stands twice
-variables_distinct : (k : ℕ) (ss : List ℕ) → AreDistinct (all_occurrences (variables_from k ss))
+variables_distinct : (k : ℕ) (ss : List ℕ) → AreDistinct (all_occurrences (variables k ss))
 variables_distinct k [] = tt
 variables_distinct k (s ∷ ss) = (none_lesser k s (k + 1) ss (omega arith), variables_distinct (k + 1) ss)
 
@@ -84,7 +88,7 @@ start_distinct i k [] p = tt
 start_distinct zero k (s ∷ ss) p = (none_lesser 0 s k ss p, variables_distinct k ss)
 start_distinct (suc i) k (s ∷ ss) p = (none_between k s i (k + 1) ss p (omega arith), start_distinct i (k + 1) ss (omega arith))
 
-variables_above : (k : ℕ) (ss : List ℕ) → all_above (variables_from k ss) ≤ k + length ss
+variables_above : (k : ℕ) (ss : List ℕ) → all_above (variables k ss) ≤ k + length ss
 variables_above k [] = omega arith
 variables_above k (s ∷ ss) = let h = variables_above (k + 1) ss in omega arith
 
