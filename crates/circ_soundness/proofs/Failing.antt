@@ -64,10 +64,10 @@ derived_unless_fails : (th : Theory) (p : Proof) (H : List Goal) (bs : List Bloc
 derived_unless_fails th p H [] a f r = r [] tt
 derived_unless_fails th p H (b ∷ bs) a f r =
     runs_unless_fails (StepOf th p.places) (steps_of p.table b) (state H b.goals) (λ n g. f n (inl g)) (λ e run.
-        let end = ended th p.places (named p.table) b.steps (state H b.goals) e a.0.ended run in
-        let P : State → Type 0 = StepsOf th p.places (steps_of p.table b) (state H b.goals) in
-        derived_unless_fails th p (H ++ b.goals) bs a.1 (λ n g. f (length b.steps + n) (inr (e, run, n, refl, g)))
-        (λ dss d. r (end.0 ∷ dss) (subst P end.1 run, d)))
+    let end = ended th p.places (named p.table) b.steps (state H b.goals) e a.0.ended run in
+    let P : State → Type 0 = StepsOf th p.places (steps_of p.table b) (state H b.goals) in
+    derived_unless_fails th p (H ++ b.goals) bs a.1 (λ n g. f (length b.steps + n) (inr (e, run, n, refl, g)))
+    (λ dss d. r (end.0 ∷ dss) (subst P end.1 run, d)))
 
 -- ---- the whole proof
 
@@ -86,5 +86,5 @@ pub nothing_left_out : (th : Theory) (p : Proof) → ProofFor th p → ((n : ℕ
 nothing_left_out th p for f r =
     certified_unless_fails th p.places (due th p.places) (certificates_of p)
     (length-map p.certificates (map (map_link (named p.table))) ∙ for.one_each) (λ n g. f n (inl g)) (λ a.
-        derived_unless_fails th p [] p.blocks for.blocks (λ n g. f (length p.certificates + n) (inr (a, n, refl, g)))
-        (λ dss d. r (dss, record { admissible = a; blocks = d })))
+    derived_unless_fails th p [] p.blocks for.blocks (λ n g. f (length p.certificates + n) (inr (a, n, refl, g)))
+    (λ dss d. r (dss, record { admissible = a; blocks = d })))

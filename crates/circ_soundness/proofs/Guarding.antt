@@ -146,6 +146,6 @@ guarded_stays th A G m σ τ k s g d t w guarded =
     let ws = instance_well_sorted th.signature σ t g.left w in
     passes σ τ k s d t (Stays th A m start)
     (λ u v p c x.
-        let y = one_stays th A G m σ τ k s g t u v w x.well_sorted p c (guarded p c.variable) in
-        record { well_sorted = y.well_sorted; same_sort = y.same_sort ∙ x.same_sort; agree = agree_chain th A m start u v x.same_sort x.agree y.agree })
+    let y = one_stays th A G m σ τ k s g t u v w x.well_sorted p c (guarded p c.variable) in
+    record { well_sorted = y.well_sorted; same_sort = y.same_sort ∙ x.same_sort; agree = agree_chain th A m start u v x.same_sort x.agree y.agree })
     (record { well_sorted = ws; same_sort = refl; agree = agree_same th g.well_formed A m start ws })

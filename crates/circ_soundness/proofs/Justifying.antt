@@ -55,7 +55,7 @@ joins_agree c n p q w j σ i a =
     sort_of-instance_by sig σ q.right i j.sorted.right ∙ j.sorted.same_sort ∙ sym (sort_of-instance_by sig σ q.left i j.sorted.left) in
     agree_chain th B n (instance σ p.left) (instance σ q.left) (instance σ p.right) sl (j.left.agree σ i)
     (agree_chain th B n (instance σ q.left) (instance σ q.right) (instance σ p.right) sq a
-        (agree_symmetry th B n (instance σ p.right) (instance σ q.right) sr (j.right.agree σ i)))
+    (agree_symmetry th B n (instance σ p.right) (instance σ q.right) sr (j.right.agree σ i)))
 
 -- ---- cases
 
@@ -96,9 +96,9 @@ mutual
       let l : CaseList = j.2 in
       let x = chain_joins c n g chain f.0 p q wp j.1 in
       joins_agree c n p q wp x σ i (λ cs le fit.
-          by_cases (instance σ u) l j.3 (instance_well_sorted sig σ u i f.1) (sort_of-instance_by sig σ u i f.1 ∙ j.4)
-          (λ k ck. weaken th (each_agrees c n g q x.sorted u l j.3 f.1 j.4 l.constants (λ r d. d) whys f.2 j.5 k ck σ i cs le fit)
-              (is_case (instance σ u) l k ∷ map (instance_pair σ) c.assumptions) (λ y d. last_first (instance_pair σ) c.assumptions (is_case u l k) y d)))
+      by_cases (instance σ u) l j.3 (instance_well_sorted sig σ u i f.1) (sort_of-instance_by sig σ u i f.1 ∙ j.4)
+      (λ k ck. weaken th (each_agrees c n g q x.sorted u l j.3 f.1 j.4 l.constants (λ r d. d) whys f.2 j.5 k ck σ i cs le fit)
+      (is_case (instance σ u) l k ∷ map (instance_pair σ) c.assumptions) (λ y d. last_first (instance_pair σ) c.assumptions (is_case u l k) y d)))
 
   each_agrees : (c : Setting) (n : ℕ) → IsGood c n → (q : Pair) → IsWellSortedPair c.theory.signature q → (u : Tree) (l : CaseList)
       → Contains c.theory.cases l → IsWellSorted c.theory.signature u → sort_of u ≡ l.sort

@@ -98,17 +98,17 @@ special_keeps c n g w h σ path t u s a i wt sp r =
     let wx = instance_well_sorted sig σ (from_side w q) i (sorted_from sig w q s.sorted) in
     let wy = instance_well_sorted sig σ (to_side w q) i (sorted_to sig w q s.sorted) in
     let kept : (τ : Substitution) → IsSubstitution sig τ → Stays th (map (instance_pair τ) c.assumptions) n (instance τ t) (instance τ u) = λ τ j.
-        let B = map (instance_pair τ) c.assumptions in
-        let from = instance (composed τ σ) (from_side w q) in
-        let to = instance (composed τ σ) (to_side w q) in
-        let here : Stays th B n (instance τ x) (instance τ y) = record {
-          well_sorted = instance_well_sorted sig τ y j wy;
-          same_sort = sort_of-instance_by sig τ y j wy ∙ sort_instances sig w q σ s.sorted i ∙ sym (sort_of-instance_by sig τ x j wx);
-          agree = rw (instance-instance τ σ (from_side w q), instance-instance τ σ (to_side w q))
-              (agree_weaken th B n from to (hypothesis_agrees th n w h s a (composed τ σ) (composed_substitution sig τ σ j i)));
-        } in
-        special_stays th B c.places n g.places path (instance τ t) (instance τ x) (instance τ y) (instance τ u) (special_instance c.places τ path t sp)
-        (instance_well_sorted sig τ t j wt) (at_instance τ path t x r.there) here (replaced_instance τ path t y u r.made) in
+    let B = map (instance_pair τ) c.assumptions in
+    let from = instance (composed τ σ) (from_side w q) in
+    let to = instance (composed τ σ) (to_side w q) in
+    let here : Stays th B n (instance τ x) (instance τ y) = record {
+      well_sorted = instance_well_sorted sig τ y j wy;
+      same_sort = sort_of-instance_by sig τ y j wy ∙ sort_instances sig w q σ s.sorted i ∙ sym (sort_of-instance_by sig τ x j wx);
+      agree = rw (instance-instance τ σ (from_side w q), instance-instance τ σ (to_side w q))
+          (agree_weaken th B n from to (hypothesis_agrees th n w h s a (composed τ σ) (composed_substitution sig τ σ j i)));
+    } in
+    special_stays th B c.places n g.places path (instance τ t) (instance τ x) (instance τ y) (instance τ u) (special_instance c.places τ path t sp)
+    (instance_well_sorted sig τ t j wt) (at_instance τ path t x r.there) here (replaced_instance τ path t y u r.made) in
     let same = rw (instance-Var t, instance-Var u) at (kept Var (λ m k z. (refl, z))) in
     record { well_sorted = same.well_sorted; same_sort = same.same_sort; agree = λ τ j. (kept τ j).agree }
 
@@ -151,7 +151,7 @@ link_keeps c n g (Equation_link number way path terms) f t u wt r =
     let i = given_substitution th.signature (sorted (variables_of p)) terms r.rewrites.fit f in
     derivable_keeps th g.well_formed c.assumptions n t u wt
     (rewriting_derives th c.assumptions way p σ path t u (g.well_formed.equations r.equation there) i (by_equation p σ (listed r.equation there) i) wt
-        r.rewrites.replaces)
+    r.rewrites.replaces)
 link_keeps c n g (Hypothesis_link number way path terms) f t u wt r =
     let vs = sorted (variables_of (sides r.hypothesis)) in
     hypothesis_keeps c n g number way path terms t u wt r (given_substitution c.theory.signature vs terms r.rewrites.fit f)
@@ -163,7 +163,7 @@ link_keeps c n g (Assumption_link number way path) f t u wt r =
     let s = g.assumptions p there in
     derivable_keeps th g.well_formed c.assumptions n t u wt
     (replaced_keeps th c.assumptions path t (from_side way p) (to_side way p) u wt r.replaces.there (sorted_to sig way p s) (sort_to sig way p s)
-        (assumed th c.assumptions way p there s) r.replaces.made)
+    (assumed th c.assumptions way p there s) r.replaces.made)
 link_keeps c n g (Content_link op path term) f t u wt r =
     let th : Theory = c.theory in
     let h = r.content in

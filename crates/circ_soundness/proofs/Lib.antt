@@ -14,3 +14,4 @@ pub mod Ending
 pub mod Blocks
 pub mod Sound
 pub mod Failing
+pub mod Example

@@ -59,4 +59,4 @@ last_first {Y = Y} f (z ∷ xs) x y c =
     pick P (f z) y (map f (xs ++ x ∷ []))
     (in_rest (f x) (f z) (f z ∷ map f xs) (contains_first (f z) (map f xs)))
     (λ d. pick P (f x) y (map f xs) (contains_first (f x) (f z ∷ map f xs))
-        (λ g. in_rest (f x) y (f z ∷ map f xs) (in_rest (f z) y (map f xs) g)) (last_first f xs x y d)) c
+    (λ g. in_rest (f x) y (f z ∷ map f xs) (in_rest (f z) y (map f xs) g)) (last_first f xs x y d)) c

@@ -92,5 +92,5 @@ derived-with_parameters sig d i k σ p t b =
     ∙ same_body sig d i (composed ρ here) there
     (ap (instance ρ) (plug_hole d.hole t (numbered_from k)) ∙ instance_below k σ p t b ∙ sym (plug_hole d.hole (instance σ t) p))
     (λ n s. let e : (suc n) - 1 ≡ n = omega arith in
-        ap (instance ρ) (plug_parameter d.hole t (numbered_from k) n s) ∙ ap (λ m. ρ (k + m) s) e ∙ with_parameters_above k σ p n s
-        ∙ sym (plug_parameter d.hole (instance σ t) p n s))
+    ap (instance ρ) (plug_parameter d.hole t (numbered_from k) n s) ∙ ap (λ m. ρ (k + m) s) e ∙ with_parameters_above k σ p n s
+    ∙ sym (plug_parameter d.hole (instance σ t) p n s))

@@ -63,7 +63,7 @@ kept_guarded_agrees : (th : Theory) (A : List Pair) (G : List Place) (m : ℕ) (
 kept_guarded_agrees th A G m σ τ s g d t u w k guarded =
     let sig : Signature = th.signature in
     let same : (ρ : Substitution) → IsSubstitution sig ρ → sort_of (instance ρ u) ≡ sort_of (instance ρ t) = λ ρ i.
-        sort_of-instance_by sig ρ u i k.well_sorted ∙ k.same_sort ∙ sym (sort_of-instance_by sig ρ t i w) in
+    sort_of-instance_by sig ρ u i k.well_sorted ∙ k.same_sort ∙ sym (sort_of-instance_by sig ρ t i w) in
     let x = guarded_stays th A G m σ τ 0 s g d u k.well_sorted guarded in
     let there = agree_weaken th A m (instance σ t) (instance σ u) (k.agree σ g.left) in
     let back = agree_weaken th A m (instance τ u) (instance τ t)
@@ -100,8 +100,8 @@ place_agrees th G is m pl A f i o ts a b d p c lo h e wb sb ld hole wp ag =
     let sort : IsSort sig s = (ok.operators q (contains_at sig.ops f q cert.place.listed)).args s (contains_at q.args i s cert.place.argument) in
     let here : Agree th A (suc m) (x.left 0 s) (x.right 0 s) =
     (let P : Tree → Type 0 = λ y. Agree th A (suc m) y (x.right 0 s) in
-        let Q : Tree → Type 0 = Agree th A (suc m) a in
-        subst P (sym x.left_here) (subst Q (sym x.right_here) ag)) in
+    let Q : Tree → Type 0 = Agree th A (suc m) a in
+    subst P (sym x.left_here) (subst Q (sym x.right_here) ag)) in
     let change : IsChange th A G m x.left x.right 0 s =
     record { well_formed = ok; places = pl; left = x.left_sorted; right = x.right_sorted; sort = sort; agree = here } in
     let all : Agree th A m (instance x.left start) (instance x.right start) =

@@ -87,6 +87,7 @@ certificates_sorted sig table a (ls ∷ lss) f = (links_sorted sig table a ls f.
 pub steps_sorted_terms : (sig : Signature) (table : List Tree) → AllByRecursion (IsWellSorted sig) table → (ss : List (ProofStep ℕ))
     → AllByRecursion (IsStepFor (length table)) ss → AllByRecursion (AllOfStep (IsWellSorted sig)) (map (map_step (named table)) ss)
 steps_sorted_terms sig table a [] f = tt
-steps_sorted_terms sig table a (s ∷ ss) f =
-    (step_mapped (named table) (λ n. n < length table) (IsWellSorted sig) (λ n l. named_well_sorted sig table n a l) s (step_in_table (length table) s f.0),
-      steps_sorted_terms sig table a ss f.1)
+steps_sorted_terms sig table a (s ∷ ss) f = (
+  step_mapped (named table) (λ n. n < length table) (IsWellSorted sig) (λ n l. named_well_sorted sig table n a l) s (step_in_table (length table) s f.0),
+  steps_sorted_terms sig table a ss f.1,
+)

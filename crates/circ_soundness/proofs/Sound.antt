@@ -38,7 +38,7 @@ is_due th (x ∷ xs) g o d c e l h =
     let Q : List Derivative → Type 0 = λ ds. Contains ds d in
     pick P x g xs
     (λ k. Contains-append_left own (due th xs) (x, d)
-        (in_map (λ z. (x, z)) (derivatives_at th x) d (subst Q (sym (ap (λ y. option_map_or (λ q. derivatives_of th q.result) y []) k)) listed)))
+    (in_map (λ z. (x, z)) (derivatives_at th x) d (subst Q (sym (ap (λ y. option_map_or (λ q. derivatives_of th q.result) y []) k)) listed)))
     (λ y k. Contains-append_right own (due th xs) (g, d) (is_due th xs g o d y k l h)) c e
 
 certificate_of : (th : Theory) (G : List Place) (xs : List (Place × Derivative)) (lss : List (List (LinkOf Tree)))
