@@ -25,7 +25,7 @@ module _ {T U : Type 0} (f : T → U) (P : T → Type 0) (Q : U → Type 0) (w :
   link_mapped (Assumption_link number way path) a = tt
   link_mapped (Content_link op path term) a = (w term a.0, tt)
 
-  pub links_mapped : (ls : List (LinkOf T)) → AllOfLinks P ls → AllOfLinks Q (map (map_link f) ls)
+  links_mapped : (ls : List (LinkOf T)) → AllOfLinks P ls → AllOfLinks Q (map (map_link f) ls)
   links_mapped [] a = tt
   links_mapped (l ∷ ls) a = (link_mapped l a.0, links_mapped ls a.1)
 
@@ -38,7 +38,7 @@ module _ {T U : Type 0} (f : T → U) (P : T → Type 0) (Q : U → Type 0) (w :
     whys_mapped no_why a = tt
     whys_mapped (more_whys y ys) a = (why_mapped y a.0, whys_mapped ys a.1)
 
-  pub step_mapped : (s : ProofStep T) → AllOfStep P s → AllOfStep Q (map_step f s)
+  step_mapped : (s : ProofStep T) → AllOfStep P s → AllOfStep Q (map_step f s)
   step_mapped (Simplify chain) a = (links_mapped chain.left a.0, links_mapped chain.right a.1)
   step_mapped (Reduce why) a = why_mapped why a
   step_mapped Derive a = tt
@@ -52,7 +52,7 @@ link_in_table count (Hypothesis_link number way path terms) f = f.2
 link_in_table count (Assumption_link number way path) f = tt
 link_in_table count (Content_link op path term) f = (f.2, tt)
 
-pub links_in_table : (count : ℕ) (ls : List (LinkOf ℕ)) → AreLinksFor count ls → AllOfLinks (λ n. n < count) ls
+links_in_table : (count : ℕ) (ls : List (LinkOf ℕ)) → AreLinksFor count ls → AllOfLinks (λ n. n < count) ls
 links_in_table count [] f = tt
 links_in_table count (l ∷ ls) f = (link_in_table count l f.0, links_in_table count ls f.1)
 
@@ -66,11 +66,20 @@ mutual
   whys_in_table count splits no_why f = tt
   whys_in_table count splits (more_whys y ys) f = (why_in_table count splits y f.0, whys_in_table count splits ys f.1)
 
-pub step_in_table : (count : ℕ) (s : ProofStep ℕ) → IsStepFor count s → AllOfStep (λ n. n < count) s
+step_in_table : (count : ℕ) (s : ProofStep ℕ) → IsStepFor count s → AllOfStep (λ n. n < count) s
 step_in_table count (Simplify chain) f = (links_in_table count chain.left f.0, links_in_table count chain.right f.1)
 step_in_table count (Reduce why) f = why_in_table count split_limit why f
 step_in_table count Derive f = tt
 step_in_table count Done f = tt
+
+pub certificates_in_table : (count : ℕ) (lss : List (List (LinkOf ℕ))) → AllByRecursion (AreLinksFor count) lss
+    → AllByRecursion (AllOfLinks (λ n. n < count)) lss
+certificates_in_table count [] f = tt
+certificates_in_table count (ls ∷ lss) f = (links_in_table count ls f.0, certificates_in_table count lss f.1)
+
+pub steps_in_table : (count : ℕ) (ss : List (ProofStep ℕ)) → AllByRecursion (IsStepFor count) ss → AllByRecursion (AllOfStep (λ n. n < count)) ss
+steps_in_table count [] f = tt
+steps_in_table count (s ∷ ss) f = (step_in_table count s f.0, steps_in_table count ss f.1)
 
 -- ---- well-sorted terms
 
