@@ -1,9 +1,10 @@
 -- How the code finds a content: by the two arguments at the top, by comparing terms and lists of terms, and by sizes.
-use Rattle.std.proofs.Common.{◌≡◌, ◌↔◌, ℕ, ◌+◌, ◌==◌, ◌&&◌, ◌<◌, not, Bool, true, false, cond, Ordering, Less, Equal, Greater, List, [], ◌∷◌, ◌++◌, length, Option, Some, None, IsTrue, refl, sym, ap, subst, ◌∙◌, arith, inl, inr}
+use Rattle.std.proofs.Common.{◌≡◌, ◌↔◌, ℕ, ◌==◌, ◌&&◌, not, Bool, true, false, cond, Ordering, Less, Equal, Greater, List, [], ◌∷◌}
+use Rattle.std.proofs.Common.{◌++◌, length, Option, Some, None, IsTrue, refl, sym, ap, subst, ◌∙◌, inl, inr}
 use Rattle.std.specs.Ordering.{is_eq}
 use Rattle.std.proofs.lemmas.Bool.{cases_Bool, cond-true, cond-false, eq-eqb, eqb-true}
 use Rattle.std.proofs.lemmas.Option.{same_Some}
-use Rattle.circ_term.specs.Tree.{Tree, Trees, Var, App, none, more, list_of, trees_of, list_of-trees_of, depth_of}
+use Rattle.circ_term.specs.Tree.{Tree, Trees, App, none, more, list_of, trees_of, list_of-trees_of}
 use Rattle.circ_term.specs.Order.{is_same, trees_cmp}
 use Rattle.circ_term.proofs.Order.{same_here, same_itself, trees_same, trees_equal}
 use Rattle.circ_theory.specs.Signature.{Operator}
@@ -71,28 +72,6 @@ leaves_leaf f (App g s (more a (more b none))) e = elim (cases_Bool (f == g)) [
 ]
 leaves_leaf f t e = refl
 
-content_unmarked : (o : Operator) (f : ℕ) (t : Tree) → has_mark o ≡ false → content o f t ≡ t ∷ []
-content_unmarked o f (App g s (more a (more b none))) e = elim (cases_Bool (f == g)) [
-  | inl q ↦ rw (q, e) refl
-  | inr n ↦ rw n refl
-]
-content_unmarked o f t e = refl
-
-pub content_alone : (o : Operator) (f : ℕ) (t : Tree) → marked_operands o f t ≡ None → content o f t ≡ t ∷ []
-content_alone o f t e = elim (cases_Bool (has_mark o)) [
-  | inl m ↦ content_leaf o f t (rw m at e)
-  | inr n ↦ content_unmarked o f t n
-]
-
--- different terms that are their own contents differ in content
-pub alone_apart : (o : Operator) (f : ℕ) (a b : Tree) → (a ≡ b → ⊥) → content o f a ≡ a ∷ [] → content o f b ≡ b ∷ []
-    → content o f a ≡ content o f b → ⊥
-alone_apart o f a b n p q e = n (ap first (sym p ∙ e ∙ q))
-  where
-    first : List Tree → Tree
-    first [] = a
-    first (x ∷ xs) = x
-
 -- ---- where it has two
 
 -- f stands on a and b at the top of t
@@ -103,8 +82,8 @@ pub record StandsOn (f : ℕ) (t a b : Tree) : Type 0 where
 pub stands_on : (f : ℕ) (t a b : Tree) → Some (a, b) ≡ operands f t → StandsOn f t a b
 stands_on f (App g s (more x (more y none))) a b e = elim (cases_Bool (f == g)) [
   | inl q ↦ let z : Some (a, b) ≡ Some (x, y) = rw q at e in
-    let p : (a, b) ≡ (x, y) = same_Some (a, b) (x, y) z in
-    record { sort = s; is = ap (λ n. App n s (more x (more y none))) (sym (eqb-true f g q)) ∙ ap (λ v. twice f s v.0 v.1) (sym p) }
+      let p : (a, b) ≡ (x, y) = same_Some (a, b) (x, y) z in
+      record { sort = s; is = ap (λ n. App n s (more x (more y none))) (sym (eqb-true f g q)) ∙ ap (λ v. twice f s v.0 v.1) (sym p) }
   | inr n ↦ absurd (let z : Some (a, b) ≡ None = rw n at e in cc)
 ]
 stands_on f t a b e = absurd (cc)
@@ -123,11 +102,26 @@ content_of_both o f a b =
 pub content_twice : (o : Operator) (f k : ℕ) (a b : Tree) → has_mark o ≡ true → content o f (twice f k a b) ≡ content_of_both o f a b
 content_twice o f k a b m = cond-false _ (twice f k a b ∷ []) (content_of_both o f a b) (rw (eq-eqb f f refl, m) refl)
 
-content_of_two : (o : Operator) (f : ℕ) (t a b : Tree) → Some (a, b) ≡ marked_operands o f t → content o f t ≡ content_of_both o f a b
-content_of_two o f t a b e = elim (cases_Bool (has_mark o)) [
-  | inl m ↦ let h = stands_on f t a b (rw m at e) in ap (content o f) h.is ∙ content_twice o f h.sort a b m
+-- the content of an operator on two arguments, by the marks
+pub by_marks : (P : List Tree → Type 0) (o : Operator) (i c r : Bool) (one many few : List Tree)
+    → (c ≡ true → P (settled o many))
+    → (c ≡ false → i ≡ true → r ≡ true → P one)
+    → (c ≡ false → (i ≡ true → r ≡ false) → P (settled o few))
+    → P (cond (i && not c && r) one (settled o (cond c many few)))
+by_marks P o true true r one many few x y z = x refl
+by_marks P o false true r one many few x y z = x refl
+by_marks P o false false r one many few x y z = z refl (λ e. absurd (cc))
+by_marks P o true false true one many few x y z = y refl refl refl
+by_marks P o true false false one many few x y z = z refl (λ e. refl)
+
+pub marked_on : (o : Operator) (f : ℕ) (t a b : Tree) → Some (a, b) ≡ marked_operands o f t → (has_mark o ≡ true) × StandsOn f t a b
+marked_on o f t a b e = elim (cases_Bool (has_mark o)) [
+  | inl m ↦ (m, stands_on f t a b (rw m at e))
   | inr n ↦ absurd (let z : Some (a, b) ≡ None = rw n at e in cc)
 ]
+
+content_of_two : (o : Operator) (f : ℕ) (t a b : Tree) → Some (a, b) ≡ marked_operands o f t → content o f t ≡ content_of_both o f a b
+content_of_two o f t a b e = let h = marked_on o f t a b e in ap (content o f) h.1.is ∙ content_twice o f h.1.sort a b h.0
 
 -- whether one of two arguments counts, and what both come to
 pub content_of_one : (o : Operator) (f : ℕ) (t a b : Tree) → Some (a, b) ≡ marked_operands o f t

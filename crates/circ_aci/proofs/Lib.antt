@@ -2,6 +2,7 @@ pub mod Settled
 pub mod Sizes
 pub mod Finding
 pub mod Regroup
-pub mod Contents
-pub mod Canonical
-pub mod Joining
+pub mod Deriving
+pub mod Again
+pub mod Joined
+pub mod Rows

@@ -1,5 +1,6 @@
 -- What the marks of an operator make derivable: other groupings, other orders, and no repetitions.
-use Rattle.std.proofs.Common.{◌≡◌, ℕ, ◌==◌, true, cond, List, [], ◌∷◌, ◌++◌, zero, suc, Option, Some, None, refl, sym, ap, subst, ◌∙◌, inl, inr}
+use Rattle.std.proofs.Common.{◌≡◌, ℕ, ◌==◌, true, cond, List, [], ◌∷◌, ◌++◌, zero, suc, Some, None, refl, sym, ap, subst, ◌∙◌, inl}
+use Rattle.std.proofs.Common.{inr}
 use Rattle.std.specs.List.{AllByRecursion, dedup_from, slice_get}
 use Rattle.std.proofs.lemmas.Bool.{cases_Bool, eq-eqb, eqb-true}
 use Rattle.circ_term.specs.Tree.{Tree, Var, none, more, sort_of}
@@ -150,7 +151,8 @@ module _ (th : Theory) (H : List Pair) (f : ℕ) (o : Operator) (j : IsJoiner th
 
   -- ---- another order
 
-  exchange_first : o.assoc ≡ true → o.comm ≡ true → (x y r : Tree) → Fit x → Fit y → Fit r → Leads (on_two x (on_two y r)) (on_two y (on_two x r))
+  exchange_first : o.assoc ≡ true → o.comm ≡ true → (x y r : Tree) → Fit x → Fit y → Fit r
+      → Leads (on_two x (on_two y r)) (on_two y (on_two x r))
   exchange_first e c x y r p q h =
       by_chain (on_two (on_two x y) r) (by_symmetry (regroup e x y r p q h))
       (by_chain (on_two (on_two y x) r)
@@ -170,7 +172,7 @@ module _ (th : Theory) (H : List Pair) (f : ℕ) (o : Operator) (j : IsJoiner th
       let done : All put = all_put Fit x (z ∷ zs) p a.1 in
       elim (cases_Bool (comes_before y x)) [
         | inl before ↦ rw before (by_chain (on_two y (joined (x ∷ z ∷ zs))) (exchange_first e c x y (joined (z ∷ zs)) p a.0 r)
-          (behind y (x ∷ z ∷ zs) put tt (some_put x (z ∷ zs)) a.0 (p, a.1) done step))
+            (behind y (x ∷ z ∷ zs) put tt (some_put x (z ∷ zs)) a.0 (p, a.1) done step))
         | inr after ↦ rw after (same (joined (x ∷ y ∷ z ∷ zs)) (join_fit x (y ∷ z ∷ zs) p a))
       ]
 
@@ -186,7 +188,8 @@ module _ (th : Theory) (H : List Pair) (f : ℕ) (o : Operator) (j : IsJoiner th
 
   -- ---- no repetitions
 
-  merge_first : o.assoc ≡ true → o.idem ≡ true → (x : Tree) (ys : List Tree) → Fit x → All ys → Leads (joined (x ∷ x ∷ ys)) (joined (x ∷ ys))
+  merge_first : o.assoc ≡ true → o.idem ≡ true → (x : Tree) (ys : List Tree) → Fit x → All ys
+      → Leads (joined (x ∷ x ∷ ys)) (joined (x ∷ ys))
   merge_first e i x [] p a = merge i x p
   merge_first e i x (y ∷ ys) p a =
       let r : Fit (joined (y ∷ ys)) = join_fit y ys a.0 a.1 in
@@ -198,10 +201,10 @@ module _ (th : Theory) (H : List Pair) (f : ℕ) (o : Operator) (j : IsJoiner th
   drop_leads e i x [] p a = same x p
   drop_leads e i x (y ∷ ys) p a = elim (cases_Bool (is_same y x)) [
     | inl repeated ↦ rw repeated
-      (let P : Tree → Type 0 = λ z. Leads (joined (x ∷ z ∷ ys)) (joined (dedup_from is_same x ys)) in
-      subst P (sym (same_here y x repeated)) (by_chain (joined (x ∷ ys)) (merge_first e i x ys p a.1) (drop_leads e i x ys p a.1)))
+        (let P : Tree → Type 0 = λ z. Leads (joined (x ∷ z ∷ ys)) (joined (dedup_from is_same x ys)) in
+        subst P (sym (same_here y x repeated)) (by_chain (joined (x ∷ ys)) (merge_first e i x ys p a.1) (drop_leads e i x ys p a.1)))
     | inr other ↦ rw other
-      (behind x (y ∷ ys) (dedup_from is_same y ys) tt (some_drop y ys) p a (all_drop Fit y ys a.0 a.1) (drop_leads e i y ys a.0 a.1))
+        (behind x (y ∷ ys) (dedup_from is_same y ys) tt (some_drop y ys) p a (all_drop Fit y ys a.0 a.1) (drop_leads e i y ys a.0 a.1))
   ]
 
   -- ---- other groupings

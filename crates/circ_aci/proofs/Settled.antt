@@ -1,5 +1,6 @@
 -- Sorting terms, and dropping repetitions.
-use Rattle.std.proofs.Common.{◌≡◌, ℕ, ◌+◌, ◌<◌, Bool, true, false, cond, List, [], ◌∷◌, ◌++◌, suc, refl, sym, ap, subst, ◌∙◌, arith, inl, inr}
+use Rattle.std.proofs.Common.{◌≡◌, ℕ, ◌+◌, ◌<◌, Bool, true, false, cond, List, [], ◌∷◌, ◌++◌, suc, refl, sym, ap, subst, ◌∙◌}
+use Rattle.std.proofs.Common.{arith, inl, inr}
 use Rattle.std.specs.List.{AllByRecursion, dedup, dedup_from, sum_by}
 use Rattle.std.specs.List.Sorted.{IsPermutation, IsSortedBy}
 use Rattle.std.specs.Ordering.{is_lt}
@@ -39,12 +40,12 @@ mutual
     | inr after ↦ rw after (e, (after, r.1))
   ]
 
-sorted_rises : (xs : List Tree) → Rises (sorted_terms xs)
+pub sorted_rises : (xs : List Tree) → Rises (sorted_terms xs)
 sorted_rises [] = tt
 sorted_rises (x ∷ xs) = put_rises x (sorted_terms xs) (sorted_rises xs)
 
 -- a sorted list stays as it is
-sorted_same : (xs : List Tree) → Rises xs → sorted_terms xs ≡ xs
+pub sorted_same : (xs : List Tree) → Rises xs → sorted_terms xs ≡ xs
 sorted_same [] r = refl
 sorted_same (x ∷ []) r = refl
 sorted_same (x ∷ y ∷ ys) r = ap (put_term x) (sorted_same (y ∷ ys) r.1) ∙ rw r.0 refl
@@ -93,7 +94,7 @@ same_list [] (z ∷ zs) r q e = absurd (omega (arith, e z, one_itself z))
 same_list (y ∷ ys) [] r q e = absurd (omega (arith, e y, one_itself y))
 same_list (y ∷ ys) (z ∷ zs) r q e =
     let first : y ≡ z =
-      same_place y z (first_least y z zs q (omega (arith, e y, one_itself y))) (first_least z y ys r (omega (arith, e z, one_itself z))) in
+    same_place y z (first_least y z zs q (omega (arith, e y, one_itself y))) (first_least z y ys r (omega (arith, e z, one_itself z))) in
     let P : Tree → Type 0 = λ w. (x : Tree) → one x w + ones x ys ≡ one x z + ones x zs in
     let f : (x : Tree) → one x z + ones x ys ≡ one x z + ones x zs = subst P first e in
     let rest : ys ≡ zs = same_list ys zs (rises_tail y ys r) (rises_tail z zs q) (λ x. omega (arith, f x)) in
@@ -106,9 +107,10 @@ ones-sum x (y ∷ ys) = ap (λ n. one x y + n) (ones-sum x ys) ∙ sym (sum_by-c
 rises_from_sorted : (xs : List Tree) → IsSortedBy comes_before xs → Rises xs
 rises_from_sorted [] s = tt
 rises_from_sorted (x ∷ []) s = tt
-rises_from_sorted (x ∷ y ∷ ys) s =
-    (s 0 x (omega arith) (omega arith),
-    rises_from_sorted (y ∷ ys) (λ k d l h. let e : suc k + 1 ≡ suc (k + 1) = omega arith in rw e at (s (suc k) d (omega arith) (omega (arith, h)))))
+rises_from_sorted (x ∷ y ∷ ys) s = (
+  s 0 x (omega arith) (omega arith),
+  rises_from_sorted (y ∷ ys) (λ k d l h. let e : suc k + 1 ≡ suc (k + 1) = omega arith in rw e at (s (suc k) d (omega arith) (omega (arith, h)))),
+)
 
 -- a sorted list of the same terms is `sorted_terms`
 pub sorted_is : (xs ys : List Tree) → IsPermutation xs ys → IsSortedBy comes_before ys → ys ≡ sorted_terms xs
@@ -118,7 +120,7 @@ sorted_is xs ys p s =
 
 -- ---- dropping repetitions
 
-drop_rises : (x : Tree) (xs : List Tree) → Rises (x ∷ xs) → Rises (dedup_from is_same x xs)
+pub drop_rises : (x : Tree) (xs : List Tree) → Rises (x ∷ xs) → Rises (dedup_from is_same x xs)
 drop_rises x [] r = tt
 drop_rises x (y ∷ ys) r = elim (cases_Bool (is_same y x)) [
   | inl same ↦ rw same (drop_rises x ys (let P : Tree → Type 0 = λ z. Rises (z ∷ ys) in subst P (same_here y x same) r.1))

@@ -1,8 +1,8 @@
 -- What a term holds under an operator: its content, and when one term may be put for another by it.
-use Rattle.std.specs.Prelude.{◌≡◌, ℕ, not, ◌==◌, ◌&&◌, if◌then◌else◌, List, [], ◌∷◌, ◌++◌, Option, Some, None}
+use Rattle.std.specs.Prelude.{◌≡◌, ℕ, not, ◌==◌, ◌&&◌, if◌then◌else◌, List, [], ◌∷◌, ◌++◌, Some}
 use Rattle.std.specs.List.{slice_get, dedup}
 use Rattle.std.specs.Option.{option_map, unwrap_or}
-use Rattle.circ_term.specs.Tree.{Tree, Var, App, none, more, sort_of}
+use Rattle.circ_term.specs.Tree.{Tree, App, none, more, sort_of}
 use Rattle.circ_term.specs.Order.{is_same, comes_before}
 use Rattle.circ_theory.specs.Signature.{Signature, Operator}
 use Rattle.circ_theory.specs.Operators.{has_mark}

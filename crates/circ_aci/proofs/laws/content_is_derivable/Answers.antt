@@ -1,4 +1,4 @@
-use Rattle.circ_aci.proofs.Contents.{same_content_derivable}
+use Rattle.circ_aci.proofs.Deriving.{same_content_derivable}
 use Rattle.circ_aci.proofs.laws.content_is_derivable.Goals as goal
 
 pub returns : goal.returns

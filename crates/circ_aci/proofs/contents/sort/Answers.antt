@@ -3,7 +3,7 @@ use Rattle.std.proofs.lemmas.List.Sorted.{answers_always}
 use Rattle.circ_term.specs.Order.{comes_before}
 use Rattle.circ_term.proofs.Order.{ranks}
 use Rattle.circ_aci.proofs.Settled.{sorted_is}
-use Rattle.circ_aci.proofs.aci.sort.Goals as goal
+use Rattle.circ_aci.proofs.contents.sort.Goals as goal
 
 pub returns : goal.returns
 returns c =

@@ -1,8 +1,8 @@
-use Rattle.std.proofs.Common.{◌≡◌, ◌∙◌, List, IfOk, sym, subst}
+use Rattle.std.proofs.Common.{◌≡◌, ◌∙◌, List, IfOk, subst}
 use Rattle.circ_term.specs.Tree.{Tree}
 use Rattle.circ_theory.specs.Operators.{operator_of}
 use Rattle.circ_aci.proofs.Finding.{content_of_one, content_of_parts}
-use Rattle.circ_aci.proofs.aci.+content_of.Goals as goal
+use Rattle.circ_aci.proofs.contents.+content_of.Goals as goal
 
 pub returns-then-is_repeated : goal.returns-then-is_repeated
 returns-then-is_repeated t c =

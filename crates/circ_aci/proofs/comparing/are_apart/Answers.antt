@@ -1,7 +1,7 @@
 use Rattle.std.proofs.Common.{◌∙◌, sym}
 use Rattle.circ_theory.specs.Operators.{operator_of}
 use Rattle.circ_aci.proofs.Sizes.{same_size}
-use Rattle.circ_aci.proofs.aci.are_apart.Goals as goal
+use Rattle.circ_aci.proofs.comparing.are_apart.Goals as goal
 
 pub returns-then-size : goal.returns-then-size
 returns-then-size c = λ t e.

@@ -1,9 +1,10 @@
 -- How the content of a well-sorted term comes about, and that the term leads to its content.
-use Rattle.std.proofs.Common.{◌≡◌, ◌⊎◌, ℕ, ◌==◌, ◌&&◌, not, Bool, true, false, cond, List, [], ◌∷◌, ◌++◌, Option, Some, None, refl, sym, ap, subst, ◌∙◌, inl, inr}
+use Rattle.std.proofs.Common.{◌≡◌, ◌⊎◌, ℕ, ◌==◌, ◌&&◌, not, true, false, cond, List, [], ◌∷◌, ◌++◌, Some, refl, sym, ap, subst}
+use Rattle.std.proofs.Common.{◌∙◌, inl, inr}
 use Rattle.std.specs.List.{AllByRecursion, dedup, slice_get}
 use Rattle.std.proofs.lemmas.Bool.{cases_Bool, eqb-true, and_parts}
 use Rattle.std.proofs.lemmas.Option.{same_Some}
-use Rattle.circ_term.specs.Tree.{Tree, Var, App, none, more, sort_of}
+use Rattle.circ_term.specs.Tree.{Tree, App, none, more, sort_of}
 use Rattle.circ_term.specs.Order.{is_same, comes_before}
 use Rattle.circ_term.proofs.Order.{same_here, same_itself}
 use Rattle.circ_theory.specs.Signature.{Operator, IsWellSorted, HaveSorts}
@@ -12,9 +13,10 @@ use Rattle.circ_theory.specs.Derivable.{Derivable, by_same, by_symmetry, by_chai
 use Rattle.circ_theory.specs.Operators.{has_mark}
 use Rattle.circ_theory.specs.WellFormed.{IsWellFormed}
 use Rattle.circ_theory.proofs.Rewriting.{contains_at}
-use Rattle.circ_aci.specs.Content.{sorted_terms, settled, leaves, content}
+use Rattle.circ_aci.specs.Content.{settled, leaves, content}
 use Rattle.circ_aci.specs.Canonical.{join}
-use Rattle.circ_aci.proofs.Settled.{settled_by, settled_some, all_settled, all_sorted, all_drop, IsSome}
+use Rattle.circ_aci.proofs.Settled.{settled_by, settled_some, all_settled, all_sorted, all_drop}
+use Rattle.circ_aci.proofs.Finding.{by_marks}
 use Rattle.circ_aci.proofs.Regroup.{IsJoiner, IsOf, HasLeaves, leaf, node, leaves_some}
 use Rattle.circ_aci.proofs.Regroup.{same, exchange, merge, sorted_leads, drop_leads, two_fit, some_fit, leaves_fit, whole_fit, leaves_lead}
 
@@ -46,9 +48,9 @@ pub has_leaves : (th : Theory) (f : ℕ) (o : Operator) → IsJoiner th f o → 
     → HasLeaves th.signature f o.result t (leaves f t)
 has_leaves th f o j (App g s (more a (more b none))) p = elim (cases_Bool (f == g)) [
   | inl e ↦ rw e
-    (let two = joins_two th f o j g s a b e p.1 in
-    let P : Tree → Type 0 = λ t. HasLeaves th.signature f o.result t (leaves f a ++ leaves f b) in
-    subst P (sym two.is) (node (has_leaves th f o j a two.first) (has_leaves th f o j b two.second)))
+      (let two = joins_two th f o j g s a b e p.1 in
+      let P : Tree → Type 0 = λ t. HasLeaves th.signature f o.result t (leaves f a ++ leaves f b) in
+      subst P (sym two.is) (node (has_leaves th f o j a two.first) (has_leaves th f o j b two.second)))
   | inr n ↦ rw n (leaf (App g s (more a (more b none))) (p, rw n refl))
 ]
 has_leaves th f o j t p = leaf t (p, refl)
@@ -62,18 +64,6 @@ pub data HasContent (th : Theory) (f : ℕ) (o : Operator) : Tree → List Tree 
       → HasContent th f o (twice f o.result a a) xs
   apart : (a b : Tree) → IsJoiner th f o → has_mark o ≡ true → o.assoc ≡ false → IsOf th.signature o.result a → IsOf th.signature o.result b
       → (o.idem ≡ true → is_same a b ≡ false) → HasContent th f o (twice f o.result a b) (settled o (a ∷ b ∷ []))
-
--- the content of an operator on two arguments, by the marks
-by_marks : (P : List Tree → Type 0) (o : Operator) (i c r : Bool) (one many few : List Tree)
-    → (c ≡ true → P (settled o many))
-    → (c ≡ false → i ≡ true → r ≡ true → P one)
-    → (c ≡ false → (i ≡ true → r ≡ false) → P (settled o few))
-    → P (cond (i && not c && r) one (settled o (cond c many few)))
-by_marks P o true true r one many few x y z = x refl
-by_marks P o false true r one many few x y z = x refl
-by_marks P o false false r one many few x y z = z refl (λ e. absurd (cc))
-by_marks P o true false true one many few x y z = y refl refl refl
-by_marks P o true false false one many few x y z = z refl (λ e. refl)
 
 pub has_content : (th : Theory) → IsWellFormed th → (f : ℕ) (o : Operator) → slice_get th.signature.ops f ≡ Some o
     → (t : Tree) → IsWellSorted th.signature t → HasContent th f o t (content o f t)

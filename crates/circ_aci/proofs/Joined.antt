@@ -1,5 +1,5 @@
 -- Joining terms from the right, one at a time.
-use Rattle.std.proofs.Common.{◌≡◌, ℕ, List, [], ◌∷◌, ◌++◌, Option, Some, None, refl, ap}
+use Rattle.std.proofs.Common.{◌≡◌, ℕ, List, [], ◌∷◌, ◌++◌, Some, None, refl, ap}
 use Rattle.circ_term.specs.Tree.{Tree, trees_of}
 use Rattle.circ_term.specs.Limits.{Limit, first_limit, first_limits, Names}
 use Rattle.circ_term.specs.declared.fault.TermFault.{TermFault}
