@@ -7,7 +7,10 @@
 
 mod following;
 mod links;
+mod rewriting;
+mod substitution;
 mod table;
+mod variables;
 
 pub use following::{follow, follow_why};
 pub use links::{Chain, Link, Way, Why};
