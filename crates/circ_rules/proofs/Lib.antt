@@ -3,3 +3,6 @@ pub mod Leading
 pub mod Sorted
 pub mod Stepping
 pub mod Certifying
+pub mod Plain
+pub mod Simplifying
+pub mod Deriving

@@ -4,3 +4,5 @@ pub mod Proof
 pub mod Accepted
 pub mod Plain
 pub mod Answers
+pub mod Basis
+pub mod Deriving

@@ -1,15 +1,22 @@
 //! The rules.
-ghost use Rattle.std.specs.Prelude.{◌≡◌, ◌<◌, length, IfOk};
+ghost use Rattle.std.specs.Prelude.{◌≡◌, ◌<◌, length, map, IfOk};
 ghost use Rattle.std.specs.Result.{OnErr};
 ghost use Rattle.std.specs.List.{AllByRecursion};
 ghost use Rattle.circ_theory.specs.Signature.{IsWellSorted};
 ghost use Rattle.circ_theory.specs.Link.{named};
+ghost use Rattle.circ_replay.specs.Plain.{plain_chain, plain_why};
+ghost use Rattle.circ_replay.specs.Link.{resolved_chain, resolved_why};
+ghost use Rattle.circ_replay.specs.Justified.{AllOfChain, IsWhyInTable};
 ghost use Rattle.circ_rules.specs.Rules.{map_step, AllOfStep, IsSortedState};
+ghost use Rattle.circ_rules.specs.Rules.{Simplify, Reduce, Derive};
 ghost use Rattle.circ_rules.specs.Plain.{plain_state, plain_step};
 ghost use Rattle.circ_rules.specs.Answers.{Applies};
+ghost use Rattle.circ_rules.specs.Basis.{IsSortedBasis};
 
+use crate::basis::Basis;
 use crate::proof::Step;
 use crate::state::State;
+use circ_replay::{Chain, Why, follow_why};
 use circ_special::Gamma;
 use circ_term::Term;
 use circ_theory::Theory;
@@ -34,5 +41,70 @@ pub fn apply(
     ensures kept { OnErr result (plain_state state.new ≡ plain_state state.old) }
     ensures state_sorted { IsSortedState theory.now (plain_state state.new) }
 {
-    Err(AllocError)
+    let basis = Basis {
+        alloc,
+        theory,
+        table,
+        gamma,
+    };
+    match step {
+        Step::Simplify { chain } => basis.simplify(state, chain),
+        Step::Reduce { why } => basis.reduce(state, why),
+        Step::Derive => basis.derive(state),
+        Step::Done => Ok(state.goals.is_empty()),
+    }
+}
+
+impl Basis<'_> {
+    // The first goal is replaced by what the chain leads to.
+    fn simplify(&self, state: &mut State, chain: &Chain) -> Result<bool, AllocError>
+        requires basis_sorted { IsSortedBasis self.now }
+        requires in_table { AllOfChain (λ n. n < length self.now.table.now) (plain_chain chain.now) }
+        requires state_sorted { IsSortedState self.now.theory.now (plain_state state.old) }
+        ensures exact { IfOk result (Applies self.now.theory.now self.now.gamma.now
+            (Simplify (resolved_chain self.now.table.now (plain_chain chain.now)))
+            (plain_state state.old) (plain_state state.new)) }
+        ensures kept { OnErr result (plain_state state.new ≡ plain_state state.old) }
+        ensures state_sorted { IsSortedState self.now.theory.now (plain_state state.new) }
+    {
+        let Some(first) = state.goals.front_mut() else {
+            return Ok(false);
+        };
+        match self.follow_chain(state.hyps.as_slice(), chain, first)? {
+            Some(goal) => {
+                *first = goal;
+                Ok(true)
+            }
+            None => Ok(false),
+        }
+    }
+
+    // The first goal is dropped where it holds by the reason.
+    fn reduce(&self, state: &mut State, why: &Why) -> Result<bool, AllocError>
+        requires basis_sorted { IsSortedBasis self.now }
+        requires in_table { IsWhyInTable (length self.now.table.now) (plain_why why.now) }
+        requires state_sorted { IsSortedState self.now.theory.now (plain_state state.old) }
+        ensures exact { IfOk result (Applies self.now.theory.now self.now.gamma.now
+            (Reduce (resolved_why self.now.table.now (plain_why why.now)))
+            (plain_state state.old) (plain_state state.new)) }
+        ensures kept { OnErr result (plain_state state.new ≡ plain_state state.old) }
+        ensures state_sorted { IsSortedState self.now.theory.now (plain_state state.new) }
+    {
+        let Some(goal) = state.goals.front() else {
+            return Ok(false);
+        };
+        let holds = follow_why(
+            self.alloc,
+            self.theory,
+            self.table,
+            self.gamma,
+            state.hyps.as_slice(),
+            goal,
+            why,
+        )?;
+        if holds {
+            state.goals.pop_front();
+        }
+        Ok(holds)
+    }
 }

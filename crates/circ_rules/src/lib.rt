@@ -8,6 +8,8 @@
 
 mod admitting;
 mod applying;
+mod basis;
+mod derivatives;
 mod proof;
 mod state;
 

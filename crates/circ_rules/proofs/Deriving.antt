@@ -1,0 +1,211 @@
+-- The derivatives of a goal, one by one.
+use Rattle.std.specs.Prelude.{◌≡◌, ◌≤◌, ◌<◌, ◌↔◌, ◌+◌, ◌^◌, ℕ, zero, suc, Bool, true, false, ◌==◌, List, [], ◌∷◌, ◌++◌, map, length, drop, Option, Some, None, refl}
+use Rattle.std.specs.List.{AllByRecursion, filter, slice_get}
+use Rattle.std.specs.Option.{IfSome, option_map, option_map_or}
+use Rattle.std.proofs.Common.{ap, sym, ◌∙◌, subst, arith, append_assoc, get_or}
+use Rattle.std.proofs.lemmas.Bool.{eqb-true}
+use Rattle.std.proofs.lemmas.Option.{same_Some}
+use Rattle.std.proofs.lemmas.List.{length-map}
+use Rattle.circ_term.specs.Tree.{Tree, sort_of}
+use Rattle.circ_term.specs.Limits.{IsWithinLimits}
+use Rattle.circ_theory.specs.Theory.{Theory, Derivative}
+use Rattle.circ_theory.specs.WellFormed.{IsWellFormed, IsDerivative}
+use Rattle.circ_theory.specs.Variables.{Variable, occurrences}
+use Rattle.circ_theory.specs.Observing.{is_parameter, parameters_in}
+use Rattle.circ_theory.specs.Experiment.{derived}
+use Rattle.circ_theory.specs.Fresh.{numbered_from, given_parameters, parameter_sorts, variables_from, derivatives_of, FitSome}
+use Rattle.circ_theory.specs.declared.parts.Goal.{Goal}
+use Rattle.circ_theory.proofs.Rewriting.{contains_at}
+use Rattle.circ_theory.proofs.Derived.{derived-numbered_from, variables_fit}
+use Rattle.circ_replay.specs.Goals.{goal, IsWellSortedGoal, AreSortedGoals}
+use Rattle.circ_rules.specs.Rules.{State, state, fresh_in, derived_goal, derivatives_on, IsDerivable, IsSortedState}
+use Rattle.circ_rules.specs.Answers.{Gives}
+use Rattle.circ_rules.specs.Deriving.{IsWithin, IsDerivativeOn, AreDerivativesOn, moved, moved_on}
+use Rattle.circ_rules.proofs.Sorted.{sorted_none, sorted_more, sorted_first, sorted_rest, sorted_append, derivatives_sorted}
+
+if_some_at : {X : Type 0} (P : X → Type 0) (o : Option X) (x : X) → o ≡ Some x → P x → IfSome o P
+if_some_at P o x e p = let Q : Option _ → Type 0 = λ o. IfSome o P in subst Q (sym e) p
+
+some_if_at : {X : Type 0} (P : X → Type 0) (o : Option X) (x : X) → o ≡ Some x → IfSome o P → P x
+some_if_at P o x e p = let Q : Option _ → Type 0 = λ o. IfSome o P in subst Q e p
+
+-- what passes no limit is there
+past : (t u : Tree) → t ≡ u → Gives (IsWithin t) None → IsWithinLimits u → ⊥
+past t u e none w = none t (record { within = subst IsWithinLimits (sym e) w; same = refl })
+
+-- the derivative that a hole's sort was read from
+the_derivative : (o : Option Derivative) (s : ℕ) → option_map (λ d. d.hole) o ≡ Some s → (d : Derivative) × (o ≡ Some d) × (d.hole ≡ s)
+the_derivative None s e = absurd (cc)
+the_derivative (Some d) s e = (d, refl, same_Some d.hole s e)
+
+-- a derivative of the theory on a goal, with variables numbered from k for its parameters
+module _ (th : Theory) (ok : IsWellFormed th) (n : ℕ) (g : Goal) (w : IsWellSortedGoal th g) (k : ℕ) (fresh : k ≡ fresh_in g)
+  (hole : option_map (λ d. d.hole) (slice_get th.derivatives n) ≡ Some (sort_of g.left)) (sorts : List ℕ)
+  (listed : Some sorts ≡ option_map parameter_sorts (slice_get th.derivatives n)) (params : List Tree) (made : params ≡ variables_from k sorts) where
+  abbrev d : Derivative
+  d = (the_derivative (slice_get th.derivatives n) (sort_of g.left) hole).0
+
+  there : slice_get th.derivatives n ≡ Some d
+  there = (the_derivative (slice_get th.derivatives n) (sort_of g.left) hole).1
+
+  sort_is : d.hole ≡ sort_of g.left
+  sort_is = (the_derivative (slice_get th.derivatives n) (sort_of g.left) hole).2
+
+  is_derivative : IsDerivative th.signature d
+  is_derivative = ok.derivatives d (contains_at th.derivatives n d there)
+
+  sorts_are : sorts ≡ parameter_sorts d
+  sorts_are = same_Some sorts (parameter_sorts d) (listed ∙ ap (option_map parameter_sorts) there)
+
+  params_are : params ≡ variables_from k (parameter_sorts d)
+  params_are = made ∙ ap (variables_from k) sorts_are
+
+  fits : (t : Tree) → sort_of t ≡ d.hole → FitSome (slice_get th.derivatives n) params t
+  fits t e =
+      let P : Option Derivative → Type 0 = λ o. FitSome o params t in
+      let Q : List Tree → Type 0 = λ ps. FitSome (Some d) ps t in
+      subst P (sym there) (subst Q (sym params_are) (variables_fit d t k e))
+
+  pub left_fits : FitSome (slice_get th.derivatives n) params g.left
+  left_fits = fits g.left (sym sort_is)
+
+  pub right_fits : FitSome (slice_get th.derivatives n) params g.right
+  right_fits = fits g.right (w.sorted.same_sort ∙ sym sort_is)
+
+  numbered : (t : Tree) → derived d t (given_parameters params) ≡ derived d t (numbered_from (fresh_in g))
+  numbered t =
+      ap (λ ps. derived d t (given_parameters ps)) params_are ∙ derived-numbered_from th.signature d is_derivative t k
+      ∙ ap (λ m. derived d t (numbered_from m)) fresh
+
+  pub no_left : IfSome (slice_get th.derivatives n) (λ d. Gives (IsWithin (derived d g.left (given_parameters params))) None)
+      → IfSome (slice_get th.derivatives n) (λ d. Gives (IsDerivativeOn g d) None)
+  no_left none =
+      let past_limit = some_if_at (λ d. Gives (IsWithin (derived d g.left (given_parameters params))) None) (slice_get th.derivatives n) d there none in
+      if_some_at (λ d. Gives (IsDerivativeOn g d) None) (slice_get th.derivatives n) d there
+      (λ h x. past (derived d g.left (given_parameters params)) (derived d g.left (numbered_from (fresh_in g))) (numbered g.left) past_limit x.derivable.left)
+
+  pub no_right : IfSome (slice_get th.derivatives n) (λ d. Gives (IsWithin (derived d g.right (given_parameters params))) None)
+      → IfSome (slice_get th.derivatives n) (λ d. Gives (IsDerivativeOn g d) None)
+  no_right none =
+      let past_limit = some_if_at (λ d. Gives (IsWithin (derived d g.right (given_parameters params))) None) (slice_get th.derivatives n) d there none in
+      if_some_at (λ d. Gives (IsDerivativeOn g d) None) (slice_get th.derivatives n) d there
+      (λ h x. past (derived d g.right (given_parameters params)) (derived d g.right (numbered_from (fresh_in g))) (numbered g.right) past_limit x.derivable.right)
+
+  pub both_sides : (left right : Tree) → k + length sorts ≤ 2 ^ 32
+      → IfSome (slice_get th.derivatives n) (λ d. Gives (IsWithin (derived d g.left (given_parameters params))) (Some left))
+      → IfSome (slice_get th.derivatives n) (λ d. Gives (IsWithin (derived d g.right (given_parameters params))) (Some right))
+      → IfSome (slice_get th.derivatives n) (λ d. Gives (IsDerivativeOn g d) (Some (goal left right)))
+  both_sides left right few l r =
+      let x : IsWithin (derived d g.left (given_parameters params)) left
+      = some_if_at (λ d. Gives (IsWithin (derived d g.left (given_parameters params))) (Some left)) (slice_get th.derivatives n) d there l in
+      let y : IsWithin (derived d g.right (given_parameters params)) right
+      = some_if_at (λ d. Gives (IsWithin (derived d g.right (given_parameters params))) (Some right)) (slice_get th.derivatives n) d there r in
+      let vs : List Variable = filter is_parameter (occurrences d.body) in
+      if_some_at (λ d. Gives (IsDerivativeOn g d) (Some (goal left right))) (slice_get th.derivatives n) d there
+      (record {
+        derivable = record {
+          numbers = omega (arith, few, fresh, ap length sorts_are, length-map vs (λ v. v.sort), length-map vs (λ v. v.number));
+          left = subst IsWithinLimits (numbered g.left) x.within;
+          right = subst IsWithinLimits (numbered g.right) y.within;
+        };
+        same = ap (λ t. goal t right) (x.same ∙ numbered g.left) ∙ ap (goal (derived d g.left (numbered_from (fresh_in g)))) (y.same ∙ numbered g.right);
+      })
+
+-- ---- the loop over a theory's derivatives
+
+-- the derivatives from a number on, of which the first is d
+pub record StartsWith (ds : List Derivative) (i : ℕ) (d : Derivative) : Type 0 where
+  pub there : slice_get ds i ≡ Some d
+  pub rest : drop i ds ≡ d ∷ drop (i + 1) ds
+
+pub derivative_at : (ds : List Derivative) (i : ℕ) → i < length ds → (d : Derivative) × StartsWith ds i d
+derivative_at [] i h = absurd (omega arith)
+derivative_at (d ∷ ds) zero h = (d, record { there = refl; rest = refl })
+derivative_at (d ∷ ds) (suc i) h = 
+    let r = derivative_at ds i (omega arith) in
+    let e : suc i + 1 ≡ suc (i + 1) = omega arith in
+    (r.0, record { there = r.1.there; rest = rw e r.1.rest })
+
+-- those of a sort, from a number on
+abbrev pub from_number : (ds : List Derivative) (sort i : ℕ) → List Derivative
+from_number ds s i = filter (λ d. d.hole == s) (drop i ds)
+
+hole_test : (o : Option Derivative) (s : ℕ) (d : Derivative) (b : Bool) → o ≡ Some d → option_map_or (λ d. d.hole == s) o false ≡ b → (d.hole == s) ≡ b
+hole_test o s d b there e = sym (ap (λ o. option_map_or (λ d. d.hole == s) o false) there) ∙ e
+
+pub taken_next : (ds : List Derivative) (s i : ℕ) (d : Derivative) → StartsWith ds i d → option_map_or (λ d. d.hole == s) (slice_get ds i) false ≡ true
+    → from_number ds s i ≡ d ∷ from_number ds s (i + 1)
+taken_next ds s i d at e = ap (filter (λ d. d.hole == s)) at.rest ∙ (let t = hole_test (slice_get ds i) s d true at.there e in rw t refl)
+
+pub passed_next : (ds : List Derivative) (s i : ℕ) (d : Derivative) → StartsWith ds i d → option_map_or (λ d. d.hole == s) (slice_get ds i) false ≡ false
+    → from_number ds s i ≡ from_number ds s (i + 1)
+passed_next ds s i d at e = ap (filter (λ d. d.hole == s)) at.rest ∙ (let t = hole_test (slice_get ds i) s d false at.there e in rw t refl)
+
+-- that the hole was tested
+pub hole_is : (ds : List Derivative) (s i : ℕ) → option_map_or (λ d. d.hole == s) (slice_get ds i) false ≡ true → option_map (λ d. d.hole) (slice_get ds i) ≡ Some s
+hole_is ds s i e = go (slice_get ds i) e
+  where
+    go : (o : Option Derivative) → option_map_or (λ d. d.hole == s) o false ≡ true → option_map (λ d. d.hole) o ≡ Some s
+    go None e = absurd (cc)
+    go (Some d) e = ap Some (eqb-true d.hole s e)
+
+-- What the loop keeps: the derivatives from a number on are what is left, and hs are those before.
+pub record Stands (th : Theory) (g : Goal) (i : ℕ) (hs : List Goal) : Type 0 where
+  pub derivable : AllByRecursion (IsDerivable g) (from_number th.derivatives (sort_of g.left) i) ↔ AllByRecursion (IsDerivable g) (derivatives_of th (sort_of g.left))
+  pub derived : hs ++ map (λ d. derived_goal d g (fresh_in g)) (from_number th.derivatives (sort_of g.left) i) ≡ derivatives_on th g
+
+pub stands_taken : (th : Theory) (g : Goal) (i : ℕ) (hs : List Goal) (h : Goal) → i < length th.derivatives
+    → option_map_or (λ d. d.hole == sort_of g.left) (slice_get th.derivatives i) false ≡ true → IfSome (slice_get th.derivatives i) (λ d. IsDerivativeOn g d h)
+    → Stands th g i hs → Stands th g (i + 1) (hs ++ h ∷ [])
+stands_taken th g i hs h within e made st =
+    let ds : List Derivative = th.derivatives in
+    let at = derivative_at ds i within in
+    let d : Derivative = at.0 in
+    let x : IsDerivativeOn g d h = some_if_at (λ d. IsDerivativeOn g d h) (slice_get ds i) d at.1.there made in
+    let next = taken_next ds (sort_of g.left) i d at.1 e in
+    let rest : List Derivative = from_number ds (sort_of g.left) (i + 1) in
+    let f : Derivative → Goal = λ d. derived_goal d g (fresh_in g) in
+    record {
+      derivable = (
+        (λ a. st.derivable.0 (subst (AllByRecursion (IsDerivable g)) (sym next) (x.derivable, a))),
+        (λ a. (subst (AllByRecursion (IsDerivable g)) next (st.derivable.1 a)).1),
+      );
+      derived = append_assoc hs (h ∷ []) (map f rest) ∙ ap (λ y. hs ++ y ∷ map f rest) x.same ∙ sym (ap (λ ds. hs ++ map f ds) next) ∙ st.derived;
+    }
+
+pub stands_passed : (th : Theory) (g : Goal) (i : ℕ) (hs : List Goal) → i < length th.derivatives
+    → option_map_or (λ d. d.hole == sort_of g.left) (slice_get th.derivatives i) false ≡ false → Stands th g i hs → Stands th g (i + 1) hs
+stands_passed th g i hs within e st =
+    let at = derivative_at th.derivatives i within in
+    let next = passed_next th.derivatives (sort_of g.left) i at.0 at.1 e in
+    let f : Derivative → Goal = λ d. derived_goal d g (fresh_in g) in
+    record {
+      derivable = (
+        (λ a. st.derivable.0 (subst (AllByRecursion (IsDerivable g)) (sym next) a)),
+        (λ a. subst (AllByRecursion (IsDerivable g)) next (st.derivable.1 a)),
+      );
+      derived = sym (ap (λ ds. hs ++ map f ds) next) ∙ st.derived;
+    }
+
+-- a derivative that passes a limit
+pub stands_past : (th : Theory) (g : Goal) (i : ℕ) (hs : List Goal) → i < length th.derivatives
+    → option_map_or (λ d. d.hole == sort_of g.left) (slice_get th.derivatives i) false ≡ true
+    → IfSome (slice_get th.derivatives i) (λ d. Gives (IsDerivativeOn g d) None) → Stands th g i hs → Gives (AreDerivativesOn th g) None
+stands_past th g i hs within e none st = λ gs x.
+    let at = derivative_at th.derivatives i within in
+    let next = taken_next th.derivatives (sort_of g.left) i at.0 at.1 e in
+    let all = subst (AllByRecursion (IsDerivable g)) next (st.derivable.1 x.derivable) in
+    let past_limit = some_if_at (λ d. Gives (IsDerivativeOn g d) None) (slice_get th.derivatives i) at.0 at.1.there none in
+    past_limit (derived_goal at.0 g (fresh_in g)) (record { derivable = all.0; same = refl })
+
+-- ---- the state
+
+pub moved_sorted : (th : Theory) → IsWellFormed th → (H gs : List Goal) (g : Goal) (hs : List Goal) → AreSortedGoals th H → AreSortedGoals th gs
+    → g ≡ get_or gs 0 g → 0 < length gs → hs ≡ derivatives_on th g → IsSortedState th (moved_on H gs hs)
+moved_sorted th ok H [] g hs sh sg e h d = absurd (omega arith)
+moved_sorted th ok H (x ∷ gs) g hs sh sg e h d =
+    let w = sorted_first th x gs sg in
+    let P : List Goal → Type 0 = λ ks. IsSortedState th (state (H ++ x ∷ []) (gs ++ ks)) in
+    subst P (sym (d ∙ ap (derivatives_on th) e))
+    (sorted_append th H (x ∷ []) sh (sorted_more th x [] w (sorted_none th)),
+      sorted_append th gs (derivatives_on th x) (sorted_rest th x gs sg) (derivatives_sorted th ok x w))

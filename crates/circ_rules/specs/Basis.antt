@@ -1,0 +1,22 @@
+-- What steps and certificates are judged by.
+use Rattle.std.specs.Prelude.{List, [], map}
+use Rattle.std.specs.List.{AllByRecursion}
+use Rattle.circ_term.specs.Tree.{Tree}
+use Rattle.circ_theory.specs.Signature.{IsWellSorted}
+use Rattle.circ_theory.specs.declared.parts.Goal.{Goal}
+use Rattle.circ_replay.specs.declared.links.Link.{Link}
+use Rattle.circ_replay.specs.Plain.{LinkOf, plain_links}
+use Rattle.circ_replay.specs.Link.{Setting, setting, resolved_link}
+use Rattle.circ_rules.specs.declared.basis.Basis.{Basis}
+
+-- the table's terms are well-sorted
+abbrev pub IsSortedBasis : Basis → Type 0
+IsSortedBasis b = AllByRecursion (IsWellSorted b.theory.now.signature) b.table.now
+
+-- hypotheses to follow links by, and no assumptions
+abbrev pub setting_of : Basis → (hypotheses : List Goal) → Setting
+setting_of b H = setting b.theory.now b.gamma.now H []
+
+-- links with the table's terms for their numbers
+abbrev pub links_of : Basis → List Link → List (LinkOf Tree)
+links_of b ls = map (resolved_link b.table.now) (plain_links ls)

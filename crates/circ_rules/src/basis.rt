@@ -1,0 +1,91 @@
+//! What steps and certificates are judged by, and the links that they follow.
+ghost use Rattle.std.specs.Prelude.{◌≡◌, ◌<◌, length, IfOk};
+ghost use Rattle.std.specs.Option.{IfSome};
+ghost use Rattle.circ_term.specs.Tree.{sort_of};
+ghost use Rattle.circ_theory.specs.Signature.{IsWellSorted};
+ghost use Rattle.circ_replay.specs.Plain.{plain_links, plain_chain};
+ghost use Rattle.circ_replay.specs.Goals.{sides, IsWellSortedGoal, AreSortedGoals};
+ghost use Rattle.circ_replay.specs.Runs.{Runs};
+ghost use Rattle.circ_replay.specs.Link.{Leads, resolved_chain, AllOfLinks};
+ghost use Rattle.circ_replay.specs.Justified.{ChainLeads, AllOfChain};
+ghost use Rattle.circ_rules.specs.Answers.{Gives};
+ghost use Rattle.circ_rules.specs.Basis.{IsSortedBasis, setting_of, links_of};
+
+use circ_replay::{Chain, Link, follow};
+use circ_special::Gamma;
+use circ_term::Term;
+use circ_theory::{Goal, Theory};
+use std::alloc::{AllocError, Global};
+
+// A theory, the terms that links name by their numbers, and a special set.
+#[derive(Clone, Copy)]
+pub(crate) struct Basis<'a> {
+    pub(crate) alloc: Global,
+    pub(crate) theory: &'a Theory,
+    pub(crate) table: &'a [Term],
+    pub(crate) gamma: &'a Gamma,
+}
+
+impl Basis<'_> {
+    // The term that the links lead to, one after another. None where one does not apply.
+    pub(crate) fn follow_all(
+        &self,
+        hyps: &[Goal],
+        links: &[Link],
+        term: &Term,
+    ) -> Result<Option<Term>, AllocError>
+        requires basis_sorted { IsSortedBasis self.now }
+        requires in_table { AllOfLinks (λ n. n < length self.now.table.now) (plain_links links.now) }
+        requires hyps_sorted { AreSortedGoals self.now.theory.now hyps.now }
+        requires term_sorted { IsWellSorted self.now.theory.now.signature term.now }
+        ensures exact { IfOk result (Gives (Runs (Leads (setting_of self.now hyps.now))
+            (links_of self.now links.now) term.now)) }
+        ensures well_sorted { IfOk result (λ o.
+            IfSome o (IsWellSorted self.now.theory.now.signature)) }
+        ensures same_sort { IfOk result (λ o. IfSome o (λ u. sort_of u ≡ sort_of term.now)) }
+    {
+        let mut here = term.share()?;
+        for link in links {
+            match follow(
+                self.alloc,
+                self.theory,
+                self.table,
+                self.gamma,
+                hyps,
+                &[],
+                link,
+                &here,
+            )? {
+                Some(next) => here = next,
+                None => return Ok(None),
+            }
+        }
+        Ok(Some(here))
+    }
+
+    // The goal that the chain leads to. None where one of its links does not apply.
+    pub(crate) fn follow_chain(
+        &self,
+        hyps: &[Goal],
+        chain: &Chain,
+        goal: &Goal,
+    ) -> Result<Option<Goal>, AllocError>
+        requires basis_sorted { IsSortedBasis self.now }
+        requires in_table { AllOfChain (λ n. n < length self.now.table.now) (plain_chain chain.now) }
+        requires hyps_sorted { AreSortedGoals self.now.theory.now hyps.now }
+        requires goal_sorted { IsWellSortedGoal self.now.theory.now goal.now }
+        ensures exact { IfOk result (Gives (λ g. ChainLeads (Leads (setting_of self.now hyps.now))
+            (resolved_chain self.now.table.now (plain_chain chain.now))
+            (sides goal.now) (sides g))) }
+        ensures well_sorted { IfOk result (λ o.
+            IfSome o (IsWellSortedGoal self.now.theory.now)) }
+    {
+        let Some(left) = self.follow_all(hyps, chain.left.as_slice(), &goal.left)? else {
+            return Ok(None);
+        };
+        let Some(right) = self.follow_all(hyps, chain.right.as_slice(), &goal.right)? else {
+            return Ok(None);
+        };
+        Ok(Some(Goal { left, right }))
+    }
+}

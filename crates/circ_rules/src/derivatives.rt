@@ -1,0 +1,162 @@
+//! The derivatives of a goal.
+ghost use Rattle.std.specs.Prelude.{◌≡◌, ◌≤◌, ◌<◌, ◌+◌, ◌^◌, Some, false, ◌==◌, length, IfOk, OnOk};
+ghost use Rattle.std.specs.Result.{OnErr};
+ghost use Rattle.std.specs.List.{slice_get};
+ghost use Rattle.std.specs.Option.{IfSome, option_map, option_map_or};
+ghost use Rattle.circ_term.specs.Tree.{sort_of};
+ghost use Rattle.circ_theory.specs.Experiment.{derived};
+ghost use Rattle.circ_theory.specs.Fresh.{given_parameters, variables_from, FitSome};
+ghost use Rattle.circ_replay.specs.Goals.{IsWellSortedGoal};
+ghost use Rattle.circ_rules.specs.Rules.{IsSortedState, Derive, fresh_in};
+ghost use Rattle.circ_rules.specs.Plain.{plain_state};
+ghost use Rattle.circ_rules.specs.Answers.{Applies, Gives};
+ghost use Rattle.circ_rules.specs.Deriving.{IsWithin, IsDerivativeOn, AreDerivativesOn, moved};
+
+use crate::basis::Basis;
+use crate::state::State;
+use circ_term::{Term, TermFault};
+use circ_theory::{Goal, above};
+use std::alloc::{AllocError, Global};
+use std::collections::VecDeque;
+
+// Variables of these sorts, numbered from `first`.
+pub(crate) fn variables(alloc: Global, first: u64, sorts: &[u32]) -> Result<Vec<Term>, AllocError>
+    requires { first + length sorts.now ≤ 2 ^ 32 }
+    ensures { IfOk result (λ v. v.items ≡ variables_from first sorts.now) }
+{
+    let mut made = Vec::with_capacity(alloc, sorts.len())?;
+    let mut next = first;
+    for sort in sorts {
+        made.push(Term::var(next as u32, *sort))?;
+        next += 1;
+    }
+    Ok(made)
+}
+
+impl Basis<'_> {
+    // Whether the hole of the derivative of this number has the sort.
+    pub(crate) fn takes(&self, derivative: u32, sort: u32) -> bool
+        ensures { result ≡ option_map_or (λ d. d.hole == sort)
+            (slice_get self.now.theory.now.derivatives derivative) false }
+    {
+        match self.theory.hole_sort(derivative) {
+            Some(hole) => hole == sort,
+            None => false,
+        }
+    }
+
+    // The derivative of this number on a term, with the terms of `params` for its parameters. None
+    // where that passes a limit.
+    pub(crate) fn instance(
+        &self,
+        derivative: u32,
+        params: &[Term],
+        term: &Term,
+    ) -> Result<Option<Term>, AllocError>
+        requires { FitSome (slice_get self.now.theory.now.derivatives derivative)
+            params.now term.now }
+        ensures { IfSome (slice_get self.now.theory.now.derivatives derivative)
+            (λ d. IfOk result (Gives (IsWithin (derived d term.now (given_parameters params.now))))) }
+    {
+        match self.theory.instance(derivative, params, term) {
+            Ok(made) => Ok(Some(made)),
+            Err(TermFault::TooBig { .. }) => Ok(None),
+            Err(TermFault::TooDeep { .. }) => Ok(None),
+            Err(TermFault::Memory) => Err(AllocError),
+        }
+    }
+
+    // The derivative of this number on both sides of the goal, with fresh parameters: the greatest
+    // variable number of the goal is below `fresh`. None where a term or a parameter's number passes
+    // a limit.
+    fn derivative_on(
+        &self,
+        derivative: u32,
+        goal: &Goal,
+        fresh: u64,
+    ) -> Result<Option<Goal>, AllocError>
+        requires goal_sorted { IsWellSortedGoal self.now.theory.now goal.now }
+        requires hole { option_map (λ d. d.hole)
+            (slice_get self.now.theory.now.derivatives derivative) ≡ Some (sort_of goal.now.left) }
+        requires fresh { fresh ≡ fresh_in goal.now }
+        requires small { fresh ≤ 2 ^ 32 }
+        ensures { IfSome (slice_get self.now.theory.now.derivatives derivative)
+            (λ d. IfOk result (Gives (IsDerivativeOn goal.now d))) }
+    {
+        self.theory.known();
+        let Some(sorts) = self.theory.parameter_sorts(derivative) else {
+            return Ok(None);
+        };
+        if fresh + sorts.len() as u64 > 1 << 32 {
+            return Ok(None);
+        }
+        let params = variables(self.alloc, fresh, sorts)?;
+        let params = params.as_slice();
+        let Some(left) = self.instance(derivative, params, &goal.left)? else {
+            return Ok(None);
+        };
+        let Some(right) = self.instance(derivative, params, &goal.right)? else {
+            return Ok(None);
+        };
+        Ok(Some(Goal { left, right }))
+    }
+
+    // The derivatives of the goal. None where one passes a limit.
+    fn derivatives_on(&self, goal: &Goal) -> Result<Option<VecDeque<Goal>>, AllocError>
+        requires { IsWellSortedGoal self.now.theory.now goal.now }
+        ensures { IfOk result (λ o. Gives (AreDerivativesOn self.now.theory.now goal.now)
+            (option_map (λ q. q.items) o)) }
+    {
+        let sort = goal.left.sort();
+        let fresh = above(&goal.left).max(above(&goal.right));
+        let mut derived = VecDeque::new(self.alloc);
+        for derivative in 0..self.theory.derivative_count() {
+            if self.takes(derivative, sort) {
+                match self.derivative_on(derivative, goal, fresh)? {
+                    Some(goal) => derived.push_back(goal)?,
+                    None => return Ok(None),
+                }
+            }
+        }
+        Ok(Some(derived))
+    }
+
+    // The first goal becomes a hypothesis, and its derivatives become goals.
+    pub(crate) fn derive(&self, state: &mut State) -> Result<bool, AllocError>
+        requires state_sorted { IsSortedState self.now.theory.now (plain_state state.old) }
+        ensures exact { IfOk result (Applies self.now.theory.now self.now.gamma.now Derive
+            (plain_state state.old) (plain_state state.new)) }
+        ensures kept { OnErr result (plain_state state.new ≡ plain_state state.old) }
+        ensures state_sorted { IsSortedState self.now.theory.now (plain_state state.new) }
+    {
+        self.theory.known();
+        let Some(goal) = state.goals.front() else {
+            return Ok(false);
+        };
+        if !self.theory.is_hidden(goal.left.sort()) {
+            return Ok(false);
+        }
+        match self.derivatives_on(goal)? {
+            Some(mut derived) => {
+                move_first(state, &mut derived)?;
+                Ok(true)
+            }
+            None => Ok(false),
+        }
+    }
+}
+
+// The first goal becomes the last hypothesis, and what was derived from it the last goals.
+fn move_first(state: &mut State, derived: &mut VecDeque<Goal>) -> Result<(), AllocError>
+    requires { 0 < length state.old.goals.items }
+    ensures moved { OnOk result
+        (plain_state state.new ≡ moved (plain_state state.old) derived.old.items) }
+    ensures kept { OnErr result (plain_state state.new ≡ plain_state state.old) }
+{
+    state.hyps.reserve(1)?;
+    state.goals.append(derived)?;
+    if let Some(goal) = state.goals.pop_front() {
+        state.hyps.push_reserved(goal);
+    }
+    Ok(())
+}
