@@ -22,7 +22,7 @@ use Rattle.circ_theory.proofs.Instances.{sort_of-instance_by, instance_well_sort
 use Rattle.circ_theory.proofs.Rewriting.{contains_at, given_substitution}
 use Rattle.circ_theory.proofs.Sorting.{at_sorted, sorted_from, sorted_to, sort_to, sort_instances}
 use Rattle.circ_theory.proofs.Weakening.{weaken}
-use Rattle.circ_aci.proofs.Contents.{same_content_derivable}
+use Rattle.circ_aci.proofs.Deriving.{same_content_derivable}
 use Rattle.circ_special.specs.declared.place.Place.{Place}
 use Rattle.circ_special.specs.Special.{IsSpecial}
 use Rattle.circ_replay.specs.Plain.{LinkOf, Equation_link, Hypothesis_link, Assumption_link, Content_link}
