@@ -1,5 +1,6 @@
 -- What the rest of a loop owes, the whole owes.
-use Rattle.std.proofs.Common.{◌≡◌, ◌+◌, ◌<◌, ◌≤◌, ℕ, List, [], ◌∷◌, ◌++◌, map, length, drop, take, get_or, Option, Some, None, inl, inr, refl, ap, sym, subst, ◌∙◌, arith}
+use Rattle.std.proofs.Common.{◌≡◌, ◌+◌, ◌<◌, ◌≤◌, ℕ, List, [], ◌∷◌, ◌++◌, map, length, drop, take, get_or, Option, Some, None}
+use Rattle.std.proofs.Common.{inl, inr, refl, ap, sym, subst, ◌∙◌, arith}
 use Rattle.std.proofs.Common.{append_assoc, append-nil, take_at, drop_at, length-append}
 use Rattle.std.specs.List.{AllByRecursion}
 use Rattle.std.proofs.lemmas.List.{drop_all, length-map}
@@ -24,7 +25,8 @@ use Rattle.circ_check.specs.Deciding.{RunsOrFails}
 -- ---- steps
 
 -- Where the rest of the steps leads from here, or fails, so do all from the start.
-pub record StandsAt (th : Theory) (G : List Place) (ss : List (ProofStep Tree)) (a : State) (rest : List (ProofStep Tree)) (here : State) (done : ℕ) : Type 0 where
+pub record StandsAt (th : Theory) (G : List Place) (ss : List (ProofStep Tree)) (a : State) (rest : List (ProofStep Tree)) (here : State) (done : ℕ)
+    : Type 0 where
   pub leads : (b : State) → StepsOf th G rest here b → StepsOf th G ss a b
   pub fails : (n : ℕ) → FailsFirst (StepOf th G) rest here n → FailsFirst (StepOf th G) ss a (done + n)
   pub sorted : IsSortedState th here
@@ -127,7 +129,8 @@ fails_counted th p H b rest done n st f =
 pub behind : (th : Theory) (p : Proof) (H : List Goal) (b : Block) (e : State) → IsDone th p H b e → (earlier : ℕ) → earlier ≡ length H
     → take earlier e.hypotheses ++ b.goals ≡ H ++ b.goals
 behind th p H b e d earlier l =
-    ap (λ n. take n e.hypotheses ++ b.goals) l ∙ ap (λ K. take (length H) K ++ b.goals) d.hypotheses ∙ ap (λ K. K ++ b.goals) (take_at H d.derived (length H) refl)
+    ap (λ n. take n e.hypotheses ++ b.goals) l ∙ ap (λ K. take (length H) K ++ b.goals) d.hypotheses
+    ∙ ap (λ K. K ++ b.goals) (take_at H d.derived (length H) refl)
 
 pub derived_behind : (th : Theory) (p : Proof) (H : List Goal) (b : Block) (e : State) → (d : IsDone th p H b e) → (earlier : ℕ) → earlier ≡ length H
     → drop earlier e.hypotheses ≡ d.derived

@@ -22,9 +22,9 @@ abbrev pub Mixed : Substitution → Substitution → Filler
 Mixed σ τ n s u = (u ≡ σ n s) ⊎ (u ≡ τ n s)
 
 pub mixed_sorted : (sig : Signature) (σ τ : Substitution) → IsSubstitution sig σ → IsSubstitution sig τ → (n s : ℕ) (u : Tree) → IsSort sig s → Mixed σ τ n s u
-    → IsOfSort sig n s u
-mixed_sorted sig σ τ a b n s u w (inl e) = let P : Tree → Type 0 = IsOfSort sig n s in subst P (sym e) (a n s w)
-mixed_sorted sig σ τ a b n s u w (inr e) = let P : Tree → Type 0 = IsOfSort sig n s in subst P (sym e) (b n s w)
+    → IsOfSort sig s u
+mixed_sorted sig σ τ a b n s u w (inl e) = let P : Tree → Type 0 = IsOfSort sig s in subst P (sym e) (a n s w)
+mixed_sorted sig σ τ a b n s u w (inr e) = let P : Tree → Type 0 = IsOfSort sig s in subst P (sym e) (b n s w)
 
 mutual
   fills_left : (σ τ : Substitution) (t : Tree) → Fills (Mixed σ τ) t (instance σ t)

@@ -3,19 +3,20 @@ use Rattle.std.proofs.Common.{◌≡◌, ◌<◌, ℕ, List, [], ◌∷◌, ◌+
 use Rattle.std.specs.List.{AllByRecursion, Contains, slice_get}
 use Rattle.std.proofs.lemmas.Option.{same_Some}
 use Rattle.circ_term.specs.Tree.{Tree, Var, sort_of, at}
+use Rattle.circ_term.specs.Substitution.{Substitution, instance}
 use Rattle.circ_term.proofs.Paths.{nowhere}
 use Rattle.circ_theory.specs.declared.forms.Piece.TheVariants.{Word}
 use Rattle.circ_theory.specs.Form.{IsForm}
 use Rattle.circ_theory.specs.Signature.{Operator, IsWellSorted}
 use Rattle.circ_theory.specs.Theory.{Derivative, IsHidden, IsVisible, IsWellSortedPair, pair_of}
-use Rattle.circ_theory.specs.Variables.{IsInOrder}
+use Rattle.circ_theory.specs.Variables.{IsInOrder, variables_of, sorted, FitVariables, given}
 use Rattle.circ_theory.specs.Operators.{IsOperator}
 use Rattle.circ_theory.specs.WellFormed.{IsWellFormed, IsDerivative}
 use Rattle.circ_theory.specs.Examples.{plain_op}
 use Rattle.circ_theory.specs.Experiment.{Behaves}
 use Rattle.circ_theory.specs.declared.parts.Equation.{Equation}
 use Rattle.circ_theory.specs.declared.parts.Goal.{Goal}
-use Rattle.circ_theory.specs.Link.{named, RewritesBy}
+use Rattle.circ_theory.specs.Link.{named, Replaces}
 use Rattle.circ_theory.specs.declared.replay.Way.TheVariants.{Forth}
 use Rattle.circ_theory.proofs.Casing.{contains_first}
 use Rattle.circ_theory.proofs.Linear.{distinct_by}
@@ -28,14 +29,14 @@ use Rattle.circ_rules.specs.Rules.{State, state, map_step, StepsOf}
 use Rattle.circ_rules.specs.Certified.{Certified}
 use Rattle.circ_rules.specs.Proof.{Block, Proof, ProofFor, IsBlockFor}
 use Rattle.circ_rules.specs.Accepted.{Accepted, Derives}
-use Rattle.circ_soundness.specs.Example.{hd, tl, g, f, k, x, head, tail, streams, by, steps, first, second, same_streams}
+use Rattle.circ_soundness.specs.Example.{hd, tl, g, f, k, x, head_derivative, tail_derivative, twins, by, steps, first, second, twins_alike}
 use Rattle.circ_soundness.proofs.Members.{all_of}
 use Rattle.circ_soundness.proofs.Sound.{goals_behave}
 
 -- ---- the theory
 
 abbrev IsTerm : Tree → Type 0
-IsTerm t = IsWellSorted streams.signature t
+IsTerm t = IsWellSorted twins.signature t
 
 x_sorted : IsTerm x
 x_sorted = omega arith
@@ -62,14 +63,14 @@ tail_sorted : IsTerm (tl x)
 tail_sorted = tl_sorted x x_sorted refl
 
 -- an equation that keeps the head
-keeps_head : (t : Tree) → IsTerm t → sort_of t ≡ 1 → IsWellSortedPair streams.signature (record { left = hd t; right = hd x })
+keeps_head : (t : Tree) → IsTerm t → sort_of t ≡ 1 → IsWellSortedPair twins.signature (record { left = hd t; right = hd x })
 keeps_head t w e = record { left = hd_sorted t w e; right = head_sorted; same_sort = refl }
 
 -- an equation for the tail
-gives_tail : (t u : Tree) → IsTerm t → sort_of t ≡ 1 → IsTerm u → sort_of u ≡ 1 → IsWellSortedPair streams.signature (record { left = tl t; right = g u })
+gives_tail : (t u : Tree) → IsTerm t → sort_of t ≡ 1 → IsTerm u → sort_of u ≡ 1 → IsWellSortedPair twins.signature (record { left = tl t; right = g u })
 gives_tail t u w e v d = record { left = tl_sorted t w e; right = g_sorted u v d; same_sort = refl }
 
-equations_sorted : AllByRecursion (λ (e : Equation). IsWellSortedPair streams.signature (pair_of e)) streams.equations
+equations_sorted : AllByRecursion (λ (e : Equation). IsWellSortedPair twins.signature (pair_of e)) twins.equations
 equations_sorted = (
   keeps_head (g x) (g_sorted x x_sorted refl) refl,
   (
@@ -87,10 +88,10 @@ equations_sorted = (
   ),
 )
 
-equations_in_order : AllByRecursion (λ (e : Equation). IsInOrder (pair_of e)) streams.equations
+equations_in_order : AllByRecursion (λ (e : Equation). IsInOrder (pair_of e)) twins.equations
 equations_in_order = ((refl, tt), ((refl, tt), ((refl, tt), ((refl, tt), ((refl, tt), ((refl, tt), tt))))))
 
-operator : (w : List ℕ) (r : ℕ) → IsForm (Word w ∷ []) → r < 2 → IsOperator streams.signature (plain_op w (1 ∷ []) r)
+operator : (w : List ℕ) (r : ℕ) → IsForm (Word w ∷ []) → r < 2 → IsOperator twins.signature (plain_op w (1 ∷ []) r)
 operator w r i l = record {
   is_form = i;
   args = λ s c. all_of (λ j. j < 2) (1 ∷ []) s (omega arith, tt) c;
@@ -100,7 +101,7 @@ operator w r i l = record {
   marked = λ e. absurd (cc);
 }
 
-operators_fine : AllByRecursion (IsOperator streams.signature) streams.signature.ops
+operators_fine : AllByRecursion (IsOperator twins.signature) twins.signature.ops
 operators_fine = (
   operator _ 0 (record { cut = refl; sound = refl }) (omega arith),
   (
@@ -115,19 +116,19 @@ operators_fine = (
   ),
 )
 
-derivatives_fine : AllByRecursion (IsDerivative streams.signature) streams.derivatives
+derivatives_fine : AllByRecursion (IsDerivative twins.signature) twins.derivatives
 derivatives_fine = (
   record { hole = omega arith; body = head_sorted; one_hole = refl; numbered = tt; few = omega arith },
   (record { hole = omega arith; body = tail_sorted; one_hole = refl; numbered = tt; few = omega arith }, tt),
 )
 
-pub well_formed : IsWellFormed streams
+pub well_formed : IsWellFormed twins
 well_formed = record {
-  equations = λ e c. all_of (λ d. IsWellSortedPair streams.signature (pair_of d)) streams.equations e equations_sorted c;
-  in_order = λ e c. all_of (λ d. IsInOrder (pair_of d)) streams.equations e equations_in_order c;
+  equations = λ e c. all_of (λ d. IsWellSortedPair twins.signature (pair_of d)) twins.equations e equations_sorted c;
+  in_order = λ e c. all_of (λ d. IsInOrder (pair_of d)) twins.equations e equations_in_order c;
   variables = λ d c. absurd (omega (arith, c.1));
-  operators = λ o c. all_of (IsOperator streams.signature) streams.signature.ops o operators_fine c;
-  derivatives = λ d c. all_of (IsDerivative streams.signature) streams.derivatives d derivatives_fine c;
+  operators = λ o c. all_of (IsOperator twins.signature) twins.signature.ops o operators_fine c;
+  derivatives = λ d c. all_of (IsDerivative twins.signature) twins.derivatives d derivatives_fine c;
   cases = λ l c. absurd (omega (arith, c.1));
   one_list = distinct_by [] refl;
   few_sorts = omega arith;
@@ -139,69 +140,74 @@ well_formed = record {
 
 -- ---- the place of g
 
-has_head : Contains streams.derivatives head
+has_head : Contains twins.derivatives head_derivative
 has_head = (zero, omega arith, refl)
 
-has_tail : Contains streams.derivatives tail
+has_tail : Contains twins.derivatives tail_derivative
 has_tail = (suc zero, omega arith, refl)
 
-stream_hidden : IsHidden streams 1
-stream_hidden = record { derivative = head; listed = has_head; hole = refl }
+stream_hidden : IsHidden twins 1
+stream_hidden = record { derivative = head_derivative; listed = has_head; hole = refl }
 
-bit_visible : IsVisible streams 0
+bit_visible : IsVisible twins 0
 bit_visible h =
-    let one : h.derivative.hole ≡ 1 = all_of (λ (d : Derivative). d.hole ≡ 1) streams.derivatives h.derivative (refl, (refl, tt)) h.listed in
+    let one : h.derivative.hole ≡ 1 = all_of (λ (d : Derivative). d.hole ≡ 1) twins.derivatives h.derivative (refl, (refl, tt)) h.listed in
     let hole = h.hole in
     absurd (omega arith)
 
-is_place : IsPlace streams (place 2 0)
+is_place : IsPlace twins (place 2 0)
 is_place = record { operator = _; sort = 1; listed = refl; argument = refl; hidden = stream_hidden; hidden_argument = stream_hidden }
 
 -- in hd(x) the variable is the hole of hd, which is visible
-head_guarded : Guarded streams same_streams.places (hd x) 0 1
+head_guarded : Guarded twins twins_alike.places (hd x) 0 1
 head_guarded [] e = absurd (let same : hd x ≡ Var 0 1 = same_Some (hd x) (Var 0 1) e in cc)
 head_guarded (zero ∷ []) e =
-    let i : IsInstanceAt streams (hd x) 0 1 head [] (0 ∷ []) =
+    let i : IsInstanceAt twins (hd x) 0 1 head_derivative [] (0 ∷ []) =
     record { listed = has_head; sort = refl; hole = refl; parameters = Var; keeps_sorts = λ n s. refl; there = refl } in
-    by_visible head [] (0 ∷ []) refl i bit_visible
+    by_visible head_derivative [] (0 ∷ []) refl i bit_visible
 head_guarded (zero ∷ i ∷ p) e = nowhere p (Var 0 1) e
 head_guarded (suc n ∷ p) e = nowhere p (Var 0 1) e
 
 -- in g(tl(x)) it is the hole of tl, which stands at the place of g
-tail_guarded : Guarded streams same_streams.places (g (tl x)) 0 1
+tail_guarded : Guarded twins twins_alike.places (g (tl x)) 0 1
 tail_guarded [] e = absurd (let same : g (tl x) ≡ Var 0 1 = same_Some (g (tl x)) (Var 0 1) e in cc)
 tail_guarded (zero ∷ []) e = absurd (let same : tl x ≡ Var 0 1 = same_Some (tl x) (Var 0 1) e in cc)
 tail_guarded (zero ∷ zero ∷ []) e =
-    let i : IsInstanceAt streams (g (tl x)) 0 1 tail (0 ∷ []) (0 ∷ []) =
+    let i : IsInstanceAt twins (g (tl x)) 0 1 tail_derivative (0 ∷ []) (0 ∷ []) =
     record { listed = has_tail; sort = refl; hole = refl; parameters = Var; keeps_sorts = λ n s. refl; there = refl } in
-    by_hidden tail (0 ∷ []) (0 ∷ []) refl i stream_hidden (contains_first (place 2 0) [], tl x, refl, tt)
+    by_hidden tail_derivative (0 ∷ []) (0 ∷ []) refl i stream_hidden (contains_first (place 2 0) [], tl x, refl, tt)
 tail_guarded (zero ∷ zero ∷ i ∷ p) e = nowhere p (Var 0 1) e
 tail_guarded (zero ∷ suc n ∷ p) e = nowhere p (Var 0 1) e
 tail_guarded (suc n ∷ p) e = nowhere p (Var 0 1) e
 
--- an equation that leads from t to u at the root, for x
-equation_leads : (H : List Goal) (number : ℕ) (e : Equation) (t u : Tree) → slice_get streams.equations number ≡ Some e
-    → RewritesBy (pair_of e) Forth [] (x ∷ []) t u
-    → Leads (setting streams same_streams.places H []) (map_link (named same_streams.table) (by number)) t u
-equation_leads H number e t u l r = record { equation = e; listed = l; rewrites = r }
+-- x for the equation's one variable
+abbrev for_x : Equation → Substitution
+for_x e = given (sorted (variables_of (pair_of e))) (x ∷ [])
 
-head_certified : Certified streams same_streams.places (place 2 0) head (map_link (named same_streams.table) (by 0) ∷ [])
+-- an equation that leads from t to u at the root, for x
+equation_leads : (H : List Goal) (number : ℕ) (e : Equation) (t u : Tree) → slice_get twins.equations number ≡ Some e
+    → FitVariables (sorted (variables_of (pair_of e))) (x ∷ [])
+    → Replaces t [] (instance (for_x e) e.left) (instance (for_x e) e.right) u
+    → Leads (setting twins twins_alike.places H []) (map_link (named twins_alike.table) (by number)) t u
+equation_leads H number e t u l f r = record { equation = e; listed = l; rewrites = record { fit = f; replaces = r } }
+
+head_certified : Certified twins twins_alike.places (place 2 0) head_derivative (map_link (named twins_alike.table) (by 0) ∷ [])
 unfolding is_place
 head_certified = record {
   place = is_place;
   within = refl;
   last = hd x;
-  leads = (hd x, equation_leads [] 0 _ (hd (g x)) (hd x) refl (record { fit = (refl, tt); replaces = record { there = refl; made = refl; within = refl } }), refl);
+  leads = (hd x, equation_leads [] 0 _ (hd (g x)) (hd x) refl (refl, tt) (record { there = refl; made = refl; within = refl }), refl);
   guarded = head_guarded;
 }
 
-tail_certified : Certified streams same_streams.places (place 2 0) tail (map_link (named same_streams.table) (by 1) ∷ [])
+tail_certified : Certified twins twins_alike.places (place 2 0) tail_derivative (map_link (named twins_alike.table) (by 1) ∷ [])
 unfolding is_place
 tail_certified = record {
   place = is_place;
   within = refl;
   last = g (tl x);
-  leads = (g (tl x), equation_leads [] 1 _ (tl (g x)) (g (tl x)) refl (record { fit = (refl, tt); replaces = record { there = refl; made = refl; within = refl } }), refl);
+  leads = (g (tl x), equation_leads [] 1 _ (tl (g x)) (g (tl x)) refl (refl, tt) (record { there = refl; made = refl; within = refl }), refl);
   guarded = tail_guarded;
 }
 
@@ -216,7 +222,7 @@ heads = goal (hd (f x)) (hd (k x))
 abbrev tails : Goal
 tails = goal (tl (f x)) (tl (k x))
 
-run : StepsOf streams same_streams.places (map (map_step (named same_streams.table)) steps) (state [] (start ∷ [])) (state (start ∷ []) [])
+run : StepsOf twins twins_alike.places (map (map_step (named twins_alike.table)) steps) (state [] (start ∷ [])) (state (start ∷ []) [])
 run = (
   state (start ∷ []) (heads ∷ tails ∷ []),
   (stream_hidden, (record { numbers = omega arith; left = refl; right = refl }, (record { numbers = omega arith; left = refl; right = refl }, tt)), refl),
@@ -226,8 +232,8 @@ run = (
       (
         hd x,
         record {
-          left = (hd x, equation_leads (start ∷ []) 2 _ (hd (f x)) (hd x) refl (record { fit = (refl, tt); replaces = record { there = refl; made = refl; within = refl } }), refl);
-          right = (hd x, equation_leads (start ∷ []) 4 _ (hd (k x)) (hd x) refl (record { fit = (refl, tt); replaces = record { there = refl; made = refl; within = refl } }), refl);
+          left = (hd x, equation_leads (start ∷ []) 2 _ (hd (f x)) (hd x) refl (refl, tt) (record { there = refl; made = refl; within = refl }), refl);
+          right = (hd x, equation_leads (start ∷ []) 4 _ (hd (k x)) (hd x) refl (refl, tt) (record { there = refl; made = refl; within = refl }), refl);
         },
       ),
       refl,
@@ -240,7 +246,7 @@ run = (
           record {
             left = (
               g (f (tl x)),
-              equation_leads (start ∷ []) 3 _ (tl (f x)) (g (f (tl x))) refl (record { fit = (refl, tt); replaces = record { there = refl; made = refl; within = refl } }),
+              equation_leads (start ∷ []) 3 _ (tl (f x)) (g (f (tl x))) refl (refl, tt) (record { there = refl; made = refl; within = refl }),
               (
                 g (k (tl x)),
                 record {
@@ -252,7 +258,11 @@ run = (
                 refl,
               ),
             );
-            right = (g (k (tl x)), equation_leads (start ∷ []) 5 _ (tl (k x)) (g (k (tl x))) refl (record { fit = (refl, tt); replaces = record { there = refl; made = refl; within = refl } }), refl);
+            right = (
+              g (k (tl x)),
+              equation_leads (start ∷ []) 5 _ (tl (k x)) (g (k (tl x))) refl (refl, tt) (record { there = refl; made = refl; within = refl }),
+              refl,
+            );
           },
         ),
         refl,
@@ -262,15 +272,15 @@ run = (
   ),
 )
 
-pub derives : Derives streams same_streams ((start ∷ []) ∷ [])
+pub derives : Derives twins twins_alike ((start ∷ []) ∷ [])
 derives = record { admissible = (head_certified, (tail_certified, tt)); blocks = (run, tt) }
 
-pub accepted : Accepted streams same_streams
+pub accepted : Accepted twins twins_alike
 accepted = ((start ∷ []) ∷ [], derives)
 
 -- ---- the proof fits
 
-block_fits : AllByRecursion (IsBlockFor same_streams.table) same_streams.blocks
+block_fits : AllByRecursion (IsBlockFor twins_alike.table) twins_alike.blocks
 block_fits = (
   record {
     some_goal = λ e. cc e;
@@ -294,7 +304,7 @@ block_fits = (
   tt,
 )
 
-pub fits : ProofFor streams same_streams
+pub fits : ProofFor twins twins_alike
 fits = record {
   sorted = (x_sorted, (tail_sorted, (f_sorted x x_sorted refl, (k_sorted x x_sorted refl, tt))));
   within = (refl, (refl, (refl, (refl, tt))));
@@ -309,7 +319,7 @@ fits = record {
 }
 
 -- so the two streams behave alike
-pub same_behaviour : Behaves streams first second
+pub same_behaviour : Behaves twins first second
 same_behaviour =
     let b : Block = record { goals = start ∷ []; names = (2, 3) ∷ []; steps = steps } in
-    goals_behave streams well_formed same_streams fits ((start ∷ []) ∷ []) derives b (contains_first b []) start (contains_first start [])
+    goals_behave twins well_formed twins_alike fits ((start ∷ []) ∷ []) derives b (contains_first b []) start (contains_first start [])

@@ -47,9 +47,13 @@ mutual
 
 -- ---- sorts
 
--- a well-sorted term of the variable's sort
-abbrev pub IsOfSort : Signature → Filler
-IsOfSort sig n s u = (sort_of u ≡ s) × IsWellSorted sig u
+-- a well-sorted term of this sort
+abbrev pub IsOfSort : Signature → (sort : ℕ) → Tree → Type 0
+IsOfSort sig s u = (sort_of u ≡ s) × IsWellSorted sig u
+
+-- .. for each variable, of its sort
+abbrev pub OfSort : Signature → Filler
+OfSort sig n s u = IsOfSort sig s u
 
 -- where each filler is one of another kind
 abbrev IsWithin : Signature → Filler → Filler → Type 0
@@ -57,7 +61,7 @@ IsWithin sig R S = (n s : ℕ) (u : Tree) → IsSort sig s → R n s u → S n s
 
 -- fillers of the variables' sorts make a well-sorted term
 mutual
-  pub fills_sorted : (sig : Signature) (R : Filler) → IsWithin sig R (IsOfSort sig) → (t u : Tree) → IsWellSorted sig t → Fills R t u
+  pub fills_sorted : (sig : Signature) (R : Filler) → IsWithin sig R (OfSort sig) → (t u : Tree) → IsWellSorted sig t → Fills R t u
       → (sort_of u ≡ sort_of t) × IsWellSorted sig u
   fills_sorted sig R k (Var n s) u w h = k n s u w h
   fills_sorted sig R k (App f s ts) (Var n r) w h = absurd h
@@ -66,7 +70,7 @@ mutual
       let Q : ℕ → Type 0 = λ r. IsWellSorted sig (App f r us) in
       (sym h.1, subst P h.0 (subst Q h.1 (w.0, w.1, w.2, fill_sorts sig R k ts us w.0.args w.3 h.2)))
 
-  fill_sorts : (sig : Signature) (R : Filler) → IsWithin sig R (IsOfSort sig) → (ts us : Trees) (ss : List ℕ) → HaveSorts sig ts ss → FillsAll R ts us
+  fill_sorts : (sig : Signature) (R : Filler) → IsWithin sig R (OfSort sig) → (ts us : Trees) (ss : List ℕ) → HaveSorts sig ts ss → FillsAll R ts us
       → HaveSorts sig us ss
   fill_sorts sig R k none none ss w h = w
   fill_sorts sig R k none (more u us) ss w h = absurd h
@@ -119,7 +123,7 @@ either_second b bs σ τ p = same_instances (either b σ τ) τ bs (λ m k h. el
 ])
 
 mutual
-  pub distinct_makes : (sig : Signature) (b u : Tree) → AreDistinct (occurrences b) → Fills (IsOfSort sig) b u → Makes sig b u
+  pub distinct_makes : (sig : Signature) (b u : Tree) → AreDistinct (occurrences b) → Fills (OfSort sig) b u → Makes sig b u
   distinct_makes sig (Var n s) u a h = record {
     by = given (record { number = n; sort = s } ∷ []) (u ∷ []);
     sorted = given_substitution sig (record { number = n; sort = s } ∷ []) (u ∷ []) (h.0, tt) (h.1, tt);
@@ -130,7 +134,7 @@ mutual
       let x = all_distinct_make sig ts us a h.2 in
       record { by = x.by; sorted = x.sorted; made = ap (App f s) x.made ∙ ap (λ k. App k s us) h.0 ∙ ap (λ k. App g k us) h.1 }
 
-  pub all_distinct_make : (sig : Signature) (bs us : Trees) → AreDistinct (all_occurrences bs) → FillsAll (IsOfSort sig) bs us → MakesAll sig bs us
+  pub all_distinct_make : (sig : Signature) (bs us : Trees) → AreDistinct (all_occurrences bs) → FillsAll (OfSort sig) bs us → MakesAll sig bs us
   all_distinct_make sig none none a h = record { by = Var; sorted = λ n s w. (refl, w); made = refl }
   all_distinct_make sig none (more u us) a h = absurd h
   all_distinct_make sig (more b bs) none a h = absurd h

@@ -18,7 +18,7 @@ use Rattle.circ_special.specs.Guarded.{IsInstanceAt, IsGuardedAt, by_visible, by
 use Rattle.circ_special.proofs.Distinct.{body_distinct}
 use Rattle.circ_special.proofs.Sorted.{instance_sorted}
 use Rattle.circ_soundness.specs.Levels.{Agree, PlacesAgree, Stays}
-use Rattle.circ_soundness.proofs.Filling.{Fills, FillsAt, IsOfSort, Makes, fills_instance, fills_sorted, fills_also, fills_at, fills_special, distinct_makes}
+use Rattle.circ_soundness.proofs.Filling.{Fills, FillsAt, IsOfSort, OfSort, Makes, fills_instance, fills_sorted, fills_also, fills_at, fills_special, distinct_makes}
 use Rattle.circ_soundness.proofs.Changing.{DifferAt, Mixed, mixed_sorted, Changes, passes, replaced_once}
 use Rattle.circ_soundness.proofs.Parameters.{plug_hole, plug_parameter, plug_differs, same_body}
 use Rattle.circ_soundness.proofs.Agreeing.{derivable_agrees, agree_same, agree_chain, agree_less, next_agrees, special_stays}
@@ -52,8 +52,8 @@ derived_at th A G m σ τ k s g t u v w d q r i c =
     let π : Substitution = plug d.hole (Var k s) x.parameters in
     let wp : IsSubstitution sig π = plug_substitution sig d.hole (Var k s) x.parameters (sym i.sort) g.sort x.sorted in
     let f : FillsAt (Mixed σ τ) (instance π d.body) u q = fills_at (Mixed σ τ) q t (instance π d.body) u c.mixed x.there in
-    let fills : Fills (IsOfSort sig) d.body f.part =
-    fills_also sig (λ n j. Fills (Mixed σ τ) (π n j)) (IsOfSort sig)
+    let fills : Fills (OfSort sig) d.body f.part =
+    fills_also sig (λ n j. Fills (Mixed σ τ) (π n j)) (OfSort sig)
     (λ n j y h z. let e = fills_sorted sig (Mixed σ τ) (mixed_sorted sig σ τ g.left g.right) (π n j) y (wp n j h).1 z in (e.0 ∙ (wp n j h).0, e.1))
     d.body f.part der.body (fills_instance (Mixed σ τ) π d.body f.part f.fills) in
     let by : Makes sig d.body f.part = distinct_makes sig d.body f.part (body_distinct sig d der) fills in
@@ -79,7 +79,7 @@ record Sides (th : Theory) (A : List Pair) (m : ℕ) (d : Derivative) (a b : Tre
   stays : Stays th A m (derived d a p) (derived d b p)
 
 sides : (th : Theory) → IsWellFormed th → (A : List Pair) (m : ℕ) (d : Derivative) (a b : Tree) (p : Substitution) → Contains th.derivatives d
-    → IsSubstitution th.signature p → IsOfSort th.signature 0 d.hole a → IsOfSort th.signature 0 d.hole b → Agree th A (suc m) a b → Sides th A m d a b p
+    → IsSubstitution th.signature p → IsOfSort th.signature d.hole a → IsOfSort th.signature d.hole b → Agree th A (suc m) a b → Sides th A m d a b p
 sides th ok A m d a b p l w x y ag =
     let sig : Signature = th.signature in
     let body = (ok.derivatives d l).body in

@@ -170,7 +170,8 @@ link_keeps c n g (Content_link op path term) f t u wt r =
     let old = at_sorted th path t r.old wt r.replaces.there in
     let d : Derivable th c.assumptions r.old term =
     same_content_derivable th g.well_formed c.assumptions op h.operator h.there r.old term old f.0 h.same_content in
-    derivable_keeps th g.well_formed c.assumptions n t u wt (replaced_keeps th c.assumptions path t r.old term u wt r.replaces.there f.0 h.same_sort d r.replaces.made)
+    derivable_keeps th g.well_formed c.assumptions n t u wt
+    (replaced_keeps th c.assumptions path t r.old term u wt r.replaces.there f.0 h.same_sort d r.replaces.made)
 
 -- the links of a list, one after the other
 pub links_keep : (c : Setting) (n : ℕ) → IsGood c n → (ls : List (LinkOf Tree)) → AllOfLinks (IsWellSorted c.theory.signature) ls

@@ -33,7 +33,8 @@ stands_where P (v ∷ vs) a m k e = elim (cases_Bool ((m == v.number) && (k == v
   | inl h ↦
       let x = and_parts (m == v.number) (k == v.sort) h in
       let same : v ≡ record { number = m; sort = k } =
-      ap (λ n. record { number = n; sort = v.sort }) (sym (eqb-true m v.number x.0)) ∙ ap (λ s. record { number = m; sort = s }) (sym (eqb-true k v.sort x.1)) in
+      ap (λ n. record { number = n; sort = v.sort }) (sym (eqb-true m v.number x.0))
+      ∙ ap (λ s. record { number = m; sort = s }) (sym (eqb-true k v.sort x.1)) in
       subst P same a.0
   | inr h ↦ stands_where P vs a.1 m k (rw h at e)
 ]
@@ -41,7 +42,8 @@ stands_where P (v ∷ vs) a m k e = elim (cases_Bool ((m == v.number) && (k == v
 -- the body has no other variables
 pub same_body : (sig : Signature) (d : Derivative) → IsDerivative sig d → (σ τ : Substitution) → σ 0 d.hole ≡ τ 0 d.hole
     → ((n s : ℕ) → σ (suc n) s ≡ τ (suc n) s) → instance σ d.body ≡ instance τ d.body
-same_body sig d i σ τ hole params = same_instance σ τ d.body (λ m k e. go m k (stands_where (IsHoleOfSort d.hole) (occurrences d.body) (body_holes sig d i) m k e))
+same_body sig d i σ τ hole params =
+    same_instance σ τ d.body (λ m k e. go m k (stands_where (IsHoleOfSort d.hole) (occurrences d.body) (body_holes sig d i) m k e))
   where
     go : (m k : ℕ) → IsHoleOfSort d.hole (record { number = m; sort = k }) → σ m k ≡ τ m k
     go zero k h = ap (σ 0) (h refl) ∙ hole ∙ ap (τ 0) (sym (h refl))

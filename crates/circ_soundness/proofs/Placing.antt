@@ -55,7 +55,8 @@ start_sorted th ok o f i d l c h =
     let head : Tree = App f o.result (start_args i 1 o.args) in
     let whole : IsWellSorted sig head = (o, l, refl, start_sorts sig i 1 o.args (ok.operators o (contains_at sig.ops f o l)).args) in
     let fresh = numbered_from (length o.args) in
-    instance_well_sorted sig (plug d.hole head fresh) d.body (plug_substitution sig d.hole head fresh (sym h) whole (λ n r k. (refl, k))) (ok.derivatives d c).body
+    let here = plug_substitution sig d.hole head fresh (sym h) whole (λ n r k. (refl, k)) in
+    instance_well_sorted sig (plug d.hole head fresh) d.body here (ok.derivatives d c).body
 
 -- Where a term keeps the level to one that is guarded in variable 0, instances of it agree at the level at which those of the variable agree, less one.
 kept_guarded_agrees : (th : Theory) (A : List Pair) (G : List Place) (m : ℕ) (σ τ : Substitution) (s : ℕ) → IsChange th A G m σ τ 0 s → DifferAt 0 s σ τ
@@ -111,8 +112,9 @@ place_agrees th G is m pl A f i o ts a b d p c lo h e wb sb ld hole wp ag =
     let V : Operator → Type 0 = λ y. Agree th A m (derived d (App f y.result ts) p) (derived d (App f y.result (put_at ts i b)) p) in
     subst V same (subst U x.right_made (subst T x.left_made all))
 
-hidden_result : (th : Theory) (G : List Place) → IsCertifiedSet th G → (f s i : ℕ) (ts : Trees) → Contains G (place f i) → IsWellSorted th.signature (App f s ts)
-    → IsHidden th s
+-- the sort of a term at whose operator the set has a place
+hidden_result : (th : Theory) (G : List Place) → IsCertifiedSet th G → (f s i : ℕ) (ts : Trees) → Contains G (place f i)
+    → IsWellSorted th.signature (App f s ts) → IsHidden th s
 hidden_result th G is f s i ts c wt =
     let g = is.places (place f i) c in
     let P : ℕ → Type 0 = IsHidden th in

@@ -74,7 +74,8 @@ step_agrees th ok G n pl (Simplify chain) f H (h ∷ hs) b w r a k after g c =
     let join = chain_joins set n good chain f (sides h) q sorted r.1 in
     let P : State → Type 0 = λ x. AgreeGoals th n x.goals in
     let next : AgreeGoals th n (new ∷ hs) = subst P r.2 after in
-    pick (AgreeGoal th n) h g hs (λ σ i. joins_agree set n (sides h) q sorted join σ i (next new (contains_first new hs) σ i)) (λ d. next g (in_rest new g hs d)) c
+    let here : AgreeGoal th n h = λ σ i. joins_agree set n (sides h) q sorted join σ i (next new (contains_first new hs) σ i) in
+    pick (AgreeGoal th n) h g hs here (λ d. next g (in_rest new g hs d)) c
 step_agrees th ok G n pl (Reduce why) f H [] b w r a k after g c = absurd r
 step_agrees th ok G n pl (Reduce why) f H (h ∷ hs) b w r a k after g c =
     let set = setting th G H [] in

@@ -27,7 +27,7 @@ use Rattle.circ_theory.specs.Fresh.{above, all_above, variables_from}
 use Rattle.circ_rules.specs.Certified.{start_args, start_term}
 use Rattle.circ_soundness.specs.Levels.{Agree, HypothesesAgree, PlacesAgree, Keeps}
 use Rattle.circ_soundness.proofs.Members.{nothing}
-use Rattle.circ_soundness.proofs.Filling.{FillsAll, IsOfSort, MakesAll, all_distinct_make}
+use Rattle.circ_soundness.proofs.Filling.{FillsAll, IsOfSort, OfSort, MakesAll, all_distinct_make}
 use Rattle.circ_soundness.proofs.Changing.{DifferAt, replaced_once}
 use Rattle.circ_soundness.proofs.Parameters.{plug_hole, plug_differs, with_parameters, with_parameters_below, with_parameters_sorted, derived-with_parameters}
 use Rattle.circ_soundness.proofs.Agreeing.{fits_same, agree_chain, agree_symmetry, agree_weaken}
@@ -54,13 +54,13 @@ start_sorts sig zero k (s ∷ ss) h = (refl, h s (contains_first s ss), variable
 start_sorts sig (suc i) k (s ∷ ss) h = (refl, h s (contains_first s ss), start_sorts sig i (k + 1) ss (λ r c. h r (in_rest s r ss c)))
 
 -- any arguments of these sorts fill them
-variables_fill : (sig : Signature) (k : ℕ) (ss : List ℕ) (ts : Trees) → HaveSorts sig ts ss → FillsAll (IsOfSort sig) (variables k ss) ts
+variables_fill : (sig : Signature) (k : ℕ) (ss : List ℕ) (ts : Trees) → HaveSorts sig ts ss → FillsAll (OfSort sig) (variables k ss) ts
 variables_fill sig k [] none h = tt
 variables_fill sig k [] (more t ts) h = absurd h
 variables_fill sig k (s ∷ ss) none h = absurd h
 variables_fill sig k (s ∷ ss) (more t ts) h = ((h.0, h.1), variables_fill sig (k + 1) ss ts h.2)
 
-start_fills : (sig : Signature) (i k : ℕ) (ss : List ℕ) (ts : Trees) → HaveSorts sig ts ss → FillsAll (IsOfSort sig) (start_args i k ss) ts
+start_fills : (sig : Signature) (i k : ℕ) (ss : List ℕ) (ts : Trees) → HaveSorts sig ts ss → FillsAll (OfSort sig) (start_args i k ss) ts
 start_fills sig i k [] none h = tt
 start_fills sig i k [] (more t ts) h = absurd h
 start_fills sig zero k (s ∷ ss) none h = absurd h
@@ -126,8 +126,8 @@ pub record Starts (th : Theory) (o : Operator) (g : Place) (d : Derivative) (s :
 parameters_differ : (k s : ℕ) (σ τ p : Substitution) → DifferAt 0 s σ τ → DifferAt 0 s (with_parameters k σ p) (with_parameters k τ p)
 parameters_differ k s σ τ p d n r e = rw (d n r e) refl
 
-pub starts : (th : Theory) → IsWellFormed th → (o : Operator) (f s i : ℕ) (ts : Trees) (a b : Tree) (d : Derivative) (p : Substitution) → Contains th.derivatives d
-    → HaveSorts th.signature ts o.args → slice_get (list_of ts) i ≡ Some a → slice_get o.args i ≡ Some s → IsOfSort th.signature 0 s b
+pub starts : (th : Theory) → IsWellFormed th → (o : Operator) (f s i : ℕ) (ts : Trees) (a b : Tree) (d : Derivative) (p : Substitution)
+    → Contains th.derivatives d → HaveSorts th.signature ts o.args → slice_get (list_of ts) i ≡ Some a → slice_get o.args i ≡ Some s → IsOfSort th.signature s b
     → IsSubstitution th.signature p → Starts th o (place f i) d s a b (App f o.result ts) (App f o.result (put_at ts i b)) p
 starts th ok o f s i ts a b d p l h e es wb wp =
     let sig : Signature = th.signature in

@@ -29,16 +29,16 @@ k t = App 4 1 (more t none)
 abbrev pub x : Tree
 x = Var 0 1
 
-abbrev pub head : Derivative
-head = record { hole = 1; body = hd x }
+abbrev pub head_derivative : Derivative
+head_derivative = record { hole = 1; body = hd x }
 
-abbrev pub tail : Derivative
-tail = record { hole = 1; body = tl x }
+abbrev pub tail_derivative : Derivative
+tail_derivative = record { hole = 1; body = tl x }
 
 -- all three keep the head, and tl(g(x)) = g(tl(x)), tl(f(x)) = g(f(tl(x))), tl(k(x)) = g(k(tl(x)))
-abbrev pub streams : Theory
-streams = record {
-  name = codes "KEEP";
+abbrev pub twins : Theory
+twins = record {
+  name = codes "TWINS";
   signature = record {
     sorts = codes "Bit" ∷ codes "Stream" ∷ [];
     ops = plain_op (codes "hd") (1 ∷ []) 0 ∷ plain_op (codes "tl") (1 ∷ []) 1
@@ -48,7 +48,7 @@ streams = record {
   equations = record { left = hd (g x); right = hd x; exec = true } ∷ record { left = tl (g x); right = g (tl x); exec = true }
       ∷ record { left = hd (f x); right = hd x; exec = true } ∷ record { left = tl (f x); right = g (f (tl x)); exec = true }
       ∷ record { left = hd (k x); right = hd x; exec = true } ∷ record { left = tl (k x); right = g (k (tl x)); exec = true } ∷ [];
-  derivatives = head ∷ tail ∷ [];
+  derivatives = head_derivative ∷ tail_derivative ∷ [];
   cases = [];
 }
 
@@ -73,8 +73,8 @@ abbrev pub second : Tree
 second = k x
 
 -- the table is x, tl(x), f(x), k(x), and the special set is the argument of g, with a certificate for each derivative
-abbrev pub same_streams : Proof
-same_streams = record {
+abbrev pub twins_alike : Proof
+twins_alike = record {
   table = x ∷ tl x ∷ f x ∷ k x ∷ [];
   places = place 2 0 ∷ [];
   certificates = (by 0 ∷ []) ∷ (by 1 ∷ []) ∷ [];

@@ -7,7 +7,7 @@ ghost use Rattle.circ_theory.specs.Experiment.{Behaves};
 ghost use Rattle.circ_theory.specs.declared.parts.Goal.{Goal};
 ghost use Rattle.circ_rules.specs.Proof.{Block, Proof, ProofFor};
 ghost use Rattle.circ_rules.specs.Accepted.{Accepted, Derives, FirstFail};
-ghost use Rattle.circ_soundness.specs.Example.{streams, same_streams, first, second};
+ghost use Rattle.circ_soundness.specs.Example.{twins, twins_alike, first, second};
 
 /// Where a proof that fits a well-formed theory is accepted, each goal of each block behaves.
 pub fn goals_behave()
@@ -40,8 +40,8 @@ pub fn nothing_left_out()
 /// An accepted proof whose hypothesis is used below a place of its special set: so the laws speak
 /// of something.
 pub fn a_place_is_used()
-    ensures theory { IsWellFormed streams }
-    ensures fits { ProofFor streams same_streams }
-    ensures accepted { Accepted streams same_streams }
-    ensures so { Behaves streams first second }
+    ensures theory { IsWellFormed twins }
+    ensures fits { ProofFor twins twins_alike }
+    ensures accepted { Accepted twins twins_alike }
+    ensures so { Behaves twins first second }
 {}
