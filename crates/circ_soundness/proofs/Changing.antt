@@ -1,5 +1,5 @@
 -- From one instance of a term to another that differs at one variable: one occurrence after the other, or all at once where there is but one.
-use Rattle.std.proofs.Common.{◌≡◌, ℕ, zero, suc, Bool, true, false, ◌==◌, ◌&&◌, ◌||◌, List, [], ◌∷◌, Option, Some, ◌⊎◌, inl, inr}
+use Rattle.std.proofs.Common.{◌≡◌, ℕ, zero, suc, Bool, true, false, ◌==◌, ◌&&◌, ◌||◌, List, [], ◌∷◌, Some, ◌⊎◌, inl, inr}
 use Rattle.std.proofs.Common.{refl, ap, sym, subst, ◌∙◌}
 use Rattle.std.specs.List.{slice_get}
 use Rattle.std.proofs.lemmas.Bool.{cases_Bool, eqb-true, eq-eqb, and_parts}
@@ -10,7 +10,7 @@ use Rattle.circ_term.proofs.Paths.{nowhere}
 use Rattle.circ_theory.specs.Signature.{Signature, IsSort, IsSubstitution}
 use Rattle.circ_theory.specs.Variables.{occurrences, all_occurrences}
 use Rattle.circ_special.proofs.Agreeing.{stands, stands-append, same_instance, same_instances}
-use Rattle.circ_special.proofs.Distinct.{AreDistinct, AreApart, parts_apart}
+use Rattle.circ_special.proofs.Distinct.{AreDistinct, parts_apart}
 use Rattle.circ_soundness.proofs.Filling.{Filler, Fills, FillsAll, IsOfSort}
 
 -- the two substitutions differ at the variable (k, s) at most

@@ -1,13 +1,13 @@
 -- The example is well-formed, its proof fits and is accepted.
-use Rattle.std.proofs.Common.{◌≡◌, ◌<◌, ℕ, List, [], ◌∷◌, ◌++◌, zero, suc, map, Some, refl, ap, arith}
+use Rattle.std.proofs.Common.{◌≡◌, ◌<◌, ℕ, List, [], ◌∷◌, zero, suc, map, Some, refl, arith}
 use Rattle.std.specs.List.{AllByRecursion, Contains, slice_get}
 use Rattle.std.proofs.lemmas.Option.{same_Some}
-use Rattle.circ_term.specs.Tree.{Tree, Var, sort_of, at}
+use Rattle.circ_term.specs.Tree.{Tree, Var, sort_of}
 use Rattle.circ_term.specs.Substitution.{Substitution, instance}
 use Rattle.circ_term.proofs.Paths.{nowhere}
 use Rattle.circ_theory.specs.declared.forms.Piece.TheVariants.{Word}
 use Rattle.circ_theory.specs.Form.{IsForm}
-use Rattle.circ_theory.specs.Signature.{Operator, IsWellSorted}
+use Rattle.circ_theory.specs.Signature.{IsWellSorted}
 use Rattle.circ_theory.specs.Theory.{Derivative, IsHidden, IsVisible, IsWellSortedPair, pair_of}
 use Rattle.circ_theory.specs.Variables.{IsInOrder, variables_of, sorted, FitVariables, given}
 use Rattle.circ_theory.specs.Operators.{IsOperator}
@@ -17,7 +17,6 @@ use Rattle.circ_theory.specs.Experiment.{Behaves}
 use Rattle.circ_theory.specs.declared.parts.Equation.{Equation}
 use Rattle.circ_theory.specs.declared.parts.Goal.{Goal}
 use Rattle.circ_theory.specs.Link.{named, Replaces}
-use Rattle.circ_theory.specs.declared.replay.Way.TheVariants.{Forth}
 use Rattle.circ_theory.proofs.Casing.{contains_first}
 use Rattle.circ_theory.proofs.Linear.{distinct_by}
 use Rattle.circ_special.specs.Special.{place, IsPlace}
@@ -25,9 +24,9 @@ use Rattle.circ_special.specs.Guarded.{IsInstanceAt, by_visible, by_hidden, Guar
 use Rattle.circ_replay.specs.Plain.{map_link}
 use Rattle.circ_replay.specs.Goals.{goal}
 use Rattle.circ_replay.specs.Link.{setting, Leads}
-use Rattle.circ_rules.specs.Rules.{State, state, map_step, StepsOf}
+use Rattle.circ_rules.specs.Rules.{state, map_step, StepsOf}
 use Rattle.circ_rules.specs.Certified.{Certified}
-use Rattle.circ_rules.specs.Proof.{Block, Proof, ProofFor, IsBlockFor}
+use Rattle.circ_rules.specs.Proof.{Block, ProofFor, IsBlockFor}
 use Rattle.circ_rules.specs.Accepted.{Accepted, Derives}
 use Rattle.circ_soundness.specs.Example.{hd, tl, g, f, k, x, head_derivative, tail_derivative, twins, by, steps, first, second, twins_alike}
 use Rattle.circ_soundness.proofs.Members.{all_of}

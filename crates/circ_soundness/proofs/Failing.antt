@@ -2,7 +2,6 @@
 use Rattle.std.proofs.Common.{◌≡◌, ◌+◌, ℕ, List, [], ◌∷◌, ◌++◌, length, map, inl, inr, refl, ap, sym, subst, ◌∙◌}
 use Rattle.std.specs.List.{AllByRecursion}
 use Rattle.std.proofs.lemmas.List.{length-map}
-use Rattle.circ_term.specs.Tree.{Tree}
 use Rattle.circ_theory.specs.Theory.{Theory}
 use Rattle.circ_theory.specs.Link.{named}
 use Rattle.circ_theory.specs.declared.parts.Goal.{Goal}
@@ -11,8 +10,8 @@ use Rattle.circ_replay.specs.Runs.{Runs, FailsFirst}
 use Rattle.circ_rules.specs.Rules.{State, state, StepOf, StepsOf}
 use Rattle.circ_rules.specs.Certified.{due}
 use Rattle.circ_rules.specs.Proof.{Block, Proof, IsBlockFor, ProofFor}
-use Rattle.circ_rules.specs.Accepted.{certificates_of, steps_of, Admissible, BlocksDerive, Accepted, BlockFails, FirstFail}
-use Rattle.circ_rules.proofs.Running.{LeadsToOne, one_end, runs_or_fails}
+use Rattle.circ_rules.specs.Accepted.{certificates_of, steps_of, BlocksDerive, Accepted, BlockFails, FirstFail}
+use Rattle.circ_rules.proofs.Running.{LeadsToOne, runs_or_fails}
 use Rattle.circ_rules.proofs.Certifying.{certified_or_fails, certificate_fails_once, certified_unless_fails}
 use Rattle.circ_rules.proofs.Stepping.{step_one}
 use Rattle.circ_soundness.proofs.Ending.{ended}

@@ -1,5 +1,5 @@
 -- What links keep at a level, under the assumptions of their setting.
-use Rattle.std.proofs.Common.{◌≡◌, ◌⊎◌, ◌↔◌, IsTrue, ℕ, List, [], ◌∷◌, map, Bool, true, false, inl, inr, refl, sym, subst, ◌∙◌, arith}
+use Rattle.std.proofs.Common.{◌⊎◌, ℕ, List, [], ◌∷◌, map, inl, inr, refl, sym, subst, ◌∙◌, arith}
 use Rattle.std.specs.List.{Contains}
 use Rattle.std.proofs.lemmas.Bool.{cases_Bool}
 use Rattle.circ_term.specs.Tree.{Tree, Var, sort_of}
@@ -23,7 +23,6 @@ use Rattle.circ_theory.proofs.Rewriting.{contains_at, given_substitution}
 use Rattle.circ_theory.proofs.Sorting.{at_sorted, sorted_from, sorted_to, sort_to, sort_instances}
 use Rattle.circ_theory.proofs.Weakening.{weaken}
 use Rattle.circ_aci.proofs.Deriving.{same_content_derivable}
-use Rattle.circ_special.specs.declared.place.Place.{Place}
 use Rattle.circ_special.specs.Special.{IsSpecial}
 use Rattle.circ_replay.specs.Plain.{LinkOf, Equation_link, Hypothesis_link, Assumption_link, Content_link}
 use Rattle.circ_replay.specs.Goals.{sides, IsWellSortedGoal}

@@ -1,12 +1,12 @@
 -- Derivatives with fresh parameters stand for those with any parameters.
-use Rattle.std.proofs.Common.{◌≡◌, ◌≤◌, ◌<◌, ◌+◌, ◌-◌, ℕ, zero, suc, Bool, true, false, nat_lt, ◌==◌, ◌&&◌, if◌then◌else◌, List, [], ◌∷◌, inl, inr}
+use Rattle.std.proofs.Common.{◌≡◌, ◌≤◌, ◌<◌, ◌+◌, ◌-◌, ℕ, zero, suc, true, nat_lt, ◌==◌, ◌&&◌, if◌then◌else◌, List, [], ◌∷◌, inl, inr}
 use Rattle.std.proofs.Common.{refl, ap, sym, subst, ◌∙◌, arith}
 use Rattle.std.specs.List.{AllByRecursion}
 use Rattle.std.proofs.lemmas.Bool.{cases_Bool, eqb-true, eq-eqb, ne_eqb, and_parts, lt-ltb, le-ltb}
-use Rattle.circ_term.specs.Tree.{Tree, Trees, Var, App, none, more, sort_of}
+use Rattle.circ_term.specs.Tree.{Tree, Trees, Var, App, none, more}
 use Rattle.circ_term.specs.Substitution.{Substitution, instance, instances, composed}
 use Rattle.circ_term.proofs.Instances.{instance-instance}
-use Rattle.circ_theory.specs.Signature.{Signature, IsWellSorted, IsSubstitution}
+use Rattle.circ_theory.specs.Signature.{Signature, IsSubstitution}
 use Rattle.circ_theory.specs.Theory.{Derivative}
 use Rattle.circ_theory.specs.Variables.{Variable, occurrences}
 use Rattle.circ_theory.specs.WellFormed.{IsDerivative}

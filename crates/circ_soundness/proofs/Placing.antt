@@ -1,8 +1,8 @@
 -- The places of a set that is certified: where two arguments agree at a level, so do the terms.
-use Rattle.std.proofs.Common.{◌≡◌, ◌≤◌, ℕ, zero, suc, List, [], ◌∷◌, length, Some, refl, ap, sym, subst, ◌∙◌, arith}
+use Rattle.std.proofs.Common.{◌≡◌, ℕ, zero, suc, List, [], ◌∷◌, length, Some, refl, ap, sym, subst, ◌∙◌, arith}
 use Rattle.std.specs.List.{slice_get, Contains}
 use Rattle.std.proofs.lemmas.Option.{same_Some}
-use Rattle.circ_term.specs.Tree.{Tree, Trees, Var, App, sort_of, list_of, put_at}
+use Rattle.circ_term.specs.Tree.{Tree, Trees, App, sort_of, list_of, put_at}
 use Rattle.circ_term.specs.Substitution.{Substitution, instance}
 use Rattle.circ_theory.specs.Signature.{Signature, Operator, IsSort, IsWellSorted, HaveSorts, IsSubstitution}
 use Rattle.circ_theory.specs.Theory.{Theory, Pair, Derivative, IsHidden}
@@ -74,6 +74,28 @@ kept_guarded_agrees th A G m σ τ s g d t u w k guarded =
 
 -- ---- by induction on the level
 
+-- what the start term's two instances are agree, since it leads to a term that is guarded in variable 0
+started_agrees : (th : Theory) → IsWellFormed th → (A : List Pair) (G : List Place) (m : ℕ) → PlacesAgree th G m
+    → (o : Operator) (g : Place) (d : Derivative) (s : ℕ) (a b t u : Tree) (p : Substitution) → Starts th o g d s a b t u p → IsSort th.signature s
+    → IsWellSorted th.signature (start_term o g d) → (last : Tree) → Keeps th [] m (start_term o g d) last → Guarded th G last 0 s
+    → Agree th A (suc m) a b → Agree th A m (derived d t p) (derived d u p)
+started_agrees th ok A G m pl o g d s a b t u p x hs w last k guarded ag =
+    let start : Tree = start_term o g d in
+    let P : Tree → Type 0 = λ y. Agree th A (suc m) y (x.right 0 s) in
+    let Q : Tree → Type 0 = Agree th A (suc m) a in
+    let change : IsChange th A G m x.left x.right 0 s = record {
+      well_formed = ok;
+      places = pl;
+      left = x.left_sorted;
+      right = x.right_sorted;
+      sort = hs;
+      agree = subst P (sym x.left_here) (subst Q (sym x.right_here) ag);
+    } in
+    let all = kept_guarded_agrees th A G m x.left x.right s change x.differ start last w k guarded in
+    let T : Tree → Type 0 = λ y. Agree th A m y (instance x.right start) in
+    let U : Tree → Type 0 = Agree th A m (derived d t p) in
+    subst U x.right_made (subst T x.left_made all)
+
 -- one entry: its derivative on the two terms
 place_agrees : (th : Theory) (G : List Place) → IsCertifiedSet th G → (m : ℕ) → PlacesAgree th G m
     → (A : List Pair) (f i : ℕ) (o : Operator) (ts : Trees) (a b : Tree) (d : Derivative) (p : Substitution)
@@ -91,26 +113,15 @@ place_agrees th G is m pl A f i o ts a b d p c lo h e wb sb ld hole wp ag =
     let H : Operator → Type 0 = λ x. HaveSorts sig ts x.args in
     let hq : HaveSorts sig ts q.args = subst H (sym same) h in
     let sa : sort_of a ≡ s = arg_sort sig ts q.args i a s hq e cert.place.argument in
-    let x : Starts th q (place f i) d s a b (App f q.result ts) (App f q.result (put_at ts i b)) p =
-    starts th ok q f s i ts a b d p ld hq e cert.place.argument (sb ∙ sa, wb) wp in
-    let start : Tree = start_term q (place f i) d in
-    let w : IsWellSorted sig start = start_sorted th ok q f i d cert.place.listed ld (hole ∙ ap (λ y. y.result) (sym same)) in
+    let x = starts th ok q f s i ts a b d p ld hq e cert.place.argument (sb ∙ sa, wb) wp in
+    let w = start_sorted th ok q f i d cert.place.listed ld (hole ∙ ap (λ y. y.result) (sym same)) in
     let good : IsGood (setting th G [] []) m =
     record { well_formed = ok; assumptions = λ y z. nothing y z; hypotheses = no_hypotheses th m; places = pl } in
-    let k : Keeps th [] m start cert.last = links_keep (setting th G [] []) m good has.links has.sorted start cert.last w cert.leads in
+    let k = links_keep (setting th G [] []) m good has.links has.sorted (start_term q (place f i) d) cert.last w cert.leads in
     let sort : IsSort sig s = (ok.operators q (contains_at sig.ops f q cert.place.listed)).args s (contains_at q.args i s cert.place.argument) in
-    let here : Agree th A (suc m) (x.left 0 s) (x.right 0 s) =
-    (let P : Tree → Type 0 = λ y. Agree th A (suc m) y (x.right 0 s) in
-    let Q : Tree → Type 0 = Agree th A (suc m) a in
-    subst P (sym x.left_here) (subst Q (sym x.right_here) ag)) in
-    let change : IsChange th A G m x.left x.right 0 s =
-    record { well_formed = ok; places = pl; left = x.left_sorted; right = x.right_sorted; sort = sort; agree = here } in
-    let all : Agree th A m (instance x.left start) (instance x.right start) =
-    kept_guarded_agrees th A G m x.left x.right s change x.differ start cert.last w k cert.guarded in
-    let T : Tree → Type 0 = λ y. Agree th A m y (instance x.right start) in
-    let U : Tree → Type 0 = Agree th A m (derived d (App f q.result ts) p) in
     let V : Operator → Type 0 = λ y. Agree th A m (derived d (App f y.result ts) p) (derived d (App f y.result (put_at ts i b)) p) in
-    subst V same (subst U x.right_made (subst T x.left_made all))
+    subst V same
+    (started_agrees th ok A G m pl q (place f i) d s a b (App f q.result ts) (App f q.result (put_at ts i b)) p x sort w cert.last k cert.guarded ag)
 
 -- the sort of a term at whose operator the set has a place
 hidden_result : (th : Theory) (G : List Place) → IsCertifiedSet th G → (f s i : ℕ) (ts : Trees) → Contains G (place f i)

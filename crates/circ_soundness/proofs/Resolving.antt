@@ -1,5 +1,5 @@
 -- The links and steps of a proof with the terms of its table in place of their numbers.
-use Rattle.std.proofs.Common.{◌≡◌, ◌<◌, ℕ, List, [], ◌∷◌, map, length}
+use Rattle.std.proofs.Common.{◌<◌, ℕ, List, [], ◌∷◌, map, length}
 use Rattle.std.specs.List.{AllByRecursion}
 use Rattle.circ_term.specs.Tree.{Tree}
 use Rattle.circ_theory.specs.Signature.{Signature, IsWellSorted}

@@ -1,5 +1,5 @@
 -- By induction on the level: the hypotheses at the end of a run agree at each level, and so do the goals at its start.
-use Rattle.std.proofs.Common.{◌≡◌, ◌⊎◌, ◌≤◌, ℕ, zero, suc, List, [], ◌∷◌, ◌++◌, length, ◌==◌, inl, inr, refl, ap, sym, subst, ◌∙◌, arith}
+use Rattle.std.proofs.Common.{◌≡◌, ◌⊎◌, ℕ, zero, suc, List, [], ◌∷◌, ◌++◌, length, ◌==◌, inl, inr, refl, ap, sym, subst, ◌∙◌, arith}
 use Rattle.std.specs.List.{AllByRecursion, Contains}
 use Rattle.std.proofs.lemmas.Bool.{eq-eqb}
 use Rattle.std.proofs.lemmas.List.Elements.{Contains-append_left, Contains-append_right, Contains-append_cases}
@@ -19,7 +19,7 @@ use Rattle.circ_theory.proofs.Weakening.{in_rest}
 use Rattle.circ_special.specs.declared.place.Place.{Place}
 use Rattle.circ_replay.specs.Goals.{goal, sides, IsWellSortedGoal, AreSortedGoals}
 use Rattle.circ_replay.specs.Link.{setting}
-use Rattle.circ_rules.specs.Rules.{State, state, ProofStep, Simplify, Reduce, Derive, Done, AllOfStep, IsSortedState, StepOn, StepOf, StepsOf}
+use Rattle.circ_rules.specs.Rules.{State, state, ProofStep, Simplify, Reduce, Derive, Done, AllOfStep, IsSortedState, StepOn, StepsOf}
 use Rattle.circ_rules.specs.Rules.{fresh_in, derived_goal, derivatives_on}
 use Rattle.circ_rules.proofs.Stepping.{step_sorted, steps_sorted, steps_grow}
 use Rattle.circ_soundness.specs.Levels.{AgreeGoal, AgreeGoals, HypothesesAgree, PlacesAgree}

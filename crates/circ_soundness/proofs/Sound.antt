@@ -1,5 +1,5 @@
 -- What an accepted proof proves behaves.
-use Rattle.std.proofs.Common.{◌≡◌, ◌==◌, List, [], ◌∷◌, ◌++◌, map, Some, refl, ap, sym, subst}
+use Rattle.std.proofs.Common.{◌≡◌, ◌==◌, List, [], ◌∷◌, ◌++◌, map, Some, ap, sym, subst}
 use Rattle.std.specs.List.{slice_get, AllByRecursion, Contains}
 use Rattle.std.specs.Option.{option_map_or}
 use Rattle.std.proofs.lemmas.Bool.{eq-eqb}

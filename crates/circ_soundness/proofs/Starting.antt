@@ -1,38 +1,29 @@
 -- Start terms of certificates, and their instances.
-use Rattle.std.proofs.Common.{◌≡◌, ◌<◌, ◌≤◌, ◌+◌, ℕ, zero, suc, Bool, true, false, ◌==◌, ◌&&◌, ◌||◌, List, [], ◌∷◌, length, Some, inl, inr}
-use Rattle.std.proofs.Common.{refl, ap, sym, subst, ◌∙◌, arith}
-use Rattle.std.specs.List.{slice_get, AllByRecursion, Contains}
-use Rattle.std.proofs.lemmas.Bool.{cases_Bool, eqb-true, ne_eqb, and_parts}
+use Rattle.std.proofs.Common.{◌≡◌, ◌<◌, ◌≤◌, ◌+◌, ℕ, zero, suc, false, List, [], ◌∷◌, length, Some}
+use Rattle.std.proofs.Common.{refl, ap, sym, ◌∙◌, arith}
+use Rattle.std.specs.List.{slice_get, Contains}
+use Rattle.std.proofs.lemmas.Bool.{ne_eqb}
 use Rattle.std.proofs.lemmas.Option.{same_Some, slice_get_within}
 use Rattle.circ_term.specs.Tree.{Tree, Trees, Var, App, none, more, sort_of, list_of, trees_of, at, put_at, replaced}
 use Rattle.circ_term.specs.Substitution.{Substitution, instance}
 use Rattle.circ_term.proofs.Paths.{at_instance}
-use Rattle.circ_theory.specs.Signature.{Signature, Operator, IsSort, IsWellSorted, HaveSorts, IsSubstitution}
-use Rattle.circ_theory.specs.Theory.{Theory, Pair, Derivative, IsHidden}
-use Rattle.circ_theory.specs.Variables.{occurrences, all_occurrences}
+use Rattle.circ_theory.specs.Signature.{Signature, Operator, IsSort, HaveSorts, IsSubstitution}
+use Rattle.circ_theory.specs.Theory.{Theory, Derivative}
+use Rattle.circ_theory.specs.Variables.{all_occurrences}
 use Rattle.circ_theory.specs.WellFormed.{IsWellFormed}
 use Rattle.circ_theory.specs.Experiment.{plug, derived}
 use Rattle.circ_theory.proofs.Behaviour.{plug_substitution}
 use Rattle.circ_theory.proofs.Casing.{contains_first}
-use Rattle.circ_theory.proofs.Instances.{sort_of-instance_by, instance_well_sorted}
-use Rattle.circ_theory.proofs.Rewriting.{contains_at}
 use Rattle.circ_theory.proofs.Weakening.{in_rest}
 use Rattle.circ_special.specs.declared.place.Place.{Place}
-use Rattle.circ_special.specs.Special.{place, IsPlace}
+use Rattle.circ_special.specs.Special.{place}
 use Rattle.circ_special.proofs.Agreeing.{stands}
 use Rattle.circ_special.proofs.Distinct.{AreDistinct}
-use Rattle.circ_replay.specs.Plain.{LinkOf}
-use Rattle.circ_replay.specs.Link.{Setting, setting, AllOfLinks}
 use Rattle.circ_theory.specs.Fresh.{above, all_above, variables_from}
 use Rattle.circ_rules.specs.Certified.{start_args, start_term}
-use Rattle.circ_soundness.specs.Levels.{Agree, HypothesesAgree, PlacesAgree, Keeps}
-use Rattle.circ_soundness.proofs.Members.{nothing}
 use Rattle.circ_soundness.proofs.Filling.{FillsAll, IsOfSort, OfSort, MakesAll, all_distinct_make}
 use Rattle.circ_soundness.proofs.Changing.{DifferAt, replaced_once}
 use Rattle.circ_soundness.proofs.Parameters.{plug_hole, plug_differs, with_parameters, with_parameters_below, with_parameters_sorted, derived-with_parameters}
-use Rattle.circ_soundness.proofs.Agreeing.{fits_same, agree_chain, agree_symmetry, agree_weaken}
-use Rattle.circ_soundness.proofs.Guarding.{guarded_stays}
-use Rattle.circ_soundness.proofs.Keeping.{IsGood, links_keep}
 
 -- ---- the variables of a start term
 
