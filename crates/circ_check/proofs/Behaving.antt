@@ -1,6 +1,5 @@
 -- What the checker accepts behaves.
 use Rattle.std.proofs.Common.{Result, Ok, Err, IfOk, List}
-use Rattle.std.specs.List.{Contains}
 use Rattle.circ_theory.specs.Theory.{Theory}
 use Rattle.circ_theory.specs.WellFormed.{IsWellFormed}
 use Rattle.circ_theory.specs.declared.parts.Goal.{Goal}

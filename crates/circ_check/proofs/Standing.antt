@@ -13,7 +13,7 @@ use Rattle.circ_theory.specs.declared.parts.Goal.{Goal}
 use Rattle.circ_special.specs.declared.place.Place.{Place}
 use Rattle.circ_replay.specs.Goals.{AreSortedGoals}
 use Rattle.circ_replay.specs.Runs.{FailsFirst}
-use Rattle.circ_rules.specs.Rules.{State, state, ProofStep, map_step, AllOfStep, IsSortedState, StepOf, StepsOf}
+use Rattle.circ_rules.specs.Rules.{State, state, ProofStep, map_step, IsSortedState, StepOf, StepsOf}
 use Rattle.circ_rules.specs.Proof.{Block, Proof, ProofFor, IsBlockFor, steps_in, step_limit}
 use Rattle.circ_rules.specs.Accepted.{steps_of, Admissible, BlocksDerive, Derives, Accepted, BlockFails, FirstFail}
 use Rattle.circ_rules.proofs.Sorted.{sorted_append}

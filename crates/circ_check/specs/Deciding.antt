@@ -1,5 +1,5 @@
 -- What the checker answers, and what that means.
-use Rattle.std.specs.Prelude.{◌≡◌, ℕ, List, Option, Some, None, Vec}
+use Rattle.std.specs.Prelude.{ℕ, List, Option, Some, None, Vec}
 use Rattle.std.specs.List.{Contains}
 use Rattle.circ_theory.specs.Theory.{Theory}
 use Rattle.circ_theory.specs.Experiment.{Behaves}

@@ -32,7 +32,13 @@ pub fn check(alloc: Global, theory: &Theory, proof: &Proof) -> Result<Verdict, A
 {
     theory.known();
     let certificates = proof.certificates.as_slice();
-    match admit(alloc, theory, proof.table.as_slice(), &proof.gamma, certificates)? {
+    match admit(
+        alloc,
+        theory,
+        proof.table.as_slice(),
+        &proof.gamma,
+        certificates,
+    )? {
         Admission::Yes => check_blocks(alloc, theory, proof, &mut empty(alloc)),
         Admission::No { number } => Ok(Verdict::Refused { step: number }),
     }
@@ -64,7 +70,9 @@ fn check_blocks(
     let mut earlier = 0;
     for block in &proof.blocks {
         if let Some(number) = run_block(alloc, theory, proof, state, block)? {
-            return Ok(Verdict::Refused { step: done + number });
+            return Ok(Verdict::Refused {
+                step: done + number,
+            });
         }
         end_block(state, earlier, block)?;
         done += block.steps.len() as u64;
@@ -75,11 +83,7 @@ fn check_blocks(
 
 /// The goals that each block's Derive steps appended to the hypotheses, in order, of an accepted
 /// proof. Each of them behaves.
-pub fn derived(
-    alloc: Global,
-    theory: &Theory,
-    proof: &Proof,
-) -> Result<Vec<Vec<Goal>>, AllocError>
+pub fn derived(alloc: Global, theory: &Theory, proof: &Proof) -> Result<Vec<Vec<Goal>>, AllocError>
     requires fits { ProofFor theory.now (plain_proof proof.now) }
     requires accepted { Accepted theory.now (plain_proof proof.now) }
     ensures exact { IfOk result (λ v.

@@ -1,4 +1,4 @@
-use Rattle.std.proofs.Common.{◌≡◌, ℕ, [], map, drop, length}
+use Rattle.std.proofs.Common.{◌≡◌, [], map, drop, length}
 use Rattle.circ_rules.specs.Plain.{plain_block, plain_proof}
 use Rattle.circ_check.specs.Deciding.{plain_list}
 use Rattle.circ_check.proofs.Standing.{DerivesSoFar}

@@ -1,5 +1,4 @@
-use Rattle.std.proofs.Common.{◌≡◌, [], ◌++◌, List, length, ap, sym, subst, ◌∙◌}
-use Rattle.circ_theory.specs.declared.parts.Goal.{Goal}
+use Rattle.std.proofs.Common.{◌≡◌, ◌++◌, length, ap, sym, subst, ◌∙◌}
 use Rattle.circ_replay.specs.Goals.{AreSortedGoals}
 use Rattle.circ_rules.specs.Plain.{plain_block, plain_steps}
 use Rattle.circ_soundness.proofs.Blocks.{block_sorted}
