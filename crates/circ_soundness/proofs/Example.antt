@@ -1,0 +1,324 @@
+-- The example is well-formed, its proof fits and is accepted.
+use Rattle.std.proofs.Common.{◌≡◌, ◌<◌, ℕ, List, [], ◌∷◌, zero, suc, map, Some, refl, arith}
+use Rattle.std.specs.List.{AllByRecursion, Contains, slice_get}
+use Rattle.std.proofs.lemmas.Option.{same_Some}
+use Rattle.circ_term.specs.Tree.{Tree, Var, sort_of}
+use Rattle.circ_term.specs.Substitution.{Substitution, instance}
+use Rattle.circ_term.proofs.Paths.{nowhere}
+use Rattle.circ_theory.specs.declared.forms.Piece.TheVariants.{Word}
+use Rattle.circ_theory.specs.Form.{IsForm}
+use Rattle.circ_theory.specs.Signature.{IsWellSorted}
+use Rattle.circ_theory.specs.Theory.{Derivative, IsHidden, IsVisible, IsWellSortedPair, pair_of}
+use Rattle.circ_theory.specs.Variables.{IsInOrder, variables_of, sorted, FitVariables, given}
+use Rattle.circ_theory.specs.Operators.{IsOperator}
+use Rattle.circ_theory.specs.WellFormed.{IsWellFormed, IsDerivative}
+use Rattle.circ_theory.specs.Examples.{plain_op}
+use Rattle.circ_theory.specs.Experiment.{Behaves}
+use Rattle.circ_theory.specs.declared.parts.Equation.{Equation}
+use Rattle.circ_theory.specs.declared.parts.Goal.{Goal}
+use Rattle.circ_theory.specs.Link.{named, Replaces}
+use Rattle.circ_theory.proofs.Casing.{contains_first}
+use Rattle.circ_theory.proofs.Linear.{distinct_by}
+use Rattle.circ_special.specs.Special.{place, IsPlace}
+use Rattle.circ_special.specs.Guarded.{IsInstanceAt, by_visible, by_hidden, Guarded}
+use Rattle.circ_replay.specs.Plain.{map_link}
+use Rattle.circ_replay.specs.Goals.{goal}
+use Rattle.circ_replay.specs.Link.{setting, Leads}
+use Rattle.circ_rules.specs.Rules.{state, map_step, StepsOf}
+use Rattle.circ_rules.specs.Certified.{Certified}
+use Rattle.circ_rules.specs.Proof.{Block, ProofFor, IsBlockFor}
+use Rattle.circ_rules.specs.Accepted.{Accepted, Derives}
+use Rattle.circ_soundness.specs.Example.{hd, tl, g, f, k, x, head_derivative, tail_derivative, twins, by, steps, first, second, twins_alike}
+use Rattle.circ_soundness.proofs.Members.{all_of}
+use Rattle.circ_soundness.proofs.Sound.{goals_behave}
+
+-- ---- the theory
+
+abbrev IsTerm : Tree → Type 0
+IsTerm t = IsWellSorted twins.signature t
+
+x_sorted : IsTerm x
+x_sorted = omega arith
+
+hd_sorted : (t : Tree) → IsTerm t → sort_of t ≡ 1 → IsTerm (hd t)
+hd_sorted t w e = (_, refl, refl, (e, w, tt))
+
+tl_sorted : (t : Tree) → IsTerm t → sort_of t ≡ 1 → IsTerm (tl t)
+tl_sorted t w e = (_, refl, refl, (e, w, tt))
+
+g_sorted : (t : Tree) → IsTerm t → sort_of t ≡ 1 → IsTerm (g t)
+g_sorted t w e = (_, refl, refl, (e, w, tt))
+
+f_sorted : (t : Tree) → IsTerm t → sort_of t ≡ 1 → IsTerm (f t)
+f_sorted t w e = (_, refl, refl, (e, w, tt))
+
+k_sorted : (t : Tree) → IsTerm t → sort_of t ≡ 1 → IsTerm (k t)
+k_sorted t w e = (_, refl, refl, (e, w, tt))
+
+head_sorted : IsTerm (hd x)
+head_sorted = hd_sorted x x_sorted refl
+
+tail_sorted : IsTerm (tl x)
+tail_sorted = tl_sorted x x_sorted refl
+
+-- an equation that keeps the head
+keeps_head : (t : Tree) → IsTerm t → sort_of t ≡ 1 → IsWellSortedPair twins.signature (record { left = hd t; right = hd x })
+keeps_head t w e = record { left = hd_sorted t w e; right = head_sorted; same_sort = refl }
+
+-- an equation for the tail
+gives_tail : (t u : Tree) → IsTerm t → sort_of t ≡ 1 → IsTerm u → sort_of u ≡ 1 → IsWellSortedPair twins.signature (record { left = tl t; right = g u })
+gives_tail t u w e v d = record { left = tl_sorted t w e; right = g_sorted u v d; same_sort = refl }
+
+equations_sorted : AllByRecursion (λ (e : Equation). IsWellSortedPair twins.signature (pair_of e)) twins.equations
+equations_sorted = (
+  keeps_head (g x) (g_sorted x x_sorted refl) refl,
+  (
+    gives_tail (g x) (tl x) (g_sorted x x_sorted refl) refl tail_sorted refl,
+    (
+      keeps_head (f x) (f_sorted x x_sorted refl) refl,
+      (
+        gives_tail (f x) (f (tl x)) (f_sorted x x_sorted refl) refl (f_sorted (tl x) tail_sorted refl) refl,
+        (
+          keeps_head (k x) (k_sorted x x_sorted refl) refl,
+          (gives_tail (k x) (k (tl x)) (k_sorted x x_sorted refl) refl (k_sorted (tl x) tail_sorted refl) refl, tt),
+        ),
+      ),
+    ),
+  ),
+)
+
+equations_in_order : AllByRecursion (λ (e : Equation). IsInOrder (pair_of e)) twins.equations
+equations_in_order = ((refl, tt), ((refl, tt), ((refl, tt), ((refl, tt), ((refl, tt), ((refl, tt), tt))))))
+
+operator : (w : List ℕ) (r : ℕ) → IsForm (Word w ∷ []) → r < 2 → IsOperator twins.signature (plain_op w (1 ∷ []) r)
+operator w r i l = record {
+  is_form = i;
+  args = λ s c. all_of (λ j. j < 2) (1 ∷ []) s (omega arith, tt) c;
+  result = l;
+  few = omega arith;
+  fits = refl;
+  marked = λ e. absurd (cc);
+}
+
+operators_fine : AllByRecursion (IsOperator twins.signature) twins.signature.ops
+operators_fine = (
+  operator _ 0 (record { cut = refl; sound = refl }) (omega arith),
+  (
+    operator _ 1 (record { cut = refl; sound = refl }) (omega arith),
+    (
+      operator _ 1 (record { cut = refl; sound = refl }) (omega arith),
+      (
+        operator _ 1 (record { cut = refl; sound = refl }) (omega arith),
+        (operator _ 1 (record { cut = refl; sound = refl }) (omega arith), tt),
+      ),
+    ),
+  ),
+)
+
+derivatives_fine : AllByRecursion (IsDerivative twins.signature) twins.derivatives
+derivatives_fine = (
+  record { hole = omega arith; body = head_sorted; one_hole = refl; numbered = tt; few = omega arith },
+  (record { hole = omega arith; body = tail_sorted; one_hole = refl; numbered = tt; few = omega arith }, tt),
+)
+
+pub well_formed : IsWellFormed twins
+well_formed = record {
+  equations = λ e c. all_of (λ d. IsWellSortedPair twins.signature (pair_of d)) twins.equations e equations_sorted c;
+  in_order = λ e c. all_of (λ d. IsInOrder (pair_of d)) twins.equations e equations_in_order c;
+  variables = λ d c. absurd (omega (arith, c.1));
+  operators = λ o c. all_of (IsOperator twins.signature) twins.signature.ops o operators_fine c;
+  derivatives = λ d c. all_of (IsDerivative twins.signature) twins.derivatives d derivatives_fine c;
+  cases = λ l c. absurd (omega (arith, c.1));
+  one_list = distinct_by [] refl;
+  few_sorts = omega arith;
+  few_variables = omega arith;
+  few_ops = omega arith;
+  few_equations = omega arith;
+  few_derivatives = omega arith;
+}
+
+-- ---- the place of g
+
+has_head : Contains twins.derivatives head_derivative
+has_head = (zero, omega arith, refl)
+
+has_tail : Contains twins.derivatives tail_derivative
+has_tail = (suc zero, omega arith, refl)
+
+stream_hidden : IsHidden twins 1
+stream_hidden = record { derivative = head_derivative; listed = has_head; hole = refl }
+
+bit_visible : IsVisible twins 0
+bit_visible h =
+    let one : h.derivative.hole ≡ 1 = all_of (λ (d : Derivative). d.hole ≡ 1) twins.derivatives h.derivative (refl, (refl, tt)) h.listed in
+    let hole = h.hole in
+    absurd (omega arith)
+
+is_place : IsPlace twins (place 2 0)
+is_place = record { operator = _; sort = 1; listed = refl; argument = refl; hidden = stream_hidden; hidden_argument = stream_hidden }
+
+-- in hd(x) the variable is the hole of hd, which is visible
+head_guarded : Guarded twins twins_alike.places (hd x) 0 1
+head_guarded [] e = absurd (let same : hd x ≡ Var 0 1 = same_Some (hd x) (Var 0 1) e in cc)
+head_guarded (zero ∷ []) e =
+    let i : IsInstanceAt twins (hd x) 0 1 head_derivative [] (0 ∷ []) =
+    record { listed = has_head; sort = refl; hole = refl; parameters = Var; keeps_sorts = λ n s. refl; there = refl } in
+    by_visible head_derivative [] (0 ∷ []) refl i bit_visible
+head_guarded (zero ∷ i ∷ p) e = nowhere p (Var 0 1) e
+head_guarded (suc n ∷ p) e = nowhere p (Var 0 1) e
+
+-- in g(tl(x)) it is the hole of tl, which stands at the place of g
+tail_guarded : Guarded twins twins_alike.places (g (tl x)) 0 1
+tail_guarded [] e = absurd (let same : g (tl x) ≡ Var 0 1 = same_Some (g (tl x)) (Var 0 1) e in cc)
+tail_guarded (zero ∷ []) e = absurd (let same : tl x ≡ Var 0 1 = same_Some (tl x) (Var 0 1) e in cc)
+tail_guarded (zero ∷ zero ∷ []) e =
+    let i : IsInstanceAt twins (g (tl x)) 0 1 tail_derivative (0 ∷ []) (0 ∷ []) =
+    record { listed = has_tail; sort = refl; hole = refl; parameters = Var; keeps_sorts = λ n s. refl; there = refl } in
+    by_hidden tail_derivative (0 ∷ []) (0 ∷ []) refl i stream_hidden (contains_first (place 2 0) [], tl x, refl, tt)
+tail_guarded (zero ∷ zero ∷ i ∷ p) e = nowhere p (Var 0 1) e
+tail_guarded (zero ∷ suc n ∷ p) e = nowhere p (Var 0 1) e
+tail_guarded (suc n ∷ p) e = nowhere p (Var 0 1) e
+
+-- x for the equation's one variable
+abbrev for_x : Equation → Substitution
+for_x e = given (sorted (variables_of (pair_of e))) (x ∷ [])
+
+-- an equation that leads from t to u at the root, for x
+equation_leads : (H : List Goal) (number : ℕ) (e : Equation) (t u : Tree) → slice_get twins.equations number ≡ Some e
+    → FitVariables (sorted (variables_of (pair_of e))) (x ∷ [])
+    → Replaces t [] (instance (for_x e) e.left) (instance (for_x e) e.right) u
+    → Leads (setting twins twins_alike.places H []) (map_link (named twins_alike.table) (by number)) t u
+equation_leads H number e t u l f r = record { equation = e; listed = l; rewrites = record { fit = f; replaces = r } }
+
+head_certified : Certified twins twins_alike.places (place 2 0) head_derivative (map_link (named twins_alike.table) (by 0) ∷ [])
+unfolding is_place
+head_certified = record {
+  place = is_place;
+  within = refl;
+  last = hd x;
+  leads = (hd x, equation_leads [] 0 _ (hd (g x)) (hd x) refl (refl, tt) (record { there = refl; made = refl; within = refl }), refl);
+  guarded = head_guarded;
+}
+
+tail_certified : Certified twins twins_alike.places (place 2 0) tail_derivative (map_link (named twins_alike.table) (by 1) ∷ [])
+unfolding is_place
+tail_certified = record {
+  place = is_place;
+  within = refl;
+  last = g (tl x);
+  leads = (g (tl x), equation_leads [] 1 _ (tl (g x)) (g (tl x)) refl (refl, tt) (record { there = refl; made = refl; within = refl }), refl);
+  guarded = tail_guarded;
+}
+
+-- ---- the steps
+
+abbrev start : Goal
+start = goal first second
+
+abbrev heads : Goal
+heads = goal (hd (f x)) (hd (k x))
+
+abbrev tails : Goal
+tails = goal (tl (f x)) (tl (k x))
+
+run : StepsOf twins twins_alike.places (map (map_step (named twins_alike.table)) steps) (state [] (start ∷ [])) (state (start ∷ []) [])
+run = (
+  state (start ∷ []) (heads ∷ tails ∷ []),
+  (stream_hidden, (record { numbers = omega arith; left = refl; right = refl }, (record { numbers = omega arith; left = refl; right = refl }, tt)), refl),
+  (
+    state (start ∷ []) (tails ∷ []),
+    (
+      (
+        hd x,
+        record {
+          left = (hd x, equation_leads (start ∷ []) 2 _ (hd (f x)) (hd x) refl (refl, tt) (record { there = refl; made = refl; within = refl }), refl);
+          right = (hd x, equation_leads (start ∷ []) 4 _ (hd (k x)) (hd x) refl (refl, tt) (record { there = refl; made = refl; within = refl }), refl);
+        },
+      ),
+      refl,
+    ),
+    (
+      state (start ∷ []) [],
+      (
+        (
+          g (k (tl x)),
+          record {
+            left = (
+              g (f (tl x)),
+              equation_leads (start ∷ []) 3 _ (tl (f x)) (g (f (tl x))) refl (refl, tt) (record { there = refl; made = refl; within = refl }),
+              (
+                g (k (tl x)),
+                record {
+                  hypothesis = start;
+                  listed = refl;
+                  rewrites = record { fit = (refl, tt); replaces = record { there = refl; made = refl; within = refl } };
+                  special = λ h. (contains_first (place 2 0) [], f (tl x), refl, tt);
+                },
+                refl,
+              ),
+            );
+            right = (
+              g (k (tl x)),
+              equation_leads (start ∷ []) 5 _ (tl (k x)) (g (k (tl x))) refl (refl, tt) (record { there = refl; made = refl; within = refl }),
+              refl,
+            );
+          },
+        ),
+        refl,
+      ),
+      (state (start ∷ []) [], refl, refl),
+    ),
+  ),
+)
+
+pub derives : Derives twins twins_alike ((start ∷ []) ∷ [])
+derives = record { admissible = (head_certified, (tail_certified, tt)); blocks = (run, tt) }
+
+pub accepted : Accepted twins twins_alike
+accepted = ((start ∷ []) ∷ [], derives)
+
+-- ---- the proof fits
+
+block_fits : AllByRecursion (IsBlockFor twins_alike.table) twins_alike.blocks
+block_fits = (
+  record {
+    some_goal = λ e. cc e;
+    names = (record { left = omega arith; right = omega arith; same_sort = refl }, tt);
+    goals = refl;
+    steps = (
+      tt,
+      (
+        (((omega arith, (omega arith, tt), (omega arith, tt)), tt), ((omega arith, (omega arith, tt), (omega arith, tt)), tt)),
+        (
+          (
+            ((omega arith, (omega arith, tt), (omega arith, tt)), ((omega arith, (omega arith, (omega arith, tt)), (omega arith, tt)), tt)),
+            ((omega arith, (omega arith, tt), (omega arith, tt)), tt),
+          ),
+          (tt, tt),
+        ),
+      ),
+    );
+    ended = ((λ e. cc e), ((λ e. cc e), ((λ e. cc e), refl)));
+  },
+  tt,
+)
+
+pub fits : ProofFor twins twins_alike
+fits = record {
+  sorted = (x_sorted, (tail_sorted, (f_sorted x x_sorted refl, (k_sorted x x_sorted refl, tt))));
+  within = (refl, (refl, (refl, (refl, tt))));
+  entries = (omega arith, ((refl, tt), ((refl, tt), ((refl, tt), tt))));
+  short_table = omega arith;
+  places = record { increasing = tt; places = (is_place, tt) };
+  one_each = refl;
+  certificates = (((omega arith, (omega arith, tt), (omega arith, tt)), tt), (((omega arith, (omega arith, tt), (omega arith, tt)), tt), tt));
+  some_block = λ e. cc e;
+  blocks = block_fits;
+  few_steps = omega arith;
+}
+
+-- so the two streams behave alike
+pub same_behaviour : Behaves twins first second
+same_behaviour =
+    let b : Block = record { goals = start ∷ []; names = (2, 3) ∷ []; steps = steps } in
+    goals_behave twins well_formed twins_alike fits ((start ∷ []) ∷ []) derives b (contains_first b []) start (contains_first start [])

@@ -1,0 +1,17 @@
+pub mod Members
+pub mod Filling
+pub mod Changing
+pub mod Parameters
+pub mod Agreeing
+pub mod Guarding
+pub mod Keeping
+pub mod Justifying
+pub mod Starting
+pub mod Placing
+pub mod Running
+pub mod Resolving
+pub mod Ending
+pub mod Blocks
+pub mod Sound
+pub mod Failing
+pub mod Example

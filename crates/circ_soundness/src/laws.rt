@@ -1,0 +1,47 @@
+//! What accepted proofs show. The functions do nothing: a law is a contract.
+ghost use Rattle.std.specs.Prelude.{◌≡◌, ℕ, List};
+ghost use Rattle.std.specs.List.{Contains};
+ghost use Rattle.circ_theory.specs.Theory.{Theory};
+ghost use Rattle.circ_theory.specs.WellFormed.{IsWellFormed};
+ghost use Rattle.circ_theory.specs.Experiment.{Behaves};
+ghost use Rattle.circ_theory.specs.declared.parts.Goal.{Goal};
+ghost use Rattle.circ_rules.specs.Proof.{Block, Proof, ProofFor};
+ghost use Rattle.circ_rules.specs.Accepted.{Accepted, Derives, FirstFail};
+ghost use Rattle.circ_soundness.specs.Example.{twins, twins_alike, first, second};
+
+/// Where a proof that fits a well-formed theory is accepted, each goal of each block behaves.
+pub fn goals_behave()
+    ensures { (th : Theory) → IsWellFormed th → (p : Proof) → ProofFor th p → Accepted th p →
+        (b : Block) → Contains p.blocks b → (g : Goal) → Contains b.goals g →
+        Behaves th g.left g.right }
+{}
+
+/// So does each goal that a Derive step of it appended to the hypotheses.
+pub fn derived_behave()
+    ensures { (th : Theory) → IsWellFormed th → (p : Proof) → ProofFor th p →
+        (dss : List (List Goal)) → Derives th p dss →
+        (ds : List Goal) → Contains dss ds → (g : Goal) → Contains ds g →
+        Behaves th g.left g.right }
+{}
+
+/// No proof is both accepted and refused, and a refused one is refused at one number.
+pub fn one_verdict()
+    ensures not_both { (th : Theory) (p : Proof) (n : ℕ) → Accepted th p → FirstFail th p n → ⊥ }
+    ensures one_failure { (th : Theory) (p : Proof) (n m : ℕ) →
+        FirstFail th p n → FirstFail th p m → n ≡ m }
+{}
+
+/// A proof that fails nowhere is accepted.
+pub fn nothing_left_out()
+    ensures { (th : Theory) (p : Proof) → ProofFor th p →
+        ((n : ℕ) → FirstFail th p n → ⊥) → (Accepted th p → ⊥) → ⊥ }
+{}
+
+/// An accepted proof whose hypothesis is used below a place of its special set: so the laws speak
+/// of something.
+pub fn a_place_is_used()
+    ensures theory { IsWellFormed twins }
+    ensures fits { ProofFor twins twins_alike }
+    ensures accepted { Accepted twins twins_alike }
+    ensures so { Behaves twins first second }
+{}
