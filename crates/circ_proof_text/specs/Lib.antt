@@ -1,0 +1,6 @@
+pub mod TableText
+pub mod ReadTable
+pub mod Checks
+pub mod ProofText
+pub mod Parts
+pub mod Reading

@@ -1,0 +1,6 @@
+//! The text of whole proofs: what a proof's file holds, which bytes read as a proof for a theory, and
+//! which parts of it the lines so far show.
+//!
+//! circ_grammar speaks of a proof as its lines write it, with numbers for terms. Here the numbers get
+//! their terms, by `term_for` of `specs`, and the lines their checks and limits.
+#![tactic(auto)]
