@@ -4,3 +4,5 @@
 //! circ_grammar speaks of a proof as its lines write it, with numbers for terms. Here the numbers get
 //! their terms, by `term_for` of `specs`, and the lines their checks and limits.
 #![tactic(auto)]
+
+pub mod laws;
