@@ -6,3 +6,7 @@ pub mod FineBlocks
 pub mod FineFronts
 pub mod Numbers
 pub mod ProofText
+pub mod SeenTerms
+pub mod Parts
+pub mod Wanted
+pub mod Standing

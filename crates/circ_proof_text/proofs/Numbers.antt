@@ -118,7 +118,7 @@ places_numbers : (ps : List (ℕ × ℕ)) → map place_numbers (map place_with 
 places_numbers [] = refl
 places_numbers (p ∷ ps) = ap (λ x. p ∷ x) (places_numbers ps)
 
-places_again : (gs : List Place) → map place_with (map place_numbers gs) ≡ gs
+pub places_again : (gs : List Place) → map place_with (map place_numbers gs) ≡ gs
 places_again [] = refl
 places_again (g ∷ gs) = ap (λ x. g ∷ x) (places_again gs)
 
