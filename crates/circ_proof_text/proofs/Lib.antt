@@ -10,3 +10,5 @@ pub mod SeenTerms
 pub mod Parts
 pub mod Wanted
 pub mod Standing
+pub mod Fitting
+pub mod Handed

@@ -79,7 +79,7 @@ steps_without n (Done ∷ ss) h = steps_without n ss h.1
 
 -- a list that is not empty, said in two ways
 
-not_empty : {X : Type 0} (xs : List X) → 0 < length xs → xs ≢ []
+pub not_empty : {X : Type 0} (xs : List X) → 0 < length xs → xs ≢ []
 not_empty [] h e = absurd (omega arith)
 not_empty (x ∷ xs) h e = absurd (cc)
 

@@ -3,4 +3,5 @@ pub mod ReadTable
 pub mod Checks
 pub mod ProofText
 pub mod Parts
+pub mod Fitting
 pub mod Reading
