@@ -1,5 +1,5 @@
 -- The parts that good lines show fit the theory, and so do those of a proof that fits.
-use Rattle.std.specs.Prelude.{◌≡◌, ◌≢◌, ℕ, ◌+◌, ◌<◌, ◌≤◌, List, [], ◌∷◌, ◌++◌, length, map, refl, Some}
+use Rattle.std.specs.Prelude.{◌≡◌, ℕ, ◌+◌, ◌<◌, ◌≤◌, List, [], ◌∷◌, ◌++◌, length, map, refl, Some}
 use Rattle.std.specs.List.{AllByRecursion}
 use Rattle.std.proofs.Common.{sym, ◌∙◌, ap, subst, arith, append_assoc, append-nil}
 use Rattle.std.proofs.lemmas.List.{map-append}
@@ -10,7 +10,7 @@ use Rattle.circ_theory.specs.WellFormed.{IsWellFormed}
 use Rattle.circ_special.specs.declared.place.Place.{Place}
 use Rattle.circ_replay.specs.Plain.{LinkOf}
 use Rattle.circ_replay.specs.Table.{term_limit}
-use Rattle.circ_rules.specs.Rules.{ProofStep, Simplify, Reduce, Derive, Done}
+use Rattle.circ_rules.specs.Rules.{Simplify, Reduce, Derive, Done}
 use Rattle.circ_rules.specs.Certified.{due}
 use Rattle.circ_rules.specs.Proof.{AreLinksFor, goal_of, step_limit, Proof, ProofFor}
 use Rattle.circ_line.specs.Line.{Line, block_line, simplify_line, reduce_line, end_line}
@@ -28,7 +28,7 @@ use Rattle.circ_proof_text.specs.TableText.{entries_of}
 use Rattle.circ_proof_text.specs.Checks.{nothing}
 use Rattle.circ_proof_text.specs.ProofText.{numbers_of}
 use Rattle.circ_proof_text.specs.Parts.{Part, Head, Certificate, Goals, Step, parts_of, place_with, part_with}
-use Rattle.circ_proof_text.specs.Fitting.{IsHeadFor, AreGoalsFor, FitSteps, FitBlocks, FitRest, Fit}
+use Rattle.circ_proof_text.specs.Fitting.{IsHeadFor, FitSteps, FitBlocks, FitRest, Fit}
 use Rattle.circ_proof_text.proofs.TableText.{one_table}
 use Rattle.circ_proof_text.proofs.Fine.{AllFine}
 use Rattle.circ_proof_text.proofs.FineBlocks.{seen, IsNumberedStepFor, IsNumberedBlockFor, numbered_steps_in, steps_to, names_to, blocks_to}

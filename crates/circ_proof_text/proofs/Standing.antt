@@ -22,7 +22,7 @@ use Rattle.circ_grammar.proofs.Shown.{next_shown}
 use Rattle.circ_proof_text.specs.Checks.{Seen, nothing, after, after_all, passes_at, limit_at}
 use Rattle.circ_proof_text.specs.ProofText.{numbers_of, rules, ReadsAsProof, FirstCause}
 use Rattle.circ_proof_text.specs.Parts.{Part, part_with, parts_of}
-use Rattle.circ_proof_text.specs.Reading.{Reading, kept, nothing_read, StandsFor, line_parts}
+use Rattle.circ_proof_text.specs.Reading.{Reading, kept, nothing_read, StandsFor, line_parts, after_line}
 use Rattle.circ_proof_text.proofs.TableText.{one_table}
 use Rattle.circ_proof_text.proofs.Fine.{AllFine}
 use Rattle.circ_proof_text.proofs.FineFronts.{HaveTerms}
@@ -92,10 +92,6 @@ brought : (m : State) (k : Reading) (l : Line) → now m ≡ k.under_way → map
 brought m k l e =
     sym (any_table k.seen.terms k.seen.terms (brings m l))
     ∙ ap (map (part_with k.seen.terms)) (line_part_is k.seen.terms m l ∙ ap (λ u. line_part k.seen.terms u l) e)
-
--- what is kept after the next line
-abbrev pub after_line : Theory → Reading → Line → Now → Reading
-after_line th k l n = record { lines = k.lines + 1; rest = []; under_way = n; seen = after th k.seen l; waiting = k.waiting ++ line_parts k l }
 
 -- A whole line is read: what is kept and some bytes are its text, and the line feed comes.
 pub takes_line : (th : Theory) (bytes more : List ℕ) (handed : List Part) (k : Reading) (l : Line) (n : Now) → StandsFor th bytes handed k

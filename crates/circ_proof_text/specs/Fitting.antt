@@ -10,7 +10,7 @@ use Rattle.circ_theory.specs.declared.parts.Goal.{Goal}
 use Rattle.circ_special.specs.declared.place.Place.{Place}
 use Rattle.circ_special.specs.Special.{IsSet}
 use Rattle.circ_replay.specs.Table.{term_limit}
-use Rattle.circ_rules.specs.Rules.{ProofStep, Done}
+use Rattle.circ_rules.specs.Rules.{Done}
 use Rattle.circ_rules.specs.Certified.{due}
 use Rattle.circ_rules.specs.Proof.{AreEntries, AreLinksFor, IsNameFor, IsStepFor, goal_of, step_limit}
 use Rattle.circ_proof_text.specs.Parts.{Part, Head, Certificate, Goals, Step}

@@ -1,12 +1,12 @@
 -- Where a reader stands that is fed a proof's text in pieces, and hands out its parts.
-use Rattle.std.specs.Prelude.{◌≡◌, ℕ, List, [], ◌++◌, map}
+use Rattle.std.specs.Prelude.{◌≡◌, ℕ, ◌+◌, List, [], ◌++◌, map}
 use Rattle.circ_theory.specs.Theory.{Theory}
 use Rattle.circ_line.specs.Line.{Line}
 use Rattle.circ_grammar.specs.Machine.{State}
 use Rattle.circ_grammar.specs.Now.{Now, Begin, line_part}
 use Rattle.circ_grammar.specs.Feeding.{Kept, IsFed}
 use Rattle.circ_grammar.specs.Shown.{shown}
-use Rattle.circ_proof_text.specs.Checks.{Seen, nothing, after_all}
+use Rattle.circ_proof_text.specs.Checks.{Seen, nothing, after, after_all}
 use Rattle.circ_proof_text.specs.ProofText.{rules}
 use Rattle.circ_proof_text.specs.Parts.{Part, part_with}
 
@@ -37,3 +37,7 @@ pub record StandsFor (th : Theory) (bytes : List ℕ) (handed : List Part) (k : 
 -- the parts that the next line shows
 abbrev pub line_parts : Reading → Line → List Part
 line_parts k l = map (part_with k.seen.terms) (line_part k.seen.terms k.under_way l)
+
+-- what is kept after the next line
+abbrev pub after_line : Theory → Reading → Line → Now → Reading
+after_line th k l n = record { lines = k.lines + 1; rest = []; under_way = n; seen = after th k.seen l; waiting = k.waiting ++ line_parts k l }
