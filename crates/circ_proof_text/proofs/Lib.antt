@@ -12,3 +12,4 @@ pub mod Wanted
 pub mod Standing
 pub mod Fitting
 pub mod Handed
+pub mod TriedExamples

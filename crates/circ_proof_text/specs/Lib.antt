@@ -1,3 +1,4 @@
+pub mod Examples
 pub mod TableText
 pub mod ReadTable
 pub mod Checks

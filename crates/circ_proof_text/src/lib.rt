@@ -5,5 +5,6 @@
 //! their terms, by `term_for` of `specs`, and the lines their checks and limits.
 #![tactic(auto)]
 
+pub mod examples;
 pub mod laws;
 pub mod reading;
