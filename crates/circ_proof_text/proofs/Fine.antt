@@ -4,7 +4,8 @@ use Rattle.std.specs.List.{AllByRecursion, list_all}
 use Rattle.std.proofs.Common.{sym, ◌∙◌, ap, subst, arith}
 use Rattle.std.proofs.lemmas.Bool.{and_parts, and_from, ltb-true, ltb-false, lt-ltb, le-ltb}
 use Rattle.circ_theory.specs.Theory.{Theory}
-use Rattle.circ_replay.specs.Plain.{LinkOf, Equation_link, Hypothesis_link, Assumption_link, Content_link, ChainOf, WhyOf, WhysOf, Same_why, Split_why, no_why, more_whys}
+use Rattle.circ_replay.specs.Plain.{LinkOf, Equation_link, Hypothesis_link, Assumption_link, Content_link, ChainOf}
+use Rattle.circ_replay.specs.Plain.{WhyOf, WhysOf, Same_why, Split_why, no_why, more_whys}
 use Rattle.circ_replay.specs.Table.{term_limit}
 use Rattle.circ_rules.specs.Proof.{IsNumber, IsPath, IsLinkFor, AreLinksFor, IsChainFor, IsWhyFor, AreWhysFor, split_limit}
 use Rattle.circ_rules.specs.Proof as rules
@@ -116,7 +117,7 @@ opens n ns = ap (λ b. if b then after_why ns else (n + 1) ∷ ns) (no_zero n)
 -- the whys after one
 whys_rest_to : (th : Theory) (c : Seen) (ns : List ℕ) (vs : WhysOf ℕ) (k : List Line)
     → (0 < why_count vs → AllFine th (wanting c (why_count vs ∷ ns)) (whys_lines vs k)
-        → AreWhysFor (length c.terms) (8 - suc (length ns)) vs × AllFine th (wanting c (after_why ns)) k)
+    → AreWhysFor (length c.terms) (8 - suc (length ns)) vs × AllFine th (wanting c (after_why ns)) k)
     → AllFine th (wanting c (after_why ((why_count vs + 1) ∷ ns))) (whys_lines vs k)
     → AreWhysFor (length c.terms) (8 - suc (length ns)) vs × AllFine th (wanting c (after_why ns)) k
 whys_rest_to th c ns no_why k ih h = (tt, h)
@@ -135,7 +136,7 @@ whys_rest_from th c ns (more_whys w vs) k ih h =
 -- the whys of a split that opens
 split_to : (th : Theory) (c : Seen) (ws : WhysOf ℕ) (k : List Line)
     → (0 < why_count ws → AllFine th (wanting c (why_count ws ∷ c.wanted)) (whys_lines ws k)
-        → AreWhysFor (length c.terms) (8 - suc (length c.wanted)) ws × AllFine th (wanting c (after_why c.wanted)) k)
+    → AreWhysFor (length c.terms) (8 - suc (length c.wanted)) ws × AllFine th (wanting c (after_why c.wanted)) k)
     → AllFine th (wanting c (after_split c.wanted (why_count ws))) (whys_lines ws k)
     → AreWhysFor (length c.terms) (8 - suc (length c.wanted)) ws × AllFine th (wanting c (after_why c.wanted)) k
 split_to th c no_why k ih h = (tt, h)
@@ -183,9 +184,12 @@ mutual
       let some : 1 ≤ 8 - length c.wanted = h.2 in
       let Q : ℕ → Type 0 = IsNumber in
       let n : IsNumber (why_count ws) = subst Q (same_count ws) h.3 in
-      chain_from th c ch (split_line t (why_count ws) ∷ whys_lines ws k) few h.0
-      ((is_number (length c.terms) t few h.1, (n, tt)), lt-ltb t (length c.terms) h.1, le-ltb 8 (length c.wanted + 1) (omega arith),
-        split_from th c ws k (λ z. whys_from th c c.wanted ws k few z hs f) f)
+      chain_from th c ch (split_line t (why_count ws) ∷ whys_lines ws k) few h.0 (
+        (is_number (length c.terms) t few h.1, (n, tt)),
+        lt-ltb t (length c.terms) h.1,
+        le-ltb 8 (length c.wanted + 1) (omega arith),
+        split_from th c ws k (λ z. whys_from th c c.wanted ws k few z hs f) f,
+      )
 
   pub whys_from : (th : Theory) (c : Seen) (ns : List ℕ) (ws : WhysOf ℕ) (k : List Line) → length c.terms ≤ term_limit → 0 < why_count ws
       → AreWhysFor (length c.terms) (8 - suc (length ns)) ws → AllFine th (wanting c (after_why ns)) k

@@ -119,9 +119,13 @@ module _ (th : Theory) (ts : List Tree) (gs : List Place) (n : ℕ) where
       let e : m + (length b.steps + 1) ≡ m + length b.steps + 1 = omega arith in
       let P : ℕ → Type 0 = λ x. AllFine th (seen ts gs n x) k in
       let ends : AllFine th (seen ts gs n (m + length b.steps)) (done_line ∷ k)
-          = (tt, refl, le-ltb step_limit (m + length b.steps + 1) (omega arith), subst P e f) in
-      (tt, eq-eqb n (length (due th gs)) w, refl, names_from m b.goals (lines_of step_lines b.steps (done_line ∷ k)) few h.names
-      (steps_from m b.steps (done_line ∷ k) few h.steps (omega arith) ends))
+      = (tt, refl, le-ltb step_limit (m + length b.steps + 1) (omega arith), subst P e f) in (
+        tt,
+        eq-eqb n (length (due th gs)) w,
+        refl,
+        names_from m b.goals (lines_of step_lines b.steps (done_line ∷ k)) few h.names
+            (steps_from m b.steps (done_line ∷ k) few h.steps (omega arith) ends),
+      )
 
   pub blocks_to : (m : ℕ) (bs : List NumberedBlock) (k : List Line) → m ≤ step_limit → AllFine th (seen ts gs n m) (lines_of block_lines bs k)
       → (0 < length bs → n ≡ length (due th gs)) × AllByRecursion (IsNumberedBlockFor ts) bs × (m + numbered_steps_in bs ≤ step_limit)

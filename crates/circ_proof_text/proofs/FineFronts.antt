@@ -50,8 +50,13 @@ certificates_from th ts gs n [] k few h l f = let e : n + 0 ≡ n = omega arith 
 certificates_from th ts gs n (c ∷ cs) k few h l f =
     let e : n + length (c ∷ cs) ≡ n + 1 + length cs = omega arith in
     let P : ℕ → Type 0 = λ x. AllFine th (seen ts gs x 0) k in
-    (tt, lt-ltb n (length (due th gs)) (omega arith), refl,
-    lefts_from th (seen ts gs (n + 1) 0) c (lines_of certificate_lines cs k) few h.0 (certificates_from th ts gs (n + 1) cs k few h.1 (omega arith) (subst P e f)))
+    let rest : AllFine th (seen ts gs (n + 1) 0) (lines_of certificate_lines cs k)
+    = certificates_from th ts gs (n + 1) cs k few h.1 (omega arith) (subst P e f) in (
+      tt,
+      lt-ltb n (length (due th gs)) (omega arith),
+      refl,
+      lefts_from th (seen ts gs (n + 1) 0) c (lines_of certificate_lines cs k) few h.0 rest,
+    )
 
 -- places
 
@@ -81,9 +86,12 @@ places_from th ts gs (g ∷ hs) k w i h f =
     let P : List Place → Type 0 = λ x. AllFine th (seen ts x 0 0) k in
     let Q : List Place → Type 0 = IsIncreasing in
     let e : gs ++ g ∷ hs ≡ (gs ++ g ∷ []) ++ hs = sym (append_assoc gs (g ∷ []) hs) in
-    let r : IsNumber g.op × IsNumber g.arg = place_numbers_in_range th g w h.0 in
-    ((r.0, (r.1, tt)), and_from (is_next gs g) (is_place th g) (increasing_next gs g hs i) ((place_tells th g).1 h.0), refl,
-    places_from th ts (gs ++ g ∷ []) hs k w (subst Q e i) h.1 (subst P e f))
+    let r : IsNumber g.op × IsNumber g.arg = place_numbers_in_range th g w h.0 in (
+      (r.0, (r.1, tt)),
+      and_from (is_next gs g) (is_place th g) (increasing_next gs g hs i) ((place_tells th g).1 h.0),
+      refl,
+      places_from th ts (gs ++ g ∷ []) hs k w (subst Q e i) h.1 (subst P e f),
+    )
 
 -- the table
 
@@ -155,21 +163,24 @@ table_to th ts [] k g l h =
     ([], record { lines = refl; entries = tt; sorted = tt; within = tt; few = omega arith }, subst P (sym (append-nil ts)) h)
 table_to th ts (l ∷ ls) k g few h =
     let r : (t : Tree) × IsFineEntry th ts l t × AllFine th (seen (ts ++ t ∷ []) [] 0 0) (lines_of table_lines ls k)
-        = entry_to th ts l (lines_of table_lines ls k) g h in
+    = entry_to th ts l (lines_of table_lines ls k) g h in
     let t : Tree = r.0 in
     let low : length ts < term_limit = r.1.few in
     let long : length (ts ++ t ∷ []) ≡ length ts + 1 = length-append ts (t ∷ []) in
     let q : (us : List Tree) × HaveTerms th (ts ++ t ∷ []) ls us × AllFine th (seen ((ts ++ t ∷ []) ++ us) [] 0 0) k
-        = table_to th (ts ++ t ∷ []) ls k (all_push (IsWellSorted th.signature) ts t g r.1.line.sorted) (omega (arith, low, long)) r.2 in
+    = table_to th (ts ++ t ∷ []) ls k (all_push (IsWellSorted th.signature) ts t g r.1.line.sorted) (omega (arith, low, long)) r.2 in
     let P : List Tree → Type 0 = λ x. AllFine th (seen x [] 0 0) k in
-    let short : length (ts ++ t ∷ []) + length q.0 ≤ term_limit = q.1.few in
-    (t ∷ q.0, record {
-      lines = ap (λ x. x ∷ entries_of (ts ++ t ∷ []) q.0) r.1.line.entry ∙ ap (λ x. l ∷ x) q.1.lines;
-      entries = (r.1.entry, q.1.entries);
-      sorted = (r.1.line.sorted, q.1.sorted);
-      within = (r.1.within, q.1.within);
-      few = omega (arith, short, long);
-    }, subst P (append_assoc ts (t ∷ []) q.0) q.2)
+    let short : length (ts ++ t ∷ []) + length q.0 ≤ term_limit = q.1.few in (
+      t ∷ q.0,
+      record {
+        lines = ap (λ x. x ∷ entries_of (ts ++ t ∷ []) q.0) r.1.line.entry ∙ ap (λ x. l ∷ x) q.1.lines;
+        entries = (r.1.entry, q.1.entries);
+        sorted = (r.1.line.sorted, q.1.sorted);
+        within = (r.1.within, q.1.within);
+        few = omega (arith, short, long);
+      },
+      subst P (append_assoc ts (t ∷ []) q.0) q.2,
+    )
 
 pub table_from : (th : Theory) (ts us : List Tree) (k : List Line) → IsWellFormed th → AreEntries ts us → AllByRecursion (IsWellSorted th.signature) us
     → AllByRecursion IsWithinLimits us → length ts + length us ≤ term_limit → AllFine th (seen (ts ++ us) [] 0 0) k

@@ -14,9 +14,11 @@ use Rattle.circ_rules.specs.Rules.{Simplify, Reduce, Derive, Done}
 use Rattle.circ_rules.specs.Certified.{due}
 use Rattle.circ_rules.specs.Proof.{AreLinksFor, goal_of, step_limit, Proof, ProofFor}
 use Rattle.circ_line.specs.Line.{Line, block_line, simplify_line, reduce_line, end_line}
-use Rattle.circ_grammar.specs.Grammar.{NumberedStep, Simplify_step, Reduce_step, Derive_step, NumberedBlock, NumberedProof, lines_of, place_lines, goal_lines}
+use Rattle.circ_grammar.specs.Grammar.{NumberedStep, Simplify_step, Reduce_step, Derive_step}
+use Rattle.circ_grammar.specs.Grammar.{NumberedBlock, NumberedProof, lines_of, place_lines, goal_lines}
 use Rattle.circ_grammar.specs.Grammar.{chain_lines, step_lines, certificate_lines, block_lines, proof_lines, HasGoals}
-use Rattle.circ_grammar.specs.Machine.{Front, OpenBlock, State, begin, tabling, placing, certifying, opened, stepping, simplifying, reducing, closed, ended}
+use Rattle.circ_grammar.specs.Machine.{Front, OpenBlock, State, begin, tabling, placing}
+use Rattle.circ_grammar.specs.Machine.{certifying, opened, stepping, simplifying, reducing, closed, ended}
 use Rattle.circ_grammar.specs.Machine.{front, run}
 use Rattle.circ_grammar.specs.Parts.{NumberedPart, Done_part, block_parts, blocks_parts, certificate_parts, step_parts}
 use Rattle.circ_grammar.specs.Parts as grammar
@@ -61,7 +63,7 @@ block_fit ts m b k g h l f =
     let a : List Part = map (part_with ts) (step_parts b.steps) in
     let s : FitSteps ts m (a ++ (Step Done ∷ k)) = steps_fit ts m b.steps (Step Done ∷ k) h.steps (omega arith) (omega arith, subst P e f) in
     let same : a ++ (Step Done ∷ k) ≡ map (part_with ts) (step_parts b.steps ++ Done_part ∷ []) ++ k
-        = sym (append_assoc a (Step Done ∷ []) k) ∙ ap (λ x. x ++ k) (sym (map-append (part_with ts) (step_parts b.steps) (Done_part ∷ []))) in
+    = sym (append_assoc a (Step Done ∷ []) k) ∙ ap (λ x. x ++ k) (sym (map-append (part_with ts) (step_parts b.steps) (Done_part ∷ []))) in
     (record { some_goal = not_empty b.goals g; names_fit = h.names; goals_are = refl }, subst Q same s)
 
 blocks_fit : (ts : List Tree) (m : ℕ) (bs : List NumberedBlock) (k : List Part) → AllByRecursion HasGoals bs → AllByRecursion (IsNumberedBlockFor ts) bs
@@ -73,10 +75,10 @@ blocks_fit ts m (b ∷ bs) k g h l f =
     let Q : List Part → Type 0 = λ x. FitBlocks ts m x in
     let a : List Part = map (part_with ts) (block_parts b) in
     let r : FitBlocks ts m (a ++ (map (part_with ts) (blocks_parts bs) ++ k))
-        = block_fit ts m b (map (part_with ts) (blocks_parts bs) ++ k) g.0 h.0 (omega arith)
-        (blocks_fit ts (m + (length b.steps + 1)) bs k g.1 h.1 (omega arith) (subst P e f)) in
+    = block_fit ts m b (map (part_with ts) (blocks_parts bs) ++ k) g.0 h.0 (omega arith)
+    (blocks_fit ts (m + (length b.steps + 1)) bs k g.1 h.1 (omega arith) (subst P e f)) in
     subst Q (sym (append_assoc a (map (part_with ts) (blocks_parts bs)) k)
-        ∙ ap (λ x. x ++ k) (sym (map-append (part_with ts) (block_parts b) (blocks_parts bs)))) r
+    ∙ ap (λ x. x ++ k) (sym (map-append (part_with ts) (block_parts b) (blocks_parts bs)))) r
 
 certificates_fit : (th : Theory) (ts : List Tree) (gs : List Place) (n : ℕ) (cs : List (List (LinkOf ℕ))) (k : List Part)
     → AllByRecursion (AreLinksFor (length ts)) cs → n + length cs ≤ length (due th gs) → FitRest th ts gs (n + length cs) k
@@ -139,27 +141,30 @@ front_to : (th : Theory) (f : Front) (k : List Line) → AllFine th nothing (fro
 front_to th f k h =
     let gs : List Place = map place_with f.places in
     let e : (us : List Tree) × HaveTerms th [] f.table us
-            × AllFine th (seen us [] 0 0) (lines_of place_lines f.places (lines_of certificate_lines f.certificates k))
-        = table_to th [] f.table (lines_of place_lines f.places (lines_of certificate_lines f.certificates k)) tt (omega arith) h.3 in
+    × AllFine th (seen us [] 0 0) (lines_of place_lines f.places (lines_of certificate_lines f.certificates k))
+    = table_to th [] f.table (lines_of place_lines f.places (lines_of certificate_lines f.certificates k)) tt (omega arith) h.3 in
     let ts : List Tree = e.0 in
     let g = places_to th ts [] f.places (lines_of certificate_lines f.certificates k) tt e.2 in
     let c = certificates_to th ts gs 0 f.certificates k (omega arith) g.1 in
     let z : 0 + length f.certificates ≡ length f.certificates = omega arith in
     let P : ℕ → Type 0 = λ x. AllFine th (seen ts gs x 0) k in
     let few : 0 + length f.certificates ≤ length (due th gs) = c.1 in
-    let short : 0 + length ts ≤ term_limit = e.1.few in
-    (ts, record {
-      lines = e.1.lines;
-      head = record {
-        sorted = e.1.sorted;
-        within = e.1.within;
-        entries = e.1.entries;
-        short_table = omega (arith, short);
-        set = record { increasing = g.0.increasing; places = g.0.places };
-      };
-      certificates_fit = c.0;
-      few = omega (arith, few);
-    }, subst P z c.2)
+    let short : 0 + length ts ≤ term_limit = e.1.few in (
+      ts,
+      record {
+        lines = e.1.lines;
+        head = record {
+          sorted = e.1.sorted;
+          within = e.1.within;
+          entries = e.1.entries;
+          short_table = omega (arith, short);
+          set = record { increasing = g.0.increasing; places = g.0.places };
+        };
+        certificates_fit = c.0;
+        few = omega (arith, few);
+      },
+      subst P z c.2,
+    )
 
 -- blocks that fit after such a front, and more parts after them
 record AreBlocksAfter (th : Theory) (f : Front) (ts : List Tree) (bs : List NumberedBlock) (k : List Part) : Type 0 where
@@ -181,9 +186,11 @@ whole_fit th f ts bs k fr h =
     let P : ℕ → Type 0 = λ x. FitRest th ts gs x (b ++ k) in
     let Q : List Part → Type 0 = λ x. FitRest th ts gs 0 x in
     let rest : FitRest th ts gs (length f.certificates) (b ++ k)
-        = go bs h.all_certified (blocks_fit ts 0 bs k h.have_goals h.blocks_for h.few_steps h.rest_fits) in
-    (fr.head, subst Q (sym (append_assoc a b k) ∙ ap (λ x. x ++ k) (sym (map-append (part_with ts) (certificate_parts f.certificates) (blocks_parts bs))))
-        (certificates_fit th ts gs 0 f.certificates (b ++ k) fr.certificates_fit (omega (arith, few)) (subst P z rest)))
+    = go bs h.all_certified (blocks_fit ts 0 bs k h.have_goals h.blocks_for h.few_steps h.rest_fits) in (
+      fr.head,
+      subst Q (sym (append_assoc a b k) ∙ ap (λ x. x ++ k) (sym (map-append (part_with ts) (certificate_parts f.certificates) (blocks_parts bs))))
+          (certificates_fit th ts gs 0 f.certificates (b ++ k) fr.certificates_fit (omega (arith, few)) (subst P z rest)),
+    )
   where
     no_block : (k : List Part) → (0 < length k → length f.certificates ≡ length (due th (map place_with f.places))) → FitBlocks ts 0 k
         → FitRest th ts (map place_with f.places) (length f.certificates) k
@@ -223,16 +230,20 @@ blocks_shows : (th : Theory) (f : Front) (bs : List NumberedBlock) (k : List Lin
 blocks_shows th f bs k g h =
     let gs : List Place = map place_with f.places in
     let r : (ts : List Tree) × IsFrontFor th f ts × AllFine th (seen ts gs (length f.certificates) 0) (lines_of block_lines bs k)
-        = front_to th f (lines_of block_lines bs k) h in
-    let b = blocks_to th r.0 gs (length f.certificates) 0 bs k (omega arith) r.2 in
-    (r.0, r.1.lines, r.1.head, nil_fit th r.0 (parts_with f bs) (whole_fit th f r.0 bs [] r.1 (record {
-      all_certified = b.0;
-      have_goals = g;
-      blocks_for = b.1;
-      few_steps = b.2;
-      certified_before = λ z. absurd (omega arith);
-      rest_fits = tt;
-    })))
+    = front_to th f (lines_of block_lines bs k) h in
+    let b = blocks_to th r.0 gs (length f.certificates) 0 bs k (omega arith) r.2 in (
+      r.0,
+      r.1.lines,
+      r.1.head,
+      nil_fit th r.0 (parts_with f bs) (whole_fit th f r.0 bs [] r.1 (record {
+        all_certified = b.0;
+        have_goals = g;
+        blocks_for = b.1;
+        few_steps = b.2;
+        certified_before = λ z. absurd (omega arith);
+        rest_fits = tt;
+      })),
+    )
 
 open_shows : (th : Theory) (o : OpenBlock) (k : List Line) → HasWholeGoals o → AllFine th nothing (open_lines o k) → Shows th o.front (open_parts o)
 open_shows th o k g h =
@@ -241,7 +252,7 @@ open_shows th o k g h =
     let gs : List Place = map place_with f.places in
     let rest : List Line = lines_of goal_lines o.goals (lines_of step_lines o.steps k) in
     let r : (ts : List Tree) × IsFrontFor th f ts × AllFine th (seen ts gs (length f.certificates) 0) (lines_of block_lines bs (block_line ∷ rest))
-        = front_to th f (lines_of block_lines bs (block_line ∷ rest)) h in
+    = front_to th f (lines_of block_lines bs (block_line ∷ rest)) h in
     let ts : List Tree = r.0 in
     let b = blocks_to th ts gs (length f.certificates) 0 bs (block_line ∷ rest) (omega arith) r.2 in
     let m : ℕ = 0 + numbered_steps_in bs in
@@ -252,7 +263,7 @@ open_shows th o k g h =
     let x : List Part = Goals (map (goal_of ts) o.goals) o.goals ∷ map (part_with ts) (step_parts o.steps) in
     let P : List Part → Type 0 = λ y. FitSteps ts m y in
     let inner : FitSteps ts m (map (part_with ts) (step_parts o.steps))
-        = subst P (append-nil (map (part_with ts) (step_parts o.steps))) (steps_fit ts m o.steps [] s.0 s.1 tt) in
+    = subst P (append-nil (map (part_with ts) (step_parts o.steps))) (steps_fit ts m o.steps [] s.0 s.1 tt) in
     let a : Fit th (map (part_with ts) (parts_with f bs) ++ x) = whole_fit th f ts bs x r.1 (record {
       all_certified = b.0;
       have_goals = g.0;
@@ -320,7 +331,7 @@ parts_fit th p w f =
     let a = fits_fine th p w f in
     let q : NumberedProof = numbers_of p in
     let s : Shows th (front q.table q.places q.certificates) (grammar.parts_of q)
-        = lines_show th (proof_lines q) (ended (front q.table q.places q.certificates) q.blocks) (proof_run q a.0) a.1 in
+    = lines_show th (proof_lines q) (ended (front q.table q.places q.certificates) q.blocks) (proof_run q a.0) a.1 in
     let same : s.0 ≡ p.table = one_table th.signature [] s.0 p.table s.2.entries f.entries s.2.sorted f.sorted s.1 in
     let P : List Tree → Type 0 = λ x. Fit th (map (part_with x) (grammar.parts_of q)) in
     let Q : List Part → Type 0 = Fit th in

@@ -34,7 +34,7 @@ pub handed_fit : (th : Theory) (bytes : List ℕ) (handed : List Part) (k : Read
 handed_fit th bytes handed k s =
     let a = fine_lines th [] s.whole_lines s.fed.at.fit s.fed.at.pass s.fed.at.within in
     let all : Fit th (map (part_with k.seen.terms) (shown s.state))
-        = shows_fit th s.state k.seen.terms (standing_terms th bytes handed k s) (lines_show th s.whole_lines s.state s.fed.at.state a) in
+    = shows_fit th s.state k.seen.terms (standing_terms th bytes handed k s) (lines_show th s.whole_lines s.state s.fed.at.state a) in
     let P : List Part → Type 0 = Fit th in
     fit_cut th handed k.waiting (subst P s.parts all)
 
@@ -108,7 +108,7 @@ module _ (th : Theory) (bytes later : List ℕ) (handed : List Part) (k : Readin
       go (inr (ps, ys, some)) =
           let lines : entries_of [] p.table ≡ table_of s.state = ap table_in e ∙ ap (λ x. table_in (x ++ xs)) some in
           let own : p.table ≡ k.seen.terms
-              = one_table th.signature [] p.table k.seen.terms r.proof_for.entries t.entries r.proof_for.sorted t.sorted (lines ∙ sym t.lines) in
+          = one_table th.signature [] p.table k.seen.terms r.proof_for.entries t.entries r.proof_for.sorted t.sorted (lines ∙ sym t.lines) in
           ap (λ x. map (part_with x) (shown s.state)) own
 
   -- What is handed out and what waits are those parts of the proof that so many lines show, the first ones.
@@ -116,10 +116,11 @@ module _ (th : Theory) (bytes later : List ℕ) (handed : List Part) (k : Readin
   handed_first s r =
       let m = goes_on s r in
       let t : IsTextOf (rules th) (numbers_of p) (bytes ++ later) = reads_text th (bytes ++ later) p w r in
-      let x = shown_first s.whole_lines m.0 s.state (numbers_of p) s.fed.at.state t.parts m.1 in
-      (map (part_with p.table) x.0,
-      sym (parts_are th p r.proof_for) ∙ ap (map (part_with p.table)) x.1 ∙ map-append (part_with p.table) (shown s.state) x.0
-      ∙ ap (λ y. y ++ map (part_with p.table) x.0) (with_its_terms s r x.0 x.1))
+      let x = shown_first s.whole_lines m.0 s.state (numbers_of p) s.fed.at.state t.parts m.1 in (
+        map (part_with p.table) x.0,
+        sym (parts_are th p r.proof_for) ∙ ap (map (part_with p.table)) x.1 ∙ map-append (part_with p.table) (shown s.state) x.0
+            ∙ ap (λ y. y ++ map (part_with p.table) x.0) (with_its_terms s r x.0 x.1),
+      )
 
   pub handed_counted : StandsFor th bytes handed k → ReadsAsProof th (bytes ++ later) p
       → handed ++ k.waiting ≡ map (part_with p.table) (shown_by k.lines (grammar.parts_of (numbers_of p)))

@@ -96,13 +96,16 @@ length-of f (x ∷ xs) = omega (arith, length-of f xs)
 blocks_fit : (ts : List Tree) (bs : List NumberedBlock) → AllByRecursion HasGoals bs → AllByRecursion (IsNumberedBlockFor ts) bs
     → AllByRecursion (IsBlockFor ts) (map (block_with ts) bs)
 blocks_fit ts [] g h = tt
-blocks_fit ts (b ∷ bs) g h = (record {
-  some_goal = not_empty b.goals g.0;
-  names = h.0.names;
-  goals = refl;
-  steps = steps_with (length ts) b.steps h.0.steps;
-  ended = is_ended b.steps;
-}, blocks_fit ts bs g.1 h.1)
+blocks_fit ts (b ∷ bs) g h = (
+  record {
+    some_goal = not_empty b.goals g.0;
+    names = h.0.names;
+    goals = refl;
+    steps = steps_with (length ts) b.steps h.0.steps;
+    ended = is_ended b.steps;
+  },
+  blocks_fit ts bs g.1 h.1,
+)
 
 count_with : (ts : List Tree) (bs : List NumberedBlock) → steps_in (map (block_with ts) bs) ≡ numbered_steps_in bs
 count_with ts [] = refl
@@ -132,7 +135,7 @@ numbers_with ts q e =
       blocks = map block_numbers (map (block_with ts) q.blocks);
     }) e
     ∙ ap (λ x. record { table = q.table; places = x; certificates = q.certificates; blocks = map block_numbers (map (block_with ts) q.blocks) })
-        (places_numbers q.places)
+    (places_numbers q.places)
     ∙ ap (λ x. record { table = q.table; places = q.places; certificates = q.certificates; blocks = x }) (blocks_numbers ts q.blocks)
 
 -- the lines after the table
@@ -146,7 +149,7 @@ after_places q = lines_of certificate_lines q.certificates (lines_of block_lines
 pub fine_fits : (th : Theory) (q : NumberedProof) → HasParts q → AllFine th nothing (proof_lines q) → (p : Proof) × ProofFor th p × (numbers_of p ≡ q)
 fine_fits th q parts h =
     let e : (us : List Tree) × HaveTerms th [] q.table us × AllFine th (seen us [] 0 0) (after_table q)
-        = table_to th [] q.table (after_table q) tt (omega arith) h.3 in
+    = table_to th [] q.table (after_table q) tt (omega arith) h.3 in
     let ts : List Tree = e.0 in
     let g = places_to th ts [] q.places (after_places q) tt e.2 in
     let gs : List Place = map place_with q.places in
@@ -180,7 +183,7 @@ count_without : (ts : List Tree) (bs : List Block) → AllByRecursion (IsBlockFo
 count_without ts [] h = refl
 count_without ts (b ∷ bs) h =
     let e : length b.steps ≡ length (without_done b.steps) + 1
-        = ap length (sym (with-without b.steps h.0.ended)) ∙ length-with (without_done b.steps) in
+    = ap length (sym (with-without b.steps h.0.ended)) ∙ length-with (without_done b.steps) in
     omega (arith, e, count_without ts bs h.1)
 
 -- The lines of a proof that fits follow the grammar, and are fine.
@@ -213,7 +216,7 @@ blocks_again ts (b ∷ bs) h =
 again : (th : Theory) (p : Proof) → ProofFor th p → proof_with p.table (numbers_of p) ≡ p
 again th p f =
     ap (λ x. record { table = p.table; places = x; certificates = p.certificates; blocks = map (block_with p.table) (map block_numbers p.blocks) })
-        (places_again p.places)
+    (places_again p.places)
     ∙ ap (λ x. record { table = p.table; places = p.places; certificates = p.certificates; blocks = x }) (blocks_again p.table p.blocks f.blocks)
 
 pub one_proof : (th : Theory) (p q : Proof) → ProofFor th p → ProofFor th q → numbers_of p ≡ numbers_of q → p ≡ q

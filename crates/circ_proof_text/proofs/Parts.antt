@@ -34,7 +34,7 @@ blocks_with ts [] h = refl
 blocks_with ts (b ∷ bs) h =
     map-append (part_with ts) (grammar.block_parts (block_numbers b)) (grammar.blocks_parts (map block_numbers bs))
     ∙ ap (λ x. (Goals (map (goal_of ts) b.names) b.names ∷ map (part_with ts) (grammar.step_parts (without_done b.steps) ++ Done_part ∷ [])) ++ x)
-        (blocks_with ts bs h.1)
+    (blocks_with ts bs h.1)
     ∙ ap (λ x. Goals (map (goal_of ts) b.names) b.names ∷ x ++ block_parts bs) (steps_with ts b.steps h.0.ended)
     ∙ ap (λ x. Goals x b.names ∷ step_parts b.steps ++ block_parts bs) (sym h.0.goals)
 
@@ -46,9 +46,9 @@ certificates_with ts (c ∷ cs) = ap (λ x. Certificate c ∷ x) (certificates_w
 pub parts_are : (th : Theory) (p : Proof) → ProofFor th p → map (part_with p.table) (grammar.parts_of (numbers_of p)) ≡ parts_of p
 parts_are th p f =
     ap (λ x. Head p.table (map place_with (map place_numbers p.places)) ∷ x)
-        (map-append (part_with p.table) (grammar.certificate_parts p.certificates) (grammar.blocks_parts (map block_numbers p.blocks))
-        ∙ ap (λ x. x ++ map (part_with p.table) (grammar.blocks_parts (map block_numbers p.blocks))) (certificates_with p.table p.certificates)
-        ∙ ap (λ x. certificate_parts p.certificates ++ x) (blocks_with p.table p.blocks f.blocks))
+    (map-append (part_with p.table) (grammar.certificate_parts p.certificates) (grammar.blocks_parts (map block_numbers p.blocks))
+    ∙ ap (λ x. x ++ map (part_with p.table) (grammar.blocks_parts (map block_numbers p.blocks))) (certificates_with p.table p.certificates)
+    ∙ ap (λ x. certificate_parts p.certificates ++ x) (blocks_with p.table p.blocks f.blocks))
     ∙ ap (λ x. Head p.table x ∷ certificate_parts p.certificates ++ block_parts p.blocks) (places_again p.places)
 
 -- What stands for the table in a part does not matter.
@@ -112,5 +112,5 @@ pub parts_gathered : (th : Theory) (p : Proof) → ProofFor th p → gather_all 
 parts_gathered th p f =
     certificates_gathered (gather nothing_gathered (Head p.table p.places)) p.certificates (block_parts p.blocks)
     ∙ blocks_gathered p.table
-        (record { table = p.table; places = p.places; certificates = p.certificates; blocks = []; goals = []; names = []; steps = [] })
-        p.blocks f.blocks refl refl refl
+    (record { table = p.table; places = p.places; certificates = p.certificates; blocks = []; goals = []; names = []; steps = [] })
+    p.blocks f.blocks refl refl refl

@@ -47,8 +47,8 @@ place_tells th g = (λ e. to_place (slice_get th.signature.ops g.op) refl e, fro
     from_place h =
         ap (λ o. option_map_or (λ o. is_hidden th o.result && option_map_or (is_hidden th) (slice_get o.args g.arg) false) o false) h.listed
         ∙ and_from (is_hidden th h.operator.result) (option_map_or (is_hidden th) (slice_get h.operator.args g.arg) false)
-            ((hidden_tells th h.operator.result).1 h.hidden)
-            (ap (λ s. option_map_or (is_hidden th) s false) h.argument ∙ (hidden_tells th h.sort).1 h.hidden_argument)
+        ((hidden_tells th h.operator.result).1 h.hidden)
+        (ap (λ s. option_map_or (is_hidden th) s false) h.argument ∙ (hidden_tells th h.sort).1 h.hidden_argument)
 
 -- the numbers of a place are in range
 pub place_numbers_in_range : (th : Theory) (g : Place) → IsWellFormed th → IsPlace th g → IsNumber g.op × IsNumber g.arg

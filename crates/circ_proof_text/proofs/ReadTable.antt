@@ -1,5 +1,6 @@
 -- The different lines and the marks decide which numbers are the least of their terms: equal lines are equal terms.
-use Rattle.std.specs.Prelude.{◌≡◌, ℕ, ◌+◌, ◌<◌, ◌==◌, ◌||◌, nat_eq, not, Bool, true, false, if◌then◌else◌, List, [], ◌∷◌, ◌++◌, length, map, refl, Option, Some, None, zero, suc}
+use Rattle.std.specs.Prelude.{◌≡◌, ℕ, ◌+◌, ◌<◌, ◌==◌, ◌||◌, nat_eq, not, Bool, true, false, if◌then◌else◌}
+use Rattle.std.specs.Prelude.{List, [], ◌∷◌, ◌++◌, length, map, refl, Option, Some, None, zero, suc}
 use Rattle.std.specs.List.{slice_get, list_any, AllByRecursion}
 use Rattle.std.specs.Option.{option_map, option_and_then}
 use Rattle.std.specs.Cmp.Lexicographic.{pointwise}
@@ -87,22 +88,29 @@ new_line sig ts l t b g f = go (is_among (entries_of [] ts) l) refl
   where
     line : HasEntry sig ts l t
     line = term_entry sig ts l t g f
+
     back : is_among (entries_of [] ts) l ≡ true → has ts t ≡ true
     back h =
-        let r : (n : ℕ) × (slice_get (map (entry_of ts) ts) n ≡ Some l) = among_to (map (entry_of ts) ts) l (ap (λ x. is_among x l) (sym (entries_of-map [] ts b)) ∙ h) in
+        let r : (n : ℕ) × (slice_get (map (entry_of ts) ts) n ≡ Some l)
+        = among_to (map (entry_of ts) ts) l (ap (λ x. is_among x l) (sym (entries_of-map [] ts b)) ∙ h) in
         there r.0 (slice_get ts r.0) refl (sym (slice_get-map (entry_of ts) ts r.0) ∙ r.1)
       where
         there : (n : ℕ) (o : Option Tree) → slice_get ts n ≡ o → option_map (entry_of ts) (slice_get ts n) ≡ Some l → has ts t ≡ true
         there n None a q = absurd (let z = rw a at q in cc)
         there n (Some u) a q =
             let same : entry_of ts u ≡ l = same_Some (entry_of ts u) l (ap (option_map (entry_of ts)) (sym a) ∙ q) in
-            let one : u ≡ t = same_Some u t (sym (entry_term sig ts u (entries_args [] ts n u b a) (all_at (IsWellSorted sig) ts n u g a)) ∙ ap (term_for sig ts) same ∙ f) in
+            let own : term_for sig ts (entry_of ts u) ≡ Some u
+            = entry_term sig ts u (entries_args [] ts n u b a) (all_at (IsWellSorted sig) ts n u g a) in
+            let one : u ≡ t = same_Some u t (sym own ∙ ap (term_for sig ts) same ∙ f) in
             has_at ts t n (a ∙ ap (λ x. Some x) one)
+
     forth : has ts t ≡ true → is_among (entries_of [] ts) l ≡ true
     forth h =
-        let there : slice_get ts (number_in ts t) ≡ Some t = number_names ts t h in
-        ap (λ x. is_among x l) (entries_of-map [] ts b)
-        ∙ among_from (map (entry_of ts) ts) l (number_in ts t) (slice_get-map (entry_of ts) ts (number_in ts t) ∙ ap (option_map (entry_of ts)) there ∙ ap (λ x. Some x) line.entry)
+        let n : ℕ = number_in ts t in
+        let there : slice_get (map (entry_of ts) ts) n ≡ Some l
+        = slice_get-map (entry_of ts) ts n ∙ ap (option_map (entry_of ts)) (number_names ts t h) ∙ ap (λ x. Some x) line.entry in
+        ap (λ x. is_among x l) (entries_of-map [] ts b) ∙ among_from (map (entry_of ts) ts) l n there
+
     go : (a : Bool) → is_among (entries_of [] ts) l ≡ a → is_among (entries_of [] ts) l ≡ has ts t
     go true h = h ∙ sym (back h)
     go false h = h ∙ sym (out (has ts t) refl)
@@ -156,22 +164,25 @@ mark_here before us t = go (has before t) refl
         let f : number_in (before ++ t ∷ us) t ≡ length before = number_here before us t e in
         ap not e ∙ sym (eq-eqb (number_in (before ++ t ∷ us) t) (length before + 0) (omega (arith, f)))
 
-marked_from : (before ts : List Tree) (n : ℕ) → marked_at (marks_of before ts) ts n
-    ≡ option_and_then (λ t. if number_in (before ++ ts) t == length before + n then Some t else None) (slice_get ts n)
+-- the term, if there is one and its number in the table is n
+abbrev numbered : List Tree → (n : ℕ) → Option Tree → Option Tree
+numbered table n o = option_and_then (λ t. if number_in table t == n then Some t else None) o
+
+marked_from : (before ts : List Tree) (n : ℕ) → marked_at (marks_of before ts) ts n ≡ numbered (before ++ ts) (length before + n) (slice_get ts n)
 marked_from before [] n = refl
 marked_from before (t ∷ ts) zero = ap (λ b. if b then Some t else None) (mark_here before ts t)
 marked_from before (t ∷ ts) (suc n) =
     let long : length (before ++ t ∷ []) + n ≡ length before + suc n = omega (arith, length-append before (t ∷ [])) in
     marked_from (before ++ t ∷ []) ts n
-    ∙ ap (λ x. option_and_then (λ u. if number_in x u == length (before ++ t ∷ []) + n then Some u else None) (slice_get ts n)) (append_assoc before (t ∷ []) ts)
-    ∙ ap (λ m. option_and_then (λ u. if number_in (before ++ t ∷ ts) u == m then Some u else None) (slice_get ts n)) long
+    ∙ ap (λ x. numbered x (length (before ++ t ∷ []) + n) (slice_get ts n)) (append_assoc before (t ∷ []) ts)
+    ∙ ap (λ m. numbered (before ++ t ∷ ts) m (slice_get ts n)) long
 
 -- What a reader answers by its marks is the term of which the number is the least.
 pub marked_first : (sig : Signature) (table : List Tree) (lines : List TableLine) (marks : List Bool) → IsReadTable sig table lines marks
     → (n : ℕ) → marked_at marks table n ≡ first_at table n
 marked_first sig table lines marks k n = let e : 0 + n ≡ n = omega arith in
     ap (λ m. marked_at m table n) k.marks_are
-    ∙ marked_from [] table n ∙ ap (λ m. option_and_then (λ u. if number_in table u == m then Some u else None) (slice_get table n)) e
+    ∙ marked_from [] table n ∙ ap (λ m. numbered table m (slice_get table n)) e
 
 any_push : (p : TableLine → Bool) (xs : List TableLine) (x : TableLine) → list_any p (xs ++ x ∷ []) ≡ (list_any p xs || p x)
 any_push p [] x = go (p x)
@@ -189,15 +200,17 @@ pub nothing_kept : (sig : Signature) → IsReadTable sig [] [] []
 nothing_kept sig = record { entries = tt; sorted = tt; lines_are = λ l. refl; marks_are = refl }
 
 -- A line more: its mark is whether the set of lines did not have it.
-pub kept_grows : (sig : Signature) (table : List Tree) (lines : List TableLine) (marks : List Bool) (l : TableLine) (t : Tree) → IsReadTable sig table lines marks
-    → term_for sig table l ≡ Some t → IsInRange (table_line l) → IsReadTable sig (table ++ t ∷ []) (with_line lines l) (marks ++ not (is_among lines l) ∷ [])
+pub kept_grows : (sig : Signature) (table : List Tree) (lines : List TableLine) (marks : List Bool) (l : TableLine) (t : Tree)
+    → IsReadTable sig table lines marks → term_for sig table l ≡ Some t → IsInRange (table_line l)
+    → IsReadTable sig (table ++ t ∷ []) (with_line lines l) (marks ++ not (is_among lines l) ∷ [])
 kept_grows sig table lines marks l t k f r =
     let line : HasEntry sig table l t = term_entry sig table l t k.sorted f in
     let new : is_among lines l ≡ has table t = k.lines_are l ∙ new_line sig table l t k.entries k.sorted f in
     record {
       entries = are_entries-push [] table t k.entries (is_entry sig table l t line r);
       sorted = all_push (IsWellSorted sig) table t k.sorted line.sorted;
-      lines_are = λ m. among m (is_among lines l) refl ∙ sym (ap (λ x. is_among x m) (entries_of-push [] table t ∙ ap (λ x. entries_of [] table ++ x ∷ []) line.entry));
+      lines_are = λ m. among m (is_among lines l) refl
+          ∙ sym (ap (λ x. is_among x m) (entries_of-push [] table t ∙ ap (λ x. entries_of [] table ++ x ∷ []) line.entry));
       marks_are = ap (λ x. x ++ not (is_among lines l) ∷ []) k.marks_are ∙ ap (λ b. marks_of [] table ++ not b ∷ []) new ∙ sym (marks_of-push [] table t);
     }
   where
@@ -211,6 +224,7 @@ kept_grows sig table lines marks l t k f r =
         go : (x y : Bool) → y ≡ false → x ≡ (x || y)
         go true y h = refl
         go false y h = sym h
+
     among : (m : TableLine) (b : Bool) → is_among lines l ≡ b → is_among (with_line lines l) m ≡ is_among (entries_of [] table ++ l ∷ []) m
     among m true a = ap (λ b. is_among (if b then lines else lines ++ l ∷ []) m) a ∙ same_or m (is_same_line m l) refl a
         ∙ ap (λ b. b || is_same_line m l) (k.lines_are m) ∙ sym (any_push (is_same_line m) (entries_of [] table) l)

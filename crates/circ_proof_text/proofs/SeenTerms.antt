@@ -123,7 +123,7 @@ table_gives : (th : Theory) (ts us : List Tree) (k : List Line) → AreEntries t
 table_gives th ts [] k b g = ap (λ x. after_all th (seen x [] 0 0) k) (sym (append-nil ts))
 table_gives th ts (u ∷ us) k b g =
     ap (λ o. after_all th (with_term (seen ts [] 0 0) o) (lines_of table_lines (entries_of (ts ++ u ∷ []) us) k))
-        (entry_term th.signature ts u (entry_args ts u b.0) g.0)
+    (entry_term th.signature ts u (entry_args ts u b.0) g.0)
     ∙ table_gives th (ts ++ u ∷ []) us k b.1 g.1 ∙ ap (λ x. after_all th (seen x [] 0 0) k) (append_assoc ts (u ∷ []) us)
 
 -- the lines of a table and then lines that are none of it
@@ -136,7 +136,7 @@ table_terms th es k n h =
     let r : (us : List Tree) × HaveTerms th [] es us × AllFine th (seen us [] 0 0) k = table_to th [] es k tt (omega arith) h.3 in
     let P : List Tree → Type 0 = HaveTerms th [] es in
     subst P (sym (ap (λ x. (after_all th (seen [] [] 0 0) (lines_of table_lines x k)).terms) (sym r.1.lines)
-        ∙ ap (λ x. x.terms) (table_gives th [] r.0 k r.1.entries r.1.sorted) ∙ terms_stay th (seen r.0 [] 0 0) k n)) r.1
+    ∙ ap (λ x. x.terms) (table_gives th [] r.0 k r.1.entries r.1.sorted) ∙ terms_stay th (seen r.0 [] 0 0) k n)) r.1
 
 front_terms : (th : Theory) (f : Front) (k : List Line) → NoTable k → AllFine th nothing (front_lines f k)
     → HaveTerms th [] f.table (after_all th nothing (front_lines f k)).terms

@@ -99,7 +99,7 @@ pub takes_line : (th : Theory) (bytes more : List ℕ) (handed : List Part) (k :
     → StandsFor th (bytes ++ (more ++ (10 ∷ []))) handed (after_line th k l n)
 takes_line th bytes more handed k l n s fits e g pass within =
     let f = fed_line (rules th) bytes more s.whole_lines s.state (kept k) l n s.fed fits e g
-        (ap (λ c. passes_at th c l) (sym s.seen) ∙ pass) (ap (λ c. limit_at th c l) (sym s.seen) ∙ within) in
+    (ap (λ c. passes_at th c l) (sym s.seen) ∙ pass) (ap (λ c. limit_at th c l) (sym s.seen) ∙ within) in
     record {
       whole_lines = s.whole_lines ++ (l ∷ []);
       state = f.0;
@@ -152,10 +152,13 @@ ends th bytes handed k s r u =
     let p : (p : Proof) × ReadsAsProof th bytes p × (numbers_of p ≡ proof_of f bs) = text_reads th bytes (proof_of f bs) w.3 in
     let t : HaveTerms th [] (table_of s.state) k.seen.terms = standing_terms th bytes handed k s in
     let own : k.seen.terms ≡ p.0.table
-        = one_table th.signature [] k.seen.terms p.0.table t.entries p.1.proof_for.entries t.sorted p.1.proof_for.sorted
-        (t.lines ∙ ap table_of w.2 ∙ sym (ap (λ x. x.table) p.2)) in
-    (p.0, p.1, sym s.parts ∙ ap (λ x. map (part_with x) (shown s.state)) own ∙ ap (λ x. map (part_with p.0.table) (shown x)) w.2
-        ∙ ap (λ x. map (part_with p.0.table) (grammar.parts_of x)) (sym p.2) ∙ parts_are th p.0 p.1.proof_for)
+    = one_table th.signature [] k.seen.terms p.0.table t.entries p.1.proof_for.entries t.sorted p.1.proof_for.sorted
+    (t.lines ∙ ap table_of w.2 ∙ sym (ap (λ x. x.table) p.2)) in (
+      p.0,
+      p.1,
+      sym s.parts ∙ ap (λ x. map (part_with x) (shown s.state)) own ∙ ap (λ x. map (part_with p.0.table) (shown x)) w.2
+          ∙ ap (λ x. map (part_with p.0.table) (grammar.parts_of x)) (sym p.2) ∙ parts_are th p.0 p.1.proof_for,
+    )
 
 -- The bytes are at their end, and not whole.
 pub ends_badly : (th : Theory) (bytes : List ℕ) (handed : List Part) (k : Reading) → StandsFor th bytes handed k

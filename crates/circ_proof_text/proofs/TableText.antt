@@ -1,5 +1,6 @@
 -- The line of a term has this term, and a line that has a term is that term's line.
-use Rattle.std.specs.Prelude.{◌≡◌, ℕ, ◌<◌, ◌==◌, nat_eq, nat_lt, Bool, true, false, ◌||◌, if◌then◌else◌, List, [], ◌∷◌, ◌++◌, length, map, refl, Option, Some, None, zero, suc}
+use Rattle.std.specs.Prelude.{◌≡◌, ℕ, ◌<◌, ◌==◌, nat_eq, nat_lt, Bool, true, false, ◌||◌, if◌then◌else◌}
+use Rattle.std.specs.Prelude.{List, [], ◌∷◌, ◌++◌, length, map, refl, Option, Some, None, zero, suc}
 use Rattle.std.specs.List.{slice_get, AllByRecursion}
 use Rattle.std.specs.Option.{option_map, option_and_then}
 use Rattle.std.specs.Cmp.Lexicographic.{pointwise}
@@ -152,7 +153,7 @@ term_entry sig table (Application_line f ns) t g e = go (firsts_at table ns) ref
     go (Some ts) h e =
         let a : Have table ts × (map (number_in table) ts ≡ ns) = firsts_some table ns ts h in
         let m : (s : ℕ) × (t ≡ App f s (trees_of ts)) × IsWellSorted sig (App f s (trees_of ts))
-            = application_some sig f ts t (sorted_among sig table ts g a.0) e in
+        = application_some sig f ts t (sorted_among sig table ts g a.0) e in
         let P : Tree → Type 0 = HasEntry sig table (Application_line f ns) in
         let Q : List Tree → Type 0 = Have table in
         subst P (sym m.1) (record {
@@ -178,7 +179,7 @@ one_table sig before (t ∷ ts) [] b c g h e = absurd (cc)
 one_table sig before (t ∷ ts) (u ∷ us) b c g h e =
     let first : entry_of before t ≡ entry_of before u = cc in
     let same : t ≡ u = same_Some t u (sym (entry_term sig before t (entry_args before t b.0) g.0)
-        ∙ ap (term_for sig before) first ∙ entry_term sig before u (entry_args before u c.0) h.0) in
+    ∙ ap (term_for sig before) first ∙ entry_term sig before u (entry_args before u c.0) h.0) in
     let P : Tree → Type 0 = λ x. AreEntries (before ++ x ∷ []) ts in
     let rest : entries_of (before ++ t ∷ []) ts ≡ entries_of (before ++ u ∷ []) us = cc in
     let back : entries_of (before ++ u ∷ []) ts ≡ entries_of (before ++ t ∷ []) ts = ap (λ x. entries_of (before ++ x ∷ []) ts) (sym same) in

@@ -1,5 +1,6 @@
 -- The whys that open splits still want are told by the part under way.
-use Rattle.std.specs.Prelude.{◌≡◌, ℕ, ◌+◌, ◌-◌, ◌<◌, nat_lt, nat_eq, cond, Bool, true, false, if◌then◌else◌, List, [], ◌∷◌, length, map, refl, Option, Some, None}
+use Rattle.std.specs.Prelude.{◌≡◌, ℕ, ◌+◌, ◌-◌, ◌<◌, nat_lt, nat_eq, cond, Bool, true}
+use Rattle.std.specs.Prelude.{false, if◌then◌else◌, List, [], ◌∷◌, length, map, refl, Option, Some, None}
 use Rattle.std.specs.List.{AllByRecursion}
 use Rattle.std.specs.Option.{option_map, option_and_then}
 use Rattle.std.proofs.Common.{sym, ◌∙◌, ap, arith}
@@ -71,38 +72,41 @@ after_wanted th c end_line = refl
 
 -- a why is given
 
+-- a split with one why more, and the why that it is when it is whole
+
+abbrev with_why : OpenSplit → WhyOf ℕ → OpenSplit
+with_why f w = open_split f.chain f.term f.count (push_why f.whys w)
+
+abbrev whole_split : OpenSplit → WhyOf ℕ → WhyOf ℕ
+whole_split f w = Split_why f.chain f.term (push_why f.whys w)
+
+abbrev given_to : Bool → OpenSplit → List OpenSplit → WhyOf ℕ → Now
+given_to b f fs w = cond b (give_why_now fs (whole_split f w)) (Reducing (with_why f w ∷ fs) empty)
+
+abbrev wanted_then : Bool → OpenSplit → List OpenSplit → List ℕ
+wanted_then b f fs = if b then (wants f - 1) ∷ map wants fs else after_why (map wants fs)
+
 given_wants : (fs : List OpenSplit) (w : WhyOf ℕ) → AllByRecursion Waits fs → after_why (map wants fs) ≡ wants_of (give_why_now fs w)
 given_wants [] w h = refl
-given_wants (f ∷ fs) w h = go (nat_eq (why_count f.whys + 1) f.count) refl (given_wants fs (Split_why f.chain f.term (push_why f.whys w)) h.1)
+given_wants (f ∷ fs) w h = go (nat_eq (why_count f.whys + 1) f.count) refl (given_wants fs (whole_split f w) h.1)
   where
     waits : why_count f.whys < f.count
     waits = h.0
 
-    inner : Now
-    inner = give_why_now fs (Split_why f.chain f.term (push_why f.whys w))
+    less : (m n : ℕ) → (m ≡ n → ⊥) → m < n + 1 → m < n
+    less m n e l = omega (arith, e, l)
 
-    outer : Now
-    outer = Reducing (open_split f.chain f.term f.count (push_why f.whys w) ∷ fs) empty
-
-    go : (b : Bool) → nat_eq (why_count f.whys + 1) f.count ≡ b → after_why (map wants fs) ≡ wants_of (give_why_now fs (Split_why f.chain f.term (push_why f.whys w)))
-        → (if nat_lt 1 (wants f) then (wants f - 1) ∷ map wants fs else after_why (map wants fs))
-            ≡ wants_of (cond (nat_eq (why_count f.whys + 1) f.count) (give_why_now fs (Split_why f.chain f.term (push_why f.whys w)))
-                (Reducing (open_split f.chain f.term f.count (push_why f.whys w) ∷ fs) empty))
+    go : (b : Bool) → nat_eq (why_count f.whys + 1) f.count ≡ b → after_why (map wants fs) ≡ wants_of (give_why_now fs (whole_split f w))
+        → wanted_then (nat_lt 1 (wants f)) f fs ≡ wants_of (given_to (nat_eq (why_count f.whys + 1) f.count) f fs w)
     go true e ih =
         let s : why_count f.whys + 1 ≡ f.count = eqb-true (why_count f.whys + 1) f.count e in
-        ap (λ b. if b then (wants f - 1) ∷ map wants fs else after_why (map wants fs)) (le-ltb 1 (wants f) (omega (arith, s)))
-        ∙ ih ∙ ap (λ b. wants_of (cond b (give_why_now fs (Split_why f.chain f.term (push_why f.whys w)))
-            (Reducing (open_split f.chain f.term f.count (push_why f.whys w) ∷ fs) empty))) (sym e)
+        ap (λ b. wanted_then b f fs) (le-ltb 1 (wants f) (omega (arith, s))) ∙ ih ∙ ap (λ b. wants_of (given_to b f fs w)) (sym e)
     go false e ih =
         let s : why_count f.whys + 1 ≡ f.count → ⊥ = eqb-false (why_count f.whys + 1) f.count e in
         let low : why_count f.whys + 1 < f.count = less (why_count f.whys + 1) f.count s (omega (arith, waits)) in
         let m : wants f - 1 ≡ f.count - why_count (push_why f.whys w) = omega (arith, why_count-push f.whys w) in
-        ap (λ b. if b then (wants f - 1) ∷ map wants fs else after_why (map wants fs)) (lt-ltb 1 (wants f) (omega (arith, low)))
-        ∙ ap (λ n. n ∷ map wants fs) m ∙ ap (λ b. wants_of (cond b (give_why_now fs (Split_why f.chain f.term (push_why f.whys w)))
-            (Reducing (open_split f.chain f.term f.count (push_why f.whys w) ∷ fs) empty))) (sym e)
-      where
-        less : (a b : ℕ) → (a ≡ b → ⊥) → a < b + 1 → a < b
-        less a b n l = omega (arith, n, l)
+        ap (λ b. wanted_then b f fs) (lt-ltb 1 (wants f) (omega (arith, low)))
+        ∙ ap (λ n. n ∷ map wants fs) m ∙ ap (λ b. wants_of (given_to b f fs w)) (sym e)
 
 -- the lines
 

@@ -59,7 +59,7 @@ sums = record {
     steps = Derive
         ∷ Reduce (by_links (Equation_link 13 Forth [] (1 ∷ []) ∷ []) (Equation_link 15 Forth [] (1 ∷ []) ∷ []))
         ∷ Reduce (by_links (Equation_link 14 Forth [] (1 ∷ []) ∷ Hypothesis_link 0 Forth (1 ∷ []) (1 ∷ []) ∷ [])
-            (Equation_link 16 Forth [] (1 ∷ []) ∷ []))
+        (Equation_link 16 Forth [] (1 ∷ []) ∷ []))
         ∷ Done ∷ [];
   } ∷ [];
 }

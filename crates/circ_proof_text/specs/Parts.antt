@@ -58,6 +58,7 @@ pub record Gathered : Type 0 where
   pub names : List (ℕ × ℕ)
   pub steps : List (ProofStep ℕ)
 
+-- a whole proof, with no block that is not ended
 abbrev pub gathered : Proof → Gathered
 gathered p = record { table = p.table; places = p.places; certificates = p.certificates; blocks = p.blocks; goals = []; names = []; steps = [] }
 
@@ -66,7 +67,12 @@ nothing_gathered = record { table = []; places = []; certificates = []; blocks =
 
 -- the block ends
 abbrev pub end_block : Gathered → Gathered
-end_block g = record g { blocks = g.blocks ++ record { goals = g.goals; names = g.names; steps = g.steps ++ Done ∷ [] } ∷ []; goals = []; names = []; steps = [] }
+end_block g = record g {
+  blocks = g.blocks ++ record { goals = g.goals; names = g.names; steps = g.steps ++ Done ∷ [] } ∷ [];
+  goals = [];
+  names = [];
+  steps = [];
+}
 
 -- with one part more
 abbrev pub gather : Gathered → Part → Gathered

@@ -29,12 +29,14 @@ ghost use Rattle.circ_proof_text.specs.Reading.{after_line};
 /// The different lines of a table and a mark for each line tell which numbers are the least of
 /// their terms. A line more is marked where it is a new one.
 pub fn least_numbers()
-    ensures least { (sig : Signature) (table : List Tree) (lines : List TableLine) (marks : List Bool) →
-        IsReadTable sig table lines marks → (n : ℕ) → marked_at marks table n ≡ first_at table n }
-    ensures grows { (sig : Signature) (table : List Tree) (lines : List TableLine) (marks : List Bool)
-        (l : TableLine) (t : Tree) → IsReadTable sig table lines marks → term_for sig table l ≡ Some t →
-        IsInRange (table_line l) →
-        IsReadTable sig (table ++ t ∷ []) (with_line lines l) (marks ++ not (is_among lines l) ∷ []) }
+    ensures least { (sig : Signature) (table : List Tree) (lines : List TableLine)
+        (marks : List Bool) → IsReadTable sig table lines marks →
+        (n : ℕ) → marked_at marks table n ≡ first_at table n }
+    ensures grows { (sig : Signature) (table : List Tree) (lines : List TableLine)
+        (marks : List Bool) (l : TableLine) (t : Tree) → IsReadTable sig table lines marks →
+        term_for sig table l ≡ Some t → IsInRange (table_line l) →
+        IsReadTable sig (table ++ t ∷ []) (with_line lines l)
+        (marks ++ not (is_among lines l) ∷ []) }
 {}
 
 /// The parts of a proof are those that its lines show, with the terms of its table. They fit, and
@@ -44,7 +46,8 @@ pub fn parts_make_the_proof()
         map (part_with p.table) (grammar.parts_of (numbers_of p)) ≡ parts_of p }
     ensures gathered { (th : Theory) (p : Proof) → ProofFor th p →
         gather_all nothing_gathered (parts_of p) ≡ gathered p }
-    ensures fit { (th : Theory) (p : Proof) → IsWellFormed th → ProofFor th p → Fit th (parts_of p) }
+    ensures fit { (th : Theory) (p : Proof) → IsWellFormed th →
+        ProofFor th p → Fit th (parts_of p) }
 {}
 
 /// A reader begins with nothing, keeps bytes up to a line feed, takes a line, and hands out a part.
@@ -53,9 +56,10 @@ pub fn reading_goes_on()
     ensures bytes { (th : Theory) (bytes piece : List ℕ) (handed : List Part) (k : Reading) →
         NoFeed piece → StandsFor th bytes handed k →
         StandsFor th (bytes ++ piece) handed (record k { rest = k.rest ++ piece }) }
-    ensures line { (th : Theory) (bytes piece : List ℕ) (handed : List Part) (k : Reading) (l : Line)
-        (n : Now) → StandsFor th bytes handed k → IsInRange l → k.rest ++ piece ≡ line_text l →
-        next_now k.under_way l ≡ Some n → passes_at th k.seen l ≡ true → limit_at th k.seen l ≡ false →
+    ensures line { (th : Theory) (bytes piece : List ℕ) (handed : List Part) (k : Reading)
+        (l : Line) (n : Now) → StandsFor th bytes handed k →
+        IsInRange l → k.rest ++ piece ≡ line_text l → next_now k.under_way l ≡ Some n →
+        passes_at th k.seen l ≡ true → limit_at th k.seen l ≡ false →
         StandsFor th (bytes ++ (piece ++ (10 ∷ []))) handed (after_line th k l n) }
     ensures part { (th : Theory) (bytes : List ℕ) (handed : List Part) (k : Reading) (x : Part)
         (xs : List Part) → k.waiting ≡ x ∷ xs → StandsFor th bytes handed k →
@@ -65,20 +69,21 @@ pub fn reading_goes_on()
 /// A line that is whole is at fault whatever comes later: it has no form, may not stand here, does
 /// not pass the checks, or passes a limit.
 pub fn line_is_at_fault()
-    ensures form { (th : Theory) (bytes piece later : List ℕ) (handed : List Part) (k : Reading) →
-        StandsFor th bytes handed k → NoFeed piece → ReadsLine (k.rest ++ piece) None →
+    ensures form { (th : Theory) (bytes piece later : List ℕ) (handed : List Part)
+        (k : Reading) → StandsFor th bytes handed k →
+        NoFeed piece → ReadsLine (k.rest ++ piece) None →
         FirstCause th ((bytes ++ (piece ++ (10 ∷ []))) ++ later) (Line_fault (k.lines + 1)) }
     ensures order { (th : Theory) (bytes piece later : List ℕ) (handed : List Part) (k : Reading)
-        (l : Line) → StandsFor th bytes handed k → IsInRange l → k.rest ++ piece ≡ line_text l →
-        next_now k.under_way l ≡ None →
+        (l : Line) → StandsFor th bytes handed k →
+        IsInRange l → k.rest ++ piece ≡ line_text l → next_now k.under_way l ≡ None →
         FirstCause th ((bytes ++ (piece ++ (10 ∷ []))) ++ later) (Line_fault (k.lines + 1)) }
     ensures check { (th : Theory) (bytes piece later : List ℕ) (handed : List Part) (k : Reading)
-        (l : Line) → StandsFor th bytes handed k → IsInRange l → k.rest ++ piece ≡ line_text l →
-        passes_at th k.seen l ≡ false →
+        (l : Line) → StandsFor th bytes handed k →
+        IsInRange l → k.rest ++ piece ≡ line_text l → passes_at th k.seen l ≡ false →
         FirstCause th ((bytes ++ (piece ++ (10 ∷ []))) ++ later) (Line_fault (k.lines + 1)) }
     ensures limit { (th : Theory) (bytes piece later : List ℕ) (handed : List Part) (k : Reading)
-        (l : Line) (n : Now) → StandsFor th bytes handed k → IsInRange l →
-        k.rest ++ piece ≡ line_text l → next_now k.under_way l ≡ Some n →
+        (l : Line) (n : Now) → StandsFor th bytes handed k →
+        IsInRange l → k.rest ++ piece ≡ line_text l → next_now k.under_way l ≡ Some n →
         passes_at th k.seen l ≡ true → limit_at th k.seen l ≡ true →
         FirstCause th ((bytes ++ (piece ++ (10 ∷ []))) ++ later) (Limit_fault (k.lines + 1)) }
 {}
@@ -95,17 +100,19 @@ pub fn reading_ends()
 {}
 
 /// The parts that are handed out fit the theory. With those that wait they are the first parts of
-/// each proof whose text begins with the bytes, just those that so many lines show. All that a reader
-/// keeps and hands out depends on the bytes alone, whatever the pieces were.
+/// each proof whose text begins with the bytes, just those that so many lines show. All that a
+/// reader keeps and hands out depends on the bytes alone, whatever the pieces were.
 pub fn parts_come_in_order()
     ensures fit { (th : Theory) (bytes : List ℕ) (handed : List Part) (k : Reading) →
         StandsFor th bytes handed k → Fit th handed }
-    ensures first { (th : Theory) (bytes later : List ℕ) (handed : List Part) (k : Reading) (p : Proof) →
-        IsWellFormed th → StandsFor th bytes handed k → ReadsAsProof th (bytes ++ later) p →
+    ensures first { (th : Theory) (bytes later : List ℕ) (handed : List Part) (k : Reading)
+        (p : Proof) → IsWellFormed th → StandsFor th bytes handed k →
+        ReadsAsProof th (bytes ++ later) p →
         (xs : List Part) × (parts_of p ≡ (handed ++ k.waiting) ++ xs) }
-    ensures counted { (th : Theory) (bytes later : List ℕ) (handed : List Part) (k : Reading) (p : Proof) →
-        IsWellFormed th → StandsFor th bytes handed k → ReadsAsProof th (bytes ++ later) p →
-        handed ++ k.waiting ≡ map (part_with p.table) (shown_by k.lines (grammar.parts_of (numbers_of p))) }
+    ensures counted { (th : Theory) (bytes later : List ℕ) (handed : List Part) (k : Reading)
+        (p : Proof) → IsWellFormed th → StandsFor th bytes handed k →
+        ReadsAsProof th (bytes ++ later) p → handed ++ k.waiting
+        ≡ map (part_with p.table) (shown_by k.lines (grammar.parts_of (numbers_of p))) }
     ensures one { (th : Theory) (bytes : List ℕ) (xs ys : List Part) (k j : Reading) →
         StandsFor th bytes xs k → StandsFor th bytes ys j →
         (kept k ≡ kept j) × (k.seen ≡ j.seen) × (xs ++ k.waiting ≡ ys ++ j.waiting) }
