@@ -114,3 +114,8 @@ parts_gathered th p f =
     ∙ blocks_gathered p.table
     (record { table = p.table; places = p.places; certificates = p.certificates; blocks = []; goals = []; names = []; steps = [] })
     p.blocks f.blocks refl refl refl
+
+-- one part more is gathered
+pub gather_all-push : (g : Gathered) (xs : List Part) (x : Part) → gather_all g (xs ++ x ∷ []) ≡ gather (gather_all g xs) x
+gather_all-push g [] x = refl
+gather_all-push g (y ∷ xs) x = gather_all-push (gather g y) xs x

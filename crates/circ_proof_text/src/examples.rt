@@ -33,8 +33,8 @@ pub fn checks_of_examples()
 
 /// Eight splits may stand inside one another, and there may be 100,000 steps.
 pub fn limits_of_examples()
-    ensures eighth_split { limit_at streams (wanting nothing seven_open) (split_line 0 1) ≡ false }
-    ensures ninth_split { limit_at streams (wanting nothing (2 ∷ seven_open)) (split_line 0 1) ≡ true }
+    ensures eighth { limit_at streams (wanting nothing seven_open) (split_line 0 1) ≡ false }
+    ensures ninth { limit_at streams (wanting nothing (2 ∷ seven_open)) (split_line 0 1) ≡ true }
     ensures last_step { limit_at streams (record nothing { steps = 99999 }) derive_line ≡ false }
     ensures one_more { limit_at streams (record nothing { steps = 100000 }) derive_line ≡ true }
 {}

@@ -1,10 +1,18 @@
 //! What is proved of the text of proofs. The functions do nothing: a law is a contract.
-ghost use Rattle.std.specs.Prelude.{◌≡◌, ℕ, List};
+ghost use Rattle.std.specs.Prelude.{◌≡◌, ◌↔◌, ℕ, List, [], ◌∷◌, ◌++◌, true, Some};
+ghost use Rattle.std.specs.List.{AllByRecursion};
+ghost use Rattle.circ_term.specs.Tree.{Tree};
+ghost use Rattle.circ_theory.specs.Signature.{Signature, IsWellSorted};
 ghost use Rattle.circ_theory.specs.Theory.{Theory};
 ghost use Rattle.circ_theory.specs.WellFormed.{IsWellFormed};
-ghost use Rattle.circ_rules.specs.Proof.{Proof, ProofFor};
+ghost use Rattle.circ_special.specs.declared.place.Place.{Place};
+ghost use Rattle.circ_special.specs.Special.{IsPlace, IsIncreasing};
+ghost use Rattle.circ_rules.specs.Proof.{IsEntry, Proof, ProofFor};
+ghost use Rattle.circ_line.specs.Line.{TableLine};
 ghost use Rattle.circ_grammar.specs.Grammar.{NumberedProof};
 ghost use Rattle.circ_grammar.specs.FirstBad.{IsTextOf, LineFault};
+ghost use Rattle.circ_proof_text.specs.TableText.{term_for, entry_of};
+ghost use Rattle.circ_proof_text.specs.Checks.{is_place, is_next};
 ghost use Rattle.circ_proof_text.specs.ProofText.{numbers_of, proof_text, rules};
 ghost use Rattle.circ_proof_text.specs.ProofText.{ReadsAsProof, FirstCause};
 
@@ -37,4 +45,20 @@ pub fn nothing_left_out()
 /// A proof that fits the theory is what its text reads as.
 pub fn text_reads_back()
     ensures { (th : Theory) (p : Proof) → ProofFor th p → ReadsAsProof th (proof_text p) p }
+{}
+
+/// The line of a term of the table has this term, and a line that has a term is that term's line.
+pub fn a_line_and_its_term()
+    ensures term { (sig : Signature) (table : List Tree) (t : Tree) → IsEntry table t →
+        IsWellSorted sig t → term_for sig table (entry_of table t) ≡ Some t }
+    ensures line { (sig : Signature) (table : List Tree) (l : TableLine) (t : Tree) →
+        AllByRecursion (IsWellSorted sig) table → term_for sig table l ≡ Some t →
+        (entry_of table t ≡ l) × IsWellSorted sig t }
+{}
+
+/// The checks of a place tell whether it is one, and whether it keeps places increasing.
+pub fn places_are_told()
+    ensures place { (th : Theory) (g : Place) → (is_place th g ≡ true) ↔ IsPlace th g }
+    ensures next { (gs : List Place) (g : Place) → IsIncreasing gs →
+        (is_next gs g ≡ true) ↔ IsIncreasing (gs ++ g ∷ []) }
 {}
