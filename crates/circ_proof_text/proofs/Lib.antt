@@ -1,0 +1,15 @@
+pub mod TableText
+pub mod ReadTable
+pub mod Places
+pub mod Fine
+pub mod FineBlocks
+pub mod FineFronts
+pub mod Numbers
+pub mod ProofText
+pub mod SeenTerms
+pub mod Parts
+pub mod Wanted
+pub mod Standing
+pub mod Fitting
+pub mod Handed
+pub mod TriedExamples

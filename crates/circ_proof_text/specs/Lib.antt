@@ -1,0 +1,8 @@
+pub mod Examples
+pub mod TableText
+pub mod ReadTable
+pub mod Checks
+pub mod ProofText
+pub mod Parts
+pub mod Fitting
+pub mod Reading

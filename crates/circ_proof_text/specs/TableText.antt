@@ -1,0 +1,33 @@
+-- The table of a proof: the term of each line, and the line of each term.
+use Rattle.std.specs.Prelude.{ℕ, ◌==◌, nat_lt, if◌then◌else◌, List, [], ◌∷◌, ◌++◌, length, map, Option, Some, None}
+use Rattle.std.specs.List.{slice_get}
+use Rattle.std.specs.Option.{option_map, option_and_then}
+use Rattle.circ_term.specs.Tree.{Tree, Var, App, list_of}
+use Rattle.circ_theory.specs.Signature.{Signature}
+use Rattle.circ_theory.specs.Adding.{application}
+use Rattle.circ_replay.specs.Table.{number_in}
+use Rattle.circ_line.specs.Line.{TableLine, Variable_line, Application_line}
+
+-- the term of which this is the least number
+abbrev pub first_at : List Tree → ℕ → Option Tree
+first_at table n = option_and_then (λ t. if number_in table t == n then Some t else None) (slice_get table n)
+
+abbrev pub firsts_at : List Tree → List ℕ → Option (List Tree)
+firsts_at table [] = Some []
+firsts_at table (n ∷ ns) = option_and_then (λ t. option_map (λ ts. t ∷ ts) (firsts_at table ns)) (first_at table n)
+
+-- The term of a line, where the lines before it have the terms of the table. The sort exists, or the operator does and takes the named terms; each
+-- argument is named by its least number.
+abbrev pub term_for : Signature → List Tree → TableLine → Option Tree
+term_for sig table (Variable_line n s) = if nat_lt s (length sig.sorts) then Some (Var n s) else None
+term_for sig table (Application_line f ns) = option_and_then (application sig f) (firsts_at table ns)
+
+-- the line of a term, where the lines before it have the terms of the table
+abbrev pub entry_of : List Tree → Tree → TableLine
+entry_of table (Var n s) = Variable_line n s
+entry_of table (App f s ts) = Application_line f (map (number_in table) (list_of ts))
+
+-- the lines of the terms of a table, after the terms before them
+abbrev pub entries_of : (before table : List Tree) → List TableLine
+entries_of before [] = []
+entries_of before (t ∷ ts) = entry_of before t ∷ entries_of (before ++ t ∷ []) ts
