@@ -8,5 +8,5 @@ mod Growing
 pub mod Once
 pub mod TextOnce
 pub mod StatementOnce
-mod Coming
+pub mod Coming
 pub mod Total
