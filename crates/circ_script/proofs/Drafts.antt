@@ -1,5 +1,5 @@
 -- What the functions that take one item answer.
-use Rattle.std.proofs.Common.{◌≡◌, ◌≢◌, ℕ, ◌==◌, not, length, Bool, true, false, arith, List, [], ◌∷◌, ◌++◌, map, codes, Option, Some, None, Result, Ok, Err, OnOk, IfErr, refl, sym, ap, ◌∙◌, subst}
+use Rattle.std.proofs.Common.{◌≡◌, ◌≢◌, ℕ, ◌==◌, not, length, Bool, true, false, arith, List, [], ◌∷◌, ◌++◌, map, codes, Option, None, Result, Ok, Err, OnOk, IfErr, refl, sym, ap, ◌∙◌, subst}
 use Rattle.std.proofs.Math.Bool.{beq}
 use Rattle.std.proofs.lemmas.Bool.{eqb-true}
 use Rattle.circ_term.specs.Tree.{Tree}
@@ -23,13 +23,13 @@ use Rattle.circ_read.specs.Steps.{StepAnswers, SaidOutcome}
 use Rattle.circ_read.proofs.Once.{SaidOnce}
 use Rattle.circ_script.specs.declared.job.Job.{Job}
 use Rattle.circ_script.specs.declared.adding.Asked.{Asked}
-use Rattle.circ_script.specs.declared.items.Places.{Places}
+use Rattle.circ_script.specs.declared.items.FoundItem.{FoundItem}
 use Rattle.circ_script.specs.Script.{plain_goal}
-use Rattle.circ_script.specs.Items.{Item, variables, goal, reduce, IsItem, IsFor, IsItemFor, item_words, begins_with}
+use Rattle.circ_script.specs.Items.{variables, goal, reduce, IsItem, IsFor, item_words, begins_with}
 use Rattle.circ_script.specs.Drafts.{Draft}
-use Rattle.circ_script.specs.Adding.{ReadsTerm, AddsItem, TakesItem}
-use Rattle.circ_script.specs.Refusing.{reading_text, RefusesTokens, left_out, no_shape, is_refused}
-use Rattle.circ_script.specs.Steps.{item_of, GivesItem, IsNoItem, out, no_item, IsUnread, draft_of, ItemOutcome, TokensOutcome}
+use Rattle.circ_script.specs.Adding.{ReadsTerm, AddsItem}
+use Rattle.circ_script.specs.Refusing.{reading_text, TakesNoItem, left_out, no_shape, is_refused}
+use Rattle.circ_script.specs.Steps.{item_of, GivesItem, IsNoItem, out, no_item, IsUnread, draft_of, ItemOutcome, TakingOutcome}
 use Rattle.circ_script.proofs.ItemWords.{item_once}
 
 module _ (too_long : Option ℕ) (Reads : List Tree → Type 0) (th : Theory) where
@@ -94,20 +94,20 @@ module _ (job : Job) (d : Draft) (before after ws : List Word) (is : ws ≡ item
   kept_as : ((w : Word) → IsLeftOut ws w → ⊥) → (w : Word) → IsLeftOut (item_words before) w → ⊥
   kept_as h w k = h w (subst (λ x. IsLeftOut x w) (sym is) k)
 
-  module _ (p : Places) (h : GivesItem (Ok p) ts ws (IsItem ws)) where
+  module _ (p : FoundItem) (h : GivesItem (Ok p) ts ws (IsItem ws)) where
     -- one parenthesis is missing
-    pub unpaired : (begins_with (codes ")") after ≡ begins_with (codes "(") before → ⊥) → RefusesTokens job d before after cause.Shape
+    pub unpaired : (begins_with (codes ")") after ≡ begins_with (codes "(") before → ⊥) → TakesNoItem job d before after cause.Shape
     unpaired apart = no_shape (kept_as h.2) (λ item it. apart it.paired)
 
     -- the job has no such item
-    pub not_for : SaidOnce → (IsFor job (item_of ts p) → ⊥) → RefusesTokens job d before after cause.Shape
+    pub not_for : SaidOnce → (IsFor job (item_of ts p) → ⊥) → TakesNoItem job d before after cause.Shape
     not_for law none = no_shape (kept_as h.2) (λ item it.
         let e = item_once law (item_words before) item (item_of ts p) it.says (subst (λ x. IsItem x (item_of ts p)) is h.0) in none (subst (IsFor job) e it.is_for))
 
     -- it is taken
     pub taken : begins_with (codes ")") after ≡ begins_with (codes "(") before → IsFor job (item_of ts p) → (r : Result (Unit {0}) Fault) (e : Draft)
         → StepAnswers r e (ItemOutcome d (item_of ts p))
-        → StepAnswers r e (TokensOutcome job d before after)
+        → StepAnswers r e (TakingOutcome job d before after)
     taken paired f (Ok n) e a = record {
       item = item_of ts p;
       is = record { kept = kept_as h.2; says = subst (λ x. IsItem x (item_of ts p)) is h.0; is_for = f; paired = paired };
@@ -118,10 +118,10 @@ module _ (job : Job) (d : Draft) (before after ws : List Word) (is : ws ≡ item
     taken paired f (Err Memory) e a = tt
 
   -- the words are no item
-  pub not_taken : (f : Fault) (e : Draft) → GivesItem (Err f) ts ws (IsItem ws) → StepAnswers {U = Unit {0}} (Err f) e (TokensOutcome job d before after)
+  pub not_taken : (f : Fault) (e : Draft) → GivesItem (Err f) ts ws (IsItem ws) → StepAnswers {U = Unit {0}} (Err f) e (TakingOutcome job d before after)
   not_taken (Because c) e h = go c h
     where
-      go : (c : Cause) → IsNoItem ws (IsItem ws) c → RefusesTokens job d before after c
+      go : (c : Cause) → IsNoItem ws (IsItem ws) c → TakesNoItem job d before after c
       go c (out w k) = left_out w (subst (λ x. IsLeftOut x w) is k)
       go c (no_item kept none) = no_shape (kept_as kept) (λ item it. none item (subst (λ x. IsItem x item) (sym is) it.says))
   not_taken Memory e h = tt

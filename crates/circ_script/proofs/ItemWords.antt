@@ -1,14 +1,11 @@
--- Words are one item at most, and an item is not left out.
-use Rattle.std.proofs.Common.{◌≡◌, List, [], ◌∷◌, ◌++◌, Bool, true, false, codes, Option, Some, None, inl, inr, refl, sym, ap, ◌∙◌, subst}
+-- Words are one item at most.
+use Rattle.std.proofs.Common.{◌≡◌, List, ◌∷◌, false, codes, None, inl, inr, refl, sym, ap, ◌∙◌, subst}
 use Rattle.circ_statement.specs.Words.{Word, is_word, keyword_of}
 use Rattle.circ_statement.specs.Said as statement
 use Rattle.circ_statement.specs.Said.{Said}
 use Rattle.circ_statement.specs.Statement.{IsStatement, IsLeftOut, IsOfKind, IsOutByKind}
 use Rattle.circ_read.proofs.Once.{SaidOnce}
-use Rattle.circ_script.specs.declared.job.Job.{Job}
-use Rattle.circ_script.specs.declared.job.Job.TheVariants.{Prove, Reduce}
-use Rattle.circ_script.specs.Items.{Item, variables, goal, coinduction, reduce, IsItem, IsFor}
-use Rattle.circ_script.specs.Steps.{IsDeclaration}
+use Rattle.circ_script.specs.Items.{Item, variables, goal, coinduction, reduce, IsItem}
 use Rattle.circ_script.proofs.Words.{split_once, heads_apart}
 
 -- words that begin with a word of no statement are none, and are not left out
@@ -19,14 +16,6 @@ no_statement ws w rest said none e h =
 pub not_out : (ws : List Word) (w : Word) (rest : List Word) (v : Word) → keyword_of w ≡ None → ws ≡ w ∷ rest → IsLeftOut ws v → ⊥
 not_out ws w rest v none e h =
     let k : IsLeftOut (w ∷ rest) v = subst (λ x. IsLeftOut x v) e h in subst (λ o. IsOutByKind o w rest v) none k
-
--- an item that declares no variables is not left out
-pub item_kept : (ws : List Word) (item : Item) → IsItem ws item → (IsDeclaration ws item → ⊥) → (v : Word) → IsLeftOut ws v → ⊥
-item_kept ws (variables names sort) h other v k = other h
-item_kept ws (goal left right) h other v k = not_out ws (codes "add") _ v refl h.0 k
-item_kept ws coinduction h other v k = not_out ws (codes "coinduction") _ v refl h k
-item_kept ws (reduce term) (inl h) other v k = not_out ws (codes "reduce") _ v refl h k
-item_kept ws (reduce term) (inr h) other v k = not_out ws (codes "red") _ v refl h k
 
 abbrev as_item : Said → Item
 as_item (statement.inclusion name) = coinduction

@@ -7,3 +7,5 @@ mod Drafts
 mod Walk
 mod Once
 mod Total
+mod Low
+mod Fitting

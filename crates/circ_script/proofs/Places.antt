@@ -1,7 +1,5 @@
 -- Words at the begin of spans of tokens, and spans split at a word.
-use Rattle.std.proofs.Common.{◌≡◌, ℕ, zero, suc, ◌+◌, ◌-◌, ◌<◌, ◌≤◌, List, [], ◌∷◌, ◌++◌, length, take, drop, slice_range, slice_get, unwrap_or, Bool, true, false, nat_eq, if◌then◌else◌, refl, sym, ap, ◌∙◌, subst, arith}
-use Rattle.std.specs.List.{list_any}
-use Rattle.std.specs.Option.{option_map_or}
+use Rattle.std.proofs.Common.{◌≡◌, ℕ, zero, suc, ◌+◌, ◌-◌, ◌<◌, ◌≤◌, List, [], ◌∷◌, ◌++◌, length, take, drop, slice_range, slice_get, unwrap_or, true, false, if◌then◌else◌, refl, sym, ap, ◌∙◌, arith}
 use Rattle.std.proofs.Math.Seq.{take-add}
 use Rattle.std.proofs.lemmas.List.{take_rest, drop-drop}
 use Rattle.std.proofs.lemmas.List.Folds.{list_any-append}
@@ -12,9 +10,9 @@ use Rattle.circ_statement.specs.Words.{Word, is_word, has_word}
 use Rattle.circ_read.specs.Steps.{has_word_at}
 use Rattle.circ_read.proofs.Tokens.{range_next}
 use Rattle.circ_read.proofs.Places.{range_none, range_more}
-use Rattle.circ_script.specs.declared.spans.Sides.{Sides}
+use Rattle.circ_script.specs.declared.spans.Halves.{Halves}
 use Rattle.circ_script.specs.Items.{begins_with, set_aside}
-use Rattle.circ_script.specs.Steps.{IsRestAfter, AreSides}
+use Rattle.circ_script.specs.Steps.{IsRestAfter, AreHalves}
 use Rattle.circ_script.proofs.Words.{same_word}
 
 tested : (ws : List Word) (n : ℕ) (w : Word) → n < length ws → has_word_at ws n w ≡ is_word (unwrap_or (slice_get ws n) []) w
@@ -75,8 +73,8 @@ lacks_more ts at n w a l h e =
     let last : is_word (unwrap_or (slice_get ws n) []) w ≡ false = sym (tested ws n w l) ∙ e in
     ap (has_word w) (range_more ws at n a l) ∙ list_any-append (λ v. is_word v w) (slice_range ws at n) (unwrap_or (slice_get ws n) [] ∷ []) ∙ rw (h, last) refl
 
-pub split_at : (ts : TokenList) (span : Span) (w : Word) (n : ℕ) (s : Sides) → IsWithin ts span → span.from ≤ n → n < span.to → s.left.from ≡ span.from → s.left.to ≡ n → s.right.from ≡ n + 1 → s.right.to ≡ span.to
-    → has_word w (slice_range (tokens_of ts) span.from n) ≡ false → has_word_at (tokens_of ts) n w ≡ true → AreSides ts span w s
+pub split_at : (ts : TokenList) (span : Span) (w : Word) (n : ℕ) (s : Halves) → IsWithin ts span → span.from ≤ n → n < span.to → s.left.from ≡ span.from → s.left.to ≡ n → s.right.from ≡ n + 1 → s.right.to ≡ span.to
+    → has_word w (slice_range (tokens_of ts) span.from n) ≡ false → has_word_at (tokens_of ts) n w ≡ true → AreHalves ts span w s
 split_at ts span w n s h a l lf lt rf rt none e =
     let ws = tokens_of ts in
     let m = h.within in

@@ -1,12 +1,11 @@
 -- The words of an item, as the reader takes them apart.
-use Rattle.std.proofs.Common.{◌≡◌, List, [], ◌∷◌, ◌++◌, Bool, true, false, codes, Option, Some, None, Result, Ok, Err, inl, inr, refl, sym, ap, ◌∙◌, subst}
-use Rattle.circ_lexer.specs.TokenList.{TokenList, tokens_in}
+use Rattle.std.proofs.Common.{◌≡◌, List, [], ◌∷◌, ◌++◌, true, false, codes, Option, Some, None, Result, Ok, Err, inl, inr, refl, sym, ap, ◌∙◌, subst}
+use Rattle.circ_lexer.specs.TokenList.{TokenList}
 use Rattle.circ_statement.specs.declared.statements.Statement.{Statement}
 use Rattle.circ_statement.specs.declared.statements.Statement.TheVariants as st
 use Rattle.circ_statement.specs.Words.{Word, has_word, keyword_of}
 use Rattle.circ_statement.specs.Said as statement
 use Rattle.circ_statement.specs.Said.{said_of}
-use Rattle.circ_statement.specs.Statement.{IsLeftOut}
 use Rattle.circ_read.specs.declared.cause.Cause.{Cause}
 use Rattle.circ_read.specs.declared.cause.Cause.TheVariants as cause
 use Rattle.circ_read.specs.declared.cause.Fault.{Fault}
@@ -14,11 +13,11 @@ use Rattle.circ_read.specs.declared.cause.Fault.TheVariants.{Because, Memory}
 use Rattle.circ_read.specs.Failing as theory_text
 use Rattle.circ_read.specs.Steps.{IsSaid, GivesShape}
 use Rattle.circ_read.proofs.Once.{SaidOnce}
-use Rattle.circ_script.specs.declared.items.Places.{Places}
+use Rattle.circ_script.specs.declared.items.FoundItem.{FoundItem}
 use Rattle.circ_script.specs.Items.{Item, variables, goal, coinduction, reduce, IsItem, begins_with}
-use Rattle.circ_script.specs.Steps.{item_of, shaped, declaration, GivesPlaces, GivesItem, IsDeclaration, IsNoItem, out, no_item}
+use Rattle.circ_script.specs.Steps.{item_of, shaped, declaration, GivesFound, GivesItem, IsDeclaration, IsNoItem, out, no_item}
 use Rattle.circ_script.proofs.Words.{split_once, has_split, heads_apart}
-use Rattle.circ_script.proofs.ItemWords.{item_kept, not_out}
+use Rattle.circ_script.proofs.ItemWords.{not_out}
 
 -- other first words than those of a script's items
 pub record IsOther (ws : List Word) : Type 0 where
@@ -93,12 +92,12 @@ unshaped_as ts ws Memory h = tt
 
 -- words that begin with a word of a script alone
 module _ (ts : TokenList) (ws : List Word) (w : Word) (rest : List Word) (is : ws ≡ w ∷ rest) (none : keyword_of w ≡ None) where
-  pub shaped_as : (o : Option Places) → GivesPlaces o ts (IsItem (w ∷ rest)) → GivesItem (shaped o) ts ws (IsItem ws)
+  pub shaped_as : (o : Option FoundItem) → GivesFound o ts (IsItem (w ∷ rest)) → GivesItem (shaped o) ts ws (IsItem ws)
   shaped_as None h = no_item (λ v k. not_out ws w rest v none is k) (λ item k. h item (subst (λ x. IsItem x item) is k))
   shaped_as (Some p) h = (subst (λ x. IsItem x (item_of ts p)) (sym is) h.0, h.1, λ v k. not_out ws w rest v none is k)
 
 -- other words
-pub other_as : (ts : TokenList) (ws : List Word) → IsOther ws → (r : Result Places Fault) → GivesItem r ts ws (IsDeclaration ws) → GivesItem r ts ws (IsItem ws)
+pub other_as : (ts : TokenList) (ws : List Word) → IsOther ws → (r : Result FoundItem Fault) → GivesItem r ts ws (IsDeclaration ws) → GivesItem r ts ws (IsItem ws)
 other_as ts ws o (Ok p) h = (declares_only ws (item_of ts p) h.0, h.1, h.2)
 other_as ts ws o (Err (Because c)) h = no_item_as ws (IsItem ws) (IsDeclaration ws) (only_declares ws o) c h
 other_as ts ws o (Err Memory) h = tt
@@ -119,17 +118,6 @@ after_add rest (goal left right) h = (left, right, (cc, h.1, h.2))
 after_add rest coinduction h = absurd (heads_apart (codes "add") (codes "coinduction") _ _ refl h)
 after_add rest (reduce term) (inl h) = absurd (heads_apart (codes "add") (codes "reduce") _ _ refl h)
 after_add rest (reduce term) (inr h) = absurd (heads_apart (codes "add") (codes "red") _ _ refl h)
-
-pub not_a_goal : (rest : List Word) → begins_with (codes "goal") rest ≡ false → (item : Item) → IsItem (codes "add" ∷ rest) item → ⊥
-not_a_goal rest f item h = other_word rest (codes "goal") _ f refl (after_add rest item h).2.0
-
-pub no_sides : (rest sides : List Word) → rest ≡ codes "goal" ∷ sides → has_word (codes "=") sides ≡ false → (item : Item) → IsItem (codes "add" ∷ rest) item → ⊥
-no_sides rest sides e f item h =
-    let g = after_add rest item h in
-    let s : sides ≡ g.0 ++ codes "=" ∷ g.1 = cc (sym e ∙ g.2.0) in
-    let t = has_split (codes "=") g.0 g.1 in
-    let u = ap (has_word (codes "=")) s in
-    cc (sym t, u, f)
 
 pub more_sides : (rest sides left right first second : List Word) → rest ≡ codes "goal" ∷ sides → sides ≡ left ++ codes "=" ∷ right → has_word (codes "=") left ≡ false
     → right ≡ first ++ codes "=" ∷ second → (item : Item) → IsItem (codes "add" ∷ rest) item → ⊥

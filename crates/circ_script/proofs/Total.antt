@@ -1,11 +1,11 @@
 -- Bytes read as a script or have a first cause, by double negation.
-use Rattle.std.proofs.Common.{◌≡◌, ◌≢◌, ℕ, zero, suc, ◌+◌, ◌<◌, ◌≤◌, List, [], ◌∷◌, ◌++◌, length, Bool, true, false, codes, if◌then◌else◌, Option, Some, None, ◌⊎◌, inl, inr, refl, ap, subst, arith}
+use Rattle.std.proofs.Common.{◌≡◌, ◌≢◌, ℕ, zero, suc, ◌+◌, ◌<◌, ◌≤◌, List, [], ◌∷◌, length, Bool, true, false, codes, if◌then◌else◌, Option, Some, None, ◌⊎◌, inl, inr, refl, subst, arith}
 use Rattle.circ_lexer.specs.declared.tokens.Span.{Span}
 use Rattle.circ_lexer.specs.declared.fault.LexFault.{LexFault}
 use Rattle.circ_lexer.specs.Cuts.{Cuts}
 use Rattle.circ_lexer.specs.TokenList.{AreTokens, tokens_of}
 use Rattle.circ_term.specs.Tree.{Tree}
-use Rattle.circ_theory.specs.Theory.{Theory, Pair, pair_with}
+use Rattle.circ_theory.specs.Theory.{Theory, pair_with}
 use Rattle.circ_mixfix.specs.Answers.{long_count}
 use Rattle.circ_statement.specs.Words.{Word, is_word}
 use Rattle.circ_statement.specs.Said as statement
@@ -17,12 +17,11 @@ use Rattle.circ_read.specs.Adding.{ReadsAlone, long_sides, ReadsSides}
 use Rattle.circ_read.specs.Text.{HasNoStop}
 use Rattle.circ_read.proofs.Total.{Either, Cut, first_stop, statement_total, terms_total}
 use Rattle.circ_script.specs.declared.job.Job.{Job}
-use Rattle.circ_script.specs.Script.{Script}
-use Rattle.circ_script.specs.Items.{Item, variables, goal, coinduction, reduce, IsItemFor, item_words, set_aside, left_after}
-use Rattle.circ_script.specs.Drafts.{Draft, begun, AsksFor, IsFinished, script_of}
-use Rattle.circ_script.specs.Adding.{ReadsTerm, AddsItem, TakesItem, Reaches, start, next}
-use Rattle.circ_script.specs.Refusing.{reading_text, RefusesItem, RefusesTokens, left_out, no_shape, is_refused, IsUnfinished, open_goals, no_work, Breaks, at_an_item, at_a_cut, at_the_end, FirstScriptCause, at_a_byte, in_the_text}
-use Rattle.circ_script.specs.ReadsAsScript.{ReadOrRefused}
+use Rattle.circ_script.specs.Items.{Item, variables, goal, coinduction, reduce, item_words, set_aside, left_after}
+use Rattle.circ_script.specs.Drafts.{Draft, first_draft, IsFinished, script_of}
+use Rattle.circ_script.specs.Adding.{ReadsTerm, AddsItem, TakesItem, TakesItems, start, next}
+use Rattle.circ_script.specs.Refusing.{reading_text, RefusesItem, TakesNoItem, left_out, no_shape, is_refused, open_goals, no_work, StopsAt, at_an_item, at_a_cut, at_the_end, at_a_byte, in_the_text}
+use Rattle.circ_script.specs.ReadsAsScript.{ScriptOrCause}
 
 none_or_some : {A : Type 0} (xs : List A) → (xs ≡ []) ⊎ (xs ≢ [])
 none_or_some [] = inl refl
@@ -58,7 +57,7 @@ module _ (d : Draft) where
   item_total (reduce term) accepted refused = term_total term accepted refused
 
 module _ (job : Job) where
-  tokens_total : (d : Draft) (before after : List Word) → Either (TakesItem job d before after) (RefusesTokens job d before after)
+  tokens_total : (d : Draft) (before after : List Word) → Either (TakesItem job d before after) (TakesNoItem job d before after)
   tokens_total d before after accepted refused =
       let kept : (w : Word) → IsLeftOut (item_words before) w → ⊥ = λ w out. refused (cause.LeftOut w) (left_out w out) in
       refused cause.Shape (no_shape kept (λ i is.
@@ -72,21 +71,21 @@ module _ (job : Job) where
       go true = omega arith
       go false = omega arith
 
-  module _ (first : Draft) (tokens : List Word) (accepted : (last : Draft) (k : ℕ) → Reaches job first tokens k last [] → IsFinished job last → ⊥)
-      (refused : (k : ℕ) (c : Cause) → Breaks job first tokens k c → ⊥) where
-    at_end : (k : ℕ) (now : Draft) → Reaches job first tokens k now [] → ⊥
+  module _ (first : Draft) (tokens : List Word) (accepted : (last : Draft) (k : ℕ) → TakesItems job first tokens k last [] → IsFinished job last → ⊥)
+      (refused : (k : ℕ) (c : Cause) → StopsAt job first tokens k c → ⊥) where
+    at_end : (k : ℕ) (now : Draft) → TakesItems job first tokens k now [] → ⊥
     at_end k now r = go (none_or_some now.goals)
       where
         go : (now.goals ≡ []) ⊎ (now.goals ≢ []) → ⊥
         go (inr n) = refused k cause.Unclosed (at_the_end k now cause.Unclosed r (open_goals n))
         go (inl e) = refused k cause.NoGoal (at_the_end k now cause.NoGoal r (no_work e (λ a. accepted now k r (record { closed = e; asks = a }))))
 
-    step : (k : ℕ) (now : Draft) (left : List Word) → ((j : ℕ) (e : Draft) (rest : List Word) → length rest < length left → Reaches job first tokens j e rest → ⊥)
-        → Reaches job first tokens k now left → ⊥
+    step : (k : ℕ) (now : Draft) (left : List Word) → ((j : ℕ) (e : Draft) (rest : List Word) → length rest < length left → TakesItems job first tokens j e rest → ⊥)
+        → TakesItems job first tokens k now left → ⊥
     step k now left later r = go (first_stop left)
       where
         ended : (left ≡ []) ⊎ (left ≢ []) → HasNoStop left → ⊥
-        ended (inl e) h = at_end k now (subst (λ x. Reaches job first tokens k now x) e r)
+        ended (inl e) h = at_end k now (subst (λ x. TakesItems job first tokens k now x) e r)
         ended (inr n) h = refused k cause.Shape (at_a_cut k now left r n h)
 
         go : HasNoStop left ⊎ Cut left → ⊥
@@ -95,11 +94,11 @@ module _ (job : Job) where
             (λ e t. later (k + 1) e (left_after c.rest) (let l = aside_shorter (codes ")") c.rest in let s = c.shorter in omega arith) (next k now e left c.ws c.rest r c.cut c.whole t))
             (λ d t. refused k d (at_an_item k now left c.ws c.rest d r c.cut c.whole t))
 
-    items_total : (m k : ℕ) (now : Draft) (left : List Word) → length left ≤ m → Reaches job first tokens k now left → ⊥
+    items_total : (m k : ℕ) (now : Draft) (left : List Word) → length left ≤ m → TakesItems job first tokens k now left → ⊥
     items_total zero k now left l r = step k now left (λ j e rest s q. omega (arith, l, s)) r
     items_total (suc m) k now left l r = step k now left (λ j e rest s q. items_total m j e rest (omega (arith, l, s)) q) r
 
-pub script_total : ((bytes : List ℕ) → (ss : List Span) × ((o : Option LexFault) × Cuts 0 bytes ss o)) → (th : Theory) (job : Job) (bytes : List ℕ) → ReadOrRefused th job bytes
+pub script_total : ((bytes : List ℕ) → (ss : List Span) × ((o : Option LexFault) × Cuts 0 bytes ss o)) → (th : Theory) (job : Job) (bytes : List ℕ) → ScriptOrCause th job bytes
 script_total some th job bytes accepted refused = go (some bytes).0 (some bytes).1.0 (some bytes).1.1
   where
     go : (ss : List Span) (o : Option LexFault) → Cuts 0 bytes ss o → ⊥
@@ -107,6 +106,6 @@ script_total some th job bytes accepted refused = go (some bytes).0 (some bytes)
     go ss None c =
         let ws = tokens_of (record { source = bytes; spans = ss }) in
         let are : AreTokens bytes ws = (ss, (c, refl)) in
-        items_total job (begun th) ws
+        items_total job (first_draft th) ws
         (λ last k r f. accepted (script_of last) (record { tokens = ws; are_tokens = are; count = k; last = last; items = r; finished = f; is = refl }))
-        (λ k d b. refused (k + 1) d (in_the_text ws k d are b)) (length ws) 0 (begun th) ws (omega arith) start
+        (λ k d b. refused (k + 1) d (in_the_text ws k d are b)) (length ws) 0 (first_draft th) ws (omega arith) start

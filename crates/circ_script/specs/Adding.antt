@@ -42,7 +42,7 @@ pub record TakesItem (job : Job) (d : Draft) (before after : List Word) (e : Dra
   pub adds : AddsItem d item e
 
 -- After k items, from the first token on, the draft is `now`, and these tokens are left. An item ends at the next stop.
-pub data Reaches (job : Job) (first : Draft) (tokens : List Word) : (k : ℕ) (now : Draft) (left : List Word) → Type 0 where
-  start : Reaches job first tokens 0 first tokens
-  next : (k : ℕ) (d e : Draft) (here before after : List Word) → Reaches job first tokens k d here → here ≡ before ++ codes "." ∷ after → HasNoStop before
-      → TakesItem job d before after e → Reaches job first tokens (k + 1) e (left_after after)
+pub data TakesItems (job : Job) (first : Draft) (tokens : List Word) : (k : ℕ) (now : Draft) (left : List Word) → Type 0 where
+  start : TakesItems job first tokens 0 first tokens
+  next : (k : ℕ) (d e : Draft) (here before after : List Word) → TakesItems job first tokens k d here → here ≡ before ++ codes "." ∷ after
+      → HasNoStop before → TakesItem job d before after e → TakesItems job first tokens (k + 1) e (left_after after)

@@ -13,8 +13,9 @@ pub record Draft : Type 0 where
   pub goals : List Pair
   pub terms : List Tree
 
-abbrev pub begun : Theory → Draft
-begun th = record { theory = th; blocks = []; goals = []; terms = [] }
+-- before the first item
+abbrev pub first_draft : Theory → Draft
+first_draft th = record { theory = th; blocks = []; goals = []; terms = [] }
 
 -- There is what the job is done on.
 abbrev pub AsksFor : Job → Draft → Type 0

@@ -13,8 +13,8 @@ pub data Item : Type 0 where
   coinduction : Item
   reduce : (term : List Word) → Item
 
--- What the words of an item say, without its parentheses and its stop. Variables are a statement of a theory text; between the sides of a goal
--- stands its only equals sign.
+-- What the words of an item say, without its parentheses and its stop. Variables are declared by a statement of a theory text; a goal has one
+-- equals sign, between its sides.
 abbrev pub IsItem : List Word → Item → Type 0
 IsItem ws (variables names sort) = IsStatement ws (statement.variables names sort)
 IsItem ws (goal left right) =

@@ -9,8 +9,8 @@ use Rattle.circ_read.specs.declared.cause.ReadFault.{ReadFault}
 use Rattle.circ_read.specs.declared.cause.ReadFault.TheVariants.{Statement, Memory}
 use Rattle.circ_script.specs.declared.job.Job.{Job}
 use Rattle.circ_script.specs.Script.{Script, plain_script}
-use Rattle.circ_script.specs.Drafts.{Draft, begun, IsFinished, script_of}
-use Rattle.circ_script.specs.Adding.{Reaches}
+use Rattle.circ_script.specs.Drafts.{Draft, first_draft, IsFinished, script_of}
+use Rattle.circ_script.specs.Adding.{TakesItems}
 use Rattle.circ_script.specs.Refusing.{FirstScriptCause}
 
 -- The items of the bytes lead, from the theory alone, to a finished draft of the script.
@@ -19,7 +19,7 @@ pub record ReadsAsScript (th : Theory) (job : Job) (bytes : List ℕ) (s : Scrip
   pub are_tokens : AreTokens bytes tokens
   pub count : ℕ
   pub last : Draft
-  pub items : Reaches job (begun th) tokens count last []
+  pub items : TakesItems job (first_draft th) tokens count last []
   pub finished : IsFinished job last
   pub is : s ≡ script_of last
 
@@ -30,5 +30,6 @@ GivesScript (Err (Statement n c)) th job bytes = FirstScriptCause th job bytes n
 GivesScript (Err Memory) th job bytes = Unit {0}
 
 -- The bytes read as a script or have a first cause, by double negation.
-abbrev pub ReadOrRefused : Theory → Job → List ℕ → Type 0
-ReadOrRefused th job bytes = ((s : Script) → ReadsAsScript th job bytes s → ⊥) → ((n : ℕ) (c : Cause) → FirstScriptCause th job bytes n c → ⊥) → ⊥
+abbrev pub ScriptOrCause : Theory → Job → List ℕ → Type 0
+ScriptOrCause th job bytes =
+    ((s : Script) → ReadsAsScript th job bytes s → ⊥) → ((n : ℕ) (c : Cause) → FirstScriptCause th job bytes n c → ⊥) → ⊥

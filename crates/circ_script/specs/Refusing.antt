@@ -18,8 +18,8 @@ use Rattle.circ_read.specs.Refusing.{RefusesStatement, ReadsNotAlone}
 use Rattle.circ_read.specs.Text.{HasNoStop}
 use Rattle.circ_script.specs.declared.job.Job.{Job}
 use Rattle.circ_script.specs.Items.{Item, variables, goal, coinduction, reduce, IsItemFor, item_words}
-use Rattle.circ_script.specs.Drafts.{Draft, begun, AsksFor}
-use Rattle.circ_script.specs.Adding.{ReadsTerm, Reaches}
+use Rattle.circ_script.specs.Drafts.{Draft, first_draft, AsksFor}
+use Rattle.circ_script.specs.Adding.{ReadsTerm, TakesItems}
 
 -- a term as it is printed, and the two sides of a goal
 abbrev pub reading_text : Theory → List Tree → List ℕ
@@ -36,11 +36,11 @@ RefusesItem d coinduction c = (d.goals ≡ []) × (c ≡ cause.NoGoal)
 RefusesItem d (reduce term) c = ReadsNotAlone (long_count term) (ReadsTerm d.theory term) (reading_text d.theory) c
 
 -- The tokens before and after a stop are refused: they are left out, by a word; or are no item that the job may have; or what they say is refused.
-pub data RefusesTokens (job : Job) (d : Draft) (before after : List Word) : Cause → Type 0 where
-  left_out : (w : Word) → IsLeftOut (item_words before) w → RefusesTokens job d before after (cause.LeftOut w)
+pub data TakesNoItem (job : Job) (d : Draft) (before after : List Word) : Cause → Type 0 where
+  left_out : (w : Word) → IsLeftOut (item_words before) w → TakesNoItem job d before after (cause.LeftOut w)
   no_shape : ((w : Word) → IsLeftOut (item_words before) w → ⊥) → ((item : Item) → IsItemFor job before after item → ⊥)
-      → RefusesTokens job d before after cause.Shape
-  is_refused : (item : Item) (c : Cause) → IsItemFor job before after item → RefusesItem d item c → RefusesTokens job d before after c
+      → TakesNoItem job d before after cause.Shape
+  is_refused : (item : Item) (c : Cause) → IsItemFor job before after item → RefusesItem d item c → TakesNoItem job d before after c
 
 -- At the end goals are open; or else there is nothing that the job is done on.
 pub data IsUnfinished (job : Job) (d : Draft) : Cause → Type 0 where
@@ -48,14 +48,15 @@ pub data IsUnfinished (job : Job) (d : Draft) : Cause → Type 0 where
   no_work : d.goals ≡ [] → (AsksFor job d → ⊥) → IsUnfinished job d cause.NoGoal
 
 -- After k items comes this cause: of the item that is next; or since tokens without a stop are left; or at the end.
-pub data Breaks (job : Job) (first : Draft) (tokens : List Word) : (k : ℕ) → Cause → Type 0 where
-  at_an_item : (k : ℕ) (d : Draft) (here before after : List Word) (c : Cause) → Reaches job first tokens k d here → here ≡ before ++ codes "." ∷ after
-      → HasNoStop before → RefusesTokens job d before after c → Breaks job first tokens k c
-  at_a_cut : (k : ℕ) (d : Draft) (left : List Word) → Reaches job first tokens k d left → left ≢ [] → HasNoStop left → Breaks job first tokens k cause.Shape
-  at_the_end : (k : ℕ) (d : Draft) (c : Cause) → Reaches job first tokens k d [] → IsUnfinished job d c → Breaks job first tokens k c
+pub data StopsAt (job : Job) (first : Draft) (tokens : List Word) : (k : ℕ) → Cause → Type 0 where
+  at_an_item : (k : ℕ) (d : Draft) (here before after : List Word) (c : Cause) → TakesItems job first tokens k d here
+      → here ≡ before ++ codes "." ∷ after → HasNoStop before → TakesNoItem job d before after c → StopsAt job first tokens k c
+  at_a_cut : (k : ℕ) (d : Draft) (left : List Word) → TakesItems job first tokens k d left → left ≢ [] → HasNoStop left
+      → StopsAt job first tokens k cause.Shape
+  at_the_end : (k : ℕ) (d : Draft) (c : Cause) → TakesItems job first tokens k d [] → IsUnfinished job d c → StopsAt job first tokens k c
 
 -- The first cause in the bytes is this one. Its number is that of its item, from 1; the end has the next number, and a bad byte the number 0.
 pub data FirstScriptCause (th : Theory) (job : Job) (bytes : List ℕ) : (number : ℕ) → Cause → Type 0 where
   at_a_byte : (f : LexFault) → IsFirstBad bytes f → FirstScriptCause th job bytes 0 (byte_cause f)
-  in_the_text : (tokens : List Word) (k : ℕ) (c : Cause) → AreTokens bytes tokens → Breaks job (begun th) tokens k c
+  in_the_text : (tokens : List Word) (k : ℕ) (c : Cause) → AreTokens bytes tokens → StopsAt job (first_draft th) tokens k c
       → FirstScriptCause th job bytes (k + 1) c

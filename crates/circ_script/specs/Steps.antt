@@ -1,8 +1,8 @@
 -- What the steps of the reader answer.
-use Rattle.std.specs.Prelude.{◌≡◌, ◌≢◌, ◌⊎◌, ◌<◌, ◌≤◌, ◌+◌, ℕ, List, [], ◌∷◌, ◌++◌, false, map, codes, Option, Some, None, Result, Ok, Err}
+use Rattle.std.specs.Prelude.{◌≡◌, ◌⊎◌, ◌<◌, ◌≤◌, ◌+◌, ℕ, List, [], ◌∷◌, ◌++◌, false, map, codes, Option, Some, None, Result, Ok, Err}
 use Rattle.circ_lexer.specs.TokenList.{TokenList, tokens_in, IsWithin}
 use Rattle.circ_lexer.specs.declared.tokens.Span.{Span}
-use Rattle.circ_theory.specs.Theory.{Theory, Pair}
+use Rattle.circ_theory.specs.Theory.{Theory}
 use Rattle.circ_theory.specs.declared.parts.Script as made
 use Rattle.circ_mixfix.specs.declared.parse.ParseFault.{ParseFault}
 use Rattle.circ_mixfix.specs.declared.parse.ParseFault.TheVariants as parse
@@ -21,14 +21,14 @@ use Rattle.circ_read.specs.declared.cause.ReadFault.TheVariants as at
 use Rattle.circ_read.specs.Includes.{with_variables}
 use Rattle.circ_script.specs.declared.job.Job.{Job}
 use Rattle.circ_script.specs.declared.adding.Asked.{Asked}
-use Rattle.circ_script.specs.declared.items.Places.{Places}
-use Rattle.circ_script.specs.declared.items.Places.TheVariants as at_places
-use Rattle.circ_script.specs.declared.spans.Sides.{Sides}
+use Rattle.circ_script.specs.declared.items.FoundItem.{FoundItem}
+use Rattle.circ_script.specs.declared.items.FoundItem.TheVariants as at_tokens
+use Rattle.circ_script.specs.declared.spans.Halves.{Halves}
 use Rattle.circ_script.specs.Script.{plain_goal, plain_script}
 use Rattle.circ_script.specs.Items.{Item, variables, goal, coinduction, reduce, IsItem, begins_with}
-use Rattle.circ_script.specs.Drafts.{Draft, begun, IsFinished, script_of}
-use Rattle.circ_script.specs.Adding.{AddsItem, TakesItem, Reaches}
-use Rattle.circ_script.specs.Refusing.{reading_text, RefusesItem, RefusesTokens, IsUnfinished, Breaks}
+use Rattle.circ_script.specs.Drafts.{Draft, IsFinished, script_of}
+use Rattle.circ_script.specs.Adding.{AddsItem, TakesItem, TakesItems}
+use Rattle.circ_script.specs.Refusing.{reading_text, RefusesItem, TakesNoItem, IsUnfinished, StopsAt}
 
 -- the second theory is the first, perhaps with other variables
 abbrev pub IsButVariables : Theory → Theory → Type 0
@@ -46,34 +46,34 @@ GivesRest None ts span w = begins_with w (tokens_in ts span) ≡ false
 GivesRest (Some rest) ts span w = IsRestAfter ts span rest w
 
 -- what stands before and after the first such word
-pub record AreSides (ts : TokenList) (span : Span) (w : Word) (s : Sides) : Type 0 where
+pub record AreHalves (ts : TokenList) (span : Span) (w : Word) (s : Halves) : Type 0 where
   pub left : IsWithin ts s.left
   pub right : IsWithin ts s.right
   pub words : tokens_in ts span ≡ tokens_in ts s.left ++ w ∷ tokens_in ts s.right
   pub first : has_word w (tokens_in ts s.left) ≡ false
 
-abbrev pub GivesSides : Option Sides → TokenList → Span → Word → Type 0
-GivesSides None ts span w = has_word w (tokens_in ts span) ≡ false
-GivesSides (Some s) ts span w = AreSides ts span w s
+abbrev pub GivesHalves : Option Halves → TokenList → Span → Word → Type 0
+GivesHalves None ts span w = has_word w (tokens_in ts span) ≡ false
+GivesHalves (Some s) ts span w = AreHalves ts span w s
 
 -- what an item of the code says
-abbrev pub item_of : TokenList → Places → Item
-item_of ts (at_places.Variables names sort) = variables (tokens_in ts names) (token_at ts sort)
-item_of ts (at_places.Goal left right) = goal (tokens_in ts left) (tokens_in ts right)
-item_of ts at_places.Coinduction = coinduction
-item_of ts (at_places.Reduce term) = reduce (tokens_in ts term)
+abbrev pub item_of : TokenList → FoundItem → Item
+item_of ts (at_tokens.Variables names sort) = variables (tokens_in ts names) (token_at ts sort)
+item_of ts (at_tokens.Goal left right) = goal (tokens_in ts left) (tokens_in ts right)
+item_of ts at_tokens.Coinduction = coinduction
+item_of ts (at_tokens.Reduce term) = reduce (tokens_in ts term)
 
 -- Its places and spans lie within the tokens.
-abbrev pub LieWithin : TokenList → Places → Type 0
-LieWithin ts (at_places.Variables names sort) = IsWithin ts names × IsPlace ts sort
-LieWithin ts (at_places.Goal left right) = IsWithin ts left × IsWithin ts right
-LieWithin ts at_places.Coinduction = Unit {0}
-LieWithin ts (at_places.Reduce term) = IsWithin ts term
+abbrev pub LieWithin : TokenList → FoundItem → Type 0
+LieWithin ts (at_tokens.Variables names sort) = IsWithin ts names × IsPlace ts sort
+LieWithin ts (at_tokens.Goal left right) = IsWithin ts left × IsWithin ts right
+LieWithin ts at_tokens.Coinduction = Unit {0}
+LieWithin ts (at_tokens.Reduce term) = IsWithin ts term
 
 -- an item that is such, by its places
-abbrev pub GivesPlaces : Option Places → TokenList → (Item → Type 0) → Type 0
-GivesPlaces None ts Is = (item : Item) → Is item → ⊥
-GivesPlaces (Some p) ts Is = Is (item_of ts p) × LieWithin ts p
+abbrev pub GivesFound : Option FoundItem → TokenList → (Item → Type 0) → Type 0
+GivesFound None ts Is = (item : Item) → Is item → ⊥
+GivesFound (Some p) ts Is = Is (item_of ts p) × LieWithin ts p
 
 -- the tokens of a term that is to be reduced
 abbrev pub GivesTerm : Option Span → TokenList → List Word → Type 0
@@ -88,11 +88,11 @@ IsDeclaration ws coinduction = ⊥
 IsDeclaration ws (reduce term) = ⊥
 
 -- the variables that a statement of the code declares
-abbrev pub declaration : Statement → Option Places
+abbrev pub declaration : Statement → Option FoundItem
 declaration (said.Inclusion name) = None
 declaration (said.Sorts names) = None
 declaration (said.Operators forms args result a c i) = None
-declaration (said.Variables names sort) = Some (at_places.Variables names sort)
+declaration (said.Variables names sort) = Some (at_tokens.Variables names sort)
 declaration (said.Equation left right exec) = None
 declaration (said.Derivative term) = None
 declaration (said.Cases sort names) = None
@@ -102,12 +102,12 @@ pub data IsNoItem (ws : List Word) (Is : Item → Type 0) : Cause → Type 0 whe
   out : (w : Word) → IsLeftOut ws w → IsNoItem ws Is (cause.LeftOut w)
   no_item : ((w : Word) → IsLeftOut ws w → ⊥) → ((item : Item) → Is item → ⊥) → IsNoItem ws Is cause.Shape
 
-abbrev pub GivesItem : Result Places Fault → TokenList → List Word → (Item → Type 0) → Type 0
+abbrev pub GivesItem : Result FoundItem Fault → TokenList → List Word → (Item → Type 0) → Type 0
 GivesItem (Ok p) ts ws Is = Is (item_of ts p) × LieWithin ts p × ((w : Word) → IsLeftOut ws w → ⊥)
 GivesItem (Err (Because c)) ts ws Is = IsNoItem ws Is c
 GivesItem (Err Memory) ts ws Is = Unit {0}
 
-abbrev pub shaped : Option Places → Result Places Fault
+abbrev pub shaped : Option FoundItem → Result FoundItem Fault
 shaped None = Err (Because cause.Shape)
 shaped (Some p) = Ok p
 
@@ -129,9 +129,9 @@ abbrev pub ItemOutcome : Draft → Item → Result Draft Cause → Type 0
 ItemOutcome d item (Ok e) = AddsItem d item e
 ItemOutcome d item (Err c) = RefusesItem d item c
 
-abbrev pub TokensOutcome : Job → Draft → (before after : List Word) → Result Draft Cause → Type 0
-TokensOutcome job d before after (Ok e) = TakesItem job d before after e
-TokensOutcome job d before after (Err c) = RefusesTokens job d before after c
+abbrev pub TakingOutcome : Job → Draft → (before after : List Word) → Result Draft Cause → Type 0
+TakingOutcome job d before after (Ok e) = TakesItem job d before after e
+TakingOutcome job d before after (Err c) = TakesNoItem job d before after c
 
 -- whether a script can end with these tokens left
 abbrev pub GivesEnd : Option Cause → Job → Draft → (left : Span) → Type 0
@@ -140,19 +140,19 @@ GivesEnd (Some c) job d left = ((left.from < left.to) × (c ≡ cause.Shape)) �
 
 -- The items lead to a finished draft, or the first cause is this one.
 abbrev pub GivesDraft : Result (Unit {0}) ReadFault → Job → (first last : Draft) → List Word → Type 0
-GivesDraft (Ok u) job first last ws = (k : ℕ) × Reaches job first ws k last [] × IsFinished job last
-GivesDraft (Err (at.Statement n c)) job first last ws = (k : ℕ) × (n ≡ k + 1) × Breaks job first ws k c
+GivesDraft (Ok u) job first last ws = (k : ℕ) × TakesItems job first ws k last [] × IsFinished job last
+GivesDraft (Err (at.Statement n c)) job first last ws = (k : ℕ) × (n ≡ k + 1) × StopsAt job first ws k c
 GivesDraft (Err at.Memory) job first last ws = Unit {0}
 
 -- the same for the script of the last draft
 pub record IsReadFrom (job : Job) (first : Draft) (ws : List Word) (s : made.Script) : Type 0 where
   pub count : ℕ
   pub last : Draft
-  pub items : Reaches job first ws count last []
+  pub items : TakesItems job first ws count last []
   pub finished : IsFinished job last
   pub is : plain_script s ≡ script_of last
 
-abbrev pub GivesRead : Result made.Script ReadFault → Job → (first : Draft) → List Word → Type 0
-GivesRead (Ok s) job first ws = IsReadFrom job first ws s
-GivesRead (Err (at.Statement n c)) job first ws = (k : ℕ) × (n ≡ k + 1) × Breaks job first ws k c
-GivesRead (Err at.Memory) job first ws = Unit {0}
+abbrev pub GivesScriptFrom : Result made.Script ReadFault → Job → (first : Draft) → List Word → Type 0
+GivesScriptFrom (Ok s) job first ws = IsReadFrom job first ws s
+GivesScriptFrom (Err (at.Statement n c)) job first ws = (k : ℕ) × (n ≡ k + 1) × StopsAt job first ws k c
+GivesScriptFrom (Err at.Memory) job first ws = Unit {0}

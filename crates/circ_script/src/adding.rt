@@ -11,7 +11,7 @@ ghost use Rattle.circ_script.specs.Items.{goal, coinduction, reduce};
 ghost use Rattle.circ_script.specs.Steps.{draft_of, item_of, ItemOutcome, LieWithin};
 ghost use Rattle.circ_script.specs.Steps.{IsButVariables};
 
-use crate::items::Places;
+use crate::items::FoundItem;
 use crate::readings::unread;
 use crate::variables::add_variables;
 use circ_lexer::{Span, Tokens};
@@ -37,7 +37,7 @@ pub(crate) fn add_item(
     theory: &mut Theory,
     asked: &mut Asked,
     tokens: &Tokens<'_>,
-    item: Places,
+    item: FoundItem,
 ) -> Result<(), Fault>
     requires { LieWithin tokens.now item }
     ensures outcome { StepAnswers result (draft_of theory.new asked.new)
@@ -45,10 +45,10 @@ pub(crate) fn add_item(
     ensures kept { IsButVariables theory.old theory.new }
 {
     match item {
-        Places::Variables { names, sort } => add_variables(theory, tokens, names, sort),
-        Places::Goal { left, right } => add_goal(alloc, theory, asked, tokens, left, right),
-        Places::Coinduction => close_block(alloc, asked),
-        Places::Reduce { term } => add_term(alloc, theory, asked, tokens, term),
+        FoundItem::Variables { names, sort } => add_variables(theory, tokens, names, sort),
+        FoundItem::Goal { left, right } => add_goal(alloc, theory, asked, tokens, left, right),
+        FoundItem::Coinduction => close_block(alloc, asked),
+        FoundItem::Reduce { term } => add_term(alloc, theory, asked, tokens, term),
     }
 }
 

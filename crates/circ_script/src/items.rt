@@ -2,7 +2,7 @@
 ghost use Rattle.std.specs.Prelude.{◌≡◌, ◌↔◌, ◌∷◌, IsTrue, codes};
 ghost use Rattle.circ_lexer.specs.TokenList.{TokenList, tokens_in, IsWithin};
 ghost use Rattle.circ_script.specs.Items.{IsItem, IsFor};
-ghost use Rattle.circ_script.specs.Steps.{item_of, shaped, GivesItem, GivesPlaces, GivesTerm};
+ghost use Rattle.circ_script.specs.Steps.{item_of, shaped, GivesItem, GivesFound, GivesTerm};
 ghost use Rattle.circ_script.specs.Steps.{declaration, IsDeclaration};
 
 use crate::Job;
@@ -14,7 +14,7 @@ use std::alloc::Global;
 
 // An item, by the places of its parts.
 #[derive(Clone, Copy)]
-pub(crate) enum Places {
+pub(crate) enum FoundItem {
     Variables { names: Span, sort: usize },
     Goal { left: Span, right: Span },
     Coinduction,
@@ -22,7 +22,7 @@ pub(crate) enum Places {
 }
 
 // The item that the words of a span are, without parentheses.
-pub(crate) fn item(alloc: Global, tokens: &Tokens<'_>, words: Span) -> Result<Places, Fault>
+pub(crate) fn item(alloc: Global, tokens: &Tokens<'_>, words: Span) -> Result<FoundItem, Fault>
     requires { IsWithin tokens.now words }
     ensures { GivesItem result tokens.now (tokens_in tokens.now words)
         (IsItem (tokens_in tokens.now words)) }
@@ -31,15 +31,15 @@ pub(crate) fn item(alloc: Global, tokens: &Tokens<'_>, words: Span) -> Result<Pl
         return shaped(goal(tokens, rest));
     }
     if let Some(rest) = after(tokens, words, b"coinduction") {
-        return shaped(coinduction(tokens, rest));
+        return shaped(coinduction(rest));
     }
     if let Some(term) = reduced(tokens, words) {
-        return Ok(Places::Reduce { term });
+        return Ok(FoundItem::Reduce { term });
     }
     variables(alloc, tokens, words)
 }
 
-fn shaped(item: Option<Places>) -> Result<Places, Fault>
+fn shaped(item: Option<FoundItem>) -> Result<FoundItem, Fault>
     ensures { result ≡ shaped item }
 {
     match item {
@@ -49,16 +49,16 @@ fn shaped(item: Option<Places>) -> Result<Places, Fault>
 }
 
 // The goal that the words after `add` are.
-fn goal(tokens: &Tokens<'_>, words: Span) -> Option<Places>
+fn goal(tokens: &Tokens<'_>, words: Span) -> Option<FoundItem>
     requires { IsWithin tokens.now words }
-    ensures { GivesPlaces result tokens.now
+    ensures { GivesFound result tokens.now
         (IsItem (codes "add" ∷ tokens_in tokens.now words)) }
 {
     let sides = after(tokens, words, b"goal")?;
     let sides = split(tokens, sides, b"=")?;
     match split(tokens, sides.right, b"=") {
         Some(_) => None,
-        None => Some(Places::Goal {
+        None => Some(FoundItem::Goal {
             left: sides.left,
             right: sides.right,
         }),
@@ -66,16 +66,14 @@ fn goal(tokens: &Tokens<'_>, words: Span) -> Option<Places>
 }
 
 // The end of a block, where nothing stands after its word.
-fn coinduction(tokens: &Tokens<'_>, rest: Span) -> Option<Places>
-    requires { IsWithin tokens.now rest }
-    ensures { GivesPlaces result tokens.now
-        (IsItem (codes "coinduction" ∷ tokens_in tokens.now rest)) }
+fn coinduction(rest: Span) -> Option<FoundItem>
+    ensures { (ts : TokenList) → IsWithin ts rest →
+        GivesFound result ts (IsItem (codes "coinduction" ∷ tokens_in ts rest)) }
 {
-    let _ = tokens;
     if rest.from < rest.to {
         None
     } else {
-        Some(Places::Coinduction)
+        Some(FoundItem::Coinduction)
     }
 }
 
@@ -91,7 +89,7 @@ fn reduced(tokens: &Tokens<'_>, words: Span) -> Option<Span>
 }
 
 // The variables that a statement of a theory text declares.
-fn variables(alloc: Global, tokens: &Tokens<'_>, words: Span) -> Result<Places, Fault>
+fn variables(alloc: Global, tokens: &Tokens<'_>, words: Span) -> Result<FoundItem, Fault>
     requires { IsWithin tokens.now words }
     ensures { GivesItem result tokens.now (tokens_in tokens.now words)
         (IsDeclaration (tokens_in tokens.now words)) }
@@ -103,23 +101,23 @@ fn variables(alloc: Global, tokens: &Tokens<'_>, words: Span) -> Result<Places, 
     }
 }
 
-fn declaration(statement: Statement) -> Option<Places>
+fn declaration(statement: Statement) -> Option<FoundItem>
     ensures { result ≡ declaration statement }
 {
     match statement {
-        Statement::Variables { names, sort } => Some(Places::Variables { names, sort }),
+        Statement::Variables { names, sort } => Some(FoundItem::Variables { names, sort }),
         _ => None,
     }
 }
 
 // Whether a script for the job may have the item.
-pub(crate) fn is_for(job: Job, item: Places) -> bool
+pub(crate) fn is_for(job: Job, item: FoundItem) -> bool
     ensures { (ts : TokenList) → IsTrue result ↔ IsFor job (item_of ts item) }
 {
     match item {
-        Places::Variables { .. } => true,
-        Places::Goal { .. } => job == Job::Prove,
-        Places::Coinduction => job == Job::Prove,
-        Places::Reduce { .. } => job == Job::Reduce,
+        FoundItem::Variables { .. } => true,
+        FoundItem::Goal { .. } => job == Job::Prove,
+        FoundItem::Coinduction => job == Job::Prove,
+        FoundItem::Reduce { .. } => job == Job::Reduce,
     }
 }

@@ -3,9 +3,9 @@ ghost use Rattle.std.specs.Prelude.{◌≡◌, ◌↔◌, IsTrue};
 ghost use Rattle.circ_lexer.specs.TokenList.{tokens_of, tokens_in, IsWithin};
 ghost use Rattle.circ_theory.specs.Theory.{Theory};
 ghost use Rattle.circ_read.specs.Steps.{StepAnswers};
-ghost use Rattle.circ_script.specs.Drafts.{AsksFor, begun};
+ghost use Rattle.circ_script.specs.Drafts.{AsksFor, first_draft};
 ghost use Rattle.circ_script.specs.ReadsAsScript.{GivesScript};
-ghost use Rattle.circ_script.specs.Steps.{draft_of, TokensOutcome, GivesEnd, GivesDraft, GivesRead};
+ghost use Rattle.circ_script.specs.Steps.{draft_of, TakingOutcome, GivesEnd, GivesDraft, GivesScriptFrom};
 ghost use Rattle.circ_script.specs.Steps.{IsButVariables};
 
 use crate::Job;
@@ -64,7 +64,7 @@ fn read_all(
     tokens: &Tokens<'_>,
     job: Job,
 ) -> Result<Script, ReadFault>
-    ensures gives { GivesRead result job (begun theory.old) (tokens_of tokens.now) }
+    ensures gives { GivesScriptFrom result job (first_draft theory.old) (tokens_of tokens.now) }
     ensures kept { IsButVariables theory.old theory.new }
 {
     let mut asked = Asked {
@@ -133,7 +133,7 @@ fn take_item(
     requires before { IsWithin tokens.now before }
     requires after { IsWithin tokens.now after }
     ensures outcome { StepAnswers result (draft_of theory.new asked.new)
-        (TokensOutcome job (draft_of theory.old asked.old)
+        (TakingOutcome job (draft_of theory.old asked.old)
         (tokens_in tokens.now before) (tokens_in tokens.now after)) }
     ensures kept { IsButVariables theory.old theory.new }
 {

@@ -2,7 +2,7 @@
 ghost use Rattle.std.specs.Prelude.{◌≡◌, ◌≤◌};
 ghost use Rattle.circ_lexer.specs.TokenList.{tokens_in, IsWithin};
 ghost use Rattle.circ_script.specs.Items.{begins_with, set_aside};
-ghost use Rattle.circ_script.specs.Steps.{GivesRest, GivesSides};
+ghost use Rattle.circ_script.specs.Steps.{GivesRest, GivesHalves};
 
 use circ_lexer::{Span, Tokens};
 use circ_read::has_word;
@@ -51,14 +51,14 @@ pub(crate) fn after(tokens: &Tokens<'_>, span: Span, word: &[u8]) -> Option<Span
 
 // What stands before and after the first such word of a span.
 #[derive(Clone, Copy)]
-pub(crate) struct Sides {
+pub(crate) struct Halves {
     pub(crate) left: Span,
     pub(crate) right: Span,
 }
 
-pub(crate) fn split(tokens: &Tokens<'_>, span: Span, word: &[u8]) -> Option<Sides>
+pub(crate) fn split(tokens: &Tokens<'_>, span: Span, word: &[u8]) -> Option<Halves>
     requires { IsWithin tokens.now span }
-    ensures { GivesSides result tokens.now span word.now }
+    ensures { GivesHalves result tokens.now span word.now }
 {
     for n in span.from..span.to {
         if has_word(tokens, n, word) {
@@ -70,7 +70,7 @@ pub(crate) fn split(tokens: &Tokens<'_>, span: Span, word: &[u8]) -> Option<Side
                 from: n + 1,
                 to: span.to,
             };
-            return Some(Sides { left, right });
+            return Some(Halves { left, right });
         }
     }
     None

@@ -1,5 +1,5 @@
 use Rattle.circ_lexer.specs.TokenList.{tokens_in}
-use Rattle.circ_script.proofs.Shapes.{not_a_goal, no_sides, more_sides}
+use Rattle.circ_script.proofs.Shapes.{more_sides}
 use Rattle.circ_script.proofs.items.goal.Goals as goal
 
 pub returns-in-Some : goal.returns-in-Some

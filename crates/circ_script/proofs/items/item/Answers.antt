@@ -12,7 +12,8 @@ pub returns-in-Some-after : goal.returns-in-Some-after
 returns-in-Some-after c =
     let ts = c.args.tokens.now in
     rw c.shaped-in-Some-after.ensures
-    (shaped_as ts (tokens_in ts c.args.words) (codes "coinduction") (tokens_in ts c.in-Some-after.rest) c.in-Some-after.ensures.words refl c.coinduction.result c.coinduction.ensures)
+    (shaped_as ts (tokens_in ts c.args.words) (codes "coinduction") (tokens_in ts c.in-Some-after.rest) c.in-Some-after.ensures.words refl c.coinduction.result
+    (c.coinduction.ensures ts c.in-Some-after.ensures.within))
 
 pub returns : goal.returns
 returns c =

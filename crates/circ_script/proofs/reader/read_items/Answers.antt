@@ -1,5 +1,4 @@
-use Rattle.std.proofs.Common.{◌+◌, ◌≤◌, ◌<◌, length, refl, ap, arith}
-use Rattle.circ_lexer.specs.TokenList.{tokens_of}
+use Rattle.std.proofs.Common.{◌+◌, refl, ap, arith}
 use Rattle.circ_script.specs.Steps.{draft_of}
 use Rattle.circ_script.proofs.Copies.{but_itself, but_then}
 use Rattle.circ_script.proofs.Walk.{walk_begins, walk_goes_on, walk_faults, walk_ends, walk_breaks}

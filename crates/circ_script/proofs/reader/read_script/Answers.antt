@@ -1,5 +1,3 @@
-use Rattle.std.proofs.Common.{subst}
-use Rattle.circ_script.specs.ReadsAsScript.{GivesScript}
 use Rattle.circ_script.proofs.Walk.{bad_bytes}
 use Rattle.circ_script.proofs.reader.read_script.Goals as goal
 

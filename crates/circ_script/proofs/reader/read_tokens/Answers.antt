@@ -2,8 +2,8 @@ use Rattle.std.proofs.Common.{sym, ap, subst, ◌∙◌}
 use Rattle.std.specs.List.{Contains}
 use Rattle.circ_lexer.specs.TokenList.{tokens_of}
 use Rattle.circ_theory.specs.Signature.{IsSort}
-use Rattle.circ_script.specs.Drafts.{begun}
-use Rattle.circ_script.specs.Steps.{GivesRead}
+use Rattle.circ_script.specs.Drafts.{first_draft}
+use Rattle.circ_script.specs.Steps.{GivesScriptFrom}
 use Rattle.circ_script.proofs.Walk.{script_as}
 use Rattle.circ_script.proofs.reader.read_tokens.Goals as goal
 
@@ -16,4 +16,4 @@ pub returns-in-Ok-clause-gives : goal.returns-in-Ok-clause-gives
 returns-in-Ok-clause-gives c =
     let ts = c.args.tokens.now in
     script_as c.args.theory.now c.args.job ts.source (tokens_of ts) c.known.ensures.tokens c.read_all-script.result
-    (subst (λ th. GivesRead c.read_all-script.result c.args.job (begun th) (tokens_of ts)) c.in-Ok.ensures.same c.read_all-script.ensures.gives)
+    (subst (λ th. GivesScriptFrom c.read_all-script.result c.args.job (first_draft th) (tokens_of ts)) c.in-Ok.ensures.same c.read_all-script.ensures.gives)

@@ -1,7 +1,6 @@
-use Rattle.std.proofs.Common.{◌≡◌, codes, sym, ◌∙◌, refl}
+use Rattle.std.proofs.Common.{sym, ◌∙◌, refl}
 use Rattle.circ_lexer.specs.TokenList.{tokens_in}
 use Rattle.circ_read.proofs.Once.{SaidOnce}
-use Rattle.circ_script.specs.Items.{begins_with}
 use Rattle.circ_script.specs.Steps.{draft_of}
 use Rattle.circ_script.proofs.Drafts.{unpaired, not_for, taken, not_taken, same_found, other_found}
 use Rattle.circ_script.proofs.reader.take_item.Goals as goal
