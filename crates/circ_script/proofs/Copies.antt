@@ -1,5 +1,6 @@
 -- Variables that are listed and declared again, and what is left of a theory beside its variables.
-use Rattle.std.proofs.Common.{◌≡◌, ℕ, zero, suc, List, [], ◌∷◌, ◌++◌, length, Bool, true, false, cond, nat_eq, nat_lt, if◌then◌else◌, Some, None, is_some, refl, sym, ap, ◌∙◌, subst, append_assoc, drop, ◌≤◌, ◌+◌, add-one, arith}
+use Rattle.std.proofs.Common.{◌≡◌, ℕ, zero, suc, List, [], ◌∷◌, ◌++◌, length, Bool, true, false, cond, nat_eq, nat_lt, if◌then◌else◌, Some, None}
+use Rattle.std.proofs.Common.{is_some, refl, sym, ap, ◌∙◌, subst, append_assoc, drop, ◌≤◌, ◌+◌, add-one, arith}
 use Rattle.std.specs.List.{position, position_or_len, slice_get}
 use Rattle.std.proofs.lemmas.List.{append-nil}
 use Rattle.std.proofs.lemmas.Grind.{common_steps}
@@ -32,7 +33,8 @@ name_behind (e ∷ ds) rest d = name_behind ds rest d
 tail_different : (w : List ℕ) (ws : List (List ℕ)) → AreDifferent (w ∷ ws) → AreDifferent ws
 tail_different w ws h = λ m n v a b. let e = h (suc m) (suc n) v a b in omega arith
 
-not_before : (ds rest : List Declared) (d : Declared) → AreDifferent (names_of (ds ++ d ∷ rest)) → position_or_len (λ e. pointwise nat_eq d.name e.name) ds ≡ length ds
+not_before : (ds rest : List Declared) (d : Declared) → AreDifferent (names_of (ds ++ d ∷ rest))
+    → position_or_len (λ e. pointwise nat_eq d.name e.name) ds ≡ length ds
 not_before [] rest d h = refl
 not_before (e ∷ ds) rest d h = go (pointwise nat_eq d.name e.name) refl (not_before ds rest d (tail_different e.name (names_of (ds ++ d ∷ rest)) h))
   where
@@ -48,8 +50,10 @@ new_name : (ds rest : List Declared) (d : Declared) → AreDifferent (names_of (
 new_name ds rest d h = let e = not_before ds rest d h in ap (λ n. cond (nat_lt n (length ds)) (Some n) None) e ∙ grind (arith, common_steps)
 
 -- a variable that is listed behind the declared ones goes behind them
-pub declared_next : (th : Theory) (rest : List Declared) (d : Declared) → AreDifferent (names_of (th.variables ++ d ∷ rest)) → with_var th d.name d.sort ≡ with_variables th (th.variables ++ d ∷ [])
-declared_next th rest d h = ap (λ o. if is_some o then th else record th { variables = th.variables ++ declared d.name d.sort ∷ [] }) (new_name th.variables rest d h)
+pub declared_next : (th : Theory) (rest : List Declared) (d : Declared) → AreDifferent (names_of (th.variables ++ d ∷ rest))
+    → with_var th d.name d.sort ≡ with_variables th (th.variables ++ d ∷ [])
+declared_next th rest d h = ap (λ o. if is_some o then th else record th { variables = th.variables ++ declared d.name d.sort ∷ [] })
+    (new_name th.variables rest d h)
 
 -- some variables are listed, and the others are left
 drop_all : {X : Type 0} (xs : List X) (n : ℕ) → length xs ≤ n → drop n xs ≡ []
@@ -72,10 +76,12 @@ module _ (listed all : List Declared) (n : ℕ) where
 
 -- some of a list of variables are declared, and the others are left
 module _ (th u : Theory) (listed : List (List ℕ × ℕ)) (n : ℕ) where
-  pub none_left : length listed ≤ n → IsButVariables th u → u.variables ++ declared_by (drop n listed) ≡ declared_by listed → u ≡ with_variables th (declared_by listed)
+  pub none_left : length listed ≤ n → IsButVariables th u → u.variables ++ declared_by (drop n listed) ≡ declared_by listed
+      → u ≡ with_variables th (declared_by listed)
   none_left l k e = k ∙ ap (with_variables th) (sym (append-nil u.variables) ∙ ap (λ xs. u.variables ++ declared_by xs) (sym (drop_all listed n l)) ∙ e)
 
-  module _ (v : List ℕ × ℕ) (is : slice_get listed n ≡ Some v) (different : AreDifferent (names_of (declared_by listed))) (e : u.variables ++ declared_by (drop n listed) ≡ declared_by listed) where
+  module _ (v : List ℕ × ℕ) (is : slice_get listed n ≡ Some v) (different : AreDifferent (names_of (declared_by listed)))
+      (e : u.variables ++ declared_by (drop n listed) ≡ declared_by listed) where
     here : u.variables ++ declared v.0 v.1 ∷ declared_by (drop (suc n) listed) ≡ declared_by listed
     here = ap (λ xs. u.variables ++ declared_by xs) (sym (drop_next listed n v is)) ∙ e
 
@@ -84,5 +90,6 @@ module _ (th u : Theory) (listed : List (List ℕ × ℕ)) (n : ℕ) where
 
     pub one_declared : (w : Theory) → w ≡ with_var u v.0 v.1 → w.variables ++ declared_by (drop (n + 1) listed) ≡ declared_by listed
     one_declared w k =
-        ap (λ x. x.variables ++ declared_by (drop (n + 1) listed)) (k ∙ next_is) ∙ append_assoc u.variables (declared v.0 v.1 ∷ []) (declared_by (drop (n + 1) listed))
+        ap (λ x. x.variables ++ declared_by (drop (n + 1) listed)) (k ∙ next_is)
+            ∙ append_assoc u.variables (declared v.0 v.1 ∷ []) (declared_by (drop (n + 1) listed))
         ∙ rw add-one here

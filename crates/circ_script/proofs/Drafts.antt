@@ -1,5 +1,6 @@
 -- What the functions that take one item answer.
-use Rattle.std.proofs.Common.{◌≡◌, ◌≢◌, ℕ, ◌==◌, not, length, Bool, true, false, arith, List, [], ◌∷◌, ◌++◌, map, codes, Option, None, Result, Ok, Err, OnOk, IfErr, refl, sym, ap, ◌∙◌, subst}
+use Rattle.std.proofs.Common.{◌≡◌, ◌≢◌, ℕ, ◌==◌, not, length, Bool, true, false, arith, List, [], ◌∷◌, ◌++◌, map, codes, Option, None, Result, Ok}
+use Rattle.std.proofs.Common.{Err, OnOk, IfErr, refl, sym, ap, ◌∙◌, subst}
 use Rattle.std.proofs.Math.Bool.{beq}
 use Rattle.std.proofs.lemmas.Bool.{eqb-true}
 use Rattle.circ_term.specs.Tree.{Tree}
@@ -34,29 +35,34 @@ use Rattle.circ_script.proofs.ItemWords.{item_once}
 
 module _ (too_long : Option ℕ) (Reads : List Tree → Type 0) (th : Theory) where
   -- why nothing was read
-  pub not_read : (fault : ParseFault) (c : Cause) → GivesReading (Err fault) too_long Reads → IsUnread (Because c) th fault → ReadsNotAlone too_long Reads (reading_text th) c
+  pub not_read : (fault : ParseFault) (c : Cause) → GivesReading (Err fault) too_long Reads → IsUnread (Because c) th fault
+      → ReadsNotAlone too_long Reads (reading_text th) c
   not_read (parse.TooLong n) c g e = subst (ReadsNotAlone too_long Reads (reading_text th)) (sym e) (too_many_tokens n g)
   not_read parse.NoParse c g e = subst (ReadsNotAlone too_long Reads (reading_text th)) (sym e) (no_reading g.0 g.1)
-  not_read (parse.Ambiguous a b) c g e = subst (ReadsNotAlone too_long Reads (reading_text th)) (sym e) (two_readings a.terms.items b.terms.items g.0 g.1 g.2 g.3)
+  not_read (parse.Ambiguous a b) c g e = subst (ReadsNotAlone too_long Reads (reading_text th)) (sym e)
+      (two_readings a.terms.items b.terms.items g.0 g.1 g.2 g.3)
   not_read parse.Memory c g e = absurd e
 
   pub read_alone : (ts : List Tree) → (too_long ≡ None) × Reads ts × ((us : List Tree) → Reads us → us ≡ ts) → ReadsAlone too_long Reads ts
   read_alone ts g = record { short = g.0; reads = g.1; only = g.2 }
 
 module _ (d : Draft) where
-  pub goal_unread : (left right : List Word) (fault : ParseFault) (f : Fault) (e : Draft) → GivesReading (Err fault) (long_sides left right) (ReadsSides d.theory left right) → IsUnread f d.theory fault
+  pub goal_unread : (left right : List Word) (fault : ParseFault) (f : Fault) (e : Draft)
+      → GivesReading (Err fault) (long_sides left right) (ReadsSides d.theory left right) → IsUnread f d.theory fault
       → StepAnswers {U = Unit {0}} (Err f) e (ItemOutcome d (goal left right))
   goal_unread left right fault (Because c) e g u = not_read (long_sides left right) (ReadsSides d.theory left right) d.theory fault c g u
   goal_unread left right fault Memory e g u = tt
 
-  pub term_unread : (term : List Word) (fault : ParseFault) (f : Fault) (e : Draft) → GivesReading (Err fault) (long_count term) (ReadsTerm d.theory term) → IsUnread f d.theory fault
+  pub term_unread : (term : List Word) (fault : ParseFault) (f : Fault) (e : Draft) → GivesReading (Err fault) (long_count term) (ReadsTerm d.theory term)
+      → IsUnread f d.theory fault
       → StepAnswers {U = Unit {0}} (Err f) e (ItemOutcome d (reduce term))
   term_unread term fault (Because c) e g u = not_read (long_count term) (ReadsTerm d.theory term) d.theory fault c g u
   term_unread term fault Memory e g u = tt
 
   -- what a statement that declares variables comes to, as an item
   pub declared_as : (names : List Word) (sort : Word) (r : Result (Unit {0}) Fault) (u : Theory) (e : Draft) → e ≡ record d { theory = u }
-      → StepAnswers r u (SaidOutcome AddsStatement RefusesStatement d.theory (statement.variables names sort)) → StepAnswers r e (ItemOutcome d (variables names sort))
+      → StepAnswers r u (SaidOutcome AddsStatement RefusesStatement d.theory (statement.variables names sort)) → StepAnswers r e
+          (ItemOutcome d (variables names sort))
   declared_as names sort (Ok n) u e s h = subst (λ x. AddsItem d (variables names sort) x) (sym s) (h, refl)
   declared_as names sort (Err (Because c)) u e s h = h
   declared_as names sort (Err Memory) u e s h = tt
@@ -102,7 +108,8 @@ module _ (job : Job) (d : Draft) (before after ws : List Word) (is : ws ≡ item
     -- the job has no such item
     pub not_for : SaidOnce → (IsFor job (item_of ts p) → ⊥) → TakesNoItem job d before after cause.Shape
     not_for law none = no_shape (kept_as h.2) (λ item it.
-        let e = item_once law (item_words before) item (item_of ts p) it.says (subst (λ x. IsItem x (item_of ts p)) is h.0) in none (subst (IsFor job) e it.is_for))
+        let e = item_once law (item_words before) item (item_of ts p) it.says (subst (λ x. IsItem x (item_of ts p)) is h.0) in
+        none (subst (IsFor job) e it.is_for))
 
     -- it is taken
     pub taken : begins_with (codes ")") after ≡ begins_with (codes "(") before → IsFor job (item_of ts p) → (r : Result (Unit {0}) Fault) (e : Draft)

@@ -1,5 +1,6 @@
 -- What is true of each script that is read.
-use Rattle.std.proofs.Common.{◌≡◌, ◌≢◌, ℕ, List, [], ◌∷◌, ◌++◌, Bool, true, false, if◌then◌else◌, is_some, Some, None, ◌⊎◌, inl, inr, refl, sym, ap, ◌∙◌, subst, arith}
+use Rattle.std.proofs.Common.{◌≡◌, ◌≢◌, ℕ, List, [], ◌∷◌, ◌++◌, Bool, true, false, if◌then◌else◌, is_some, Some, None, ◌⊎◌, inl, inr, refl, sym, ap}
+use Rattle.std.proofs.Common.{◌∙◌, subst, arith}
 use Rattle.std.specs.List.{Contains}
 use Rattle.std.proofs.lemmas.List.Elements.{Contains-push_cases}
 use Rattle.std.proofs.lemmas.List.Quantifiers.{position-Some}
@@ -76,7 +77,8 @@ module _ (th : Theory) (formed : IsWellFormed th) where
   same_signature : (d : Draft) → IsFitDraft d → d.theory.signature ≡ th.signature
   same_signature d h = ap (λ x. x.signature) h.theory.but
 
-  goal_fit : (d : Draft) (left right : List Word) (g : Pair) → IsFitDraft d → long_sides left right ≡ None → ReadsSides d.theory left right (terms_of g) → IsFitGoal th.signature g
+  goal_fit : (d : Draft) (left right : List Word) (g : Pair) → IsFitDraft d → long_sides left right ≡ None → ReadsSides d.theory left right (terms_of g)
+      → IsFitGoal th.signature g
   goal_fit d left right g h short r =
       let vars = d.theory.variables in
       let l : r.0 ≡ g.left = let z = r.2 in cc in
@@ -91,7 +93,8 @@ module _ (th : Theory) (formed : IsWellFormed th) where
   term_fit d ws t h short r =
       let vars = d.theory.variables in
       let l : r.0 ≡ t = let z = r.1 in cc in
-      let p : ReadsOne th.signature vars false ws t = subst (λ x. ReadsOne th.signature vars false ws x) l (subst (λ x. ReadsOne x vars false ws r.0) (same_signature d h) r.2) in
+      let p : ReadsOne th.signature vars false ws t = subst (λ x. ReadsOne th.signature vars false ws x) l
+          (subst (λ x. ReadsOne x vars false ws r.0) (same_signature d h) r.2) in
       record { sorted = one_sorted th vars false ws t formed h.theory.sorts p; low = one_low th.signature vars ws t short p }
 
   fit_added : (d : Draft) (i : Item) (e : Draft) → IsFitDraft d → AddsItem d i e → IsFitDraft e
@@ -158,9 +161,11 @@ lacks_begun : (th : Theory) (job : Job) → LacksOthers job (first_draft th)
 lacks_begun th Prove = refl
 lacks_begun th Reduce = (refl, refl)
 
-lacks_reached : (th : Theory) (job : Job) (tokens : List Word) (k : ℕ) (d : Draft) (left : List Word) → TakesItems job (first_draft th) tokens k d left → LacksOthers job d
+lacks_reached : (th : Theory) (job : Job) (tokens : List Word) (k : ℕ) (d : Draft) (left : List Word) → TakesItems job (first_draft th) tokens k d left
+    → LacksOthers job d
 lacks_reached th job tokens k d left start = lacks_begun th job
-lacks_reached th job tokens k d left (next i c e here before after r h n t) = lacks_added job c t.item e (lacks_reached th job tokens i c here r) t.is.is_for t.adds
+lacks_reached th job tokens k d left (next i c e here before after r h n t) = lacks_added job c t.item e (lacks_reached th job tokens i c here r) t.is.is_for
+    t.adds
 
 pub script_for : (th : Theory) (job : Job) (bytes : List ℕ) (s : Script) → ReadsAsScript th job bytes s → IsScriptFor job s
 script_for th job bytes s r = subst (IsScriptFor job) (sym r.is) (go job (lacks_reached th job r.tokens r.count r.last [] r.items) r.finished.asks)

@@ -33,7 +33,8 @@ module _ (law : SaidOnce) (ws : List Word) where
   reduced_once term other (inr h) (inl k) = absurd (heads_apart (codes "red") (codes "reduce") term other refl (sym h ∙ k))
   reduced_once term other (inr h) (inr k) = let e = sym h ∙ k in cc
 
-  not_reduced : (w : Word) (rest term : List Word) → is_word w (codes "reduce") ≡ false → is_word w (codes "red") ≡ false → ws ≡ w ∷ rest → IsItem ws (reduce term) → ⊥
+  not_reduced : (w : Word) (rest term : List Word) → is_word w (codes "reduce") ≡ false → is_word w (codes "red") ≡ false → ws ≡ w ∷ rest
+      → IsItem ws (reduce term) → ⊥
   not_reduced w rest term long short e (inl h) = heads_apart w (codes "reduce") rest term long (sym e ∙ h)
   not_reduced w rest term long short e (inr h) = heads_apart w (codes "red") rest term short (sym e ∙ h)
 

@@ -1,5 +1,6 @@
 -- The numbers of variables are as low as tokens are few.
-use Rattle.std.proofs.Common.{◌≡◌, ℕ, ◌+◌, ◌≤◌, List, [], ◌∷◌, ◌++◌, length, Bool, true, false, nat_lt, if◌then◌else◌, Option, Some, None, refl, sym, ap, ◌∙◌, subst, arith}
+use Rattle.std.proofs.Common.{◌≡◌, ℕ, ◌+◌, ◌≤◌, List, [], ◌∷◌, ◌++◌, length, Bool, true, false, nat_lt, if◌then◌else◌, Option, Some, None, refl, sym}
+use Rattle.std.proofs.Common.{ap, ◌∙◌, subst, arith}
 use Rattle.std.proofs.lemmas.List.{length-append}
 use Rattle.std.proofs.lemmas.Grind.{common_steps}
 use Rattle.std.specs.List.{AllByRecursion, list_any}
@@ -9,7 +10,8 @@ use Rattle.circ_theory.specs.Signature.{Signature}
 use Rattle.circ_theory.specs.Theory.{Declared}
 use Rattle.circ_theory.specs.Variables.{occurrences, all_occurrences}
 use Rattle.circ_mixfix.specs.Answers.{long_count}
-use Rattle.circ_mixfix.specs.Named.{Named, NamedList, NamedVariable, Variable, Applied, no_terms, terms, is_named, seen_in, seen_in_all, numbered, all_numbered, place_from}
+use Rattle.circ_mixfix.specs.Named.{Named, NamedList, NamedVariable, Variable, Applied, no_terms, terms, is_named, seen_in, seen_in_all, numbered}
+use Rattle.circ_mixfix.specs.Named.{all_numbered, place_from}
 use Rattle.circ_mixfix.specs.Symbols.{Symbol, Word, Hole, symbols_of}
 use Rattle.circ_mixfix.specs.Spells.{Spells, in_parentheses, a_variable, an_operator, SpellsSymbols, no_symbol, a_word, a_hole}
 use Rattle.circ_mixfix.specs.Readings.{ReadsOne, ReadsPair}
@@ -33,14 +35,16 @@ seen_one v vs false = simp length-append (omega arith)
 module _ (sig : Signature) (vars : List Declared) (hole : Bool) where
   -- as many variables as tokens, at most
   mutual
-    seen_few : (b s : ℕ) (ws : List (List ℕ)) (q : Named) (vs : List NamedVariable) → Spells sig vars hole b s ws q → length (seen_in q vs) ≤ length vs + length ws
+    seen_few : (b s : ℕ) (ws : List (List ℕ)) (q : Named) (vs : List NamedVariable) → Spells sig vars hole b s ws q
+        → length (seen_in q vs) ≤ length vs + length ws
     seen_few b s ws q vs (in_parentheses inner lo d e) =
         let h = seen_few _ s inner q vs d in
         let l : length ws ≡ 2 + length inner = ap length e ∙ simp length-append (omega arith) in
         omega (arith, h, l)
     seen_few b s ws q vs (a_variable w n lo v e z) =
         let l : length ws ≡ 1 = ap length e in
-        let h : length (seen_in (Variable n s) vs) ≤ length vs + 1 = seen_one (record { name = n; sort = s }) vs (list_any (is_named (record { name = n; sort = s })) vs) in
+        let h : length (seen_in (Variable n s) vs) ≤ length vs + 1 = seen_one (record { name = n; sort = s }) vs
+            (list_any (is_named (record { name = n; sort = s })) vs) in
         let k : length (seen_in q vs) ≡ length (seen_in (Variable n s) vs) = ap (λ x. length (seen_in x vs)) z in
         omega (arith, h, l, k)
     seen_few b s ws q vs (an_operator f o args l p e row z) =
@@ -48,7 +52,8 @@ module _ (sig : Signature) (vars : List Declared) (hole : Bool) where
         let k : length (seen_in q vs) ≡ length (seen_in_all args vs) = ap (λ x. length (seen_in x vs)) z in
         omega (arith, h, k)
 
-    row_few : (ps : List Symbol) (ws : List (List ℕ)) (args : NamedList) (vs : List NamedVariable) → SpellsSymbols sig vars hole ps ws args → length (seen_in_all args vs) ≤ length vs + length ws
+    row_few : (ps : List Symbol) (ws : List (List ℕ)) (args : NamedList) (vs : List NamedVariable) → SpellsSymbols sig vars hole ps ws args
+        → length (seen_in_all args vs) ≤ length vs + length ws
     row_few [] ws no_terms vs (no_symbol e) = omega arith
     row_few (Word w ∷ ps) ws args vs (a_word rest r e) =
         let h = row_few ps rest args vs r in
@@ -95,7 +100,8 @@ one_low sig vars ws t e r =
     subst HasLowNumbers (sym r.is)
     (numbered_low (place_from 0 (seen_in r.spelled [])) (λ n s. let p = place_low (seen_in r.spelled []) 0 n s in omega (arith, p, h, few)) r.spelled)
 
-pub pair_low : (sig : Signature) (vars : List Declared) (left right : List (List ℕ)) (t u : Tree) → long_sides left right ≡ None → ReadsPair sig vars left right t u → HasLowNumbers t × HasLowNumbers u
+pub pair_low : (sig : Signature) (vars : List Declared) (left right : List (List ℕ)) (t u : Tree) → long_sides left right ≡ None
+    → ReadsPair sig vars left right t u → HasLowNumbers t × HasLowNumbers u
 pair_low sig vars left right t u e r =
     let few = few_sides left right e in
     let vs = seen_in r.second (seen_in r.first []) in
@@ -104,4 +110,5 @@ pair_low sig vars left right t u e r =
     let l = few.0 in
     let m = few.1 in
     let low : (n : List ℕ) (s : ℕ) → place_from 0 vs n s ≤ 512 = λ n s. let p = place_low vs 0 n s in omega (arith, p, h, k, l, m) in
-    (subst HasLowNumbers (sym r.first_is) (numbered_low (place_from 0 vs) low r.first), subst HasLowNumbers (sym r.second_is) (numbered_low (place_from 0 vs) low r.second))
+    (subst HasLowNumbers (sym r.first_is) (numbered_low (place_from 0 vs) low r.first), subst HasLowNumbers (sym r.second_is)
+        (numbered_low (place_from 0 vs) low r.second))

@@ -20,7 +20,8 @@ use Rattle.circ_script.specs.Script.{Script}
 use Rattle.circ_script.specs.Items.{Item, variables, goal, coinduction, reduce, IsItemFor, item_words, left_after}
 use Rattle.circ_script.specs.Drafts.{Draft, first_draft, IsFinished, script_of}
 use Rattle.circ_script.specs.Adding.{ReadsTerm, AddsItem, TakesItem, TakesItems, start, next}
-use Rattle.circ_script.specs.Refusing.{reading_text, RefusesItem, TakesNoItem, left_out, no_shape, is_refused, IsUnfinished, open_goals, no_work, StopsAt, at_an_item, at_a_cut, at_the_end, FirstScriptCause, at_a_byte, in_the_text}
+use Rattle.circ_script.specs.Refusing.{reading_text, RefusesItem, TakesNoItem, left_out, no_shape, is_refused, IsUnfinished, open_goals, no_work}
+use Rattle.circ_script.specs.Refusing.{StopsAt, at_an_item, at_a_cut, at_the_end, FirstScriptCause, at_a_byte, in_the_text}
 use Rattle.circ_script.specs.ReadsAsScript.{ReadsAsScript}
 use Rattle.circ_script.specs.Steps.{ItemOutcome, TakingOutcome}
 use Rattle.circ_script.proofs.ItemWords.{item_once}
@@ -47,7 +48,8 @@ adds_once d (reduce term) e f h k =
 
 adds_or_refuses : (d : Draft) (i : Item) (e : Draft) (c : Cause) → AddsItem d i e → RefusesItem d i c → ⊥
 adds_or_refuses d (variables names sort) e c h k = ok_err e.theory c (statement_once d.theory (statement.variables names sort) (Ok e.theory) (Err c) h.0 k)
-adds_or_refuses d (goal left right) e c h k = alone_or_not (long_sides left right) (ReadsSides d.theory left right) (reading_text d.theory) (terms_of h.goal) c h.alone k
+adds_or_refuses d (goal left right) e c h k = alone_or_not (long_sides left right) (ReadsSides d.theory left right) (reading_text d.theory) (terms_of h.goal)
+    c h.alone k
 adds_or_refuses d coinduction e c h k = h.0 k.0
 adds_or_refuses d (reduce term) e c h k = alone_or_not (long_count term) (ReadsTerm d.theory term) (reading_text d.theory) (h.term ∷ []) c h.alone k
 
@@ -75,7 +77,8 @@ module _ (law : SaidOnce) (job : Job) where
         adds_or_refuses d j e b (subst (λ x. AddsItem d x e) (same_item t.item j t.is h) t.adds) r
 
     refused_once : (b c : Cause) → TakesNoItem job d before after b → TakesNoItem job d before after c → AreAlike {A = Draft} (Err b) (Err c)
-    refused_once b c (left_out v h) (left_out w k) = subst (λ x. AreAlike {A = Draft} (Err (cause.LeftOut v)) (Err (cause.LeftOut x))) (law.out (item_words before) v w h k) same
+    refused_once b c (left_out v h) (left_out w k) = subst (λ x. AreAlike {A = Draft} (Err (cause.LeftOut v)) (Err (cause.LeftOut x)))
+        (law.out (item_words before) v w h k) same
     refused_once b c (left_out v h) (no_shape kept none) = absurd (kept v h)
     refused_once b c (left_out v h) (is_refused j a k r) = absurd (k.kept v h)
     refused_once b c (no_shape kept none) (left_out v h) = absurd (kept v h)
@@ -93,7 +96,8 @@ module _ (law : SaidOnce) (job : Job) where
 
   module _ (first : Draft) (tokens : List Word) where
     -- the tokens before and after a stop, as they stand at one place
-    module _ (d d' : Draft) (here here' before before' after after' : List Word) (e : d ≡ d') (f : here ≡ here') (h : here ≡ before ++ codes "." ∷ after) (h' : here' ≡ before' ++ codes "." ∷ after')
+    module _ (d d' : Draft) (here here' before before' after after' : List Word) (e : d ≡ d') (f : here ≡ here') (h : here ≡ before ++ codes "." ∷ after)
+        (h' : here' ≡ before' ++ codes "." ∷ after')
         (n : HasNoStop before) (n' : HasNoStop before') where
       abbrev cut : (before ≡ before') × (after ≡ after')
       cut = cut_once before before' after after' (sym h ∙ f ∙ h') n n'
@@ -101,9 +105,11 @@ module _ (law : SaidOnce) (job : Job) where
       same_outcome : (r q : Result Draft Cause) → TakingOutcome job d before after r → TakingOutcome job d' before' after' q → AreAlike r q
       same_outcome r q t t' =
           tokens_once d before after r q t
-          (subst (λ x. TakingOutcome job x before after q) (sym e) (subst (λ x. TakingOutcome job d' x after q) (sym cut.0) (subst (λ x. TakingOutcome job d' before' x q) (sym cut.1) t')))
+          (subst (λ x. TakingOutcome job x before after q) (sym e)
+              (subst (λ x. TakingOutcome job d' x after q) (sym cut.0) (subst (λ x. TakingOutcome job d' before' x q) (sym cut.1) t')))
 
-    pub reaches_once : (k j : ℕ) (a b : Draft) (left rest : List Word) → k ≡ j → TakesItems job first tokens k a left → TakesItems job first tokens j b rest → (a ≡ b) × (left ≡ rest)
+    pub reaches_once : (k j : ℕ) (a b : Draft) (left rest : List Word) → k ≡ j → TakesItems job first tokens k a left → TakesItems job first tokens j b rest
+        → (a ≡ b) × (left ≡ rest)
     reaches_once k j a b left rest e start start = (refl, refl)
     reaches_once k j a b left rest e start (next i c d here before after r h n t) = absurd (omega arith)
     reaches_once k j a b left rest e (next i c d here before after r h n t) start = absurd (omega arith)
@@ -129,12 +135,14 @@ module _ (law : SaidOnce) (job : Job) where
     earlier k j a left l (next i c d here before after r h n t) = go (λ less. earlier i j c here less r) (cases_order j i)
       where
         go : (j < i → Step j) → (j ≡ i) ⊎ ((j < i) ⊎ (i < j)) → Step j
-        go sooner (inl e) = subst Step (sym e) (record { now = c; here = here; before = before; after = after; then = a; reached = r; cut = h; whole = n; takes = t })
+        go sooner (inl e) = subst Step (sym e) (record { now = c; here = here; before = before; after = after; then = a; reached = r; cut = h; whole = n;
+            takes = t })
         go sooner (inr (inl less)) = sooner less
         go sooner (inr (inr more)) = absurd (omega arith)
 
     -- nothing is read after tokens without a stop
-    none_later : (k j : ℕ) (a b : Draft) (left rest : List Word) → HasNoStop left → TakesItems job first tokens k a left → TakesItems job first tokens j b rest → k < j → ⊥
+    none_later : (k j : ℕ) (a b : Draft) (left rest : List Word) → HasNoStop left → TakesItems job first tokens k a left
+        → TakesItems job first tokens j b rest → k < j → ⊥
     none_later k j a b left rest h r q l =
         let step = earlier j k b rest l q in
         let at = reaches_once k k a step.now left step.here refl r step.reached in
@@ -146,7 +154,8 @@ module _ (law : SaidOnce) (job : Job) where
     break_before k j b rest c (at_an_item i a here before after c' r h n t) q l =
         let step = earlier j k b rest l q in
         let at = reaches_once k k a step.now here step.here refl r step.reached in
-        ok_err step.then c (same_outcome step.now a step.here here step.before before step.after after (sym at.0) (sym at.1) step.cut h step.whole n (Ok step.then) (Err c) step.takes t)
+        ok_err step.then c (same_outcome step.now a step.here here step.before before step.after after (sym at.0) (sym at.1) step.cut h step.whole n
+            (Ok step.then) (Err c) step.takes t)
 
     record Reached (k : ℕ) : Type 0 where
       now : Draft
@@ -219,7 +228,8 @@ module _ (cut : CutOnce) (law : SaidOnce) (th : Theory) (job : Job) (bytes : Lis
   pub script_once : (s t : Script) → ReadsAsScript th job bytes s → ReadsAsScript th job bytes t → t ≡ s
   script_once s t h k =
       let e = cut.tokens bytes h.tokens k.tokens h.are_tokens k.are_tokens in
-      let same_last = ends_once law job (first_draft th) h.tokens h.count k.count h.last k.last h.items (subst (λ x. TakesItems job (first_draft th) x k.count k.last []) e k.items) in
+      let same_last = ends_once law job (first_draft th) h.tokens h.count k.count h.last k.last h.items
+          (subst (λ x. TakesItems job (first_draft th) x k.count k.last []) e k.items) in
       k.is ∙ ap script_of (sym same_last) ∙ sym h.is
 
   pub script_or_cause : (s : Script) (n : ℕ) (c : Cause) → ReadsAsScript th job bytes s → FirstScriptCause th job bytes n c → ⊥
@@ -228,8 +238,10 @@ module _ (cut : CutOnce) (law : SaidOnce) (th : Theory) (job : Job) (bytes : Lis
       let e = cut.tokens bytes h.tokens ws h.are_tokens t in
       ends_or_breaks law job (first_draft th) h.tokens h.count k h.last c h.items h.finished (subst (λ x. StopsAt job (first_draft th) x k c) e b)
 
-  pub cause_once : (n m : ℕ) (c d : Cause) → FirstScriptCause th job bytes n c → FirstScriptCause th job bytes m d → (m ≡ n) × AreAlike {A = Script} (Err c) (Err d)
-  cause_once n m c d (at_a_byte f h) (at_a_byte g k) = (refl, subst (λ x. AreAlike {A = Script} (Err c) (Err x)) (ap byte_cause (sym (bad_once cut bytes f g h k))) same)
+  pub cause_once : (n m : ℕ) (c d : Cause) → FirstScriptCause th job bytes n c → FirstScriptCause th job bytes m d
+      → (m ≡ n) × AreAlike {A = Script} (Err c) (Err d)
+  cause_once n m c d (at_a_byte f h) (at_a_byte g k) = (refl, subst (λ x. AreAlike {A = Script} (Err c) (Err x))
+      (ap byte_cause (sym (bad_once cut bytes f g h k))) same)
   cause_once n m c d (at_a_byte f h) (in_the_text ws k c' t b) = absurd (bad_or_tokens cut bytes f ws h t)
   cause_once n m c d (in_the_text ws k c' t b) (at_a_byte f h) = absurd (bad_or_tokens cut bytes f ws h t)
   cause_once n m c d (in_the_text ws k c' t b) (in_the_text vs j d' u e) =

@@ -1,5 +1,6 @@
 -- Words at the begin of spans of tokens, and spans split at a word.
-use Rattle.std.proofs.Common.{◌≡◌, ℕ, zero, suc, ◌+◌, ◌-◌, ◌<◌, ◌≤◌, List, [], ◌∷◌, ◌++◌, length, take, drop, slice_range, slice_get, unwrap_or, true, false, if◌then◌else◌, refl, sym, ap, ◌∙◌, arith}
+use Rattle.std.proofs.Common.{◌≡◌, ℕ, zero, suc, ◌+◌, ◌-◌, ◌<◌, ◌≤◌, List, [], ◌∷◌, ◌++◌, length, take, drop, slice_range, slice_get, unwrap_or, true}
+use Rattle.std.proofs.Common.{false, if◌then◌else◌, refl, sym, ap, ◌∙◌, arith}
 use Rattle.std.proofs.Math.Seq.{take-add}
 use Rattle.std.proofs.lemmas.List.{take_rest, drop-drop}
 use Rattle.std.proofs.lemmas.List.Folds.{list_any-append}
@@ -47,9 +48,11 @@ module _ (ts : TokenList) (span : Span) (w : Word) (h : IsWithin ts span) (l : s
   }
 
 -- a word that stands first is set aside
-pub aside_found : (ts : TokenList) (span rest : Span) (w : Word) → IsRestAfter ts span rest w → (true ≡ begins_with w (tokens_in ts span)) × (tokens_in ts rest ≡ set_aside w (tokens_in ts span))
+pub aside_found : (ts : TokenList) (span rest : Span) (w : Word) → IsRestAfter ts span rest w
+    → (true ≡ begins_with w (tokens_in ts span)) × (tokens_in ts rest ≡ set_aside w (tokens_in ts span))
 aside_found ts span rest w r =
-    (sym (ap (begins_with w) r.words ∙ same_word w), sym (ap (set_aside w) r.words ∙ ap (λ b. if b then tokens_in ts rest else w ∷ tokens_in ts rest) (same_word w)))
+    (sym (ap (begins_with w) r.words ∙ same_word w), sym (ap (set_aside w) r.words
+        ∙ ap (λ b. if b then tokens_in ts rest else w ∷ tokens_in ts rest) (same_word w)))
 
 pub aside_not : (w : Word) (ws : List Word) → begins_with w ws ≡ false → ws ≡ set_aside w ws
 aside_not w [] e = refl
@@ -66,14 +69,16 @@ range_split ws a b c l m =
 pub lacks_none : (ts : TokenList) (at : ℕ) (w : Word) → has_word w (slice_range (tokens_of ts) at at) ≡ false
 lacks_none ts at w = ap (has_word w) (range_none (tokens_of ts) at)
 
-pub lacks_more : (ts : TokenList) (at n : ℕ) (w : Word) → at ≤ n → n < length (tokens_of ts) → has_word w (slice_range (tokens_of ts) at n) ≡ false → has_word_at (tokens_of ts) n w ≡ false
+pub lacks_more : (ts : TokenList) (at n : ℕ) (w : Word) → at ≤ n → n < length (tokens_of ts) → has_word w (slice_range (tokens_of ts) at n) ≡ false
+    → has_word_at (tokens_of ts) n w ≡ false
     → has_word w (slice_range (tokens_of ts) at (n + 1)) ≡ false
 lacks_more ts at n w a l h e =
     let ws = tokens_of ts in
     let last : is_word (unwrap_or (slice_get ws n) []) w ≡ false = sym (tested ws n w l) ∙ e in
     ap (has_word w) (range_more ws at n a l) ∙ list_any-append (λ v. is_word v w) (slice_range ws at n) (unwrap_or (slice_get ws n) [] ∷ []) ∙ rw (h, last) refl
 
-pub split_at : (ts : TokenList) (span : Span) (w : Word) (n : ℕ) (s : Halves) → IsWithin ts span → span.from ≤ n → n < span.to → s.left.from ≡ span.from → s.left.to ≡ n → s.right.from ≡ n + 1 → s.right.to ≡ span.to
+pub split_at : (ts : TokenList) (span : Span) (w : Word) (n : ℕ) (s : Halves) → IsWithin ts span → span.from ≤ n → n < span.to → s.left.from ≡ span.from
+    → s.left.to ≡ n → s.right.from ≡ n + 1 → s.right.to ≡ span.to
     → has_word w (slice_range (tokens_of ts) span.from n) ≡ false → has_word_at (tokens_of ts) n w ≡ true → AreHalves ts span w s
 split_at ts span w n s h a l lf lt rf rt none e =
     let ws = tokens_of ts in
@@ -85,7 +90,8 @@ split_at ts span w n s h a l lf lt rf rt none e =
       left = record { ahead = omega (arith, a, lf, lt); within = omega (arith, lt, l, m) };
       right = record { ahead = omega (arith, rf, rt, l); within = omega (arith, rt, m) };
       words =
-        range_split ws span.from n span.to a (omega (arith, l)) ∙ ap (λ xs. slice_range ws span.from n ++ xs) (range_next ws n span.to l m ∙ ap (λ v. v ∷ slice_range ws (n + 1) span.to) is)
+        range_split ws span.from n span.to a (omega (arith, l))
+            ∙ ap (λ xs. slice_range ws span.from n ++ xs) (range_next ws n span.to l m ∙ ap (λ v. v ∷ slice_range ws (n + 1) span.to) is)
         ∙ ap (λ xs. xs ++ w ∷ slice_range ws (n + 1) span.to) (sym left_is) ∙ ap (λ xs. tokens_in ts s.left ++ w ∷ xs) (sym right_is);
       first = ap (has_word w) left_is ∙ none;
     }

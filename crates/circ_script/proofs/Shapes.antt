@@ -97,7 +97,8 @@ module _ (ts : TokenList) (ws : List Word) (w : Word) (rest : List Word) (is : w
   shaped_as (Some p) h = (subst (λ x. IsItem x (item_of ts p)) (sym is) h.0, h.1, λ v k. not_out ws w rest v none is k)
 
 -- other words
-pub other_as : (ts : TokenList) (ws : List Word) → IsOther ws → (r : Result FoundItem Fault) → GivesItem r ts ws (IsDeclaration ws) → GivesItem r ts ws (IsItem ws)
+pub other_as : (ts : TokenList) (ws : List Word) → IsOther ws → (r : Result FoundItem Fault) → GivesItem r ts ws (IsDeclaration ws)
+    → GivesItem r ts ws (IsItem ws)
 other_as ts ws o (Ok p) h = (declares_only ws (item_of ts p) h.0, h.1, h.2)
 other_as ts ws o (Err (Because c)) h = no_item_as ws (IsItem ws) (IsDeclaration ws) (only_declares ws o) c h
 other_as ts ws o (Err Memory) h = tt
@@ -112,14 +113,16 @@ alone rest some (reduce term) (inr h) = heads_apart (codes "coinduction") (codes
 
 -- what stands after `add` is a goal
 after_add : (rest : List Word) (item : Item) → IsItem (codes "add" ∷ rest) item
-    → (left right : List Word) × ((rest ≡ codes "goal" ∷ (left ++ codes "=" ∷ right)) × (has_word (codes "=") left ≡ false) × (has_word (codes "=") right ≡ false))
+    → (left right : List Word)
+    × ((rest ≡ codes "goal" ∷ (left ++ codes "=" ∷ right)) × (has_word (codes "=") left ≡ false) × (has_word (codes "=") right ≡ false))
 after_add rest (variables names sort) h = absurd h
 after_add rest (goal left right) h = (left, right, (cc, h.1, h.2))
 after_add rest coinduction h = absurd (heads_apart (codes "add") (codes "coinduction") _ _ refl h)
 after_add rest (reduce term) (inl h) = absurd (heads_apart (codes "add") (codes "reduce") _ _ refl h)
 after_add rest (reduce term) (inr h) = absurd (heads_apart (codes "add") (codes "red") _ _ refl h)
 
-pub more_sides : (rest sides left right first second : List Word) → rest ≡ codes "goal" ∷ sides → sides ≡ left ++ codes "=" ∷ right → has_word (codes "=") left ≡ false
+pub more_sides : (rest sides left right first second : List Word) → rest ≡ codes "goal" ∷ sides → sides ≡ left ++ codes "=" ∷ right
+    → has_word (codes "=") left ≡ false
     → right ≡ first ++ codes "=" ∷ second → (item : Item) → IsItem (codes "add" ∷ rest) item → ⊥
 more_sides rest sides left right first second e s f r item h =
     let g = after_add rest item h in

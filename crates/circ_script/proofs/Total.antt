@@ -1,5 +1,6 @@
 -- Bytes read as a script or have a first cause, by double negation.
-use Rattle.std.proofs.Common.{◌≡◌, ◌≢◌, ℕ, zero, suc, ◌+◌, ◌<◌, ◌≤◌, List, [], ◌∷◌, length, Bool, true, false, codes, if◌then◌else◌, Option, Some, None, ◌⊎◌, inl, inr, refl, subst, arith}
+use Rattle.std.proofs.Common.{◌≡◌, ◌≢◌, ℕ, zero, suc, ◌+◌, ◌<◌, ◌≤◌, List, [], ◌∷◌, length, Bool, true, false, codes, if◌then◌else◌, Option, Some}
+use Rattle.std.proofs.Common.{None, ◌⊎◌, inl, inr, refl, subst, arith}
 use Rattle.circ_lexer.specs.declared.tokens.Span.{Span}
 use Rattle.circ_lexer.specs.declared.fault.LexFault.{LexFault}
 use Rattle.circ_lexer.specs.Cuts.{Cuts}
@@ -20,7 +21,8 @@ use Rattle.circ_script.specs.declared.job.Job.{Job}
 use Rattle.circ_script.specs.Items.{Item, variables, goal, coinduction, reduce, item_words, set_aside, left_after}
 use Rattle.circ_script.specs.Drafts.{Draft, first_draft, IsFinished, script_of}
 use Rattle.circ_script.specs.Adding.{ReadsTerm, AddsItem, TakesItem, TakesItems, start, next}
-use Rattle.circ_script.specs.Refusing.{reading_text, RefusesItem, TakesNoItem, left_out, no_shape, is_refused, open_goals, no_work, StopsAt, at_an_item, at_a_cut, at_the_end, at_a_byte, in_the_text}
+use Rattle.circ_script.specs.Refusing.{reading_text, RefusesItem, TakesNoItem, left_out, no_shape, is_refused, open_goals, no_work, StopsAt}
+use Rattle.circ_script.specs.Refusing.{at_an_item, at_a_cut, at_the_end, at_a_byte, in_the_text}
 use Rattle.circ_script.specs.ReadsAsScript.{ScriptOrCause}
 
 none_or_some : {A : Type 0} (xs : List A) → (xs ≡ []) ⊎ (xs ≢ [])
@@ -80,7 +82,8 @@ module _ (job : Job) where
         go (inr n) = refused k cause.Unclosed (at_the_end k now cause.Unclosed r (open_goals n))
         go (inl e) = refused k cause.NoGoal (at_the_end k now cause.NoGoal r (no_work e (λ a. accepted now k r (record { closed = e; asks = a }))))
 
-    step : (k : ℕ) (now : Draft) (left : List Word) → ((j : ℕ) (e : Draft) (rest : List Word) → length rest < length left → TakesItems job first tokens j e rest → ⊥)
+    step : (k : ℕ) (now : Draft) (left : List Word)
+        → ((j : ℕ) (e : Draft) (rest : List Word) → length rest < length left → TakesItems job first tokens j e rest → ⊥)
         → TakesItems job first tokens k now left → ⊥
     step k now left later r = go (first_stop left)
       where
@@ -91,14 +94,16 @@ module _ (job : Job) where
         go : HasNoStop left ⊎ Cut left → ⊥
         go (inl h) = ended (none_or_some left) h
         go (inr c) = tokens_total now c.ws c.rest
-            (λ e t. later (k + 1) e (left_after c.rest) (let l = aside_shorter (codes ")") c.rest in let s = c.shorter in omega arith) (next k now e left c.ws c.rest r c.cut c.whole t))
+            (λ e t. later (k + 1) e (left_after c.rest) (let l = aside_shorter (codes ")") c.rest in let s = c.shorter in omega arith)
+                (next k now e left c.ws c.rest r c.cut c.whole t))
             (λ d t. refused k d (at_an_item k now left c.ws c.rest d r c.cut c.whole t))
 
     items_total : (m k : ℕ) (now : Draft) (left : List Word) → length left ≤ m → TakesItems job first tokens k now left → ⊥
     items_total zero k now left l r = step k now left (λ j e rest s q. omega (arith, l, s)) r
     items_total (suc m) k now left l r = step k now left (λ j e rest s q. items_total m j e rest (omega (arith, l, s)) q) r
 
-pub script_total : ((bytes : List ℕ) → (ss : List Span) × ((o : Option LexFault) × Cuts 0 bytes ss o)) → (th : Theory) (job : Job) (bytes : List ℕ) → ScriptOrCause th job bytes
+pub script_total : ((bytes : List ℕ) → (ss : List Span) × ((o : Option LexFault) × Cuts 0 bytes ss o)) → (th : Theory) (job : Job) (bytes : List ℕ)
+    → ScriptOrCause th job bytes
 script_total some th job bytes accepted refused = go (some bytes).0 (some bytes).1.0 (some bytes).1.1
   where
     go : (ss : List Span) (o : Option LexFault) → Cuts 0 bytes ss o → ⊥

@@ -1,5 +1,6 @@
 -- A walk over the items of a script, from stop to stop.
-use Rattle.std.proofs.Common.{◌≡◌, ◌≢◌, ℕ, ◌+◌, ◌*◌, ◌<◌, ◌≤◌, List, [], length, drop, slice_range, Some, None, Result, Ok, Err, ◌-◌, ◌⊎◌, inl, inr, sym, ap, ◌∙◌, subst, arith}
+use Rattle.std.proofs.Common.{◌≡◌, ◌≢◌, ℕ, ◌+◌, ◌*◌, ◌<◌, ◌≤◌, List, [], length, drop, slice_range, Some, None, Result, Ok, Err, ◌-◌, ◌⊎◌, inl, inr}
+use Rattle.std.proofs.Common.{sym, ap, ◌∙◌, subst, arith}
 use Rattle.std.proofs.lemmas.Bool.{cases_lt}
 use Rattle.std.proofs.lemmas.List.{length-drop}
 use Rattle.circ_lexer.specs.declared.fault.LexFault.{LexFault}
@@ -53,7 +54,8 @@ module _ (job : Job) (first : Draft) (ts : TokenList) where
   }
 
   module _ (k : ℕ) (now : Draft) (rest : Span) (w : Walked job first ts k now rest) where
-    module _ (stop : ℕ) (before after : Span) (s : IsStopAfter (tokens_of ts) rest.from stop) (bf : before.from ≡ rest.from) (bt : before.to ≡ stop) (af : after.from ≡ stop + 1) (at : after.to ≡ rest.to) where
+    module _ (stop : ℕ) (before after : Span) (s : IsStopAfter (tokens_of ts) rest.from stop) (bf : before.from ≡ rest.from) (bt : before.to ≡ stop)
+        (af : after.from ≡ stop + 1) (at : after.to ≡ rest.to) where
       before_is : tokens_in ts before ≡ slice_range (tokens_of ts) rest.from stop
       before_is = λ i. slice_range (tokens_of ts) (bf i) (bt i)
 
@@ -70,10 +72,13 @@ module _ (job : Job) (first : Draft) (ts : TokenList) where
           let a = w.ahead in
           omega (arith, some, a, l, bf, bt);
         reached =
-          let is : drop left.from (tokens_of ts) ≡ left_after (drop (stop + 1) (tokens_of ts)) = sym (up_to_the_end ts left (lt ∙ at ∙ w.to)) ∙ lw ∙ ap left_after after_is in
+          let is : drop left.from (tokens_of ts) ≡ left_after (drop (stop + 1) (tokens_of ts)) = sym (up_to_the_end ts left (lt ∙ at ∙ w.to)) ∙ lw
+              ∙ ap left_after after_is in
           subst (λ x. TakesItems job first (tokens_of ts) (k + 1) e x) (sym is)
-          (next k now e (drop rest.from (tokens_of ts)) (slice_range (tokens_of ts) rest.from stop) (drop (stop + 1) (tokens_of ts)) w.reached s.tokens s.no_stop
-          (subst (λ x. TakesItem job now x (drop (stop + 1) (tokens_of ts)) e) before_is (subst (λ x. TakesItem job now (tokens_in ts before) x e) after_is t)));
+          (next k now e (drop rest.from (tokens_of ts)) (slice_range (tokens_of ts) rest.from stop) (drop (stop + 1) (tokens_of ts)) w.reached s.tokens
+              s.no_stop
+          (subst (λ x. TakesItem job now x (drop (stop + 1) (tokens_of ts)) e) before_is
+              (subst (λ x. TakesItem job now (tokens_in ts before) x e) after_is t)));
       }
         where
           go : (before.from < before.to) ⊎ (before.to ≤ before.from) → before.from < before.to
@@ -81,18 +86,24 @@ module _ (job : Job) (first : Draft) (ts : TokenList) where
           go (inr more) = absurd (takes_words job now (tokens_in ts before) (tokens_in ts after) e t (none_in ts before more))
 
       -- an item's fault ends it
-      pub walk_faults : (number : ℕ) (f : Fault) (u last : Draft) → number ≡ k + 1 → StepAnswers {U = Unit {0}} (Err f) u (TakingOutcome job now (tokens_in ts before) (tokens_in ts after))
+      pub walk_faults : (number : ℕ) (f : Fault) (u last : Draft) → number ≡ k + 1
+          → StepAnswers {U = Unit {0}} (Err f) u (TakingOutcome job now (tokens_in ts before) (tokens_in ts after))
           → GivesDraft (Err (fault_at number f)) job first last (tokens_of ts)
       walk_faults number (Because c) u last e t =
-          let r = subst (λ x. TakesNoItem job now x (drop (stop + 1) (tokens_of ts)) c) before_is (subst (λ x. TakesNoItem job now (tokens_in ts before) x c) after_is t) in
-          (k, e, at_an_item k now (drop rest.from (tokens_of ts)) (slice_range (tokens_of ts) rest.from stop) (drop (stop + 1) (tokens_of ts)) c w.reached s.tokens s.no_stop r)
+          let r = subst (λ x. TakesNoItem job now x (drop (stop + 1) (tokens_of ts)) c) before_is
+              (subst (λ x. TakesNoItem job now (tokens_in ts before) x c) after_is t) in
+          (k, e, at_an_item k now (drop rest.from (tokens_of ts)) (slice_range (tokens_of ts) rest.from stop) (drop (stop + 1) (tokens_of ts)) c w.reached
+              s.tokens s.no_stop r)
       walk_faults number Memory u last e t = tt
 
     nothing_left : rest.to ≤ rest.from → drop rest.from (tokens_of ts) ≡ []
     nothing_left l = sym (up_to_the_end ts rest w.to) ∙ none_in ts rest l
 
     some_left : rest.from < rest.to → drop rest.from (tokens_of ts) ≢ []
-    some_left l e = let n : length (tokens_of ts) - rest.from ≡ 0 = sym (length-drop rest.from (tokens_of ts)) ∙ ap length e in let t = w.to in omega (arith, n, l, t)
+    some_left l e =
+        let n : length (tokens_of ts) - rest.from ≡ 0 = sym (length-drop rest.from (tokens_of ts)) ∙ ap length e in
+        let t = w.to in
+        omega (arith, n, l, t)
 
     pub walk_ends : GivesEnd None job now rest → GivesDraft (Ok tt) job first now (tokens_of ts)
     walk_ends (l, f) = (k, subst (λ x. TakesItems job first (tokens_of ts) k now x) (nothing_left l) w.reached, f)
@@ -101,15 +112,19 @@ module _ (job : Job) (first : Draft) (ts : TokenList) where
         → GivesDraft (Err (at.Statement number c)) job first last (tokens_of ts)
     walk_breaks number c last e h (inl (l, s)) =
         (k, e, subst (λ x. StopsAt job first (tokens_of ts) k x) (sym s) (at_a_cut k now (drop rest.from (tokens_of ts)) w.reached (some_left l) h))
-    walk_breaks number c last e h (inr (l, u)) = (k, e, at_the_end k now c (subst (λ x. TakesItems job first (tokens_of ts) k now x) (nothing_left l) w.reached) u)
+    walk_breaks number c last e h (inr (l, u)) =
+        (k, e, at_the_end k now c (subst (λ x. TakesItems job first (tokens_of ts) k now x) (nothing_left l) w.reached) u)
 
 -- a script by its items
-pub script_as : (th : Theory) (job : Job) (bytes : List ℕ) (ws : List Word) → AreTokens bytes ws → (r : Result made.Script ReadFault) → GivesScriptFrom r job (first_draft th) ws → GivesScript r th job bytes
-script_as th job bytes ws are (Ok s) h = record { tokens = ws; are_tokens = are; count = h.count; last = h.last; items = h.items; finished = h.finished; is = h.is }
+pub script_as : (th : Theory) (job : Job) (bytes : List ℕ) (ws : List Word) → AreTokens bytes ws → (r : Result made.Script ReadFault)
+    → GivesScriptFrom r job (first_draft th) ws → GivesScript r th job bytes
+script_as th job bytes ws are (Ok s) h =
+    record { tokens = ws; are_tokens = are; count = h.count; last = h.last; items = h.items; finished = h.finished; is = h.is }
 script_as th job bytes ws are (Err (at.Statement n c)) (k, e, b) = subst (λ i. FirstScriptCause th job bytes i c) (sym e) (in_the_text ws k c are b)
 script_as th job bytes ws are (Err at.Memory) h = tt
 
-pub bad_bytes : (th : Theory) (job : Job) (bytes : List ℕ) (f : LexFault) → GivesTokens (Err f) bytes → GivesScript (Err (fault_at 0 (byte_fault f))) th job bytes
+pub bad_bytes : (th : Theory) (job : Job) (bytes : List ℕ) (f : LexFault) → GivesTokens (Err f) bytes
+    → GivesScript (Err (fault_at 0 (byte_fault f))) th job bytes
 bad_bytes th job bytes (lex.NotAscii n) h = at_a_byte (lex.NotAscii n) h
 bad_bytes th job bytes (lex.Control n) h = at_a_byte (lex.Control n) h
 bad_bytes th job bytes lex.Memory h = tt

@@ -12,7 +12,10 @@ pub heads_apart : (v w : Word) (vs ws : List Word) → is_word v w ≡ false →
 heads_apart v w vs ws f e = let q : v ≡ w = cc in let t : true ≡ false = sym (same_word w) ∙ ap (λ x. is_word x w) (sym q) ∙ f in cc t
 
 lacks_here : (w v : Word) (vs : List Word) → has_word w (v ∷ vs) ≡ false → v ≡ w → ⊥
-lacks_here w v vs h e = let no : is_word v w ≡ false = (or_parts (is_word v w) (has_word w vs) h).0 in let yes : is_word v w ≡ true = ap (λ x. is_word x w) e ∙ same_word w in cc
+lacks_here w v vs h e =
+    let lacking : is_word v w ≡ false = (or_parts (is_word v w) (has_word w vs) h).0 in
+    let there : is_word v w ≡ true = ap (λ x. is_word x w) e ∙ same_word w in
+    cc
 
 lacks_after : (w v : Word) (vs : List Word) → has_word w (v ∷ vs) ≡ false → has_word w vs ≡ false
 lacks_after w v vs h = (or_parts (is_word v w) (has_word w vs) h).1

@@ -6,7 +6,7 @@ use Rattle.circ_statement.specs.Statement.{IsStatement, IsLeftOut}
 use Rattle.circ_script.specs.declared.job.Job.{Job}
 use Rattle.circ_script.specs.declared.job.Job.TheVariants.{Prove, Reduce}
 
--- by the words of its text, without any theory
+-- what an item says, by the words of its text, without any theory
 pub data Item : Type 0 where
   variables : (names : List Word) (sort : Word) → Item
   goal : (left right : List Word) → Item

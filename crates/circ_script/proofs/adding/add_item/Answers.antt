@@ -13,5 +13,6 @@ returns-in-Variables-clause-outcome c =
     let sort = token_at c.args.tokens.now c.in-Variables.sort in
     let th = c.args.theory.now in
     rw c.in-Variables.is
-    (declared_as (draft_of th c.args.asked.now) names sort c.add_variables.result c.add_variables.new.theory (draft_of c.add_variables.new.theory c.args.asked.now) refl
+    (declared_as (draft_of th c.args.asked.now) names sort c.add_variables.result c.add_variables.new.theory
+        (draft_of c.add_variables.new.theory c.args.asked.now) refl
     (outcome_as th (statement.variables names sort) c.add_variables.result c.add_variables.new.theory c.add_variables.ensures.outcome))

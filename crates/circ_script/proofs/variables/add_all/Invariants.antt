@@ -6,6 +6,7 @@ use Rattle.circ_script.proofs.variables.add_all.Given as goal
 
 abbrev pub invariant-loop-n : goal.invariant-loop-n
 invariant-loop-n l = record {
-  same : all_added (variable_added l.sort) l.theory (tokens_from l.tokens l.n l.fn.names.to) ≡ all_added (variable_added l.sort) l.fn.theory (tokens_from l.tokens l.fn.names.from l.fn.names.to);
+  same : all_added (variable_added l.sort) l.theory (tokens_from l.tokens l.n l.fn.names.to) ≡ all_added (variable_added l.sort) l.fn.theory
+      (tokens_from l.tokens l.fn.names.from l.fn.names.to);
   kept : IsButVariables l.fn.theory l.theory;
 }

@@ -27,6 +27,7 @@ returns-in_err-add_var-clause-kept c = subst (IsButVariables c.args.theory.now) 
 
 pub returns : goal.returns
 returns c = record {
-  declared = none_left c.args.theory.now c.loop-variable.theory c.args.variables.now c.loop-variable.variable-index (omega arith) c.loop-variable.invariant.kept c.loop-variable.invariant.all;
+  declared = none_left c.args.theory.now c.loop-variable.theory c.args.variables.now c.loop-variable.variable-index (omega arith)
+      c.loop-variable.invariant.kept c.loop-variable.invariant.all;
   kept = c.loop-variable.invariant.kept;
 }
