@@ -91,5 +91,5 @@ module _ (th u : Theory) (listed : List (List ℕ × ℕ)) (n : ℕ) where
     pub one_declared : (w : Theory) → w ≡ with_var u v.0 v.1 → w.variables ++ declared_by (drop (n + 1) listed) ≡ declared_by listed
     one_declared w k =
         ap (λ x. x.variables ++ declared_by (drop (n + 1) listed)) (k ∙ next_is)
-            ∙ append_assoc u.variables (declared v.0 v.1 ∷ []) (declared_by (drop (n + 1) listed))
+        ∙ append_assoc u.variables (declared v.0 v.1 ∷ []) (declared_by (drop (n + 1) listed))
         ∙ rw add-one here

@@ -62,7 +62,7 @@ module _ (d : Draft) where
   -- what a statement that declares variables comes to, as an item
   pub declared_as : (names : List Word) (sort : Word) (r : Result (Unit {0}) Fault) (u : Theory) (e : Draft) → e ≡ record d { theory = u }
       → StepAnswers r u (SaidOutcome AddsStatement RefusesStatement d.theory (statement.variables names sort)) → StepAnswers r e
-          (ItemOutcome d (variables names sort))
+      (ItemOutcome d (variables names sort))
   declared_as names sort (Ok n) u e s h = subst (λ x. AddsItem d (variables names sort) x) (sym s) (h, refl)
   declared_as names sort (Err (Because c)) u e s h = h
   declared_as names sort (Err Memory) u e s h = tt

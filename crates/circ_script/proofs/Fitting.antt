@@ -84,8 +84,8 @@ module _ (th : Theory) (formed : IsWellFormed th) where
       let l : r.0 ≡ g.left = let z = r.2 in cc in
       let m : r.1 ≡ g.right = let z = r.2 in cc in
       let p : ReadsPair th.signature vars left right g.left g.right =
-        subst (λ x. ReadsPair th.signature vars left right g.left x) m
-        (subst (λ x. ReadsPair th.signature vars left right x r.1) l (subst (λ x. ReadsPair x vars left right r.0 r.1) (same_signature d h) r.3)) in
+      subst (λ x. ReadsPair th.signature vars left right g.left x) m
+      (subst (λ x. ReadsPair th.signature vars left right x r.1) l (subst (λ x. ReadsPair x vars left right r.0 r.1) (same_signature d h) r.3)) in
       let low = pair_low th.signature vars left right g.left g.right short p in
       record { sorted = pair_sorted th vars left right g.left g.right formed h.theory.sorts p; left = low.0; right = low.1 }
 
@@ -94,7 +94,7 @@ module _ (th : Theory) (formed : IsWellFormed th) where
       let vars = d.theory.variables in
       let l : r.0 ≡ t = let z = r.1 in cc in
       let p : ReadsOne th.signature vars false ws t = subst (λ x. ReadsOne th.signature vars false ws x) l
-          (subst (λ x. ReadsOne x vars false ws r.0) (same_signature d h) r.2) in
+      (subst (λ x. ReadsOne x vars false ws r.0) (same_signature d h) r.2) in
       record { sorted = one_sorted th vars false ws t formed h.theory.sorts p; low = one_low th.signature vars ws t short p }
 
   fit_added : (d : Draft) (i : Item) (e : Draft) → IsFitDraft d → AddsItem d i e → IsFitDraft e

@@ -44,7 +44,7 @@ module _ (sig : Signature) (vars : List Declared) (hole : Bool) where
     seen_few b s ws q vs (a_variable w n lo v e z) =
         let l : length ws ≡ 1 = ap length e in
         let h : length (seen_in (Variable n s) vs) ≤ length vs + 1 = seen_one (record { name = n; sort = s }) vs
-            (list_any (is_named (record { name = n; sort = s })) vs) in
+        (list_any (is_named (record { name = n; sort = s })) vs) in
         let k : length (seen_in q vs) ≡ length (seen_in (Variable n s) vs) = ap (λ x. length (seen_in x vs)) z in
         omega (arith, h, l, k)
     seen_few b s ws q vs (an_operator f o args l p e row z) =
@@ -109,6 +109,8 @@ pair_low sig vars left right t u e r =
     let k = seen_few sig vars false _ r.sort right r.second (seen_in r.first []) r.spells_second in
     let l = few.0 in
     let m = few.1 in
-    let low : (n : List ℕ) (s : ℕ) → place_from 0 vs n s ≤ 512 = λ n s. let p = place_low vs 0 n s in omega (arith, p, h, k, l, m) in
-    (subst HasLowNumbers (sym r.first_is) (numbered_low (place_from 0 vs) low r.first), subst HasLowNumbers (sym r.second_is)
-        (numbered_low (place_from 0 vs) low r.second))
+    let low : (n : List ℕ) (s : ℕ) → place_from 0 vs n s ≤ 512 = λ n s. let p = place_low vs 0 n s in omega (arith, p, h, k, l, m) in (
+      subst HasLowNumbers (sym r.first_is) (numbered_low (place_from 0 vs) low r.first),
+      subst HasLowNumbers (sym r.second_is)
+          (numbered_low (place_from 0 vs) low r.second),
+    )

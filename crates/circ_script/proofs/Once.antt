@@ -106,7 +106,7 @@ module _ (law : SaidOnce) (job : Job) where
       same_outcome r q t t' =
           tokens_once d before after r q t
           (subst (λ x. TakingOutcome job x before after q) (sym e)
-              (subst (λ x. TakingOutcome job d' x after q) (sym cut.0) (subst (λ x. TakingOutcome job d' before' x q) (sym cut.1) t')))
+          (subst (λ x. TakingOutcome job d' x after q) (sym cut.0) (subst (λ x. TakingOutcome job d' before' x q) (sym cut.1) t')))
 
     pub reaches_once : (k j : ℕ) (a b : Draft) (left rest : List Word) → k ≡ j → TakesItems job first tokens k a left → TakesItems job first tokens j b rest
         → (a ≡ b) × (left ≡ rest)
@@ -135,8 +135,17 @@ module _ (law : SaidOnce) (job : Job) where
     earlier k j a left l (next i c d here before after r h n t) = go (λ less. earlier i j c here less r) (cases_order j i)
       where
         go : (j < i → Step j) → (j ≡ i) ⊎ ((j < i) ⊎ (i < j)) → Step j
-        go sooner (inl e) = subst Step (sym e) (record { now = c; here = here; before = before; after = after; then = a; reached = r; cut = h; whole = n;
-            takes = t })
+        go sooner (inl e) = subst Step (sym e) (record {
+          now = c;
+          here = here;
+          before = before;
+          after = after;
+          then = a;
+          reached = r;
+          cut = h;
+          whole = n;
+          takes = t;
+        })
         go sooner (inr (inl less)) = sooner less
         go sooner (inr (inr more)) = absurd (omega arith)
 
@@ -155,7 +164,7 @@ module _ (law : SaidOnce) (job : Job) where
         let step = earlier j k b rest l q in
         let at = reaches_once k k a step.now here step.here refl r step.reached in
         ok_err step.then c (same_outcome step.now a step.here here step.before before step.after after (sym at.0) (sym at.1) step.cut h step.whole n
-            (Ok step.then) (Err c) step.takes t)
+        (Ok step.then) (Err c) step.takes t)
 
     record Reached (k : ℕ) : Type 0 where
       now : Draft
@@ -229,7 +238,7 @@ module _ (cut : CutOnce) (law : SaidOnce) (th : Theory) (job : Job) (bytes : Lis
   script_once s t h k =
       let e = cut.tokens bytes h.tokens k.tokens h.are_tokens k.are_tokens in
       let same_last = ends_once law job (first_draft th) h.tokens h.count k.count h.last k.last h.items
-          (subst (λ x. TakesItems job (first_draft th) x k.count k.last []) e k.items) in
+      (subst (λ x. TakesItems job (first_draft th) x k.count k.last []) e k.items) in
       k.is ∙ ap script_of (sym same_last) ∙ sym h.is
 
   pub script_or_cause : (s : Script) (n : ℕ) (c : Cause) → ReadsAsScript th job bytes s → FirstScriptCause th job bytes n c → ⊥
@@ -240,8 +249,11 @@ module _ (cut : CutOnce) (law : SaidOnce) (th : Theory) (job : Job) (bytes : Lis
 
   pub cause_once : (n m : ℕ) (c d : Cause) → FirstScriptCause th job bytes n c → FirstScriptCause th job bytes m d
       → (m ≡ n) × AreAlike {A = Script} (Err c) (Err d)
-  cause_once n m c d (at_a_byte f h) (at_a_byte g k) = (refl, subst (λ x. AreAlike {A = Script} (Err c) (Err x))
-      (ap byte_cause (sym (bad_once cut bytes f g h k))) same)
+  cause_once n m c d (at_a_byte f h) (at_a_byte g k) = (
+    refl,
+    subst (λ x. AreAlike {A = Script} (Err c) (Err x))
+        (ap byte_cause (sym (bad_once cut bytes f g h k))) same,
+  )
   cause_once n m c d (at_a_byte f h) (in_the_text ws k c' t b) = absurd (bad_or_tokens cut bytes f ws h t)
   cause_once n m c d (in_the_text ws k c' t b) (at_a_byte f h) = absurd (bad_or_tokens cut bytes f ws h t)
   cause_once n m c d (in_the_text ws k c' t b) (in_the_text vs j d' u e) =

@@ -39,9 +39,9 @@ module _ (ts : TokenList) (span : Span) (w : Word) (h : IsWithin ts span) (l : s
   pub rest_after : (rest : Span) → rest.from ≡ span.from + 1 → rest.to ≡ span.to → has_word_at (tokens_of ts) span.from w ≡ true → IsRestAfter ts span rest w
   rest_after rest f t e = record {
     words =
-      let is : unwrap_or (slice_get (tokens_of ts) span.from) [] ≡ w = (bytes_eq-Decides _ w).0 (sym test_is ∙ e) in
-      words_are ∙ ap (λ v. v ∷ slice_range (tokens_of ts) (span.from + 1) span.to) is ∙ ap (λ k. w ∷ slice_range (tokens_of ts) k span.to) (sym f)
-      ∙ ap (λ k. w ∷ slice_range (tokens_of ts) rest.from k) (sym t);
+        let is : unwrap_or (slice_get (tokens_of ts) span.from) [] ≡ w = (bytes_eq-Decides _ w).0 (sym test_is ∙ e) in
+        words_are ∙ ap (λ v. v ∷ slice_range (tokens_of ts) (span.from + 1) span.to) is ∙ ap (λ k. w ∷ slice_range (tokens_of ts) k span.to) (sym f)
+        ∙ ap (λ k. w ∷ slice_range (tokens_of ts) rest.from k) (sym t);
     within = let m = h.within in record { ahead = omega (arith, l, f, t); within = omega (arith, m, t) };
     from = omega (arith, f);
     to = t;
@@ -50,9 +50,11 @@ module _ (ts : TokenList) (span : Span) (w : Word) (h : IsWithin ts span) (l : s
 -- a word that stands first is set aside
 pub aside_found : (ts : TokenList) (span rest : Span) (w : Word) → IsRestAfter ts span rest w
     → (true ≡ begins_with w (tokens_in ts span)) × (tokens_in ts rest ≡ set_aside w (tokens_in ts span))
-aside_found ts span rest w r =
-    (sym (ap (begins_with w) r.words ∙ same_word w), sym (ap (set_aside w) r.words
-        ∙ ap (λ b. if b then tokens_in ts rest else w ∷ tokens_in ts rest) (same_word w)))
+aside_found ts span rest w r = (
+  sym (ap (begins_with w) r.words ∙ same_word w),
+  sym (ap (set_aside w) r.words
+      ∙ ap (λ b. if b then tokens_in ts rest else w ∷ tokens_in ts rest) (same_word w)),
+)
 
 pub aside_not : (w : Word) (ws : List Word) → begins_with w ws ≡ false → ws ≡ set_aside w ws
 aside_not w [] e = refl
@@ -90,9 +92,9 @@ split_at ts span w n s h a l lf lt rf rt none e =
       left = record { ahead = omega (arith, a, lf, lt); within = omega (arith, lt, l, m) };
       right = record { ahead = omega (arith, rf, rt, l); within = omega (arith, rt, m) };
       words =
-        range_split ws span.from n span.to a (omega (arith, l))
-            ∙ ap (λ xs. slice_range ws span.from n ++ xs) (range_next ws n span.to l m ∙ ap (λ v. v ∷ slice_range ws (n + 1) span.to) is)
-        ∙ ap (λ xs. xs ++ w ∷ slice_range ws (n + 1) span.to) (sym left_is) ∙ ap (λ xs. tokens_in ts s.left ++ w ∷ xs) (sym right_is);
+          range_split ws span.from n span.to a (omega (arith, l))
+          ∙ ap (λ xs. slice_range ws span.from n ++ xs) (range_next ws n span.to l m ∙ ap (λ v. v ∷ slice_range ws (n + 1) span.to) is)
+          ∙ ap (λ xs. xs ++ w ∷ slice_range ws (n + 1) span.to) (sym left_is) ∙ ap (λ xs. tokens_in ts s.left ++ w ∷ xs) (sym right_is);
       first = ap (has_word w) left_is ∙ none;
     }
 

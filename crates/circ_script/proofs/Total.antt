@@ -95,7 +95,7 @@ module _ (job : Job) where
         go (inl h) = ended (none_or_some left) h
         go (inr c) = tokens_total now c.ws c.rest
             (λ e t. later (k + 1) e (left_after c.rest) (let l = aside_shorter (codes ")") c.rest in let s = c.shorter in omega arith)
-                (next k now e left c.ws c.rest r c.cut c.whole t))
+            (next k now e left c.ws c.rest r c.cut c.whole t))
             (λ d t. refused k d (at_an_item k now left c.ws c.rest d r c.cut c.whole t))
 
     items_total : (m k : ℕ) (now : Draft) (left : List Word) → length left ≤ m → TakesItems job first tokens k now left → ⊥

@@ -68,17 +68,17 @@ module _ (job : Job) (first : Draft) (ts : TokenList) where
         within = h;
         to = lt ∙ at ∙ w.to;
         ahead =
-          let some : before.from < before.to = go (cases_lt before.from before.to) in
-          let a = w.ahead in
-          omega (arith, some, a, l, bf, bt);
+            let some : before.from < before.to = go (cases_lt before.from before.to) in
+            let a = w.ahead in
+            omega (arith, some, a, l, bf, bt);
         reached =
-          let is : drop left.from (tokens_of ts) ≡ left_after (drop (stop + 1) (tokens_of ts)) = sym (up_to_the_end ts left (lt ∙ at ∙ w.to)) ∙ lw
-              ∙ ap left_after after_is in
-          subst (λ x. TakesItems job first (tokens_of ts) (k + 1) e x) (sym is)
-          (next k now e (drop rest.from (tokens_of ts)) (slice_range (tokens_of ts) rest.from stop) (drop (stop + 1) (tokens_of ts)) w.reached s.tokens
-              s.no_stop
-          (subst (λ x. TakesItem job now x (drop (stop + 1) (tokens_of ts)) e) before_is
-              (subst (λ x. TakesItem job now (tokens_in ts before) x e) after_is t)));
+            let is : drop left.from (tokens_of ts) ≡ left_after (drop (stop + 1) (tokens_of ts)) = sym (up_to_the_end ts left (lt ∙ at ∙ w.to)) ∙ lw
+            ∙ ap left_after after_is in
+            subst (λ x. TakesItems job first (tokens_of ts) (k + 1) e x) (sym is)
+            (next k now e (drop rest.from (tokens_of ts)) (slice_range (tokens_of ts) rest.from stop) (drop (stop + 1) (tokens_of ts)) w.reached s.tokens
+            s.no_stop
+            (subst (λ x. TakesItem job now x (drop (stop + 1) (tokens_of ts)) e) before_is
+            (subst (λ x. TakesItem job now (tokens_in ts before) x e) after_is t)));
       }
         where
           go : (before.from < before.to) ⊎ (before.to ≤ before.from) → before.from < before.to
@@ -91,9 +91,12 @@ module _ (job : Job) (first : Draft) (ts : TokenList) where
           → GivesDraft (Err (fault_at number f)) job first last (tokens_of ts)
       walk_faults number (Because c) u last e t =
           let r = subst (λ x. TakesNoItem job now x (drop (stop + 1) (tokens_of ts)) c) before_is
-              (subst (λ x. TakesNoItem job now (tokens_in ts before) x c) after_is t) in
-          (k, e, at_an_item k now (drop rest.from (tokens_of ts)) (slice_range (tokens_of ts) rest.from stop) (drop (stop + 1) (tokens_of ts)) c w.reached
-              s.tokens s.no_stop r)
+          (subst (λ x. TakesNoItem job now (tokens_in ts before) x c) after_is t) in (
+            k,
+            e,
+            at_an_item k now (drop rest.from (tokens_of ts)) (slice_range (tokens_of ts) rest.from stop) (drop (stop + 1) (tokens_of ts)) c w.reached
+                s.tokens s.no_stop r,
+          )
       walk_faults number Memory u last e t = tt
 
     nothing_left : rest.to ≤ rest.from → drop rest.from (tokens_of ts) ≡ []

@@ -9,7 +9,7 @@ returns-in-Ok c =
     let ts = c.args.tokens.now in
     let pair = c.in-Ok.ensures.sorted in
     goal_read c.args.theory.now c.args.asked.now (record c.args.asked.now { goals = c.push_goal.new.goals }) (tokens_in ts c.args.left)
-        (tokens_in ts c.args.right) c.in-Ok.reading.terms.items pair.0 c.push_goal.result pair.1 c.in-Ok.ensures.reading refl
+    (tokens_in ts c.args.right) c.in-Ok.reading.terms.items pair.0 c.push_goal.result pair.1 c.in-Ok.ensures.reading refl
     c.push_goal.ensures.pushed c.push_goal.ensures.fault
 
 pub returns-in-Err : goal.returns-in-Err

@@ -14,5 +14,5 @@ returns-in-Variables-clause-outcome c =
     let th = c.args.theory.now in
     rw c.in-Variables.is
     (declared_as (draft_of th c.args.asked.now) names sort c.add_variables.result c.add_variables.new.theory
-        (draft_of c.add_variables.new.theory c.args.asked.now) refl
+    (draft_of c.add_variables.new.theory c.args.asked.now) refl
     (outcome_as th (statement.variables names sort) c.add_variables.result c.add_variables.new.theory c.add_variables.ensures.outcome))

@@ -8,7 +8,7 @@ pub returns-in-Ok : goal.returns-in-Ok
 returns-in-Ok c =
     let one = c.in-Ok.ensures.sorted in
     term_read c.args.theory.now c.args.asked.now (record c.args.asked.now { terms = c.push_term.new.all }) (tokens_in c.args.tokens.now c.args.term)
-        c.in-Ok.reading.terms.items one.0 c.push_term.result one.1 c.in-Ok.ensures.reading refl
+    c.in-Ok.reading.terms.items one.0 c.push_term.result one.1 c.in-Ok.ensures.reading refl
     c.push_term.ensures.pushed c.push_term.ensures.fault
 
 pub returns-in-Err : goal.returns-in-Err

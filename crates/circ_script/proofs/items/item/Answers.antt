@@ -7,7 +7,7 @@ pub returns-in-Some : goal.returns-in-Some
 returns-in-Some c =
     let ts = c.args.tokens.now in
     rw c.shaped.ensures (shaped_as ts (tokens_in ts c.args.words) (codes "add") (tokens_in ts c.in-Some.rest) c.in-Some.ensures.words refl c.goal.result
-        c.goal.ensures)
+    c.goal.ensures)
 
 pub returns-in-Some-after : goal.returns-in-Some-after
 returns-in-Some-after c =
@@ -20,6 +20,11 @@ pub returns : goal.returns
 returns c =
     let ts = c.args.tokens.now in
     other_as ts (tokens_in ts c.args.words)
-    (record { add = c.in_default.ensures; coinduction = c.in_default-after.ensures; reduce = c.in_default-reduced.ensures.0; red =
-        c.in_default-reduced.ensures.1 })
+    (record {
+      add = c.in_default.ensures;
+      coinduction = c.in_default-after.ensures;
+      reduce = c.in_default-reduced.ensures.0;
+      red =
+          c.in_default-reduced.ensures.1;
+    })
     c.variables.result c.variables.ensures

@@ -21,7 +21,7 @@ loop-stop-preserved c =
         walk_goes_on c.args.job (draft_of c.args.theory.now c.args.asked.now) c.args.tokens.now w.0 (draft_of l.theory l.asked) l.rest w.2 c.in-Some.stop _ _
             c.in-Some.ensures.stop refl refl refl refl
             (draft_of c.take_item.new.theory c.take_item.new.asked) c.set_aside.result.rest c.in-Ok.ensures.outcome c.set_aside.ensures.within
-                c.set_aside.ensures.to c.set_aside.ensures.words
+            c.set_aside.ensures.to c.set_aside.ensures.words
             c.set_aside.ensures.from,
       );
       kept = but_then c.args.theory.now l.theory c.take_item.new.theory l.invariant.kept c.in-Ok.ensures.kept;
@@ -40,16 +40,16 @@ returns-in-Err-clause-gives c =
     let w = l.invariant.walked in
     rw c.fault_at.ensures
     (walk_faults c.args.job (draft_of c.args.theory.now c.args.asked.now) c.args.tokens.now w.0 (draft_of l.theory l.asked) l.rest w.2 c.in-Some.stop _ _
-        c.in-Some.ensures.stop refl refl refl refl
+    c.in-Some.ensures.stop refl refl refl refl
     l.number c.in-Err.fault (draft_of c.take_item.new.theory c.take_item.new.asked) (draft_of c.take_item.new.theory c.take_item.new.asked) w.1
-        c.in-Err.ensures.outcome)
+    c.in-Err.ensures.outcome)
 
 pub returns-in-Some-unfinished-clause-gives : goal.returns-in-Some-unfinished-clause-gives
 returns-in-Some-unfinished-clause-gives c =
     let l = c.loop-stop in
     let w = l.invariant.walked in
     walk_breaks c.args.job (draft_of c.args.theory.now c.args.asked.now) c.args.tokens.now w.0 (draft_of l.theory l.asked) l.rest w.2 l.number
-        c.in-Some-unfinished.cause (draft_of l.theory l.asked) w.1
+    c.in-Some-unfinished.cause (draft_of l.theory l.asked) w.1
     c.in_default.ensures.stop (c.in-Some-unfinished.ensures l.theory)
 
 pub returns-in-None-clause-gives : goal.returns-in-None-clause-gives

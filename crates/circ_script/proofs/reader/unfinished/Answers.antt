@@ -7,5 +7,8 @@ pub returns-then-not-is_empty : goal.returns-then-not-is_empty
 returns-then-not-is_empty c = λ th. inr (c.if-left.false, open_goals (some_open th c.args.asked.now c.if-not-is_empty.ensures))
 
 pub returns-else-asks : goal.returns-else-asks
-returns-else-asks c = λ th. inr (c.if-left.false, no_work (none_open th c.args.asked.now c.if-not-is_empty.ensures)
-    (λ a. let t = (c.if-asks.ensures th).1 a in cc))
+returns-else-asks c = λ th. inr (
+  c.if-left.false,
+  no_work (none_open th c.args.asked.now c.if-not-is_empty.ensures)
+      (λ a. let t = (c.if-asks.ensures th).1 a in cc),
+)

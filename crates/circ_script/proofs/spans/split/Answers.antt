@@ -11,7 +11,7 @@ pub loop-n-preserved : goal.loop-n-preserved
 loop-n-preserved c =
     let within : c.loop-n.n < length (tokens_of c.args.tokens.now) = omega (arith, c.loop-n-test.true, c.requires.within) in
     lacks_more c.args.tokens.now c.args.span.from c.loop-n.n c.args.word.now c.loop-n.auto.n within c.loop-n.invariant (sym c.has_word.ensures
-        ∙ c.if-has_word.false)
+    ∙ c.if-has_word.false)
 
 pub returns-then-has_word : goal.returns-then-has_word
 returns-then-has_word c =

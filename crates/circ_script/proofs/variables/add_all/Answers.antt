@@ -11,17 +11,17 @@ loop-n-init c = record { same = refl; kept = but_itself c.args.theory.now }
 pub loop-n-preserved : goal.loop-n-preserved
 loop-n-preserved c = record {
   same =
-    more_added (variable_added c.args.sort) c.loop-n.theory c.word.result.now _ _
-        (here_token c.args.tokens.now c.args.names c.loop-n.n c.word.result.now c.requires c.loop-n-test.true c.word.ensures) _
-    c.loop-n.invariant.same
-    c.add_variable.new.theory c.in-Ok.ensures.outcome;
+      more_added (variable_added c.args.sort) c.loop-n.theory c.word.result.now _ _
+      (here_token c.args.tokens.now c.args.names c.loop-n.n c.word.result.now c.requires c.loop-n-test.true c.word.ensures) _
+      c.loop-n.invariant.same
+      c.add_variable.new.theory c.in-Ok.ensures.outcome;
   kept = but_then c.args.theory.now c.loop-n.theory c.add_variable.new.theory c.loop-n.invariant.kept c.in-Ok.ensures.kept;
 }
 
 pub returns-in-Err-clause-outcome : goal.returns-in-Err-clause-outcome
 returns-in-Err-clause-outcome c =
     stopped (variable_added c.args.sort) c.loop-n.theory c.word.result.now _ _
-        (here_token c.args.tokens.now c.args.names c.loop-n.n c.word.result.now c.requires c.loop-n-test.true c.word.ensures) _
+    (here_token c.args.tokens.now c.args.names c.loop-n.n c.word.result.now c.requires c.loop-n-test.true c.word.ensures) _
     c.loop-n.invariant.same
     c.in-Err.fault c.add_variable.new.theory c.add_variable.new.theory c.in-Err.ensures.outcome
 

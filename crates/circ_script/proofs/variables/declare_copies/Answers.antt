@@ -8,7 +8,7 @@ use Rattle.circ_script.proofs.variables.declare_copies.Goals as goal
 pub declare-requires-clause-different : goal.declare-requires-clause-different
 declare-requires-clause-different c =
     let is = ap declared_by c.as_slice.ensures.value ∙ c.in_ok-copies.ensures in subst (λ ds. AreDifferent (names_of ds)) (sym is)
-        c.known_names.ensures.variables
+    c.known_names.ensures.variables
 
 pub put_vars-requires : goal.put_vars-requires
 put_vars-requires c = λ d h.
