@@ -1,12 +1,12 @@
-mod Tokens
-mod Places
-mod Parts
-mod Stops
+pub mod Tokens
+pub mod Places
+pub mod Parts
+pub mod Stops
 mod Walk
 mod Texts
 mod Growing
-mod Once
-mod TextOnce
-mod StatementOnce
-mod Coming
-mod Total
+pub mod Once
+pub mod TextOnce
+pub mod StatementOnce
+pub mod Coming
+pub mod Total

@@ -27,12 +27,12 @@ not_below : (ts us : List Tree) → ts ≡ us → trees_cmp (trees_of ts) (trees
 not_below ts us e l = trees_apart (trees_of ts) (trees_of us) l (ap trees_of e)
 
 module _ (l : Option ℕ) (R : List Tree → Type 0) (shown : List Tree → List ℕ) where
-  alone_or_not : (ts : List Tree) (c : Cause) → ReadsAlone l R ts → ReadsNotAlone l R shown c → ⊥
+  pub alone_or_not : (ts : List Tree) (c : Cause) → ReadsAlone l R ts → ReadsNotAlone l R shown c → ⊥
   alone_or_not ts c h (too_many_tokens n e) = let s = h.short in cc
   alone_or_not ts c h (no_reading e lacks) = lacks ts h.reads
   alone_or_not ts c h (two_readings us vs e p k less) = not_below us vs (h.only us p ∙ sym (h.only vs k)) less
 
-  not_alone_once : {B : Type 0} (c d : Cause) → ReadsNotAlone l R shown c → ReadsNotAlone l R shown d → AreAlike {A = B} (Err c) (Err d)
+  pub not_alone_once : {B : Type 0} (c d : Cause) → ReadsNotAlone l R shown c → ReadsNotAlone l R shown d → AreAlike {A = B} (Err c) (Err d)
   not_alone_once {B} c d (too_many_tokens n e) (too_many_tokens m f) = let s : n ≡ m = cc in subst (λ k. AreAlike {A = B} (Err (cause.TooLong n)) (Err (cause.TooLong k))) s same
   not_alone_once c d (too_many_tokens n e) (no_reading f lacks) = absurd (cc)
   not_alone_once c d (too_many_tokens n e) (two_readings ts us f p k less) = absurd (cc)

@@ -19,10 +19,10 @@ pub record CutOnce : Type 0 where
   pub one : (bytes : List ℕ) (ss us : List Span) (o p : Option LexFault) → Cuts 0 bytes ss o → Cuts 0 bytes us p → (us ≡ ss) × (p ≡ o)
 
 module _ (cut : CutOnce) (bytes : List ℕ) where
-  bad_once : (f g : LexFault) → IsFirstBad bytes f → IsFirstBad bytes g → g ≡ f
+  pub bad_once : (f g : LexFault) → IsFirstBad bytes f → IsFirstBad bytes g → g ≡ f
   bad_once f g h k = let e = (cut.one bytes h.0 k.0 (Some f) (Some g) h.1 k.1).1 in cc
 
-  bad_or_tokens : (f : LexFault) (ws : List (List ℕ)) → IsFirstBad bytes f → AreTokens bytes ws → ⊥
+  pub bad_or_tokens : (f : LexFault) (ws : List (List ℕ)) → IsFirstBad bytes f → AreTokens bytes ws → ⊥
   bad_or_tokens f ws h k = let e = (cut.one bytes h.0 k.0 (Some f) None h.1 k.1.0).1 in cc
 
   head_same : (ws vs : List (List ℕ)) (o p : Bool) (n m : List ℕ) (b d : List (List ℕ)) → AreTokens bytes ws → AreTokens bytes vs → IsTextHead ws o n b → IsTextHead vs p m d

@@ -28,18 +28,18 @@ use Rattle.circ_read.specs.RefusesIn.{unknown, broken, RefusesIn, RefusesBy}
 use Rattle.circ_read.specs.ReadsAs.{begun, ReadOrRefused}
 
 -- some value or some cause, by double negation
-abbrev Either : {A : Type 0} → (A → Type 0) → (Cause → Type 0) → Type 0
+abbrev pub Either : {A : Type 0} → (A → Type 0) → (Cause → Type 0) → Type 0
 Either {A} Yes No = ((a : A) → Yes a → ⊥) → ((c : Cause) → No c → ⊥) → ⊥
 
 -- where the first stop cuts a list
-record Cut (left : List (List ℕ)) : Type 0 where
-  ws : List (List ℕ)
-  rest : List (List ℕ)
-  cut : left ≡ ws ++ codes "." ∷ rest
-  whole : HasNoStop ws
-  shorter : length rest < length left
+pub record Cut (left : List (List ℕ)) : Type 0 where
+  pub ws : List (List ℕ)
+  pub rest : List (List ℕ)
+  pub cut : left ≡ ws ++ codes "." ∷ rest
+  pub whole : HasNoStop ws
+  pub shorter : length rest < length left
 
-first_stop : (left : List (List ℕ)) → HasNoStop left ⊎ Cut left
+pub first_stop : (left : List (List ℕ)) → HasNoStop left ⊎ Cut left
 first_stop [] = inl refl
 first_stop (w ∷ ws) = go (is_stop w) refl (first_stop ws)
   where
@@ -101,7 +101,7 @@ module _ (l : Option ℕ) (R : List Tree → Type 0) (shown : List Tree → List
       go Equal f = trees_of_same us ts (trees_equal (trees_of us) (trees_of ts) f)
       go Greater f = absurd (refused (cause.Ambiguous (shown ts) (shown us)) (two_readings ts us e h k (trees_less (trees_of us) (trees_of ts) f)))
 
-  terms_total : Either (ReadsAlone l R) (ReadsNotAlone l R shown)
+  pub terms_total : Either (ReadsAlone l R) (ReadsNotAlone l R shown)
   terms_total accepted refused = go l refl
     where
       go : (o : Option ℕ) → l ≡ o → ⊥
@@ -114,7 +114,7 @@ module _ (th : Theory) where
   all_total fault with_one parts accepted refused =
       fault_total (first_fault fault with_one th parts) (λ e. accepted (with_all with_one th parts) (record { no_fault = e; is = refl })) refused
 
-  statement_total : (s : Said) → Either (AddsStatement th s) (RefusesStatement th s)
+  pub statement_total : (s : Said) → Either (AddsStatement th s) (RefusesStatement th s)
   statement_total (inclusion name) accepted refused = refused cause.UnknownTheory refl
   statement_total (sorts names) accepted refused = all_total sort_fault with_sort names accepted refused
   statement_total (operators forms args result a k i) accepted refused =

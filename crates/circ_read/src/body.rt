@@ -74,8 +74,8 @@ fn add_tokens<R: Receiver>(
     }
 }
 
-// A fault of a step, with the number of its statement.
-pub(crate) fn fault_at(number: u64, fault: Fault) -> ReadFault
+/// A fault of a step, with the number of its statement.
+pub fn fault_at(number: u64, fault: Fault) -> ReadFault
     ensures { result ≡ fault_at number fault }
 {
     match fault {

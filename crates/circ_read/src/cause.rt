@@ -64,10 +64,12 @@ pub enum ReadFault {
     Memory,
 }
 
-// Why a step of the reader ends: a cause, or want of memory.
+/// Why a step of a reader ends, without the number of its statement.
 #[derive(Drop)]
-pub(crate) enum Fault {
+pub enum Fault {
+    /// The first cause.
     Because { cause: Cause },
+    /// Memory ran out.
     Memory,
 }
 
@@ -93,8 +95,8 @@ impl<T: Drop> From<AllocFailed<T>> for Fault {
     }
 }
 
-// The step ends for this cause.
-pub(crate) fn because(cause: Cause) -> Fault
+/// The step ends for this cause.
+pub fn because(cause: Cause) -> Fault
     ensures { result ≡ Because cause }
 {
     Fault::Because { cause }
@@ -119,8 +121,8 @@ pub(crate) fn fault_of(fault: TheoryFault) -> Fault
     Fault::Because { cause }
 }
 
-// The answer of a call that adds a part.
-pub(crate) fn done(answer: Result<u32, TheoryFault>) -> Result<(), Fault>
+/// The answer of a call that adds a part to a theory, without the part's number.
+pub fn done(answer: Result<u32, TheoryFault>) -> Result<(), Fault>
     ensures { result ≡ done answer }
 {
     match answer {
@@ -129,7 +131,8 @@ pub(crate) fn done(answer: Result<u32, TheoryFault>) -> Result<(), Fault>
     }
 }
 
-pub(crate) fn byte_fault(fault: LexFault) -> Fault
+/// The fault that bytes which are no tokens are.
+pub fn byte_fault(fault: LexFault) -> Fault
     ensures { result ≡ byte_fault fault }
 {
     let cause = match fault {

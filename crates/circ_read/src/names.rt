@@ -11,8 +11,8 @@ use circ_lexer::{Span, Tokens};
 use circ_theory::Theory;
 use std::alloc::Global;
 
-// The token of a number.
-pub(crate) fn word<'a>(tokens: &Tokens<'a>, n: usize) -> &'a [u8]
+/// The token of a number, counted from 0.
+pub fn word<'a>(tokens: &Tokens<'a>, n: usize) -> &'a [u8]
     requires { IsPlace tokens.now n }
     ensures { result.now ≡ token_at tokens.now n }
 {
@@ -22,7 +22,8 @@ pub(crate) fn word<'a>(tokens: &Tokens<'a>, n: usize) -> &'a [u8]
     }
 }
 
-pub(crate) fn sort_named(theory: &Theory, name: &[u8]) -> Result<u32, Fault>
+/// The number of the sort of a name. A name of no sort is UnknownSort.
+pub fn sort_named(theory: &Theory, name: &[u8]) -> Result<u32, Fault>
     ensures { Finds result (sort_named theory.now name.now) }
 {
     match theory.sort_named(name) {

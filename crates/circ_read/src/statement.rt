@@ -19,8 +19,9 @@ use circ_statement::{Statement, StatementFault, statement as read_statement};
 use circ_theory::{Text, Theory};
 use std::alloc::Global;
 
-// The statement that the tokens of a span are.
-pub(crate) fn shape(alloc: Global, tokens: &Tokens<'_>, span: Span) -> Result<Statement, Fault>
+/// The statement that the tokens of a span are, without the stop that ends it. A statement that is
+/// left out is LeftOut, with the word by which it is, and any other that says nothing is Shape.
+pub fn shape(alloc: Global, tokens: &Tokens<'_>, span: Span) -> Result<Statement, Fault>
     requires { IsWithin tokens.now span }
     ensures { GivesShape result tokens.now (tokens_in tokens.now span) }
 {

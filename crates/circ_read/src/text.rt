@@ -54,8 +54,8 @@ fn name_after<'a>(tokens: &Tokens<'a>, at: usize) -> Option<&'a [u8]>
     if is_name(name) { Some(name) } else { None }
 }
 
-// The first stop from a place on.
-pub(crate) fn next_stop(tokens: &Tokens<'_>, at: usize) -> Option<usize>
+/// The place of the first stop from a place on. Places count tokens from 0.
+pub fn next_stop(tokens: &Tokens<'_>, at: usize) -> Option<usize>
     requires { at ≤ length (tokens_of tokens.now) }
     ensures stop { GivesStop result (tokens_of tokens.now) at }
     ensures fits { IfSome result (λ n. n + 1 < 2 ^ 64) }
@@ -83,7 +83,8 @@ pub(crate) fn is_end(tokens: &Tokens<'_>, at: usize, opened: bool) -> bool
     rest == 2 && has_word(tokens, at + 1, b")")
 }
 
-fn has_word(tokens: &Tokens<'_>, n: usize, text: &[u8]) -> bool
+/// Whether the token of a number, counted from 0, is this word.
+pub fn has_word(tokens: &Tokens<'_>, n: usize, text: &[u8]) -> bool
     ensures { result ≡ has_word_at (tokens_of tokens.now) n text.now }
 {
     match tokens.token(n) {

@@ -1,0 +1,11 @@
+mod Words
+mod ItemWords
+mod Shapes
+mod Places
+mod Copies
+mod Drafts
+mod Walk
+mod Once
+mod Total
+mod Low
+mod Fitting
