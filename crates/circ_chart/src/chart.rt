@@ -81,11 +81,11 @@ fn extend(alloc: Global, op: u32, sort: u32, term: &Term, rest: &Term) -> Result
 {
     let args = rest.args();
     let mut all = Vec::with_capacity(alloc, args.len() + 1)?;
-    all.push(term.share()?)?;
+    term.share_to(&mut all)?;
     for arg in args {
-        all.push(arg.share()?)?;
+        arg.share_to(&mut all)?;
     }
-    Ok(application(alloc, op, sort, all)?)
+    application(alloc, op, sort, all)
 }
 
 // The rows with each of some other rows, the term put before it.

@@ -1,29 +1,12 @@
-use Rattle.std.proofs.Common.{◌≡◌, ◌∙◌, List, [], ap, map, length, arith}
-use Rattle.std.proofs.lemmas.List.{length-map}
-use Rattle.circ_term.specs.Tree.{Tree}
-use Rattle.circ_term.proofs.Limits.{within_limits}
+use Rattle.std.proofs.Common.{[], ◌∙◌}
 use Rattle.circ_term.proofs.Instances.{instance-same}
 use Rattle.circ_term.specs.Subst.{substitution_of}
-use Rattle.circ_theory.specs.declared.renumber.Occurring.{Occurring}
-use Rattle.circ_theory.specs.Occurring.{variable_of}
-use Rattle.circ_theory.proofs.Numbering.{length-seen_in}
 use Rattle.circ_theory.specs.Variables.{seen_in}
 use Rattle.circ_mixfix.specs.Numbering.{numbering, first_number}
 use Rattle.circ_mixfix.proofs.numbering.numbered_anew.Goals as goal
 
-all_seen : (t : Tree) (new got shown : List Occurring) → new ≡ [] → map variable_of got ≡ seen_in t (map variable_of new) → shown ≡ got → map variable_of shown ≡ seen_in t []
-all_seen t new got shown a b c = ap (map variable_of) c ∙ b ∙ ap (λ ks. seen_in t (map variable_of ks)) a
-
-pub numbering-requires : goal.numbering-requires
-numbering-requires c =
-    let t = c.args.term.now in
-    let e = all_seen t c.new-variables.result.keys c.gather.new.variables.keys c.as_slice.result.now c.new-variables.ensures.empty c.in_ok-gather.ensures c.as_slice.ensures.keys in
-    omega (arith, length-map c.as_slice.result.now variable_of, ap length e, length-seen_in t [], (within_limits t c.known.ensures).0)
-
 pub returns-in-Ok : goal.returns-in-Ok
 returns-in-Ok c =
     let t = c.args.term.now in
-    let e = all_seen t c.new-variables.result.keys c.gather.new.variables.keys c.as_slice.result.now c.new-variables.ensures.empty c.in_ok-gather.ensures c.as_slice.ensures.keys in
     c.in-Ok.ensures.0
-    ∙ instance-same (substitution_of c.in_ok-subst.subst) (numbering c.args.hole (first_number c.args.hole) (seen_in t [])) t
-    (λ n s. c.in_ok-subst.ensures n s ∙ ap (λ vs. numbering c.args.hole (first_number c.args.hole) vs n s) e)
+    ∙ instance-same (substitution_of c.in_ok-subst.subst) (numbering c.args.hole (first_number c.args.hole) (seen_in t [])) t c.in_ok-subst.ensures
