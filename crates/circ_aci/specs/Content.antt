@@ -1,79 +1,45 @@
--- What a term holds under an operator: the terms that its applications join.
-use Rattle.std.specs.Prelude.{◌≡◌, Some, ℕ, Bool, true, not, ◌==◌, ◌&&◌, if◌then◌else◌, List, [], ◌∷◌, ◌++◌}
+-- What a term holds under an operator: its content, and when one term may be put for another by it.
+use Rattle.std.specs.Prelude.{◌≡◌, ℕ, not, ◌==◌, ◌&&◌, if◌then◌else◌, List, [], ◌∷◌, ◌++◌, Some}
 use Rattle.std.specs.List.{slice_get, dedup}
 use Rattle.std.specs.Option.{option_map, unwrap_or}
-use Rattle.std.specs.Ordering.{is_lt, is_eq}
-use Rattle.circ_term.specs.Tree.{Tree, Trees, Var, App, none, more, list_of, sort_of}
-use Rattle.circ_term.specs.Order.{tree_cmp}
+use Rattle.circ_term.specs.Tree.{Tree, App, none, more, sort_of}
+use Rattle.circ_term.specs.Order.{is_same, comes_before}
 use Rattle.circ_theory.specs.Signature.{Signature, Operator}
-use Rattle.circ_theory.specs.Theory.{twice}
 use Rattle.circ_theory.specs.Operators.{has_mark}
 
-abbrev pub is_tree : Tree → Tree → Bool
-is_tree s t = is_eq (tree_cmp s t)
+-- a list of terms sorted by their order
+abbrev pub put_term : Tree → List Tree → List Tree
+put_term x [] = x ∷ []
+put_term x (y ∷ ys) = if comes_before y x then y ∷ put_term x ys else x ∷ y ∷ ys
 
--- a list of terms sorted by `cmp`
-abbrev pub put_in : Tree → List Tree → List Tree
-put_in x [] = x ∷ []
-put_in x (y ∷ ys) = if is_lt (tree_cmp y x) then y ∷ put_in x ys else x ∷ y ∷ ys
+abbrev pub sorted_terms : List Tree → List Tree
+sorted_terms [] = []
+sorted_terms (x ∷ xs) = put_term x (sorted_terms xs)
 
-abbrev pub in_order : List Tree → List Tree
-in_order [] = []
-in_order (x ∷ xs) = put_in x (in_order xs)
-
--- the leaves, from the left, of a term's tree of applications of f
-abbrev mutual
-  pub leaves : (f : ℕ) → Tree → List Tree
-  leaves f (Var n s) = Var n s ∷ []
-  leaves f (App g s ts) = if f == g then all_leaves f ts else App g s ts ∷ []
-
-  pub all_leaves : (f : ℕ) → Trees → List Tree
-  all_leaves f none = []
-  all_leaves f (more t ts) = leaves f t ++ all_leaves f ts
-
--- each of the terms is this one
-abbrev pub are_all : Tree → Trees → Bool
-are_all t none = true
-are_all t (more u us) = is_tree t u && are_all t us
-
--- sorted where the order is free, and without repetitions where these are
+-- the entries sorted where the operator is commutative, and without those that are the same as the one before where it is idempotent
 abbrev pub settled : Operator → List Tree → List Tree
 settled o ts =
-    let us : List Tree = if o.comm then in_order ts else ts in
-    if o.idem then dedup is_tree us else us
+    let us : List Tree = if o.comm then sorted_terms ts else ts in
+    if o.idem then dedup is_same us else us
 
--- the content of a term under the operator o, which has the number f
-abbrev mutual
-  pub content : (o : Operator) (f : ℕ) → Tree → List Tree
-  content o f (Var n s) = Var n s ∷ []
-  content o f (App g s ts) = if (f == g) && has_mark o then joined_content o f ts else App g s ts ∷ []
+-- the terms, from the left, that applications of f join in a term
+abbrev pub leaves : (f : ℕ) → Tree → List Tree
+leaves f (App g s (more a (more b none))) = if f == g then leaves f a ++ leaves f b else App g s (more a (more b none)) ∷ []
+leaves f t = t ∷ []
 
-  -- where the terms are the arguments of f
-  pub joined_content : (o : Operator) (f : ℕ) → Trees → List Tree
-  joined_content o f none = []
-  joined_content o f (more t ts) =
-      if o.idem && not o.assoc && are_all t ts then content o f t
-      else settled o (if o.assoc then leaves f t ++ all_leaves f ts else t ∷ list_of ts)
+-- The content of a term under the operator o, which has the number f. Where o has no mark, or does not stand on two arguments at the
+-- term's top, it is the term alone. Where o is idempotent and not associative, and both arguments are the same, it is the content of
+-- one. Else it is the two arguments, or, where o is associative, the leaves below them, settled.
+abbrev pub content : (o : Operator) (f : ℕ) → Tree → List Tree
+content o f (App g s (more a (more b none))) =
+    if not ((f == g) && has_mark o) then App g s (more a (more b none)) ∷ []
+    else if o.idem && not o.assoc && is_same a b then content o f a
+    else settled o (if o.assoc then leaves f a ++ leaves f b else a ∷ b ∷ [])
+content o f t = t ∷ []
 
--- f on all the terms, grouped to the right
-abbrev pub join_from : (f k : ℕ) → Tree → List Tree → Tree
-join_from f k x [] = x
-join_from f k x (y ∷ ys) = twice f k x (join_from f k y ys)
-
-abbrev pub join : (f k : ℕ) → List Tree → Tree
-join f k [] = Var 0 k
-join f k (x ∷ xs) = join_from f k x xs
-
--- the canonical form of a term under the operator
-abbrev pub canonical : (o : Operator) (f : ℕ) → Tree → Tree
-canonical o f t = join f o.result (content o f t)
-
--- the content under the operator number f of a signature
+-- the content under the operator number f of a signature; an operator that does not exist joins nothing
 abbrev pub content_under : Signature → (f : ℕ) → Tree → List Tree
-content_under sig f t = unwrap_or (option_map (λ o. content o f t) (slice_get sig.ops f)) []
-
-abbrev pub canonical_under : Signature → (f : ℕ) → Tree → Tree
-canonical_under sig f t = unwrap_or (option_map (λ o. canonical o f t) (slice_get sig.ops f)) t
+content_under sig f t = unwrap_or (option_map (λ o. content o f t) (slice_get sig.ops f)) (t ∷ [])
 
 -- The operator exists, and both terms have one sort and the same content under it.
 pub record HasContentOf (sig : Signature) (op : ℕ) (old new : Tree) : Type 0 where

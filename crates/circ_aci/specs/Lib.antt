@@ -1,1 +1,5 @@
 pub mod Content
+pub mod Canonical
+pub mod Operands
+pub mod Row
+pub mod Examples

@@ -2,6 +2,7 @@
 ghost use Rattle.std.specs.Prelude.{IsTrue};
 ghost use Rattle.circ_mixfix.specs.Answers.{declared_by, HaveSorts};
 
+use circ_aci::{canonical, content, same_content};
 use circ_lexer::{LexFault, Span, Tokens};
 use circ_match::{match_pair, match_term};
 use circ_mixfix::{ParseFault, Reading, parse_one, parse_pair, print};
@@ -9,7 +10,7 @@ use circ_outer::{SureShelf, SureSink};
 use circ_read::read_theory;
 use circ_replay::TableBuilder;
 use circ_show::unobserved;
-use circ_term::{Subst, Term};
+use circ_term::{Subst, Term, TermFault};
 use circ_theory::{Form, FormFault, Text, Theory, in_order, parameters_in_order};
 use circ_top::sure::circ_in_memory;
 use std::alloc::{AllocError, Global};
@@ -212,6 +213,35 @@ fn is_derived(theory: &Theory, term: &Term) -> bool {
 fn derivatives(rt: HostRuntime) {
     let theory = read_theory(rt.alloc(), SUMS);
     assert!(rt; theory.is_ok_and(|theory| is_derived(&theory, &Term::var(0, 1))));
+}
+
+const SETS: &[u8] = b"theory T is
+  sort X .
+  op _+_ : X X -> X [assoc comm idem] .
+endtheory";
+
+fn sum(alloc: Global, first: &Term, second: &Term) -> Result<Term, TermFault> {
+    let mut args = Vec::new(alloc);
+    args.push(first.share()?)?;
+    args.push(second.share()?)?;
+    Term::app(alloc, 0, 0, args)
+}
+
+// Whether `B + (A + B)` holds two terms, as `A + B` does, which is its canonical form.
+fn holds_two(alloc: Global, theory: &Theory) -> Result<bool, TermFault> {
+    let (first, second) = (Term::var(0, 0), Term::var(1, 0));
+    let two = sum(alloc, &first, &second)?;
+    let three = sum(alloc, &second, &two)?;
+    let count = content(alloc, theory, 0, &three)?.len();
+    let are_same = same_content(alloc, theory, 0, &three, &two)?;
+    let form = canonical(alloc, theory, 0, &three)?;
+    Ok(count == 2 && are_same && form.same(&two))
+}
+
+#[test]
+fn contents(rt: HostRuntime) {
+    let theory = read_theory(rt.alloc(), SETS);
+    assert!(rt; theory.is_ok_and(|theory| holds_two(rt.alloc(), &theory).is_ok_and(|two| two)));
 }
 
 const FILE: &[u8] = b"theory NOT is sort Bit . ops 0 1 : -> Bit . endtheory";
