@@ -6,3 +6,5 @@ pub mod Certifying
 pub mod Plain
 pub mod Simplifying
 pub mod Deriving
+pub mod Starting
+pub mod Counting
