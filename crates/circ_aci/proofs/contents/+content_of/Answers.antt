@@ -15,4 +15,5 @@ pub returns : goal.returns
 returns t c =
     let o = operator_of c.args.decl.now in
     let both = content_of_parts o c.args.op c.args.term.now c.in-Some.first.now c.in-Some.second.now c.in-Some.ensures in
-    c.settle.ensures ∙ both c.is_repeated.result c.is_repeated.ensures c.if-is_repeated.false c.push_parts.new.parts.items (rw c.new-parts.ensures.items at c.in_ok-push_parts.ensures)
+    let parts = rw c.new-parts.ensures.items at c.in_ok-push_parts.ensures in
+    c.settle.ensures ∙ both c.is_repeated.result c.is_repeated.ensures c.if-is_repeated.false c.push_parts.new.parts.items parts
