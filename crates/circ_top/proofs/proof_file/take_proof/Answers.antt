@@ -8,7 +8,7 @@ returns-in-Ok-decode-clause-takes g c =
     let bytes = c.in-Ok.bytes.items in
     let th = c.args.theory.now in
     let p = plain_proof c.in-Ok-decode.proof in
-    let reads = rw c.as_slice.ensures.value at c.in-Ok-decode.ensures.reads in
+    let reads = rw c.as_slice.ensures.value at c.in-Ok-decode.ensures in
     record {
       bytes = record { bytes = bytes; short = c.in-Ok.ensures.short; are = reads };
       reads = λ t. only_read (g.S.Shelf.state c.args.shelf.now).holds c.args.name.now bytes (ReadsAsProof th) p (c.in-Ok.ensures.content t)
