@@ -1,13 +1,13 @@
 -- What a link leads to: one term, which is well-sorted, of the same sort, and derivable where the link uses no hypothesis.
-use Rattle.std.proofs.Common.{◌≡◌, ◌<◌, ◌⊎◌, ℕ, List, [], ◌∷◌, map, length, Some, refl, ap, sym, subst, ◌∙◌, inl, inr, arith}
+use Rattle.std.proofs.Common.{◌≡◌, ◌<◌, ◌⊎◌, ℕ, List, [], ◌∷◌, map, length, refl, ap, sym, subst, ◌∙◌, inl, inr, arith}
 use Rattle.std.specs.List.{AllByRecursion, Contains}
 use Rattle.std.proofs.lemmas.Option.{same_Some}
 use Rattle.circ_term.specs.Tree.{Tree, sort_of, replaced}
 use Rattle.circ_term.specs.Substitution.{instance}
 use Rattle.circ_theory.specs.Signature.{Signature, IsWellSorted, IsSubstitution}
-use Rattle.circ_theory.specs.Theory.{Theory, Pair, pair_of, pair_with, IsWellSortedPair, listed}
+use Rattle.circ_theory.specs.Theory.{Theory, Pair, pair_of, pair_with, IsWellSortedPair}
 use Rattle.circ_theory.specs.Variables.{variables_of, sorted, given}
-use Rattle.circ_theory.specs.Derivable.{Derivable, by_equation, by_symmetry, by_premise}
+use Rattle.circ_theory.specs.Derivable.{Derivable, by_symmetry, by_premise}
 use Rattle.circ_theory.specs.WellFormed.{IsWellFormed}
 use Rattle.circ_theory.specs.Link.{from_side, to_side, Replaces, named, RewritesBy}
 use Rattle.circ_theory.specs.declared.parts.Goal.{Goal}
@@ -22,7 +22,7 @@ use Rattle.circ_special.specs.declared.place.Place.{Place}
 use Rattle.circ_aci.proofs.Deriving.{same_content_derivable}
 use Rattle.circ_replay.specs.Plain.{LinkOf, Equation_link, Hypothesis_link, Assumption_link, Content_link, ChainOf}
 use Rattle.circ_replay.specs.Plain.{WhyOf, WhysOf, Same_why, Split_why, no_why, more_whys, map_whys}
-use Rattle.circ_replay.specs.Goals.{sides, IsWellSortedGoal, AreSortedGoals}
+use Rattle.circ_replay.specs.Goals.{sides, AreSortedGoals}
 use Rattle.circ_replay.specs.Runs.{Runs}
 use Rattle.circ_replay.specs.Link.{Setting, setting, Leads, AllOfLink, AllOfLinks, IsInTable, resolved_link, resolved_chain, resolved_why}
 use Rattle.circ_replay.specs.Justified.{ChainLeads, AllOfChain, AllOfWhy, AllOfWhys, IsWhyInTable}

@@ -1,19 +1,17 @@
 -- When a goal holds by a recorded reason.
-use Rattle.std.proofs.Common.{◌≡◌, ◌↔◌, ◌<◌, ◌≤◌, ◌+◌, max, IsTrue, ℕ, Bool, true, false, List, [], ◌∷◌, ◌++◌, map, length, drop, get_or, zero, suc, Some, None, Result, Ok, Err, IfOk, refl, ap, sym, subst, ◌∙◌, arith}
-use Rattle.std.specs.List.{Contains}
+use Rattle.std.proofs.Common.{◌≡◌, ◌↔◌, ◌<◌, ◌≤◌, ◌+◌, max, IsTrue, ℕ, Bool, List, [], ◌∷◌, length, drop, get_or, zero, suc}
+use Rattle.std.proofs.Common.{Some, None, Result, Ok, Err, IfOk, refl, ap, sym, subst, ◌∙◌, arith}
 use Rattle.circ_term.specs.Tree.{Tree, sort_of}
-use Rattle.circ_term.proofs.Within.{drop_read}
-use Rattle.circ_theory.specs.Theory.{Theory, Pair, pair_with, CaseList}
-use Rattle.circ_theory.specs.Derivable.{is_case}
+use Rattle.circ_theory.specs.Theory.{Pair, pair_with, CaseList}
 use Rattle.circ_theory.specs.Observing.{cases_of, case_list}
+use Rattle.circ_theory.specs.Link.{named}
 use Rattle.circ_theory.specs.WellFormed.{IsWellFormed}
 use Rattle.circ_theory.specs.declared.parts.Goal.{Goal}
 use Rattle.circ_replay.specs.declared.links.Why.{Why}
-use Rattle.circ_replay.specs.Plain.{ChainOf, WhyOf, WhysOf, Same_why, Split_why, no_why, more_whys, map_why, map_whys, plain_why, plain_whys}
+use Rattle.circ_replay.specs.Plain.{ChainOf, WhyOf, WhysOf, Same_why, Split_why, no_why, more_whys, map_whys, plain_why, plain_whys}
 use Rattle.circ_replay.specs.Goals.{sides}
-use Rattle.circ_replay.specs.Link.{Setting, assuming, Leads}
+use Rattle.circ_replay.specs.Link.{Setting, Leads}
 use Rattle.circ_replay.specs.Justified.{Justified, EachJustified, ChainLeads, AllOfWhy, AllOfWhys}
-use Rattle.circ_replay.specs.Following.{FollowsChain}
 use Rattle.circ_replay.proofs.Leading.{one_chain}
 use Rattle.circ_replay.proofs.Cases.{cases_listed, listed_cases, no_cases}
 
@@ -63,16 +61,9 @@ each_counted c q u l [] f (w ∷ ws) r = absurd r
 each_counted c q u l (k ∷ ks) f [] r = absurd r
 each_counted c q u l (k ∷ ks) f (w ∷ ws) r = ap suc (each_counted c q u l ks f ws r.1)
 
--- the reasons from one on, with that one first
-abbrev pub EachFrom : Setting → Pair → (term : Tree) → CaseList → (constants : List ℕ) → (ℕ → Tree) → List Why → ℕ → Type 0
-EachFrom c q u l ks f ws i = EachJustified c q u l (drop i ks) (map_whys f (plain_whys (drop i ws)))
-
-pub each_next : (c : Setting) (q : Pair) (u : Tree) (l : CaseList) (ks : List ℕ) (f : ℕ → Tree) (ws : List Why) (i k : ℕ) (w : Why)
-    → i < length ks → i < length ws → k ≡ get_or ks i k → w ≡ get_or ws i w
-    → EachFrom c q u l ks f ws i ≡ (Justified (assuming c (is_case u l k)) q (map_why f (plain_why w)) × EachFrom c q u l ks f ws (i + 1))
-each_next c q u l ks f ws i k w a b d e =
-    ap (λ xs. EachJustified c q u l xs (map_whys f (plain_whys (drop i ws)))) (drop_read ks i k a d)
-    ∙ ap (λ xs. EachJustified c q u l (k ∷ drop (i + 1) ks) (map_whys f (plain_whys xs))) (drop_read ws i w b e)
+-- each case from one on has its reason
+abbrev pub EachFrom : Setting → Goal → (term : Tree) → (constants : List ℕ) → (table : List Tree) → List Why → ℕ → Type 0
+EachFrom c g u ks table ws i = EachJustified c (sides g) u (case_list (sort_of u) ks) (drop i ks) (map_whys (named table) (plain_whys (drop i ws)))
 
 -- a property of the terms of all reasons is one of each
 pub each_why : (P : ℕ → Type 0) (ws : List Why) (i : ℕ) (w : Why) → AllOfWhys P (plain_whys ws) → i < length ws → w ≡ get_or ws i w

@@ -1,5 +1,6 @@
 -- Links that lead on, one after another, and what following them gives.
-use Rattle.std.proofs.Common.{◌≡◌, ◌↔◌, ◌<◌, ◌≤◌, ◌+◌, ℕ, List, ◌∷◌, map, length, drop, get_or, [], zero, suc, Option, Some, None, Result, Ok, Err, IfOk, ap, sym, subst, arith}
+use Rattle.std.proofs.Common.{◌≡◌, ◌↔◌, ◌<◌, ◌≤◌, ◌+◌, ℕ, List, ◌∷◌, length, drop, get_or, [], zero, suc}
+use Rattle.std.proofs.Common.{Option, Some, None, Result, Ok, Err, IfOk, ap, sym, subst, arith}
 use Rattle.std.specs.Option.{IfSome}
 use Rattle.std.proofs.lemmas.List.{drop_all}
 use Rattle.circ_term.specs.Tree.{Tree}

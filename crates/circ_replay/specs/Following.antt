@@ -1,5 +1,5 @@
 -- What following links and whys answers.
-use Rattle.std.specs.Prelude.{◌↔◌, ℕ, List, [], Option, Some, None}
+use Rattle.std.specs.Prelude.{List, [], Option, Some, None}
 use Rattle.circ_term.specs.Tree.{Tree}
 use Rattle.circ_theory.specs.Theory.{Theory, Pair}
 use Rattle.circ_theory.specs.Derivable.{Derivable}

@@ -19,7 +19,7 @@ ghost use Rattle.circ_replay.specs.Sources.{setting_of};
 
 use crate::links::Link;
 use crate::rewriting::{Sides, exchange, replaced_at, rewrite};
-use crate::substitution::{of_goal, of_sorts};
+use crate::substitution;
 use circ_aci::same_content;
 use circ_special::Gamma;
 use circ_term::Term;
@@ -104,16 +104,6 @@ pub(crate) struct Sources<'a> {
     pub(crate) hyps: &'a [Goal],
 }
 
-// How a link uses a pair: which one, which side is looked for, where, and the numbers of the terms
-// for its variables.
-#[derive(Clone, Copy)]
-struct Use<'a> {
-    number: u32,
-    way: Way,
-    path: &'a [u16],
-    terms: &'a [u32],
-}
-
 impl Sources<'_> {
     // The term that the links lead to, one after another.
     pub(crate) fn run(
@@ -153,75 +143,75 @@ impl Sources<'_> {
                 way,
                 path,
                 terms,
-            } => {
-                let by = Use {
-                    number: *number,
-                    way: *way,
-                    path: path.as_slice(),
-                    terms: terms.as_slice(),
-                };
-                self.by_equation(&by, term)
-            }
+            } => self.by_equation(*number, *way, path.as_slice(), terms.as_slice(), term),
             Link::Hypothesis {
                 number,
                 way,
                 path,
                 terms,
-            } => {
-                let by = Use {
-                    number: *number,
-                    way: *way,
-                    path: path.as_slice(),
-                    terms: terms.as_slice(),
-                };
-                self.by_hypothesis(&by, term)
-            }
+            } => self.by_hypothesis(*number, *way, path.as_slice(), terms.as_slice(), term),
             Link::Assumption { number, way, path } => {
                 self.by_assumption(assumptions, *number, *way, path.as_slice(), term)
             }
-            Link::Content { op, path, term: new } => {
-                self.by_content(*op, path.as_slice(), *new, term)
-            }
+            Link::Content {
+                op,
+                path,
+                term: new,
+            } => self.by_content(*op, path.as_slice(), *new, term),
         }
     }
 
-    fn by_equation(&self, by: &Use<'_>, term: &Term) -> Result<Option<Term>, AllocError>
-        requires { AllByRecursion (λ n. n < length self.now.table.now) by.now.terms.now }
+    fn by_equation(
+        &self,
+        number: u32,
+        way: Way,
+        path: &[u16],
+        terms: &[u32],
+        term: &Term,
+    ) -> Result<Option<Term>, AllocError>
+        requires { AllByRecursion (λ n. n < length self.now.table.now) terms.now }
         ensures { (A : List Pair) → IfOk result (Follows (setting_of self.now A)
-            (Equation_link by.now.number by.now.way by.now.path.now
-                (map (named self.now.table.now) by.now.terms.now)) term.now) }
+            (Equation_link number way path.now
+            (map (named self.now.table.now) terms.now)) term.now) }
     {
         self.theory.known();
-        let Some(equation) = self.theory.equation(by.number) else {
+        let Some(equation) = self.theory.equation(number) else {
             return Ok(None);
         };
-        let Some(sorts) = self.theory.equation_sorts(by.number) else {
+        let Some(sorts) = self.theory.equation_sorts(number) else {
             return Ok(None);
         };
-        let Some(subst) = of_sorts(self.alloc, sorts, self.table, by.terms)? else {
+        let Some(subst) = substitution::of_sorts(self.alloc, sorts, self.table, terms)? else {
             return Ok(None);
         };
-        let sides = Sides::of(by.way, &equation.left, &equation.right);
-        rewrite(self.alloc, &subst, &sides, by.path, term)
+        let sides = Sides::of(way, &equation.left, &equation.right);
+        rewrite(self.alloc, &subst, &sides, path, term)
     }
 
-    fn by_hypothesis(&self, by: &Use<'_>, term: &Term) -> Result<Option<Term>, AllocError>
-        requires { AllByRecursion (λ n. n < length self.now.table.now) by.now.terms.now }
+    fn by_hypothesis(
+        &self,
+        number: u32,
+        way: Way,
+        path: &[u16],
+        terms: &[u32],
+        term: &Term,
+    ) -> Result<Option<Term>, AllocError>
+        requires { AllByRecursion (λ n. n < length self.now.table.now) terms.now }
         ensures { (A : List Pair) → IfOk result (Follows (setting_of self.now A)
-            (Hypothesis_link by.now.number by.now.way by.now.path.now
-                (map (named self.now.table.now) by.now.terms.now)) term.now) }
+            (Hypothesis_link number way path.now
+            (map (named self.now.table.now) terms.now)) term.now) }
     {
-        let Some(hypothesis) = goal_at(self.hyps, by.number) else {
+        let Some(hypothesis) = goal_at(self.hyps, number) else {
             return Ok(None);
         };
-        if !self.may_use(hypothesis, by.path, term) {
+        if !self.may_use(hypothesis, path, term) {
             return Ok(None);
         }
-        let Some(subst) = of_goal(self.alloc, hypothesis, self.table, by.terms)? else {
+        let Some(subst) = substitution::of_goal(self.alloc, hypothesis, self.table, terms)? else {
             return Ok(None);
         };
-        let sides = Sides::of(by.way, &hypothesis.left, &hypothesis.right);
-        rewrite(self.alloc, &subst, &sides, by.path, term)
+        let sides = Sides::of(way, &hypothesis.left, &hypothesis.right);
+        rewrite(self.alloc, &subst, &sides, path, term)
     }
 
     // A hypothesis of hidden sort may be used at special paths only.

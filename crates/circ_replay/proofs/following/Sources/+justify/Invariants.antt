@@ -1,7 +1,4 @@
 use Rattle.std.proofs.Common.{◌≡◌, ◌↔◌, ◌+◌, ◌*◌, map}
-use Rattle.circ_term.specs.Tree.{sort_of}
-use Rattle.circ_theory.specs.Link.{named}
-use Rattle.circ_theory.specs.Observing.{case_list}
 use Rattle.circ_replay.specs.Plain.{plain_why, plain_whys}
 use Rattle.circ_replay.specs.Goals.{sides}
 use Rattle.circ_replay.specs.Sources.{setting_of}
@@ -11,8 +8,8 @@ use Rattle.circ_replay.proofs.following.Sources.+justify.Given as goal
 abbrev pub invariant-each_justified-loop-i : goal.invariant-each_justified-loop-i
 invariant-each_justified-loop-i l = record {
   same : l.assumptions.items ≡ l.initial.assumptions.items;
-  rest : EachFrom (setting_of l.self (map sides l.initial.assumptions.items)) (sides l.goal) l.term (case_list (sort_of l.term) l.constants) l.constants (named l.self.table.now) l.whys l.i
-      ↔ EachFrom (setting_of l.self (map sides l.initial.assumptions.items)) (sides l.goal) l.term (case_list (sort_of l.term) l.constants) l.constants (named l.self.table.now) l.whys 0;
+  rest : EachFrom (setting_of l.self (map sides l.initial.assumptions.items)) l.goal l.term l.constants l.self.table.now l.whys l.i
+      ↔ EachFrom (setting_of l.self (map sides l.initial.assumptions.items)) l.goal l.term l.constants l.self.table.now l.whys 0;
 }
 
 abbrev pub decreases-each_justified : goal.decreases-each_justified

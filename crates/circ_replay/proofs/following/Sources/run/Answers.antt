@@ -1,4 +1,4 @@
-use Rattle.std.proofs.Common.{◌≡◌, ◌<◌, ◌+◌, ◌∙◌, List, length, map, sym, subst, refl, arith}
+use Rattle.std.proofs.Common.{◌<◌, ◌+◌, List, length, map, sym, subst, refl}
 use Rattle.circ_term.specs.Tree.{Tree}
 use Rattle.circ_replay.specs.Plain.{LinkOf, plain_link}
 use Rattle.circ_replay.specs.Goals.{sides}
@@ -10,7 +10,8 @@ use Rattle.circ_replay.proofs.following.Sources.run.Goals as goal
 
 pub lead-requires : goal.lead-requires
 lead-requires c =
-    each_link (λ n. n < length c.args.self.now.table.now) c.args.links.now c.loop-link.link-index c.link-item.result c.requires c.loop-link-test.true c.link-item.is
+    let table = c.args.self.now.table.now in
+    each_link (λ n. n < length table) c.args.links.now c.loop-link.link-index c.link-item.result c.requires c.loop-link-test.true c.link-item.is
 
 pub returns-in-None : goal.returns-in-None
 returns-in-None c = λ u r.
@@ -30,7 +31,7 @@ loop-link-preserved c = λ u.
     let l = c.link-item.result in
     let next = links_next table c.args.links.now i l c.loop-link-test.true c.link-item.is in
     let on = runs_on s (resolved_link table (plain_link l)) (links_from table c.args.links.now (i + 1)) (links_from table c.args.links.now i)
-      c.loop-link.here c.in-Some.next next (rw c.in-Some.is at c.in_ok-next.ensures) u in
+    c.loop-link.here c.in-Some.next next (rw c.in-Some.is at c.in_ok-next.ensures) u in
     ((λ r. (c.loop-link.invariant u).0 (on.0 r)), (λ r. on.1 ((c.loop-link.invariant u).1 r)))
 
 pub returns : goal.returns
