@@ -21,11 +21,11 @@ use Rattle.circ_special.specs.Guarded.{Guarded}
 use Rattle.circ_replay.specs.Plain.{LinkOf}
 use Rattle.circ_replay.specs.Runs.{Runs}
 use Rattle.circ_replay.specs.Link.{setting, Leads}
+use Rattle.circ_replay.specs.Following.{FollowsAll}
 use Rattle.circ_rules.specs.Certified.{start_args, start_term, Certified}
 use Rattle.circ_rules.specs.Answers.{Gives}
 use Rattle.circ_rules.specs.Deriving.{IsWithin}
-use Rattle.circ_rules.proofs.Running.{one_end}
-use Rattle.circ_rules.proofs.Leading.{one_link}
+use Rattle.circ_replay.proofs.Leading.{one_end}
 use Rattle.circ_rules.proofs.Deriving.{if_some_at, some_if_at, past, the_derivative}
 
 -- ---- the arguments
@@ -207,10 +207,10 @@ module _ (th : Theory) (ok : IsWellFormed th) (G : List Place) (g : Place) (p : 
         subst (IsWellSorted th.signature) e z.well_sorted
 
     -- a link does not apply
-    pub no_last : (ls : List (LinkOf Tree)) → Gives (Runs (Leads (setting th G [] [])) ls first) None
+    pub no_last : (ls : List (LinkOf Tree)) → FollowsAll (setting th G [] []) ls first None
         → IfSome (slice_get th.derivatives n) (λ d. IsTrue false ↔ Certified th G g d ls)
     no_last ls nowhere =
-        let P : Tree → Type 0 = λ t. Gives (Runs (Leads (setting th G [] [])) ls t) None in
+        let P : Tree → Type 0 = λ t. FollowsAll (setting th G [] []) ls t None in
         if_some_at (λ d. IsTrue false ↔ Certified th G g d ls) (slice_get th.derivatives n) d there
         (not_certified ls (λ x. let y = to ls x in subst P first_is nowhere y.last y.leads))
 
@@ -225,5 +225,5 @@ module _ (th : Theory) (ok : IsWellFormed th) (G : List Place) (g : Place) (p : 
         (
           (λ t. from ls (record { within = subst IsWithinLimits starts is_first.within; last = last; leads = run; guarded = told.0 t })),
           (λ x. let y = to ls x in
-              told.1 (subst Q (one_end (Leads (setting th G [] [])) (one_link (setting th G [] [])) ls (start_term o g d) y.last last y.leads run) y.guarded)),
+              told.1 (subst Q (one_end (setting th G [] []) ls (start_term o g d) y.last last y.leads run) y.guarded)),
         )
