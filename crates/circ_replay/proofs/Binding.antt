@@ -1,5 +1,6 @@
 -- Binding the variables of a list, one after another.
-use Rattle.std.proofs.Common.{◌≡◌, ◌↔◌, ◌<◌, ◌+◌, ℕ, Bool, true, false, ◌==◌, ◌&&◌, if◌then◌else◌, List, [], ◌∷◌, length, map, drop, get_or, Some, None, Less, unwrap_or, refl, sym, ap, subst, ◌∙◌, arith}
+use Rattle.std.proofs.Common.{◌≡◌, ◌↔◌, ◌<◌, ◌+◌, ℕ, Bool, true, false, ◌==◌, ◌&&◌, if◌then◌else◌, List, [], ◌∷◌, length, map, drop, get_or}
+use Rattle.std.proofs.Common.{Some, None, Less, unwrap_or, refl, sym, ap, subst, ◌∙◌, arith}
 use Rattle.std.specs.List.{AllByRecursion}
 use Rattle.std.specs.List.Sorted.{IsStrictlySortedBy}
 use Rattle.std.specs.Ordering.{is_eq, nat_cmp}
@@ -8,7 +9,7 @@ use Rattle.std.proofs.lemmas.Bool.Decides.{nat_tests}
 use Rattle.std.proofs.lemmas.List.{drop_more}
 use Rattle.circ_term.specs.Tree.{Tree, sort_of}
 use Rattle.circ_term.specs.Substitution.{Substitution}
-use Rattle.circ_term.specs.Subst.{Bound, found, substitution_of, Binds}
+use Rattle.circ_term.specs.Subst.{Bound, found, Binds}
 use Rattle.circ_theory.specs.Variables.{Variable, is_variable, FitVariables, given, numbered}
 use Rattle.circ_theory.specs.Link.{named}
 use Rattle.circ_theory.proofs.Lists.{all_read}
@@ -47,7 +48,9 @@ bound_same σ τ v t rest whole b free h n s = go (h n s) (b n s) ((v.number == 
         → (x : Bool) → ((v.number == n) && (v.sort == s)) ≡ x → unwrap_or (found τ n s) (rest n s) ≡ whole n s
     go old new true e =
         let both = and_parts (v.number == n) (v.sort == s) e in
-        let none : found σ n s ≡ None = ap (λ m. found σ m s) (sym (eqb-true v.number n both.0)) ∙ ap (found σ v.number) (sym (eqb-true v.sort s both.1)) ∙ free in
+        let number = sym (eqb-true v.number n both.0) in
+        let sort = sym (eqb-true v.sort s both.1) in
+        let none : found σ n s ≡ None = ap (λ m. found σ m s) number ∙ ap (found σ v.number) sort ∙ free in
         rw (rw e at new) (rw (e, none) at old)
     go old new false e = rw (rw e at new) (rw e at old)
 

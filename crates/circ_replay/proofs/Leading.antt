@@ -1,13 +1,13 @@
 -- What a link leads to: one term, which is well-sorted, of the same sort, and derivable where the link uses no hypothesis.
-use Rattle.std.proofs.Common.{◌≡◌, ◌<◌, ◌⊎◌, ℕ, List, [], ◌∷◌, map, length, Some, refl, ap, sym, subst, ◌∙◌, inl, inr, arith}
+use Rattle.std.proofs.Common.{◌≡◌, ◌<◌, ◌⊎◌, ℕ, List, [], ◌∷◌, map, length, refl, ap, sym, subst, ◌∙◌, inl, inr, arith}
 use Rattle.std.specs.List.{AllByRecursion, Contains}
 use Rattle.std.proofs.lemmas.Option.{same_Some}
 use Rattle.circ_term.specs.Tree.{Tree, sort_of, replaced}
 use Rattle.circ_term.specs.Substitution.{instance}
 use Rattle.circ_theory.specs.Signature.{Signature, IsWellSorted, IsSubstitution}
-use Rattle.circ_theory.specs.Theory.{Theory, Pair, pair_of, pair_with, IsWellSortedPair, listed}
+use Rattle.circ_theory.specs.Theory.{Theory, Pair, pair_of, pair_with, IsWellSortedPair}
 use Rattle.circ_theory.specs.Variables.{variables_of, sorted, given}
-use Rattle.circ_theory.specs.Derivable.{Derivable, by_equation, by_symmetry, by_premise}
+use Rattle.circ_theory.specs.Derivable.{Derivable, by_symmetry, by_premise}
 use Rattle.circ_theory.specs.WellFormed.{IsWellFormed}
 use Rattle.circ_theory.specs.Link.{from_side, to_side, Replaces, named, RewritesBy}
 use Rattle.circ_theory.specs.declared.parts.Goal.{Goal}
@@ -18,12 +18,13 @@ use Rattle.circ_theory.proofs.Sorting.{KeepsSort, replaced_sorted, at_sorted, so
 use Rattle.circ_theory.proofs.Congruence.{replaced_keeps}
 use Rattle.circ_theory.proofs.Weakening.{first_or_rest, in_rest}
 use Rattle.circ_theory.proofs.Rewriting.{contains_at, named_well_sorted, given_substitution, rewrite_keeps}
+use Rattle.circ_special.specs.declared.place.Place.{Place}
 use Rattle.circ_aci.proofs.Deriving.{same_content_derivable}
 use Rattle.circ_replay.specs.Plain.{LinkOf, Equation_link, Hypothesis_link, Assumption_link, Content_link, ChainOf}
 use Rattle.circ_replay.specs.Plain.{WhyOf, WhysOf, Same_why, Split_why, no_why, more_whys, map_whys}
-use Rattle.circ_replay.specs.Goals.{sides, IsWellSortedGoal, AreSortedGoals}
+use Rattle.circ_replay.specs.Goals.{sides, AreSortedGoals}
 use Rattle.circ_replay.specs.Runs.{Runs}
-use Rattle.circ_replay.specs.Link.{Setting, Leads, AllOfLink, AllOfLinks, IsInTable, resolved_link, resolved_chain, resolved_why}
+use Rattle.circ_replay.specs.Link.{Setting, setting, Leads, AllOfLink, AllOfLinks, IsInTable, resolved_link, resolved_chain, resolved_why}
 use Rattle.circ_replay.specs.Justified.{ChainLeads, AllOfChain, AllOfWhy, AllOfWhys, IsWhyInTable}
 use Rattle.circ_replay.specs.Following.{LinkDerives}
 
@@ -200,11 +201,16 @@ derives_resolved th A table (Hypothesis_link number way path terms) t u d = d
 derives_resolved th A table (Assumption_link number way path) t u d = d
 derives_resolved th A table (Content_link op path term) t u d = d
 
--- goals as pairs
-pub sides_sorted : (th : Theory) (gs : List Goal) → AreSortedGoals th gs → (p : Pair) → Contains (map sides gs) p → IsWellSortedPair th.signature p
+-- ---- assumptions that are goals
+
+sides_sorted : (th : Theory) (gs : List Goal) → AreSortedGoals th gs → (p : Pair) → Contains (map sides gs) p → IsWellSortedPair th.signature p
 sides_sorted th [] a p k = absurd (omega (arith, k.1))
 sides_sorted th (g ∷ gs) a p k = go (λ h. sides_sorted th gs (λ x y. a x (in_rest g x gs y)) p h) (first_or_rest (sides g) p (map sides gs) k)
   where
     go : (Contains (map sides gs) p → IsWellSortedPair th.signature p) → (sides g ≡ p) ⊎ Contains (map sides gs) p → IsWellSortedPair th.signature p
     go ih (inl e) = let P : Pair → Type 0 = IsWellSortedPair th.signature in subst P e (a g (0, omega arith, refl)).sorted
     go ih (inr h) = ih h
+
+pub sorted_setting : (th : Theory) → IsWellFormed th → (G : List Place) (H A : List Goal) → AreSortedGoals th H → AreSortedGoals th A
+    → IsSortedSetting (setting th G H (map sides A))
+sorted_setting th ok G H A h a = record { well_formed = ok; hypotheses = h; assumptions = sides_sorted th A a }

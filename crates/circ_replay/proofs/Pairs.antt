@@ -1,7 +1,6 @@
 -- What following a link of an equation or a hypothesis does is what the link says.
 use Rattle.std.proofs.Common.{◌≡◌, ℕ, List, Option, Some, None, Result, Ok, Err, IfOk, ap, sym, subst, ◌∙◌}
 use Rattle.std.specs.List.{slice_get}
-use Rattle.std.specs.Option.{IfSome}
 use Rattle.std.proofs.lemmas.Option.{same_Some}
 use Rattle.circ_term.specs.Tree.{Tree, sort_of, replaced}
 use Rattle.circ_term.specs.Substitution.{instance}
@@ -9,14 +8,14 @@ use Rattle.circ_term.specs.Subst.{Bound, substitution_of}
 use Rattle.circ_term.proofs.Instances.{instance-same}
 use Rattle.circ_theory.specs.Theory.{Pair, pair_of, IsHidden}
 use Rattle.circ_theory.specs.Variables.{Variable, variables_of, sorted, FitVariables, given}
-use Rattle.circ_theory.specs.Link.{from_side, to_side, Replaces, RewritesBy}
+use Rattle.circ_theory.specs.Link.{from_side, to_side, RewritesBy}
 use Rattle.circ_theory.specs.declared.parts.Equation.{Equation}
 use Rattle.circ_theory.specs.declared.parts.Goal.{Goal}
 use Rattle.circ_theory.specs.declared.replay.Way.{Way}
 use Rattle.circ_special.specs.Special.{IsSpecial}
-use Rattle.circ_replay.specs.Plain.{LinkOf, Equation_link, Hypothesis_link}
+use Rattle.circ_replay.specs.Plain.{Equation_link, Hypothesis_link}
 use Rattle.circ_replay.specs.Goals.{sides}
-use Rattle.circ_replay.specs.Link.{Setting, EquationLeads, HypothesisLeads, Leads}
+use Rattle.circ_replay.specs.Link.{Setting, EquationLeads, HypothesisLeads}
 use Rattle.circ_replay.specs.Following.{Follows}
 use Rattle.circ_replay.specs.Rewriting.{GivesExchange, GivesSubst}
 
@@ -100,12 +99,3 @@ hypothesis_follows c number g way path terms t there special (Ok None) h = λ u 
     let it : r.hypothesis ≡ g = same_Some r.hypothesis g (sym r.listed ∙ sym there) in
     let P : Goal → Type 0 = λ d. RewritesBy (sides d) way path terms t u in
     h u (subst P it r.rewrites)
-
--- ---- all links
-
--- what holds of each term that a link leads to holds of the term that following it gives
-pub if_follows : {E : Type 0} (P : Tree → Type 0) (c : Setting) (l : LinkOf Tree) (t : Tree) (r : Result (Option Tree) E)
-    → IfOk r (Follows c l t) → ((u : Tree) → Leads c l t u → P u) → IfOk r (λ o. IfSome o P)
-if_follows P c l t (Ok None) f h = tt
-if_follows P c l t (Ok (Some u)) f h = h u f
-if_follows P c l t (Err e) f h = tt

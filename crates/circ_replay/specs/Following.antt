@@ -1,15 +1,29 @@
 -- What following links and whys answers.
-use Rattle.std.specs.Prelude.{◌↔◌, ℕ, List, [], Option, Some, None}
+use Rattle.std.specs.Prelude.{List, [], Option, Some, None}
 use Rattle.circ_term.specs.Tree.{Tree}
 use Rattle.circ_theory.specs.Theory.{Theory, Pair}
 use Rattle.circ_theory.specs.Derivable.{Derivable}
-use Rattle.circ_replay.specs.Plain.{LinkOf, Equation_link, Hypothesis_link, Assumption_link, Content_link}
+use Rattle.circ_theory.specs.declared.parts.Goal.{Goal}
+use Rattle.circ_replay.specs.Plain.{LinkOf, Equation_link, Hypothesis_link, Assumption_link, Content_link, ChainOf}
+use Rattle.circ_replay.specs.Goals.{sides}
+use Rattle.circ_replay.specs.Runs.{Runs}
 use Rattle.circ_replay.specs.Link.{Setting, Leads}
+use Rattle.circ_replay.specs.Justified.{ChainLeads}
 
 -- the one term that the link leads to, or that there is none
 abbrev pub Follows : Setting → LinkOf Tree → Tree → Option Tree → Type 0
 Follows c l t None = (u : Tree) → Leads c l t u → ⊥
 Follows c l t (Some u) = Leads c l t u
+
+-- the one term that the links lead to, one after another, or that there is none
+abbrev pub FollowsAll : Setting → List (LinkOf Tree) → Tree → Option Tree → Type 0
+FollowsAll c ls t None = (u : Tree) → Runs (Leads c) ls t u → ⊥
+FollowsAll c ls t (Some u) = Runs (Leads c) ls t u
+
+-- the one goal that the chain leads to, or that there is none
+abbrev pub FollowsChain : Setting → ChainOf Tree → Pair → Option Goal → Type 0
+FollowsChain c chain p None = (q : Pair) → ChainLeads (Leads c) chain p q → ⊥
+FollowsChain c chain p (Some g) = ChainLeads (Leads c) chain p (sides g)
 
 -- What a link leads to is derivable: by the theory alone for an equation's link and one of content, and from the assumptions for an assumption's.
 abbrev pub LinkDerives : Theory → (assumptions : List Pair) → {T : Type 0} → LinkOf T → Tree → Tree → Type 0

@@ -1,5 +1,5 @@
 -- What a recorded step of rewriting does to a term (`Link`). Its terms stand in it themselves; in a proof they go by their numbers in the table.
-use Rattle.std.specs.Prelude.{◌≡◌, ◌<◌, ℕ, List, [], ◌∷◌, ◌++◌, Some}
+use Rattle.std.specs.Prelude.{◌≡◌, ◌<◌, ℕ, List, [], ◌∷◌, ◌++◌, map, Some}
 use Rattle.std.specs.List.{slice_get, AllByRecursion}
 use Rattle.circ_term.specs.Tree.{Tree, sort_of}
 use Rattle.circ_theory.specs.Theory.{Theory, Pair, pair_of, IsHidden}
@@ -59,10 +59,13 @@ Leads c (Hypothesis_link number way path terms) t u = HypothesisLeads c number w
 Leads c (Assumption_link number way path) t u = AssumptionLeads c number way path t u
 Leads c (Content_link op path term) t u = ContentLeads c op path term t u
 
--- A link, a chain, a why with the terms of a table for their numbers.
+-- A link, links, a chain, a why with the terms of a table for their numbers.
 
 abbrev pub resolved_link : (table : List Tree) → LinkOf ℕ → LinkOf Tree
 resolved_link table l = map_link (named table) l
+
+abbrev pub resolved_links : (table : List Tree) → List (LinkOf ℕ) → List (LinkOf Tree)
+resolved_links table ls = map (resolved_link table) ls
 
 abbrev pub resolved_chain : (table : List Tree) → ChainOf ℕ → ChainOf Tree
 resolved_chain table c = map_chain (named table) c

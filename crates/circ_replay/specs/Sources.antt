@@ -1,8 +1,8 @@
 -- What a link is read against, as the code hands it on.
-use Rattle.std.specs.Prelude.{map}
+use Rattle.std.specs.Prelude.{List}
+use Rattle.circ_theory.specs.Theory.{Pair}
 use Rattle.circ_replay.specs.declared.following.Sources.{Sources}
-use Rattle.circ_replay.specs.Goals.{sides}
 use Rattle.circ_replay.specs.Link.{Setting, setting}
 
-abbrev pub setting_of : Sources → Setting
-setting_of s = setting s.theory.now s.gamma.now s.hyps.now (map sides s.assumptions.now)
+abbrev pub setting_of : Sources → (assumptions : List Pair) → Setting
+setting_of s A = setting s.theory.now s.gamma.now s.hyps.now A

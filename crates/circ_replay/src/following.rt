@@ -1,25 +1,25 @@
 //! What recorded links lead to.
-ghost use Rattle.std.specs.Prelude.{◌≡◌, ◌<◌, ◌↔◌, IsTrue, IfOk, [], length, map};
+ghost use Rattle.std.specs.Prelude.{◌≡◌, ◌<◌, ◌↔◌, IsTrue, IfOk, List, length, map};
 ghost use Rattle.std.specs.List.{slice_get, AllByRecursion};
 ghost use Rattle.std.specs.Option.{option_copied, IfSome};
 ghost use Rattle.circ_term.specs.Tree.{sort_of};
 ghost use Rattle.circ_theory.specs.Signature.{IsWellSorted};
-ghost use Rattle.circ_theory.specs.Theory.{IsHidden};
+ghost use Rattle.circ_theory.specs.Theory.{Pair, IsHidden};
 ghost use Rattle.circ_theory.specs.Link.{named};
 ghost use Rattle.circ_special.specs.Special.{IsSpecial};
 ghost use Rattle.circ_aci.specs.Content.{HasContentOf};
-ghost use Rattle.circ_replay.specs.Plain.{plain_link, plain_why};
+ghost use Rattle.circ_replay.specs.Plain.{plain_link, plain_links};
 ghost use Rattle.circ_replay.specs.Plain.{Equation_link, Hypothesis_link};
 ghost use Rattle.circ_replay.specs.Plain.{Assumption_link, Content_link};
-ghost use Rattle.circ_replay.specs.Goals.{sides, AreSortedGoals, IsWellSortedGoal};
-ghost use Rattle.circ_replay.specs.Link.{setting, resolved_link, resolved_why, IsInTable};
-ghost use Rattle.circ_replay.specs.Justified.{Justified, IsWhyInTable};
-ghost use Rattle.circ_replay.specs.Following.{Follows, LinkDerives};
+ghost use Rattle.circ_replay.specs.Goals.{sides, AreSortedGoals};
+ghost use Rattle.circ_replay.specs.Link.{setting, resolved_link, resolved_links};
+ghost use Rattle.circ_replay.specs.Link.{IsInTable, AllOfLinks};
+ghost use Rattle.circ_replay.specs.Following.{Follows, FollowsAll, LinkDerives};
 ghost use Rattle.circ_replay.specs.Sources.{setting_of};
 
-use crate::links::{Link, Why};
+use crate::links::Link;
 use crate::rewriting::{Sides, exchange, replaced_at, rewrite};
-use crate::substitution::{of_goal, of_sorts};
+use crate::substitution;
 use circ_aci::same_content;
 use circ_special::Gamma;
 use circ_term::Term;
@@ -57,12 +57,44 @@ pub fn follow(
         table,
         gamma,
         hyps,
-        assumptions,
     };
-    sources.lead(link, term)
+    sources.lead(assumptions, link, term)
 }
 
-// What a link is read against: a setting, and the table of the terms that it names.
+/// The term that links lead to, one after another. None where one of them does not apply.
+pub fn follow_all(
+    alloc: Global,
+    theory: &Theory,
+    table: &[Term],
+    gamma: &Gamma,
+    hyps: &[Goal],
+    assumptions: &[Goal],
+    links: &[Link],
+    term: &Term,
+) -> Result<Option<Term>, AllocError>
+    requires in_table { AllOfLinks (λ n. n < length table.now) (plain_links links.now) }
+    requires table_sorted { AllByRecursion (IsWellSorted theory.now.signature) table.now }
+    requires hyps_sorted { AreSortedGoals theory.now hyps.now }
+    requires assumptions_sorted { AreSortedGoals theory.now assumptions.now }
+    requires term_sorted { IsWellSorted theory.now.signature term.now }
+    ensures exact { IfOk result (FollowsAll
+        (setting theory.now gamma.now hyps.now (map sides assumptions.now))
+        (resolved_links table.now (plain_links links.now)) term.now) }
+    ensures well_sorted { IfOk result (λ o. IfSome o (IsWellSorted theory.now.signature)) }
+    ensures same_sort { IfOk result (λ o. IfSome o (λ u. sort_of u ≡ sort_of term.now)) }
+{
+    theory.known();
+    let sources = Sources {
+        alloc,
+        theory,
+        table,
+        gamma,
+        hyps,
+    };
+    sources.run(assumptions, links, term)
+}
+
+// What a link is read against, the assumptions apart, and the table of the terms that it names.
 #[derive(Clone, Copy)]
 pub(crate) struct Sources<'a> {
     pub(crate) alloc: Global,
@@ -70,24 +102,39 @@ pub(crate) struct Sources<'a> {
     pub(crate) table: &'a [Term],
     pub(crate) gamma: &'a Gamma,
     pub(crate) hyps: &'a [Goal],
-    pub(crate) assumptions: &'a [Goal],
-}
-
-// How a link uses a pair: which one, which side is looked for, where, and the numbers of the terms
-// for its variables.
-#[derive(Clone, Copy)]
-struct Use<'a> {
-    number: u32,
-    way: Way,
-    path: &'a [u16],
-    terms: &'a [u32],
 }
 
 impl Sources<'_> {
+    // The term that the links lead to, one after another.
+    pub(crate) fn run(
+        &self,
+        assumptions: &[Goal],
+        links: &[Link],
+        term: &Term,
+    ) -> Result<Option<Term>, AllocError>
+        requires { AllOfLinks (λ n. n < length self.now.table.now) (plain_links links.now) }
+        ensures { IfOk result (FollowsAll (setting_of self.now (map sides assumptions.now))
+            (resolved_links self.now.table.now (plain_links links.now)) term.now) }
+    {
+        let mut here = term.share()?;
+        for link in links {
+            match self.lead(assumptions, link, &here)? {
+                Some(next) => here = next,
+                None => return Ok(None),
+            }
+        }
+        Ok(Some(here))
+    }
+
     // The term that the link leads to.
-    pub(crate) fn lead(&self, link: &Link, term: &Term) -> Result<Option<Term>, AllocError>
+    fn lead(
+        &self,
+        assumptions: &[Goal],
+        link: &Link,
+        term: &Term,
+    ) -> Result<Option<Term>, AllocError>
         requires { IsInTable (length self.now.table.now) (plain_link link.now) }
-        ensures { IfOk result (Follows (setting_of self.now)
+        ensures { IfOk result (Follows (setting_of self.now (map sides assumptions.now))
             (resolved_link self.now.table.now (plain_link link.now)) term.now) }
     {
         match link {
@@ -96,75 +143,75 @@ impl Sources<'_> {
                 way,
                 path,
                 terms,
-            } => {
-                let by = Use {
-                    number: *number,
-                    way: *way,
-                    path: path.as_slice(),
-                    terms: terms.as_slice(),
-                };
-                self.by_equation(&by, term)
-            }
+            } => self.by_equation(*number, *way, path.as_slice(), terms.as_slice(), term),
             Link::Hypothesis {
                 number,
                 way,
                 path,
                 terms,
-            } => {
-                let by = Use {
-                    number: *number,
-                    way: *way,
-                    path: path.as_slice(),
-                    terms: terms.as_slice(),
-                };
-                self.by_hypothesis(&by, term)
-            }
+            } => self.by_hypothesis(*number, *way, path.as_slice(), terms.as_slice(), term),
             Link::Assumption { number, way, path } => {
-                self.by_assumption(*number, *way, path.as_slice(), term)
+                self.by_assumption(assumptions, *number, *way, path.as_slice(), term)
             }
-            Link::Content { op, path, term: new } => {
-                self.by_content(*op, path.as_slice(), *new, term)
-            }
+            Link::Content {
+                op,
+                path,
+                term: new,
+            } => self.by_content(*op, path.as_slice(), *new, term),
         }
     }
 
-    fn by_equation(&self, by: &Use<'_>, term: &Term) -> Result<Option<Term>, AllocError>
-        requires { AllByRecursion (λ n. n < length self.now.table.now) by.now.terms.now }
-        ensures { IfOk result (Follows (setting_of self.now)
-            (Equation_link by.now.number by.now.way by.now.path.now
-                (map (named self.now.table.now) by.now.terms.now)) term.now) }
+    fn by_equation(
+        &self,
+        number: u32,
+        way: Way,
+        path: &[u16],
+        terms: &[u32],
+        term: &Term,
+    ) -> Result<Option<Term>, AllocError>
+        requires { AllByRecursion (λ n. n < length self.now.table.now) terms.now }
+        ensures { (A : List Pair) → IfOk result (Follows (setting_of self.now A)
+            (Equation_link number way path.now
+            (map (named self.now.table.now) terms.now)) term.now) }
     {
         self.theory.known();
-        let Some(equation) = self.theory.equation(by.number) else {
+        let Some(equation) = self.theory.equation(number) else {
             return Ok(None);
         };
-        let Some(sorts) = self.theory.equation_sorts(by.number) else {
+        let Some(sorts) = self.theory.equation_sorts(number) else {
             return Ok(None);
         };
-        let Some(subst) = of_sorts(self.alloc, sorts, self.table, by.terms)? else {
+        let Some(subst) = substitution::of_sorts(self.alloc, sorts, self.table, terms)? else {
             return Ok(None);
         };
-        let sides = Sides::of(by.way, &equation.left, &equation.right);
-        rewrite(self.alloc, &subst, &sides, by.path, term)
+        let sides = Sides::of(way, &equation.left, &equation.right);
+        rewrite(self.alloc, &subst, &sides, path, term)
     }
 
-    fn by_hypothesis(&self, by: &Use<'_>, term: &Term) -> Result<Option<Term>, AllocError>
-        requires { AllByRecursion (λ n. n < length self.now.table.now) by.now.terms.now }
-        ensures { IfOk result (Follows (setting_of self.now)
-            (Hypothesis_link by.now.number by.now.way by.now.path.now
-                (map (named self.now.table.now) by.now.terms.now)) term.now) }
+    fn by_hypothesis(
+        &self,
+        number: u32,
+        way: Way,
+        path: &[u16],
+        terms: &[u32],
+        term: &Term,
+    ) -> Result<Option<Term>, AllocError>
+        requires { AllByRecursion (λ n. n < length self.now.table.now) terms.now }
+        ensures { (A : List Pair) → IfOk result (Follows (setting_of self.now A)
+            (Hypothesis_link number way path.now
+            (map (named self.now.table.now) terms.now)) term.now) }
     {
-        let Some(hypothesis) = goal_at(self.hyps, by.number) else {
+        let Some(hypothesis) = goal_at(self.hyps, number) else {
             return Ok(None);
         };
-        if !self.may_use(hypothesis, by.path, term) {
+        if !self.may_use(hypothesis, path, term) {
             return Ok(None);
         }
-        let Some(subst) = of_goal(self.alloc, hypothesis, self.table, by.terms)? else {
+        let Some(subst) = substitution::of_goal(self.alloc, hypothesis, self.table, terms)? else {
             return Ok(None);
         };
-        let sides = Sides::of(by.way, &hypothesis.left, &hypothesis.right);
-        rewrite(self.alloc, &subst, &sides, by.path, term)
+        let sides = Sides::of(way, &hypothesis.left, &hypothesis.right);
+        rewrite(self.alloc, &subst, &sides, path, term)
     }
 
     // A hypothesis of hidden sort may be used at special paths only.
@@ -180,15 +227,16 @@ impl Sources<'_> {
 
     fn by_assumption(
         &self,
+        assumptions: &[Goal],
         number: u32,
         way: Way,
         path: &[u16],
         term: &Term,
     ) -> Result<Option<Term>, AllocError>
-        ensures { IfOk result (Follows (setting_of self.now)
+        ensures { IfOk result (Follows (setting_of self.now (map sides assumptions.now))
             (Assumption_link number way path.now) term.now) }
     {
-        let Some(assumption) = goal_at(self.assumptions, number) else {
+        let Some(assumption) = goal_at(assumptions, number) else {
             return Ok(None);
         };
         let sides = Sides::of(way, &assumption.left, &assumption.right);
@@ -203,7 +251,7 @@ impl Sources<'_> {
         term: &Term,
     ) -> Result<Option<Term>, AllocError>
         requires { new < length self.now.table.now }
-        ensures { IfOk result (Follows (setting_of self.now)
+        ensures { (A : List Pair) → IfOk result (Follows (setting_of self.now A)
             (Content_link op path.now (named self.now.table.now new)) term.now) }
     {
         let Some(old) = term.at(path) else {
@@ -234,25 +282,4 @@ fn goal_at(goals: &[Goal], number: u32) -> Option<&Goal>
     ensures { option_copied result ≡ slice_get goals.now number }
 {
     goals.get(number as usize)
-}
-
-/// Whether the goal holds by the reason: each of its links applies, in its splits each constant of
-/// the term's case list has a reason, and each reason ends with two sides that are the same.
-pub fn follow_why(
-    alloc: Global,
-    theory: &Theory,
-    table: &[Term],
-    gamma: &Gamma,
-    hyps: &[Goal],
-    goal: &Goal,
-    why: &Why,
-) -> Result<bool, AllocError>
-    requires in_table { IsWhyInTable (length table.now) (plain_why why.now) }
-    requires table_sorted { AllByRecursion (IsWellSorted theory.now.signature) table.now }
-    requires hyps_sorted { AreSortedGoals theory.now hyps.now }
-    requires goal_sorted { IsWellSortedGoal theory.now goal.now }
-    ensures { IfOk result (λ b. IsTrue b ↔ Justified (setting theory.now gamma.now hyps.now [])
-        (sides goal.now) (resolved_why table.now (plain_why why.now))) }
-{
-    Err(AllocError)
 }

@@ -6,13 +6,15 @@
 #![tactic(auto)]
 
 mod following;
+mod justifying;
 mod links;
 mod rewriting;
 mod substitution;
 mod table;
 mod variables;
 
-pub use following::{follow, follow_why};
+pub use following::{follow, follow_all};
+pub use justifying::follow_why;
 pub use links::{Chain, Link, Way, Why};
 pub use table::TableBuilder;
 

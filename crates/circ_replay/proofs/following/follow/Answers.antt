@@ -1,59 +1,47 @@
 use Rattle.std.proofs.Common.{◌≡◌, map}
-use Rattle.circ_term.specs.Tree.{Tree, sort_of}
+use Rattle.circ_term.specs.Tree.{sort_of}
 use Rattle.circ_theory.specs.Signature.{IsWellSorted}
 use Rattle.circ_replay.specs.Plain.{plain_link}
 use Rattle.circ_replay.specs.Goals.{sides}
-use Rattle.circ_replay.specs.Link.{Setting, setting, resolved_link}
+use Rattle.circ_replay.specs.Link.{setting, resolved_link}
 use Rattle.circ_replay.specs.Following.{LinkDerives}
-use Rattle.circ_replay.proofs.Pairs.{if_follows}
-use Rattle.circ_replay.proofs.Leading.{IsSortedSetting, link_sorted, link_derives, link_resolved, derives_resolved, sides_sorted}
+use Rattle.circ_replay.proofs.Leading.{link_sorted, link_derives, link_resolved, derives_resolved, sorted_setting}
+use Rattle.circ_replay.proofs.Running.{if_follows}
 use Rattle.circ_replay.proofs.following.follow.Goals as goal
 
 pub returns-clause-derivable : goal.returns-clause-derivable
 returns-clause-derivable c =
     let th = c.args.theory.now in
     let A = map sides c.args.assumptions.now in
-    let s : Setting = setting th c.args.gamma.now c.args.hyps.now A in
-    let is : IsSortedSetting s = record {
-      well_formed = c.known.ensures;
-      hypotheses = c.requires.hyps_sorted;
-      assumptions = sides_sorted th c.args.assumptions.now c.requires.assumptions_sorted;
-    } in
-    let l = plain_link c.args.link.now in
+    let s = setting th c.args.gamma.now c.args.hyps.now A in
+    let is = sorted_setting th c.known.ensures c.args.gamma.now c.args.hyps.now c.args.assumptions.now c.requires.hyps_sorted c.requires.assumptions_sorted in
     let table = c.args.table.now in
+    let l = plain_link c.args.link.now in
+    let a = link_resolved th.signature table c.requires.table_sorted l c.requires.in_table in
     let t = c.args.term.now in
     if_follows (LinkDerives th A l t) s (resolved_link table l) t c.lead.result c.lead.ensures
-    (λ u r. derives_resolved th A table l t u
-      (link_derives s is (resolved_link table l) (link_resolved th.signature table c.requires.table_sorted l c.requires.in_table) t u c.requires.term_sorted r))
+    (λ u r. derives_resolved th A table l t u (link_derives s is (resolved_link table l) a t u c.requires.term_sorted r))
 
 pub returns-clause-well_sorted : goal.returns-clause-well_sorted
 returns-clause-well_sorted c =
     let th = c.args.theory.now in
-    let s : Setting = setting th c.args.gamma.now c.args.hyps.now (map sides c.args.assumptions.now) in
-    let is : IsSortedSetting s = record {
-      well_formed = c.known.ensures;
-      hypotheses = c.requires.hyps_sorted;
-      assumptions = sides_sorted th c.args.assumptions.now c.requires.assumptions_sorted;
-    } in
-    let l = plain_link c.args.link.now in
+    let s = setting th c.args.gamma.now c.args.hyps.now (map sides c.args.assumptions.now) in
+    let is = sorted_setting th c.known.ensures c.args.gamma.now c.args.hyps.now c.args.assumptions.now c.requires.hyps_sorted c.requires.assumptions_sorted in
     let table = c.args.table.now in
+    let l = plain_link c.args.link.now in
+    let a = link_resolved th.signature table c.requires.table_sorted l c.requires.in_table in
     let t = c.args.term.now in
     if_follows (IsWellSorted th.signature) s (resolved_link table l) t c.lead.result c.lead.ensures
-    (λ u r. (link_sorted s is (resolved_link table l) (link_resolved th.signature table c.requires.table_sorted l c.requires.in_table) t u
-      c.requires.term_sorted r).well_sorted)
+    (λ u r. (link_sorted s is (resolved_link table l) a t u c.requires.term_sorted r).well_sorted)
 
 pub returns-clause-same_sort : goal.returns-clause-same_sort
 returns-clause-same_sort c =
     let th = c.args.theory.now in
-    let s : Setting = setting th c.args.gamma.now c.args.hyps.now (map sides c.args.assumptions.now) in
-    let is : IsSortedSetting s = record {
-      well_formed = c.known.ensures;
-      hypotheses = c.requires.hyps_sorted;
-      assumptions = sides_sorted th c.args.assumptions.now c.requires.assumptions_sorted;
-    } in
-    let l = plain_link c.args.link.now in
+    let s = setting th c.args.gamma.now c.args.hyps.now (map sides c.args.assumptions.now) in
+    let is = sorted_setting th c.known.ensures c.args.gamma.now c.args.hyps.now c.args.assumptions.now c.requires.hyps_sorted c.requires.assumptions_sorted in
     let table = c.args.table.now in
+    let l = plain_link c.args.link.now in
+    let a = link_resolved th.signature table c.requires.table_sorted l c.requires.in_table in
     let t = c.args.term.now in
     if_follows (λ u. sort_of u ≡ sort_of t) s (resolved_link table l) t c.lead.result c.lead.ensures
-    (λ u r. (link_sorted s is (resolved_link table l) (link_resolved th.signature table c.requires.table_sorted l c.requires.in_table) t u
-      c.requires.term_sorted r).same_sort)
+    (λ u r. (link_sorted s is (resolved_link table l) a t u c.requires.term_sorted r).same_sort)

@@ -1,4 +1,4 @@
-use Rattle.std.proofs.Common.{◌≡◌, map, sym, ap, ◌∙◌, arith}
+use Rattle.std.proofs.Common.{map, sym, ap, ◌∙◌, arith}
 use Rattle.circ_term.proofs.Within.{depth_at}
 use Rattle.circ_replay.specs.declared.variables.Variable.{Variable}
 use Rattle.circ_replay.specs.Gathering.{variable_of, gathered}

@@ -5,7 +5,8 @@ use Rattle.circ_replay.proofs.variables.+gather.Given as goal
 
 abbrev pub invariant-gather_all-loop-term : goal.invariant-gather_all-loop-term
 invariant-gather_all-loop-term l =
-    gathered_all (trees_of (drop l.term-index l.terms)) (map variable_of l.variables.keys) ≡ gathered_all (trees_of l.terms) (map variable_of l.initial.variables.keys)
+    gathered_all (trees_of (drop l.term-index l.terms)) (map variable_of l.variables.keys)
+    ≡ gathered_all (trees_of l.terms) (map variable_of l.initial.variables.keys)
 
 abbrev pub decreases-gather : goal.decreases-gather
 decreases-gather l = 2 * depth_of l.term.now

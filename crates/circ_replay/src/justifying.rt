@@ -1,0 +1,173 @@
+//! Why goals hold, as proofs record it.
+ghost use Rattle.std.specs.Prelude.{◌≡◌, ◌<◌, ◌↔◌, ◌++◌, [], ◌∷◌, length, map};
+ghost use Rattle.std.specs.Prelude.{IsTrue, IfOk, OnOk};
+ghost use Rattle.std.specs.List.{AllByRecursion};
+ghost use Rattle.circ_term.specs.Tree.{App, none, sort_of};
+ghost use Rattle.circ_theory.specs.Signature.{IsWellSorted};
+ghost use Rattle.circ_theory.specs.Observing.{case_list};
+ghost use Rattle.circ_theory.specs.Link.{named};
+ghost use Rattle.circ_replay.specs.Plain.{plain_why, plain_whys, plain_chain, map_whys, Same_why};
+ghost use Rattle.circ_replay.specs.Goals.{goal, sides, AreSortedGoals, IsWellSortedGoal};
+ghost use Rattle.circ_replay.specs.Link.{setting, resolved_chain, resolved_why};
+ghost use Rattle.circ_replay.specs.Justified.{Justified, EachJustified, IsWhyInTable};
+ghost use Rattle.circ_replay.specs.Justified.{AllOfChain, AllOfWhys};
+ghost use Rattle.circ_replay.specs.Following.{FollowsChain};
+ghost use Rattle.circ_replay.specs.Sources.{setting_of};
+
+use crate::following::Sources;
+use crate::links::{Chain, Why};
+use circ_special::Gamma;
+use circ_term::Term;
+use circ_theory::{Goal, Theory};
+use std::alloc::{AllocError, Global};
+
+/// Whether the goal holds by the reason: each of its links applies, in its splits each constant of
+/// the term's case list has a reason, and each reason ends with two sides that are the same.
+pub fn follow_why(
+    alloc: Global,
+    theory: &Theory,
+    table: &[Term],
+    gamma: &Gamma,
+    hyps: &[Goal],
+    goal: &Goal,
+    why: &Why,
+) -> Result<bool, AllocError>
+    requires in_table { IsWhyInTable (length table.now) (plain_why why.now) }
+    requires table_sorted { AllByRecursion (IsWellSorted theory.now.signature) table.now }
+    requires hyps_sorted { AreSortedGoals theory.now hyps.now }
+    requires goal_sorted { IsWellSortedGoal theory.now goal.now }
+    ensures { IfOk result (λ b. IsTrue b ↔ Justified (setting theory.now gamma.now hyps.now [])
+        (sides goal.now) (resolved_why table.now (plain_why why.now))) }
+{
+    let sources = Sources {
+        alloc,
+        theory,
+        table,
+        gamma,
+        hyps,
+    };
+    let mut assumptions = Vec::new(alloc);
+    sources.is_justified(&mut assumptions, goal, why)
+}
+
+impl Sources<'_> {
+    // Whether the goal holds by the reason. A case's assumption is taken off again after it.
+    #[cycle(justify)]
+    fn is_justified(
+        &self,
+        assumptions: &mut Vec<Goal>,
+        goal: &Goal,
+        why: &Why,
+    ) -> Result<bool, AllocError>
+        requires { IsWhyInTable (length self.now.table.now) (plain_why why.now) }
+        ensures exact { IfOk result (λ b. IsTrue b ↔ Justified
+            (setting_of self.now (map sides assumptions.old.items)) (sides goal.now)
+            (resolved_why self.now.table.now (plain_why why.now))) }
+        ensures same { OnOk result (assumptions.new.items ≡ assumptions.old.items) }
+    {
+        match why {
+            Why::Same { chain } => self.meets(assumptions.as_slice(), chain, goal),
+            Why::Split { chain, term, whys } => {
+                self.theory.known();
+                let term = &self.table[*term as usize];
+                let Some(constants) = self.theory.cases(term.sort()) else {
+                    return Ok(false);
+                };
+                let Some(left) = self.follow_chain(assumptions.as_slice(), chain, goal)? else {
+                    return Ok(false);
+                };
+                self.each_justified(assumptions, &left, term, constants, whys.as_slice())
+            }
+        }
+    }
+
+    // The same in the case of each constant.
+    #[cycle(justify)]
+    fn each_justified(
+        &self,
+        assumptions: &mut Vec<Goal>,
+        goal: &Goal,
+        term: &Term,
+        constants: &[u32],
+        whys: &[Why],
+    ) -> Result<bool, AllocError>
+        requires { AllOfWhys (λ n. n < length self.now.table.now) (plain_whys whys.now) }
+        ensures exact { IfOk result (λ b. IsTrue b ↔ EachJustified
+            (setting_of self.now (map sides assumptions.old.items)) (sides goal.now) term.now
+            (case_list (sort_of term.now) constants.now) constants.now
+            (map_whys (named self.now.table.now) (plain_whys whys.now))) }
+        ensures same { OnOk result (assumptions.new.items ≡ assumptions.old.items) }
+    {
+        if constants.len() != whys.len() {
+            return Ok(false);
+        }
+        let count = assumptions.len();
+        for i in 0..whys.len() {
+            assume(self.alloc, assumptions, term, constants[i])?;
+            let justified = self.is_justified(assumptions, goal, &whys[i])?;
+            assumptions.truncate(count);
+            if !justified {
+                return Ok(false);
+            }
+        }
+        Ok(true)
+    }
+
+    // Whether the chain leads to two sides that are the same.
+    fn meets(&self, assumptions: &[Goal], chain: &Chain, goal: &Goal) -> Result<bool, AllocError>
+        requires { AllOfChain (λ n. n < length self.now.table.now) (plain_chain chain.now) }
+        ensures { IfOk result (λ b. IsTrue b ↔ Justified
+            (setting_of self.now (map sides assumptions.now)) (sides goal.now)
+            (Same_why (resolved_chain self.now.table.now (plain_chain chain.now)))) }
+    {
+        match self.follow_chain(assumptions, chain, goal)? {
+            Some(end) => Ok(end.left.same(&end.right)),
+            None => Ok(false),
+        }
+    }
+
+    // The goal that the chain leads to.
+    fn follow_chain(
+        &self,
+        assumptions: &[Goal],
+        chain: &Chain,
+        goal: &Goal,
+    ) -> Result<Option<Goal>, AllocError>
+        requires { AllOfChain (λ n. n < length self.now.table.now) (plain_chain chain.now) }
+        ensures { IfOk result (FollowsChain (setting_of self.now (map sides assumptions.now))
+            (resolved_chain self.now.table.now (plain_chain chain.now)) (sides goal.now)) }
+    {
+        let Some(left) = self.run(assumptions, chain.left.as_slice(), &goal.left)? else {
+            return Ok(None);
+        };
+        let Some(right) = self.run(assumptions, chain.right.as_slice(), &goal.right)? else {
+            return Ok(None);
+        };
+        Ok(Some(Goal { left, right }))
+    }
+}
+
+// Adds the assumption that the term is the constant.
+fn assume(
+    alloc: Global,
+    assumptions: &mut Vec<Goal>,
+    term: &Term,
+    constant: u32,
+) -> Result<(), AllocError>
+    ensures { OnOk result (assumptions.new.items ≡ assumptions.old.items ++
+        goal term.now (App constant (sort_of term.now) none) ∷ []) }
+{
+    let left = term.share()?;
+    let right = constant_of(alloc, constant, term.sort())?;
+    assumptions.push(Goal { left, right })?;
+    Ok(())
+}
+
+fn constant_of(alloc: Global, constant: u32, sort: u32) -> Result<Term, AllocError>
+    ensures { IfOk result (λ t. t ≡ App constant sort none) }
+{
+    match Term::app(alloc, constant, sort, Vec::new(alloc)) {
+        Ok(term) => Ok(term),
+        Err(_) => Err(AllocError),
+    }
+}
