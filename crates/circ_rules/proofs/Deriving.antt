@@ -23,18 +23,18 @@ use Rattle.circ_rules.specs.Answers.{Gives}
 use Rattle.circ_rules.specs.Deriving.{IsWithin, IsDerivativeOn, AreDerivativesOn, moved, moved_on}
 use Rattle.circ_rules.proofs.Sorted.{sorted_none, sorted_more, sorted_first, sorted_rest, sorted_append, derivatives_sorted}
 
-if_some_at : {X : Type 0} (P : X → Type 0) (o : Option X) (x : X) → o ≡ Some x → P x → IfSome o P
+pub if_some_at : {X : Type 0} (P : X → Type 0) (o : Option X) (x : X) → o ≡ Some x → P x → IfSome o P
 if_some_at P o x e p = let Q : Option _ → Type 0 = λ o. IfSome o P in subst Q (sym e) p
 
-some_if_at : {X : Type 0} (P : X → Type 0) (o : Option X) (x : X) → o ≡ Some x → IfSome o P → P x
+pub some_if_at : {X : Type 0} (P : X → Type 0) (o : Option X) (x : X) → o ≡ Some x → IfSome o P → P x
 some_if_at P o x e p = let Q : Option _ → Type 0 = λ o. IfSome o P in subst Q e p
 
 -- what passes no limit is there
-past : (t u : Tree) → t ≡ u → Gives (IsWithin t) None → IsWithinLimits u → ⊥
+pub past : (t u : Tree) → t ≡ u → Gives (IsWithin t) None → IsWithinLimits u → ⊥
 past t u e none w = none t (record { within = subst IsWithinLimits (sym e) w; same = refl })
 
 -- the derivative that a hole's sort was read from
-the_derivative : (o : Option Derivative) (s : ℕ) → option_map (λ d. d.hole) o ≡ Some s → (d : Derivative) × (o ≡ Some d) × (d.hole ≡ s)
+pub the_derivative : (o : Option Derivative) (s : ℕ) → option_map (λ d. d.hole) o ≡ Some s → (d : Derivative) × (o ≡ Some d) × (d.hole ≡ s)
 the_derivative None s e = absurd (cc)
 the_derivative (Some d) s e = (d, refl, same_Some d.hole s e)
 

@@ -2,30 +2,10 @@
 use Rattle.std.specs.Prelude.{◌≡◌, ◌⊎◌, ◌≤◌, ◌+◌, ℕ, List, [], ◌∷◌, ◌++◌, length, Option, Some, None, refl}
 use Rattle.std.proofs.Common.{ap, sym, ◌∙◌, subst, inl, inr, arith}
 use Rattle.circ_replay.specs.Runs.{Runs, FailsFirst}
-use Rattle.circ_rules.specs.Answers.{Gives}
 
 -- each step leads from a state to one state at most
 abbrev pub LeadsToOne : {X S : Type 0} → (X → S → S → Type 0) → Type 0
 LeadsToOne {X = X} {S = S} Leads = (x : X) (a b c : S) → Leads x a b → Leads x a c → b ≡ c
-
-pub one_end : {X S : Type 0} (Leads : X → S → S → Type 0) → LeadsToOne Leads → (xs : List X) (a b c : S) → Runs Leads xs a b → Runs Leads xs a c → b ≡ c
-one_end Leads one [] a b c r s = sym r ∙ s
-one_end {S = S} Leads one (x ∷ xs) a b c r s =
-    let e : r.0 ≡ s.0 = one x a r.0 s.0 r.1 s.1 in
-    let P : S → Type 0 = λ m. Runs Leads xs m b in
-    one_end Leads one xs s.0 b c (subst P e r.2) s.2
-
--- where a step leads on, the rest of the steps gives the end of all
-pub runs_next : {X S : Type 0} (Leads : X → S → S → Type 0) → LeadsToOne Leads → (x : X) (xs : List X) (a b : S) → Leads x a b → (o : Option S)
-    → Gives (Runs Leads xs b) o → Gives (Runs Leads (x ∷ xs) a) o
-runs_next {S = S} Leads one x xs a b l None g = λ c r.
-    let P : S → Type 0 = λ m. Runs Leads xs m c in
-    g c (subst P (one x a r.0 b r.1 l) r.2)
-runs_next Leads one x xs a b l (Some c) g = (b, l, g)
-
--- where a step leads nowhere, so do the steps
-pub runs_nowhere : {X S : Type 0} (Leads : X → S → S → Type 0) (x : X) (xs : List X) (a : S) → Gives (Leads x a) None → Gives (Runs Leads (x ∷ xs) a) None
-runs_nowhere Leads x xs a g = λ c r. g r.0 r.1
 
 -- steps that run do not fail
 pub runs_or_fails : {X S : Type 0} (Leads : X → S → S → Type 0) → LeadsToOne Leads → (xs : List X) (a b : S) (n : ℕ) → Runs Leads xs a b

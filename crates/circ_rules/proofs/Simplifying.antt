@@ -9,8 +9,8 @@ use Rattle.circ_replay.specs.Plain.{ChainOf}
 use Rattle.circ_replay.specs.Goals.{goal, sides, IsWellSortedGoal, AreSortedGoals}
 use Rattle.circ_replay.specs.Link.{setting, Leads}
 use Rattle.circ_replay.specs.Justified.{ChainLeads}
+use Rattle.circ_replay.specs.Following.{FollowsChain}
 use Rattle.circ_rules.specs.Rules.{State, state, Simplify, StepOn}
-use Rattle.circ_rules.specs.Answers.{Gives}
 use Rattle.circ_rules.proofs.Sorted.{sorted_more, sorted_rest}
 
 -- the chain leads from the first goal to q
@@ -23,11 +23,11 @@ simplifies th G chain H (g ∷ gs) first q h e leads =
 
 -- it leads to none
 pub none_simplifies : (th : Theory) (G : List Place) (chain : ChainOf Tree) (H gs : List Goal) (first : Goal) → first ≡ get_or gs 0 first
-    → Gives (λ q. ChainLeads (Leads (setting th G H [])) chain (sides first) (sides q)) None → (b : State) → StepOn th G (Simplify chain) H gs b → ⊥
+    → FollowsChain (setting th G H []) chain (sides first) None → (b : State) → StepOn th G (Simplify chain) H gs b → ⊥
 none_simplifies th G chain H [] first e none b r = r
 none_simplifies th G chain H (g ∷ gs) first e none b r =
     let P : Goal → Type 0 = λ x. ChainLeads (Leads (setting th G H [])) chain (sides x) r.0 in
-    none (goal r.0.left r.0.right) (subst P (sym e) r.1)
+    none r.0 (subst P (sym e) r.1)
 
 pub set_same : (gs : List Goal) (first : Goal) → first ≡ get_or gs 0 first → slice_set gs 0 first ≡ gs
 set_same [] first e = refl

@@ -12,8 +12,8 @@ use Rattle.circ_replay.specs.Goals.{goal, sides, AreSortedGoals}
 use Rattle.circ_replay.specs.Link.{setting}
 use Rattle.circ_rules.specs.Rules.{State, state, IsSortedState, ProofStep, Simplify, Reduce, Derive, Done, AllOfStep, StepOn, StepOf, StepsOf, derivatives_on, map_step}
 use Rattle.circ_rules.specs.Proof.{IsEnded}
-use Rattle.circ_rules.proofs.Running.{LeadsToOne, one_end}
-use Rattle.circ_rules.proofs.Leading.{IsSortedSetting, one_chain, chain_sorted}
+use Rattle.circ_replay.proofs.Leading.{IsSortedSetting, one_chain, chain_sorted}
+use Rattle.circ_rules.proofs.Running.{LeadsToOne}
 use Rattle.circ_rules.proofs.Sorted.{sorted_none, sorted_more, sorted_first, sorted_rest, sorted_append, derivatives_sorted}
 
 -- ---- one state

@@ -1,12 +1,14 @@
 -- What steps and certificates are judged by.
-use Rattle.std.specs.Prelude.{List, [], map}
+use Rattle.std.specs.Prelude.{List, [], map, Vec}
+use Rattle.std.proofs.Common.{Global}
 use Rattle.std.specs.List.{AllByRecursion}
 use Rattle.circ_term.specs.Tree.{Tree}
 use Rattle.circ_theory.specs.Signature.{IsWellSorted}
 use Rattle.circ_theory.specs.declared.parts.Goal.{Goal}
 use Rattle.circ_replay.specs.declared.links.Link.{Link}
 use Rattle.circ_replay.specs.Plain.{LinkOf, plain_links}
-use Rattle.circ_replay.specs.Link.{Setting, setting, resolved_link}
+use Rattle.circ_replay.specs.Link.{Setting, setting, resolved_links}
+use Rattle.circ_rules.specs.Plain.{plain_certificates}
 use Rattle.circ_rules.specs.declared.basis.Basis.{Basis}
 
 -- the table's terms are well-sorted
@@ -19,4 +21,7 @@ setting_of b H = setting b.theory.now b.gamma.now H []
 
 -- links with the table's terms for their numbers
 abbrev pub links_of : Basis → List Link → List (LinkOf Tree)
-links_of b ls = map (resolved_link b.table.now) (plain_links ls)
+links_of b ls = resolved_links b.table.now (plain_links ls)
+
+abbrev pub certificates_of : Basis → List (Vec Link Global) → List (List (LinkOf Tree))
+certificates_of b lss = map (resolved_links b.table.now) (plain_certificates lss)

@@ -38,9 +38,12 @@ abbrev pub derivatives_at : Theory → Place → List Derivative
 derivatives_at th g = option_map_or (λ o. derivatives_of th o.result) (slice_get th.signature.ops g.op) []
 
 -- what certificates are due: one for each place in order and each derivative of its result sort in order
+abbrev pub due_at : Theory → Place → List (Place × Derivative)
+due_at th g = map (λ d. (g, d)) (derivatives_at th g)
+
 abbrev pub due : Theory → List Place → List (Place × Derivative)
 due th [] = []
-due th (g ∷ gs) = map (λ d. (g, d)) (derivatives_at th g) ++ due th gs
+due th (g ∷ gs) = due_at th g ++ due th gs
 
 -- each that is due is certified by its links
 abbrev pub AreCertified : Theory → List Place → List (Place × Derivative) → List (List (LinkOf Tree)) → Type 0

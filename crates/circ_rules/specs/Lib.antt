@@ -6,3 +6,4 @@ pub mod Plain
 pub mod Answers
 pub mod Basis
 pub mod Deriving
+pub mod Admitting

@@ -10,6 +10,7 @@ ghost use Rattle.circ_rules.specs.Certified.{due};
 ghost use Rattle.circ_rules.specs.Plain.{plain_certificates};
 ghost use Rattle.circ_rules.specs.Answers.{Admits};
 
+use crate::basis::Basis;
 use circ_replay::Link;
 use circ_special::Gamma;
 use circ_term::Term;
@@ -41,5 +42,20 @@ pub fn admit(
     ensures { IfOk result (Admits theory.now gamma.now
         (map (map (map_link (named table.now))) (plain_certificates certificates.now))) }
 {
-    Err(AllocError)
+    let basis = Basis {
+        alloc,
+        theory,
+        table,
+        gamma,
+    };
+    let mut done = 0;
+    for place in gamma.places() {
+        if !basis.admit_place(*place, certificates, &mut done)? {
+            prove!(done < certificates.len());
+            return Ok(Admission::No {
+                number: done as u64 + 1,
+            });
+        }
+    }
+    Ok(Admission::Yes)
 }

@@ -5,13 +5,12 @@ ghost use Rattle.circ_term.specs.Tree.{sort_of};
 ghost use Rattle.circ_theory.specs.Signature.{IsWellSorted};
 ghost use Rattle.circ_replay.specs.Plain.{plain_links, plain_chain};
 ghost use Rattle.circ_replay.specs.Goals.{sides, IsWellSortedGoal, AreSortedGoals};
-ghost use Rattle.circ_replay.specs.Runs.{Runs};
-ghost use Rattle.circ_replay.specs.Link.{Leads, resolved_chain, AllOfLinks};
-ghost use Rattle.circ_replay.specs.Justified.{ChainLeads, AllOfChain};
-ghost use Rattle.circ_rules.specs.Answers.{Gives};
+ghost use Rattle.circ_replay.specs.Link.{resolved_chain, AllOfLinks};
+ghost use Rattle.circ_replay.specs.Justified.{AllOfChain};
+ghost use Rattle.circ_replay.specs.Following.{FollowsAll, FollowsChain};
 ghost use Rattle.circ_rules.specs.Basis.{IsSortedBasis, setting_of, links_of};
 
-use circ_replay::{Chain, Link, follow};
+use circ_replay::{Chain, Link, follow_all};
 use circ_special::Gamma;
 use circ_term::Term;
 use circ_theory::{Goal, Theory};
@@ -38,29 +37,22 @@ impl Basis<'_> {
         requires in_table { AllOfLinks (λ n. n < length self.now.table.now) (plain_links links.now) }
         requires hyps_sorted { AreSortedGoals self.now.theory.now hyps.now }
         requires term_sorted { IsWellSorted self.now.theory.now.signature term.now }
-        ensures exact { IfOk result (Gives (Runs (Leads (setting_of self.now hyps.now))
-            (links_of self.now links.now) term.now)) }
+        ensures exact { IfOk result (FollowsAll (setting_of self.now hyps.now)
+            (links_of self.now links.now) term.now) }
         ensures well_sorted { IfOk result (λ o.
             IfSome o (IsWellSorted self.now.theory.now.signature)) }
         ensures same_sort { IfOk result (λ o. IfSome o (λ u. sort_of u ≡ sort_of term.now)) }
     {
-        let mut here = term.share()?;
-        for link in links {
-            match follow(
-                self.alloc,
-                self.theory,
-                self.table,
-                self.gamma,
-                hyps,
-                &[],
-                link,
-                &here,
-            )? {
-                Some(next) => here = next,
-                None => return Ok(None),
-            }
-        }
-        Ok(Some(here))
+        follow_all(
+            self.alloc,
+            self.theory,
+            self.table,
+            self.gamma,
+            hyps,
+            &[],
+            links,
+            term,
+        )
     }
 
     // The goal that the chain leads to. None where one of its links does not apply.
@@ -74,9 +66,8 @@ impl Basis<'_> {
         requires in_table { AllOfChain (λ n. n < length self.now.table.now) (plain_chain chain.now) }
         requires hyps_sorted { AreSortedGoals self.now.theory.now hyps.now }
         requires goal_sorted { IsWellSortedGoal self.now.theory.now goal.now }
-        ensures exact { IfOk result (Gives (λ g. ChainLeads (Leads (setting_of self.now hyps.now))
-            (resolved_chain self.now.table.now (plain_chain chain.now))
-            (sides goal.now) (sides g))) }
+        ensures exact { IfOk result (FollowsChain (setting_of self.now hyps.now)
+            (resolved_chain self.now.table.now (plain_chain chain.now)) (sides goal.now)) }
         ensures well_sorted { IfOk result (λ o.
             IfSome o (IsWellSortedGoal self.now.theory.now)) }
     {

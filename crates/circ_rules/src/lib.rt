@@ -9,6 +9,7 @@
 mod admitting;
 mod applying;
 mod basis;
+mod certificates;
 mod derivatives;
 mod proof;
 mod state;

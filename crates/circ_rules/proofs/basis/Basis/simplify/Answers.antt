@@ -3,8 +3,8 @@ use Rattle.circ_replay.specs.Goals.{sides}
 use Rattle.circ_replay.specs.Link.{Leads, resolved_chain}
 use Rattle.circ_replay.specs.Plain.{plain_chain}
 use Rattle.circ_replay.specs.Justified.{ChainLeads}
+use Rattle.circ_replay.specs.Following.{FollowsChain}
 use Rattle.circ_rules.specs.Rules.{state}
-use Rattle.circ_rules.specs.Answers.{Gives}
 use Rattle.circ_rules.specs.Basis.{setting_of}
 use Rattle.circ_rules.proofs.Simplifying.{simplifies, none_simplifies, set_same, set_sorted}
 use Rattle.circ_rules.proofs.basis.Basis.simplify.Goals as goal
@@ -28,7 +28,7 @@ pub returns-in-None-clause-exact : goal.returns-in-None-clause-exact
 returns-in-None-clause-exact c =
     let chain = resolved_chain c.args.self.now.table.now (plain_chain c.args.chain.now) in
     let H = c.args.state.now.hyps.items in
-    let none : Gives (λ q. ChainLeads (Leads (setting_of c.args.self.now H)) chain (sides c.in-Some.first.now) (sides q)) None
+    let none : FollowsChain (setting_of c.args.self.now H) chain (sides c.in-Some.first.now) None
     = rw (c.in-None.is, c.as_slice.ensures.value) at c.in_ok-goal.ensures.exact in
     (none_simplifies c.args.self.now.theory.now c.args.self.now.gamma.now chain H c.args.state.now.goals.items c.in-Some.first.now c.in-Some.ensures.value none,
       ap (state H) (set_same c.args.state.now.goals.items c.in-Some.first.now c.in-Some.ensures.value))

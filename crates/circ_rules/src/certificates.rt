@@ -1,0 +1,135 @@
+//! Certificates, and the terms at which they start.
+ghost use Rattle.std.specs.Prelude.{◌≡◌, ◌≤◌, ◌<◌, ◌+◌, ◌↔◌, Some, [], IsTrue, length, map, IfOk};
+ghost use Rattle.std.specs.List.{AllByRecursion, slice_get};
+ghost use Rattle.std.specs.Option.{IfSome, option_map};
+ghost use Rattle.circ_term.specs.Tree.{trees_of};
+ghost use Rattle.circ_theory.specs.Limits.{argument_limit};
+ghost use Rattle.circ_replay.specs.Plain.{plain_links};
+ghost use Rattle.circ_replay.specs.Link.{AllOfLinks};
+ghost use Rattle.circ_special.specs.Special.{IsPlace};
+ghost use Rattle.circ_rules.specs.Certified.{Certified, start_args, due_at};
+ghost use Rattle.circ_rules.specs.Plain.{plain_certificates};
+ghost use Rattle.circ_rules.specs.Basis.{IsSortedBasis, links_of, certificates_of};
+ghost use Rattle.circ_rules.specs.Admitting.{IsStartOf, IsStart, AdmitsAt};
+
+use crate::basis::Basis;
+use crate::derivatives::variables;
+use circ_replay::Link;
+use circ_special::{Place, guarded};
+use circ_term::{Term, TermFault};
+use circ_theory::OpDecl;
+use std::alloc::{AllocError, Global};
+
+// A place, with its operator on variables: variable 0 at the place, and variables 1, 2 and so on at
+// the other arguments from the left.
+#[derive(Drop)]
+struct Start<'a> {
+    place: Place,
+    decl: &'a OpDecl,
+    // The sort of the argument.
+    sort: u32,
+    term: Term,
+}
+
+fn start_args(alloc: Global, arg: u16, sorts: &[u32]) -> Result<Vec<Term>, AllocError>
+    requires { length sorts.now ≤ argument_limit }
+    ensures { IfOk result (λ v. trees_of v.items ≡ start_args arg 1 sorts.now) }
+{
+    let mut args = Vec::with_capacity(alloc, sorts.len())?;
+    let mut next = 1;
+    for i in 0..sorts.len() {
+        if i == arg as usize {
+            args.push(Term::var(0, sorts[i]))?;
+        } else {
+            args.push(Term::var(next, sorts[i]))?;
+            next += 1;
+        }
+    }
+    Ok(args)
+}
+
+impl<'a> Basis<'a> {
+    fn start(&self, place: Place) -> Result<Start<'a>, AllocError>
+        requires { IsPlace self.now.theory.now place }
+        ensures { IfOk result (IsStartOf self.now.theory.now place) }
+    {
+        self.theory.known();
+        let Some(decl) = self.theory.op(place.op) else {
+            unreachable!()
+        };
+        let Some(sort) = decl.args.get(place.arg as usize) else {
+            unreachable!()
+        };
+        let args = start_args(self.alloc, place.arg, decl.args.as_slice())?;
+        match Term::app(self.alloc, place.op, decl.result, args) {
+            Ok(term) => Ok(Start {
+                place,
+                decl,
+                sort: *sort,
+                term,
+            }),
+            Err(TermFault::Memory) => Err(AllocError),
+            Err(TermFault::TooBig { .. }) => unreachable!(),
+            Err(TermFault::TooDeep { .. }) => unreachable!(),
+        }
+    }
+
+    // Whether the links are a certificate of the place and the derivative of this number.
+    fn certifies(
+        &self,
+        start: &Start<'_>,
+        derivative: u32,
+        links: &[Link],
+    ) -> Result<bool, AllocError>
+        requires basis_sorted { IsSortedBasis self.now }
+        requires in_table { AllOfLinks (λ n. n < length self.now.table.now) (plain_links links.now) }
+        requires start { IsStart self.now.theory.now start.now }
+        requires hole { option_map (λ d. d.hole)
+            (slice_get self.now.theory.now.derivatives derivative) ≡ Some start.now.decl.now.result }
+        ensures { IfSome (slice_get self.now.theory.now.derivatives derivative) (λ d. IfOk result
+            (λ b. IsTrue b ↔ Certified self.now.theory.now self.now.gamma.now
+            start.now.place d (links_of self.now links.now))) }
+    {
+        self.theory.known();
+        let Some(sorts) = self.theory.parameter_sorts(derivative) else {
+            return Ok(false);
+        };
+        let params = variables(self.alloc, start.decl.args.len() as u64, sorts)?;
+        let Some(first) = self.instance(derivative, params.as_slice(), &start.term)? else {
+            return Ok(false);
+        };
+        let Some(last) = self.follow_all(&[], links, &first)? else {
+            return Ok(false);
+        };
+        Ok(guarded(self.theory, self.gamma, &last, 0, start.sort))
+    }
+
+    // Whether the certificates of the place hold, the first of which stands behind `done` others.
+    // Those that hold are counted.
+    pub(crate) fn admit_place(
+        &self,
+        place: Place,
+        certificates: &[Vec<Link>],
+        done: &mut usize,
+    ) -> Result<bool, AllocError>
+        requires basis_sorted { IsSortedBasis self.now }
+        requires in_table { AllByRecursion (AllOfLinks (λ n. n < length self.now.table.now))
+            (plain_certificates certificates.now) }
+        requires place { IsPlace self.now.theory.now place }
+        requires enough { done.old + length (due_at self.now.theory.now place) ≤ length certificates.now }
+        ensures { IfOk result (AdmitsAt self.now.theory.now self.now.gamma.now place
+            (certificates_of self.now certificates.now) done.old done.new) }
+    {
+        let start = self.start(place)?;
+        for derivative in 0..self.theory.derivative_count() {
+            if self.takes(derivative, start.decl.result) {
+                let links = certificates[*done].as_slice();
+                if !self.certifies(&start, derivative, links)? {
+                    return Ok(false);
+                }
+                *done += 1;
+            }
+        }
+        Ok(true)
+    }
+}
