@@ -89,8 +89,9 @@ pub(crate) fn run_block(
         (steps_of proof.now.table.items (plain_block block.now))
         (state_with state.old.hyps.items block.now.goals.items) (plain_state state.new)) }
 {
+    let steps = block.steps.as_slice();
     put(&mut state.goals, block.goals.as_slice())?;
-    run(alloc, theory, proof, state, block.steps.as_slice())
+    run(alloc, theory, proof, state, steps)
 }
 
 // From a block's end to the next one: the block's own goals take the place of what it derived,

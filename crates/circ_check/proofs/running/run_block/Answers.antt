@@ -8,7 +8,7 @@ use Rattle.circ_check.proofs.running.run_block.Goals as goal
 pub run-requires-clause-in_table : goal.run-requires-clause-in_table
 run-requires-clause-in_table c =
     let b = c.args.block.now in
-    rw c.as_slice-2.ensures.value (steps_in_table (length c.args.proof.now.table.items) (plain_steps b.steps.items) c.requires.fits.steps)
+    rw c.as_slice-steps.ensures.value (steps_in_table (length c.args.proof.now.table.items) (plain_steps b.steps.items) c.requires.fits.steps)
 
 pub run-requires-clause-state_sorted : goal.run-requires-clause-state_sorted
 run-requires-clause-state_sorted c =
