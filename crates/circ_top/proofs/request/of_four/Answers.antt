@@ -11,4 +11,4 @@ returns c =
     check c.in-Some.report w.0 c.as_str.result.now c.as_str-2.result.now
     (given_four (map string_bytes c.args.words.now) w.0 (string_bytes c.index-words-1.result) (string_bytes c.index-words-2.result)
     (string_bytes c.index-words-3.result) (report_name c.in-Some.report) c.as_str.result.now c.as_str-2.result.now w.1
-    (rw c.in-Some.report-is at c.in-Some.ensures) (sym c.as_str.ensures.value) (sym c.as_str-2.ensures.value))
+    c.in-Some.ensures (sym c.as_str.ensures.value) (sym c.as_str-2.ensures.value))
