@@ -1,5 +1,5 @@
 -- The derivatives of a goal, one by one.
-use Rattle.std.specs.Prelude.{◌≡◌, ◌≤◌, ◌<◌, ◌↔◌, ◌+◌, ◌^◌, ℕ, zero, suc, Bool, true, false, ◌==◌, List, [], ◌∷◌, ◌++◌, map, length, drop, Option, Some, None, refl}
+use Rattle.std.specs.Prelude.{◌≡◌, ◌≤◌, ◌<◌, ◌↔◌, ◌+◌, ◌^◌, ℕ, zero, suc, Bool, true, false, ◌==◌, List, [], ◌∷◌, ◌++◌, map, length, drop, Option, Some, None, Result, Ok, Err, IfOk, refl}
 use Rattle.std.specs.List.{AllByRecursion, filter, slice_get}
 use Rattle.std.specs.Option.{IfSome, option_map, option_map_or}
 use Rattle.std.proofs.Common.{ap, sym, ◌∙◌, subst, arith, append_assoc, get_or}
@@ -20,7 +20,7 @@ use Rattle.circ_theory.proofs.Derived.{derived-numbered_from, variables_fit}
 use Rattle.circ_replay.specs.Goals.{goal, IsWellSortedGoal, AreSortedGoals}
 use Rattle.circ_rules.specs.Rules.{State, state, fresh_in, derived_goal, derivatives_on, IsDerivable, IsSortedState}
 use Rattle.circ_rules.specs.Answers.{Gives}
-use Rattle.circ_rules.specs.Deriving.{IsWithin, IsDerivativeOn, AreDerivativesOn, moved, moved_on}
+use Rattle.circ_rules.specs.Deriving.{IsWithin, AreInstances, IsDerivativeOn, AreDerivativesOn, moved, moved_on}
 use Rattle.circ_rules.proofs.Sorted.{sorted_none, sorted_more, sorted_first, sorted_rest, sorted_append, derivatives_sorted}
 
 pub if_some_at : {X : Type 0} (P : X → Type 0) (o : Option X) (x : X) → o ≡ Some x → P x → IfSome o P
@@ -77,39 +77,30 @@ module _ (th : Theory) (ok : IsWellFormed th) (n : ℕ) (g : Goal) (w : IsWellSo
       ap (λ ps. derived d t (given_parameters ps)) params_are ∙ derived-numbered_from th.signature d is_derivative t k
       ∙ ap (λ m. derived d t (numbered_from m)) fresh
 
-  pub no_left : IfSome (slice_get th.derivatives n) (λ d. Gives (IsWithin (derived d g.left (given_parameters params))) None)
-      → IfSome (slice_get th.derivatives n) (λ d. Gives (IsDerivativeOn g d) None)
-  no_left none =
-      let past_limit = some_if_at (λ d. Gives (IsWithin (derived d g.left (given_parameters params))) None) (slice_get th.derivatives n) d there none in
-      if_some_at (λ d. Gives (IsDerivativeOn g d) None) (slice_get th.derivatives n) d there
-      (λ h x. past (derived d g.left (given_parameters params)) (derived d g.left (numbered_from (fresh_in g))) (numbered g.left) past_limit x.derivable.left)
-
-  pub no_right : IfSome (slice_get th.derivatives n) (λ d. Gives (IsWithin (derived d g.right (given_parameters params))) None)
-      → IfSome (slice_get th.derivatives n) (λ d. Gives (IsDerivativeOn g d) None)
-  no_right none =
-      let past_limit = some_if_at (λ d. Gives (IsWithin (derived d g.right (given_parameters params))) None) (slice_get th.derivatives n) d there none in
-      if_some_at (λ d. Gives (IsDerivativeOn g d) None) (slice_get th.derivatives n) d there
-      (λ h x. past (derived d g.right (given_parameters params)) (derived d g.right (numbered_from (fresh_in g))) (numbered g.right) past_limit x.derivable.right)
-
-  pub both_sides : (left right : Tree) → k + length sorts ≤ 2 ^ 32
-      → IfSome (slice_get th.derivatives n) (λ d. Gives (IsWithin (derived d g.left (given_parameters params))) (Some left))
-      → IfSome (slice_get th.derivatives n) (λ d. Gives (IsWithin (derived d g.right (given_parameters params))) (Some right))
-      → IfSome (slice_get th.derivatives n) (λ d. Gives (IsDerivativeOn g d) (Some (goal left right)))
-  both_sides left right few l r =
-      let x : IsWithin (derived d g.left (given_parameters params)) left
-      = some_if_at (λ d. Gives (IsWithin (derived d g.left (given_parameters params))) (Some left)) (slice_get th.derivatives n) d there l in
-      let y : IsWithin (derived d g.right (given_parameters params)) right
-      = some_if_at (λ d. Gives (IsWithin (derived d g.right (given_parameters params))) (Some right)) (slice_get th.derivatives n) d there r in
-      let vs : List Variable = filter is_parameter (occurrences d.body) in
-      if_some_at (λ d. Gives (IsDerivativeOn g d) (Some (goal left right))) (slice_get th.derivatives n) d there
-      (record {
-        derivable = record {
-          numbers = omega (arith, few, fresh, ap length sorts_are, length-map vs (λ v. v.sort), length-map vs (λ v. v.number));
-          left = subst IsWithinLimits (numbered g.left) x.within;
-          right = subst IsWithinLimits (numbered g.right) y.within;
-        };
-        same = ap (λ t. goal t right) (x.same ∙ numbered g.left) ∙ ap (goal (derived d g.left (numbered_from (fresh_in g)))) (y.same ∙ numbered g.right);
+  -- the instances are the derivative on the goal
+  pub on_goal : {E : Type 0} (r : Result (Option Goal) E) → k + length sorts ≤ 2 ^ 32
+      → IfSome (slice_get th.derivatives n) (λ d. IfOk r (Gives (AreInstances d params g)))
+      → IfSome (slice_get th.derivatives n) (λ d. IfOk r (Gives (IsDerivativeOn g d)))
+  on_goal r few made =
+      if_some_at (λ d. IfOk r (Gives (IsDerivativeOn g d))) (slice_get th.derivatives n) d there
+      (go r (some_if_at (λ d. IfOk r (Gives (AreInstances d params g))) (slice_get th.derivatives n) d there made))
+    where
+      go : {E : Type 0} (r : Result (Option Goal) E) → IfOk r (Gives (AreInstances d params g)) → IfOk r (Gives (IsDerivativeOn g d))
+      go (Err e) x = tt
+      go (Ok None) x = λ h y. x h (record {
+        left = record { within = subst IsWithinLimits (sym (numbered g.left)) y.derivable.left; same = ap (λ a. a.left) y.same ∙ sym (numbered g.left) };
+        right = record { within = subst IsWithinLimits (sym (numbered g.right)) y.derivable.right; same = ap (λ a. a.right) y.same ∙ sym (numbered g.right) };
       })
+      go (Ok (Some h)) x =
+          let vs : List Variable = filter is_parameter (occurrences d.body) in
+          record {
+            derivable = record {
+              numbers = omega (arith, few, fresh, ap length sorts_are, length-map vs (λ v. v.sort), length-map vs (λ v. v.number));
+              left = subst IsWithinLimits (numbered g.left) x.left.within;
+              right = subst IsWithinLimits (numbered g.right) x.right.within;
+            };
+            same = ap (λ t. goal t h.right) (x.left.same ∙ numbered g.left) ∙ ap (goal (derived d g.left (numbered_from (fresh_in g)))) (x.right.same ∙ numbered g.right);
+          }
 
 -- ---- the loop over a theory's derivatives
 

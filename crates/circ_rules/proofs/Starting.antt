@@ -1,5 +1,5 @@
 -- Start terms: their arguments, that they are small and well-sorted, and what certifies them.
-use Rattle.std.specs.Prelude.{◌≡◌, ◌≤◌, ◌<◌, ◌↔◌, ◌+◌, ℕ, zero, suc, true, false, ◌==◌, if◌then◌else◌, List, [], ◌∷◌, length, Option, Some, None, IsTrue, Bool, refl}
+use Rattle.std.specs.Prelude.{◌≡◌, ◌≤◌, ◌<◌, ◌↔◌, ◌+◌, ℕ, zero, suc, true, false, ◌==◌, if◌then◌else◌, List, [], ◌∷◌, length, Option, Some, None, Result, Ok, Err, IfOk, IsTrue, Bool, refl}
 use Rattle.std.specs.List.{AllByRecursion, Contains, slice_get}
 use Rattle.std.specs.Option.{IfSome, option_map}
 use Rattle.std.proofs.Common.{ap, sym, ◌∙◌, subst, arith}
@@ -115,8 +115,6 @@ applied_sorted th ok f i o e =
 pub few_args : (th : Theory) → IsWellFormed th → (f : ℕ) (o : Operator) → slice_get th.signature.ops f ≡ Some o → length o.args ≤ 16
 few_args th ok f o e = (ok.operators o (contains_at th.signature.ops f o e)).few
 
--- ---- certificates
-
 -- A certificate whose place has this operator and this sort.
 record IsCertified (th : Theory) (G : List Place) (g : Place) (o : Operator) (k : ℕ) (d : Derivative) (ls : List (LinkOf Tree)) : Type 0 where
   within : IsWithinLimits (start_term o g d)
@@ -124,11 +122,10 @@ record IsCertified (th : Theory) (G : List Place) (g : Place) (o : Operator) (k 
   leads : Runs (Leads (setting th G [] [])) ls (start_term o g d) last
   guarded : Guarded th G last 0 k
 
-module _ (th : Theory) (ok : IsWellFormed th) (G : List Place) (g : Place) (p : IsPlace th g) (o : Operator) (k : ℕ)
-  (listed : slice_get th.signature.ops g.op ≡ Some o) (argument : slice_get o.args g.arg ≡ Some k) (n : ℕ)
-  (hole : option_map (λ d. d.hole) (slice_get th.derivatives n) ≡ Some o.result) (sorts : List ℕ)
-  (named : Some sorts ≡ option_map parameter_sorts (slice_get th.derivatives n)) (params : List Tree)
-  (made : params ≡ variables_from (length o.args) sorts) (start : Tree) (is_start : start ≡ App g.op o.result (start_args g.arg 1 o.args)) where
+-- ---- the start term of a place, whose operator is o, and a derivative
+
+module _ (th : Theory) (g : Place) (o : Operator) (listed : slice_get th.signature.ops g.op ≡ Some o) (n : ℕ)
+  (hole : option_map (λ d. d.hole) (slice_get th.derivatives n) ≡ Some o.result) where
   abbrev d : Derivative
   d = (the_derivative (slice_get th.derivatives n) o.result hole).0
 
@@ -138,92 +135,109 @@ module _ (th : Theory) (ok : IsWellFormed th) (G : List Place) (g : Place) (p : 
   hole_is : d.hole ≡ o.result
   hole_is = (the_derivative (slice_get th.derivatives n) o.result hole).2
 
-  is_derivative : IsDerivative th.signature d
-  is_derivative = ok.derivatives d (contains_at th.derivatives n d there)
+  -- it is built from the operator on variables
+  module _ (ok : IsWellFormed th) (sorts : List ℕ) (named : Some sorts ≡ option_map parameter_sorts (slice_get th.derivatives n)) (params : List Tree)
+    (made : params ≡ variables_from (length o.args) sorts) (start : Tree) (is_start : start ≡ App g.op o.result (start_args g.arg 1 o.args)) where
+    is_derivative : IsDerivative th.signature d
+    is_derivative = ok.derivatives d (contains_at th.derivatives n d there)
 
-  params_are : params ≡ variables_from (length o.args) (parameter_sorts d)
-  params_are = made ∙ ap (variables_from (length o.args)) (same_Some sorts (parameter_sorts d) (named ∙ ap (option_map parameter_sorts) there))
+    params_are : params ≡ variables_from (length o.args) (parameter_sorts d)
+    params_are = made ∙ ap (variables_from (length o.args)) (same_Some sorts (parameter_sorts d) (named ∙ ap (option_map parameter_sorts) there))
 
-  sort_is : sort_of start ≡ d.hole
-  sort_is = ap sort_of is_start ∙ sym hole_is
+    sort_is : sort_of start ≡ d.hole
+    sort_is = ap sort_of is_start ∙ sym hole_is
 
-  pub start_fits : FitSome (slice_get th.derivatives n) params start
-  start_fits =
-      let P : Option Derivative → Type 0 = λ o. FitSome o params start in
-      let Q : List Tree → Type 0 = λ ps. FitSome (Some d) ps start in
-      subst P (sym there) (subst Q (sym params_are) (variables_fit d start (length o.args) sort_is))
+    pub start_fits : FitSome (slice_get th.derivatives n) params start
+    start_fits =
+        let P : Option Derivative → Type 0 = λ o. FitSome o params start in
+        let Q : List Tree → Type 0 = λ ps. FitSome (Some d) ps start in
+        subst P (sym there) (subst Q (sym params_are) (variables_fit d start (length o.args) sort_is))
 
-  starts : derived d start (given_parameters params) ≡ start_term o g d
-  starts =
-      ap (λ ps. derived d start (given_parameters ps)) params_are ∙ derived-numbered_from th.signature d is_derivative start (length o.args)
-      ∙ ap (λ t. derived d t (numbered_from (length o.args))) is_start
+    starts : derived d start (given_parameters params) ≡ start_term o g d
+    starts =
+        ap (λ ps. derived d start (given_parameters ps)) params_are ∙ derived-numbered_from th.signature d is_derivative start (length o.args)
+        ∙ ap (λ t. derived d t (numbered_from (length o.args))) is_start
 
-  -- an operator has one declaration, and an argument one sort
-  to : (ls : List (LinkOf Tree)) → Certified th G g d ls → IsCertified th G g o k d ls
-  to ls x =
-      let e : x.place.operator ≡ o = same_Some x.place.operator o (sym x.place.listed ∙ listed) in
-      let f : x.place.sort ≡ k = same_Some x.place.sort k (sym x.place.argument ∙ ap (λ o. slice_get o.args g.arg) e ∙ argument) in
-      let P : Operator → Type 0 = λ o. IsWithinLimits (start_term o g d) in
-      let Q : Operator → Type 0 = λ o. Runs (Leads (setting th G [] [])) ls (start_term o g d) x.last in
-      record { within = subst P e x.within; last = x.last; leads = subst Q e x.leads; guarded = subst (Guarded th G x.last 0) f x.guarded }
+    pub start_built : {E : Type 0} (r : Result (Option Tree) E)
+        → IfSome (slice_get th.derivatives n) (λ d. IfOk r (Gives (IsWithin (derived d start (given_parameters params)))))
+        → IfSome (slice_get th.derivatives n) (λ d. IfOk r (Gives (IsWithin (start_term o g d))))
+    start_built r x =
+        let P : Tree → Type 0 = λ t. IfOk r (Gives (IsWithin t)) in
+        if_some_at (λ d. IfOk r (Gives (IsWithin (start_term o g d)))) (slice_get th.derivatives n) d there
+        (subst P starts (some_if_at (λ d. IfOk r (Gives (IsWithin (derived d start (given_parameters params))))) (slice_get th.derivatives n) d there x))
 
-  from : (ls : List (LinkOf Tree)) → IsCertified th G g o k d ls → Certified th G g d ls
-  from ls x =
-      let e : p.operator ≡ o = same_Some p.operator o (sym p.listed ∙ listed) in
-      let f : p.sort ≡ k = same_Some p.sort k (sym p.argument ∙ ap (λ o. slice_get o.args g.arg) e ∙ argument) in
-      let P : Operator → Type 0 = λ o. IsWithinLimits (start_term o g d) in
-      let Q : Operator → Type 0 = λ o. Runs (Leads (setting th G [] [])) ls (start_term o g d) x.last in
-      record {
-        place = p;
-        within = subst P (sym e) x.within;
-        last = x.last;
-        leads = subst Q (sym e) x.leads;
-        guarded = subst (Guarded th G x.last 0) (sym f) x.guarded;
-      }
-
-  not_certified : (ls : List (LinkOf Tree)) → (Certified th G g d ls → ⊥) → IsTrue false ↔ Certified th G g d ls
-  not_certified ls refuted = (λ t. absurd (cc), λ x. absurd (refuted x))
-
-  -- the start term passes a limit
-  pub no_start : (ls : List (LinkOf Tree)) → IfSome (slice_get th.derivatives n) (λ d. Gives (IsWithin (derived d start (given_parameters params))) None)
-      → IfSome (slice_get th.derivatives n) (λ d. IsTrue false ↔ Certified th G g d ls)
-  no_start ls past_limit =
-      let none = some_if_at (λ d. Gives (IsWithin (derived d start (given_parameters params))) None) (slice_get th.derivatives n) d there past_limit in
-      if_some_at (λ d. IsTrue false ↔ Certified th G g d ls) (slice_get th.derivatives n) d there
-      (not_certified ls (λ x. past (derived d start (given_parameters params)) (start_term o g d) starts none (to ls x).within))
-
-  module _ (first : Tree) (built : IfSome (slice_get th.derivatives n) (λ d. Gives (IsWithin (derived d start (given_parameters params))) (Some first))) where
-    is_first : IsWithin (derived d start (given_parameters params)) first
-    is_first = some_if_at (λ d. Gives (IsWithin (derived d start (given_parameters params))) (Some first)) (slice_get th.derivatives n) d there built
-
-    first_is : first ≡ start_term o g d
-    first_is = is_first.same ∙ starts
-
-    pub first_sorted : IsWellSorted th.signature first
-    first_sorted =
+    start_sorted : IsWellSorted th.signature (start_term o g d)
+    start_sorted =
         let w : IsWellSorted th.signature start = subst (IsWellSorted th.signature) (sym is_start) (applied_sorted th ok g.op g.arg o listed) in
         let z = derived_by th.signature d start (numbered_from (length o.args)) is_derivative sort_is w (numbered_from_substitution th.signature (length o.args)) in
-        let e : derived d start (numbered_from (length o.args)) ≡ first = ap (λ t. derived d t (numbered_from (length o.args))) is_start ∙ sym first_is in
-        subst (IsWellSorted th.signature) e z.well_sorted
+        subst (IsWellSorted th.signature) (ap (λ t. derived d t (numbered_from (length o.args))) is_start) z.well_sorted
 
-    -- a link does not apply
-    pub no_last : (ls : List (LinkOf Tree)) → FollowsAll (setting th G [] []) ls first None
+    pub built_sorted : {E : Type 0} (r : Result (Option Tree) E)
+        → IfSome (slice_get th.derivatives n) (λ d. IfOk r (Gives (IsWithin (derived d start (given_parameters params)))))
+        → IfOk r (λ x. IfSome x (IsWellSorted th.signature))
+    built_sorted r x = go r (some_if_at (λ d. IfOk r (Gives (IsWithin (start_term o g d)))) (slice_get th.derivatives n) d there (start_built r x))
+      where
+        go : {E : Type 0} (r : Result (Option Tree) E) → IfOk r (Gives (IsWithin (start_term o g d))) → IfOk r (λ x. IfSome x (IsWellSorted th.signature))
+        go (Err e) y = tt
+        go (Ok None) y = tt
+        go (Ok (Some t)) y = subst (IsWellSorted th.signature) (sym y.same) start_sorted
+
+  -- ---- certificates that start with it, where the argument has the sort k
+
+  module _ (G : List Place) (p : IsPlace th g) (k : ℕ) (argument : slice_get o.args g.arg ≡ Some k) (ls : List (LinkOf Tree)) where
+    -- an operator has one declaration, and an argument one sort
+    to : Certified th G g d ls → IsCertified th G g o k d ls
+    to x =
+        let e : x.place.operator ≡ o = same_Some x.place.operator o (sym x.place.listed ∙ listed) in
+        let f : x.place.sort ≡ k = same_Some x.place.sort k (sym x.place.argument ∙ ap (λ o. slice_get o.args g.arg) e ∙ argument) in
+        let P : Operator → Type 0 = λ o. IsWithinLimits (start_term o g d) in
+        let Q : Operator → Type 0 = λ o. Runs (Leads (setting th G [] [])) ls (start_term o g d) x.last in
+        record { within = subst P e x.within; last = x.last; leads = subst Q e x.leads; guarded = subst (Guarded th G x.last 0) f x.guarded }
+
+    from : IsCertified th G g o k d ls → Certified th G g d ls
+    from x =
+        let e : p.operator ≡ o = same_Some p.operator o (sym p.listed ∙ listed) in
+        let f : p.sort ≡ k = same_Some p.sort k (sym p.argument ∙ ap (λ o. slice_get o.args g.arg) e ∙ argument) in
+        let P : Operator → Type 0 = λ o. IsWithinLimits (start_term o g d) in
+        let Q : Operator → Type 0 = λ o. Runs (Leads (setting th G [] [])) ls (start_term o g d) x.last in
+        record {
+          place = p;
+          within = subst P (sym e) x.within;
+          last = x.last;
+          leads = subst Q (sym e) x.leads;
+          guarded = subst (Guarded th G x.last 0) (sym f) x.guarded;
+        }
+
+    not_certified : (Certified th G g d ls → ⊥) → IfSome (slice_get th.derivatives n) (λ d. IsTrue false ↔ Certified th G g d ls)
+    not_certified refuted =
+        if_some_at (λ d. IsTrue false ↔ Certified th G g d ls) (slice_get th.derivatives n) d there (λ t. absurd (cc), λ x. absurd (refuted x))
+
+    -- the start term passes a limit
+    pub no_start : IfSome (slice_get th.derivatives n) (λ d. Gives (IsWithin (start_term o g d)) None)
         → IfSome (slice_get th.derivatives n) (λ d. IsTrue false ↔ Certified th G g d ls)
-    no_last ls nowhere =
-        let P : Tree → Type 0 = λ t. FollowsAll (setting th G [] []) ls t None in
-        if_some_at (λ d. IsTrue false ↔ Certified th G g d ls) (slice_get th.derivatives n) d there
-        (not_certified ls (λ x. let y = to ls x in subst P first_is nowhere y.last y.leads))
+    no_start past_limit =
+        let none = some_if_at (λ d. Gives (IsWithin (start_term o g d)) None) (slice_get th.derivatives n) d there past_limit in
+        not_certified (λ x. none (start_term o g d) (record { within = (to x).within; same = refl }))
 
-    -- the last term decides
-    pub last_decides : (ls : List (LinkOf Tree)) (last : Tree) (b : Bool) → Runs (Leads (setting th G [] [])) ls first last
-        → (IsTrue b ↔ Guarded th G last 0 k) → IfSome (slice_get th.derivatives n) (λ d. IsTrue b ↔ Certified th G g d ls)
-    last_decides ls last b leads told =
-        let P : Tree → Type 0 = λ t. Runs (Leads (setting th G [] [])) ls t last in
-        let run : Runs (Leads (setting th G [] [])) ls (start_term o g d) last = subst P first_is leads in
-        let Q : Tree → Type 0 = λ t. Guarded th G t 0 k in
-        if_some_at (λ d. IsTrue b ↔ Certified th G g d ls) (slice_get th.derivatives n) d there
-        (
-          (λ t. from ls (record { within = subst IsWithinLimits starts is_first.within; last = last; leads = run; guarded = told.0 t })),
-          (λ x. let y = to ls x in
-              told.1 (subst Q (one_end (setting th G [] []) ls (start_term o g d) y.last last y.leads run) y.guarded)),
-        )
+    module _ (first : Tree) (built : IfSome (slice_get th.derivatives n) (λ d. Gives (IsWithin (start_term o g d)) (Some first))) where
+      is_first : IsWithin (start_term o g d) first
+      is_first = some_if_at (λ d. Gives (IsWithin (start_term o g d)) (Some first)) (slice_get th.derivatives n) d there built
+
+      -- a link does not apply
+      pub no_last : FollowsAll (setting th G [] []) ls first None → IfSome (slice_get th.derivatives n) (λ d. IsTrue false ↔ Certified th G g d ls)
+      no_last nowhere =
+          let P : Tree → Type 0 = λ t. FollowsAll (setting th G [] []) ls t None in
+          not_certified (λ x. let y = to x in subst P is_first.same nowhere y.last y.leads)
+
+      -- the last term decides
+      pub last_decides : (last : Tree) (b : Bool) → Runs (Leads (setting th G [] [])) ls first last → (IsTrue b ↔ Guarded th G last 0 k)
+          → IfSome (slice_get th.derivatives n) (λ d. IsTrue b ↔ Certified th G g d ls)
+      last_decides last b leads told =
+          let P : Tree → Type 0 = λ t. Runs (Leads (setting th G [] [])) ls t last in
+          let run : Runs (Leads (setting th G [] [])) ls (start_term o g d) last = subst P is_first.same leads in
+          let Q : Tree → Type 0 = λ t. Guarded th G t 0 k in
+          if_some_at (λ d. IsTrue b ↔ Certified th G g d ls) (slice_get th.derivatives n) d there
+          (
+            (λ t. from (record { within = is_first.within; last = last; leads = run; guarded = told.0 t })),
+            (λ x. let y = to x in told.1 (subst Q (one_end (setting th G [] []) ls (start_term o g d) y.last last y.leads run) y.guarded)),
+          )

@@ -4,12 +4,16 @@ ghost use Rattle.std.specs.List.{AllByRecursion, slice_get};
 ghost use Rattle.std.specs.Option.{IfSome, option_map};
 ghost use Rattle.circ_term.specs.Tree.{trees_of};
 ghost use Rattle.circ_theory.specs.Limits.{argument_limit};
+ghost use Rattle.circ_theory.specs.Operators.{operator_of};
+ghost use Rattle.circ_theory.specs.Signature.{IsWellSorted};
 ghost use Rattle.circ_replay.specs.Plain.{plain_links};
 ghost use Rattle.circ_replay.specs.Link.{AllOfLinks};
 ghost use Rattle.circ_special.specs.Special.{IsPlace};
-ghost use Rattle.circ_rules.specs.Certified.{Certified, start_args, due_at};
+ghost use Rattle.circ_rules.specs.Certified.{Certified, start_args, start_term, due_at};
 ghost use Rattle.circ_rules.specs.Plain.{plain_certificates};
 ghost use Rattle.circ_rules.specs.Basis.{IsSortedBasis, links_of, certificates_of};
+ghost use Rattle.circ_rules.specs.Answers.{Gives};
+ghost use Rattle.circ_rules.specs.Deriving.{IsWithin};
 ghost use Rattle.circ_rules.specs.Admitting.{IsStartOf, IsStart, AdmitsAt};
 
 use crate::basis::Basis;
@@ -74,6 +78,30 @@ impl<'a> Basis<'a> {
         }
     }
 
+    // The derivative of this number on the operator, with the next variables for its parameters.
+    // None where that passes a limit.
+    fn start_term(
+        &self,
+        start: &Start<'_>,
+        derivative: u32,
+    ) -> Result<Option<Term>, AllocError>
+        requires start { IsStart self.now.theory.now start.now }
+        requires hole { option_map (λ d. d.hole)
+            (slice_get self.now.theory.now.derivatives derivative) ≡ Some start.now.decl.now.result }
+        ensures exact { IfSome (slice_get self.now.theory.now.derivatives derivative)
+            (λ d. IfOk result (Gives (IsWithin
+            (start_term (operator_of start.now.decl.now) start.now.place d)))) }
+        ensures well_sorted { IfOk result (λ o.
+            IfSome o (IsWellSorted self.now.theory.now.signature)) }
+    {
+        self.theory.known();
+        let Some(sorts) = self.theory.parameter_sorts(derivative) else {
+            return Ok(None);
+        };
+        let params = variables(self.alloc, start.decl.args.len() as u64, sorts)?;
+        self.instance(derivative, params.as_slice(), &start.term)
+    }
+
     // Whether the links are a certificate of the place and the derivative of this number.
     fn certifies(
         &self,
@@ -90,12 +118,7 @@ impl<'a> Basis<'a> {
             (λ b. IsTrue b ↔ Certified self.now.theory.now self.now.gamma.now
             start.now.place d (links_of self.now links.now))) }
     {
-        self.theory.known();
-        let Some(sorts) = self.theory.parameter_sorts(derivative) else {
-            return Ok(false);
-        };
-        let params = variables(self.alloc, start.decl.args.len() as u64, sorts)?;
-        let Some(first) = self.instance(derivative, params.as_slice(), &start.term)? else {
+        let Some(first) = self.start_term(start, derivative)? else {
             return Ok(false);
         };
         let Some(last) = self.follow_all(&[], links, &first)? else {
@@ -121,10 +144,29 @@ impl<'a> Basis<'a> {
             (certificates_of self.now certificates.now) done.old done.new) }
     {
         let start = self.start(place)?;
+        self.admit_start(&start, certificates, done)
+    }
+
+    // The same for the place of a start.
+    fn admit_start(
+        &self,
+        start: &Start<'_>,
+        certificates: &[Vec<Link>],
+        done: &mut usize,
+    ) -> Result<bool, AllocError>
+        requires basis_sorted { IsSortedBasis self.now }
+        requires in_table { AllByRecursion (AllOfLinks (λ n. n < length self.now.table.now))
+            (plain_certificates certificates.now) }
+        requires start { IsStart self.now.theory.now start.now }
+        requires enough { done.old + length (due_at self.now.theory.now start.now.place) ≤
+            length certificates.now }
+        ensures { IfOk result (AdmitsAt self.now.theory.now self.now.gamma.now start.now.place
+            (certificates_of self.now certificates.now) done.old done.new) }
+    {
         for derivative in 0..self.theory.derivative_count() {
             if self.takes(derivative, start.decl.result) {
                 let links = certificates[*done].as_slice();
-                if !self.certifies(&start, derivative, links)? {
+                if !self.certifies(start, derivative, links)? {
                     return Ok(false);
                 }
                 *done += 1;

@@ -10,7 +10,8 @@ ghost use Rattle.circ_replay.specs.Goals.{IsWellSortedGoal};
 ghost use Rattle.circ_rules.specs.Rules.{IsSortedState, Derive, fresh_in};
 ghost use Rattle.circ_rules.specs.Plain.{plain_state};
 ghost use Rattle.circ_rules.specs.Answers.{Applies, Gives};
-ghost use Rattle.circ_rules.specs.Deriving.{IsWithin, IsDerivativeOn, AreDerivativesOn, moved};
+ghost use Rattle.circ_rules.specs.Deriving.{IsWithin, AreInstances, IsDerivativeOn};
+ghost use Rattle.circ_rules.specs.Deriving.{AreDerivativesOn, moved};
 
 use crate::basis::Basis;
 use crate::state::State;
@@ -91,7 +92,24 @@ impl Basis<'_> {
             return Ok(None);
         }
         let params = variables(self.alloc, fresh, sorts)?;
-        let params = params.as_slice();
+        self.both_sides(derivative, params.as_slice(), goal)
+    }
+
+    // The derivative of this number on both sides of the goal, with the terms of `params` for its
+    // parameters. None where a side passes a limit.
+    fn both_sides(
+        &self,
+        derivative: u32,
+        params: &[Term],
+        goal: &Goal,
+    ) -> Result<Option<Goal>, AllocError>
+        requires left { FitSome (slice_get self.now.theory.now.derivatives derivative)
+            params.now goal.now.left }
+        requires right { FitSome (slice_get self.now.theory.now.derivatives derivative)
+            params.now goal.now.right }
+        ensures { IfSome (slice_get self.now.theory.now.derivatives derivative)
+            (λ d. IfOk result (Gives (AreInstances d params.now goal.now))) }
+    {
         let Some(left) = self.instance(derivative, params, &goal.left)? else {
             return Ok(None);
         };
