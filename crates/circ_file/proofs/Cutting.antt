@@ -31,8 +31,8 @@ line_read f g h piece rest line after r e next = record {
   front = r.front ++ ended_line line;
   cut = r.cut ∙ ap (λ y. r.front ++ y) (e ∙ sym (append_assoc line (10 ∷ []) after)) ∙ sym (append_assoc r.front (ended_line line) after);
   stands = λ th x handed s.
-    let P : List ℕ → Type 0 = λ y. Stands th y handed h in
-    subst P (append_assoc x r.front (ended_line line)) (next th (x ++ r.front) handed (r.stands th x handed s));
+      let P : List ℕ → Type 0 = λ y. Stands th y handed h in
+      subst P (append_assoc x r.front (ended_line line)) (next th (x ++ r.front) handed (r.stands th x handed s));
 }
 
 -- A fault of a line is the fault of what goes on after the piece.
@@ -42,8 +42,8 @@ line_fault th x piece front rest line after later e c d h =
     let P : List ℕ → Type 0 = λ y. FaultIs th y e in
     let whole : piece ≡ front ++ (ended_line line ++ after) = c ∙ ap (λ y. front ++ y) (d ∙ sym (append_assoc line (10 ∷ []) after)) in
     let same : ((x ++ front) ++ ended_line line) ++ (after ++ later) ≡ (x ++ piece) ++ later
-        = sym (append_assoc ((x ++ front) ++ ended_line line) after later)
-        ∙ ap (λ y. y ++ later) (append_assoc (x ++ front) (ended_line line) after ∙ append_assoc x front (ended_line line ++ after) ∙ ap (λ y. x ++ y) (sym whole)) in
+    = sym (append_assoc ((x ++ front) ++ ended_line line) after later)
+    ∙ ap (λ y. y ++ later) (append_assoc (x ++ front) (ended_line line) after ∙ append_assoc x front (ended_line line ++ after) ∙ ap (λ y. x ++ y) (sym whole)) in
     subst P same h
 
 -- what is left has no line feed, and all was read then

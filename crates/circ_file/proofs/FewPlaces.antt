@@ -30,9 +30,9 @@ place_low th g w h =
 
 rises : (g h : Place) → IsLow g → comes_before g h ≡ true → 16 * g.op + g.arg + 1 ≤ 16 * h.op + h.arg
 rises g h l e = elim (or_cases (nat_lt g.op h.op) ((g.op == h.op) && nat_lt g.arg h.arg) e) [
-    | inl a ↦ omega (arith, ltb-true g.op h.op a, l.arg)
-    | inr b ↦ let p = and_parts (g.op == h.op) (nat_lt g.arg h.arg) b in omega (arith, eqb-true g.op h.op p.0, ltb-true g.arg h.arg p.1)
-  ]
+  | inl a ↦ omega (arith, ltb-true g.op h.op a, l.arg)
+  | inr b ↦ let p = and_parts (g.op == h.op) (nat_lt g.arg h.arg) b in omega (arith, eqb-true g.op h.op p.0, ltb-true g.arg h.arg p.1)
+]
 
 few_from : (th : Theory) (g : Place) (gs : List Place) → IsWellFormed th → IsIncreasing (g ∷ gs) → AllByRecursion (IsPlace th) (g ∷ gs)
     → length (g ∷ gs) + (16 * g.op + g.arg) ≤ 1048576

@@ -24,12 +24,12 @@ give-given ts (s ∷ ss) w = go (nat_eq (why_count s.whys + 1) s.count) (give-gi
   where
     go : (b : Bool)
         → (give_why_now ss (Split_why s.chain s.term (push_why s.whys w)) ≡ now_given (given ss (Split_why s.chain s.term (push_why s.whys w))))
-            × (map (part_with ts) (why_part {T = List Tree} ss (Split_why s.chain s.term (push_why s.whys w)))
-                ≡ parts_given (given ss (Split_why s.chain s.term (push_why s.whys w))))
+        × (map (part_with ts) (why_part {T = List Tree} ss (Split_why s.chain s.term (push_why s.whys w)))
+        ≡ parts_given (given ss (Split_why s.chain s.term (push_why s.whys w))))
         → (cond b (give_why_now ss (Split_why s.chain s.term (push_why s.whys w))) (Reducing (open_split s.chain s.term s.count (push_why s.whys w) ∷ ss) empty)
-                ≡ now_given (cond b (given ss (Split_why s.chain s.term (push_why s.whys w))) (open_split s.chain s.term s.count (push_why s.whys w) ∷ ss, None)))
-            × (map (part_with ts) (cond b (why_part {T = List Tree} ss (Split_why s.chain s.term (push_why s.whys w))) [])
-                ≡ parts_given (cond b (given ss (Split_why s.chain s.term (push_why s.whys w))) (open_split s.chain s.term s.count (push_why s.whys w) ∷ ss, None)))
+        ≡ now_given (cond b (given ss (Split_why s.chain s.term (push_why s.whys w))) (open_split s.chain s.term s.count (push_why s.whys w) ∷ ss, None)))
+        × (map (part_with ts) (cond b (why_part {T = List Tree} ss (Split_why s.chain s.term (push_why s.whys w))) [])
+        ≡ parts_given (cond b (given ss (Split_why s.chain s.term (push_why s.whys w))) (open_split s.chain s.term s.count (push_why s.whys w) ∷ ss, None)))
     go true ih = ih
     go false ih = (refl, refl)
 
@@ -50,8 +50,8 @@ pub given_whole : (ss : List CodeSplit) (s : CodeSplit) (w : Why) (ws : List Why
 given_whole ss s w ws e n =
     ap (λ x. given x (plain_why w)) (tops-push ss s [])
     ∙ (ap (λ b. cond b (given (tops ss []) (Split_why (plain_chain s.chain) s.term (push_why (plain_whys s.whys.items) (plain_why w))))
-            (open_split (plain_chain s.chain) s.term s.count (push_why (plain_whys s.whys.items) (plain_why w)) ∷ tops ss [], None))
-        (eq-eqb (why_count (plain_whys s.whys.items) + 1) s.count (one_more s w ws e ∙ n))
+    (open_split (plain_chain s.chain) s.term s.count (push_why (plain_whys s.whys.items) (plain_why w)) ∷ tops ss [], None))
+    (eq-eqb (why_count (plain_whys s.whys.items) + 1) s.count (one_more s w ws e ∙ n))
     ∙ ap (λ x. given (tops ss []) (Split_why (plain_chain s.chain) s.term x)) (sym (ap plain_whys e ∙ whys-push s.whys.items w)))
 
 pub given_waits : (ss : List CodeSplit) (s : CodeSplit) (w : Why) (ws : List Why) → ws ≡ s.whys.items ++ w ∷ [] → (length ws ≡ s.count → ⊥)
@@ -59,6 +59,6 @@ pub given_waits : (ss : List CodeSplit) (s : CodeSplit) (w : Why) (ws : List Why
 given_waits ss s w ws e n =
     ap (λ x. given x (plain_why w)) (tops-push ss s [])
     ∙ (ap (λ b. cond b (given (tops ss []) (Split_why (plain_chain s.chain) s.term (push_why (plain_whys s.whys.items) (plain_why w))))
-            (open_split (plain_chain s.chain) s.term s.count (push_why (plain_whys s.whys.items) (plain_why w)) ∷ tops ss [], None))
-        (ne_eqb (why_count (plain_whys s.whys.items) + 1) s.count (λ q. n (sym (one_more s w ws e) ∙ q)))
+    (open_split (plain_chain s.chain) s.term s.count (push_why (plain_whys s.whys.items) (plain_why w)) ∷ tops ss [], None))
+    (ne_eqb (why_count (plain_whys s.whys.items) + 1) s.count (λ q. n (sym (one_more s w ws e) ∙ q)))
     ∙ ap (λ x. (open_split (plain_chain s.chain) s.term s.count x ∷ tops ss [], None)) (sym (ap plain_whys e ∙ whys-push s.whys.items w)))

@@ -40,35 +40,38 @@ pub same_goes : (ts : List Tree) (ss rs : List OpenSplit) (ch dh : ChainOf ℕ) 
     → (next_same old ≡ Some new) × (s ≡ q ++ map (part_with ts) (same_part {T = List Tree} old))
 same_goes ts ss rs ch dh old new q r s o a c d e f =
     let g = give-given ts ss (Same_why ch) in
-    let to : given rs (Same_why dh) ≡ given ss (Same_why ch) = ap (λ x. given x (Same_why dh)) a ∙ ap (λ x. given ss (Same_why x)) c in
-    (ap next_same o ∙ ap (λ x. Some x) (g.0 ∙ sym (e ∙ ap now_given to)),
-    f ∙ ap (λ x. x ++ parts_given (given rs (Same_why dh))) d ∙ ap (λ x. q ++ parts_given x) to ∙ ap (λ x. q ++ x) (sym g.1)
-    ∙ ap (λ x. q ++ map (part_with ts) (same_part {T = List Tree} x)) (sym o))
+    let to : given rs (Same_why dh) ≡ given ss (Same_why ch) = ap (λ x. given x (Same_why dh)) a ∙ ap (λ x. given ss (Same_why x)) c in (
+      ap next_same o ∙ ap (λ x. Some x) (g.0 ∙ sym (e ∙ ap now_given to)),
+      f ∙ ap (λ x. x ++ parts_given (given rs (Same_why dh))) d ∙ ap (λ x. q ++ parts_given x) to ∙ ap (λ x. q ++ x) (sym g.1)
+          ∙ ap (λ x. q ++ map (part_with ts) (same_part {T = List Tree} x)) (sym o),
+    )
 
 pub split_closes : (ts : List Tree) (ss rs : List OpenSplit) (ch dh : ChainOf ℕ) (t n : ℕ) (w : WhyOf ℕ) (old new : Now) (q r s : List Part) → old ≡ Reducing ss ch
     → rs ≡ ss → w ≡ Split_why dh t no_why → dh ≡ ch → r ≡ q → n ≡ 0 → new ≡ now_given (given rs w) → s ≡ r ++ parts_given (given rs w)
     → (next_split old t n ≡ Some new) × (s ≡ q ++ map (part_with ts) (split_part {T = List Tree} old t n))
 split_closes ts ss rs ch dh t n w old new q r s o a b c d z e f =
     let g = give-given ts ss (Split_why ch t no_why) in
-    let to : given rs w ≡ given ss (Split_why ch t no_why) = ap (λ x. given x w) a ∙ ap (given ss) (b ∙ ap (λ x. Split_why x t no_why) c) in
-    (ap (λ x. next_split x t n) o
-    ∙ ap (λ b. Some (cond b (give_why_now ss (Split_why ch t no_why)) (Reducing (open_split ch t n no_why ∷ ss) empty))) (eq-eqb n 0 z)
-    ∙ ap (λ x. Some x) (g.0 ∙ sym (e ∙ ap now_given to)),
-    f ∙ ap (λ x. x ++ parts_given (given rs w)) d ∙ ap (λ x. q ++ parts_given x) to ∙ ap (λ x. q ++ x) (sym g.1)
-    ∙ ap (λ b. q ++ map (part_with ts) (cond b (why_part {T = List Tree} ss (Split_why ch t no_why)) [])) (sym (eq-eqb n 0 z))
-    ∙ ap (λ x. q ++ map (part_with ts) (split_part {T = List Tree} x t n)) (sym o))
+    let to : given rs w ≡ given ss (Split_why ch t no_why) = ap (λ x. given x w) a ∙ ap (given ss) (b ∙ ap (λ x. Split_why x t no_why) c) in (
+      ap (λ x. next_split x t n) o
+          ∙ ap (λ b. Some (cond b (give_why_now ss (Split_why ch t no_why)) (Reducing (open_split ch t n no_why ∷ ss) empty))) (eq-eqb n 0 z)
+          ∙ ap (λ x. Some x) (g.0 ∙ sym (e ∙ ap now_given to)),
+      f ∙ ap (λ x. x ++ parts_given (given rs w)) d ∙ ap (λ x. q ++ parts_given x) to ∙ ap (λ x. q ++ x) (sym g.1)
+          ∙ ap (λ b. q ++ map (part_with ts) (cond b (why_part {T = List Tree} ss (Split_why ch t no_why)) [])) (sym (eq-eqb n 0 z))
+          ∙ ap (λ x. q ++ map (part_with ts) (split_part {T = List Tree} x t n)) (sym o),
+    )
 
 pub split_opens : (ts : List Tree) (us vs : List CodeSplit) (top : CodeSplit) (ss : List OpenSplit) (ch k : ChainOf ℕ) (t n : ℕ) (old new : Now) (q r : List Part)
     → old ≡ Reducing ss ch → tops us [] ≡ ss → vs ≡ us ++ top ∷ [] → plain_split top ≡ open_split ch t n no_why → k ≡ empty → r ≡ q → (n ≡ 0 → ⊥) → new ≡ Reducing (tops vs []) k
     → (next_split old t n ≡ Some new) × (r ≡ q ++ map (part_with ts) (split_part {T = List Tree} old t n))
 split_opens ts us vs top ss ch k t n old new q r o a b c d e z m =
     let stack : tops vs [] ≡ open_split ch t n no_why ∷ ss
-        = ap (λ x. tops x []) b ∙ tops-push us top [] ∙ ap (λ x. x ∷ tops us []) c ∙ ap (λ x. open_split ch t n no_why ∷ x) a in
-    (ap (λ x. next_split x t n) o
-    ∙ ap (λ b. Some (cond b (give_why_now ss (Split_why ch t no_why)) (Reducing (open_split ch t n no_why ∷ ss) empty))) (ne_eqb n 0 z)
-    ∙ ap (λ x. Some x) (sym (m ∙ ap (λ x. Reducing x k) stack ∙ ap (Reducing (open_split ch t n no_why ∷ ss)) d)),
-    e ∙ sym (append-nil q) ∙ ap (λ b. q ++ map (part_with ts) (cond b (why_part {T = List Tree} ss (Split_why ch t no_why)) [])) (sym (ne_eqb n 0 z))
-    ∙ ap (λ x. q ++ map (part_with ts) (split_part {T = List Tree} x t n)) (sym o))
+    = ap (λ x. tops x []) b ∙ tops-push us top [] ∙ ap (λ x. x ∷ tops us []) c ∙ ap (λ x. open_split ch t n no_why ∷ x) a in (
+      ap (λ x. next_split x t n) o
+          ∙ ap (λ b. Some (cond b (give_why_now ss (Split_why ch t no_why)) (Reducing (open_split ch t n no_why ∷ ss) empty))) (ne_eqb n 0 z)
+          ∙ ap (λ x. Some x) (sym (m ∙ ap (λ x. Reducing x k) stack ∙ ap (Reducing (open_split ch t n no_why ∷ ss)) d)),
+      e ∙ sym (append-nil q) ∙ ap (λ b. q ++ map (part_with ts) (cond b (why_part {T = List Tree} ss (Split_why ch t no_why)) [])) (sym (ne_eqb n 0 z))
+          ∙ ap (λ x. q ++ map (part_with ts) (split_part {T = List Tree} x t n)) (sym o),
+    )
 
 -- nothing is asked of a machine among links
 pub kept_among_links : (k : Mode) (ts : List Tree) (m : Machine) → k ≡ mode.Reducing → IsKeptAt k ts m

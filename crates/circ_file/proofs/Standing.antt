@@ -54,7 +54,7 @@ module _ (th : Theory) (x more_bytes : List ℕ) (handed : List Part) (f g : Fil
       let stands = takes_line th x more_bytes handed k l (now_of g.reader.machine) s.stands range text t.next (subst P s.theory t.passes) (subst Q s.theory t.within) in
       let next : Reading = after_line th k l (now_of g.reader.machine) in
       let same : reading_of (after th k.seen l).wanted g ≡ next
-          = same_reading next g.lines g.rest.items (seen_of (after th k.seen l).wanted g.reader) (queue_of g.reader.machine) b c (subst R s.theory t.seen) t.queue in
+      = same_reading next g.lines g.rest.items (seen_of (after th k.seen l).wanted g.reader) (queue_of g.reader.machine) b c (subst R s.theory t.seen) t.queue in
       let S : Reading → Type 0 = λ y. StandsFor th (x ++ (more_bytes ++ (10 ∷ []))) handed y in
       record { theory = a ∙ s.theory; wanted = (after th k.seen l).wanted; stands = subst S (sym same) stands; fault = d }
 
@@ -84,7 +84,7 @@ module _ (th : Theory) (x more_bytes : List ℕ) (handed : List Part) (f g : Fil
       let k : Reading = reading_of s.wanted f in
       let next : Reading = record k { rest = k.rest ++ more_bytes } in
       let same : reading_of s.wanted g ≡ next
-          = ap (λ r. reading_with g.lines g.rest.items (now_of r.machine) (seen_of s.wanted r) (queue_of r.machine)) a
-          ∙ same_reading next g.lines g.rest.items k.seen k.waiting b c refl refl in
+      = ap (λ r. reading_with g.lines g.rest.items (now_of r.machine) (seen_of s.wanted r) (queue_of r.machine)) a
+      ∙ same_reading next g.lines g.rest.items k.seen k.waiting b c refl refl in
       let S : Reading → Type 0 = λ y. StandsFor th (x ++ more_bytes) handed y in
       record { theory = ap (λ r. r.theory.now) a ∙ s.theory; wanted = s.wanted; stands = subst S (sym same) (keeps_rest th x more_bytes handed k n s.stands); fault = d }

@@ -50,11 +50,7 @@ fn decode_by(
 }
 
 // The proof whose parts wait.
-fn gather(
-    alloc: Global,
-    theory: &Theory,
-    reader: &mut FileReader,
-) -> Result<Proof, AllocError>
+fn gather(alloc: Global, theory: &Theory, reader: &mut FileReader) -> Result<Proof, AllocError>
     requires sound { IsSound reader.old }
     requires fault { reader.old.fault ≡ None }
     ensures { IfOk result (λ p. (q : PlainProof) →

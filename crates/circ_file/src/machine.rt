@@ -129,11 +129,7 @@ impl Machine {
         Ok(true)
     }
 
-    pub(crate) fn on_block(
-        &mut self,
-        theory: &Theory,
-        terms: &[Term],
-    ) -> Result<bool, AllocError>
+    pub(crate) fn on_block(&mut self, theory: &Theory, terms: &[Term]) -> Result<bool, AllocError>
         requires kept { IsKept terms.now self.old }
         requires set { IsSet theory.now self.old.places.items }
         ensures { IfOk result (λ taken. Moves taken terms.now self.old block_line self.new) }

@@ -9,14 +9,21 @@ use circ_theory::Goal;
 #[derive(Drop)]
 pub(crate) enum Part {
     /// The table and the special set.
-    Head { table: Vec<Term>, gamma: Gamma },
+    Head {
+        table: Vec<Term>,
+        gamma: Gamma,
+    },
     /// A certificate of the special set.
-    Certificate { links: Vec<Link> },
+    Certificate {
+        links: Vec<Link>,
+    },
     /// The goals of a block, and the numbers of their sides in the table.
     Goals {
         goals: Vec<Goal>,
         names: Vec<(u32, u32)>,
     },
     /// A step of a block.
-    Step { step: Step },
+    Step {
+        step: Step,
+    },
 }

@@ -29,7 +29,12 @@ pub(crate) fn give(splits: &mut Vec<OpenSplit>, why: Why) -> Result<Option<Why>,
             splits.push(split)?;
             return Ok(None);
         }
-        let OpenSplit { chain, term, whys, .. } = split;
+        let OpenSplit {
+            chain,
+            term,
+            whys,
+            ..
+        } = split;
         why = Why::Split { chain, term, whys };
     }
     Ok(Some(why))

@@ -43,7 +43,7 @@ length-certificates_of b (v ∷ vs) = ap suc (length-certificates_of b vs)
 -- ---- one certificate more
 
 module _ (th : Theory) (G : List Place) (lss : List (List (LinkOf Tree))) (done : ℕ) (g : Place) (d : Derivative) (ls : List (LinkOf Tree))
-  (zs : List (Place × Derivative)) (read : drop done lss ≡ ls ∷ drop (done + 1) lss) (so_far : HoldSoFar th G lss done ((g, d) ∷ zs)) where
+    (zs : List (Place × Derivative)) (read : drop done lss ≡ ls ∷ drop (done + 1) lss) (so_far : HoldSoFar th G lss done ((g, d) ∷ zs)) where
   pub one_holds : Certified th G g d ls → HoldSoFar th G lss (done + 1) zs
   one_holds c = record {
     count = omega (arith, so_far.count);
@@ -80,11 +80,11 @@ pub stands_last : (b : Basis) (g : Place) (s : ℕ) (vs : List (Vec Link Global)
     → HoldSoFar b.theory.now b.gamma.now (certificates_of b vs) done ys
 stands_last b g s vs old done i h st ys f =
     let P : List Derivative → Type 0 =
-        λ ds. HoldSoFar b.theory.now b.gamma.now (certificates_of b vs) done (map (λ d. (g, d)) (filter (λ d. d.hole == s) ds) ++ ys) in
+    λ ds. HoldSoFar b.theory.now b.gamma.now (certificates_of b vs) done (map (λ d. (g, d)) (filter (λ d. d.hole == s) ds) ++ ys) in
     subst P (drop_of_length-le b.theory.now.derivatives h) (st.so_far ys f)
 
 module _ (b : Basis) (g : Place) (s : ℕ) (vs : List (Vec Link Global)) (old done i : ℕ) (within : i < length b.theory.now.derivatives)
-  (st : StandsAt b g s vs old done i) where
+    (st : StandsAt b g s vs old done i) where
   abbrev th : Theory
   th = b.theory.now
 
@@ -120,7 +120,7 @@ module _ (b : Basis) (g : Place) (s : ℕ) (vs : List (Vec Link Global)) (old do
 
     -- what was told of it
     module _ (v : Vec Link Global) (is : v ≡ get_or vs done v) (holds : Bool)
-      (told : IfSome (slice_get b.theory.now.derivatives i) (λ d. IsTrue holds ↔ Certified b.theory.now b.gamma.now g d (links_of b v.items))) where
+        (told : IfSome (slice_get b.theory.now.derivatives i) (λ d. IsTrue holds ↔ Certified b.theory.now b.gamma.now g d (links_of b v.items))) where
       told_here : IsTrue holds ↔ Certified th G g here (links_of b v.items)
       told_here = some_if_at (λ d. IsTrue holds ↔ Certified th G g d (links_of b v.items)) (slice_get th.derivatives i) here there told
 

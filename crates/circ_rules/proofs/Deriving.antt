@@ -40,8 +40,8 @@ the_derivative (Some d) s e = (d, refl, same_Some d.hole s e)
 
 -- a derivative of the theory on a goal, with variables numbered from k for its parameters
 module _ (th : Theory) (ok : IsWellFormed th) (n : ℕ) (g : Goal) (w : IsWellSortedGoal th g) (k : ℕ) (fresh : k ≡ fresh_in g)
-  (hole : option_map (λ d. d.hole) (slice_get th.derivatives n) ≡ Some (sort_of g.left)) (sorts : List ℕ)
-  (listed : Some sorts ≡ option_map parameter_sorts (slice_get th.derivatives n)) (params : List Tree) (made : params ≡ variables_from k sorts) where
+    (hole : option_map (λ d. d.hole) (slice_get th.derivatives n) ≡ Some (sort_of g.left)) (sorts : List ℕ)
+    (listed : Some sorts ≡ option_map parameter_sorts (slice_get th.derivatives n)) (params : List Tree) (made : params ≡ variables_from k sorts) where
   abbrev d : Derivative
   d = (the_derivative (slice_get th.derivatives n) (sort_of g.left) hole).0
 
@@ -112,7 +112,7 @@ pub record StartsWith (ds : List Derivative) (i : ℕ) (d : Derivative) : Type 0
 pub derivative_at : (ds : List Derivative) (i : ℕ) → i < length ds → (d : Derivative) × StartsWith ds i d
 derivative_at [] i h = absurd (omega arith)
 derivative_at (d ∷ ds) zero h = (d, record { there = refl; rest = refl })
-derivative_at (d ∷ ds) (suc i) h = 
+derivative_at (d ∷ ds) (suc i) h =
     let r = derivative_at ds i (omega arith) in
     let e : suc i + 1 ≡ suc (i + 1) = omega arith in
     (r.0, record { there = r.1.there; rest = rw e r.1.rest })
@@ -197,6 +197,7 @@ moved_sorted th ok H [] g hs sh sg e h d = absurd (omega arith)
 moved_sorted th ok H (x ∷ gs) g hs sh sg e h d =
     let w = sorted_first th x gs sg in
     let P : List Goal → Type 0 = λ ks. IsSortedState th (state (H ++ x ∷ []) (gs ++ ks)) in
-    subst P (sym (d ∙ ap (derivatives_on th) e))
-    (sorted_append th H (x ∷ []) sh (sorted_more th x [] w (sorted_none th)),
-      sorted_append th gs (derivatives_on th x) (sorted_rest th x gs sg) (derivatives_sorted th ok x w))
+    subst P (sym (d ∙ ap (derivatives_on th) e)) (
+      sorted_append th H (x ∷ []) sh (sorted_more th x [] w (sorted_none th)),
+      sorted_append th gs (derivatives_on th x) (sorted_rest th x gs sg) (derivatives_sorted th ok x w),
+    )

@@ -71,7 +71,7 @@ all_derived th s g k (d ∷ ds) w = go (d.hole == s) refl (all_derived th s g k 
         → AreSortedGoals th (map (λ d. derived_goal d g k) (filter (λ d. d.hole == s) (d ∷ ds)))
     go true e rest =
         rw e (sorted_more th (derived_goal d g k) (map (λ d. derived_goal d g k) (filter (λ d. d.hole == s) ds))
-            (w d (contains_first d ds) (eqb-true d.hole s e)) rest)
+        (w d (contains_first d ds) (eqb-true d.hole s e)) rest)
     go false e rest = rw e rest
 
 pub derivatives_sorted : (th : Theory) → IsWellFormed th → (g : Goal) → IsWellSortedGoal th g → AreSortedGoals th (derivatives_on th g)

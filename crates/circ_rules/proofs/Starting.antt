@@ -125,7 +125,7 @@ record IsCertified (th : Theory) (G : List Place) (g : Place) (o : Operator) (k 
 -- ---- the start term of a place, whose operator is o, and a derivative
 
 module _ (th : Theory) (g : Place) (o : Operator) (listed : slice_get th.signature.ops g.op ≡ Some o) (n : ℕ)
-  (hole : option_map (λ d. d.hole) (slice_get th.derivatives n) ≡ Some o.result) where
+    (hole : option_map (λ d. d.hole) (slice_get th.derivatives n) ≡ Some o.result) where
   abbrev d : Derivative
   d = (the_derivative (slice_get th.derivatives n) o.result hole).0
 
@@ -137,7 +137,7 @@ module _ (th : Theory) (g : Place) (o : Operator) (listed : slice_get th.signatu
 
   -- it is built from the operator on variables
   module _ (ok : IsWellFormed th) (sorts : List ℕ) (named : Some sorts ≡ option_map parameter_sorts (slice_get th.derivatives n)) (params : List Tree)
-    (made : params ≡ variables_from (length o.args) sorts) (start : Tree) (is_start : start ≡ App g.op o.result (start_args g.arg 1 o.args)) where
+      (made : params ≡ variables_from (length o.args) sorts) (start : Tree) (is_start : start ≡ App g.op o.result (start_args g.arg 1 o.args)) where
     is_derivative : IsDerivative th.signature d
     is_derivative = ok.derivatives d (contains_at th.derivatives n d there)
 
@@ -236,8 +236,7 @@ module _ (th : Theory) (g : Place) (o : Operator) (listed : slice_get th.signatu
           let P : Tree → Type 0 = λ t. Runs (Leads (setting th G [] [])) ls t last in
           let run : Runs (Leads (setting th G [] [])) ls (start_term o g d) last = subst P is_first.same leads in
           let Q : Tree → Type 0 = λ t. Guarded th G t 0 k in
-          if_some_at (λ d. IsTrue b ↔ Certified th G g d ls) (slice_get th.derivatives n) d there
-          (
+          if_some_at (λ d. IsTrue b ↔ Certified th G g d ls) (slice_get th.derivatives n) d there (
             (λ t. from (record { within = is_first.within; last = last; leads = run; guarded = told.0 t })),
             (λ x. let y = to x in told.1 (subst Q (one_end (setting th G [] []) ls (start_term o g d) y.last last y.leads run) y.guarded)),
           )

@@ -45,7 +45,7 @@ BlockFails th p H [] n = ⊥
 BlockFails th p H (b ∷ bs) n =
     FailsFirst (StepOf th p.places) (steps_of p.table b) (state H b.goals) n
     ⊎ ((e : State) × StepsOf th p.places (steps_of p.table b) (state H b.goals) e
-        × (m : ℕ) × (n ≡ length b.steps + m) × BlockFails th p (H ++ b.goals) bs m)
+    × (m : ℕ) × (n ≡ length b.steps + m) × BlockFails th p (H ++ b.goals) bs m)
 
 -- The first certificate or step that fails; certificates are counted before steps.
 abbrev pub FirstFail : Theory → Proof → ℕ → Type 0

@@ -7,13 +7,13 @@
 
 mod attributes;
 mod goals;
-mod relation;
 pub mod laws;
 mod lines;
 mod observed;
+mod relation;
 mod theories;
 
 pub use goals::goals_text;
-pub use relation::relation_text;
 pub use observed::unobserved;
+pub use relation::relation_text;
 pub use theories::theory_text;

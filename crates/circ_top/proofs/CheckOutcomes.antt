@@ -147,7 +147,7 @@ module _ (once : ReadsOnce) (proofs : ProofsOnce) (report : Report) (theory proo
           let D : Proof → Type 0 = λ x. Derives a.th x d in
           let text : List ℕ = report_text report a.th.signature q d in
           let same : text ≡ given = ap (λ x. report_text report a.th.signature x d) one
-              ∙ ap (report_text report a.th.signature a.p) (proofs.one_relation a.th a.p d a.proves.derived (subst D one v) a.proves.accepted) ∙ sym a.proves.text_is in
+          ∙ ap (report_text report a.th.signature a.p) (proofs.one_relation a.th a.p d a.proves.derived (subst D one v) a.proves.accepted) ∙ sym a.proves.text_is in
           let P : List ℕ → Type 0 = λ x. IsLike status.Ok text status.Ok x in
           alike status.Ok given (subst P same (itself status.Ok text))
 

@@ -12,7 +12,7 @@ use crate::proof_file::take_proof;
 use crate::request::Report;
 use crate::status::Status;
 use crate::theory_file::take_theory;
-use circ_check::{Verdict, derived, check as verdict};
+use circ_check::{Verdict, check as verdict, derived};
 use circ_outer::Shelf;
 use circ_rules::{Block, Proof};
 use circ_show::{goals_text, relation_text};
@@ -48,12 +48,7 @@ pub(crate) fn check<S: Shelf>(
 
 /// The report of the proof if it is accepted, or the number of its first certificate or step that
 /// is no instance of its rule.
-fn judge(
-    alloc: Global,
-    report: Report,
-    theory: &Theory,
-    proof: &Proof,
-) -> Result<Vec<u8>, Status>
+fn judge(alloc: Global, report: Report, theory: &Theory, proof: &Proof) -> Result<Vec<u8>, Status>
     requires { ProofFor theory.now (plain_proof proof.now) }
     ensures accepted { IfOk result (λ v.
         Proves report theory.now (plain_proof proof.now) v.items) }

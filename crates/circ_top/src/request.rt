@@ -24,9 +24,13 @@ pub enum Request<'a> {
         proof: &'a str,
     },
     /// A theory file is printed as it is read.
-    Show { theory: &'a str },
+    Show {
+        theory: &'a str,
+    },
     /// A text of the library is printed.
-    Library { text: &'static [u8] },
+    Library {
+        text: &'static [u8],
+    },
 }
 
 /// The request that the words make, if they are those of a command.

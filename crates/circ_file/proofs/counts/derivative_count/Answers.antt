@@ -13,13 +13,13 @@ loop-number-preserved c =
     let below : i < length ds = omega (arith, c.loop-number-test.true, c.derivative_count-number-end.ensures.count) in
     elim c.if-observes.branch [
       | then-observes w ↦ record {
-          counted = counted_more p ds i c.loop-number.count c.if-observes.count (length (filter p ds)) true below
+        counted = counted_more p ds i c.loop-number.count c.if-observes.count (length (filter p ds)) true below
             (sym w.if-observes.true ∙ c.observes.ensures) c.loop-number.invariant.counted w.count-is;
-          few = omega (arith, w.count-is, c.loop-number.invariant.few);
-        }
+        few = omega (arith, w.count-is, c.loop-number.invariant.few);
+      }
       | else-observes w ↦ record {
-          counted = counted_more p ds i c.loop-number.count c.if-observes.count (length (filter p ds)) false below
+        counted = counted_more p ds i c.loop-number.count c.if-observes.count (length (filter p ds)) false below
             (sym w.if-observes.false ∙ c.observes.ensures) c.loop-number.invariant.counted (omega (arith, w.count-is));
-          few = omega (arith, w.count-is, c.loop-number.invariant.few);
-        }
+        few = omega (arith, w.count-is, c.loop-number.invariant.few);
+      }
     ]

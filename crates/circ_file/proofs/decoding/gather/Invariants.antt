@@ -7,10 +7,10 @@ use Rattle.circ_file.proofs.decoding.gather.Given as goal
 
 abbrev pub invariant-loop-part : goal.invariant-loop-part
 invariant-loop-part l = record {
-    sound : IsSound l.reader;
-    fault : l.reader.fault ≡ None;
-    gathered : gather_all (gathered_of l.gathering) (queue_of l.reader.reader.machine) ≡ gather_all nothing_gathered (queue_of l.fn.reader.reader.machine)
-  }
+  sound : IsSound l.reader;
+  fault : l.reader.fault ≡ None;
+  gathered : gather_all (gathered_of l.gathering) (queue_of l.reader.reader.machine) ≡ gather_all nothing_gathered (queue_of l.fn.reader.reader.machine);
+}
 
 abbrev pub decreases-loop-part : goal.decreases-loop-part
 decreases-loop-part l = length (queue_of l.reader.reader.machine)

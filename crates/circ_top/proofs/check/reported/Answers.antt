@@ -17,13 +17,13 @@ returns-in_ok-relation_text-in-Relation c =
       derived = map plain_list blocks;
       accepted = c.in_ok-blocks-in-Relation.ensures.exact;
       text_is = rw (
-            c.in_ok-relation_text-in-Relation.ensures.text,
-            c.in_ok-put_goals.ensures,
-            c.in_ok-out.ensures.items,
-            c.as_slice.ensures.value,
-            c.as_slice-in-Relation.ensures.value,
-            c.in-Relation.is,
-            goals_of_blocks c.args.proof.now.blocks.items,
-            pairs_of_lists blocks,
-          ) refl;
+        c.in_ok-relation_text-in-Relation.ensures.text,
+        c.in_ok-put_goals.ensures,
+        c.in_ok-out.ensures.items,
+        c.as_slice.ensures.value,
+        c.as_slice-in-Relation.ensures.value,
+        c.in-Relation.is,
+        goals_of_blocks c.args.proof.now.blocks.items,
+        pairs_of_lists blocks,
+      ) refl;
     }

@@ -21,14 +21,14 @@ pub returns-clause-complete : goal.returns-clause-complete
 returns-clause-complete g c = λ t.
     let once : ReadsOnce = reads_once c.read_in_one_way.ensures.either c.read_in_one_way.ensures.number c.read_in_one_way.ensures.cause in
     let proofs : ProofsOnce = proofs_come_once c.one_answer.ensures.not_both c.one_answer.ensures.cause c.one_verdict.ensures.not_both
-        c.one_verdict.ensures.one_failure c.one_verdict.ensures.one_relation in
+    c.one_verdict.ensures.one_failure c.one_verdict.ensures.one_relation in
     answers_come once proofs c.printed_in_one_way.ensures _ _ _ t _ _ c.answer.result (rw c.as_slice.ensures.value at c.answer.ensures.answers)
 
 pub returns-clause-first_failure : goal.returns-clause-first_failure
 returns-clause-first_failure g c = λ t report th p n f fail.
     let once : ReadsOnce = reads_once c.read_in_one_way.ensures.either c.read_in_one_way.ensures.number c.read_in_one_way.ensures.cause in
     let proofs : ProofsOnce = proofs_come_once c.one_answer.ensures.not_both c.one_answer.ensures.cause c.one_verdict.ensures.not_both
-        c.one_verdict.ensures.one_failure c.one_verdict.ensures.one_relation in
+    c.one_verdict.ensures.one_failure c.one_verdict.ensures.one_relation in
     answers_come once proofs c.printed_in_one_way.ensures _ _ _ t _ _ c.answer.result (rw c.as_slice.ensures.value at c.answer.ensures.answers) _ _ _
     (read_outcome _ _ report th p n f fail)
 
@@ -36,7 +36,7 @@ pub returns-clause-accepted_text : goal.returns-clause-accepted_text
 returns-clause-accepted_text g c = λ t report th p derived f d.
     let once : ReadsOnce = reads_once c.read_in_one_way.ensures.either c.read_in_one_way.ensures.number c.read_in_one_way.ensures.cause in
     let proofs : ProofsOnce = proofs_come_once c.one_answer.ensures.not_both c.one_answer.ensures.cause c.one_verdict.ensures.not_both
-        c.one_verdict.ensures.one_failure c.one_verdict.ensures.one_relation in
+    c.one_verdict.ensures.one_failure c.one_verdict.ensures.one_relation in
     answers_come once proofs c.printed_in_one_way.ensures _ _ _ t _ _ c.answer.result (rw c.as_slice.ensures.value at c.answer.ensures.answers) _ _ _
     (accepted_read_outcome _ _ report th p derived f d)
 
@@ -53,5 +53,5 @@ pub returns-clause-memory : goal.returns-clause-memory
 returns-clause-memory g c = λ e t.
     let once : ReadsOnce = reads_once c.read_in_one_way.ensures.either c.read_in_one_way.ensures.number c.read_in_one_way.ensures.cause in
     let proofs : ProofsOnce = proofs_come_once c.one_answer.ensures.not_both c.one_answer.ensures.cause c.one_verdict.ensures.not_both
-        c.one_verdict.ensures.one_failure c.one_verdict.ensures.one_relation in
+    c.one_verdict.ensures.one_failure c.one_verdict.ensures.one_relation in
     answers_memory once proofs c.printed_in_one_way.ensures _ _ _ t _ _ c.answer.result (rw c.as_slice.ensures.value at c.answer.ensures.answers)

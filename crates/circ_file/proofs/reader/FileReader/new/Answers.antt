@@ -14,7 +14,7 @@ returns-clause-stands c =
     let told = c.new.ensures in
     let new : FileReader = record { reader = c.new.result; lines = 0; rest = c.new-2.result; fault = None } in
     let same : reading_of [] new ≡ nothing_read
-        = ap (λ n. reading_with 0 c.new-2.result.items n (seen_of [] c.new.result) (queue_of c.new.result.machine)) told.begin
-        ∙ same_reading nothing_read 0 c.new-2.result.items (seen_of [] c.new.result) (queue_of c.new.result.machine) refl c.new-2.ensures.items told.seen told.queue in
+    = ap (λ n. reading_with 0 c.new-2.result.items n (seen_of [] c.new.result) (queue_of c.new.result.machine)) told.begin
+    ∙ same_reading nothing_read 0 c.new-2.result.items (seen_of [] c.new.result) (queue_of c.new.result.machine) refl c.new-2.ensures.items told.seen told.queue in
     let S : Reading → Type 0 = λ k. StandsFor th [] [] k in
     record { theory = told.theory; wanted = []; stands = subst S (sym same) (starts th); fault = refl }

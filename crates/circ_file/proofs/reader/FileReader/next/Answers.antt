@@ -14,6 +14,6 @@ returns-in-None-clause-stands c th x handed s =
     let reader : LineReader = record old.reader { machine = c.pop.new.self } in
     let new : FileReader = record old { reader = reader } in
     let same = ap (λ n. reading_with old.lines old.rest.items n (seen_of s.wanted reader) (queue_of c.pop.new.self)) c.pop.ensures.next
-        ∙ ap (λ ps. reading_with old.lines old.rest.items (now_of old.reader.machine) (seen_with old.reader.table.terms.items ps.items old.reader.counts.certificates
-            old.reader.counts.steps s.wanted) (queue_of c.pop.new.self)) c.pop.ensures.places in
+    ∙ ap (λ ps. reading_with old.lines old.rest.items (now_of old.reader.machine) (seen_with old.reader.table.terms.items ps.items old.reader.counts.certificates
+    old.reader.counts.steps s.wanted) (queue_of c.pop.new.self)) c.pop.ensures.places in
     next_handed th x handed old new c.pop.result s c.pop.ensures.popped same refl refl
