@@ -52,8 +52,8 @@ one_link c (Hypothesis_link number way path terms) t u v r s =
     one_rewriting (sides r.hypothesis) (sides s.hypothesis) way path terms t u v (ap sides (same_Some r.hypothesis s.hypothesis (sym r.listed ∙ s.listed)))
     r.rewrites s.rewrites
 one_link c (Assumption_link number way path) t u v r s =
-    one_made t (to_side way r.assumption) (to_side way s.assumption) u v path (from_side way r.assumption) (from_side way s.assumption)
-    (ap (to_side way) (same_Some r.assumption s.assumption (sym r.listed ∙ s.listed))) r.replaces s.replaces
+    one_made t (to_side way r.assumed) (to_side way s.assumed) u v path (from_side way r.assumed) (from_side way s.assumed)
+    (ap (to_side way) (same_Some r.assumed s.assumed (sym r.listed ∙ s.listed))) r.replaces s.replaces
 one_link c (Content_link op path term) t u v r s = one_made t term term u v path r.old s.old refl r.replaces s.replaces
 
 -- steps each of which leads to one state lead to one state
@@ -109,7 +109,7 @@ link_sorted c g (Hypothesis_link number way path terms) a t u wt r =
     way path terms a t u wt r.rewrites
 link_sorted c g (Assumption_link number way path) a t u wt r =
     let sig = c.theory.signature in
-    let p = r.assumption in
+    let p = r.assumed in
     let w = g.assumptions p (contains_at c.assumptions number p r.listed) in
     exchanged c.theory path t (from_side way p) (to_side way p) u wt (sorted_to sig way p w) (sort_to sig way p w) r.replaces
 link_sorted c g (Content_link op path term) a t u wt r = exchanged c.theory path t r.old term u wt a.0 r.content.same_sort r.replaces
@@ -147,7 +147,7 @@ link_derives c g (Equation_link number way path terms) a t u wt r =
 link_derives c g (Hypothesis_link number way path terms) a t u wt r = tt
 link_derives c g (Assumption_link number way path) a t u wt r =
     let sig = c.theory.signature in
-    let p = r.assumption in
+    let p = r.assumed in
     let there = contains_at c.assumptions number p r.listed in
     let w = g.assumptions p there in
     (replaced_keeps c.theory c.assumptions path t (from_side way p) (to_side way p) u wt r.replaces.there (sorted_to sig way p w) (sort_to sig way p w)

@@ -42,9 +42,9 @@ pub record HypothesisLeads (c : Setting) (number : ℕ) (way : Way) (path : List
 
 -- An assumption is used as it stands.
 pub record AssumptionLeads (c : Setting) (number : ℕ) (way : Way) (path : List ℕ) (t u : Tree) : Type 0 where
-  pub assumption : Pair
-  pub listed : slice_get c.assumptions number ≡ Some assumption
-  pub replaces : Replaces t path (from_side way assumption) (to_side way assumption) u
+  pub assumed : Pair
+  pub listed : slice_get c.assumptions number ≡ Some assumed
+  pub replaces : Replaces t path (from_side way assumed) (to_side way assumed) u
 
 -- A subterm is replaced by one of its sort that has the same content under the operator, which exists.
 pub record ContentLeads (c : Setting) (op : ℕ) (path : List ℕ) (term t u : Tree) : Type 0 where

@@ -157,7 +157,7 @@ link_keeps c n g (Hypothesis_link number way path terms) f t u wt r =
 link_keeps c n g (Assumption_link number way path) f t u wt r =
     let th : Theory = c.theory in
     let sig : Signature = th.signature in
-    let p : Pair = r.assumption in
+    let p : Pair = r.assumed in
     let there = contains_at c.assumptions number p r.listed in
     let s = g.assumptions p there in
     derivable_keeps th g.well_formed c.assumptions n t u wt
