@@ -2,7 +2,7 @@
 use Rattle.std.specs.Prelude.{◌≡◌, ◌≤◌, ◌<◌, ◌+◌, ℕ, zero, suc, Bool, true, false, ◌==◌, List, [], ◌∷◌, ◌++◌, map, length, drop, Some, refl, Vec, IsTrue, ◌↔◌}
 use Rattle.std.proofs.lemmas.List.{drop_more}
 use Rattle.std.proofs.Math.ListN.{drop_of_length-le}
-use Rattle.std.proofs.Common.{Global, ap, sym, ◌∙◌, subst, arith, get_or, inl, inr}
+use Rattle.std.proofs.Common.{Global, ap, sym, subst, arith, get_or, inl, inr}
 use Rattle.std.specs.List.{AllByRecursion, filter, slice_get}
 use Rattle.std.specs.Option.{IfSome, option_map_or}
 use Rattle.circ_term.specs.Tree.{Tree}
@@ -15,7 +15,7 @@ use Rattle.circ_replay.specs.Link.{AllOfLinks}
 use Rattle.circ_rules.specs.declared.basis.Basis.{Basis}
 use Rattle.circ_rules.specs.Plain.{plain_certificates}
 use Rattle.circ_rules.specs.Basis.{links_of, certificates_of}
-use Rattle.circ_rules.specs.Certified.{Certified, due, due_at, derivatives_at, AreCertified, CertificateFails}
+use Rattle.circ_rules.specs.Certified.{Certified, due, due_at, AreCertified, CertificateFails}
 use Rattle.circ_rules.specs.Admitting.{HoldSoFar}
 use Rattle.circ_rules.proofs.Certifying.{fails_among}
 use Rattle.circ_rules.proofs.Deriving.{some_if_at, from_number, derivative_at, taken_next, passed_next}
@@ -43,7 +43,7 @@ length-certificates_of b (v ∷ vs) = ap suc (length-certificates_of b vs)
 -- ---- one certificate more
 
 module _ (th : Theory) (G : List Place) (lss : List (List (LinkOf Tree))) (done : ℕ) (g : Place) (d : Derivative) (ls : List (LinkOf Tree))
-  (zs : List (Place × Derivative)) (read : drop done lss ≡ ls ∷ drop (done + 1) lss) (so_far : HoldSoFar th G lss done ((g, d) ∷ zs)) where
+    (zs : List (Place × Derivative)) (read : drop done lss ≡ ls ∷ drop (done + 1) lss) (so_far : HoldSoFar th G lss done ((g, d) ∷ zs)) where
   pub one_holds : Certified th G g d ls → HoldSoFar th G lss (done + 1) zs
   one_holds c = record {
     count = omega (arith, so_far.count);
@@ -80,11 +80,11 @@ pub stands_last : (b : Basis) (g : Place) (s : ℕ) (vs : List (Vec Link Global)
     → HoldSoFar b.theory.now b.gamma.now (certificates_of b vs) done ys
 stands_last b g s vs old done i h st ys f =
     let P : List Derivative → Type 0 =
-        λ ds. HoldSoFar b.theory.now b.gamma.now (certificates_of b vs) done (map (λ d. (g, d)) (filter (λ d. d.hole == s) ds) ++ ys) in
+    λ ds. HoldSoFar b.theory.now b.gamma.now (certificates_of b vs) done (map (λ d. (g, d)) (filter (λ d. d.hole == s) ds) ++ ys) in
     subst P (drop_of_length-le b.theory.now.derivatives h) (st.so_far ys f)
 
 module _ (b : Basis) (g : Place) (s : ℕ) (vs : List (Vec Link Global)) (old done i : ℕ) (within : i < length b.theory.now.derivatives)
-  (st : StandsAt b g s vs old done i) where
+    (st : StandsAt b g s vs old done i) where
   abbrev th : Theory
   th = b.theory.now
 
@@ -120,7 +120,7 @@ module _ (b : Basis) (g : Place) (s : ℕ) (vs : List (Vec Link Global)) (old do
 
     -- what was told of it
     module _ (v : Vec Link Global) (is : v ≡ get_or vs done v) (holds : Bool)
-      (told : IfSome (slice_get b.theory.now.derivatives i) (λ d. IsTrue holds ↔ Certified b.theory.now b.gamma.now g d (links_of b v.items))) where
+        (told : IfSome (slice_get b.theory.now.derivatives i) (λ d. IsTrue holds ↔ Certified b.theory.now b.gamma.now g d (links_of b v.items))) where
       told_here : IsTrue holds ↔ Certified th G g here (links_of b v.items)
       told_here = some_if_at (λ d. IsTrue holds ↔ Certified th G g d (links_of b v.items)) (slice_get th.derivatives i) here there told
 

@@ -11,16 +11,16 @@ use Rattle.circ_term.specs.Limits.{IsWithinLimits}
 use Rattle.circ_theory.specs.Theory.{Theory, Derivative}
 use Rattle.circ_theory.specs.WellFormed.{IsWellFormed, IsDerivative}
 use Rattle.circ_theory.specs.Variables.{Variable, occurrences}
-use Rattle.circ_theory.specs.Observing.{is_parameter, parameters_in}
+use Rattle.circ_theory.specs.Observing.{is_parameter}
 use Rattle.circ_theory.specs.Experiment.{derived}
 use Rattle.circ_theory.specs.Fresh.{numbered_from, given_parameters, parameter_sorts, variables_from, derivatives_of, FitSome}
 use Rattle.circ_theory.specs.declared.parts.Goal.{Goal}
 use Rattle.circ_theory.proofs.Rewriting.{contains_at}
 use Rattle.circ_theory.proofs.Derived.{derived-numbered_from, variables_fit}
 use Rattle.circ_replay.specs.Goals.{goal, IsWellSortedGoal, AreSortedGoals}
-use Rattle.circ_rules.specs.Rules.{State, state, fresh_in, derived_goal, derivatives_on, IsDerivable, IsSortedState}
+use Rattle.circ_rules.specs.Rules.{state, fresh_in, derived_goal, derivatives_on, IsDerivable, IsSortedState}
 use Rattle.circ_rules.specs.Answers.{Gives}
-use Rattle.circ_rules.specs.Deriving.{IsWithin, AreInstances, IsDerivativeOn, AreDerivativesOn, moved, moved_on}
+use Rattle.circ_rules.specs.Deriving.{AreInstances, IsDerivativeOn, AreDerivativesOn, moved_on}
 use Rattle.circ_rules.proofs.Sorted.{sorted_none, sorted_more, sorted_first, sorted_rest, sorted_append, derivatives_sorted}
 
 pub if_some_at : {X : Type 0} (P : X → Type 0) (o : Option X) (x : X) → o ≡ Some x → P x → IfSome o P
@@ -29,10 +29,6 @@ if_some_at P o x e p = let Q : Option _ → Type 0 = λ o. IfSome o P in subst Q
 pub some_if_at : {X : Type 0} (P : X → Type 0) (o : Option X) (x : X) → o ≡ Some x → IfSome o P → P x
 some_if_at P o x e p = let Q : Option _ → Type 0 = λ o. IfSome o P in subst Q e p
 
--- what passes no limit is there
-pub past : (t u : Tree) → t ≡ u → Gives (IsWithin t) None → IsWithinLimits u → ⊥
-past t u e none w = none t (record { within = subst IsWithinLimits (sym e) w; same = refl })
-
 -- the derivative that a hole's sort was read from
 pub the_derivative : (o : Option Derivative) (s : ℕ) → option_map (λ d. d.hole) o ≡ Some s → (d : Derivative) × (o ≡ Some d) × (d.hole ≡ s)
 the_derivative None s e = absurd (cc)
@@ -40,8 +36,8 @@ the_derivative (Some d) s e = (d, refl, same_Some d.hole s e)
 
 -- a derivative of the theory on a goal, with variables numbered from k for its parameters
 module _ (th : Theory) (ok : IsWellFormed th) (n : ℕ) (g : Goal) (w : IsWellSortedGoal th g) (k : ℕ) (fresh : k ≡ fresh_in g)
-  (hole : option_map (λ d. d.hole) (slice_get th.derivatives n) ≡ Some (sort_of g.left)) (sorts : List ℕ)
-  (listed : Some sorts ≡ option_map parameter_sorts (slice_get th.derivatives n)) (params : List Tree) (made : params ≡ variables_from k sorts) where
+    (hole : option_map (λ d. d.hole) (slice_get th.derivatives n) ≡ Some (sort_of g.left)) (sorts : List ℕ)
+    (listed : Some sorts ≡ option_map parameter_sorts (slice_get th.derivatives n)) (params : List Tree) (made : params ≡ variables_from k sorts) where
   abbrev d : Derivative
   d = (the_derivative (slice_get th.derivatives n) (sort_of g.left) hole).0
 
@@ -112,7 +108,7 @@ pub record StartsWith (ds : List Derivative) (i : ℕ) (d : Derivative) : Type 0
 pub derivative_at : (ds : List Derivative) (i : ℕ) → i < length ds → (d : Derivative) × StartsWith ds i d
 derivative_at [] i h = absurd (omega arith)
 derivative_at (d ∷ ds) zero h = (d, record { there = refl; rest = refl })
-derivative_at (d ∷ ds) (suc i) h = 
+derivative_at (d ∷ ds) (suc i) h =
     let r = derivative_at ds i (omega arith) in
     let e : suc i + 1 ≡ suc (i + 1) = omega arith in
     (r.0, record { there = r.1.there; rest = rw e r.1.rest })
@@ -197,6 +193,7 @@ moved_sorted th ok H [] g hs sh sg e h d = absurd (omega arith)
 moved_sorted th ok H (x ∷ gs) g hs sh sg e h d =
     let w = sorted_first th x gs sg in
     let P : List Goal → Type 0 = λ ks. IsSortedState th (state (H ++ x ∷ []) (gs ++ ks)) in
-    subst P (sym (d ∙ ap (derivatives_on th) e))
-    (sorted_append th H (x ∷ []) sh (sorted_more th x [] w (sorted_none th)),
-      sorted_append th gs (derivatives_on th x) (sorted_rest th x gs sg) (derivatives_sorted th ok x w))
+    subst P (sym (d ∙ ap (derivatives_on th) e)) (
+      sorted_append th H (x ∷ []) sh (sorted_more th x [] w (sorted_none th)),
+      sorted_append th gs (derivatives_on th x) (sorted_rest th x gs sg) (derivatives_sorted th ok x w),
+    )

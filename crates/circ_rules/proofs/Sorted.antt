@@ -5,17 +5,15 @@ use Rattle.std.proofs.Common.{sym, ◌∙◌, subst, arith, inl, inr}
 use Rattle.std.proofs.lemmas.Bool.{eqb-true}
 use Rattle.std.proofs.lemmas.List.Elements.{Contains-append_cases}
 use Rattle.circ_term.specs.Tree.{sort_of}
-use Rattle.circ_theory.specs.Signature.{Signature, IsSubstitution}
+use Rattle.circ_theory.specs.Signature.{Signature}
 use Rattle.circ_theory.specs.Theory.{Theory, Derivative}
 use Rattle.circ_theory.specs.WellFormed.{IsWellFormed}
-use Rattle.circ_theory.specs.Experiment.{plug}
 use Rattle.circ_theory.specs.declared.parts.Goal.{Goal}
 use Rattle.circ_theory.proofs.Weakening.{first_or_rest, in_rest}
 use Rattle.circ_theory.proofs.Casing.{contains_first}
-use Rattle.circ_theory.proofs.Behaviour.{plug_substitution}
-use Rattle.circ_theory.proofs.Instances.{instance_well_sorted, sort_of-instance_by}
+use Rattle.circ_theory.proofs.Derived.{derived_by, numbered_from_substitution}
 use Rattle.circ_replay.specs.Goals.{IsWellSortedGoal, AreSortedGoals}
-use Rattle.circ_theory.specs.Fresh.{numbered_from, derivatives_of}
+use Rattle.circ_theory.specs.Fresh.{numbered_from}
 use Rattle.circ_rules.specs.Rules.{fresh_in, derived_goal, derivatives_on}
 
 pub sorted_none : (th : Theory) → AreSortedGoals th []
@@ -47,18 +45,9 @@ pub derived_sorted : (th : Theory) → IsWellFormed th → (d : Derivative) → 
     → IsWellSortedGoal th g → IsWellSortedGoal th (derived_goal d g k)
 derived_sorted th ok d l g k e w =
     let sig : Signature = th.signature in
-    let body = (ok.derivatives d l).body in
-    let p : IsSubstitution sig (numbered_from k) = λ n s h. (refl, h) in
-    let x = plug_substitution sig d.hole g.left (numbered_from k) (sym e) w.sorted.left p in
-    let y = plug_substitution sig d.hole g.right (numbered_from k) (w.sorted.same_sort ∙ sym e) w.sorted.right p in
-    record {
-      sorted = record {
-        left = instance_well_sorted sig (plug d.hole g.left (numbered_from k)) d.body x body;
-        right = instance_well_sorted sig (plug d.hole g.right (numbered_from k)) d.body y body;
-        same_sort = sort_of-instance_by sig (plug d.hole g.right (numbered_from k)) d.body y body
-            ∙ sym (sort_of-instance_by sig (plug d.hole g.left (numbered_from k)) d.body x body);
-      };
-    }
+    let x = derived_by sig d g.left (numbered_from k) (ok.derivatives d l) (sym e) w.sorted.left (numbered_from_substitution sig k) in
+    let y = derived_by sig d g.right (numbered_from k) (ok.derivatives d l) (w.sorted.same_sort ∙ sym e) w.sorted.right (numbered_from_substitution sig k) in
+    record { sorted = record { left = x.well_sorted; right = y.well_sorted; same_sort = y.same_sort ∙ sym x.same_sort } }
 
 -- what holds of the goal under each derivative of its sort
 all_derived : (th : Theory) (s : ℕ) (g : Goal) (k : ℕ) (ds : List Derivative)
@@ -71,7 +60,7 @@ all_derived th s g k (d ∷ ds) w = go (d.hole == s) refl (all_derived th s g k 
         → AreSortedGoals th (map (λ d. derived_goal d g k) (filter (λ d. d.hole == s) (d ∷ ds)))
     go true e rest =
         rw e (sorted_more th (derived_goal d g k) (map (λ d. derived_goal d g k) (filter (λ d. d.hole == s) ds))
-            (w d (contains_first d ds) (eqb-true d.hole s e)) rest)
+        (w d (contains_first d ds) (eqb-true d.hole s e)) rest)
     go false e rest = rw e rest
 
 pub derivatives_sorted : (th : Theory) → IsWellFormed th → (g : Goal) → IsWellSortedGoal th g → AreSortedGoals th (derivatives_on th g)

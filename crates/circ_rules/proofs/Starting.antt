@@ -5,8 +5,8 @@ use Rattle.std.specs.Option.{IfSome, option_map}
 use Rattle.std.proofs.Common.{ap, sym, ◌∙◌, subst, arith}
 use Rattle.std.proofs.lemmas.Bool.{eq-eqb, ne_eqb}
 use Rattle.std.proofs.lemmas.Option.{same_Some}
-use Rattle.circ_term.specs.Tree.{Tree, Trees, Var, App, none, more, sort_of, trees_of, list_of, list_of-trees_of, sizes_of, depths_of}
-use Rattle.circ_term.specs.Limits.{Limit, Big, Deep, IsWithinLimits, first_limit}
+use Rattle.circ_term.specs.Tree.{Tree, Trees, Var, App, more, sort_of, trees_of, list_of, list_of-trees_of, sizes_of, depths_of}
+use Rattle.circ_term.specs.Limits.{Limit, IsWithinLimits, first_limit}
 use Rattle.circ_term.proofs.Limits.{first_limit_none}
 use Rattle.circ_theory.specs.Signature.{Signature, Operator, IsSort, IsWellSorted, HaveSorts}
 use Rattle.circ_theory.specs.Theory.{Theory, Derivative}
@@ -26,7 +26,7 @@ use Rattle.circ_rules.specs.Certified.{start_args, start_term, Certified}
 use Rattle.circ_rules.specs.Answers.{Gives}
 use Rattle.circ_rules.specs.Deriving.{IsWithin}
 use Rattle.circ_replay.proofs.Leading.{one_end}
-use Rattle.circ_rules.proofs.Deriving.{if_some_at, some_if_at, past, the_derivative}
+use Rattle.circ_rules.proofs.Deriving.{if_some_at, some_if_at, the_derivative}
 
 -- ---- the arguments
 
@@ -125,7 +125,7 @@ record IsCertified (th : Theory) (G : List Place) (g : Place) (o : Operator) (k 
 -- ---- the start term of a place, whose operator is o, and a derivative
 
 module _ (th : Theory) (g : Place) (o : Operator) (listed : slice_get th.signature.ops g.op ≡ Some o) (n : ℕ)
-  (hole : option_map (λ d. d.hole) (slice_get th.derivatives n) ≡ Some o.result) where
+    (hole : option_map (λ d. d.hole) (slice_get th.derivatives n) ≡ Some o.result) where
   abbrev d : Derivative
   d = (the_derivative (slice_get th.derivatives n) o.result hole).0
 
@@ -137,7 +137,7 @@ module _ (th : Theory) (g : Place) (o : Operator) (listed : slice_get th.signatu
 
   -- it is built from the operator on variables
   module _ (ok : IsWellFormed th) (sorts : List ℕ) (named : Some sorts ≡ option_map parameter_sorts (slice_get th.derivatives n)) (params : List Tree)
-    (made : params ≡ variables_from (length o.args) sorts) (start : Tree) (is_start : start ≡ App g.op o.result (start_args g.arg 1 o.args)) where
+      (made : params ≡ variables_from (length o.args) sorts) (start : Tree) (is_start : start ≡ App g.op o.result (start_args g.arg 1 o.args)) where
     is_derivative : IsDerivative th.signature d
     is_derivative = ok.derivatives d (contains_at th.derivatives n d there)
 
@@ -236,8 +236,7 @@ module _ (th : Theory) (g : Place) (o : Operator) (listed : slice_get th.signatu
           let P : Tree → Type 0 = λ t. Runs (Leads (setting th G [] [])) ls t last in
           let run : Runs (Leads (setting th G [] [])) ls (start_term o g d) last = subst P is_first.same leads in
           let Q : Tree → Type 0 = λ t. Guarded th G t 0 k in
-          if_some_at (λ d. IsTrue b ↔ Certified th G g d ls) (slice_get th.derivatives n) d there
-          (
+          if_some_at (λ d. IsTrue b ↔ Certified th G g d ls) (slice_get th.derivatives n) d there (
             (λ t. from (record { within = is_first.within; last = last; leads = run; guarded = told.0 t })),
             (λ x. let y = to x in told.1 (subst Q (one_end (setting th G [] []) ls (start_term o g d) y.last last y.leads run) y.guarded)),
           )

@@ -4,7 +4,7 @@ use Rattle.std.specs.List.{AllByRecursion}
 use Rattle.std.proofs.Common.{ap, sym, ◌∙◌, subst, append_assoc, append-nil, arith}
 use Rattle.circ_term.specs.Tree.{Tree}
 use Rattle.circ_theory.specs.Signature.{IsWellSorted}
-use Rattle.circ_theory.specs.Theory.{Theory, Pair}
+use Rattle.circ_theory.specs.Theory.{Theory}
 use Rattle.circ_theory.specs.WellFormed.{IsWellFormed}
 use Rattle.circ_theory.specs.declared.parts.Goal.{Goal}
 use Rattle.circ_special.specs.declared.place.Place.{Place}
@@ -46,9 +46,10 @@ step_on_sorted th ok G (Reduce why) a H (g ∷ gs) sh sg b r = subst (IsSortedSt
 step_on_sorted th ok G Derive a H [] sh sg b r = absurd r
 step_on_sorted th ok G Derive a H (g ∷ gs) sh sg b r =
     let w = sorted_first th g gs sg in
-    subst (IsSortedState th) (sym r.2)
-    (sorted_append th H (g ∷ []) sh (sorted_more th g [] w (sorted_none th)),
-      sorted_append th gs (derivatives_on th g) (sorted_rest th g gs sg) (derivatives_sorted th ok g w))
+    subst (IsSortedState th) (sym r.2) (
+      sorted_append th H (g ∷ []) sh (sorted_more th g [] w (sorted_none th)),
+      sorted_append th gs (derivatives_on th g) (sorted_rest th g gs sg) (derivatives_sorted th ok g w),
+    )
 step_on_sorted th ok G Done a H [] sh sg b r = subst (IsSortedState th) (sym r) (sh, sorted_none th)
 step_on_sorted th ok G Done a H (g ∷ gs) sh sg b r = absurd r
 

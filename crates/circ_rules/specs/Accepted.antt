@@ -4,7 +4,6 @@ use Rattle.circ_term.specs.Tree.{Tree}
 use Rattle.circ_theory.specs.Theory.{Theory}
 use Rattle.circ_theory.specs.Link.{named}
 use Rattle.circ_theory.specs.declared.parts.Goal.{Goal}
-use Rattle.circ_special.specs.declared.place.Place.{Place}
 use Rattle.circ_replay.specs.Plain.{LinkOf, map_link}
 use Rattle.circ_replay.specs.Runs.{FailsFirst}
 use Rattle.circ_rules.specs.Rules.{State, state, ProofStep, map_step, StepOf, StepsOf}
@@ -45,7 +44,7 @@ BlockFails th p H [] n = ⊥
 BlockFails th p H (b ∷ bs) n =
     FailsFirst (StepOf th p.places) (steps_of p.table b) (state H b.goals) n
     ⊎ ((e : State) × StepsOf th p.places (steps_of p.table b) (state H b.goals) e
-        × (m : ℕ) × (n ≡ length b.steps + m) × BlockFails th p (H ++ b.goals) bs m)
+    × (m : ℕ) × (n ≡ length b.steps + m) × BlockFails th p (H ++ b.goals) bs m)
 
 -- The first certificate or step that fails; certificates are counted before steps.
 abbrev pub FirstFail : Theory → Proof → ℕ → Type 0

@@ -80,11 +80,7 @@ impl<'a> Basis<'a> {
 
     // The derivative of this number on the operator, with the next variables for its parameters.
     // None where that passes a limit.
-    fn start_term(
-        &self,
-        start: &Start<'_>,
-        derivative: u32,
-    ) -> Result<Option<Term>, AllocError>
+    fn start_term(&self, start: &Start<'_>, derivative: u32) -> Result<Option<Term>, AllocError>
         requires start { IsStart self.now.theory.now start.now }
         requires hole { option_map (λ d. d.hole)
             (slice_get self.now.theory.now.derivatives derivative) ≡ Some start.now.decl.now.result }

@@ -8,13 +8,9 @@ use circ_theory::Goal;
 #[derive(Drop)]
 pub enum Step {
     /// The goal is rewritten, and stays first.
-    Simplify {
-        chain: Chain,
-    },
+    Simplify { chain: Chain },
     /// The goal holds, and is dropped (rule Reduce).
-    Reduce {
-        why: Why,
-    },
+    Reduce { why: Why },
     /// The goal becomes a hypothesis, and its derivatives become goals (rule Derive).
     Derive,
     /// No goal is left (rule Done).

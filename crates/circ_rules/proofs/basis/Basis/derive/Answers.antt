@@ -9,4 +9,4 @@ returns-in_ok-move_first-in-Some-2-clause-state_sorted c =
     let derived = rw c.in-Some-2.is at c.in_ok-derived.ensures in
     subst (IsSortedState th) (sym c.in_ok-move_first-in-Some-2.ensures.moved)
     (moved_sorted th c.known.ensures c.args.state.now.hyps.items c.args.state.now.goals.items c.in-Some.goal.now c.in-Some-2.derived.items
-        c.requires.state_sorted.0 c.requires.state_sorted.1 c.in-Some.ensures.lookup c.in-Some.ensures.item.3.0 derived.same)
+    c.requires.state_sorted.0 c.requires.state_sorted.1 c.in-Some.ensures.lookup c.in-Some.ensures.item.3.0 derived.same)

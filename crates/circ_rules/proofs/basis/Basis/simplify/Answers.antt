@@ -19,16 +19,18 @@ returns-in-Some-2-clause-exact c =
     c.in-Some.ensures.item.3.0 c.in-Some.ensures.value leads
 
 pub returns-in-Some-2-clause-state_sorted : goal.returns-in-Some-2-clause-state_sorted
-returns-in-Some-2-clause-state_sorted c =
-    (c.requires.state_sorted.0,
-      set_sorted c.args.self.now.theory.now c.args.state.now.goals.items c.in-Some-2.goal c.in-Some.ensures.item.3.0
-          (rw c.in-Some-2.is at c.in_ok-goal.ensures.well_sorted) c.requires.state_sorted.1)
+returns-in-Some-2-clause-state_sorted c = (
+  c.requires.state_sorted.0,
+  set_sorted c.args.self.now.theory.now c.args.state.now.goals.items c.in-Some-2.goal c.in-Some.ensures.item.3.0
+      (rw c.in-Some-2.is at c.in_ok-goal.ensures.well_sorted) c.requires.state_sorted.1,
+)
 
 pub returns-in-None-clause-exact : goal.returns-in-None-clause-exact
 returns-in-None-clause-exact c =
     let chain = resolved_chain c.args.self.now.table.now (plain_chain c.args.chain.now) in
     let H = c.args.state.now.hyps.items in
     let none : FollowsChain (setting_of c.args.self.now H) chain (sides c.in-Some.first.now) None
-    = rw (c.in-None.is, c.as_slice.ensures.value) at c.in_ok-goal.ensures.exact in
-    (none_simplifies c.args.self.now.theory.now c.args.self.now.gamma.now chain H c.args.state.now.goals.items c.in-Some.first.now c.in-Some.ensures.value none,
-      ap (state H) (set_same c.args.state.now.goals.items c.in-Some.first.now c.in-Some.ensures.value))
+    = rw (c.in-None.is, c.as_slice.ensures.value) at c.in_ok-goal.ensures.exact in (
+      none_simplifies c.args.self.now.theory.now c.args.self.now.gamma.now chain H c.args.state.now.goals.items c.in-Some.first.now c.in-Some.ensures.value none,
+      ap (state H) (set_same c.args.state.now.goals.items c.in-Some.first.now c.in-Some.ensures.value),
+    )

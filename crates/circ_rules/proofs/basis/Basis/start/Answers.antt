@@ -1,6 +1,5 @@
 use Rattle.std.proofs.Common.{length, refl, ap, sym, ◌∙◌}
 use Rattle.std.proofs.lemmas.Option.{slice_get_read}
-use Rattle.circ_term.specs.Limits.{Big, Deep}
 use Rattle.circ_term.specs.Tree.{App}
 use Rattle.circ_theory.specs.Operators.{operator_of}
 use Rattle.circ_rules.specs.Certified.{start_args}
