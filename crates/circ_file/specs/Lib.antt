@@ -1,7 +1,7 @@
-pub mod Splits
-pub mod View
-pub mod Adding
-pub mod Counting
+pub mod Proof
+pub mod ProofText
+pub mod Front
 pub mod Lines
-pub mod Feeding
-pub mod Decoding
+pub mod Body
+pub mod Plain
+pub mod Table

@@ -1,9 +1,11 @@
 pub mod Rules
-pub mod Reporting
+pub mod Lists
+pub mod Following
+pub mod Sound
 pub mod Printing
 pub mod FileFaults
 pub mod Requests
-pub mod Proofs
+pub mod Verdicts
 pub mod Agreeing
 pub mod CheckOutcomes
 pub mod ShowOutcomes

@@ -1,3 +1,5 @@
+pub mod Steps
+pub mod Following
 pub mod Status
 pub mod Files
 pub mod Quiet
