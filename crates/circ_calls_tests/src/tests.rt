@@ -8,10 +8,11 @@ use circ_match::{match_pair, match_term};
 use circ_mixfix::{ParseFault, Reading, parse_one, parse_pair, print};
 use circ_outer::{SureShelf, SureSink};
 use circ_read::read_theory;
-use circ_replay::TableBuilder;
+use circ_replay::{Chain, Link, TableBuilder, Why, follow, follow_all, follow_why};
 use circ_show::unobserved;
-use circ_term::{Subst, Term, TermFault};
-use circ_theory::{Form, FormFault, Text, Theory, in_order, parameters_in_order};
+use circ_special::Gamma;
+use circ_term::{Path, Subst, Term, TermFault};
+use circ_theory::{Form, FormFault, Goal, Text, Theory, in_order, parameters_in_order};
 use circ_top::sure::circ_in_memory;
 use std::alloc::{AllocError, Global};
 
@@ -243,6 +244,52 @@ fn sums_hold_two(alloc: Global, theory: &Theory) -> Result<bool, TermFault> {
 fn contents(rt: HostRuntime) {
     let theory = read_theory(rt.alloc(), SETS);
     assert!(rt; theory.is_ok_and(|theory| sums_hold_two(rt.alloc(), &theory).is_ok_and(|two| two)));
+}
+
+// Whether a link from a variable to itself, by its content, is followed alone and in a list.
+fn is_followed(alloc: Global, theory: &Theory, gamma: &Gamma) -> bool {
+    if theory.sort_count() == 0 {
+        return false;
+    }
+    let table = [Term::var(0, 0)];
+    let links = [Link::Content {
+        op: 0,
+        path: Path::new(alloc),
+        term: 0,
+    }];
+    let one = follow(alloc, theory, &table, gamma, &[], &[], &links[0], &table[0]);
+    let all = follow_all(alloc, theory, &table, gamma, &[], &[], &links, &table[0]);
+    matches!(one, Ok(Some(_))) && matches!(all, Ok(Some(_)))
+}
+
+// Whether a variable is the same as itself, by no link.
+fn is_justified(alloc: Global, theory: &Theory, gamma: &Gamma) -> bool {
+    if theory.sort_count() == 0 {
+        return false;
+    }
+    let goal = Goal {
+        left: Term::var(0, 0),
+        right: Term::var(0, 0),
+    };
+    let chain = Chain {
+        left: Vec::new(alloc),
+        right: Vec::new(alloc),
+    };
+    let why = Why::Same { chain };
+    follow_why(alloc, theory, &[], gamma, &[], &goal, &why) == Ok(true)
+}
+
+fn are_replayed(alloc: Global, theory: &Theory) -> bool {
+    match Gamma::of(theory, Vec::new(alloc)) {
+        Some(gamma) => { is_followed(alloc, theory, &gamma) && is_justified(alloc, theory, &gamma) }
+        None => false,
+    }
+}
+
+#[test]
+fn replays(rt: HostRuntime) {
+    let theory = read_theory(rt.alloc(), SETS);
+    assert!(rt; theory.is_ok_and(|theory| are_replayed(rt.alloc(), &theory)));
 }
 
 const FILE: &[u8] = b"theory NOT is sort Bit . ops 0 1 : -> Bit . endtheory";

@@ -1,7 +1,7 @@
-pub mod Proof
-pub mod ProofText
-pub mod Front
+pub mod Splits
+pub mod View
+pub mod Adding
+pub mod Counting
 pub mod Lines
-pub mod Body
-pub mod Plain
-pub mod Table
+pub mod Feeding
+pub mod Decoding

@@ -1,88 +1,61 @@
--- The lines of a proof, read from the front of bytes.
-use Rattle.std.specs.Prelude.{ℕ, ◌^◌, ◌==◌, nat_lt, List, [], ◌∷◌, length, Option, Some, None, if◌then◌else◌, codes}
-use Rattle.std.specs.Option.{option_map}
-use Rattle.circ_theory.specs.Link.{PlainLink, Equation_link}
-use Rattle.circ_theory.specs.declared.replay.Way.{Way}
-use Rattle.circ_theory.specs.declared.replay.Way.TheVariants.{Forth, Back}
-use Rattle.circ_file.specs.Proof.{Chain, GoalNames}
-use Rattle.circ_file.specs.ProofText.{TableLine, v, a}
-use Rattle.circ_file.specs.Front.{rest_after, number_at, marked, items_at, list_at, past, ended, seq, mapped}
+-- What contracts see of a reader of whole lines, and what it does with the next one.
+use Rattle.std.specs.Prelude.{◌≡◌, ◌⊎◌, ◌≤◌, ℕ, true, false, List, ◌++◌, length, None, Some}
+use Rattle.circ_special.specs.Special.{IsSet}
+use Rattle.circ_line.specs.Line.{Line, table_line}
+use Rattle.circ_line.specs.Text.{line_text, IsInRange}
+use Rattle.circ_grammar.specs.Now.{Now, next_now}
+use Rattle.circ_rules.specs.Certified.{due}
+use Rattle.circ_rules.specs.Proof.{step_limit}
+use Rattle.circ_proof_text.specs.Checks.{Seen, after, passes_at, limit_at}
+use Rattle.circ_file.specs.View.{now_of, queue_of, parts_at, IsKept}
+use Rattle.circ_file.specs.Adding.{IsReadBy}
+use Rattle.circ_file.specs.declared.taken.Taken.{Taken}
+use Rattle.circ_file.specs.declared.taken.Taken.TheVariants as taken
+use Rattle.circ_file.specs.declared.lines.LineReader.{LineReader}
 
--- two numbers below the limit, up to the end of a line
-abbrev pub pair_at : (limit : ℕ) → List ℕ → Option ((ℕ × ℕ) × List ℕ)
-pair_at limit bs = ended (seq (marked 32 limit) (marked 32 limit)) (codes "\n") bs
+-- What the lines so far have given, where the open splits want these numbers of whys.
+abbrev pub seen_of : (wanted : List ℕ) → LineReader → Seen
+seen_of wanted r = record {
+  terms = r.table.terms.items;
+  places = r.machine.places.items;
+  certificates = r.counts.certificates;
+  steps = r.counts.steps;
+  wanted = wanted;
+}
 
--- numbers below the limit, up to the end of a line
-abbrev pub row_at : (limit : ℕ) → List ℕ → Option (List ℕ × List ℕ)
-row_at limit bs = ended (list_at (marked 32 limit)) (codes "\n") bs
+-- what a reader keeps true
+pub record IsReader (r : LineReader) : Type 0 where
+  pub kept : IsKept r.table.terms.items r.machine
+  pub set : IsSet r.theory.now r.machine.places.items
+  pub read : IsReadBy r.theory.now.signature r.table
+  pub due : r.counts.due ≡ length (due r.theory.now r.machine.places.items)
+  pub certificates : r.counts.certificates ≤ r.counts.due
+  pub steps : r.counts.steps ≤ step_limit
 
--- a number, and numbers below the limit, up to the end of a line
-abbrev pub application_at : List ℕ → Option ((ℕ × List ℕ) × List ℕ)
-application_at bs = seq (marked 32 (2 ^ 32)) (row_at (2 ^ 32)) bs
+-- a line that is not of the table
+abbrev pub IsOther : Line → Type 0
+IsOther (table_line l) = ⊥
+IsOther _ = Unit {0}
 
-abbrev pub to_variable : ℕ × ℕ → TableLine
-to_variable p = v p.0 p.1
+-- The line is the next one, passes the checks and no limit, and what it gives is kept.
+pub record Takes (wanted : List ℕ) (r : LineReader) (l : Line) (s : LineReader) : Type 0 where
+  pub next : next_now (now_of r.machine) l ≡ Some (now_of s.machine)
+  pub passes : passes_at r.theory.now (seen_of wanted r) l ≡ true
+  pub within : limit_at r.theory.now (seen_of wanted r) l ≡ false
+  pub seen : seen_of (after r.theory.now (seen_of wanted r) l).wanted s ≡ after r.theory.now (seen_of wanted r) l
+  pub queue : queue_of s.machine ≡ queue_of r.machine ++ parts_at r.table.terms.items (now_of r.machine) l
+  pub reader : IsReader s
 
-abbrev pub to_application : ℕ × List ℕ → TableLine
-to_application p = a p.0 p.1
+-- The line is taken; or it cannot come next, or fails a check; or it could be taken, and passes a limit.
+abbrev pub Handles : Taken → (wanted : List ℕ) → LineReader → Line → LineReader → Type 0
+Handles taken.Yes wanted r l s = Takes wanted r l s
+Handles taken.Line wanted r l s = (next_now (now_of r.machine) l ≡ None) ⊎ (passes_at r.theory.now (seen_of wanted r) l ≡ false)
+Handles taken.Limit wanted r l s = (n : Now) × (next_now (now_of r.machine) l ≡ Some n) × (passes_at r.theory.now (seen_of wanted r) l ≡ true)
+    × (limit_at r.theory.now (seen_of wanted r) l ≡ true)
 
--- a line of the table
-abbrev pub table_line_at : List ℕ → Option (TableLine × List ℕ)
-table_line_at [] = None
-table_line_at (b ∷ bs) =
-    if b == 118 then mapped to_variable (pair_at (2 ^ 32)) bs else if b == 97 then mapped to_application application_at bs else None
-
-abbrev pub to_name : ℕ × ℕ → GoalNames
-to_name p = record { left = p.0; right = p.1 }
-
--- a goal's line
-abbrev pub goal_at : (count : ℕ) → List ℕ → Option (GoalNames × List ℕ)
-goal_at count bs = mapped to_name (past (codes "goal") (pair_at count)) bs
-
-abbrev pub way_at : List ℕ → Option (Way × List ℕ)
-way_at [] = None
-way_at (b ∷ bs) = if b == 62 then Some (Forth, bs) else if b == 60 then Some (Back, bs) else None
-
-abbrev pub short : List ℕ × List ℕ → Option (List ℕ × List ℕ)
-short p = if nat_lt 1000 (length p.0) then None else Some p
-
--- the entries of a path after the first, with it
-abbrev pub entries_at : ℕ → List ℕ → List ℕ × List ℕ
-entries_at first bs = let s = items_at (marked 46 (2 ^ 16)) bs in (first ∷ s.0, s.1)
-
-abbrev pub path_from : List ℕ → Option (ℕ × List ℕ) → Option (List ℕ × List ℕ)
-path_from bs None = option_map (λ r. ([], r)) (rest_after (codes "-") bs)
-path_from bs (Some r) = short (entries_at r.0 r.1)
-
--- a path of at most 1,000 entries
-abbrev pub path_at : List ℕ → Option (List ℕ × List ℕ)
-path_at bs = path_from bs (number_at (2 ^ 16) bs)
-
--- which way, and the equation's number
-abbrev pub rule_at : List ℕ → Option ((Way × ℕ) × List ℕ)
-rule_at bs = seq way_at (marked 32 (2 ^ 32)) bs
-
--- where, and the terms' numbers
-abbrev pub place_at : (count : ℕ) → List ℕ → Option ((List ℕ × List ℕ) × List ℕ)
-place_at count bs = past (codes " ") (seq path_at (row_at count)) bs
-
-abbrev pub to_link : (Way × ℕ) × (List ℕ × List ℕ) → PlainLink
-to_link p = Equation_link p.0.1 p.0.0 p.1.0 p.1.1
-
--- a link's line, which begins with this text
-abbrev pub link_at : (start : List ℕ) (count : ℕ) → List ℕ → Option (PlainLink × List ℕ)
-link_at start count bs = mapped to_link (past start (seq rule_at (place_at count))) bs
-
-abbrev pub left_start : List ℕ
-left_start = codes "left equation "
-
-abbrev pub right_start : List ℕ
-right_start = codes "right equation "
-
-abbrev pub to_chain : List PlainLink × List PlainLink → Chain
-to_chain p = record { left = p.0; right = p.1 }
-
--- the lines of a `reduce` step
-abbrev pub chain_at : (count : ℕ) → List ℕ → Option (Chain × List ℕ)
-chain_at count bs =
-    mapped to_chain (past (codes "reduce\n") (seq (list_at (link_at left_start count)) (ended (list_at (link_at right_start count)) (codes "same\n")))) bs
+-- The same of the line that the bytes are the text of; or they are the text of none.
+abbrev pub ReadsNext : Taken → (wanted : List ℕ) → LineReader → List ℕ → LineReader → Type 0
+ReadsNext taken.Line wanted r bytes s =
+    ((l : Line) → IsInRange l → bytes ≡ line_text l → ⊥)
+    ⊎ ((l : Line) × (bytes ≡ line_text l) × IsInRange l × Handles taken.Line wanted r l s)
+ReadsNext t wanted r bytes s = (l : Line) × (bytes ≡ line_text l) × IsInRange l × Handles t wanted r l s

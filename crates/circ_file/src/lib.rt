@@ -1,24 +1,28 @@
-//! The reader of proof files: [`read_proof`] gives the one proof that the bytes are the text of.
+//! Proof files: [`decode`] gives the one proof that bytes are the text of, or their first fault.
 #![tactic(auto)]
 
+mod checks;
+mod counts;
+mod decoding;
+mod fault;
 mod lines;
-mod numbers;
-mod proof;
-mod proof_text;
+mod machine;
+mod moving;
+mod part;
+mod reader;
+mod splits;
+mod steps;
 mod table;
-mod table_line;
+mod taken;
 
-pub use proof::{Chain, GoalNames, Proof};
-pub use proof_text::read_proof;
-
-/// The greatest number of a proof file.
-const MOST_NUMBER: u64 = 4_294_967_295;
-
-/// The most entries of a path.
-const MOST_PATH: usize = 1_000;
-
-/// The most terms of a table.
-const MOST_TABLE: usize = 16_777_216;
+pub use decoding::decode;
+pub use fault::FileFault;
 
 /// The most steps of a proof.
-const MOST_STEPS: usize = 100_000;
+const MOST_STEPS: u64 = 100_000;
+
+/// The most splits inside one another.
+const MOST_SPLITS: usize = 8;
+
+/// The most entries of a path.
+const MOST_ENTRIES: usize = 1_000;

@@ -15,7 +15,7 @@ use std::alloc::{AllocError, Global};
 use std::{fs, io};
 
 /// The tables, in the order in which they are run.
-const TABLES: [&str; 10] = [
+const TABLES: [&str; 16] = [
     "rows-words",
     "rows-faults",
     "rows-causes",
@@ -26,6 +26,12 @@ const TABLES: [&str; 10] = [
     "rows-check",
     "rows-chains",
     "rows-proofs",
+    "rows-lines",
+    "rows-bytes",
+    "rows-circular",
+    "rows-content",
+    "rows-changed-contexts",
+    "rows-changed-proofs",
 ];
 
 /// What ends a row and begins the next.

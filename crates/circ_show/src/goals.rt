@@ -1,7 +1,7 @@
 //! Goals as text.
 ghost use Rattle.std.specs.Prelude.{◌≡◌, ◌++◌, map, OnOk, OnErr};
 ghost use Rattle.circ_mixfix.specs.Printing.{Keeps};
-ghost use Rattle.circ_show.specs.GoalsText.{goal_line, goal_lines, plain_goal};
+ghost use Rattle.circ_show.specs.GoalsText.{plain_goal, pair_line, pair_lines, goal_lines};
 
 use circ_mixfix::print_pair;
 use circ_theory::{Goal, Theory};
@@ -20,7 +20,7 @@ pub fn goals_text(
     ensures err { OnErr result (out.new.items ≡ out.old.items) }
 {
     let before = out.len();
-    match put_goals(alloc, out, theory, goals) {
+    match put_pairs(alloc, out, theory, b"goal: ", goals) {
         Ok(()) => Ok(()),
         Err(fault) => {
             out.truncate(before);
@@ -29,33 +29,36 @@ pub fn goals_text(
     }
 }
 
-fn put_goals(
+/// Appends a line with this label for each goal, in order.
+pub(crate) fn put_pairs(
     alloc: Global,
     out: &mut Vec<u8>,
     theory: &Theory,
+    label: &[u8],
     goals: &[Goal],
 ) -> Result<(), AllocError>
     ensures text { OnOk result (out.new.items ≡
-        out.old.items ++ goal_lines theory.now.signature (map plain_goal goals.now)) }
+        out.old.items ++ pair_lines label.now theory.now.signature (map plain_goal goals.now)) }
     ensures keeps { Keeps out.old.items out.new.items }
 {
     for goal in goals {
-        put_goal(alloc, out, theory, goal)?;
+        put_pair(alloc, out, theory, label, goal)?;
     }
     Ok(())
 }
 
-fn put_goal(
+fn put_pair(
     alloc: Global,
     out: &mut Vec<u8>,
     theory: &Theory,
+    label: &[u8],
     goal: &Goal,
 ) -> Result<(), AllocError>
     ensures text { OnOk result (out.new.items ≡
-        out.old.items ++ goal_line theory.now.signature (plain_goal goal.now)) }
+        out.old.items ++ pair_line label.now theory.now.signature (plain_goal goal.now)) }
     ensures keeps { Keeps out.old.items out.new.items }
 {
-    out.extend_from_slice(b"goal: ")?;
+    out.extend_from_slice(label)?;
     print_pair(alloc, theory, &goal.left, &goal.right, out)?;
     out.extend_from_slice(b"\n")
 }

@@ -10,8 +10,10 @@ mod goals;
 pub mod laws;
 mod lines;
 mod observed;
+mod relation;
 mod theories;
 
 pub use goals::goals_text;
 pub use observed::unobserved;
+pub use relation::relation_text;
 pub use theories::theory_text;

@@ -7,10 +7,11 @@ use Rattle.circ_theory.specs.Link.{named}
 use Rattle.circ_theory.specs.declared.parts.Goal.{Goal}
 use Rattle.circ_replay.specs.Plain.{map_link}
 use Rattle.circ_replay.specs.Runs.{Runs, FailsFirst}
+use Rattle.circ_replay.proofs.Leading.{one_run}
 use Rattle.circ_rules.specs.Rules.{State, state, StepOf, StepsOf}
 use Rattle.circ_rules.specs.Certified.{due}
 use Rattle.circ_rules.specs.Proof.{Block, Proof, IsBlockFor, ProofFor}
-use Rattle.circ_rules.specs.Accepted.{certificates_of, steps_of, BlocksDerive, Accepted, BlockFails, FirstFail}
+use Rattle.circ_rules.specs.Accepted.{certificates_of, steps_of, BlocksDerive, Derives, Accepted, BlockFails, FirstFail}
 use Rattle.circ_rules.proofs.Running.{LeadsToOne, runs_or_fails}
 use Rattle.circ_rules.proofs.Certifying.{certified_or_fails, certificate_fails_once, certified_unless_fails}
 use Rattle.circ_rules.proofs.Stepping.{step_one}
@@ -68,7 +69,27 @@ derived_unless_fails th p H (b ∷ bs) a f r =
     derived_unless_fails th p (H ++ b.goals) bs a.1 (λ n g. f (length b.steps + n) (inr (e, run, n, refl, g)))
     (λ dss d. r (end.0 ∷ dss) (subst P end.1 run, d)))
 
+front_off : (H ds es : List Goal) → H ++ ds ≡ H ++ es → ds ≡ es
+front_off [] ds es e = e
+front_off (h ∷ H) ds es e = front_off H ds es (cc)
+
+-- the blocks derive one list each
+derived_once : (th : Theory) (p : Proof) (H : List Goal) (bs : List Block) (dss ess : List (List Goal)) → BlocksDerive th p H bs dss
+    → BlocksDerive th p H bs ess → dss ≡ ess
+derived_once th p H [] [] [] r s = refl
+derived_once th p H [] [] (es ∷ ess) r s = absurd s
+derived_once th p H [] (ds ∷ dss) ess r s = absurd r
+derived_once th p H (b ∷ bs) [] ess r s = absurd r
+derived_once th p H (b ∷ bs) (ds ∷ dss) [] r s = absurd s
+derived_once th p H (b ∷ bs) (ds ∷ dss) (es ∷ ess) r s =
+    let end = one_run (StepOf th p.places) (step_one th p.places) (steps_of p.table b) (state H b.goals) (state (H ++ ds) []) (state (H ++ es) []) r.0 s.0 in
+    let first : ds ≡ es = front_off H ds es (ap (λ x. x.hypotheses) end) in
+    ap (λ x. x ∷ dss) first ∙ ap (λ xs. es ∷ xs) (derived_once th p (H ++ b.goals) bs dss ess r.1 s.1)
+
 -- ---- the whole proof
+
+pub one_relation : (th : Theory) (p : Proof) (dss ess : List (List Goal)) → Derives th p dss → Derives th p ess → dss ≡ ess
+one_relation th p dss ess d e = derived_once th p [] p.blocks dss ess d.blocks e.blocks
 
 pub not_both : (th : Theory) (p : Proof) (n : ℕ) → Accepted th p → FirstFail th p n → ⊥
 not_both th p n a (inl f) = certified_or_fails th p.places (due th p.places) (certificates_of p) n a.1.admissible f

@@ -24,11 +24,14 @@ pub fn derived_behave()
         Behaves th g.left g.right }
 {}
 
-/// No proof is both accepted and refused, and a refused one is refused at one number.
+/// No proof is both accepted and refused, a refused one is refused at one number, and an accepted
+/// one derives one relation.
 pub fn one_verdict()
     ensures not_both { (th : Theory) (p : Proof) (n : ℕ) → Accepted th p → FirstFail th p n → ⊥ }
     ensures one_failure { (th : Theory) (p : Proof) (n m : ℕ) →
         FirstFail th p n → FirstFail th p m → n ≡ m }
+    ensures one_relation { (th : Theory) (p : Proof) (dss ess : List (List Goal)) →
+        Derives th p dss → Derives th p ess → dss ≡ ess }
 {}
 
 /// A proof that fails nowhere is accepted.

@@ -16,7 +16,6 @@ use Rattle.circ_top.specs.Delivery.{Prints, PrintsPart, PrintsFront, Delivers, w
 use Rattle.circ_top.specs.Files.{Refusal, RefusesFile, IsFileFault}
 use Rattle.circ_top.specs.Like.{IsLikeCause, same_cause, other_readings, IsLike, itself}
 use Rattle.circ_top.specs.Outcome.{Stored, OutcomeOf, Outcome, command, HoldsAfter}
-use Rattle.circ_top.specs.ProofFile.{ProofRefusal}
 use Rattle.circ_top.specs.Texts.{refusal_text}
 use Rattle.circ_top.specs.TheoryFile.{TheoryRefusal}
 use Rattle.circ_top.specs.declared.status.Status.{Status}
@@ -55,12 +54,6 @@ pub record ReadsOnce : Type 0 where
 -- theories are printed in one way
 abbrev pub PrintsOnce : Type 0
 PrintsOnce = (th : Theory) (text other : List ℕ) → IsTheoryText th text → IsTheoryText th other → text ≡ other
-
-pub proofs_once : (th : Theory) → IsOneWay (ProofRefusal th)
-proofs_once th p q c d bytes a b =
-    let P : Cause → Type 0 = λ x. IsLikeCause x d in
-    let Q : Cause → Type 0 = λ x. IsLikeCause cause.Line x in
-    (a.0 ∙ sym b.0, subst P (sym a.1) (subst Q (sym b.1) (same_cause cause.Line)))
 
 -- the causes of bytes that are no theory, as the reader's law has them
 like_causes : {A : Type 0} (c d : Cause) (x y : Result A Cause) → AreAlike x y → x ≡ Err c → y ≡ Err d → IsLikeCause c d

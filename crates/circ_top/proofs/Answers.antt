@@ -3,18 +3,20 @@ use Rattle.std.proofs.Common.{◌≡◌, ◌≢◌, ℕ, List, [], refl, sym, �
 use Rattle.circ_outer.specs.Shelf.{ShelfState, IsQuiet}
 use Rattle.circ_outer.specs.Sink.{SinkState}
 use Rattle.circ_theory.specs.Theory.{Theory}
-use Rattle.circ_file.specs.Proof.{Proof, goals_of}
+use Rattle.circ_theory.specs.declared.parts.Goal.{Goal}
+use Rattle.circ_rules.specs.Proof.{Proof}
+use Rattle.circ_rules.specs.Accepted.{Derives, FirstFail}
 use Rattle.circ_top.specs.Answer.{Succeeds, RefusesCommand, DueAnswer, no_command, success, refusal, AnswersDue, Succeeded}
 use Rattle.circ_top.specs.Causes.{AtFile, IsPastLimit, IsReadFault, IsWriteFault}
-use Rattle.circ_top.specs.Check.{accepted_text, refused, accepted, Accepts, Rejects, FilesRead}
+use Rattle.circ_top.specs.Check.{report_text, refused, accepted, Accepts, Rejects, FilesRead}
 use Rattle.circ_top.specs.Command.{Command, Check, Show, Library, Asks}
 use Rattle.circ_top.specs.Delivery.{Prints, Delivers, whole, write_failed, memory_wanted, text_wanted}
 use Rattle.circ_top.specs.Files.{Held, IsUnread, IsTooLong, IsFileFault}
 use Rattle.circ_top.specs.Outcome.{Stored, Outcome, command, HoldsAfter}
 use Rattle.circ_top.specs.Quiet.{IsQuietBut}
-use Rattle.circ_top.specs.Steps.{Accepted, FirstFail}
 use Rattle.circ_top.specs.Texts.{refused_text, refusal_text}
 use Rattle.circ_top.specs.TheoryFile.{TheoryRefusal}
+use Rattle.circ_top.specs.declared.request.Report.{Report}
 use Rattle.circ_top.specs.declared.status.Status.{Status}
 use Rattle.circ_top.specs.declared.status.Status.TheVariants as status
 use Rattle.circ_top.proofs.CheckOutcomes.{check_not_ok, check_refused, unread_check, past_check, unwritten_check}
@@ -25,7 +27,7 @@ use Rattle.circ_top.proofs.Requests.{same_command}
 
 module _ (before after : ShelfState) where
   command_not_ok : (c : Command) (s : Status) → RefusesCommand c before after s → s ≡ status.Ok → ⊥
-  command_not_ok (Check theory proof) s r e = check_not_ok theory proof before after s r e
+  command_not_ok (Check report theory proof) s r e = check_not_ok theory proof before after s r e
   command_not_ok (Show theory) s r e = file_fault_not_ok 1 theory TheoryRefusal before after s e r
   command_not_ok (Library text) s r e = let never : status.Memory ≡ status.Ok = sym r ∙ e in cc
 
@@ -34,18 +36,18 @@ module _ (before after : ShelfState) where
 
   unread_command : (c : Command) (s : Status) (n : ℕ) → RefusesCommand c before after s → s ≡ status.ReadFault n
       → (n ≡ after.count) × AtFile before c (λ f name. IsUnread name before after)
-  unread_command (Check theory proof) s n r e = unread_check theory proof before after s n r e
+  unread_command (Check report theory proof) s n r e = unread_check theory proof before after s n r e
   unread_command (Show theory) s n r e = let P : Status → Type 0 = IsFileFault 1 theory TheoryRefusal before after in subst P e r
   unread_command (Library text) s n r e = absurd (let never : status.Memory ≡ status.ReadFault n = sym r ∙ e in cc)
 
   past_command : (c : Command) (s : Status) (file n : ℕ) → RefusesCommand c before after s → s ≡ status.TooLong file n
       → AtFile before c (λ f name. (f ≡ file) × IsTooLong name n before)
-  past_command (Check theory proof) s file n r e = past_check theory proof before after s file n r e
+  past_command (Check report theory proof) s file n r e = past_check theory proof before after s file n r e
   past_command (Show theory) s file n r e = let P : Status → Type 0 = IsFileFault 1 theory TheoryRefusal before after in let x = subst P e r in (sym x.0, x.1)
   past_command (Library text) s file n r e = absurd (let never : status.Memory ≡ status.TooLong file n = sym r ∙ e in cc)
 
   unwritten_command : (c : Command) (s : Status) (n : ℕ) → RefusesCommand c before after s → s ≡ status.WriteFault n → ⊥
-  unwritten_command (Check theory proof) s n r e = unwritten_check theory proof before after s n r e
+  unwritten_command (Check report theory proof) s n r e = unwritten_check theory proof before after s n r e
   unwritten_command (Show theory) s n r e = let P : Status → Type 0 = IsFileFault 1 theory TheoryRefusal before after in subst P e r
   unwritten_command (Library text) s n r e = let never : status.Memory ≡ status.WriteFault n = sym r ∙ e in cc
 
@@ -70,12 +72,12 @@ module _ (words : List (List ℕ)) (before after : ShelfState) (start end : Sink
       go d text stored x h _ (memory_wanted m p) e q = absurd (cc)
       go d text stored x h _ (text_wanted p) e q = absurd (cc)
 
-  pub answers_accepted : IsQuietBut before after r → (theory proof : List ℕ) → Asks words (Check theory proof) → r ≡ status.Ok
-      → Accepts before after start end theory proof
-  answers_accepted q theory proof i e =
+  pub answers_accepted : IsQuietBut before after r → (report : Report) (theory proof : List ℕ) → Asks words (Check report theory proof) → r ≡ status.Ok
+      → Accepts report theory proof before after start end
+  answers_accepted q report theory proof i e =
       let s = answers_succeed q e in
       let P : Command → Type 0 = λ c. Succeeds c s.text s.stored before in
-      let accepted = (subst P (same_command words s.command (Check theory proof) s.asks i) s.succeeds).0 in
+      let accepted = (subst P (same_command words s.command (Check report theory proof) s.asks i) s.succeeds).0 in
       record { text = s.text; accepted = accepted; quiet = s.quiet; prints = s.prints }
 
   pub answers_refused : IsQuietBut before after r → (n : ℕ) → r ≡ status.Refused n → Rejects words before after start end n
@@ -84,9 +86,9 @@ module _ (words : List (List ℕ)) (before after : ShelfState) (start end : Sink
       rejects : (c : Command) (s : Status) → Asks words c → RefusesCommand c before after s → s ≡ status.Refused n → Prints (refusal_text c s) start end
           → IsQuiet before after
           → Rejects words before after start end n
-      rejects (Check theory proof) s i f e p q =
-          let P : Status → Type 0 = λ x. Prints (refusal_text (Check theory proof) x) start end in
-          record { theory = theory; proof = proof; asks = i; refused = check_refused theory proof before after s n f e; quiet = q; prints = subst P e p }
+      rejects (Check report theory proof) s i f e p q =
+          let P : Status → Type 0 = λ x. Prints (refusal_text (Check report theory proof) x) start end in
+          record { report = report; theory = theory; proof = proof; asks = i; refused = check_refused theory proof before after s n f e; quiet = q; prints = subst P e p }
       rejects (Show theory) s i f e p q = absurd (command_not_refused before after theory s n f e)
       rejects (Library text) s i f e p q = absurd (let never : status.Memory ≡ status.Refused n = sym f ∙ e in cc)
 
@@ -157,12 +159,13 @@ module _ (words : List (List ℕ)) (before after : ShelfState) (start end : Sink
 
 -- the two special cases where both files read
 
-pub read_outcome : (words : List (List ℕ)) (held : Held) (th : Theory) (p : Proof) (n : ℕ) → FilesRead words held th p → FirstFail th p n
-    → Outcome words held (status.Refused n) (refused_text n) None
-read_outcome words held th p n f fail =
-    command (Check f.theory f.proof) (status.Refused n) (refused_text n) None f.asks (refused n th p f.reads_theory f.reads_proof fail, refl)
+pub read_outcome : (words : List (List ℕ)) (held : Held) (report : Report) (th : Theory) (p : Proof) (n : ℕ) → FilesRead words held report th p
+    → FirstFail th p n → Outcome words held (status.Refused n) (refused_text n) None
+read_outcome words held report th p n f fail =
+    command (Check report f.theory f.proof) (status.Refused n) (refused_text n) None f.asks (refused n th p f.reads_theory f.reads_proof fail, refl)
 
-pub accepted_read_outcome : (words : List (List ℕ)) (held : Held) (th : Theory) (p : Proof) → FilesRead words held th p → Accepted th p
-    → Outcome words held status.Ok (accepted_text th.signature (goals_of p)) None
-accepted_read_outcome words held th p f a =
-    command (Check f.theory f.proof) status.Ok (accepted_text th.signature (goals_of p)) None f.asks (accepted th p f.reads_theory f.reads_proof a, refl)
+pub accepted_read_outcome : (words : List (List ℕ)) (held : Held) (report : Report) (th : Theory) (p : Proof) (derived : List (List Goal))
+    → FilesRead words held report th p → Derives th p derived → Outcome words held status.Ok (report_text report th.signature p derived) None
+accepted_read_outcome words held report th p derived f d =
+    command (Check report f.theory f.proof) status.Ok (report_text report th.signature p derived) None f.asks
+    (accepted th p derived f.reads_theory f.reads_proof d, refl)

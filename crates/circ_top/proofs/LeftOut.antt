@@ -1,44 +1,28 @@
--- No proof is without a verdict, and no run without an outcome.
+-- No run is without an outcome.
 use Rattle.std.proofs.Common.{◌≡◌, ◌<◌, ◌≤◌, ◌+◌, ◌⊎◌, ℕ, List, [], ◌∷◌, ◌++◌, length, map, inl, inr, refl, arith, Option, Some, None}
 use Rattle.std.specs.Prelude.{IsSome}
-use Rattle.circ_term.specs.Tree.{Tree}
-use Rattle.circ_theory.specs.Theory.{Theory, Pair}
-use Rattle.circ_file.specs.Proof.{Proof, Chain, goals_of}
-use Rattle.circ_file.specs.ProofText.{ReadsAsProof}
+use Rattle.circ_theory.specs.Theory.{Theory}
+use Rattle.circ_grammar.specs.FirstBad.{LineFault, Line_fault, Limit_fault}
+use Rattle.circ_rules.specs.Proof.{Proof, ProofFor}
+use Rattle.circ_rules.specs.Accepted.{Accepted, FirstFail}
+use Rattle.circ_proof_text.specs.ProofText.{ReadsAsProof, FirstCause}
 use Rattle.circ_read.specs.ReadsAs.{ReadsAs, ReadOrRefused}
 use Rattle.circ_read.specs.declared.cause.Cause.{Cause}
 use Rattle.circ_read.specs.declared.cause.Cause.TheVariants as cause
-use Rattle.circ_top.specs.Check.{accepted_text, no_theory, no_proof, refused, accepted}
+use Rattle.circ_top.specs.Check.{report_text, no_theory, no_proof, refused, accepted}
 use Rattle.circ_top.specs.Command.{Command, Check, Show, Library, Asks}
-use Rattle.circ_top.specs.Complete.{HasVerdict}
 use Rattle.circ_top.specs.Files.{Held, Refusal, RefusesFile, Holds}
 use Rattle.circ_top.specs.InMemory.{HoldsFilesOf, HoldsFiles}
 use Rattle.circ_top.specs.Outcome.{Stored, Outcome, usage, command}
 use Rattle.circ_top.specs.ProofFile.{ProofRefusal}
 use Rattle.circ_top.specs.Show.{not_shown, shown}
-use Rattle.circ_top.specs.Steps.{Justified, Reduce, Done, StepsOf, FirstFailOf}
 use Rattle.circ_top.specs.Texts.{usage_text, refused_text, refusal_text}
 use Rattle.circ_top.specs.TheoryFile.{TheoryRefusal}
 use Rattle.circ_top.specs.declared.files.TheConstants.{MOST_BYTES}
+use Rattle.circ_top.specs.declared.request.Report.{Report}
 use Rattle.circ_top.specs.declared.status.Status.{Status}
 use Rattle.circ_top.specs.declared.status.Status.TheVariants as status
-use Rattle.circ_top.proofs.Following.{fails_here, fails_behind}
 use Rattle.circ_top.proofs.TheoryTexts.{has_text}
-
--- steps that have no first failure lead on to the end
-steps_lead : (th : Theory) (table : List Tree) (goals : List Pair) (cs : List Chain) → ((n : ℕ) → FirstFailOf th table goals (map Reduce cs ++ Done ∷ []) n → ⊥)
-    → (StepsOf th table goals (map Reduce cs ++ Done ∷ []) [] → ⊥) → ⊥
-steps_lead th table [] [] no_fail no_way = no_way ([], (refl, refl))
-steps_lead th table (g ∷ gs) [] no_fail no_way = no_fail 1 (fails_here th table (g ∷ gs) Done [] (λ after h. h))
-steps_lead th table [] (c ∷ cs) no_fail no_way = no_fail 1 (fails_here th table [] (Reduce c) (map Reduce cs ++ Done ∷ []) (λ after h. h))
-steps_lead th table (g ∷ gs) (c ∷ cs) no_fail no_way =
-    let never : Justified th table g c → ⊥ = λ j. steps_lead th table gs cs
-    (λ n f. no_fail (n + 1) (fails_behind th table (g ∷ gs) gs (Reduce c) (map Reduce cs ++ Done ∷ []) n (j, refl) f))
-    (λ way. no_way (gs, ((j, refl), way))) in
-    no_fail 1 (fails_here th table (g ∷ gs) (Reduce c) (map Reduce cs ++ Done ∷ []) (λ after h. never h.0))
-
-pub has_verdict : (th : Theory) (p : Proof) → HasVerdict th p
-has_verdict th p no_fail not_accepted = steps_lead th p.table (goals_of p) p.chains no_fail not_accepted
 
 -- bytes within the limit, or past it
 short_or_long : (m n : ℕ) → (n ≤ m) ⊎ (m < n)
@@ -69,22 +53,34 @@ file_decides held file name N R some decides no_read no_refusal = go (held name)
     go (Some bytes) e i = sized bytes e (short_or_long MOST_BYTES (length bytes))
     go None e i = cc
 
-proof_decides : (th : Theory) (bytes : List ℕ) → ((p : Proof) → ReadsAsProof th bytes p → ⊥) → ((place : ℕ) (c : Cause) → ProofRefusal th place c bytes → ⊥) → ⊥
-proof_decides th bytes no_proof_is no_refusal = no_refusal 0 cause.Line (refl, refl, no_proof_is)
+-- What laws say: each proof is accepted or has a first failure, and bytes read as a proof or have a first bad line.
+pub record ProofsDecided : Type 0 where
+  pub verdict : (th : Theory) (p : Proof) → ProofFor th p → ((n : ℕ) → FirstFail th p n → ⊥) → (Accepted th p → ⊥) → ⊥
+  pub reading : (th : Theory) (bytes : List ℕ) → ((p : Proof) → ReadsAsProof th bytes p → ⊥) → ((f : LineFault) → FirstCause th bytes f → ⊥) → ⊥
 
-module _ (reads : (bytes : List ℕ) → ReadOrRefused bytes) (words : List (List ℕ)) (held : Held)
+pub proofs_decided : ((th : Theory) (p : Proof) → ProofFor th p → ((n : ℕ) → FirstFail th p n → ⊥) → (Accepted th p → ⊥) → ⊥)
+    → ((th : Theory) (bytes : List ℕ) → ((p : Proof) → ReadsAsProof th bytes p → ⊥) → ((f : LineFault) → FirstCause th bytes f → ⊥) → ⊥) → ProofsDecided
+proofs_decided v r = record { verdict = v; reading = r }
+
+no_fault_left : (th : Theory) (bytes : List ℕ) → ((place : ℕ) (c : Cause) → ProofRefusal th place c bytes → ⊥) → (f : LineFault) → FirstCause th bytes f → ⊥
+no_fault_left th bytes h (Line_fault n) f = h n cause.Line f
+no_fault_left th bytes h (Limit_fault n) f = h n cause.LineLimit f
+
+module _ (reads : (bytes : List ℕ) → ReadOrRefused bytes) (proofs : ProofsDecided) (words : List (List ℕ)) (held : Held)
     (none_is : (s : Status) (text : List ℕ) (stored : Option Stored) → Outcome words held s text stored → ⊥) where
-  no_check : (theory proof : List ℕ) → Asks words (Check theory proof) → HoldsFilesOf held (Check theory proof) → ⊥
-  no_check theory proof i h = file_decides held 1 theory TheoryRefusal ReadsAs h.0 reads
-      (λ th rt. file_decides held 2 proof (ProofRefusal th) (ReadsAsProof th) h.1 (proof_decides th)
-      (λ p rp. has_verdict th p
+  no_check : (report : Report) (theory proof : List ℕ) → Asks words (Check report theory proof) → HoldsFilesOf held (Check report theory proof) → ⊥
+  no_check report theory proof i h = file_decides held 1 theory TheoryRefusal ReadsAs h.0 reads
+      (λ th rt. file_decides held 2 proof (ProofRefusal th) (ReadsAsProof th) h.1
+      (λ bytes no_proof_is no_refusal. proofs.reading th bytes no_proof_is (no_fault_left th bytes no_refusal))
+      (λ p rp. proofs.verdict th p rp.are.proof_for
       (λ n f. none_is (status.Refused n) (refused_text n) None
-      (command (Check theory proof) (status.Refused n) (refused_text n) None i (refused n th p rt rp f, refl)))
-      (λ a. let text : List ℕ = accepted_text th.signature (goals_of p) in
-      none_is status.Ok text None (command (Check theory proof) status.Ok text None i (accepted th p rt rp a, refl))))
-      (λ s x. let text : List ℕ = refusal_text (Check theory proof) s in none_is s text None
-      (command (Check theory proof) s text None i (no_proof s th rt x, refl))))
-      (λ s x. let text : List ℕ = refusal_text (Check theory proof) s in none_is s text None (command (Check theory proof) s text None i (no_theory s x, refl)))
+      (command (Check report theory proof) (status.Refused n) (refused_text n) None i (refused n th p rt rp f, refl)))
+      (λ a. let text : List ℕ = report_text report th.signature p a.0 in
+      none_is status.Ok text None (command (Check report theory proof) status.Ok text None i (accepted th p a.0 rt rp a.1, refl))))
+      (λ s x. let text : List ℕ = refusal_text (Check report theory proof) s in none_is s text None
+      (command (Check report theory proof) s text None i (no_proof s th rt x, refl))))
+      (λ s x. let text : List ℕ = refusal_text (Check report theory proof) s in none_is s text None
+      (command (Check report theory proof) s text None i (no_theory s x, refl)))
 
   no_show : (theory : List ℕ) → Asks words (Show theory) → HoldsFilesOf held (Show theory) → ⊥
   no_show theory i h = file_decides held 1 theory TheoryRefusal ReadsAs h reads
@@ -92,7 +88,7 @@ module _ (reads : (bytes : List ℕ) → ReadOrRefused bytes) (words : List (Lis
       (λ s x. let text : List ℕ = refusal_text (Show theory) s in none_is s text None (command (Show theory) s text None i (not_shown s x, refl)))
 
   no_command_left : (c : Command) → Asks words c → HoldsFilesOf held c → ⊥
-  no_command_left (Check theory proof) i h = no_check theory proof i h
+  no_command_left (Check report theory proof) i h = no_check report theory proof i h
   no_command_left (Show theory) i h = no_show theory i h
   no_command_left (Library text) i h = none_is status.Ok text None (command (Library text) status.Ok text None i ((refl, refl), refl))
 

@@ -1,11 +1,9 @@
 pub mod Rules
-pub mod Lists
-pub mod Following
-pub mod Sound
+pub mod Reporting
 pub mod Printing
 pub mod FileFaults
 pub mod Requests
-pub mod Verdicts
+pub mod Proofs
 pub mod Agreeing
 pub mod CheckOutcomes
 pub mod ShowOutcomes

@@ -23,8 +23,8 @@ some_held None i e = cc
 
 held_file : (before after : ShelfState) (c : Command) → (Rose before.count after.count → ⊥) → HoldsFilesOf before.holds c
     → AtFile before c (λ file name. IsUnread name before after) → ⊥
-held_file before after (Check theory proof) quiet h (inl u) = quiet (unread_rose theory before after (some_held (before.holds theory) h.0) u)
-held_file before after (Check theory proof) quiet h (inr u) = quiet (unread_rose proof before after (some_held (before.holds proof) h.1) u.1.1)
+held_file before after (Check report theory proof) quiet h (inl u) = quiet (unread_rose theory before after (some_held (before.holds theory) h.0) u)
+held_file before after (Check report theory proof) quiet h (inr u) = quiet (unread_rose proof before after (some_held (before.holds proof) h.1) u.1.1)
 held_file before after (Show theory) quiet h u = quiet (unread_rose theory before after (some_held (before.holds theory) h) u)
 held_file before after (Library text) quiet h u = u
 

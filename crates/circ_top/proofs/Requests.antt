@@ -3,7 +3,9 @@ use Rattle.std.proofs.Common.{◌≡◌, ℕ, List, [], ◌∷◌, length, map, 
 use Rattle.std.proofs.lemmas.List.{length-map}
 use Rattle.std.proofs.lemmas.Option.{same_Some}
 use Rattle.circ_lib.specs.Library.{library_text}
-use Rattle.circ_top.specs.Command.{Command, Library, Asks, check, show, library, IsNoCommand}
+use Rattle.circ_top.specs.Command.{Command, Library, Asks, check, show, library, IsNoCommand, report_name, IsNoReport}
+use Rattle.circ_top.specs.declared.request.Report.{Report}
+use Rattle.circ_top.specs.declared.request.Report.TheVariants.{Goals, Relation}
 
 -- three words, of which two are known
 pub three_words : {X : Type 0} (f : X → List ℕ) (xs : List X) (b c : X) → length xs ≡ 3 → b ≡ get_or xs 1 b → c ≡ get_or xs 2 c
@@ -32,7 +34,7 @@ given_four ws a b c d p q r e f g h = rw (← f, ← g, ← h) e
 
 pub none_of_three : (ws : List (List ℕ)) (a n o : List ℕ) → ws ≡ a ∷ n ∷ o ∷ [] → (n ≡ codes "show" → ⊥) → (n ≡ codes "library" → library_text o ≡ None)
     → IsNoCommand ws
-none_of_three ws a n o e f g _ (check p t q i) = let never : 3 ≡ 4 = ap length (sym e ∙ i) in omega (arith, never)
+none_of_three ws a n o e f g _ (check r p t q i) = let never : 3 ≡ 4 = ap length (sym e ∙ i) in omega (arith, never)
 none_of_three ws a n o e f g _ (show p t i) = let k = sym e ∙ i in f (cc)
 none_of_three ws a n o e f g _ (library p name text i l) =
     let k = sym e ∙ i in
@@ -41,13 +43,13 @@ none_of_three ws a n o e f g _ (library p name text i l) =
     let never : Some text ≡ None = sym l ∙ ap library_text (sym same) ∙ g m in
     cc
 
-pub none_of_four : (ws : List (List ℕ)) (a n o q : List ℕ) → ws ≡ a ∷ n ∷ o ∷ q ∷ [] → (n ≡ codes "check" → ⊥) → IsNoCommand ws
-none_of_four ws a n o q e f _ (check p t r i) = let k = sym e ∙ i in f (cc)
+pub none_of_four : (ws : List (List ℕ)) (a n o q : List ℕ) → ws ≡ a ∷ n ∷ o ∷ q ∷ [] → IsNoReport n → IsNoCommand ws
+none_of_four ws a n o q e f _ (check r p t u i) = let k = sym e ∙ i in f r (cc)
 none_of_four ws a n o q e f _ (show p t i) = let never : 4 ≡ 3 = ap length (sym e ∙ i) in omega (arith, never)
 none_of_four ws a n o q e f _ (library p name text i l) = let never : 4 ≡ 3 = ap length (sym e ∙ i) in omega (arith, never)
 
 pub none_of_others : {X : Type 0} (f : X → List ℕ) (xs : List X) → (length xs ≡ 3 → ⊥) → (length xs ≡ 4 → ⊥) → IsNoCommand (map f xs)
-none_of_others f xs g h _ (check p t q i) = h (sym (length-map xs f) ∙ ap length i)
+none_of_others f xs g h _ (check r p t q i) = h (sym (length-map xs f) ∙ ap length i)
 none_of_others f xs g h _ (show p t i) = g (sym (length-map xs f) ∙ ap length i)
 none_of_others f xs g h _ (library p name text i l) = g (sym (length-map xs f) ∙ ap length i)
 
@@ -57,15 +59,25 @@ other_length ws a b c d p q r e f = let never : 4 ≡ 3 = ap length (sym e ∙ f
 other_name : (u v p t : List ℕ) → u ∷ codes "show" ∷ v ∷ [] ≡ p ∷ codes "library" ∷ t ∷ [] → ⊥
 other_name u v p t e = let same : codes "show" ≡ codes "library" = cc in let never : 4 ≡ 7 = ap length same in omega (arith, never)
 
+same_report : (r s : Report) → report_name r ≡ report_name s → r ≡ s
+same_report Goals Goals e = refl
+same_report Goals Relation e = let never : 5 ≡ 8 = ap length e in absurd (omega (arith, never))
+same_report Relation Goals e = let never : 8 ≡ 5 = ap length e in absurd (omega (arith, never))
+same_report Relation Relation e = refl
+
 -- words ask for one command
 pub same_command : (ws : List (List ℕ)) (c d : Command) → Asks ws c → Asks ws d → c ≡ d
-same_command ws _ _ (check p t q i) (check u v w j) = let e = sym i ∙ j in cc
-same_command ws _ _ (check p t q i) (show u v j) = absurd (other_length ws p _ t q u _ v i j)
-same_command ws _ _ (check p t q i) (library u v w j l) = absurd (other_length ws p _ t q u _ v i j)
-same_command ws _ _ (show u v j) (check p t q i) = absurd (other_length ws p _ t q u _ v i j)
+same_command ws _ _ (check r p t q i) (check s u v w j) =
+    let e = sym i ∙ j in
+    let same : report_name r ≡ report_name s = cc in
+    let one : r ≡ s = same_report r s same in
+    cc
+same_command ws _ _ (check r p t q i) (show u v j) = absurd (other_length ws p _ t q u _ v i j)
+same_command ws _ _ (check r p t q i) (library u v w j l) = absurd (other_length ws p _ t q u _ v i j)
+same_command ws _ _ (show u v j) (check r p t q i) = absurd (other_length ws p _ t q u _ v i j)
 same_command ws _ _ (show u v i) (show p t j) = let e = sym i ∙ j in cc
 same_command ws _ _ (show u v i) (library p t w j l) = absurd (other_name u v p t (sym i ∙ j))
-same_command ws _ _ (library u v w j l) (check p t q i) = absurd (other_length ws p _ t q u _ v i j)
+same_command ws _ _ (library u v w j l) (check r p t q i) = absurd (other_length ws p _ t q u _ v i j)
 same_command ws _ _ (library p t w j l) (show u v i) = absurd (other_name u v p t (sym i ∙ j))
 same_command ws _ _ (library p t w i l) (library u v x j m) =
     let e = sym i ∙ j in

@@ -15,13 +15,13 @@ use Rattle.circ_top.specs.declared.status.Status.TheVariants as status
 
 -- a command that ends with 0, its text, and what is stored
 abbrev pub Succeeds : Command → (text : List ℕ) → (stored : Option Stored) → (before : ShelfState) → Type 0
-Succeeds (Check theory proof) text stored before = IsAccepted theory proof text before × (stored ≡ None)
+Succeeds (Check report theory proof) text stored before = IsAccepted report theory proof text before × (stored ≡ None)
 Succeeds (Show theory) text stored before = IsShown theory text before × (stored ≡ None)
 Succeeds (Library given) text stored before = (text ≡ given) × (stored ≡ None)
 
 -- why a command is refused
 abbrev pub RefusesCommand : Command → (before after : ShelfState) → Status → Type 0
-RefusesCommand (Check theory proof) before after s = RefusesCheck theory proof before after s
+RefusesCommand (Check report theory proof) before after s = RefusesCheck theory proof before after s
 RefusesCommand (Show theory) before after s = IsTheoryFault theory before after s
 RefusesCommand (Library given) before after s = RefusesLibrary s
 

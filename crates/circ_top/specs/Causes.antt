@@ -50,7 +50,7 @@ AtEither before theory second P = P 1 theory ⊎ ((th : Theory) × (TakesTheory 
 
 -- A file of the command has the fact.
 abbrev pub AtFile : ShelfState → Command → (ℕ → List ℕ → Type 0) → Type 0
-AtFile before (Check theory proof) P = AtEither before theory proof P
+AtFile before (Check report theory proof) P = AtEither before theory proof P
 AtFile before (Show theory) P = P 1 theory
 AtFile before (Library text) P = ⊥
 

@@ -11,7 +11,7 @@ use Rattle.circ_top.specs.declared.status.Status.TheVariants as status
 
 -- the files of a command hold something
 abbrev pub HoldsFilesOf : Held → Command → Type 0
-HoldsFilesOf held (Check theory proof) = IsSome (held theory) × IsSome (held proof)
+HoldsFilesOf held (Check report theory proof) = IsSome (held theory) × IsSome (held proof)
 HoldsFilesOf held (Show theory) = IsSome (held theory)
 HoldsFilesOf held (Library text) = Unit {0}
 

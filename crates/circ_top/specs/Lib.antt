@@ -1,5 +1,3 @@
-pub mod Steps
-pub mod Following
 pub mod Status
 pub mod Files
 pub mod Quiet

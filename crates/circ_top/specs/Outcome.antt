@@ -17,7 +17,7 @@ pub record Stored : Type 0 where
 
 -- the outcome of a command: a status, a text, and what is stored
 abbrev pub OutcomeOf : Held → Command → Status → (text : List ℕ) → (stored : Option Stored) → Type 0
-OutcomeOf held (Check theory proof) s text stored = CheckOutcome held theory proof s text × (stored ≡ None)
+OutcomeOf held (Check report theory proof) s text stored = CheckOutcome held report theory proof s text × (stored ≡ None)
 OutcomeOf held (Show theory) s text stored = ShowOutcome held theory s text × (stored ≡ None)
 OutcomeOf held (Library given) s text stored = LibraryOutcome given s text × (stored ≡ None)
 

@@ -2,9 +2,10 @@
 use Rattle.std.specs.Prelude.{◌≡◌, ℕ, List, true}
 use Rattle.circ_outer.specs.Shelf.{ShelfState}
 use Rattle.circ_theory.specs.Theory.{Theory}
-use Rattle.circ_file.specs.Proof.{Proof}
-use Rattle.circ_file.specs.ProofText.{ReadsAsProof}
-use Rattle.circ_read.specs.declared.cause.Cause.TheVariants.{Line}
+use Rattle.circ_grammar.specs.FirstBad.{Line_fault, Limit_fault}
+use Rattle.circ_rules.specs.Proof.{Proof}
+use Rattle.circ_proof_text.specs.ProofText.{ReadsAsProof, FirstCause}
+use Rattle.circ_read.specs.declared.cause.Cause.TheVariants.{Line, LineLimit}
 use Rattle.circ_top.specs.Files.{Held, IsOnly, AreBytes, Holds, Refusal, IsFileFault}
 use Rattle.circ_top.specs.declared.status.Status.{Status}
 
@@ -17,12 +18,11 @@ pub record TakesProof (name : List ℕ) (th : Theory) (p : Proof) (before : Shel
   pub bytes : AreBytes (λ bytes. ReadsAsProof th bytes p)
   pub reads : before.tells ≡ true → IsOnly p (ReadsProof before.holds name th)
 
-abbrev pub IsNoProof : Theory → List ℕ → Type 0
-IsNoProof th bytes = (p : Proof) → ReadsAsProof th bytes p → ⊥
-
--- bytes are refused for their form, without a place
+-- bytes are refused for their first bad line, which is not in order or passes a limit
 abbrev pub ProofRefusal : Theory → Refusal
-ProofRefusal th place c bytes = (place ≡ 0) × (c ≡ Line) × IsNoProof th bytes
+ProofRefusal th place Line bytes = FirstCause th bytes (Line_fault place)
+ProofRefusal th place LineLimit bytes = FirstCause th bytes (Limit_fault place)
+ProofRefusal th place _ bytes = ⊥
 
 -- The named file, which is file 2, gives no proof.
 abbrev pub IsProofFault : (name : List ℕ) → Theory → (before after : ShelfState) → Status → Type 0

@@ -51,7 +51,7 @@ cause_text c = words_of_cause c ++ details_of_cause c
 
 -- the places of a file's text, by the command that takes the file: lines of a proof, else statements
 abbrev pub place_text : Command → (file : ℕ) → List ℕ
-place_text (Check theory proof) file = if file == 2 then codes ", line " else codes ", statement "
+place_text (Check report theory proof) file = if file == 2 then codes ", line " else codes ", statement "
 place_text _ file = codes ", statement "
 
 abbrev pub refused_text : (step : ℕ) → List ℕ

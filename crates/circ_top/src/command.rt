@@ -4,12 +4,14 @@ ghost use Rattle.std.specs.Prelude.{IfOk, IfErr};
 ghost use Rattle.circ_outer.specs.Shelf.{ShelfFrame};
 ghost use Rattle.circ_outer.specs.Sink.{SinkFrame};
 ghost use Rattle.circ_theory.specs.Theory.{Theory};
-ghost use Rattle.circ_file.specs.Proof.{Proof, goals_of};
-ghost use Rattle.circ_top.specs.Steps.{Accepted, FirstFail};
+ghost use Rattle.circ_theory.specs.declared.parts.Goal.{Goal};
+ghost use Rattle.circ_rules.specs.Proof.{Proof};
+ghost use Rattle.circ_rules.specs.Accepted.{Derives, FirstFail};
+ghost use Rattle.circ_top.specs.declared.request.Report.{Report};
 ghost use Rattle.circ_top.specs.Command.{Check, Asks, IsNotStored, plain_request};
 ghost use Rattle.circ_top.specs.Texts.{refused_text};
 ghost use Rattle.circ_top.specs.Delivery.{Delivers};
-ghost use Rattle.circ_top.specs.Check.{accepted_text, Accepts, Rejects, FilesRead};
+ghost use Rattle.circ_top.specs.Check.{report_text, Accepts, Rejects, FilesRead};
 ghost use Rattle.circ_top.specs.Outcome.{Stored, Outcome};
 ghost use Rattle.circ_top.specs.Answer.{Succeeds, RefusesCommand, AnswersDue, Succeeded};
 ghost use Rattle.circ_top.specs.Causes.{IsOutcomeOrFault, AnswersOutcome, PrintsPartOf};
@@ -23,26 +25,28 @@ use crate::show::show;
 use crate::status::Status;
 use crate::texts::{refusal, usage};
 use circ_outer::{OuterFault, Shelf, Sink, write_all};
+use circ_proof_text::laws::one_answer;
 use circ_read::laws::read_in_one_way;
 use circ_show::laws::printed_in_one_way;
+use circ_soundness::one_verdict;
 use std::alloc::Global;
 
 /// The program: `words` are its name and then a command with what it takes, which is
-/// `check THEORY PROOF`, `show THEORY` or `library NAME`. The files are taken from the shelf, and
-/// the text of the answer is written to the sink, whole.
+/// `check THEORY PROOF`, `relation THEORY PROOF`, `show THEORY` or `library NAME`. The files are
+/// taken from the shelf, and the text of the answer is written to the sink, whole.
 pub fn circ<S: Shelf, K: Sink>(
     alloc: Global,
     words: &Vec<String>,
     shelf: &mut S,
     out: &mut K,
 ) -> Status
-    // Status 0 of `check`: the proof is accepted, so that every goal behaves. Status 1: which step
-    // is the first that is no instance of its rule. Where the shelf tells what the files hold,
-    // they read as this theory and this proof.
-    ensures accepted { (theory proof : List ℕ) →
-        Asks (map string_bytes words.now.items) (Check theory proof) → result ≡ Status.Ok →
-        Accepts (S.state shelf.old) (S.state shelf.new) (K.state out.old) (K.state out.new)
-        theory proof }
+    // Status 0 of `check` and `relation`: the proof is accepted, so that every goal behaves, and
+    // every goal that a block derived. Status 1: which step is the first that is no instance of its
+    // rule. Where the shelf tells what the files hold, they read as this theory and this proof.
+    ensures accepted { (report : Report) (theory proof : List ℕ) →
+        Asks (map string_bytes words.now.items) (Check report theory proof) →
+        result ≡ Status.Ok → Accepts report theory proof
+        (S.state shelf.old) (S.state shelf.new) (K.state out.old) (K.state out.new) }
     ensures refused { (n : ℕ) → result ≡ Status.Refused n →
         Rejects (map string_bytes words.now.items)
         (S.state shelf.old) (S.state shelf.new) (K.state out.old) (K.state out.new) n }
@@ -67,19 +71,20 @@ pub fn circ<S: Shelf, K: Sink>(
         AnswersOutcome (S.state shelf.old) (S.state shelf.new) (K.state out.old) (K.state out.new)
         s text stored result }
 
-    // Where the files read, the first step that fails is answered, and where none does, the text
-    // of the goals.
+    // Where the files read, the first step that fails is answered, and where none does, the
+    // report.
     ensures first_failure { (S.state shelf.old).tells ≡ true →
-        (th : Theory) (p : Proof) (n : ℕ) →
-        FilesRead (map string_bytes words.now.items) (S.state shelf.old).holds th p →
+        (report : Report) (th : Theory) (p : Proof) (n : ℕ) →
+        FilesRead (map string_bytes words.now.items) (S.state shelf.old).holds report th p →
         FirstFail th p n →
         AnswersOutcome (S.state shelf.old) (S.state shelf.new) (K.state out.old) (K.state out.new)
         (Status.Refused n) (refused_text n) None result }
-    ensures accepted_text { (S.state shelf.old).tells ≡ true → (th : Theory) (p : Proof) →
-        FilesRead (map string_bytes words.now.items) (S.state shelf.old).holds th p →
-        Accepted th p →
+    ensures accepted_text { (S.state shelf.old).tells ≡ true →
+        (report : Report) (th : Theory) (p : Proof) (derived : List (List Goal)) →
+        FilesRead (map string_bytes words.now.items) (S.state shelf.old).holds report th p →
+        Derives th p derived →
         AnswersOutcome (S.state shelf.old) (S.state shelf.new) (K.state out.old) (K.state out.new)
-        Status.Ok (accepted_text th.signature (goals_of p)) None result }
+        Status.Ok (report_text report th.signature p derived) None result }
 
     // A file that is too long, faults of the outside, want of memory: when they come, and what
     // was printed then.
@@ -107,6 +112,8 @@ pub fn circ<S: Shelf, K: Sink>(
 {
     read_in_one_way();
     printed_in_one_way();
+    one_answer();
+    one_verdict();
     answer(alloc, words.as_slice(), shelf, out)
 }
 
@@ -141,7 +148,11 @@ fn run<S: Shelf>(alloc: Global, request: &Request<'_>, shelf: &mut S) -> Result<
     ensures frame { ShelfFrame (S.state shelf.old) (S.state shelf.new) }
 {
     match request {
-        Request::Check { theory, proof } => check(alloc, shelf, theory, proof),
+        Request::Check {
+            report,
+            theory,
+            proof,
+        } => check(alloc, shelf, *report, theory, proof),
         Request::Show { theory } => show(alloc, shelf, theory),
         Request::Library { text } => library(alloc, text),
     }

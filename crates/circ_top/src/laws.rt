@@ -2,20 +2,19 @@
 ghost use Rattle.std.specs.Prelude.{◌≡◌, ℕ, List};
 ghost use Rattle.circ_term.specs.declared.TheConstants.{MOST_NODES, MOST_DEPTH};
 ghost use Rattle.circ_term.specs.declared.TheConstants.{MOST_ARGS as MOST_TERM_ARGS};
-ghost use Rattle.circ_theory.specs.Theory.{Theory};
 ghost use Rattle.circ_theory.specs.declared.TheConstants.{MOST_SORTS, MOST_VARS, MOST_OPS};
 ghost use Rattle.circ_theory.specs.declared.TheConstants.{MOST_EQUATIONS, MOST_ARGS};
 ghost use Rattle.circ_theory.specs.declared.TheConstants.{MOST_DERIVATIVES, MOST_PARAMS};
 ghost use Rattle.circ_theory.specs.declared.TheConstants.{MOST_CASES};
 ghost use Rattle.circ_chart.specs.declared.TheConstants.{MOST_TOKENS};
-ghost use Rattle.circ_file.specs.Proof.{Proof};
-ghost use Rattle.circ_top.specs.Complete.{HasVerdict, HasOutcome};
+ghost use Rattle.circ_top.specs.Complete.{HasOutcome};
 ghost use Rattle.circ_top.specs.Files.{Held};
 ghost use Rattle.circ_top.specs.InMemory.{HoldsFiles};
-ghost use Rattle.circ_top.specs.Steps.{Accepted, FirstFail};
 ghost use Rattle.circ_top.specs.declared.files.TheConstants.{MOST_BYTES, PIECE};
 
+use circ_proof_text::laws::nothing_left_out as nothing_left_out_of_texts;
 use circ_read::laws::read_or_refused;
+use circ_soundness::nothing_left_out as nothing_left_out_of_proofs;
 
 /// The limits in numbers: bytes of a file and of a piece, nodes, levels and arguments of a term,
 /// sorts, variables, operators, their arguments, equations and derivatives of a theory, parameters
@@ -37,21 +36,12 @@ pub fn limits()
     ensures tokens { MOST_TOKENS ≡ 256 }
 {}
 
-/// A proof whose every step is an instance of its rule has no first failing step, and no proof has
-/// two.
-pub fn one_verdict()
-    ensures not_both { (th : Theory) (p : Proof) (n : ℕ) →
-        Accepted th p → FirstFail th p n → ⊥ }
-    ensures one_failure { (th : Theory) (p : Proof) (n m : ℕ) →
-        FirstFail th p n → FirstFail th p m → n ≡ m }
-{}
-
-/// Nothing is left out: a proof without a first failing step is accepted, and where a command's
-/// files hold something there is an outcome.
+/// Nothing is left out: where a command's files hold something there is an outcome.
 pub fn nothing_left_out()
-    ensures verdict { (th : Theory) (p : Proof) → HasVerdict th p }
-    ensures outcome { (words : List (List ℕ)) (held : Held) →
+    ensures { (words : List (List ℕ)) (held : Held) →
         HoldsFiles words held → HasOutcome words held }
 {
     read_or_refused();
+    nothing_left_out_of_texts();
+    nothing_left_out_of_proofs();
 }

@@ -4,14 +4,12 @@
 mod check;
 mod command;
 mod files;
-mod goals;
 pub mod laws;
 mod library;
 mod proof_file;
 mod request;
 mod show;
 mod status;
-mod steps;
 pub mod sure;
 mod texts;
 mod theory_file;

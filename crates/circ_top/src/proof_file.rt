@@ -1,16 +1,18 @@
 //! The proof that a file reads as.
 ghost use Rattle.std.specs.Prelude.{IfOk, IfErr};
 ghost use Rattle.circ_outer.specs.Shelf.{ShelfFrame};
-ghost use Rattle.circ_file.specs.Plain.{plain_proof};
-ghost use Rattle.circ_file.specs.Proof.{ProofFor};
+ghost use Rattle.circ_rules.specs.Plain.{plain_proof};
+ghost use Rattle.circ_rules.specs.Proof.{ProofFor};
 ghost use Rattle.circ_top.specs.ProofFile.{TakesProof, IsProofFault};
 ghost use Rattle.circ_top.specs.Quiet.{IsQuietCall};
 
 use crate::files::take_file;
 use crate::status::Status;
-use circ_file::{Proof, read_proof};
+use circ_file::{FileFault, decode};
 use circ_outer::Shelf;
+use circ_proof_text::laws::one_answer;
 use circ_read::Cause;
+use circ_rules::Proof;
 use circ_theory::Theory;
 use std::alloc::Global;
 
@@ -33,13 +35,20 @@ pub(crate) fn take_proof<S: Shelf>(
         Ok(bytes) => bytes,
         Err(status) => return Err(status),
     };
-    match read_proof(alloc, theory, bytes.as_slice()) {
-        Ok(Some(proof)) => Ok(proof),
-        Ok(None) => Err(Status::Unreadable {
+    theory.known();
+    one_answer();
+    match decode(alloc, theory, bytes.as_slice()) {
+        Ok(proof) => Ok(proof),
+        Err(FileFault::Line { number }) => Err(Status::Unreadable {
             file: 2,
-            place: 0,
+            place: number,
             cause: Cause::Line,
         }),
-        Err(_) => Err(Status::Memory),
+        Err(FileFault::Limit { number }) => Err(Status::Unreadable {
+            file: 2,
+            place: number,
+            cause: Cause::LineLimit,
+        }),
+        Err(FileFault::Memory) => Err(Status::Memory),
     }
 }

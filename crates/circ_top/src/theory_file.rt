@@ -29,7 +29,10 @@ pub(crate) fn take_theory<S: Shelf>(
     };
     read_in_one_way();
     match read_theory(alloc, bytes.as_slice()) {
-        Ok(theory) => Ok(theory),
+        Ok(theory) => {
+            theory.known();
+            Ok(theory)
+        }
         Err(ReadFault::Statement { number, cause }) => Err(Status::Unreadable {
             file: 1,
             place: number,

@@ -1,4 +1,4 @@
-use Rattle.circ_file.specs.Plain.{plain_proof}
+use Rattle.circ_rules.specs.Plain.{plain_proof}
 use Rattle.circ_top.specs.Check.{Proves, IsAccepted, Fails, RefusesCheck, theory_fault, proof_fault}
 use Rattle.circ_top.specs.ProofFile.{ProofRefusal}
 use Rattle.circ_top.proofs.CheckOutcomes.{fails_refuses, judged_quiet}
@@ -22,7 +22,7 @@ pub returns-clause-accepted : goal.returns-clause-accepted
 returns-clause-accepted g c =
     let before = g.S.Shelf.state c.args.shelf.now in
     let p = plain_proof c.in-Ok-take_proof.proof in
-    if_ok (λ v. Proves c.in-Ok.theory p v.items) (λ v. IsAccepted c.args.theory.now c.args.proof.now v.items before) c.judge.result c.judge.ensures.accepted
+    if_ok (λ v. Proves c.args.report c.in-Ok.theory p v.items) (λ v. IsAccepted c.args.report c.args.theory.now c.args.proof.now v.items before) c.judge.result c.judge.ensures.accepted
     (λ v proves. record {
       th = c.in-Ok.theory;
       p = p;

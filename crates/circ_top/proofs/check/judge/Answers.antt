@@ -1,12 +1,15 @@
-use Rattle.circ_file.specs.Plain.{plain_proof}
-use Rattle.circ_top.proofs.Sound.{accepted_behave}
+use Rattle.circ_rules.specs.Plain.{plain_proof}
 use Rattle.circ_top.proofs.check.judge.Goals as goal
 
 pub returns-in-Ok-clause-accepted : goal.returns-in-Ok-clause-accepted
 returns-in-Ok-clause-accepted c =
-    let acc = rw c.in-Ok-Accepted.field-0-is at c.in-Ok-Accepted.ensures in
+    let reported = c.in-Ok.ensures in
+    let th = c.args.theory.now in
+    let p = plain_proof c.args.proof.now in
     record {
-      accepted = acc;
-      behave = accepted_behave c.args.theory.now c.known.ensures (plain_proof c.args.proof.now) c.requires acc;
-      text_is = c.in-Ok.ensures;
+      derived = reported.derived;
+      accepted = reported.accepted;
+      behave = rw c.in-Ok-Accepted.field-0-is at c.in-Ok-Accepted.ensures.sound;
+      derived_behave = c.derived_behave.ensures th c.known.ensures p c.requires reported.derived reported.accepted;
+      text_is = reported.text_is;
     }

@@ -1,0 +1,12 @@
+use Rattle.std.proofs.Common.{◌≡◌, [], map, drop, length}
+use Rattle.circ_rules.specs.Plain.{plain_block, plain_proof}
+use Rattle.circ_check.specs.Deciding.{plain_list}
+use Rattle.circ_check.proofs.Standing.{DerivesSoFar}
+use Rattle.circ_check.proofs.checking.derive_blocks.Given as goal
+
+abbrev pub invariant-loop-block : goal.invariant-loop-block
+invariant-loop-block l = record {
+  so_far : DerivesSoFar l.theory (plain_proof l.proof) l.state.hyps.items (map plain_block (drop l.block-index l.block-items)) (map plain_list l.lists.items);
+  no_goal : l.state.goals.items ≡ [];
+  earlier : l.earlier ≡ length l.state.hyps.items;
+}

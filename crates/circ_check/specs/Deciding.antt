@@ -1,0 +1,36 @@
+-- What the checker answers, and what that means.
+use Rattle.std.specs.Prelude.{ℕ, List, Option, Some, None, Vec}
+use Rattle.std.specs.List.{Contains}
+use Rattle.circ_theory.specs.Theory.{Theory}
+use Rattle.circ_theory.specs.Experiment.{Behaves}
+use Rattle.circ_theory.specs.declared.parts.Goal.{Goal}
+use Rattle.circ_term.specs.Tree.{Tree}
+use Rattle.circ_special.specs.declared.place.Place.{Place}
+use Rattle.circ_replay.specs.Runs.{FailsFirst}
+use Rattle.circ_rules.specs.Rules.{State, ProofStep, StepOf, StepsOf}
+use Rattle.circ_rules.specs.Proof.{Block, Proof}
+use Rattle.circ_rules.specs.Accepted.{Accepted, FirstFail}
+use Rattle.circ_check.specs.declared.checking.Verdict.{Verdict}
+use Rattle.circ_check.specs.declared.checking.Verdict.TheVariants as verdict
+
+-- the proof is accepted, or this is where it fails first
+abbrev pub Decides : Theory → Proof → Verdict → Type 0
+Decides th p verdict.Accepted = Accepted th p
+Decides th p (verdict.Refused n) = FirstFail th p n
+
+-- if it is accepted, each goal of each block behaves
+abbrev pub GoalsBehave : Theory → Proof → Verdict → Type 0
+GoalsBehave th p verdict.Accepted = (b : Block) → Contains p.blocks b → (g : Goal) → Contains b.goals g → Behaves th g.left g.right
+GoalsBehave th p (verdict.Refused n) = Unit {0}
+
+-- each derived goal of each block behaves
+abbrev pub DerivedBehave : Theory → List (List Goal) → Type 0
+DerivedBehave th dss = (ds : List Goal) → Contains dss ds → (g : Goal) → Contains ds g → Behaves th g.left g.right
+
+abbrev pub plain_list : {A : Type 0} → Vec Goal A → List Goal
+plain_list gs = gs.items
+
+-- the steps lead from a to b, or step n, counted from 1, is the first that is no instance of its rule
+abbrev pub RunsOrFails : Theory → List Place → List (ProofStep Tree) → (a b : State) → Option ℕ → Type 0
+RunsOrFails th G ss a b None = StepsOf th G ss a b
+RunsOrFails th G ss a b (Some n) = FailsFirst (StepOf th G) ss a n

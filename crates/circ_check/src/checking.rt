@@ -1,0 +1,121 @@
+//! What a proof comes to.
+ghost use Rattle.std.specs.Prelude.{◌≡◌, List, [], IfOk, map};
+ghost use Rattle.std.specs.Result.{OnOk};
+ghost use Rattle.circ_rules.specs.Rules.{state as state_with};
+ghost use Rattle.circ_rules.specs.Proof.{ProofFor};
+ghost use Rattle.circ_rules.specs.Accepted.{Admissible, Accepted, Derives};
+ghost use Rattle.circ_rules.specs.Plain.{plain_state, plain_proof};
+ghost use Rattle.circ_check.specs.Deciding.{Decides, GoalsBehave, DerivedBehave, plain_list};
+
+use crate::running::{end_block, run_block};
+use circ_rules::{Admission, Proof, State, admit};
+use circ_theory::{Goal, Theory};
+use std::alloc::{AllocError, Global};
+use std::collections::VecDeque;
+
+/// What a proof comes to.
+#[derive(Clone, Copy, PartialEq, Eq)]
+pub enum Verdict {
+    /// Every certificate and every step is an instance of its rule.
+    Accepted,
+    /// The first that is none. Certificates are counted from 1, and the steps of all blocks follow
+    /// in one count.
+    Refused { step: u64 },
+}
+
+/// Whether every certificate and every step of the proof is an instance of its rule, or the first
+/// that is none. If all are, each goal of each block behaves.
+pub fn check(alloc: Global, theory: &Theory, proof: &Proof) -> Result<Verdict, AllocError>
+    requires { ProofFor theory.now (plain_proof proof.now) }
+    ensures exact { IfOk result (Decides theory.now (plain_proof proof.now)) }
+    ensures sound { IfOk result (GoalsBehave theory.now (plain_proof proof.now)) }
+{
+    theory.known();
+    let certificates = proof.certificates.as_slice();
+    match admit(
+        alloc,
+        theory,
+        proof.table.as_slice(),
+        &proof.gamma,
+        certificates,
+    )? {
+        Admission::Yes => check_blocks(alloc, theory, proof, &mut empty(alloc)),
+        Admission::No { number } => Ok(Verdict::Refused { step: number }),
+    }
+}
+
+// Nothing is taken as proved, and nothing is to be proved.
+fn empty(alloc: Global) -> State
+    ensures { plain_state result ≡ state_with [] [] }
+{
+    State {
+        hyps: Vec::new(alloc),
+        goals: VecDeque::new(alloc),
+    }
+}
+
+// The same of a proof whose certificates hold.
+fn check_blocks(
+    alloc: Global,
+    theory: &Theory,
+    proof: &Proof,
+    state: &mut State,
+) -> Result<Verdict, AllocError>
+    requires fits { ProofFor theory.now (plain_proof proof.now) }
+    requires admissible { Admissible theory.now (plain_proof proof.now) }
+    requires start { plain_state state.old ≡ state_with [] [] }
+    ensures { IfOk result (Decides theory.now (plain_proof proof.now)) }
+{
+    let mut done = proof.certificates.len() as u64;
+    let mut earlier = 0;
+    for block in &proof.blocks {
+        if let Some(number) = run_block(alloc, theory, proof, state, block)? {
+            return Ok(Verdict::Refused {
+                step: done + number,
+            });
+        }
+        end_block(state, earlier, block)?;
+        done += block.steps.len() as u64;
+        earlier += block.goals.len();
+    }
+    Ok(Verdict::Accepted)
+}
+
+/// The goals that each block's Derive steps appended to the hypotheses, in order, of an accepted
+/// proof. Each of them behaves.
+pub fn derived(alloc: Global, theory: &Theory, proof: &Proof) -> Result<Vec<Vec<Goal>>, AllocError>
+    requires fits { ProofFor theory.now (plain_proof proof.now) }
+    requires accepted { Accepted theory.now (plain_proof proof.now) }
+    ensures exact { IfOk result (λ v.
+        Derives theory.now (plain_proof proof.now) (map plain_list v.items)) }
+    ensures sound { IfOk result (λ v. DerivedBehave theory.now (map plain_list v.items)) }
+{
+    theory.known();
+    let mut lists = Vec::new(alloc);
+    derive_blocks(alloc, theory, proof, &mut empty(alloc), &mut lists)?;
+    Ok(lists)
+}
+
+// The same, behind an empty list. No step fails, since the proof is accepted.
+fn derive_blocks(
+    alloc: Global,
+    theory: &Theory,
+    proof: &Proof,
+    state: &mut State,
+    lists: &mut Vec<Vec<Goal>>,
+) -> Result<(), AllocError>
+    requires fits { ProofFor theory.now (plain_proof proof.now) }
+    requires accepted { Accepted theory.now (plain_proof proof.now) }
+    requires start { plain_state state.old ≡ state_with [] [] }
+    requires nothing_yet { lists.old.items ≡ [] }
+    ensures { OnOk result (Derives theory.now (plain_proof proof.now)
+        (map plain_list lists.new.items)) }
+{
+    let mut earlier = 0;
+    for block in &proof.blocks {
+        run_block(alloc, theory, proof, state, block)?;
+        lists.push(end_block(state, earlier, block)?)?;
+        earlier += block.goals.len();
+    }
+    Ok(())
+}

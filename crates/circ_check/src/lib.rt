@@ -1,0 +1,8 @@
+//! The checker of proofs: whether each certificate and each step is an instance of its rule, and
+//! what the Derive steps of an accepted proof derived.
+#![tactic(auto)]
+
+mod checking;
+mod running;
+
+pub use checking::{Verdict, check, derived};

@@ -1,0 +1,113 @@
+//! The steps of a block, and the way from one block to the next.
+ghost use Rattle.std.specs.Prelude.{◌≡◌, ◌≤◌, ◌<◌, ◌++◌, [], length, map, take, drop, IfOk};
+ghost use Rattle.std.specs.Result.{OnOk};
+ghost use Rattle.std.specs.List.{AllByRecursion};
+ghost use Rattle.circ_theory.specs.Signature.{IsWellSorted};
+ghost use Rattle.circ_theory.specs.Link.{named};
+ghost use Rattle.circ_replay.specs.Goals.{AreSortedGoals};
+ghost use Rattle.circ_rules.specs.Rules.{state as state_with, map_step, AllOfStep, IsSortedState};
+ghost use Rattle.circ_rules.specs.Proof.{IsBlockFor};
+ghost use Rattle.circ_rules.specs.Accepted.{steps_of};
+ghost use Rattle.circ_rules.specs.Plain.{plain_state, plain_steps, plain_block};
+ghost use Rattle.circ_check.specs.Deciding.{RunsOrFails};
+
+use circ_rules::{Block, Proof, State, Step, apply};
+use circ_theory::{Goal, Theory};
+use std::alloc::{AllocError, Global};
+use std::collections::VecDeque;
+
+// The goal once more. Its terms are shared.
+fn share(goal: &Goal) -> Result<Goal, AllocError>
+    ensures { IfOk result (λ g. g ≡ goal.now) }
+{
+    Ok(Goal {
+        left: goal.left.share()?,
+        right: goal.right.share()?,
+    })
+}
+
+// The goals become hypotheses.
+fn assume(hyps: &mut Vec<Goal>, goals: &[Goal]) -> Result<(), AllocError>
+    ensures { OnOk result (hyps.new.items ≡ hyps.old.items ++ goals.now) }
+{
+    for goal in goals {
+        hyps.push(share(goal)?)?;
+    }
+    Ok(())
+}
+
+// The goals are to be proved.
+fn put(queue: &mut VecDeque<Goal>, goals: &[Goal]) -> Result<(), AllocError>
+    ensures { OnOk result (queue.new.items ≡ queue.old.items ++ goals.now) }
+{
+    for goal in goals {
+        queue.push_back(share(goal)?)?;
+    }
+    Ok(())
+}
+
+// Does the steps. The number of the first that is no instance of its rule, counted from 1.
+fn run(
+    alloc: Global,
+    theory: &Theory,
+    proof: &Proof,
+    state: &mut State,
+    steps: &[Step],
+) -> Result<Option<u64>, AllocError>
+    requires in_table { AllByRecursion (AllOfStep (λ n. n < length proof.now.table.items))
+        (plain_steps steps.now) }
+    requires table_sorted { AllByRecursion (IsWellSorted theory.now.signature)
+        proof.now.table.items }
+    requires state_sorted { IsSortedState theory.now (plain_state state.old) }
+    ensures { IfOk result (RunsOrFails theory.now proof.now.gamma
+        (map (map_step (named proof.now.table.items)) (plain_steps steps.now))
+        (plain_state state.old) (plain_state state.new)) }
+{
+    let table = proof.table.as_slice();
+    for (done, step) in steps.iter().enumerate() {
+        if !apply(alloc, theory, table, &proof.gamma, state, step)? {
+            return Ok(Some(done as u64 + 1));
+        }
+    }
+    Ok(None)
+}
+
+// Does the steps of a block, under the hypotheses that are there.
+pub(crate) fn run_block(
+    alloc: Global,
+    theory: &Theory,
+    proof: &Proof,
+    state: &mut State,
+    block: &Block,
+) -> Result<Option<u64>, AllocError>
+    requires table_sorted { AllByRecursion (IsWellSorted theory.now.signature)
+        proof.now.table.items }
+    requires fits { IsBlockFor proof.now.table.items (plain_block block.now) }
+    requires hyps_sorted { AreSortedGoals theory.now state.old.hyps.items }
+    requires no_goal { state.old.goals.items ≡ [] }
+    ensures { IfOk result (RunsOrFails theory.now proof.now.gamma
+        (steps_of proof.now.table.items (plain_block block.now))
+        (state_with state.old.hyps.items block.now.goals.items) (plain_state state.new)) }
+{
+    let steps = block.steps.as_slice();
+    put(&mut state.goals, block.goals.as_slice())?;
+    run(alloc, theory, proof, state, steps)
+}
+
+// From a block's end to the next one: the block's own goals take the place of what it derived,
+// behind those of earlier blocks. Answers what it derived.
+pub(crate) fn end_block(
+    state: &mut State,
+    earlier: usize,
+    block: &Block,
+) -> Result<Vec<Goal>, AllocError>
+    requires { earlier ≤ length state.old.hyps.items }
+    ensures hyps { OnOk result (state.new.hyps.items
+        ≡ take earlier state.old.hyps.items ++ block.now.goals.items) }
+    ensures goals { state.new.goals ≡ state.old.goals }
+    ensures derived { IfOk result (λ v. v.items ≡ drop earlier state.old.hyps.items) }
+{
+    let derived = state.hyps.split_off(earlier)?;
+    assume(&mut state.hyps, block.goals.as_slice())?;
+    Ok(derived)
+}

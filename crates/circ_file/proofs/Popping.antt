@@ -1,0 +1,29 @@
+-- A part that leaves the queue.
+use Rattle.std.specs.Prelude.{◌≡◌, List, [], ◌∷◌, ◌++◌, length, map, drop, Option, Some, None, refl}
+use Rattle.std.specs.Option.{option_to_list}
+use Rattle.std.proofs.Common.{◌∙◌, sym, ap, arith}
+use Rattle.circ_term.specs.Tree.{Tree}
+use Rattle.circ_file.specs.View.{plain_part, now_at, IsKeptAt, Pops}
+use Rattle.circ_file.specs.declared.part.Part.{Part as CodePart}
+use Rattle.circ_file.specs.declared.machine.Machine.{Machine}
+use Rattle.circ_file.specs.declared.machine.Mode.{Mode}
+use Rattle.circ_file.specs.declared.machine.Mode.TheVariants as mode
+
+none_left : (xs : List CodePart) → xs ≡ drop 1 xs → xs ≡ []
+none_left [] e = refl
+none_left (x ∷ xs) e = absurd (let n = ap length e in omega (arith, n))
+
+pub popped : (o : Option CodePart) (xs ys : List CodePart) → xs ≡ option_to_list o ++ ys → ys ≡ drop 1 xs → Pops o (map plain_part xs) (map plain_part ys)
+popped None xs ys a b = let left = none_left ys (b ∙ ap (drop 1) a) in (ap (map plain_part) (a ∙ left), ap (map plain_part) left)
+popped (Some x) xs ys a b = ap (map plain_part) a
+
+-- the part under way is as before
+pub now_same : (k : Mode) (m n : Machine) → n.places ≡ m.places → n.links ≡ m.links → n.names ≡ m.names → n.chain ≡ m.chain → n.splits ≡ m.splits
+    → now_at k n ≡ now_at k m
+now_same mode.Placing m n a b c d e = ap (λ x. now_at mode.Placing (record n { places = x })) a
+now_same mode.Certifying m n a b c d e = ap (λ x. now_at mode.Certifying (record n { links = x })) b
+now_same mode.Opened m n a b c d e = ap (λ x. now_at mode.Opened (record n { names = x })) c
+now_same mode.Simplifying m n a b c d e = ap (λ x. now_at mode.Simplifying (record n { chain = x })) d
+now_same mode.Reducing m n a b c d e =
+    ap (λ x. now_at mode.Reducing (record n { chain = x })) d ∙ ap (λ x. now_at mode.Reducing (record n { chain = m.chain; splits = x })) e
+now_same _ m n a b c d e = refl

@@ -1,0 +1,6 @@
+use Rattle.std.proofs.Common.{◌≡◌, nat_lt, drop}
+use Rattle.std.specs.List.{list_all}
+use Rattle.circ_file.proofs.checks.are_below.Given as goal
+
+abbrev pub invariant-loop-number : goal.invariant-loop-number
+invariant-loop-number l = list_all (λ n. nat_lt n l.count) (drop l.number-index l.numbers) ≡ list_all (λ n. nat_lt n l.count) l.numbers

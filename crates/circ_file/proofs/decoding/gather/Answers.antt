@@ -1,0 +1,15 @@
+use Rattle.std.proofs.Common.{◌≡◌, ◌∙◌, [], sym, ap}
+use Rattle.circ_rules.specs.Proof.{Proof}
+use Rattle.circ_proof_text.specs.Parts.{Gathered, gathered, gather_all}
+use Rattle.circ_file.specs.Decoding.{gathered_of}
+use Rattle.circ_file.proofs.decoding.gather.Goals as goal
+
+abbrev proof_in : Gathered → Proof
+proof_in g = record { table = g.table; places = g.places; certificates = g.certificates; blocks = g.blocks }
+
+pub returns : goal.returns
+returns c q e =
+    let g = c.loop-part.gathering in
+    let none = c.in_default.ensures.queue c.loop-part.invariant.fault in
+    let all : gathered_of g ≡ gathered q = sym (ap (gather_all (gathered_of g)) none.0) ∙ c.loop-part.invariant.gathered ∙ e in
+    ap proof_in all

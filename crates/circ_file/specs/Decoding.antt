@@ -1,0 +1,28 @@
+-- What it is to decode bytes.
+use Rattle.std.specs.Prelude.{◌≡◌, List, ℕ, map, Result, Ok, Err}
+use Rattle.circ_theory.specs.Theory.{Theory}
+use Rattle.circ_rules.specs.Proof.{Proof}
+use Rattle.circ_rules.specs.Plain.{plain_proof, plain_block, plain_steps, plain_certificates}
+use Rattle.circ_rules.specs.declared.proof.Proof.{Proof as CodeProof}
+use Rattle.circ_proof_text.specs.ProofText.{ReadsAsProof}
+use Rattle.circ_proof_text.specs.Parts.{Part, Gathered}
+use Rattle.circ_file.specs.Feeding.{FaultIs}
+use Rattle.circ_file.specs.declared.fault.FileFault.{FileFault}
+use Rattle.circ_file.specs.declared.decoding.Gathering.{Gathering}
+
+-- the proof that the bytes read as, or their first cause
+abbrev pub Decodes : Theory → List ℕ → Result CodeProof FileFault → Type 0
+Decodes th bytes (Ok p) = ReadsAsProof th bytes (plain_proof p)
+Decodes th bytes (Err e) = FaultIs th bytes e
+
+-- what is gathered so far
+abbrev pub gathered_of : Gathering → Gathered
+gathered_of g = record {
+  table = g.proof.table.items;
+  places = g.proof.gamma;
+  certificates = plain_certificates g.proof.certificates.items;
+  blocks = map plain_block g.proof.blocks.items;
+  goals = g.goals.items;
+  names = g.names.items;
+  steps = plain_steps g.steps.items;
+}

@@ -1,0 +1,73 @@
+-- A reader of a proof's text, which comes in pieces.
+use Rattle.std.specs.Prelude.{◌≡◌, ◌≢◌, ℕ, ◌+◌, ◌<◌, ◌^◌, List, [], ◌∷◌, ◌++◌, length, Option, Some, None, Result, Ok, Err}
+use Rattle.circ_theory.specs.Theory.{Theory}
+use Rattle.circ_line.specs.Plain.{NoFeed}
+use Rattle.circ_grammar.specs.FirstBad.{Line_fault, Limit_fault}
+use Rattle.circ_rules.specs.Proof.{Proof}
+use Rattle.circ_proof_text.specs.Parts.{Part, parts_of}
+use Rattle.circ_proof_text.specs.ProofText.{ReadsAsProof, FirstCause}
+use Rattle.circ_proof_text.specs.Reading.{Reading, StandsFor}
+use Rattle.circ_file.specs.View.{now_of, queue_of, plain_part}
+use Rattle.circ_file.specs.Lines.{IsReader, seen_of}
+use Rattle.circ_file.specs.declared.fault.FileFault.{FileFault}
+use Rattle.circ_file.specs.declared.fault.FileFault.TheVariants.{Line, Limit, Memory}
+use Rattle.circ_file.specs.declared.part.Part.{Part as CodePart}
+use Rattle.circ_file.specs.declared.reader.FileReader.{FileReader}
+
+-- the bytes up to the first line feed, and those after it
+pub record IsCut (bytes line after : List ℕ) : Type 0 where
+  pub no_feed : NoFeed line
+  pub whole : bytes ≡ line ++ (10 ∷ after)
+
+-- the fault is the first cause of the bytes, or memory ran out
+abbrev pub FaultIs : Theory → List ℕ → FileFault → Type 0
+FaultIs th bytes (Line n) = FirstCause th bytes (Line_fault n)
+FaultIs th bytes (Limit n) = FirstCause th bytes (Limit_fault n)
+FaultIs th bytes Memory = Unit {0}
+
+-- what is kept, where the open splits want these numbers of whys
+abbrev pub reading_of : (wanted : List ℕ) → FileReader → Reading
+reading_of wanted f = record {
+  lines = f.lines;
+  rest = f.rest.items;
+  under_way = now_of f.reader.machine;
+  seen = seen_of wanted f.reader;
+  waiting = queue_of f.reader.machine;
+}
+
+-- what a reader keeps true as long as it has no fault
+pub record IsSound (f : FileReader) : Type 0 where
+  pub room : f.lines + 1 < 2 ^ 64
+  pub reader : f.fault ≡ None → IsReader f.reader
+
+-- The reader was fed the bytes x without a fault, and has handed out these parts.
+pub record Stands (th : Theory) (x : List ℕ) (handed : List Part) (f : FileReader) : Type 0 where
+  pub theory : f.reader.theory.now ≡ th
+  pub wanted : List ℕ
+  pub stands : StandsFor th x handed (reading_of wanted f)
+  pub fault : f.fault ≡ None
+
+-- It was fed the piece too; or a fault is that of every text that goes on so.
+abbrev pub FeedsLines : Result (Unit {0}) FileFault → Theory → (x piece : List ℕ) → List Part → FileReader → Type 0
+FeedsLines (Ok _) th x piece handed f = Stands th (x ++ piece) handed f
+FeedsLines (Err e) th x piece handed f = (later : List ℕ) → FaultIs th ((x ++ piece) ++ later) e
+
+-- The same, and the fault is kept.
+abbrev pub Feeds : Result (Unit {0}) FileFault → Theory → (x piece : List ℕ) → List Part → FileReader → Type 0
+Feeds (Ok _) th x piece handed f = Stands th (x ++ piece) handed f
+Feeds (Err e) th x piece handed f = (f.fault ≡ Some e) × ((later : List ℕ) → FaultIs th ((x ++ piece) ++ later) e)
+
+-- The same of the rest of a line and its line feed.
+abbrev pub EndsLine : Result (Unit {0}) FileFault → Theory → (x more_bytes : List ℕ) → List Part → FileReader → Type 0
+EndsLine (Ok _) th x bytes handed f = Stands th (x ++ (bytes ++ (10 ∷ []))) handed f
+EndsLine (Err e) th x bytes handed f = (later : List ℕ) → FaultIs th ((x ++ (bytes ++ (10 ∷ []))) ++ later) e
+
+-- the next part is handed out, or none is whole
+abbrev pub Hands : Option CodePart → Theory → List ℕ → List Part → FileReader → Type 0
+Hands None th x handed f = (queue_of f.reader.machine ≡ []) × Stands th x handed f
+Hands (Some part) th x handed f = Stands th x (handed ++ plain_part part ∷ []) f
+
+-- The text is that of a proof, of which the parts handed out and those that are whole are all; or this is its fault.
+abbrev pub Ends : Result (Unit {0}) FileFault → Theory → List ℕ → List Part → FileReader → Type 0
+Ends (Ok _) th x handed f = (p : Proof) × ReadsAsProof th x p × (handed ++ queue_of f.reader.machine ≡ parts_of p)
+Ends (Err e) th x handed f = FaultIs th x e × (e ≢ Memory)

@@ -1,0 +1,115 @@
+-- What contracts see of the part under way, and of the parts that are whole.
+use Rattle.std.specs.Prelude.{◌≡◌, ◌<◌, ◌^◌, ℕ, length, Bool, true, false, List, [], ◌∷◌, ◌++◌, map, Option, Some, None}
+use Rattle.circ_term.specs.Tree.{Tree}
+use Rattle.circ_special.specs.Special.{place}
+use Rattle.circ_special.specs.declared.place.Place.{Place}
+use Rattle.circ_replay.specs.Plain.{plain_links, plain_chain}
+use Rattle.circ_line.specs.Line.{Line, head_line, table_line, place_line, certificate_line, block_line, goal_line, end_line}
+use Rattle.circ_grammar.specs.Now.{Now, Begin, Tabling, Placing, Certifying, Opened, Stepping, Simplifying, Reducing, Closed, Ended}
+use Rattle.circ_grammar.specs.Now.{next_now, line_part, front_part, step_part, is_step}
+use Rattle.circ_rules.specs.Proof.{goal_of}
+use Rattle.circ_rules.specs.Plain.{plain_step}
+use Rattle.circ_proof_text.specs.Parts.{Part, Head, Certificate, Goals, Step, part_with}
+use Rattle.circ_proof_text.specs.ProofText.{place_numbers}
+use Rattle.circ_file.specs.Splits.{tops}
+use Rattle.circ_file.specs.declared.part.Part.{Part as CodePart}
+use Rattle.circ_file.specs.declared.part.Part.TheVariants as part
+use Rattle.circ_file.specs.declared.machine.Mode.{Mode}
+use Rattle.circ_file.specs.declared.machine.Mode.TheVariants as mode
+use Rattle.circ_file.specs.declared.machine.Machine.{Machine}
+
+abbrev pub plain_part : CodePart → Part
+plain_part (part.Head table gamma) = Head table.items gamma
+plain_part (part.Certificate links) = Certificate (plain_links links.items)
+plain_part (part.Goals goals names) = Goals goals.items names.items
+plain_part (part.Step step) = Step (plain_step step)
+
+abbrev pub now_at : Mode → Machine → Now
+now_at mode.Begin m = Begin
+now_at mode.Tabling m = Tabling
+now_at mode.Placing m = Placing (map place_numbers m.places.items)
+now_at mode.Certifying m = Certifying (plain_links m.links.items)
+now_at mode.Opened m = Opened m.names.items
+now_at mode.Stepping m = Stepping
+now_at mode.Simplifying m = Simplifying (plain_chain m.chain)
+now_at mode.Reducing m = Reducing (tops m.splits.items []) (plain_chain m.chain)
+now_at mode.Closed m = Closed
+now_at mode.Ended m = Ended
+
+-- the part under way
+abbrev pub now_of : Machine → Now
+now_of m = now_at m.mode m
+
+-- the parts that are whole and not handed out
+abbrev pub queue_of : Machine → List Part
+queue_of m = map plain_part m.queue.items
+
+-- Before the first place there are none, and the goals of a block are those of their numbers.
+abbrev pub IsKeptAt : Mode → List Tree → Machine → Type 0
+IsKeptAt mode.Begin ts m = m.places.items ≡ []
+IsKeptAt mode.Tabling ts m = m.places.items ≡ []
+IsKeptAt mode.Opened ts m = m.goals.items ≡ map (goal_of ts) m.names.items
+IsKeptAt _ ts m = Unit {0}
+
+abbrev pub IsKept : List Tree → Machine → Type 0
+IsKept ts m = IsKeptAt m.mode ts m
+
+-- the parts that a line shows which begins a certificate or the first block
+abbrev pub front_parts : List Tree → Now → List Part
+front_parts ts n = map (part_with ts) (front_part ts n)
+
+-- and one that begins a step
+abbrev pub step_parts : List Tree → Now → List Part
+step_parts ts n = map (part_with ts) (step_part ts n)
+
+-- the parts that a line shows
+abbrev pub parts_at : List Tree → Now → Line → List Part
+parts_at ts n l = map (part_with ts) (line_part ts n l)
+
+-- the places with the one that a line names
+abbrev pub places_with : List Place → Line → List Place
+places_with gs (place_line f i) = gs ++ place f i ∷ []
+places_with gs _ = gs
+
+-- The line is the next, and what it shows goes last in the queue.
+pub record Takes (ts : List Tree) (m : Machine) (l : Line) (n : Machine) : Type 0 where
+  pub next : next_now (now_of m) l ≡ Some (now_of n)
+  pub queue : queue_of n ≡ queue_of m ++ parts_at ts (now_of m) l
+  pub places : n.places.items ≡ places_with m.places.items l
+  pub kept : IsKept ts n
+
+-- whether the line was taken, or cannot come here
+abbrev pub Moves : Bool → List Tree → Machine → Line → Machine → Type 0
+Moves true ts m l n = Takes ts m l n
+Moves false ts m l n = next_now (now_of m) l ≡ None
+
+-- A step may begin, and the part that ends by it goes last in the queue; or none may.
+abbrev pub Begins : Bool → List Tree → Machine → Machine → Type 0
+Begins true ts m n = (is_step (now_of m) ≡ true) × (queue_of n ≡ queue_of m ++ step_parts ts (now_of m)) × (n.places.items ≡ m.places.items)
+Begins false ts m n = is_step (now_of m) ≡ false
+
+-- the first part is taken out, or there is none
+abbrev pub Pops : Option CodePart → (old new : List Part) → Type 0
+Pops None old new = (old ≡ []) × (new ≡ [])
+Pops (Some part) old new = old ≡ plain_part part ∷ new
+
+-- the number of open splits
+abbrev pub splits_in : Now → ℕ
+splits_in (Reducing ss chain) = length ss
+splits_in _ = 0
+
+-- A place's argument is a number that a place can have, and a goal's numbers are in a table of this length.
+abbrev pub IsReady : (count : ℕ) → Line → Type 0
+IsReady count (place_line f i) = i < 2 ^ 16
+IsReady count (goal_line a b) = (a < count) × (b < count)
+IsReady count _ = Unit {0}
+
+-- a line of a block or of a certificate
+abbrev pub IsInside : Line → Type 0
+IsInside head_line = ⊥
+IsInside (table_line l) = ⊥
+IsInside (place_line f i) = ⊥
+IsInside certificate_line = ⊥
+IsInside block_line = ⊥
+IsInside end_line = ⊥
+IsInside _ = Unit {0}

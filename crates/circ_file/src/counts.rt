@@ -1,0 +1,93 @@
+//! How many certificates and steps there are.
+ghost use Rattle.std.specs.Prelude.{◌≡◌, ℕ, ◌≤◌, ◌<◌, ◌^◌, ◌==◌, false, length, List};
+ghost use Rattle.std.specs.List.{slice_get};
+ghost use Rattle.std.specs.Option.{option_map_or};
+ghost use Rattle.circ_line.specs.Plain.{plain_line};
+ghost use Rattle.circ_special.specs.declared.place.Place.{Place};
+ghost use Rattle.circ_special.specs.Special.{place};
+ghost use Rattle.circ_rules.specs.Certified.{derivatives_at, due};
+ghost use Rattle.circ_theory.specs.Fresh.{derivatives_of};
+ghost use Rattle.circ_file.specs.View.{places_with};
+ghost use Rattle.circ_file.specs.Counting.{certificates_with, steps_with};
+
+use circ_line::Line;
+use circ_theory::Theory;
+
+/// What the lines so far have begun, and what their places ask for.
+#[derive(Clone, Copy)]
+pub(crate) struct Counts {
+    /// How many certificates are due for the places.
+    pub(crate) due: u64,
+    pub(crate) certificates: u64,
+    pub(crate) steps: u64,
+}
+
+impl Counts {
+    pub(crate) fn new() -> Counts
+        ensures due { result.due ≡ 0 }
+        ensures certificates { result.certificates ≡ 0 }
+        ensures steps { result.steps ≡ 0 }
+    {
+        Counts {
+            due: 0,
+            certificates: 0,
+            steps: 0,
+        }
+    }
+
+    /// The counts with a line more.
+    pub(crate) fn with(self, theory: &Theory, line: &Line) -> Counts
+        requires certificates { self.certificates < 2 ^ 63 }
+        requires steps { self.steps < 2 ^ 63 }
+        requires due { self.due < 2 ^ 63 }
+        ensures due { (gs : List Place) → self.due ≡ length (due theory.now gs) →
+            result.due ≡ length (due theory.now (places_with gs (plain_line line.now))) }
+        ensures certificates { result.certificates ≡
+            certificates_with self.certificates (plain_line line.now) }
+        ensures steps { result.steps ≡ steps_with self.steps (plain_line line.now) }
+    {
+        let mut counts = self;
+        match line {
+            Line::Place { op, .. } => counts.due += derivative_count_at(theory, *op),
+            Line::Certificate => counts.certificates += 1,
+            Line::Simplify | Line::Reduce | Line::Derive | Line::Done => counts.steps += 1,
+            _ => {}
+        }
+        counts
+    }
+}
+
+// How many derivatives the result sort of an operator has.
+fn derivative_count_at(theory: &Theory, op: u32) -> u64
+    ensures exact { (arg : ℕ) → result ≡ length (derivatives_at theory.now (place op arg)) }
+    ensures few { result ≤ 256 }
+{
+    match theory.op(op) {
+        Some(decl) => derivative_count(theory, decl.result),
+        None => 0,
+    }
+}
+
+fn derivative_count(theory: &Theory, sort: u32) -> u64
+    ensures exact { result ≡ length (derivatives_of theory.now sort) }
+    ensures few { result ≤ 256 }
+{
+    let mut count: u64 = 0;
+    for number in 0..theory.derivative_count() {
+        if observes(theory, number, sort) {
+            count += 1;
+        }
+    }
+    count
+}
+
+// Whether the derivative has a hole of the sort.
+fn observes(theory: &Theory, number: u32, sort: u32) -> bool
+    ensures { result ≡ option_map_or (λ d. d.hole == sort)
+        (slice_get theory.now.derivatives number) false }
+{
+    match theory.hole_sort(number) {
+        Some(hole) => hole == sort,
+        None => false,
+    }
+}

@@ -1,0 +1,141 @@
+//! Proofs from bytes.
+ghost use Rattle.std.specs.Prelude.{◌≡◌, [], IfOk};
+ghost use Rattle.circ_rules.specs.Plain.{plain_proof};
+ghost use Rattle.circ_rules.specs.Proof.{Proof as PlainProof};
+ghost use Rattle.circ_proof_text.specs.Parts.{nothing_gathered, gathered};
+ghost use Rattle.circ_proof_text.specs.Parts.{gather, gather_all, end_block};
+ghost use Rattle.circ_file.specs.View.{plain_part, queue_of};
+ghost use Rattle.circ_file.specs.Feeding.{IsSound, Stands};
+ghost use Rattle.circ_file.specs.Decoding.{gathered_of, Decodes};
+
+use crate::fault::FileFault;
+use crate::part::Part;
+use crate::reader::FileReader;
+use circ_rules::{Block, Proof, Step};
+use circ_special::Gamma;
+use circ_theory::{Goal, Theory};
+use std::alloc::{AllocError, Global};
+use std::mem;
+
+/// The proof that the bytes are the text of, or the first line at fault.
+pub fn decode(alloc: Global, theory: &Theory, bytes: &[u8]) -> Result<Proof, FileFault>
+    ensures { Decodes theory.now bytes.now result }
+{
+    let mut reader = FileReader::new(alloc, theory);
+    decode_by(alloc, theory, &mut reader, bytes)
+}
+
+// The proof that is read by a reader that was fed nothing.
+fn decode_by(
+    alloc: Global,
+    theory: &Theory,
+    reader: &mut FileReader,
+    bytes: &[u8],
+) -> Result<Proof, FileFault>
+    requires sound { IsSound reader.old }
+    requires lines { reader.old.lines ≡ 0 }
+    requires stands { Stands theory.now [] [] reader.old }
+    ensures { Decodes theory.now bytes.now result }
+{
+    if let Err(fault) = reader.feed(bytes) {
+        return Err(fault);
+    }
+    if let Err(fault) = reader.end() {
+        return Err(fault);
+    }
+    match gather(alloc, theory, reader) {
+        Ok(proof) => Ok(proof),
+        Err(_) => Err(FileFault::Memory),
+    }
+}
+
+// The proof whose parts wait.
+fn gather(alloc: Global, theory: &Theory, reader: &mut FileReader) -> Result<Proof, AllocError>
+    requires sound { IsSound reader.old }
+    requires fault { reader.old.fault ≡ None }
+    ensures { IfOk result (λ p. (q : PlainProof) →
+        gather_all nothing_gathered (queue_of reader.old.reader.machine) ≡ gathered q →
+        plain_proof p ≡ q) }
+{
+    let mut gathering = Gathering::new(alloc, theory);
+    while let Some(part) = reader.next() {
+        gathering.take(part)?;
+    }
+    Ok(gathering.proof)
+}
+
+// A proof so far, and its block that is not ended.
+#[derive(Drop)]
+struct Gathering {
+    alloc: Global,
+    proof: Proof,
+    goals: Vec<Goal>,
+    names: Vec<(u32, u32)>,
+    steps: Vec<Step>,
+}
+
+impl Gathering {
+    fn new(alloc: Global, theory: &Theory) -> Gathering
+        ensures { gathered_of result ≡ nothing_gathered }
+    {
+        Gathering {
+            alloc,
+            proof: Proof {
+                table: Vec::new(alloc),
+                gamma: no_places(alloc, theory),
+                certificates: Vec::new(alloc),
+                blocks: Vec::new(alloc),
+            },
+            goals: Vec::new(alloc),
+            names: Vec::new(alloc),
+            steps: Vec::new(alloc),
+        }
+    }
+
+    // Takes the next part.
+    fn take(&mut self, part: Part) -> Result<(), AllocError>
+        ensures { IfOk result (λ _. gathered_of self.new ≡
+            gather (gathered_of self.old) (plain_part part)) }
+    {
+        match part {
+            Part::Head { table, gamma } => {
+                self.proof.table = table;
+                self.proof.gamma = gamma;
+            }
+            Part::Certificate { links } => self.proof.certificates.push(links)?,
+            Part::Goals { goals, names } => {
+                self.goals = goals;
+                self.names = names;
+                self.steps = Vec::new(self.alloc);
+            }
+            Part::Step { step: Step::Done } => self.end_block()?,
+            Part::Step { step } => self.steps.push(step)?,
+        }
+        Ok(())
+    }
+
+    // The block is whole by its last step.
+    fn end_block(&mut self) -> Result<(), AllocError>
+        ensures { IfOk result (λ _. gathered_of self.new ≡ end_block (gathered_of self.old)) }
+    {
+        self.steps.push(Step::Done)?;
+        let goals = mem::replace(&mut self.goals, Vec::new(self.alloc));
+        let names = mem::replace(&mut self.names, Vec::new(self.alloc));
+        let steps = mem::replace(&mut self.steps, Vec::new(self.alloc));
+        self.proof.blocks.push(Block {
+            goals,
+            names,
+            steps,
+        })?;
+        Ok(())
+    }
+}
+
+fn no_places(alloc: Global, theory: &Theory) -> Gamma
+    ensures { result ≡ [] }
+{
+    match Gamma::of(theory, Vec::new(alloc)) {
+        Some(gamma) => gamma,
+        None => unreachable!(),
+    }
+}

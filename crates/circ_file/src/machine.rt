@@ -1,0 +1,253 @@
+//! The lines of a proof in their order: the part under way, and the parts that are whole.
+ghost use Rattle.std.specs.Prelude.{◌≡◌, ◌++◌, [], true, false, List, IfOk, OnOk};
+ghost use Rattle.circ_term.specs.Tree.{Tree};
+ghost use Rattle.circ_special.specs.Special.{IsSet};
+ghost use Rattle.circ_replay.specs.Plain.{plain_chain};
+ghost use Rattle.circ_line.specs.Line.{head_line, table_line, place_line, TableLine};
+ghost use Rattle.circ_line.specs.Line.{certificate_line, block_line, end_line};
+ghost use Rattle.circ_grammar.specs.Machine.{empty};
+ghost use Rattle.circ_grammar.specs.Now.{Begin, Ended, is_front, is_block};
+ghost use Rattle.circ_proof_text.specs.Parts.{Head};
+ghost use Rattle.circ_file.specs.View.{now_of, queue_of, plain_part, front_parts};
+ghost use Rattle.circ_file.specs.View.{IsKept, Moves, Pops};
+
+use crate::part::Part;
+use crate::splits::OpenSplit;
+use circ_replay::{Chain, Link};
+use circ_special::{Gamma, Place};
+use circ_term::Term;
+use circ_theory::{Goal, Theory};
+use std::alloc::{AllocError, Global};
+use std::collections::VecDeque;
+use std::mem;
+
+/// What the last line belongs to.
+#[derive(Clone, Copy)]
+pub(crate) enum Mode {
+    Begin,
+    Tabling,
+    Placing,
+    Certifying,
+    Opened,
+    Stepping,
+    Simplifying,
+    Reducing,
+    Closed,
+    Ended,
+}
+
+/// The part under way, and the parts that are whole.
+#[derive(Drop)]
+pub(crate) struct Machine {
+    pub(crate) alloc: Global,
+    pub(crate) mode: Mode,
+    /// The places so far.
+    pub(crate) places: Vec<Place>,
+    /// The links of a certificate.
+    pub(crate) links: Vec<Link>,
+    /// The goals of a block.
+    pub(crate) goals: Vec<Goal>,
+    /// The numbers of their sides.
+    pub(crate) names: Vec<(u32, u32)>,
+    /// The links of a Simplify, or of the innermost reason.
+    pub(crate) chain: Chain,
+    /// The splits that wait for reasons, the innermost last.
+    pub(crate) splits: Vec<OpenSplit>,
+    pub(crate) queue: VecDeque<Part>,
+}
+
+impl Machine {
+    /// No line was read.
+    pub(crate) fn new(alloc: Global) -> Machine
+        ensures begin { now_of result ≡ Begin }
+        ensures queue { queue_of result ≡ [] }
+        ensures places { result.places.items ≡ [] }
+        ensures kept { (ts : List Tree) → IsKept ts result }
+    {
+        Machine {
+            alloc,
+            mode: Mode::Begin,
+            places: Vec::new(alloc),
+            links: Vec::new(alloc),
+            goals: Vec::new(alloc),
+            names: Vec::new(alloc),
+            chain: empty_chain(alloc),
+            splits: Vec::new(alloc),
+            queue: VecDeque::new(alloc),
+        }
+    }
+
+    pub(crate) fn on_head(&mut self) -> bool
+        ensures { (ts : List Tree) → IsKept ts self.old →
+            Moves result ts self.old head_line self.new }
+    {
+        match self.mode {
+            Mode::Begin => {
+                self.mode = Mode::Tabling;
+                true
+            }
+            _ => false,
+        }
+    }
+
+    pub(crate) fn on_table(&mut self) -> bool
+        ensures { (ts : List Tree) (l : TableLine) → IsKept ts self.old →
+            Moves result ts self.old (table_line l) self.new }
+    {
+        matches!(self.mode, Mode::Tabling)
+    }
+
+    pub(crate) fn on_place(&mut self, place: Place) -> Result<bool, AllocError>
+        ensures { IfOk result (λ taken. (ts : List Tree) → IsKept ts self.old →
+            Moves taken ts self.old (place_line place.op place.arg) self.new) }
+    {
+        match self.mode {
+            Mode::Tabling | Mode::Placing => {
+                self.places.push(place)?;
+                self.mode = Mode::Placing;
+                Ok(true)
+            }
+            _ => Ok(false),
+        }
+    }
+
+    pub(crate) fn on_certificate(
+        &mut self,
+        theory: &Theory,
+        terms: &[Term],
+    ) -> Result<bool, AllocError>
+        requires kept { IsKept terms.now self.old }
+        requires set { IsSet theory.now self.old.places.items }
+        ensures { IfOk result (λ taken. Moves taken terms.now self.old certificate_line self.new) }
+    {
+        if !self.is_front() {
+            return Ok(false);
+        }
+        self.end_front(theory, terms)?;
+        self.links = Vec::new(self.alloc);
+        self.mode = Mode::Certifying;
+        Ok(true)
+    }
+
+    pub(crate) fn on_block(&mut self, theory: &Theory, terms: &[Term]) -> Result<bool, AllocError>
+        requires kept { IsKept terms.now self.old }
+        requires set { IsSet theory.now self.old.places.items }
+        ensures { IfOk result (λ taken. Moves taken terms.now self.old block_line self.new) }
+    {
+        if !self.is_block() {
+            return Ok(false);
+        }
+        self.end_front(theory, terms)?;
+        self.goals = Vec::new(self.alloc);
+        self.names = Vec::new(self.alloc);
+        self.mode = Mode::Opened;
+        Ok(true)
+    }
+
+    pub(crate) fn on_end(&mut self) -> bool
+        ensures { (ts : List Tree) → IsKept ts self.old →
+            Moves result ts self.old end_line self.new }
+    {
+        match self.mode {
+            Mode::Closed => {
+                self.mode = Mode::Ended;
+                true
+            }
+            _ => false,
+        }
+    }
+
+    /// Whether the last line was the proof's.
+    pub(crate) fn is_ended(&self) -> bool
+        ensures yes { result ≡ true → now_of self.now ≡ Ended }
+        ensures no { result ≡ false → now_of self.now ≡ Ended → ⊥ }
+    {
+        matches!(self.mode, Mode::Ended)
+    }
+
+    /// The part that has waited longest.
+    pub(crate) fn pop(&mut self) -> Option<Part>
+        ensures popped { Pops result (queue_of self.old) (queue_of self.new) }
+        ensures next { now_of self.new ≡ now_of self.old }
+        ensures places { self.new.places ≡ self.old.places }
+        ensures kept { (ts : List Tree) → IsKept ts self.old → IsKept ts self.new }
+    {
+        self.queue.pop_front()
+    }
+
+    // Whether a certificate or the first block may begin.
+    fn is_front(&self) -> bool
+        ensures { result ≡ is_front (now_of self.now) }
+    {
+        matches!(self.mode, Mode::Tabling | Mode::Placing | Mode::Certifying)
+    }
+
+    // Whether a block may begin.
+    fn is_block(&self) -> bool
+        ensures { result ≡ is_block (now_of self.now) }
+    {
+        match self.mode {
+            Mode::Closed => true,
+            _ => self.is_front(),
+        }
+    }
+
+    // The part that ends where a certificate or the first block begins goes to the queue.
+    fn end_front(&mut self, theory: &Theory, terms: &[Term]) -> Result<(), AllocError>
+        requires kept { IsKept terms.now self.old }
+        requires set { IsSet theory.now self.old.places.items }
+        ensures queue { OnOk result (queue_of self.new ≡
+            queue_of self.old ++ front_parts terms.now (now_of self.old)) }
+        ensures places { OnOk result (self.new.places.items ≡ self.old.places.items) }
+    {
+        match self.mode {
+            Mode::Tabling | Mode::Placing => {
+                let part = head(self.alloc, theory, terms, self.places.as_slice())?;
+                self.queue.push_back(part)?;
+            }
+            Mode::Certifying => {
+                let links = mem::replace(&mut self.links, Vec::new(self.alloc));
+                self.queue.push_back(Part::Certificate { links })?;
+            }
+            _ => {}
+        }
+        Ok(())
+    }
+}
+
+pub(crate) fn empty_chain(alloc: Global) -> Chain
+    ensures { plain_chain result ≡ empty }
+{
+    Chain {
+        left: Vec::new(alloc),
+        right: Vec::new(alloc),
+    }
+}
+
+// The table is shared, and the places are copied: both are still asked for.
+fn head(
+    alloc: Global,
+    theory: &Theory,
+    terms: &[Term],
+    places: &[Place],
+) -> Result<Part, AllocError>
+    requires { IsSet theory.now places.now }
+    ensures { IfOk result (λ p. plain_part p ≡ Head terms.now places.now) }
+{
+    let table = share_all(alloc, terms)?;
+    let places = Vec::from_slice(alloc, places)?;
+    match Gamma::of(theory, places) {
+        Some(gamma) => Ok(Part::Head { table, gamma }),
+        None => unreachable!(),
+    }
+}
+
+fn share_all(alloc: Global, terms: &[Term]) -> Result<Vec<Term>, AllocError>
+    ensures { IfOk result (λ v. v.items ≡ terms.now) }
+{
+    let mut out = Vec::with_capacity(alloc, terms.len())?;
+    for term in terms {
+        out.push(term.share()?)?;
+    }
+    Ok(out)
+}

@@ -1,0 +1,29 @@
+//! The parts of a proof.
+use circ_replay::Link;
+use circ_rules::Step;
+use circ_special::Gamma;
+use circ_term::Term;
+use circ_theory::Goal;
+
+/// A part of a proof, in the order of its text.
+#[derive(Drop)]
+pub(crate) enum Part {
+    /// The table and the special set.
+    Head {
+        table: Vec<Term>,
+        gamma: Gamma,
+    },
+    /// A certificate of the special set.
+    Certificate {
+        links: Vec<Link>,
+    },
+    /// The goals of a block, and the numbers of their sides in the table.
+    Goals {
+        goals: Vec<Goal>,
+        names: Vec<(u32, u32)>,
+    },
+    /// A step of a block.
+    Step {
+        step: Step,
+    },
+}

@@ -1,0 +1,197 @@
+//! A reader that is fed the bytes of a proof, and hands out its parts.
+ghost use Rattle.std.specs.Prelude.{◌≡◌, ◌++◌, ◌+◌, ◌-◌, ◌<◌, ◌≤◌, ◌^◌, ◌∷◌, [], ℕ, List, length};
+ghost use Rattle.std.specs.Prelude.{Some, None, Err, IfOk, OnOk, MatchOption, true, false};
+ghost use Rattle.circ_theory.specs.Theory.{Theory};
+ghost use Rattle.circ_line.specs.Plain.{NoFeed};
+ghost use Rattle.circ_grammar.specs.Now.{Ended};
+ghost use Rattle.circ_proof_text.specs.Parts.{Part as PlainPart};
+ghost use Rattle.circ_file.specs.View.{now_of, queue_of, splits_in, Pops};
+ghost use Rattle.circ_file.specs.Lines.{IsReader, ReadsNext};
+ghost use Rattle.circ_file.specs.Feeding.{IsCut, IsSound, Stands, EndsLine, FeedsLines};
+ghost use Rattle.circ_file.specs.Feeding.{Feeds, Hands, Ends};
+ghost use Rattle.circ_file.specs.declared.fault.FileFault.{FileFault};
+
+use crate::fault::FileFault;
+use crate::lines::LineReader;
+use crate::part::Part;
+use crate::taken::Taken;
+use circ_theory::Theory;
+use std::alloc::{AllocError, Global};
+
+/// A reader of a proof's text, which comes in pieces. After a fault it answers that fault.
+#[derive(Drop)]
+pub(crate) struct FileReader<'a> {
+    reader: LineReader<'a>,
+    /// The number of whole lines.
+    lines: u64,
+    /// The bytes after the last line feed.
+    rest: Vec<u8>,
+    fault: Option<FileFault>,
+}
+
+impl<'a> FileReader<'a> {
+    /// Nothing was fed.
+    pub(crate) fn new(alloc: Global, theory: &'a Theory) -> FileReader<'a>
+        ensures sound { IsSound result }
+        ensures lines { result.lines ≡ 0 }
+        ensures stands { Stands theory.now [] [] result }
+    {
+        FileReader {
+            reader: LineReader::new(alloc, theory),
+            lines: 0,
+            rest: Vec::new(alloc),
+            fault: None,
+        }
+    }
+
+    /// The next piece of the text. A fault is that of the whole text, whatever comes later.
+    pub(crate) fn feed(&mut self, piece: &[u8]) -> Result<(), FileFault>
+        requires sound { IsSound self.old }
+        requires room { self.old.lines + length piece.now < 2 ^ 64 - 1 }
+        ensures sound { IsSound self.new }
+        ensures lines { self.new.lines ≤ self.old.lines + length piece.now }
+        ensures stands { (th : Theory) (x : List ℕ) (handed : List PlainPart) →
+            Stands th x handed self.old → Feeds result th x piece.now handed self.new }
+        ensures again { (fault : FileFault) → self.old.fault ≡ Some fault →
+            result ≡ Err fault }
+    {
+        if let Some(fault) = self.fault {
+            return Err(fault);
+        }
+        match self.feed_lines(piece) {
+            Ok(()) => Ok(()),
+            Err(fault) => {
+                self.fault = Some(fault);
+                Err(fault)
+            }
+        }
+    }
+
+    /// The next part, if the text so far shows one more.
+    pub(crate) fn next(&mut self) -> Option<Part>
+        requires sound { IsSound self.old }
+        ensures sound { IsSound self.new }
+        ensures lines { self.new.lines ≡ self.old.lines }
+        ensures stands { (th : Theory) (x : List ℕ) (handed : List PlainPart) →
+            Stands th x handed self.old → Hands result th x handed self.new }
+        ensures again { (fault : FileFault) → self.old.fault ≡ Some fault → result ≡ None }
+        ensures fault { self.new.fault ≡ self.old.fault }
+        ensures queue { self.old.fault ≡ None → Pops result
+            (queue_of self.old.reader.machine) (queue_of self.new.reader.machine) }
+    {
+        match self.fault {
+            Some(_) => None,
+            None => self.reader.machine.pop(),
+        }
+    }
+
+    /// Whether the text is a proof's, as it stands.
+    pub(crate) fn end(&self) -> Result<(), FileFault>
+        requires sound { IsSound self.now }
+        ensures stands { (th : Theory) (x : List ℕ) (handed : List PlainPart) →
+            Stands th x handed self.now → Ends result th x handed self.now }
+        ensures again { (fault : FileFault) → self.now.fault ≡ Some fault → result ≡ Err fault }
+    {
+        if let Some(fault) = self.fault {
+            return Err(fault);
+        }
+        if self.is_whole() {
+            return Ok(());
+        }
+        Err(FileFault::Line {
+            number: self.lines + 1,
+        })
+    }
+
+    // Whether the last line was the proof's, and nothing comes after it.
+    fn is_whole(&self) -> bool
+        ensures yes { result ≡ true → (self.now.rest.items ≡ []) ×
+            (now_of self.now.reader.machine ≡ Ended) }
+        ensures no { result ≡ false → self.now.rest.items ≡ [] →
+            now_of self.now.reader.machine ≡ Ended → ⊥ }
+    {
+        if !self.rest.is_empty() {
+            return false;
+        }
+        self.reader.machine.is_ended()
+    }
+
+    fn feed_lines(&mut self, piece: &[u8]) -> Result<(), FileFault>
+        requires reader { IsReader self.old.reader }
+        requires room { self.old.lines + length piece.now < 2 ^ 64 - 1 }
+        ensures reader { OnOk result (IsReader self.new.reader) }
+        ensures lines { self.new.lines ≤ self.old.lines + length piece.now }
+        ensures fault { self.new.fault ≡ self.old.fault }
+        ensures stands { (th : Theory) (x : List ℕ) (handed : List PlainPart) →
+            Stands th x handed self.old → FeedsLines result th x piece.now handed self.new }
+    {
+        let mut rest = piece;
+        while let Some((line, after)) = next_line(rest) {
+            if let Err(fault) = self.end_line(line) {
+                return Err(fault);
+            }
+            rest = after;
+        }
+        match self.rest.extend_from_slice(rest) {
+            Ok(()) => Ok(()),
+            Err(_) => Err(FileFault::Memory),
+        }
+    }
+
+    // The line that the bytes so far and these make, where a line feed comes next.
+    fn end_line(&mut self, more: &[u8]) -> Result<(), FileFault>
+        requires reader { IsReader self.old.reader }
+        requires room { self.old.lines < 2 ^ 64 - 1 }
+        requires no_feed { NoFeed more.now }
+        ensures reader { OnOk result (IsReader self.new.reader) }
+        ensures lines { self.new.lines ≤ self.old.lines + 1 }
+        ensures fault { self.new.fault ≡ self.old.fault }
+        ensures stands { (th : Theory) (x : List ℕ) (handed : List PlainPart) →
+            Stands th x handed self.old → EndsLine result th x more.now handed self.new }
+    {
+        let number = self.lines + 1;
+        match self.read(more) {
+            Ok(Taken::Yes) => {
+                self.lines = number;
+                Ok(())
+            }
+            Ok(Taken::Line) => Err(FileFault::Line { number }),
+            Ok(Taken::Limit) => Err(FileFault::Limit { number }),
+            Err(_) => Err(FileFault::Memory),
+        }
+    }
+
+    // Reads the line. Where nothing is kept of it, it is read where it stands.
+    fn read(&mut self, more: &[u8]) -> Result<Taken, AllocError>
+        requires { IsReader self.old.reader }
+        ensures theory { self.new.reader.theory.now ≡ self.old.reader.theory.now }
+        ensures lines { self.new.lines ≡ self.old.lines }
+        ensures rest { OnOk result (self.new.rest.items ≡ []) }
+        ensures fault { self.new.fault ≡ self.old.fault }
+        ensures read { IfOk result (λ taken. (wanted : List ℕ) →
+            length wanted ≡ splits_in (now_of self.old.reader.machine) →
+            ReadsNext taken wanted self.old.reader
+            (self.old.rest.items ++ more.now) self.new.reader) }
+    {
+        if self.rest.is_empty() {
+            let taken = self.reader.read(more)?;
+            return Ok(taken);
+        }
+        self.rest.extend_from_slice(more)?;
+        let taken = self.reader.read(self.rest.as_slice())?;
+        self.rest.clear();
+        Ok(taken)
+    }
+}
+
+/// The first line, and what follows its line feed.
+fn next_line(bytes: &[u8]) -> Option<(&[u8], &[u8])>
+    ensures { MatchOption result (NoFeed bytes.now) (λ r. IsCut bytes.now r.0.now r.1.now) }
+{
+    for (i, b) in bytes.iter().enumerate() {
+        if *b == b'\n' {
+            return Some((&bytes[..i], &bytes[i + 1..]));
+        }
+    }
+    None
+}

@@ -1,0 +1,222 @@
+//! The lines of blocks.
+ghost use Rattle.std.specs.Prelude.{◌≡◌, ◌++◌, ◌<◌, [], List, length, map, IfOk, OnOk};
+ghost use Rattle.std.specs.List.{slice_get};
+ghost use Rattle.std.specs.Option.{option_copied};
+ghost use Rattle.circ_term.specs.Tree.{Tree};
+ghost use Rattle.circ_replay.specs.Plain.{plain_link, plain_chain, plain_why};
+ghost use Rattle.circ_line.specs.Line.{goal_line, simplify_line, reduce_line, derive_line};
+ghost use Rattle.circ_line.specs.Line.{done_line, same_line, split_line, left_line, right_line};
+ghost use Rattle.circ_grammar.specs.Machine.{empty};
+ghost use Rattle.circ_grammar.specs.Now.{is_step};
+ghost use Rattle.circ_rules.specs.Proof.{goal_of};
+ghost use Rattle.circ_file.specs.Splits.{given, tops, now_given, parts_given};
+ghost use Rattle.circ_file.specs.View.{now_of, queue_of, step_parts, IsKept, Moves, Begins};
+
+use crate::machine::{Machine, Mode, empty_chain};
+use crate::part::Part;
+use crate::splits::{OpenSplit, give};
+use circ_replay::{Chain, Link, Why};
+use circ_rules::Step;
+use circ_theory::Goal;
+use std::alloc::AllocError;
+use std::mem;
+
+impl Machine {
+    /// The goal is of the terms that its numbers name.
+    pub(crate) fn on_goal(&mut self, goal: Goal, left: u32, right: u32) -> Result<bool, AllocError>
+        ensures { IfOk result (λ taken. (ts : List Tree) → IsKept ts self.old →
+            goal ≡ goal_of ts (left, right) →
+            Moves taken ts self.old (goal_line left right) self.new) }
+    {
+        match self.mode {
+            Mode::Opened => {
+                self.goals.push(goal)?;
+                self.names.push((left, right))?;
+                Ok(true)
+            }
+            _ => Ok(false),
+        }
+    }
+
+    pub(crate) fn on_simplify(&mut self) -> Result<bool, AllocError>
+        ensures { IfOk result (λ taken. (ts : List Tree) → IsKept ts self.old →
+            Moves taken ts self.old simplify_line self.new) }
+    {
+        if !self.begin_step()? {
+            return Ok(false);
+        }
+        self.chain = empty_chain(self.alloc);
+        self.mode = Mode::Simplifying;
+        Ok(true)
+    }
+
+    pub(crate) fn on_reduce(&mut self) -> Result<bool, AllocError>
+        ensures { IfOk result (λ taken. (ts : List Tree) → IsKept ts self.old →
+            Moves taken ts self.old reduce_line self.new) }
+    {
+        if !self.begin_step()? {
+            return Ok(false);
+        }
+        self.chain = empty_chain(self.alloc);
+        self.splits.clear();
+        self.mode = Mode::Reducing;
+        Ok(true)
+    }
+
+    pub(crate) fn on_derive(&mut self) -> Result<bool, AllocError>
+        ensures { IfOk result (λ taken. (ts : List Tree) → IsKept ts self.old →
+            Moves taken ts self.old derive_line self.new) }
+    {
+        if !self.begin_step()? {
+            return Ok(false);
+        }
+        self.queue.push_back(Part::Step { step: Step::Derive })?;
+        self.mode = Mode::Stepping;
+        Ok(true)
+    }
+
+    pub(crate) fn on_done(&mut self) -> Result<bool, AllocError>
+        ensures { IfOk result (λ taken. (ts : List Tree) → IsKept ts self.old →
+            Moves taken ts self.old done_line self.new) }
+    {
+        if !self.begin_step()? {
+            return Ok(false);
+        }
+        self.queue.push_back(Part::Step { step: Step::Done })?;
+        self.mode = Mode::Closed;
+        Ok(true)
+    }
+
+    pub(crate) fn on_left(&mut self, link: Link) -> Result<bool, AllocError>
+        ensures { IfOk result (λ taken. (ts : List Tree) → IsKept ts self.old →
+            Moves taken ts self.old (left_line (plain_link link)) self.new) }
+    {
+        match self.mode {
+            Mode::Certifying => {
+                self.links.push(link)?;
+                Ok(true)
+            }
+            Mode::Simplifying | Mode::Reducing => {
+                if !self.chain.right.is_empty() {
+                    return Ok(false);
+                }
+                self.chain.left.push(link)?;
+                Ok(true)
+            }
+            _ => Ok(false),
+        }
+    }
+
+    pub(crate) fn on_right(&mut self, link: Link) -> Result<bool, AllocError>
+        ensures { IfOk result (λ taken. (ts : List Tree) → IsKept ts self.old →
+            Moves taken ts self.old (right_line (plain_link link)) self.new) }
+    {
+        match self.mode {
+            Mode::Simplifying | Mode::Reducing => {
+                self.chain.right.push(link)?;
+                Ok(true)
+            }
+            _ => Ok(false),
+        }
+    }
+
+    pub(crate) fn on_same(&mut self) -> Result<bool, AllocError>
+        ensures { IfOk result (λ taken. (ts : List Tree) → IsKept ts self.old →
+            Moves taken ts self.old same_line self.new) }
+    {
+        match self.mode {
+            Mode::Reducing => {
+                let chain = self.take_chain();
+                self.close(Why::Same { chain })?;
+                Ok(true)
+            }
+            _ => Ok(false),
+        }
+    }
+
+    pub(crate) fn on_split(&mut self, term: u32, count: u32) -> Result<bool, AllocError>
+        ensures { IfOk result (λ taken. (ts : List Tree) → IsKept ts self.old →
+            Moves taken ts self.old (split_line term count) self.new) }
+    {
+        match self.mode {
+            Mode::Reducing => {
+                let chain = self.take_chain();
+                let whys = Vec::new(self.alloc);
+                if count == 0 {
+                    self.close(Why::Split { chain, term, whys })?;
+                    return Ok(true);
+                }
+                self.splits.push(OpenSplit {
+                    chain,
+                    term,
+                    count,
+                    whys,
+                })?;
+                Ok(true)
+            }
+            _ => Ok(false),
+        }
+    }
+
+    // Whether a step may begin. The part that ends by it goes to the queue.
+    fn begin_step(&mut self) -> Result<bool, AllocError>
+        ensures { IfOk result (λ taken. (ts : List Tree) → IsKept ts self.old →
+            Begins taken ts self.old self.new) }
+    {
+        match self.mode {
+            Mode::Opened => {
+                if self.names.is_empty() {
+                    return Ok(false);
+                }
+                let goals = mem::replace(&mut self.goals, Vec::new(self.alloc));
+                let names = mem::replace(&mut self.names, Vec::new(self.alloc));
+                self.queue.push_back(Part::Goals { goals, names })?;
+                Ok(true)
+            }
+            Mode::Simplifying => {
+                let chain = self.take_chain();
+                let step = Step::Simplify { chain };
+                self.queue.push_back(Part::Step { step })?;
+                Ok(true)
+            }
+            Mode::Stepping => Ok(true),
+            _ => Ok(false),
+        }
+    }
+
+    // The links so far. None are left.
+    fn take_chain(&mut self) -> Chain
+        ensures taken { plain_chain result ≡ plain_chain self.old.chain }
+        ensures empty { plain_chain self.new.chain ≡ empty }
+        ensures splits { self.new.splits.items ≡ self.old.splits.items }
+        ensures queue { queue_of self.new ≡ queue_of self.old }
+        ensures places { self.new.places.items ≡ self.old.places.items }
+        ensures mode { self.new.mode ≡ self.old.mode }
+    {
+        mem::replace(&mut self.chain, empty_chain(self.alloc))
+    }
+
+    // A whole reason goes to the splits. Where none waits for it, the step is whole.
+    fn close(&mut self, why: Why) -> Result<(), AllocError>
+        requires { plain_chain self.old.chain ≡ empty }
+        ensures next { OnOk result (now_of self.new ≡
+            now_given (given (tops self.old.splits.items []) (plain_why why))) }
+        ensures queue { OnOk result (queue_of self.new ≡ queue_of self.old ++
+            parts_given (given (tops self.old.splits.items []) (plain_why why))) }
+        ensures places { OnOk result (self.new.places.items ≡ self.old.places.items) }
+        ensures kept { OnOk result ((ts : List Tree) → IsKept ts self.new) }
+    {
+        match give(&mut self.splits, why)? {
+            Some(why) => {
+                let step = Step::Reduce { why };
+                self.queue.push_back(Part::Step { step })?;
+                self.mode = Mode::Stepping;
+                Ok(())
+            }
+            None => {
+                self.mode = Mode::Reducing;
+                Ok(())
+            }
+        }
+    }
+}
