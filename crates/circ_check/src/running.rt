@@ -3,7 +3,7 @@ ghost use Rattle.std.specs.Prelude.{◌≡◌, ◌≤◌, ◌<◌, ◌++◌, [],
 ghost use Rattle.std.specs.Result.{OnOk};
 ghost use Rattle.std.specs.List.{AllByRecursion};
 ghost use Rattle.circ_theory.specs.Signature.{IsWellSorted};
-ghost use Rattle.circ_theory.specs.Link.{named};
+ghost use Rattle.circ_theory.specs.Rewriting.{named};
 ghost use Rattle.circ_replay.specs.Goals.{AreSortedGoals};
 ghost use Rattle.circ_rules.specs.Rules.{state as state_with, map_step, AllOfStep, IsSortedState};
 ghost use Rattle.circ_rules.specs.Proof.{IsBlockFor};

@@ -7,7 +7,7 @@ use Rattle.std.proofs.lemmas.List.{append-nil}
 use Rattle.circ_term.specs.Tree.{Tree, sort_of}
 use Rattle.circ_theory.specs.Theory.{Theory}
 use Rattle.circ_theory.specs.WellFormed.{IsWellFormed}
-use Rattle.circ_theory.specs.Link.{named}
+use Rattle.circ_theory.specs.Rewriting.{named}
 use Rattle.circ_theory.proofs.Lists.{all_push}
 use Rattle.circ_special.specs.declared.place.Place.{Place}
 use Rattle.circ_special.specs.Special.{place, IsPlace, IsSet}

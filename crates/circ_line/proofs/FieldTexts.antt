@@ -3,8 +3,8 @@ use Rattle.std.specs.Prelude.{◌≡◌, ℕ, ◌<◌, ◌^◌, List, [], ◌∷
 use Rattle.std.specs.Option.{option_map}
 use Rattle.std.proofs.Common.{sym, ◌∙◌, ap, subst, arith, append_assoc, append-nil}
 use Rattle.std.proofs.lemmas.Option.{same_Some}
-use Rattle.circ_theory.specs.declared.replay.Way.{Way}
-use Rattle.circ_theory.specs.declared.replay.Way.TheVariants.{Forth, Back}
+use Rattle.circ_theory.specs.declared.way.Way.{Way}
+use Rattle.circ_theory.specs.declared.way.Way.TheVariants.{Forth, Back}
 use Rattle.circ_line.specs.Text.{path_word, way_word, AreNumbers, IsPathInRange}
 use Rattle.circ_line.specs.Front.{rest_after, marked, items_at, ended}
 use Rattle.circ_line.specs.Read.{field_at, numbers_of, number_of, pair_of, way_at, path_from, path_at, rule_at, instance_of}

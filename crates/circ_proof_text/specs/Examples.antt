@@ -1,7 +1,7 @@
 -- Examples that try the definitions.
 use Rattle.std.specs.Prelude.{ℕ, List, [], ◌∷◌, ◌++◌, codes}
 use Rattle.circ_term.specs.Tree.{Tree, Var, App, none, more}
-use Rattle.circ_theory.specs.declared.replay.Way.TheVariants.{Forth}
+use Rattle.circ_theory.specs.declared.way.Way.TheVariants.{Forth}
 use Rattle.circ_special.specs.Special.{place}
 use Rattle.circ_replay.specs.Plain.{LinkOf, Equation_link, Hypothesis_link, WhyOf, Same_why}
 use Rattle.circ_replay.specs.Goals.{goal}

@@ -11,7 +11,7 @@ use Rattle.circ_term.specs.Tree.{Tree, sort_of}
 use Rattle.circ_term.specs.Substitution.{Substitution}
 use Rattle.circ_term.specs.Subst.{Bound, found, Binds}
 use Rattle.circ_theory.specs.Variables.{Variable, is_variable, FitVariables, given, numbered}
-use Rattle.circ_theory.specs.Link.{named}
+use Rattle.circ_theory.specs.Rewriting.{named}
 use Rattle.circ_theory.proofs.Lists.{all_read}
 use Rattle.circ_theory.proofs.Rewriting.{named_at}
 use Rattle.circ_replay.specs.declared.variables.Variable.{Variable as Kept}

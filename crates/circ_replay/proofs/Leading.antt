@@ -9,10 +9,10 @@ use Rattle.circ_theory.specs.Theory.{Theory, Pair, pair_of, pair_with, IsWellSor
 use Rattle.circ_theory.specs.Variables.{variables_of, sorted, given}
 use Rattle.circ_theory.specs.Derivable.{Derivable, by_symmetry, by_premise}
 use Rattle.circ_theory.specs.WellFormed.{IsWellFormed}
-use Rattle.circ_theory.specs.Link.{from_side, to_side, Replaces, named, RewritesBy}
+use Rattle.circ_theory.specs.Rewriting.{from_side, to_side, Replaces, named, RewritesBy}
 use Rattle.circ_theory.specs.declared.parts.Goal.{Goal}
-use Rattle.circ_theory.specs.declared.replay.Way.{Way}
-use Rattle.circ_theory.specs.declared.replay.Way.TheVariants.{Forth, Back}
+use Rattle.circ_theory.specs.declared.way.Way.{Way}
+use Rattle.circ_theory.specs.declared.way.Way.TheVariants.{Forth, Back}
 use Rattle.circ_theory.proofs.Instances.{instance_well_sorted}
 use Rattle.circ_theory.proofs.Sorting.{KeepsSort, replaced_sorted, at_sorted, sorted_to, sort_to, sort_instances}
 use Rattle.circ_theory.proofs.Congruence.{replaced_keeps}

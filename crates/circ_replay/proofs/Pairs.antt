@@ -8,10 +8,10 @@ use Rattle.circ_term.specs.Subst.{Bound, substitution_of}
 use Rattle.circ_term.proofs.Instances.{instance-same}
 use Rattle.circ_theory.specs.Theory.{Pair, pair_of, IsHidden}
 use Rattle.circ_theory.specs.Variables.{Variable, variables_of, sorted, FitVariables, given}
-use Rattle.circ_theory.specs.Link.{from_side, to_side, RewritesBy}
+use Rattle.circ_theory.specs.Rewriting.{from_side, to_side, RewritesBy}
 use Rattle.circ_theory.specs.declared.parts.Equation.{Equation}
 use Rattle.circ_theory.specs.declared.parts.Goal.{Goal}
-use Rattle.circ_theory.specs.declared.replay.Way.{Way}
+use Rattle.circ_theory.specs.declared.way.Way.{Way}
 use Rattle.circ_special.specs.Special.{IsSpecial}
 use Rattle.circ_replay.specs.Plain.{Equation_link, Hypothesis_link}
 use Rattle.circ_replay.specs.Goals.{sides}

@@ -3,10 +3,10 @@ use Rattle.std.specs.Prelude.{◌≡◌, ◌<◌, ℕ, List, [], ◌∷◌, ◌+
 use Rattle.std.specs.List.{slice_get, AllByRecursion}
 use Rattle.circ_term.specs.Tree.{Tree, sort_of}
 use Rattle.circ_theory.specs.Theory.{Theory, Pair, pair_of, IsHidden}
-use Rattle.circ_theory.specs.Link.{from_side, to_side, Replaces, named, RewritesBy}
+use Rattle.circ_theory.specs.Rewriting.{from_side, to_side, Replaces, named, RewritesBy}
 use Rattle.circ_theory.specs.declared.parts.Equation.{Equation}
 use Rattle.circ_theory.specs.declared.parts.Goal.{Goal}
-use Rattle.circ_theory.specs.declared.replay.Way.{Way}
+use Rattle.circ_theory.specs.declared.way.Way.{Way}
 use Rattle.circ_special.specs.declared.place.Place.{Place}
 use Rattle.circ_special.specs.Special.{IsSpecial}
 use Rattle.circ_aci.specs.Content.{HasContentOf}

@@ -1,6 +1,6 @@
 -- Links, chains and whys as plain data, over any terms: the terms themselves, or their numbers in a table.
 use Rattle.std.specs.Prelude.{ℕ, List, [], ◌∷◌, map}
-use Rattle.circ_theory.specs.declared.replay.Way.{Way}
+use Rattle.circ_theory.specs.declared.way.Way.{Way}
 use Rattle.circ_replay.specs.declared.links.Link.{Link}
 use Rattle.circ_replay.specs.declared.links.Link.TheVariants as link
 use Rattle.circ_replay.specs.declared.links.Chain.{Chain}

@@ -5,7 +5,7 @@ use Rattle.circ_term.specs.Limits.{IsWithinLimits}
 use Rattle.circ_term.specs.Substitution.{Substitution, instance}
 use Rattle.circ_term.specs.Subst.{Bound, substitution_of}
 use Rattle.circ_theory.specs.Variables.{Variable, FitVariables, given}
-use Rattle.circ_theory.specs.Link.{Replaces}
+use Rattle.circ_theory.specs.Rewriting.{Replaces}
 
 -- the instance of t, or that it passes a limit
 abbrev pub GivesInstance : Substitution → Tree → Option Tree → Type 0

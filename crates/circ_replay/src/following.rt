@@ -5,7 +5,7 @@ ghost use Rattle.std.specs.Option.{option_copied, IfSome};
 ghost use Rattle.circ_term.specs.Tree.{sort_of};
 ghost use Rattle.circ_theory.specs.Signature.{IsWellSorted};
 ghost use Rattle.circ_theory.specs.Theory.{Pair, IsHidden};
-ghost use Rattle.circ_theory.specs.Link.{named};
+ghost use Rattle.circ_theory.specs.Rewriting.{named};
 ghost use Rattle.circ_special.specs.Special.{IsSpecial};
 ghost use Rattle.circ_aci.specs.Content.{HasContentOf};
 ghost use Rattle.circ_replay.specs.Plain.{plain_link, plain_links};

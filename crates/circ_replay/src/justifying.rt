@@ -5,7 +5,7 @@ ghost use Rattle.std.specs.List.{AllByRecursion};
 ghost use Rattle.circ_term.specs.Tree.{App, none, sort_of};
 ghost use Rattle.circ_theory.specs.Signature.{IsWellSorted};
 ghost use Rattle.circ_theory.specs.Observing.{case_list};
-ghost use Rattle.circ_theory.specs.Link.{named};
+ghost use Rattle.circ_theory.specs.Rewriting.{named};
 ghost use Rattle.circ_replay.specs.Plain.{plain_why, plain_whys, plain_chain, map_whys, Same_why};
 ghost use Rattle.circ_replay.specs.Goals.{goal, sides, AreSortedGoals, IsWellSortedGoal};
 ghost use Rattle.circ_replay.specs.Link.{setting, resolved_chain, resolved_why};

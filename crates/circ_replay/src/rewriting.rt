@@ -3,7 +3,7 @@ ghost use Rattle.std.specs.Prelude.{◌≡◌, IfOk};
 ghost use Rattle.circ_term.specs.Substitution.{instance};
 ghost use Rattle.circ_term.specs.Subst.{substitution_of};
 ghost use Rattle.circ_theory.specs.Theory.{pair_with};
-ghost use Rattle.circ_theory.specs.Link.{from_side, to_side};
+ghost use Rattle.circ_theory.specs.Rewriting.{from_side, to_side};
 ghost use Rattle.circ_replay.specs.Rewriting.{GivesInstance, GivesReplaced, GivesExchange};
 
 use circ_term::{Subst, Term, TermFault};

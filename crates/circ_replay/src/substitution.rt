@@ -1,7 +1,7 @@
 //! The substitutions that links give by the numbers of terms.
 ghost use Rattle.std.specs.Prelude.{◌≡◌, ◌<◌, ◌≤◌, ◌^◌, map, length, IfOk};
 ghost use Rattle.std.specs.List.{AllByRecursion};
-ghost use Rattle.circ_theory.specs.Link.{named};
+ghost use Rattle.circ_theory.specs.Rewriting.{named};
 ghost use Rattle.circ_theory.specs.Variables.{numbered, sorted, variables_of};
 ghost use Rattle.circ_replay.specs.Goals.{sides};
 ghost use Rattle.circ_replay.specs.Gathering.{variable_of};

@@ -2,7 +2,7 @@
 ghost use Rattle.std.specs.Prelude.{◌≡◌, ◌<◌, length, map, IfOk};
 ghost use Rattle.std.specs.List.{AllByRecursion};
 ghost use Rattle.circ_theory.specs.Signature.{IsWellSorted};
-ghost use Rattle.circ_theory.specs.Link.{named};
+ghost use Rattle.circ_theory.specs.Rewriting.{named};
 ghost use Rattle.circ_special.specs.Special.{IsSet};
 ghost use Rattle.circ_replay.specs.Plain.{map_link};
 ghost use Rattle.circ_replay.specs.Link.{AllOfLinks};

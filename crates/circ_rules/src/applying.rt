@@ -3,7 +3,7 @@ ghost use Rattle.std.specs.Prelude.{◌≡◌, ◌<◌, length, map, IfOk};
 ghost use Rattle.std.specs.Result.{OnErr};
 ghost use Rattle.std.specs.List.{AllByRecursion};
 ghost use Rattle.circ_theory.specs.Signature.{IsWellSorted};
-ghost use Rattle.circ_theory.specs.Link.{named};
+ghost use Rattle.circ_theory.specs.Rewriting.{named};
 ghost use Rattle.circ_replay.specs.Plain.{plain_chain, plain_why};
 ghost use Rattle.circ_replay.specs.Link.{resolved_chain, resolved_why};
 ghost use Rattle.circ_replay.specs.Justified.{AllOfChain, IsWhyInTable};

@@ -16,7 +16,7 @@ use Rattle.circ_theory.specs.Examples.{plain_op}
 use Rattle.circ_theory.specs.Experiment.{Behaves}
 use Rattle.circ_theory.specs.declared.parts.Equation.{Equation}
 use Rattle.circ_theory.specs.declared.parts.Goal.{Goal}
-use Rattle.circ_theory.specs.Link.{named, Replaces}
+use Rattle.circ_theory.specs.Rewriting.{named, Replaces}
 use Rattle.circ_theory.proofs.Casing.{contains_first}
 use Rattle.circ_theory.proofs.Linear.{distinct_by}
 use Rattle.circ_special.specs.Special.{place, IsPlace}

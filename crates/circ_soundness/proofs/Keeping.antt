@@ -11,11 +11,11 @@ use Rattle.circ_theory.specs.Theory.{Theory, Pair, pair_of, listed, IsHidden, Is
 use Rattle.circ_theory.specs.Variables.{variables_of, sorted, given}
 use Rattle.circ_theory.specs.WellFormed.{IsWellFormed}
 use Rattle.circ_theory.specs.Derivable.{Derivable, by_same, by_symmetry, by_equation, by_premise}
-use Rattle.circ_theory.specs.Link.{from_side, to_side, Replaces}
+use Rattle.circ_theory.specs.Rewriting.{from_side, to_side, Replaces}
 use Rattle.circ_theory.specs.Observing.{is_hidden}
 use Rattle.circ_theory.specs.declared.parts.Goal.{Goal}
-use Rattle.circ_theory.specs.declared.replay.Way.{Way}
-use Rattle.circ_theory.specs.declared.replay.Way.TheVariants.{Forth, Back}
+use Rattle.circ_theory.specs.declared.way.Way.{Way}
+use Rattle.circ_theory.specs.declared.way.Way.TheVariants.{Forth, Back}
 use Rattle.circ_theory.proofs.Casing.{hidden_tells}
 use Rattle.circ_theory.proofs.Congruence.{KeepsDerivable, replaced_keeps}
 use Rattle.circ_theory.proofs.Instances.{sort_of-instance_by, instance_well_sorted, composed_substitution, derivable_instance}

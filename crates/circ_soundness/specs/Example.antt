@@ -3,7 +3,7 @@ use Rattle.std.specs.Prelude.{ℕ, List, [], ◌∷◌, codes, true}
 use Rattle.circ_term.specs.Tree.{Tree, Var, App, none, more}
 use Rattle.circ_theory.specs.Theory.{Theory, Derivative}
 use Rattle.circ_theory.specs.Examples.{plain_op}
-use Rattle.circ_theory.specs.declared.replay.Way.TheVariants.{Forth}
+use Rattle.circ_theory.specs.declared.way.Way.TheVariants.{Forth}
 use Rattle.circ_special.specs.Special.{place}
 use Rattle.circ_replay.specs.Plain.{LinkOf, Equation_link, Hypothesis_link, ChainOf, Same_why}
 use Rattle.circ_replay.specs.Goals.{goal}

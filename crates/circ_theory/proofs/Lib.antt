@@ -12,7 +12,6 @@ pub mod Lists
 pub mod Growing
 pub mod Keys
 pub mod Declaring
-pub mod Binding
 pub mod Faults
 pub mod Sorted
 pub mod Gathering

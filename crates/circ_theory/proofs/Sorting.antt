@@ -8,9 +8,9 @@ use Rattle.circ_term.specs.Substitution.{Substitution, instance}
 use Rattle.circ_term.proofs.Paths.{Down, down, Deeper, deeper}
 use Rattle.circ_theory.specs.Signature.{Signature, IsWellSorted, HaveSorts, IsSubstitution}
 use Rattle.circ_theory.specs.Theory.{Theory, Pair, IsWellSortedPair}
-use Rattle.circ_theory.specs.Link.{from_side, to_side}
-use Rattle.circ_theory.specs.declared.replay.Way.{Way}
-use Rattle.circ_theory.specs.declared.replay.Way.TheVariants.{Forth, Back}
+use Rattle.circ_theory.specs.Rewriting.{from_side, to_side}
+use Rattle.circ_theory.specs.declared.way.Way.{Way}
+use Rattle.circ_theory.specs.declared.way.Way.TheVariants.{Forth, Back}
 use Rattle.circ_theory.proofs.Instances.{sort_of-instance_by}
 
 -- an argument of a well-sorted term

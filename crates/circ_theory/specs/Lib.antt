@@ -14,7 +14,6 @@ pub mod WellFormed
 pub mod Adding
 pub mod Code
 pub mod Inside
-pub mod Link
 pub mod Rewriting
 pub mod Examples
 pub mod Renumbering

@@ -1,28 +1,37 @@
--- What the parts of a rewriting answer.
-use Rattle.std.specs.Prelude.{◌≡◌, ℕ, List, Option, Some, None}
-use Rattle.circ_term.specs.Tree.{Tree, replaced}
+-- What rewriting by a pair of terms does to a term, at a path.
+use Rattle.std.specs.Prelude.{◌≡◌, ℕ, List, Some}
+use Rattle.std.specs.List.{slice_get}
+use Rattle.std.specs.Option.{unwrap_or}
+use Rattle.circ_term.specs.Tree.{Tree, Var, at, replaced}
 use Rattle.circ_term.specs.Limits.{IsWithinLimits}
-use Rattle.circ_term.specs.Substitution.{Substitution, instance}
-use Rattle.circ_term.specs.Subst.{Bound, substitution_of}
-use Rattle.circ_theory.specs.Variables.{FitVariables, given, numbered}
-use Rattle.circ_theory.specs.Link.{Replaces}
+use Rattle.circ_term.specs.Substitution.{instance}
+use Rattle.circ_theory.specs.Theory.{Pair}
+use Rattle.circ_theory.specs.Variables.{variables_of, sorted, FitVariables, given}
+use Rattle.circ_theory.specs.declared.way.Way.{Way}
+use Rattle.circ_theory.specs.declared.way.Way.TheVariants.{Forth, Back}
 
--- the instance of t, or that it passes a limit
-abbrev pub GivesInstance : Substitution → Tree → Option Tree → Type 0
-GivesInstance σ t None = IsWithinLimits (instance σ t) → ⊥
-GivesInstance σ t (Some u) = u ≡ instance σ t
+-- the side that is looked for, and the side that replaces it
+abbrev pub from_side : Way → Pair → Tree
+from_side Forth p = p.left
+from_side Back p = p.right
 
--- the term with b at the path, or that there is none within the limits
-abbrev pub GivesReplaced : Tree → List ℕ → Tree → Option Tree → Type 0
-GivesReplaced t p b None = (u : Tree) → replaced t p b ≡ Some u → IsWithinLimits u → ⊥
-GivesReplaced t p b (Some u) = (replaced t p b ≡ Some u) × IsWithinLimits u
+abbrev pub to_side : Way → Pair → Tree
+to_side Forth p = p.right
+to_side Back p = p.left
 
--- the one term in which an instance of l is replaced by that of r, or that there is none
-abbrev pub GivesRewrite : Substitution → Tree → Tree → List ℕ → Tree → Option Tree → Type 0
-GivesRewrite σ l r p t None = (u : Tree) → Replaces t p (instance σ l) (instance σ r) u → ⊥
-GivesRewrite σ l r p t (Some u) = Replaces t p (instance σ l) (instance σ r) u
+-- The term u, within the limits, is t with the subterm at the path, which is old, replaced by new.
+pub record Replaces (t : Tree) (path : List ℕ) (old new u : Tree) : Type 0 where
+  pub there : at t path ≡ Some old
+  pub made : replaced t path new ≡ Some u
+  pub within : IsWithinLimits u
 
--- the substitution that gives variables of these sorts these terms, or that a term has another sort or the counts differ
-abbrev pub GivesSubst : List ℕ → List Tree → Option (List Bound) → Type 0
-GivesSubst ss ts None = FitVariables (numbered 0 ss) ts → ⊥
-GivesSubst ss ts (Some σ) = FitVariables (numbered 0 ss) ts × ((n s : ℕ) → substitution_of σ n s ≡ given (numbered 0 ss) ts n s)
+-- the term of a table with this number; every number that is asked for is in the table
+abbrev pub named : List Tree → ℕ → Tree
+named table n = unwrap_or (slice_get table n) (Var 0 0)
+
+-- One side of the pair under the substitution that the terms give is replaced by the other side under it.
+pub record RewritesBy (p : Pair) (way : Way) (path : List ℕ) (terms : List Tree) (t u : Tree) : Type 0 where
+  pub fit : FitVariables (sorted (variables_of p)) terms
+  pub replaces : Replaces t path
+      (instance (given (sorted (variables_of p)) terms) (from_side way p))
+      (instance (given (sorted (variables_of p)) terms) (to_side way p)) u

@@ -1,9 +1,8 @@
 //! Theories of many-sorted behavioural algebra, and what follows from them.
 //!
 //! A [`Theory`] holds sorts, operators, equations, derivatives and case lists, and only well-sorted
-//! parts. [`follow`] replays one recorded step of rewriting. What is derivable, what an experiment
-//! is and which terms behave alike is defined in `specs`, and [`laws`] states what is proved of
-//! these notions.
+//! parts. What is derivable, what an experiment is and which terms behave alike is defined in
+//! `specs`, and [`laws`] states what is proved of these notions.
 #![tactic(auto)]
 
 mod adding;
@@ -15,8 +14,8 @@ mod observing;
 mod order;
 mod parts;
 mod renumber;
-mod replay;
 mod theories;
+mod way;
 
 pub use fault::TheoryFault;
 pub use forms::{Form, FormFault, Piece, Text};
@@ -25,8 +24,8 @@ pub use observing::parameters_in_order;
 pub use order::in_order;
 pub use parts::{Equation, Goal, OpDecl, Script, Side};
 pub use renumber::{Occurring, gather, renumbered};
-pub use replay::{Link, Way, follow};
 pub use theories::{Theory, Vars};
+pub use way::Way;
 
 /// The most sorts of a theory.
 pub const MOST_SORTS: usize = 4_096;

@@ -1,7 +1,7 @@
 use Rattle.std.proofs.Common.{map, subst, List, ◌<◌, length}
 use Rattle.std.specs.List.{AllByRecursion}
 use Rattle.circ_term.proofs.Within.{drop_read}
-use Rattle.circ_theory.specs.Link.{named}
+use Rattle.circ_theory.specs.Rewriting.{named}
 use Rattle.circ_rules.specs.Rules.{map_step, AllOfStep}
 use Rattle.circ_rules.specs.Plain.{plain_state, plain_step, plain_steps}
 use Rattle.circ_rules.specs.declared.proof.Step.{Step}

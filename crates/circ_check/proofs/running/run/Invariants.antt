@@ -1,6 +1,6 @@
 use Rattle.std.proofs.Common.{◌<◌, map, drop, length}
 use Rattle.std.specs.List.{AllByRecursion}
-use Rattle.circ_theory.specs.Link.{named}
+use Rattle.circ_theory.specs.Rewriting.{named}
 use Rattle.circ_rules.specs.Rules.{map_step, AllOfStep}
 use Rattle.circ_rules.specs.Plain.{plain_state, plain_steps}
 use Rattle.circ_check.proofs.Standing.{StandsAt}

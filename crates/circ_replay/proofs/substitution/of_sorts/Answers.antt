@@ -4,10 +4,10 @@ use Rattle.std.specs.Bool.{⊤}
 use Rattle.std.proofs.lemmas.Bool.Decides.{when_true}
 use Rattle.circ_term.specs.Tree.{Tree}
 use Rattle.circ_term.specs.Subst.{Binds}
-use Rattle.circ_theory.specs.Link.{named}
+use Rattle.circ_theory.specs.Rewriting.{named}
 use Rattle.circ_theory.specs.Variables.{Variable, numbered}
 use Rattle.circ_theory.proofs.Numbering.{length-numbered}
-use Rattle.circ_theory.proofs.Binding.{fit_length}
+use Rattle.circ_theory.proofs.Rewriting.{fit_length}
 use Rattle.circ_replay.proofs.Binding.{stands_first, stands_next, stands_wrong, stands_at, numbered_ordered, numbered_next, terms_next}
 use Rattle.circ_replay.proofs.substitution.of_sorts.Goals as goal
 

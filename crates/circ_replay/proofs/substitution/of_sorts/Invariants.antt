@@ -1,6 +1,6 @@
 use Rattle.std.proofs.Common.{drop, map}
 use Rattle.circ_theory.specs.Variables.{numbered}
-use Rattle.circ_theory.specs.Link.{named}
+use Rattle.circ_theory.specs.Rewriting.{named}
 use Rattle.circ_replay.proofs.Binding.{Stands}
 use Rattle.circ_replay.proofs.substitution.of_sorts.Given as goal
 

@@ -4,9 +4,9 @@ use Rattle.std.specs.Bool.{⊤}
 use Rattle.std.proofs.lemmas.Bool.Decides.{when_true}
 use Rattle.circ_term.specs.Tree.{Tree}
 use Rattle.circ_term.specs.Subst.{Binds}
-use Rattle.circ_theory.specs.Link.{named}
+use Rattle.circ_theory.specs.Rewriting.{named}
 use Rattle.circ_theory.specs.Variables.{Variable}
-use Rattle.circ_theory.proofs.Binding.{fit_length}
+use Rattle.circ_theory.proofs.Rewriting.{fit_length}
 use Rattle.circ_replay.specs.Gathering.{variable_of}
 use Rattle.circ_replay.proofs.Binding.{stands_first, stands_next, stands_wrong, stands_at, kept_ordered, terms_next}
 use Rattle.circ_replay.proofs.substitution.of_variables.Goals as goal

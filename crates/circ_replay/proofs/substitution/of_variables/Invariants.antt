@@ -1,5 +1,5 @@
 use Rattle.std.proofs.Common.{◌≡◌, ◌+◌, drop, map, length}
-use Rattle.circ_theory.specs.Link.{named}
+use Rattle.circ_theory.specs.Rewriting.{named}
 use Rattle.circ_replay.specs.Gathering.{variable_of}
 use Rattle.circ_replay.proofs.Binding.{Stands}
 use Rattle.circ_replay.proofs.substitution.of_variables.Given as goal

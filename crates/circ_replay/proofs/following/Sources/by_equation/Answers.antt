@@ -1,7 +1,7 @@
 use Rattle.std.proofs.Common.{◌≡◌, ap, sym, map, ◌∙◌}
 use Rattle.circ_theory.specs.Theory.{pair_of}
 use Rattle.circ_theory.specs.Variables.{variables_of, sorted, numbered}
-use Rattle.circ_theory.specs.Link.{named}
+use Rattle.circ_theory.specs.Rewriting.{named}
 use Rattle.circ_theory.proofs.Numbering.{numbered-sorts_of}
 use Rattle.circ_theory.proofs.Rewriting.{contains_at, sorts_are}
 use Rattle.circ_replay.specs.Sources.{setting_of}
