@@ -1,5 +1,6 @@
 //! Terms written as text.
-ghost use Rattle.std.specs.Prelude.{◌≡◌, ◌≤◌, ◌++◌, codes, decimal, slice_get, unwrap_or, [], OnOk};
+ghost use Rattle.std.specs.Prelude.{◌≡◌, ◌≤◌, ◌++◌, codes, decimal, slice_get, unwrap_or};
+ghost use Rattle.std.specs.Prelude.{[], OnOk};
 ghost use Rattle.std.specs.Prelude.{OnErr, IfOk, false, true};
 ghost use Rattle.circ_term.specs.Tree.{trees_of, depths_of};
 ghost use Rattle.circ_theory.specs.Signature.{IsWellSorted};
@@ -267,8 +268,8 @@ pub fn print(
     ensures text { OnOk result (out.new.items ≡ out.old.items ++ text_of_term theory.now.signature
         false term.now) }
     ensures err { OnErr result (out.new.items ≡ out.old.items) }
-    ensures spelled { IsPrintable theory.now.signature → IsWellSorted theory.now.signature term.now
-        → IsSpelling theory.now.signature false term.now }
+    ensures spelled { IsPrintable theory.now.signature →
+        IsWellSorted theory.now.signature term.now → IsSpelling theory.now.signature false term.now }
 {
     theory.known();
     print_as(theory, false, term, out)
@@ -285,8 +286,8 @@ pub fn print_derivative(
     ensures text { OnOk result (out.new.items ≡ out.old.items ++ text_of_term theory.now.signature
         true term.now) }
     ensures err { OnErr result (out.new.items ≡ out.old.items) }
-    ensures spelled { IsPrintable theory.now.signature → IsWellSorted theory.now.signature term.now
-        → IsSpelling theory.now.signature true term.now }
+    ensures spelled { IsPrintable theory.now.signature →
+        IsWellSorted theory.now.signature term.now → IsSpelling theory.now.signature true term.now }
 {
     theory.known();
     print_as(theory, true, term, out)
@@ -304,9 +305,10 @@ pub fn print_pair(
     ensures text { OnOk result (out.new.items ≡ out.old.items ++ text_of_pair theory.now.signature
         (record { left = left.now; right = right.now })) }
     ensures err { OnErr result (out.new.items ≡ out.old.items) }
-    ensures spelled { IsPrintable theory.now.signature → IsWellSorted theory.now.signature left.now
-        → IsWellSorted theory.now.signature right.now → IsPairSpelling theory.now.signature
-        (record { left = left.now; right = right.now }) }
+    ensures spelled { IsPrintable theory.now.signature →
+        IsWellSorted theory.now.signature left.now →
+        IsWellSorted theory.now.signature right.now →
+        IsPairSpelling theory.now.signature (record { left = left.now; right = right.now }) }
 {
     theory.known();
     print_sides(theory, left, right, out)

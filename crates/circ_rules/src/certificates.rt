@@ -1,5 +1,6 @@
 //! Certificates, and the terms at which they start.
-ghost use Rattle.std.specs.Prelude.{◌≡◌, ◌≤◌, ◌<◌, ◌+◌, ◌↔◌, Some, [], IsTrue, length, map, IfOk};
+ghost use Rattle.std.specs.Prelude.{◌≡◌, ◌≤◌, ◌<◌, ◌+◌, ◌↔◌, Some, []};
+ghost use Rattle.std.specs.Prelude.{IsTrue, length, map, IfOk};
 ghost use Rattle.std.specs.List.{AllByRecursion, slice_get};
 ghost use Rattle.std.specs.Option.{IfSome, option_map};
 ghost use Rattle.circ_term.specs.Tree.{trees_of};
@@ -83,7 +84,8 @@ impl<'a> Basis<'a> {
     fn start_term(&self, start: &Start<'_>, derivative: u32) -> Result<Option<Term>, AllocError>
         requires start { IsStart self.now.theory.now start.now }
         requires hole { option_map (λ d. d.hole)
-            (slice_get self.now.theory.now.derivatives derivative) ≡ Some start.now.decl.now.result }
+            (slice_get self.now.theory.now.derivatives derivative) ≡
+            Some start.now.decl.now.result }
         ensures exact { IfSome (slice_get self.now.theory.now.derivatives derivative)
             (λ d. IfOk result (Gives (IsWithin
             (start_term (operator_of start.now.decl.now) start.now.place d)))) }
@@ -106,10 +108,12 @@ impl<'a> Basis<'a> {
         links: &[Link],
     ) -> Result<bool, AllocError>
         requires basis_sorted { IsSortedBasis self.now }
-        requires in_table { AllOfLinks (λ n. n < length self.now.table.now) (plain_links links.now) }
+        requires in_table { AllOfLinks (λ n. n < length self.now.table.now)
+            (plain_links links.now) }
         requires start { IsStart self.now.theory.now start.now }
         requires hole { option_map (λ d. d.hole)
-            (slice_get self.now.theory.now.derivatives derivative) ≡ Some start.now.decl.now.result }
+            (slice_get self.now.theory.now.derivatives derivative) ≡
+            Some start.now.decl.now.result }
         ensures { IfSome (slice_get self.now.theory.now.derivatives derivative) (λ d. IfOk result
             (λ b. IsTrue b ↔ Certified self.now.theory.now self.now.gamma.now
             start.now.place d (links_of self.now links.now))) }
@@ -135,7 +139,8 @@ impl<'a> Basis<'a> {
         requires in_table { AllByRecursion (AllOfLinks (λ n. n < length self.now.table.now))
             (plain_certificates certificates.now) }
         requires place { IsPlace self.now.theory.now place }
-        requires enough { done.old + length (due_at self.now.theory.now place) ≤ length certificates.now }
+        requires enough { done.old + length (due_at self.now.theory.now place) ≤
+            length certificates.now }
         ensures { IfOk result (AdmitsAt self.now.theory.now self.now.gamma.now place
             (certificates_of self.now certificates.now) done.old done.new) }
     {

@@ -57,7 +57,8 @@ impl Basis<'_> {
         requires { FitSome (slice_get self.now.theory.now.derivatives derivative)
             params.now term.now }
         ensures { IfSome (slice_get self.now.theory.now.derivatives derivative)
-            (λ d. IfOk result (Gives (IsWithin (derived d term.now (given_parameters params.now))))) }
+            (λ d. IfOk result
+            (Gives (IsWithin (derived d term.now (given_parameters params.now))))) }
     {
         match self.theory.instance(derivative, params, term) {
             Ok(made) => Ok(Some(made)),
@@ -68,8 +69,8 @@ impl Basis<'_> {
     }
 
     // The derivative of this number on both sides of the goal, with fresh parameters: the greatest
-    // variable number of the goal is below `fresh`. None where a term or a parameter's number passes
-    // a limit.
+    // variable number of the goal is below `fresh`. None where a term or a parameter's number
+    // passes a limit.
     fn derivative_on(
         &self,
         derivative: u32,
@@ -78,7 +79,8 @@ impl Basis<'_> {
     ) -> Result<Option<Goal>, AllocError>
         requires goal_sorted { IsWellSortedGoal self.now.theory.now goal.now }
         requires hole { option_map (λ d. d.hole)
-            (slice_get self.now.theory.now.derivatives derivative) ≡ Some (sort_of goal.now.left) }
+            (slice_get self.now.theory.now.derivatives derivative) ≡
+            Some (sort_of goal.now.left) }
         requires fresh { fresh ≡ fresh_in goal.now }
         requires small { fresh ≤ 2 ^ 32 }
         ensures { IfSome (slice_get self.now.theory.now.derivatives derivative)

@@ -1,5 +1,6 @@
 //! The calls that read a theory's parts.
-ghost use Rattle.std.specs.Prelude.{◌≡◌, ◌↔◌, ◌≤◌, ◌^◌, false, IsTrue, IfOk, IfSome, length};
+ghost use Rattle.std.specs.Prelude.{◌≡◌, ◌↔◌, ◌≤◌, ◌^◌, false, IsTrue};
+ghost use Rattle.std.specs.Prelude.{IfOk, IfSome, length};
 ghost use Rattle.std.specs.List.{slice_get};
 ghost use Rattle.std.specs.Option.{option_copied, option_map, option_map_or};
 ghost use Rattle.circ_theory.specs.Limits.{sort_limit, variable_limit, operator_limit};
@@ -68,7 +69,8 @@ impl Theory {
 
     /// The name and the sort of a declared variable.
     pub fn var(&self, n: u32) -> Option<(&[u8], u32)>
-        ensures { option_map (λ d. declared d.0.now d.1) result ≡ slice_get self.now.variables n }
+        ensures { option_map (λ d. declared d.0.now d.1) result ≡
+            slice_get self.now.variables n }
     {
         match self.parts.vars.get_index(n as usize) {
             Some((name, sort)) => Some((name.as_slice(), *sort)),
@@ -96,7 +98,8 @@ impl Theory {
 
     /// The operator of a number.
     pub fn op(&self, n: u32) -> Option<&OpDecl>
-        ensures { option_map (λ d. operator_of d.now) result ≡ slice_get self.now.signature.ops n }
+        ensures { option_map (λ d. operator_of d.now) result ≡
+            slice_get self.now.signature.ops n }
     {
         match self.parts.ops.get_index(n as usize) {
             Some((_, decl)) => Some(decl),
@@ -115,7 +118,8 @@ impl Theory {
     fn listed(&self, n: u32) -> Option<&Listed>
         ensures equation { option_map (λ l. l.now.equation) result ≡
             slice_get self.now.equations n }
-        ensures sorts { IfSome result (λ l. l.now.sorts.items ≡ sorts_of (pair_of l.now.equation)) }
+        ensures sorts { IfSome result (λ l.
+            l.now.sorts.items ≡ sorts_of (pair_of l.now.equation)) }
         ensures few { IfSome result (λ l. length l.now.sorts.items ≤ 2 ^ 32) }
         ensures rule { IfSome result (λ l. l.now.rule ≡ is_rule l.now.equation) }
     {
