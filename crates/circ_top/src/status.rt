@@ -10,7 +10,8 @@ use circ_read::Cause;
 pub enum Status {
     /// The work is done, and its text was written.
     Ok,
-    /// The first step that is no instance of its rule, counted from 1.
+    /// The first certificate or step that is no instance of its rule. Certificates are counted
+    /// first, from 1, and the steps of all blocks follow.
     Refused {
         step: u64,
     },
@@ -27,8 +28,8 @@ pub enum Status {
         file: u8,
         count: u64,
     },
-    /// A goal that the search cannot do: its block, and its place in the block, both counted
-    /// from 1.
+    /// A goal that the search cannot do: its block, and how many goals of the block were taken
+    /// up with it, both counted from 1.
     Stuck {
         block: u32,
         goal: u64,
