@@ -17,7 +17,7 @@ ghost use Rattle.circ_replay.specs.Sources.{setting_of};
 use crate::following::Sources;
 use crate::links::{Chain, Why};
 use circ_special::Gamma;
-use circ_term::Term;
+use circ_term::{Term, TermFault};
 use circ_theory::{Goal, Theory};
 use std::alloc::{AllocError, Global};
 
@@ -168,6 +168,8 @@ fn constant_of(alloc: Global, constant: u32, sort: u32) -> Result<Term, AllocErr
 {
     match Term::app(alloc, constant, sort, Vec::new(alloc)) {
         Ok(term) => Ok(term),
-        Err(_) => Err(AllocError),
+        Err(TermFault::Memory) => Err(AllocError),
+        Err(TermFault::TooBig { .. }) => unreachable!(),
+        Err(TermFault::TooDeep { .. }) => unreachable!(),
     }
 }

@@ -69,7 +69,7 @@ impl TableBuilder {
 
     /// The term's number. Its subterms that are not in the table are added, in post-order. None
     /// where the table would then have too many terms. It is unchanged then, and after want of
-    /// memory. Costs a look-up for each node of the term, counted as a tree, and copies none.
+    /// memory. By its code it looks up each node of the term, counted as a tree, and copies none.
     pub fn number(&mut self, term: &Term) -> Result<Option<u32>, AllocError>
         ensures exact { Numbers self.old self.new (added self.old term.now) term.now result }
         ensures named { IfOk result (λ o. IfSome o (λ n. slice_get self.new n ≡ Some term.now)) }

@@ -26,7 +26,7 @@ pub enum Admission {
     No { number: u64 },
 }
 
-/// Whether each certificate leads from its start term to a term that is guarded by the set.
+/// Whether each certificate leads from its start term to a term that is guarded in variable 0.
 pub fn admit(
     alloc: Global,
     theory: &Theory,

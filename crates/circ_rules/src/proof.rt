@@ -31,7 +31,7 @@ pub struct Block {
 /// A proof. Its links name terms by their numbers in its table.
 #[derive(Drop)]
 pub struct Proof {
-    /// The terms that links and goals name, each after its arguments.
+    /// Terms, each after its arguments. Links, splits and goals name them.
     pub table: Vec<Term>,
     /// The special set.
     pub gamma: Gamma,

@@ -1,8 +1,8 @@
 -- The example is well-formed, its proof fits and is accepted.
-use Rattle.std.proofs.Common.{◌≡◌, ◌<◌, ℕ, List, [], ◌∷◌, zero, suc, map, Some, refl, arith}
+use Rattle.std.proofs.Common.{◌≡◌, ◌<◌, ℕ, List, [], ◌∷◌, zero, suc, map, Some, inl, inr, refl, subst, arith}
 use Rattle.std.specs.List.{AllByRecursion, Contains, slice_get}
 use Rattle.std.proofs.lemmas.Option.{same_Some}
-use Rattle.circ_term.specs.Tree.{Tree, Var, sort_of}
+use Rattle.circ_term.specs.Tree.{Tree, Var, App, sort_of}
 use Rattle.circ_term.specs.Substitution.{Substitution, instance}
 use Rattle.circ_term.proofs.Paths.{nowhere}
 use Rattle.circ_theory.specs.declared.forms.Piece.TheVariants.{Word}
@@ -19,16 +19,18 @@ use Rattle.circ_theory.specs.declared.parts.Goal.{Goal}
 use Rattle.circ_theory.specs.Rewriting.{named, Replaces}
 use Rattle.circ_theory.proofs.Casing.{contains_first}
 use Rattle.circ_theory.proofs.Linear.{distinct_by}
-use Rattle.circ_special.specs.Special.{place, IsPlace}
+use Rattle.circ_special.specs.Special.{place, IsPlace, IsSpecial}
+use Rattle.circ_special.specs.declared.place.Place.{Place}
 use Rattle.circ_special.specs.Guarded.{IsInstanceAt, by_visible, by_hidden, Guarded}
-use Rattle.circ_replay.specs.Plain.{map_link}
+use Rattle.circ_replay.specs.Plain.{map_link, Hypothesis_link}
 use Rattle.circ_replay.specs.Goals.{goal}
 use Rattle.circ_replay.specs.Link.{setting, Leads}
 use Rattle.circ_rules.specs.Rules.{state, map_step, StepsOf}
 use Rattle.circ_rules.specs.Certified.{Certified}
 use Rattle.circ_rules.specs.Proof.{Block, ProofFor, IsBlockFor}
-use Rattle.circ_rules.specs.Accepted.{Accepted, Derives}
-use Rattle.circ_soundness.specs.Example.{hd, tl, g, f, k, x, head_derivative, tail_derivative, twins, by, steps, first, second, twins_alike}
+use Rattle.circ_rules.specs.Accepted.{Accepted, Derives, FirstFail}
+use Rattle.circ_theory.specs.declared.way.Way.TheVariants.{Forth}
+use Rattle.circ_soundness.specs.Example.{hd, tl, g, f, k, x, head_derivative, tail_derivative, twins, by, steps, first, second, twins_alike, twins_bare}
 use Rattle.circ_soundness.proofs.Members.{all_of}
 use Rattle.circ_soundness.proofs.Sound.{goals_behave}
 
@@ -183,12 +185,12 @@ tail_guarded (suc n ∷ p) e = nowhere p (Var 0 1) e
 abbrev for_x : Equation → Substitution
 for_x e = given (sorted (variables_of (pair_of e))) (x ∷ [])
 
--- an equation that leads from t to u at the root, for x
-equation_leads : (H : List Goal) (number : ℕ) (e : Equation) (t u : Tree) → slice_get twins.equations number ≡ Some e
+-- an equation that leads from t to u at the root, for x, whatever the special set is
+equation_leads : (G : List Place) (H : List Goal) (number : ℕ) (e : Equation) (t u : Tree) → slice_get twins.equations number ≡ Some e
     → FitVariables (sorted (variables_of (pair_of e))) (x ∷ [])
     → Replaces t [] (instance (for_x e) e.left) (instance (for_x e) e.right) u
-    → Leads (setting twins twins_alike.places H []) (map_link (named twins_alike.table) (by number)) t u
-equation_leads H number e t u l f r = record { equation = e; listed = l; rewrites = record { fit = f; replaces = r } }
+    → Leads (setting twins G H []) (map_link (named twins_alike.table) (by number)) t u
+equation_leads G H number e t u l f r = record { equation = e; listed = l; rewrites = record { fit = f; replaces = r } }
 
 head_certified : Certified twins twins_alike.places (place 2 0) head_derivative (map_link (named twins_alike.table) (by 0) ∷ [])
 unfolding is_place
@@ -196,7 +198,7 @@ head_certified = record {
   place = is_place;
   within = refl;
   last = hd x;
-  leads = (hd x, equation_leads [] 0 _ (hd (g x)) (hd x) refl (refl, tt) (record { there = refl; made = refl; within = refl }), refl);
+  leads = (hd x, equation_leads twins_alike.places [] 0 _ (hd (g x)) (hd x) refl (refl, tt) (record { there = refl; made = refl; within = refl }), refl);
   guarded = head_guarded;
 }
 
@@ -206,7 +208,7 @@ tail_certified = record {
   place = is_place;
   within = refl;
   last = g (tl x);
-  leads = (g (tl x), equation_leads [] 1 _ (tl (g x)) (g (tl x)) refl (refl, tt) (record { there = refl; made = refl; within = refl }), refl);
+  leads = (g (tl x), equation_leads twins_alike.places [] 1 _ (tl (g x)) (g (tl x)) refl (refl, tt) (record { there = refl; made = refl; within = refl }), refl);
   guarded = tail_guarded;
 }
 
@@ -231,8 +233,8 @@ run = (
       (
         hd x,
         record {
-          left = (hd x, equation_leads (start ∷ []) 2 _ (hd (f x)) (hd x) refl (refl, tt) (record { there = refl; made = refl; within = refl }), refl);
-          right = (hd x, equation_leads (start ∷ []) 4 _ (hd (k x)) (hd x) refl (refl, tt) (record { there = refl; made = refl; within = refl }), refl);
+          left = (hd x, equation_leads twins_alike.places (start ∷ []) 2 _ (hd (f x)) (hd x) refl (refl, tt) (record { there = refl; made = refl; within = refl }), refl);
+          right = (hd x, equation_leads twins_alike.places (start ∷ []) 4 _ (hd (k x)) (hd x) refl (refl, tt) (record { there = refl; made = refl; within = refl }), refl);
         },
       ),
       refl,
@@ -245,7 +247,7 @@ run = (
           record {
             left = (
               g (f (tl x)),
-              equation_leads (start ∷ []) 3 _ (tl (f x)) (g (f (tl x))) refl (refl, tt) (record { there = refl; made = refl; within = refl }),
+              equation_leads twins_alike.places (start ∷ []) 3 _ (tl (f x)) (g (f (tl x))) refl (refl, tt) (record { there = refl; made = refl; within = refl }),
               (
                 g (k (tl x)),
                 record {
@@ -259,7 +261,7 @@ run = (
             );
             right = (
               g (k (tl x)),
-              equation_leads (start ∷ []) 5 _ (tl (k x)) (g (k (tl x))) refl (refl, tt) (record { there = refl; made = refl; within = refl }),
+              equation_leads twins_alike.places (start ∷ []) 5 _ (tl (k x)) (g (k (tl x))) refl (refl, tt) (record { there = refl; made = refl; within = refl }),
               refl,
             );
           },
@@ -276,6 +278,49 @@ derives = record { admissible = (head_certified, (tail_certified, tt)); blocks =
 
 pub accepted : Accepted twins twins_alike
 accepted = ((start ∷ []) ∷ [], derives)
+
+-- ---- without the place
+
+no_place : (t : Tree) (i : ℕ) (p : List ℕ) → IsSpecial [] t (i ∷ p) → ⊥
+no_place (Var n s) i p h = h
+no_place (App o s ts) i p h = omega (arith, h.0.1)
+
+-- the hypothesis is of streams, so it cannot be used at argument 0
+stuck : (t u : Tree) → Leads (setting twins [] (start ∷ []) []) (Hypothesis_link 0 Forth (0 ∷ []) (tl x ∷ [])) t u → ⊥
+stuck t u l =
+    let P : Goal → Type 0 = λ h. IsHidden twins (sort_of h.left) in
+    no_place t 0 [] (l.special (subst P (same_Some start l.hypothesis l.listed) stream_hidden))
+
+pub needed : FirstFail twins twins_bare 3
+needed = inr (
+  tt,
+  3,
+  refl,
+  inl (
+    inr (
+      state (start ∷ []) (heads ∷ tails ∷ []),
+      (stream_hidden, (record { numbers = omega arith; left = refl; right = refl }, (record { numbers = omega arith; left = refl; right = refl }, tt)), refl),
+      2,
+      refl,
+      inr (
+        state (start ∷ []) (tails ∷ []),
+        (
+          (
+            hd x,
+            record {
+              left = (hd x, equation_leads [] (start ∷ []) 2 _ (hd (f x)) (hd x) refl (refl, tt) (record { there = refl; made = refl; within = refl }), refl);
+              right = (hd x, equation_leads [] (start ∷ []) 4 _ (hd (k x)) (hd x) refl (refl, tt) (record { there = refl; made = refl; within = refl }), refl);
+            },
+          ),
+          refl,
+        ),
+        1,
+        refl,
+        inl (refl, λ b r. stuck r.0.1.left.0 r.0.1.left.2.0 r.0.1.left.2.1),
+      ),
+    ),
+  ),
+)
 
 -- ---- the proof fits
 

@@ -1,4 +1,4 @@
--- An example: streams, and a proof of f(x) = k(x) in which the hypothesis is used below the operator g.
+-- An example: streams, and a proof of f(x) = k(x) in which the hypothesis is used at the argument of the operator g.
 use Rattle.std.specs.Prelude.{ℕ, List, [], ◌∷◌, codes, true}
 use Rattle.circ_term.specs.Tree.{Tree, Var, App, none, more}
 use Rattle.circ_theory.specs.Theory.{Theory, Derivative}
@@ -80,3 +80,7 @@ twins_alike = record {
   certificates = (by 0 ∷ []) ∷ (by 1 ∷ []) ∷ [];
   blocks = record { goals = goal first second ∷ []; names = (2, 3) ∷ []; steps = steps } ∷ [];
 }
+
+-- the same proof without the place
+abbrev pub twins_bare : Proof
+twins_bare = record twins_alike { places = []; certificates = [] }

@@ -7,7 +7,7 @@ ghost use Rattle.circ_theory.specs.Experiment.{Behaves};
 ghost use Rattle.circ_theory.specs.declared.parts.Goal.{Goal};
 ghost use Rattle.circ_rules.specs.Proof.{Block, Proof, ProofFor};
 ghost use Rattle.circ_rules.specs.Accepted.{Accepted, Derives, FirstFail};
-ghost use Rattle.circ_soundness.specs.Example.{twins, twins_alike, first, second};
+ghost use Rattle.circ_soundness.specs.Example.{twins, twins_alike, twins_bare, first, second};
 
 /// Where a proof that fits a well-formed theory is accepted, each goal of each block behaves.
 pub fn goals_behave()
@@ -34,17 +34,18 @@ pub fn one_verdict()
         Derives th p dss → Derives th p ess → dss ≡ ess }
 {}
 
-/// A proof that fails nowhere is accepted.
+/// It cannot be that a proof which fits its theory fails nowhere and is not accepted.
 pub fn nothing_left_out()
     ensures { (th : Theory) (p : Proof) → ProofFor th p →
         ((n : ℕ) → FirstFail th p n → ⊥) → (Accepted th p → ⊥) → ⊥ }
 {}
 
-/// An accepted proof whose hypothesis is used below a place of its special set: so the laws speak
-/// of something.
+/// An accepted proof whose hypothesis is used at a place of its special set, below an operator, so
+/// that the laws speak of something. Without the place it fails at that step.
 pub fn a_place_is_used()
     ensures theory { IsWellFormed twins }
     ensures fits { ProofFor twins twins_alike }
     ensures accepted { Accepted twins twins_alike }
     ensures so { Behaves twins first second }
+    ensures needed { FirstFail twins twins_bare 3 }
 {}

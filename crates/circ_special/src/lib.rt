@@ -1,8 +1,8 @@
 //! Special sets of places, special paths, and guarded variables.
 //!
-//! A [`Gamma`] is a set of places: arguments of hidden sort of operators of hidden sort. A path in
-//! a term is special where each step on it goes to a place of the set. [`guarded`] is the test that
-//! a set has to pass before hypotheses may be used at its special paths.
+//! A [`Gamma`] is a list of places in increasing order. [`Gamma::of`] takes only arguments of hidden
+//! sort of operators of hidden sort. A path in a term is special where each step on it goes to a
+//! place of the set. [`guarded`] is the test of the terms to which a set's certificates lead.
 #![tactic(auto)]
 
 mod fitting;

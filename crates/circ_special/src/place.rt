@@ -43,8 +43,8 @@ impl Model for Gamma {
 }
 
 impl Gamma {
-    /// The set of these places: none where they do not increase, or one of them is not an argument
-    /// of hidden sort of an operator of hidden sort.
+    /// The set of these places. None where they do not increase, or where one of them is not an
+    /// argument of hidden sort of an operator of hidden sort.
     pub fn of(theory: &Theory, places: Vec<Place>) -> Option<Gamma>
         ensures { GivesSet theory.now places.items result }
     {
