@@ -22,15 +22,15 @@ use Rattle.circ_theory.proofs.Linear.{distinct_by}
 use Rattle.circ_special.specs.Special.{place, IsPlace, IsSpecial}
 use Rattle.circ_special.specs.declared.place.Place.{Place}
 use Rattle.circ_special.specs.Guarded.{IsInstanceAt, by_visible, by_hidden, Guarded}
-use Rattle.circ_replay.specs.Plain.{map_link, Hypothesis_link}
+use Rattle.circ_replay.specs.Plain.{map_link, Hypothesis_link, Same_why}
 use Rattle.circ_replay.specs.Goals.{goal}
 use Rattle.circ_replay.specs.Link.{setting, Leads}
-use Rattle.circ_rules.specs.Rules.{state, map_step, StepsOf}
+use Rattle.circ_rules.specs.Rules.{State, state, map_step, Reduce, Derive, StepOf, StepsOf}
 use Rattle.circ_rules.specs.Certified.{Certified}
 use Rattle.circ_rules.specs.Proof.{Block, ProofFor, IsBlockFor}
 use Rattle.circ_rules.specs.Accepted.{Accepted, Derives, FirstFail}
 use Rattle.circ_theory.specs.declared.way.Way.TheVariants.{Forth}
-use Rattle.circ_soundness.specs.Example.{hd, tl, g, f, k, x, head_derivative, tail_derivative, twins, by, steps, first, second, twins_alike, twins_bare}
+use Rattle.circ_soundness.specs.Example.{hd, tl, g, f, k, x, head_derivative, tail_derivative, twins, by, chain_of, steps, first, second, twins_alike, twins_bare}
 use Rattle.circ_soundness.proofs.Members.{all_of}
 use Rattle.circ_soundness.proofs.Sound.{goals_behave}
 
@@ -292,35 +292,32 @@ stuck t u l =
     no_place t 0 [] (l.special (subst P (same_Some start l.hypothesis l.listed) stream_hidden))
 
 pub needed : FirstFail twins twins_bare 3
-needed = inr (
-  tt,
-  3,
-  refl,
-  inl (
-    inr (
-      state (start ∷ []) (heads ∷ tails ∷ []),
-      (stream_hidden, (record { numbers = omega arith; left = refl; right = refl }, (record { numbers = omega arith; left = refl; right = refl }, tt)), refl),
-      2,
+needed = inr (tt, 3, refl, inl (inr (state (start ∷ []) (heads ∷ tails ∷ []), derived, 2, refl, inr (state (start ∷ []) (tails ∷ []), reduced, 1, refl, inl (refl, fails)))))
+  where
+    derived : StepOf twins [] Derive (state [] (start ∷ [])) (state (start ∷ []) (heads ∷ tails ∷ []))
+    derived = (
+      stream_hidden,
+      (record { numbers = omega arith; left = refl; right = refl }, (record { numbers = omega arith; left = refl; right = refl }, tt)),
       refl,
-      inr (
-        state (start ∷ []) (tails ∷ []),
-        (
-          (
-            hd x,
-            record {
-              left = (hd x, equation_leads [] (start ∷ []) 2 _ (hd (f x)) (hd x) refl (refl, tt) (record { there = refl; made = refl; within = refl }), refl);
-              right = (hd x, equation_leads [] (start ∷ []) 4 _ (hd (k x)) (hd x) refl (refl, tt) (record { there = refl; made = refl; within = refl }), refl);
-            },
-          ),
-          refl,
-        ),
-        1,
-        refl,
-        inl (refl, λ b r. stuck r.0.1.left.0 r.0.1.left.2.0 r.0.1.left.2.1),
+    )
+
+    reduced : StepOf twins [] (map_step (named twins_bare.table) (Reduce (Same_why (chain_of (by 2 ∷ []) (by 4 ∷ []))))) (state (start ∷ []) (heads ∷ tails ∷ []))
+        (state (start ∷ []) (tails ∷ []))
+    reduced = (
+      (
+        hd x,
+        record {
+          left = (hd x, equation_leads [] (start ∷ []) 2 _ (hd (f x)) (hd x) refl (refl, tt) (record { there = refl; made = refl; within = refl }), refl);
+          right = (hd x, equation_leads [] (start ∷ []) 4 _ (hd (k x)) (hd x) refl (refl, tt) (record { there = refl; made = refl; within = refl }), refl);
+        },
       ),
-    ),
-  ),
-)
+      refl,
+    )
+
+    fails : (b : State)
+        → StepOf twins [] (map_step (named twins_bare.table)
+        (Reduce (Same_why (chain_of (by 3 ∷ Hypothesis_link 0 Forth (0 ∷ []) (1 ∷ []) ∷ []) (by 5 ∷ []))))) (state (start ∷ []) (tails ∷ [])) b → ⊥
+    fails b r = stuck r.0.1.left.0 r.0.1.left.2.0 r.0.1.left.2.1
 
 -- ---- the proof fits
 
