@@ -1,9 +1,9 @@
 //! The table of a proof that is being written.
-ghost use Rattle.std.specs.Prelude.{◌≡◌, [], take, Some, IfOk};
+ghost use Rattle.std.specs.Prelude.{◌≡◌, ◌≤◌, [], length, take, Some, IfOk};
 ghost use Rattle.std.specs.List.{slice_get};
 ghost use Rattle.std.specs.Option.{IfSome};
 ghost use Rattle.circ_term.specs.Tree.{trees_of};
-ghost use Rattle.circ_replay.specs.Table.{IsTable, Numbers, added, entered};
+ghost use Rattle.circ_replay.specs.Table.{IsTable, Numbers, added, entered, term_limit};
 ghost use Rattle.circ_replay.specs.Growing.{NumbersSoFar, NumbersAllSoFar, Puts};
 ghost use Rattle.circ_replay.specs.Roots.{HasRoot, plain_root};
 
@@ -73,10 +73,14 @@ impl TableBuilder {
     pub fn number(&mut self, term: &Term) -> Result<Option<u32>, AllocError>
         ensures exact { Numbers self.old self.new (added self.old term.now) term.now result }
         ensures named { IfOk result (λ o. IfSome o (λ n. slice_get self.new n ≡ Some term.now)) }
+        ensures few { IfOk result (λ o. IfSome o (λ n. length self.new ≤ term_limit)) }
     {
         let count = self.terms.len();
         match self.add(term) {
-            Ok(Some(number)) => Ok(Some(number)),
+            Ok(Some(number)) => {
+                self.terms();
+                Ok(Some(number))
+            }
             Ok(None) => {
                 self.cut(count);
                 Ok(None)
