@@ -1,2 +1,4 @@
 pub mod Standing
 pub mod Behaving
+pub mod Fitting
+pub mod Finding
