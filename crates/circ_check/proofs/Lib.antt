@@ -2,3 +2,4 @@ pub mod Standing
 pub mod Behaving
 pub mod Fitting
 pub mod Finding
+pub mod Watching

@@ -1,5 +1,5 @@
 //! A checker that takes the parts of a proof one after the other.
-ghost use Rattle.std.specs.Prelude.{◌≡◌, ◌++◌, ◌∷◌, [], List, None, map, take};
+ghost use Rattle.std.specs.Prelude.{◌≡◌, ◌++◌, ◌∷◌, [], ℕ, List, None, map, take};
 ghost use Rattle.std.specs.Prelude.{IfOk, OnOk, IsErr};
 ghost use Rattle.std.specs.Result.{OnErr};
 ghost use Rattle.circ_theory.specs.Theory.{Theory};
@@ -9,6 +9,7 @@ ghost use Rattle.circ_rules.specs.Parts.{Part as PlainPart, parts_of};
 ghost use Rattle.circ_rules.specs.Parts.{Certificate, Goals, Step as StepPart};
 ghost use Rattle.circ_rules.specs.Accepted.{Derives};
 ghost use Rattle.circ_rules.specs.Plain.{plain_part, plain_state, plain_step};
+ghost use Rattle.circ_replay.specs.Goals.{AreSortedGoals};
 ghost use Rattle.circ_replay.specs.Plain.{plain_links};
 ghost use Rattle.circ_check.specs.Deciding.{plain_list, DerivedBehave};
 ghost use Rattle.circ_check.specs.Checking.{made_by, with_derived, goals_in};
@@ -85,6 +86,7 @@ impl<'a> Checker<'a> {
         if self.is_spent {
             return Err(AllocError);
         }
+        self.theory.known();
         match self.take_part(part) {
             Ok(()) => Ok(()),
             Err(_) => {
@@ -160,21 +162,22 @@ impl<'a> Checker<'a> {
             &mut self.due,
             links,
         )?;
-        self.tally = if holds {
-            self.tally.with_one()
-        } else {
-            self.tally.with_failure()
-        };
+        if !holds {
+            self.tally = self.tally.with_failure();
+            return Ok(());
+        }
+        self.tally = self.tally.with_one();
         Ok(())
     }
 
     // A block with these goals. After a step that failed it is begun in name alone.
     fn begin_block(&mut self, goals: Vec<Goal>) -> Result<(), AllocError>
-        requires ready { IsReady self.old.theory.now (checking_of self.old)
-            (Goals goals.items []) }
+        requires hyps_sorted { AreSortedGoals self.old.theory.now
+            (take self.old.earlier self.old.state.hyps.items ++ self.old.own.items) }
+        requires goals_sorted { AreSortedGoals self.old.theory.now goals.items }
         requires sound { IsSound self.old.theory.now self.old }
-        ensures took { OnOk result (Took self.old.theory.now
-            (Goals goals.items []) self.old self.new) }
+        ensures took { OnOk result ((names : List (ℕ × ℕ)) → Took self.old.theory.now
+            (Goals goals.items names) self.old self.new) }
         ensures kept { OnErr result (IsAsBefore self.old self.new) }
     {
         if self.is_stopped {

@@ -1,5 +1,5 @@
 -- The certificate that is due next is found by going on from derivative to derivative, and from place to place.
-use Rattle.std.specs.Prelude.{◌≡◌, ◌≤◌, ◌<◌, ◌↔◌, ◌+◌, ℕ, zero, suc, Bool, true, false, ◌==◌, List, [], ◌∷◌, ◌++◌, map, length, drop, Some, refl, IsTrue}
+use Rattle.std.specs.Prelude.{◌≡◌, ◌≤◌, ◌<◌, ◌↔◌, ◌+◌, ℕ, zero, suc, Bool, true, false, ◌==◌, List, [], ◌∷◌, ◌++◌, map, length, drop, Option, Some, None, MatchOption, refl, IsTrue}
 use Rattle.std.proofs.Common.{ap, sym, ◌∙◌, subst, arith, get_or}
 use Rattle.std.proofs.Math.ListN.{drop_of_length-le}
 use Rattle.std.proofs.lemmas.Bool.{eqb-true}
@@ -103,3 +103,13 @@ next_decided th G old new s ls holds n told x xs e =
   where
     parts : {X : Type 0} (a b : X) (ys zs : List X) → a ∷ ys ≡ b ∷ zs → (a ≡ b) × (ys ≡ zs)
     parts a b ys zs e = (cc, cc)
+
+-- ---- the derivatives of a place
+
+pub first_at_place : (th : Theory) (g : Place) (from : ℕ) (o : Operator) → slice_get th.signature.ops g.op ≡ Some o → (r : Option ℕ)
+    → MatchOption r (derivatives_from th o.result from ≡ []) (IsFirst th o.result from) → MatchOption r (NoneAt th g from) (IsFirstAt th g from)
+first_at_place th g from o e None none = ap (λ x. option_map_or (λ o. derivatives_from th o.result from) x []) e ∙ none
+first_at_place th g from o e (Some n) f = record { operator = o; declared = e; derivative = f }
+
+pub no_place : (th : Theory) (g : Place) (from : ℕ) → slice_get th.signature.ops g.op ≡ None → NoneAt th g from
+no_place th g from e = ap (λ x. option_map_or (λ o. derivatives_from th o.result from) x []) e
