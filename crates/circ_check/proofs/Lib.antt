@@ -1,2 +1,5 @@
 pub mod Standing
 pub mod Behaving
+pub mod Fitting
+pub mod Finding
+pub mod Watching

@@ -1,1 +1,4 @@
 pub mod Deciding
+pub mod Checking
+pub mod Ready
+pub mod Watching

@@ -2,7 +2,10 @@
 //! what the Derive steps of an accepted proof derived.
 #![tactic(auto)]
 
+mod checker;
 mod checking;
 mod running;
+mod tally;
 
+pub use checker::Checker;
 pub use checking::{Verdict, check, derived};

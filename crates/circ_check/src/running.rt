@@ -17,7 +17,7 @@ use std::alloc::{AllocError, Global};
 use std::collections::VecDeque;
 
 // The goal once more. Its terms are shared.
-fn share(goal: &Goal) -> Result<Goal, AllocError>
+pub(crate) fn share(goal: &Goal) -> Result<Goal, AllocError>
     ensures { IfOk result (λ g. g ≡ goal.now) }
 {
     Ok(Goal {
@@ -37,7 +37,7 @@ fn assume(hyps: &mut Vec<Goal>, goals: &[Goal]) -> Result<(), AllocError>
 }
 
 // The goals are to be proved.
-fn put(queue: &mut VecDeque<Goal>, goals: &[Goal]) -> Result<(), AllocError>
+pub(crate) fn put(queue: &mut VecDeque<Goal>, goals: &[Goal]) -> Result<(), AllocError>
     ensures { OnOk result (queue.new.items ≡ queue.old.items ++ goals.now) }
 {
     for goal in goals {

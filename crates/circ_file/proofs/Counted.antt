@@ -1,12 +1,12 @@
 -- What is counted, item by item, and that places are few.
-use Rattle.std.specs.Prelude.{◌≡◌, ℕ, ◌+◌, ◌*◌, ◌^◌, ◌≤◌, ◌<◌, ◌==◌, Bool, true, false, cond, if◌then◌else◌, List, [], ◌∷◌, ◌++◌, length, map, drop, zero, suc, refl, Option, Some, None}
+use Rattle.std.specs.Prelude.{◌≡◌, ℕ, ◌+◌, ◌*◌, ◌^◌, ◌≤◌, ◌<◌, ◌==◌, Bool, true, false, cond, if◌then◌else◌, List, [], ◌∷◌, ◌++◌, length, drop, zero, suc, refl, Option, Some, None}
 use Rattle.std.specs.List.{slice_get, filter}
 use Rattle.std.specs.Option.{option_map_or}
 use Rattle.std.proofs.Common.{sym, ◌∙◌, ap, arith, length-append}
-use Rattle.std.proofs.lemmas.List.{length-map}
-use Rattle.circ_theory.specs.Theory.{Theory, Derivative}
+use Rattle.circ_theory.specs.Theory.{Theory}
 use Rattle.circ_special.specs.declared.place.Place.{Place}
-use Rattle.circ_rules.specs.Certified.{derivatives_at, due}
+use Rattle.circ_rules.specs.Certified.{derivatives_at, due_at, due}
+use Rattle.circ_rules.proofs.FewPlaces.{length-due_at}
 
 -- those that pass, from one item on
 filter_here : {X : Type 0} (p : X → Bool) (x : X) (xs : List X) → length (filter p (x ∷ xs)) ≡ cond (p x) 1 0 + length (filter p xs)
@@ -25,12 +25,6 @@ filter_more p (x ∷ xs) (suc i) l = let e : suc i + 1 ≡ suc (i + 1) = omega a
 pub counted_more : {X : Type 0} (p : X → Bool) (xs : List X) (i n m total : ℕ) (b : Bool) → i < length xs → b ≡ option_map_or p (slice_get xs i) false
     → n + length (filter p (drop i xs)) ≡ total → m ≡ n + cond b 1 0 → m + length (filter p (drop (i + 1) xs)) ≡ total
 counted_more p xs i n m total b l e t f = omega (arith, filter_more p xs i l, ap {B = ℕ} (λ x. cond x 1 0) e, t, f)
-
-abbrev pub due_at : Theory → Place → List (Place × Derivative)
-due_at th g = map (λ d. (g, d)) (derivatives_at th g)
-
-pub length-due_at : (th : Theory) (g : Place) → length (due_at th g) ≡ length (derivatives_at th g)
-length-due_at th g = length-map (derivatives_at th g) (λ d. (g, d))
 
 -- the certificates that one place more asks for
 pub due_more : (th : Theory) (gs : List Place) (g : Place) → length (due th (gs ++ g ∷ [])) ≡ length (due th gs) + length (derivatives_at th g)

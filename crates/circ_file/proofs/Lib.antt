@@ -4,7 +4,6 @@ pub mod Firsts
 pub mod Entering
 pub mod Counted
 pub mod Next
-pub mod FewPlaces
 pub mod Taking
 pub mod Standing
 pub mod Cutting

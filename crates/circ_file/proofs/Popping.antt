@@ -4,7 +4,7 @@ use Rattle.std.specs.Option.{option_to_list}
 use Rattle.std.proofs.Common.{◌∙◌, sym, ap, arith}
 use Rattle.circ_term.specs.Tree.{Tree}
 use Rattle.circ_file.specs.View.{plain_part, now_at, IsKeptAt, Pops}
-use Rattle.circ_file.specs.declared.part.Part.{Part as CodePart}
+use Rattle.circ_rules.specs.declared.part.Part.{Part as CodePart}
 use Rattle.circ_file.specs.declared.machine.Machine.{Machine}
 use Rattle.circ_file.specs.declared.machine.Mode.{Mode}
 use Rattle.circ_file.specs.declared.machine.Mode.TheVariants as mode

@@ -31,7 +31,7 @@ use Rattle.circ_file.specs.declared.machine.Machine.{Machine}
 use Rattle.circ_file.specs.declared.machine.Mode.{Mode}
 use Rattle.circ_file.specs.declared.machine.Mode.TheVariants as mode
 use Rattle.circ_file.proofs.Counted.{due_more}
-use Rattle.circ_file.proofs.FewPlaces.{place_low}
+use Rattle.circ_rules.proofs.FewPlaces.{place_low}
 
 -- The numbers of a line that passes are ready to be used.
 pub ready_then : (th : Theory) (c : Seen) (l : Line) → IsWellFormed th → passes_at th c l ≡ true → IsReady (length c.terms) l

@@ -11,7 +11,7 @@ use Rattle.circ_file.specs.View.{now_of, queue_of, plain_part}
 use Rattle.circ_file.specs.Lines.{IsReader, seen_of}
 use Rattle.circ_file.specs.declared.fault.FileFault.{FileFault}
 use Rattle.circ_file.specs.declared.fault.FileFault.TheVariants.{Line, Limit, Memory}
-use Rattle.circ_file.specs.declared.part.Part.{Part as CodePart}
+use Rattle.circ_rules.specs.declared.part.Part.{Part as CodePart}
 use Rattle.circ_file.specs.declared.reader.FileReader.{FileReader}
 
 -- the bytes up to the first line feed, and those after it
@@ -34,6 +34,16 @@ reading_of wanted f = record {
   seen = seen_of wanted f.reader;
   waiting = queue_of f.reader.machine;
 }
+
+-- how many lines with their line feeds it was fed, the fault it met, and the parts that are whole and not handed out
+abbrev pub whole_lines_in : FileReader → ℕ
+whole_lines_in f = f.lines
+
+abbrev pub fault_of : FileReader → Option FileFault
+fault_of f = f.fault
+
+abbrev pub waiting_in : FileReader → List Part
+waiting_in f = queue_of f.reader.machine
 
 -- what a reader keeps true as long as it has no fault
 pub record IsSound (f : FileReader) : Type 0 where
@@ -62,12 +72,17 @@ abbrev pub EndsLine : Result (Unit {0}) FileFault → Theory → (x more_bytes :
 EndsLine (Ok _) th x bytes handed f = Stands th (x ++ (bytes ++ (10 ∷ []))) handed f
 EndsLine (Err e) th x bytes handed f = (later : List ℕ) → FaultIs th ((x ++ (bytes ++ (10 ∷ []))) ++ later) e
 
+-- the parts handed out, with the next
+abbrev pub handed_with : List Part → Option CodePart → List Part
+handed_with handed None = handed
+handed_with handed (Some part) = handed ++ plain_part part ∷ []
+
 -- the next part is handed out, or none is whole
 abbrev pub Hands : Option CodePart → Theory → List ℕ → List Part → FileReader → Type 0
-Hands None th x handed f = (queue_of f.reader.machine ≡ []) × Stands th x handed f
+Hands None th x handed f = (waiting_in f ≡ []) × Stands th x handed f
 Hands (Some part) th x handed f = Stands th x (handed ++ plain_part part ∷ []) f
 
 -- The text is that of a proof, of which the parts handed out and those that are whole are all; or this is its fault.
 abbrev pub Ends : Result (Unit {0}) FileFault → Theory → List ℕ → List Part → FileReader → Type 0
-Ends (Ok _) th x handed f = (p : Proof) × ReadsAsProof th x p × (handed ++ queue_of f.reader.machine ≡ parts_of p)
+Ends (Ok _) th x handed f = (p : Proof) × ReadsAsProof th x p × (handed ++ waiting_in f ≡ parts_of p)
 Ends (Err e) th x handed f = FaultIs th x e × (e ≢ Memory)

@@ -8,21 +8,14 @@ use Rattle.circ_line.specs.Line.{Line, head_line, table_line, place_line, certif
 use Rattle.circ_grammar.specs.Now.{Now, Begin, Tabling, Placing, Certifying, Opened, Stepping, Simplifying, Reducing, Closed, Ended}
 use Rattle.circ_grammar.specs.Now.{next_now, line_part, front_part, step_part, is_step}
 use Rattle.circ_rules.specs.Proof.{goal_of}
-use Rattle.circ_rules.specs.Plain.{plain_step}
+pub use Rattle.circ_rules.specs.Plain.{plain_part}
 use Rattle.circ_proof_text.specs.Parts.{Part, Head, Certificate, Goals, Step, part_with}
 use Rattle.circ_proof_text.specs.ProofText.{place_numbers}
 use Rattle.circ_file.specs.Splits.{tops}
-use Rattle.circ_file.specs.declared.part.Part.{Part as CodePart}
-use Rattle.circ_file.specs.declared.part.Part.TheVariants as part
+use Rattle.circ_rules.specs.declared.part.Part.{Part as CodePart}
 use Rattle.circ_file.specs.declared.machine.Mode.{Mode}
 use Rattle.circ_file.specs.declared.machine.Mode.TheVariants as mode
 use Rattle.circ_file.specs.declared.machine.Machine.{Machine}
-
-abbrev pub plain_part : CodePart → Part
-plain_part (part.Head table gamma) = Head table.items gamma
-plain_part (part.Certificate links) = Certificate (plain_links links.items)
-plain_part (part.Goals goals names) = Goals goals.items names.items
-plain_part (part.Step step) = Step (plain_step step)
 
 abbrev pub now_at : Mode → Machine → Now
 now_at mode.Begin m = Begin

@@ -9,9 +9,8 @@ ghost use Rattle.circ_file.specs.Feeding.{IsSound, Stands};
 ghost use Rattle.circ_file.specs.Decoding.{gathered_of, Decodes};
 
 use crate::fault::FileFault;
-use crate::part::Part;
 use crate::reader::FileReader;
-use circ_rules::{Block, Proof, Step};
+use circ_rules::{Block, Part, Proof, Step};
 use circ_special::Gamma;
 use circ_theory::{Goal, Theory};
 use std::alloc::{AllocError, Global};

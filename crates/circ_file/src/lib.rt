@@ -1,4 +1,5 @@
 //! Proof files: [`decode`] gives the one proof that bytes are the text of, or their first fault.
+//! [`FileReader`] takes the bytes in pieces, and hands out the proof's parts as they come.
 #![tactic(auto)]
 
 mod checks;
@@ -8,7 +9,6 @@ mod fault;
 mod lines;
 mod machine;
 mod moving;
-mod part;
 mod reader;
 mod splits;
 mod steps;
@@ -17,6 +17,7 @@ mod taken;
 
 pub use decoding::decode;
 pub use fault::FileFault;
+pub use reader::FileReader;
 
 /// The most steps of a proof.
 const MOST_STEPS: u64 = 100_000;

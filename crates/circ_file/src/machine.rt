@@ -11,9 +11,9 @@ ghost use Rattle.circ_proof_text.specs.Parts.{Head};
 ghost use Rattle.circ_file.specs.View.{now_of, queue_of, plain_part, front_parts};
 ghost use Rattle.circ_file.specs.View.{IsKept, Moves, Pops};
 
-use crate::part::Part;
 use crate::splits::OpenSplit;
 use circ_replay::{Chain, Link};
+use circ_rules::Part;
 use circ_special::{Gamma, Place};
 use circ_term::Term;
 use circ_theory::{Goal, Theory};

@@ -4,36 +4,41 @@ ghost use Rattle.std.specs.Prelude.{Some, None, Err, IfOk, OnOk, MatchOption, tr
 ghost use Rattle.circ_theory.specs.Theory.{Theory};
 ghost use Rattle.circ_line.specs.Plain.{NoFeed};
 ghost use Rattle.circ_grammar.specs.Now.{Ended};
-ghost use Rattle.circ_proof_text.specs.Parts.{Part as PlainPart};
+ghost use Rattle.circ_rules.specs.Parts.{Part as PlainPart, parts_of};
+ghost use Rattle.circ_rules.specs.Proof.{Proof};
+ghost use Rattle.circ_rules.specs.Fitting.{Fit};
+ghost use Rattle.circ_proof_text.specs.ProofText.{ReadsAsProof};
 ghost use Rattle.circ_file.specs.View.{now_of, queue_of, splits_in, Pops};
 ghost use Rattle.circ_file.specs.Lines.{IsReader, ReadsNext};
 ghost use Rattle.circ_file.specs.Feeding.{IsCut, IsSound, Stands, EndsLine, FeedsLines};
-ghost use Rattle.circ_file.specs.Feeding.{Feeds, Hands, Ends};
+ghost use Rattle.circ_file.specs.Feeding.{Feeds, Hands, Ends, handed_with};
+ghost use Rattle.circ_file.specs.Feeding.{whole_lines_in, fault_of, waiting_in};
 ghost use Rattle.circ_file.specs.declared.fault.FileFault.{FileFault};
 
 use crate::fault::FileFault;
 use crate::lines::LineReader;
-use crate::part::Part;
 use crate::taken::Taken;
+use circ_rules::Part;
 use circ_theory::Theory;
 use std::alloc::{AllocError, Global};
 
-/// A reader of a proof's text, which comes in pieces. After a fault it answers that fault.
+/// A reader of a proof's text, which comes in pieces, whatever they are. After a fault it answers
+/// that fault.
 #[derive(Drop)]
-pub(crate) struct FileReader<'a> {
+pub struct FileReader<'a> {
     reader: LineReader<'a>,
-    /// The number of whole lines.
+    // The number of whole lines.
     lines: u64,
-    /// The bytes after the last line feed.
+    // The bytes after the last line feed.
     rest: Vec<u8>,
     fault: Option<FileFault>,
 }
 
 impl<'a> FileReader<'a> {
     /// Nothing was fed.
-    pub(crate) fn new(alloc: Global, theory: &'a Theory) -> FileReader<'a>
+    pub fn new(alloc: Global, theory: &'a Theory) -> FileReader<'a>
         ensures sound { IsSound result }
-        ensures lines { result.lines ≡ 0 }
+        ensures lines { whole_lines_in result ≡ 0 }
         ensures stands { Stands theory.now [] [] result }
     {
         FileReader {
@@ -45,14 +50,14 @@ impl<'a> FileReader<'a> {
     }
 
     /// The next piece of the text. A fault is that of the whole text, whatever comes later.
-    pub(crate) fn feed(&mut self, piece: &[u8]) -> Result<(), FileFault>
+    pub fn feed(&mut self, piece: &[u8]) -> Result<(), FileFault>
         requires sound { IsSound self.old }
-        requires room { self.old.lines + length piece.now < 2 ^ 64 - 1 }
+        requires room { whole_lines_in self.old + length piece.now < 2 ^ 64 - 1 }
         ensures sound { IsSound self.new }
-        ensures lines { self.new.lines ≤ self.old.lines + length piece.now }
+        ensures lines { whole_lines_in self.new ≤ whole_lines_in self.old + length piece.now }
         ensures stands { (th : Theory) (x : List ℕ) (handed : List PlainPart) →
             Stands th x handed self.old → Feeds result th x piece.now handed self.new }
-        ensures again { (fault : FileFault) → self.old.fault ≡ Some fault →
+        ensures again { (fault : FileFault) → fault_of self.old ≡ Some fault →
             result ≡ Err fault }
     {
         if let Some(fault) = self.fault {
@@ -68,17 +73,23 @@ impl<'a> FileReader<'a> {
     }
 
     /// The next part, if the text so far shows one more.
-    pub(crate) fn next(&mut self) -> Option<Part>
+    pub fn next(&mut self) -> Option<Part>
         requires sound { IsSound self.old }
         ensures sound { IsSound self.new }
-        ensures lines { self.new.lines ≡ self.old.lines }
+        ensures lines { whole_lines_in self.new ≡ whole_lines_in self.old }
         ensures stands { (th : Theory) (x : List ℕ) (handed : List PlainPart) →
             Stands th x handed self.old → Hands result th x handed self.new }
-        ensures again { (fault : FileFault) → self.old.fault ≡ Some fault → result ≡ None }
-        ensures fault { self.new.fault ≡ self.old.fault }
-        ensures queue { self.old.fault ≡ None → Pops result
-            (queue_of self.old.reader.machine) (queue_of self.new.reader.machine) }
+        ensures fit { (th : Theory) (x : List ℕ) (handed : List PlainPart) →
+            Stands th x handed self.old → Fit th (handed_with handed result) }
+        ensures first { (th : Theory) (x later : List ℕ) (handed : List PlainPart) (p : Proof) →
+            Stands th x handed self.old → ReadsAsProof th (x ++ later) p →
+            (xs : List PlainPart) × (parts_of p ≡ handed_with handed result ++ xs) }
+        ensures again { (fault : FileFault) → fault_of self.old ≡ Some fault → result ≡ None }
+        ensures fault { fault_of self.new ≡ fault_of self.old }
+        ensures queue { fault_of self.old ≡ None →
+            Pops result (waiting_in self.old) (waiting_in self.new) }
     {
+        self.reader.theory.known();
         match self.fault {
             Some(_) => None,
             None => self.reader.machine.pop(),
@@ -86,11 +97,11 @@ impl<'a> FileReader<'a> {
     }
 
     /// Whether the text is a proof's, as it stands.
-    pub(crate) fn end(&self) -> Result<(), FileFault>
+    pub fn end(&self) -> Result<(), FileFault>
         requires sound { IsSound self.now }
         ensures stands { (th : Theory) (x : List ℕ) (handed : List PlainPart) →
             Stands th x handed self.now → Ends result th x handed self.now }
-        ensures again { (fault : FileFault) → self.now.fault ≡ Some fault → result ≡ Err fault }
+        ensures again { (fault : FileFault) → fault_of self.now ≡ Some fault → result ≡ Err fault }
     {
         if let Some(fault) = self.fault {
             return Err(fault);

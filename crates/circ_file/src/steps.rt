@@ -13,10 +13,9 @@ ghost use Rattle.circ_file.specs.Splits.{given, tops, now_given, parts_given};
 ghost use Rattle.circ_file.specs.View.{now_of, queue_of, step_parts, IsKept, Moves, Begins};
 
 use crate::machine::{Machine, Mode, empty_chain};
-use crate::part::Part;
 use crate::splits::{OpenSplit, give};
 use circ_replay::{Chain, Link, Why};
-use circ_rules::Step;
+use circ_rules::{Part, Step};
 use circ_theory::Goal;
 use std::alloc::AllocError;
 use std::mem;

@@ -23,7 +23,8 @@ use Rattle.circ_proof_text.specs.Checks.{with_term, is_place, is_next, is_too_la
 use Rattle.circ_proof_text.specs.ProofText.{place_numbers}
 use Rattle.circ_proof_text.specs.Parts.{place_with}
 use Rattle.circ_proof_text.proofs.TableText.{Have, number_there, HasEntry, is_entry, entry_args, entry_term, term_entry}
-use Rattle.circ_proof_text.proofs.Places.{slice_bound, place_tells, place_numbers_in_range, increasing_push, increasing_next}
+use Rattle.circ_rules.proofs.FewPlaces.{slice_bound}
+use Rattle.circ_proof_text.proofs.Places.{place_tells, place_numbers_in_range, increasing_push, increasing_next}
 use Rattle.circ_proof_text.proofs.Fine.{AllFine, is_number, lefts_to, lefts_from}
 use Rattle.circ_proof_text.proofs.FineBlocks.{seen}
 

@@ -30,7 +30,7 @@ use Rattle.circ_proof_text.specs.TableText.{entries_of}
 use Rattle.circ_proof_text.specs.Checks.{nothing}
 use Rattle.circ_proof_text.specs.ProofText.{numbers_of}
 use Rattle.circ_proof_text.specs.Parts.{Part, Head, Certificate, Goals, Step, parts_of, place_with, part_with}
-use Rattle.circ_proof_text.specs.Fitting.{IsHeadFor, FitSteps, FitBlocks, FitRest, Fit}
+use Rattle.circ_rules.specs.Fitting.{IsHeadFor, FitSteps, FitBlocks, FitRest, Fit}
 use Rattle.circ_proof_text.proofs.TableText.{one_table}
 use Rattle.circ_proof_text.proofs.Fine.{AllFine}
 use Rattle.circ_proof_text.proofs.FineBlocks.{seen, IsNumberedStepFor, IsNumberedBlockFor, numbered_steps_in, steps_to, names_to, blocks_to}

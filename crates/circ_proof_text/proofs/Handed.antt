@@ -19,7 +19,7 @@ use Rattle.circ_grammar.proofs.ShownBy.{shown_is}
 use Rattle.circ_proof_text.specs.TableText.{entries_of}
 use Rattle.circ_proof_text.specs.ProofText.{numbers_of, rules, ReadsAsProof}
 use Rattle.circ_proof_text.specs.Parts.{Part, part_with, parts_of}
-use Rattle.circ_proof_text.specs.Fitting.{Fit}
+use Rattle.circ_rules.specs.Fitting.{Fit}
 use Rattle.circ_proof_text.specs.Reading.{Reading, StandsFor}
 use Rattle.circ_proof_text.proofs.TableText.{one_table}
 use Rattle.circ_proof_text.proofs.FineFronts.{HaveTerms}

@@ -13,12 +13,8 @@ use Rattle.circ_theory.proofs.Rewriting.{contains_at}
 use Rattle.circ_special.specs.declared.place.Place.{Place}
 use Rattle.circ_special.specs.Special.{IsPlace, IsIncreasing}
 use Rattle.circ_rules.specs.Proof.{IsNumber}
+use Rattle.circ_rules.proofs.FewPlaces.{slice_bound}
 use Rattle.circ_proof_text.specs.Checks.{is_place, is_next}
-
-pub slice_bound : {X : Type 0} (xs : List X) (n : ℕ) (x : X) → slice_get xs n ≡ Some x → n < length xs
-slice_bound [] n x e = absurd (cc)
-slice_bound (y ∷ xs) zero x e = omega arith
-slice_bound (y ∷ xs) (suc n) x e = let r = slice_bound xs n x e in omega (arith, r)
 
 -- The test tells what a place is.
 pub place_tells : (th : Theory) (g : Place) → (is_place th g ≡ true) ↔ IsPlace th g

@@ -4,5 +4,4 @@ pub mod ReadTable
 pub mod Checks
 pub mod ProofText
 pub mod Parts
-pub mod Fitting
 pub mod Reading

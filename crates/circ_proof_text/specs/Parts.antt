@@ -1,4 +1,4 @@
--- The parts of a proof, in the order of its text, and the proof that parts make.
+-- The parts of a proof, as its lines show them, and the proof that parts make.
 use Rattle.std.specs.Prelude.{ℕ, List, [], ◌∷◌, ◌++◌, map}
 use Rattle.circ_term.specs.Tree.{Tree}
 use Rattle.circ_theory.specs.declared.parts.Goal.{Goal}
@@ -7,29 +7,9 @@ use Rattle.circ_special.specs.Special.{place}
 use Rattle.circ_replay.specs.Plain.{LinkOf}
 use Rattle.circ_rules.specs.Rules.{ProofStep, Simplify, Reduce, Derive, Done}
 use Rattle.circ_rules.specs.Proof.{Block, Proof, goal_of}
+pub use Rattle.circ_rules.specs.Parts.{Part, Head, Certificate, Goals, Step, certificate_parts, step_parts, block_parts, parts_of}
 use Rattle.circ_grammar.specs.Grammar.{NumberedStep, Simplify_step, Reduce_step, Derive_step}
 use Rattle.circ_grammar.specs.Parts.{PartOf, Head_part, Certificate_part, Goals_part, Step_part, Done_part}
-
--- the table and the special set, a certificate, the goals of a block, or one of its steps, Done among them
-pub data Part : Type 0 where
-  Head : (table : List Tree) (places : List Place) → Part
-  Certificate : (links : List (LinkOf ℕ)) → Part
-  Goals : (goals : List Goal) (names : List (ℕ × ℕ)) → Part
-  Step : (step : ProofStep ℕ) → Part
-
-abbrev pub certificate_parts : List (List (LinkOf ℕ)) → List Part
-certificate_parts lss = map Certificate lss
-
-abbrev pub step_parts : List (ProofStep ℕ) → List Part
-step_parts ss = map Step ss
-
-abbrev pub block_parts : List Block → List Part
-block_parts [] = []
-block_parts (b ∷ bs) = Goals b.goals b.names ∷ step_parts b.steps ++ block_parts bs
-
--- the head, the certificates, and for each block its goals and its steps
-abbrev pub parts_of : Proof → List Part
-parts_of p = Head p.table p.places ∷ certificate_parts p.certificates ++ block_parts p.blocks
 
 -- the place that two numbers name
 abbrev pub place_with : ℕ × ℕ → Place

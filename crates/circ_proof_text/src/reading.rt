@@ -22,7 +22,7 @@ ghost use Rattle.circ_proof_text.specs.Checks.{passes_at, limit_at};
 ghost use Rattle.circ_proof_text.specs.ProofText.{numbers_of, ReadsAsProof, FirstCause};
 ghost use Rattle.circ_proof_text.specs.Parts.{Part, part_with, parts_of, gathered};
 ghost use Rattle.circ_proof_text.specs.Parts.{nothing_gathered, gather_all};
-ghost use Rattle.circ_proof_text.specs.Fitting.{Fit};
+ghost use Rattle.circ_rules.specs.Fitting.{Fit};
 ghost use Rattle.circ_proof_text.specs.Reading.{Reading, kept, nothing_read, StandsFor};
 ghost use Rattle.circ_proof_text.specs.Reading.{after_line};
 

@@ -6,3 +6,5 @@ pub mod Simplifying
 pub mod Deriving
 pub mod Starting
 pub mod Counting
+pub mod FewPlaces
+pub mod Next

@@ -28,7 +28,7 @@ use std::alloc::{AllocError, Global};
 // A place, with its operator on variables: variable 0 at the place, and variables 1, 2 and so on at
 // the other arguments from the left.
 #[derive(Drop)]
-struct Start<'a> {
+pub(crate) struct Start<'a> {
     place: Place,
     decl: &'a OpDecl,
     // The sort of the argument.
@@ -54,7 +54,7 @@ fn start_args(alloc: Global, arg: u16, sorts: &[u32]) -> Result<Vec<Term>, Alloc
 }
 
 impl<'a> Basis<'a> {
-    fn start(&self, place: Place) -> Result<Start<'a>, AllocError>
+    pub(crate) fn start(&self, place: Place) -> Result<Start<'a>, AllocError>
         requires { IsPlace self.now.theory.now place }
         ensures { IfOk result (IsStartOf self.now.theory.now place) }
     {
@@ -101,7 +101,7 @@ impl<'a> Basis<'a> {
     }
 
     // Whether the links are a certificate of the place and the derivative of this number.
-    fn certifies(
+    pub(crate) fn certifies(
         &self,
         start: &Start<'_>,
         derivative: u32,

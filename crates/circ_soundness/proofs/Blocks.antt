@@ -28,7 +28,7 @@ name_sorted th table a n f = record {
   };
 }
 
-names_sorted : (th : Theory) (table : List Tree) → AllByRecursion (IsWellSorted th.signature) table → (ns : List (ℕ × ℕ))
+pub names_sorted : (th : Theory) (table : List Tree) → AllByRecursion (IsWellSorted th.signature) table → (ns : List (ℕ × ℕ))
     → AllByRecursion (IsNameFor table) ns → AreSortedGoals th (map (goal_of table) ns)
 names_sorted th table a [] f = sorted_none th
 names_sorted th table a (n ∷ ns) f =

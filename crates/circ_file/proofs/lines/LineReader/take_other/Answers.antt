@@ -5,7 +5,7 @@ use Rattle.circ_special.specs.Special.{IsSet}
 use Rattle.circ_proof_text.specs.Checks.{passes_at, limit_at}
 use Rattle.circ_file.specs.View.{Takes, IsReady, places_with}
 use Rattle.circ_file.specs.Lines.{seen_of}
-use Rattle.circ_file.proofs.FewPlaces.{few_due}
+use Rattle.circ_rules.proofs.FewPlaces.{few_due}
 use Rattle.circ_file.proofs.Taking.{ready_then, set_then, certificates_then, steps_then, seen_then}
 use Rattle.circ_file.proofs.lines.LineReader.take_other.Goals as goal
 

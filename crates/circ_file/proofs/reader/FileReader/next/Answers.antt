@@ -1,19 +1,21 @@
-use Rattle.std.proofs.Common.{◌∙◌, refl, ap}
-use Rattle.circ_file.specs.View.{now_of, queue_of}
-use Rattle.circ_file.specs.Lines.{seen_of}
-use Rattle.circ_file.specs.declared.lines.LineReader.{LineReader}
-use Rattle.circ_file.specs.declared.reader.FileReader.{FileReader}
-use Rattle.circ_file.proofs.Standing.{reading_with}
-use Rattle.circ_file.proofs.Handing.{next_handed}
-use Rattle.circ_file.proofs.Taking.{seen_with}
+use Rattle.std.proofs.Common.{subst}
+use Rattle.circ_theory.specs.WellFormed.{IsWellFormed}
+use Rattle.circ_file.proofs.Handing.{with_machine, pop_handed, hands_fit, hands_first}
 use Rattle.circ_file.proofs.reader.FileReader.next.Goals as goal
 
 pub returns-in-None-clause-stands : goal.returns-in-None-clause-stands
 returns-in-None-clause-stands c th x handed s =
-    let old = c.args.self.now in
-    let reader : LineReader = record old.reader { machine = c.pop.new.self } in
-    let new : FileReader = record old { reader = reader } in
-    let same = ap (λ n. reading_with old.lines old.rest.items n (seen_of s.wanted reader) (queue_of c.pop.new.self)) c.pop.ensures.next
-    ∙ ap (λ ps. reading_with old.lines old.rest.items (now_of old.reader.machine) (seen_with old.reader.table.terms.items ps.items old.reader.counts.certificates
-    old.reader.counts.steps s.wanted) (queue_of c.pop.new.self)) c.pop.ensures.places in
-    next_handed th x handed old new c.pop.result s c.pop.ensures.popped same refl refl
+    let told = c.pop.ensures in
+    pop_handed th x handed c.args.self.now c.pop.new.self c.pop.result s told.popped told.next told.places
+
+pub returns-in-None-clause-fit : goal.returns-in-None-clause-fit
+returns-in-None-clause-fit c th x handed s =
+    let told = c.pop.ensures in
+    hands_fit th x handed c.pop.result (with_machine c.args.self.now c.pop.new.self)
+    (pop_handed th x handed c.args.self.now c.pop.new.self c.pop.result s told.popped told.next told.places)
+
+pub returns-in-None-clause-first : goal.returns-in-None-clause-first
+returns-in-None-clause-first c th x later handed p s r =
+    let told = c.pop.ensures in
+    hands_first th x later handed c.pop.result (with_machine c.args.self.now c.pop.new.self) p (subst IsWellFormed s.theory c.known.ensures)
+    (pop_handed th x handed c.args.self.now c.pop.new.self c.pop.result s told.popped told.next told.places) r

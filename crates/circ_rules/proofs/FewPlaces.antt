@@ -1,8 +1,9 @@
 -- A special set has few places, so few certificates are due for it.
-use Rattle.std.specs.Prelude.{◌≡◌, ◌⊎◌, ℕ, ◌+◌, ◌*◌, ◌^◌, ◌≤◌, ◌<◌, ◌==◌, ◌&&◌, ◌||◌, nat_lt, Bool, true, false, if◌then◌else◌, List, [], ◌∷◌, ◌++◌, length, map, refl, Option, Some, None}
+use Rattle.std.specs.Prelude.{◌≡◌, ◌⊎◌, ℕ, zero, suc, ◌+◌, ◌*◌, ◌^◌, ◌≤◌, ◌<◌, ◌==◌, ◌&&◌, ◌||◌, nat_lt, Bool, true, false, if◌then◌else◌, List, [], ◌∷◌, ◌++◌, length, map, refl, Option, Some, None}
 use Rattle.std.specs.List.{slice_get, filter, AllByRecursion}
 use Rattle.std.specs.Option.{option_map_or}
 use Rattle.std.proofs.Common.{sym, ◌∙◌, ap, arith, inl, inr, length-append}
+use Rattle.std.proofs.lemmas.List.{length-map}
 use Rattle.std.proofs.lemmas.Bool.{or_cases, and_parts, ltb-true, eqb-true}
 use Rattle.circ_theory.specs.Signature.{Operator}
 use Rattle.circ_theory.specs.Theory.{Theory, Derivative}
@@ -10,10 +11,13 @@ use Rattle.circ_theory.specs.WellFormed.{IsWellFormed}
 use Rattle.circ_theory.proofs.Rewriting.{contains_at}
 use Rattle.circ_special.specs.declared.place.Place.{Place}
 use Rattle.circ_special.specs.Special.{IsPlace, IsIncreasing, IsSet, comes_before}
-use Rattle.circ_rules.specs.Certified.{derivatives_at, due}
+use Rattle.circ_rules.specs.Certified.{derivatives_at, due_at, due}
 use Rattle.circ_theory.specs.Fresh.{derivatives_of}
-use Rattle.circ_proof_text.proofs.Places.{slice_bound}
-use Rattle.circ_file.proofs.Counted.{due_at, length-due_at}
+
+pub slice_bound : {X : Type 0} (xs : List X) (n : ℕ) (x : X) → slice_get xs n ≡ Some x → n < length xs
+slice_bound [] n x e = absurd (cc)
+slice_bound (y ∷ xs) zero x e = omega arith
+slice_bound (y ∷ xs) (suc n) x e = let r = slice_bound xs n x e in omega (arith, r)
 
 -- The numbers of a place are below the limits of theories.
 pub record IsLow (g : Place) : Type 0 where
@@ -57,6 +61,9 @@ few_at th g w = go (slice_get th.signature.ops g.op)
     go : (o : Option Operator) → length (option_map_or (λ o. derivatives_of th o.result) o []) ≤ 256
     go None = omega arith
     go (Some o) = let few : length th.derivatives ≤ 256 = w.few_derivatives in omega (arith, few, filter_le (λ d. d.hole == o.result) th.derivatives)
+
+pub length-due_at : (th : Theory) (g : Place) → length (due_at th g) ≡ length (derivatives_at th g)
+length-due_at th g = length-map (derivatives_at th g) (λ d. (g, d))
 
 due_le : (th : Theory) (gs : List Place) → IsWellFormed th → length (due th gs) ≤ 256 * length gs
 due_le th [] w = omega arith

@@ -1,13 +1,13 @@
 //! The parts of a proof.
+use crate::proof::Step;
 use circ_replay::Link;
-use circ_rules::Step;
 use circ_special::Gamma;
 use circ_term::Term;
 use circ_theory::Goal;
 
 /// A part of a proof, in the order of its text.
 #[derive(Drop)]
-pub(crate) enum Part {
+pub enum Part {
     /// The table and the special set.
     Head {
         table: Vec<Term>,

@@ -1,0 +1,226 @@
+-- A part that fits behind earlier parts is what a checker needs that has taken these.
+use Rattle.std.proofs.Common.{◌≡◌, ◌+◌, ◌-◌, ◌<◌, ◌≤◌, ◌^◌, ℕ, Bool, true, false, List, [], ◌∷◌, ◌++◌, map, length}
+use Rattle.std.proofs.Common.{inl, inr, refl, ap, sym, subst, ◌∙◌, arith, append_assoc}
+use Rattle.std.specs.List.{AllByRecursion}
+use Rattle.circ_term.specs.Tree.{Tree}
+use Rattle.circ_theory.specs.Signature.{IsWellSorted}
+use Rattle.circ_theory.specs.Theory.{Theory, Derivative}
+use Rattle.circ_theory.specs.WellFormed.{IsWellFormed}
+use Rattle.circ_theory.specs.declared.parts.Goal.{Goal}
+use Rattle.circ_special.specs.declared.place.Place.{Place}
+use Rattle.circ_special.specs.Special.{IsSet}
+use Rattle.circ_replay.specs.Goals.{AreSortedGoals}
+use Rattle.circ_replay.specs.Plain.{LinkOf}
+use Rattle.circ_replay.specs.Runs.{Runs}
+use Rattle.circ_rules.specs.Rules.{ProofStep, Simplify, Reduce, Derive, Done}
+use Rattle.circ_rules.specs.Certified.{due}
+use Rattle.circ_rules.specs.Proof.{AreLinksFor, IsStepFor, IsNameFor, step_limit, goal_of}
+use Rattle.circ_rules.specs.Parts.{Part, Head, Certificate, Goals, Step}
+use Rattle.circ_rules.specs.Fitting.{IsHeadFor, AreGoalsFor, FitSteps, FitBlocks, FitRest, Fit}
+use Rattle.circ_rules.proofs.FewPlaces.{few_due}
+use Rattle.circ_rules.proofs.Sorted.{sorted_none, sorted_append}
+use Rattle.circ_soundness.proofs.Blocks.{names_sorted}
+use Rattle.circ_check.specs.Checking.{Checking, TakesCertificate, TakesGoals, TakesStep, TakesPart, StandFor, nothing_taken}
+use Rattle.circ_check.specs.Ready.{IsReady}
+
+-- ---- goals and steps, where m steps were before
+
+abbrev Later : List Tree → ℕ → List Part → Type 0
+Later ts m [] = Unit {0}
+Later ts m (Goals gs ns ∷ xs) = AreGoalsFor ts gs ns × Later ts m xs
+Later ts m (Step s ∷ xs) = (m < step_limit) × IsStepFor (length ts) s × Later ts (m + 1) xs
+Later ts m (Head us gs ∷ xs) = ⊥
+Later ts m (Certificate ls ∷ xs) = ⊥
+
+mutual
+  steps_later : (ts : List Tree) (m : ℕ) (xs : List Part) → FitSteps ts m xs → Later ts m xs
+  steps_later ts m [] f = tt
+  steps_later ts m (Step Done ∷ xs) f = (f.0, tt, blocks_later ts (m + 1) xs f.1)
+  steps_later ts m (Step (Simplify c) ∷ xs) f = (f.0, f.1, steps_later ts (m + 1) xs f.2)
+  steps_later ts m (Step (Reduce w) ∷ xs) f = (f.0, f.1, steps_later ts (m + 1) xs f.2)
+  steps_later ts m (Step Derive ∷ xs) f = (f.0, f.1, steps_later ts (m + 1) xs f.2)
+  steps_later ts m (Head us gs ∷ xs) f = absurd f
+  steps_later ts m (Certificate ls ∷ xs) f = absurd f
+  steps_later ts m (Goals gs ns ∷ xs) f = absurd f
+
+  blocks_later : (ts : List Tree) (m : ℕ) (xs : List Part) → FitBlocks ts m xs → Later ts m xs
+  blocks_later ts m [] f = tt
+  blocks_later ts m (Goals gs ns ∷ xs) f = (f.0, steps_later ts m xs f.1)
+  blocks_later ts m (Head us gs ∷ xs) f = absurd f
+  blocks_later ts m (Certificate ls ∷ xs) f = absurd f
+  blocks_later ts m (Step s ∷ xs) f = absurd f
+
+-- ---- what stays
+
+-- d has the table, the special set and the blocks of c, and n more is counted
+record Keeps (c d : Checking) (n : ℕ) : Type 0 where
+  table : d.table ≡ c.table
+  places : d.places ≡ c.places
+  goals : d.before ++ d.own ≡ c.before ++ c.own
+  count : d.tally.count ≡ c.tally.count + n
+
+step_keeps : (th : Theory) (c d : Checking) (b : Bool) (s : ProofStep ℕ) → TakesStep th c b s d → Keeps c d 1
+step_keeps th c d true s t = record {
+  table = ap (λ x. x.table) t;
+  places = ap (λ x. x.places) t;
+  goals = ap (λ x. x.before ++ x.own) t;
+  count = ap (λ x. x.tally.count) t;
+}
+step_keeps th c d false s (inl t) = record {
+  table = ap (λ x. x.table) t.2;
+  places = ap (λ x. x.places) t.2;
+  goals = ap (λ x. x.before ++ x.own) t.2;
+  count = ap (λ x. x.tally.count) t.2;
+}
+step_keeps th c d false s (inr t) = record {
+  table = ap (λ x. x.table) t.1;
+  places = ap (λ x. x.places) t.1;
+  goals = ap (λ x. x.before ++ x.own) t.1;
+  count = ap (λ x. x.tally.count) t.1;
+}
+
+-- one certificate less is due
+record KeepsDue (c d : Checking) : Type 0 where
+  keeps : Keeps c d 1
+  due : length c.due ≡ length d.due + 1
+
+certificate_keeps : (th : Theory) (c d : Checking) (xs : List (Place × Derivative)) (ls : List (LinkOf Tree)) → c.due ≡ xs → TakesCertificate th c xs ls d
+    → KeepsDue c d
+certificate_keeps th c d [] ls e t = absurd t
+certificate_keeps th c d (x ∷ xs) ls e (inl t) = record {
+  keeps = record {
+    table = ap (λ x. x.table) t.1;
+    places = ap (λ x. x.places) t.1;
+    goals = ap (λ x. x.before ++ x.own) t.1;
+    count = ap (λ x. x.tally.count) t.1;
+  };
+  due = omega (arith, ap length e, ap (λ x. length x.due) t.1);
+}
+certificate_keeps th c d (x ∷ xs) ls e (inr t) = record {
+  keeps = record {
+    table = ap (λ x. x.table) t.1;
+    places = ap (λ x. x.places) t.1;
+    goals = ap (λ x. x.before ++ x.own) t.1;
+    count = ap (λ x. x.tally.count) t.1;
+  };
+  due = omega (arith, ap length e, ap (λ x. length x.due) t.1);
+}
+
+-- What holds after the head: the table is that of the head, and so is the special set.
+record Knows (th : Theory) (ts : List Tree) (ps : List Place) (c : Checking) : Type 0 where
+  table : c.table ≡ ts
+  places : c.places ≡ ps
+  sorted : AllByRecursion (IsWellSorted th.signature) ts
+  set : IsSet th ps
+  goals : AreSortedGoals th (c.before ++ c.own)
+
+kept_known : (th : Theory) (ts : List Tree) (ps : List Place) (c d : Checking) (n : ℕ) → Knows th ts ps c → Keeps c d n → Knows th ts ps d
+kept_known th ts ps c d n k s = record {
+  table = s.table ∙ k.table;
+  places = s.places ∙ k.places;
+  sorted = k.sorted;
+  set = k.set;
+  goals = subst (AreSortedGoals th) (sym s.goals) k.goals;
+}
+
+goals_sorted : (th : Theory) (ts : List Tree) → AllByRecursion (IsWellSorted th.signature) ts → (gs : List Goal) (ns : List (ℕ × ℕ)) → AreGoalsFor ts gs ns
+    → AreSortedGoals th gs
+goals_sorted th ts a gs ns f = subst (AreSortedGoals th) (sym f.goals_are) (names_sorted th ts a ns f.names_fit)
+
+record GoalsKept (th : Theory) (ts : List Tree) (ps : List Place) (c d : Checking) : Type 0 where
+  knows : Knows th ts ps d
+  count : d.tally.count ≡ c.tally.count
+
+goals_keep : (th : Theory) (ts : List Tree) (ps : List Place) (c d : Checking) (b : Bool) (gs : List Goal) → Knows th ts ps c → AreSortedGoals th gs
+    → TakesGoals c b gs d → GoalsKept th ts ps c d
+goals_keep th ts ps c d true gs k w t = record {
+  knows = record {
+    table = ap (λ x. x.table) t ∙ k.table;
+    places = ap (λ x. x.places) t ∙ k.places;
+    sorted = k.sorted;
+    set = k.set;
+    goals = subst (AreSortedGoals th) (sym (ap (λ x. x.before ++ x.own) t)) k.goals;
+  };
+  count = ap (λ x. x.tally.count) t;
+}
+goals_keep th ts ps c d false gs k w t = record {
+  knows = record {
+    table = ap (λ x. x.table) t ∙ k.table;
+    places = ap (λ x. x.places) t ∙ k.places;
+    sorted = k.sorted;
+    set = k.set;
+    goals = subst (AreSortedGoals th) (sym (ap (λ x. x.before ++ x.own) t)) (sorted_append th (c.before ++ c.own) gs k.goals w);
+  };
+  count = ap (λ x. x.tally.count) t;
+}
+
+-- ---- the part that comes next
+
+ready_with : (th : Theory) (ts : List Tree) (ps : List Place) (c : Checking) → Knows th ts ps c
+    → AllByRecursion (IsWellSorted th.signature) c.table × IsSet th c.places
+ready_with th ts ps c k = (subst (AllByRecursion (IsWellSorted th.signature)) (sym k.table) k.sorted, subst (IsSet th) (sym k.places) k.set)
+
+module _ (th : Theory) (ok : IsWellFormed th) (ts : List Tree) (ps : List Place) where
+  later_ready : (m : ℕ) (xs : List Part) (x : Part) (c d : Checking) → Later ts m (xs ++ x ∷ []) → Knows th ts ps c
+      → c.tally.count ≡ length (due th ps) + m → Runs (TakesPart th) xs c d → IsReady th d x
+  later_ready m [] (Goals gs ns) c d f k e r = subst (λ y. IsReady th y (Goals gs ns)) r (record {
+    sorted = (ready_with th ts ps c k).0;
+    set = (ready_with th ts ps c k).1;
+    part = (k.goals, goals_sorted th ts k.sorted gs ns f.0);
+  })
+  later_ready m [] (Step s) c d f k e r = subst (λ y. IsReady th y (Step s)) r (record {
+    sorted = (ready_with th ts ps c k).0;
+    set = (ready_with th ts ps c k).1;
+    part = (omega (arith, e, f.0, few_due th ps ok k.set), subst (λ us. IsStepFor (length us) s) (sym k.table) f.1);
+  })
+  later_ready m [] (Head us gs) c d f k e r = absurd f
+  later_ready m [] (Certificate ls) c d f k e r = absurd f
+  later_ready m (Goals gs ns ∷ xs) x c d f k e r =
+      let s = goals_keep th ts ps c r.0 c.stopped gs k (goals_sorted th ts k.sorted gs ns f.0) r.1 in
+      later_ready m xs x r.0 d f.1 s.knows (s.count ∙ e) r.2
+  later_ready m (Step t ∷ xs) x c d f k e r =
+      let s = step_keeps th c r.0 c.stopped t r.1 in
+      later_ready (m + 1) xs x r.0 d f.2 (kept_known th ts ps c r.0 1 k s) (omega (arith, s.count, e)) r.2
+  later_ready m (Head us gs ∷ xs) x c d f k e r = absurd f
+  later_ready m (Certificate ls ∷ xs) x c d f k e r = absurd f
+
+  rest_ready : (n : ℕ) (xs : List Part) (x : Part) (c d : Checking) → FitRest th ts ps n (xs ++ x ∷ []) → Knows th ts ps c → c.tally.count ≡ n
+      → n + length c.due ≡ length (due th ps) → Runs (TakesPart th) xs c d → IsReady th d x
+  rest_ready n [] (Certificate ls) c d f k e l r = subst (λ y. IsReady th y (Certificate ls)) r (record {
+    sorted = (ready_with th ts ps c k).0;
+    set = (ready_with th ts ps c k).1;
+    part = (
+      omega (arith, e, f.0, few_due th ps ok k.set),
+      omega (arith, f.0, l),
+      subst (λ us. AreLinksFor (length us) ls) (sym k.table) f.1,
+    );
+  })
+  rest_ready n [] (Goals gs ns) c d f k e l r = later_ready 0 [] (Goals gs ns) c d (blocks_later ts 0 (Goals gs ns ∷ []) f.1) k (omega (arith, e, f.0)) r
+  rest_ready n [] (Head us gs) c d f k e l r = absurd f
+  rest_ready n [] (Step s) c d f k e l r = absurd f
+  rest_ready n (Certificate ls ∷ xs) x c d f k e l r =
+      let s = certificate_keeps th c r.0 c.due _ refl r.1 in
+      rest_ready (n + 1) xs x r.0 d f.2 (kept_known th ts ps c r.0 1 k s.keeps) (omega (arith, s.keeps.count, e)) (omega (arith, s.due, l)) r.2
+  rest_ready n (Goals gs ns ∷ xs) x c d f k e l r =
+      later_ready 0 (Goals gs ns ∷ xs) x c d (blocks_later ts 0 (Goals gs ns ∷ (xs ++ x ∷ [])) f.1) k (omega (arith, e, f.0)) r
+  rest_ready n (Head us gs ∷ xs) x c d f k e l r = absurd f
+  rest_ready n (Step s ∷ xs) x c d f k e l r = absurd f
+
+-- The part that fits comes next.
+pub part_ready : (th : Theory) → IsWellFormed th → (xs : List Part) (x : Part) (c : Checking) → Fit th (xs ++ x ∷ []) → StandFor th xs c → IsReady th c x
+part_ready th ok [] (Head ts ps) c f r = subst (λ y. IsReady th y (Head ts ps)) r (record {
+  sorted = tt;
+  set = record { increasing = tt; places = tt };
+  part = tt;
+})
+part_ready th ok [] (Certificate ls) c f r = absurd f
+part_ready th ok [] (Goals gs ns) c f r = absurd f
+part_ready th ok [] (Step s) c f r = absurd f
+part_ready th ok (Head ts ps ∷ xs) x c f r =
+    let d : Checking = record nothing_taken { table = ts; places = ps; due = due th ps } in
+    let k : Knows th ts ps d = record { table = refl; places = refl; sorted = f.0.sorted; set = f.0.set; goals = sorted_none th } in
+    let P : Checking → Type 0 = λ y. Runs (TakesPart th) xs y c in
+    rest_ready th ok ts ps 0 xs x d c f.1 k refl (omega arith) (subst P r.1 r.2)
+part_ready th ok (Certificate ls ∷ xs) x c f r = absurd f
+part_ready th ok (Goals gs ns ∷ xs) x c f r = absurd f
+part_ready th ok (Step s ∷ xs) x c f r = absurd f

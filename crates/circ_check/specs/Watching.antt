@@ -1,0 +1,75 @@
+-- What contracts see of a checker that takes parts.
+use Rattle.std.specs.Prelude.{◌≡◌, ◌≤◌, ℕ, true, false, List, ◌∷◌, [], ◌++◌, length, map, take, Option, Some, None}
+use Rattle.std.specs.List.{Contains}
+use Rattle.circ_theory.specs.Theory.{Theory}
+use Rattle.circ_theory.specs.Experiment.{Behaves}
+use Rattle.circ_theory.specs.declared.parts.Goal.{Goal}
+use Rattle.circ_rules.specs.Rules.{IsSortedState}
+use Rattle.circ_rules.specs.Proof.{Block, Proof}
+use Rattle.circ_rules.specs.Parts.{Part}
+use Rattle.circ_rules.specs.Fitting.{Fit}
+use Rattle.circ_rules.specs.Accepted.{Accepted, FirstFail}
+use Rattle.circ_rules.specs.Due.{due_after}
+use Rattle.circ_rules.specs.Plain.{plain_state}
+use Rattle.circ_check.specs.Checking.{Checking, TakesPart, StandFor}
+use Rattle.circ_check.specs.Deciding.{plain_list}
+use Rattle.circ_check.specs.declared.checker.Checker.{Checker}
+
+abbrev pub failed_of : Checker → Option ℕ
+failed_of k = k.tally.failed
+
+abbrev pub derived_of : Checker → List (List Goal)
+derived_of k = map plain_list k.derived.items
+
+-- memory ran out in an earlier call
+abbrev pub IsSpent : Checker → Type 0
+IsSpent k = k.is_spent ≡ true
+
+abbrev pub checking_of : Checker → Checking
+checking_of k = record {
+  table = k.table.items;
+  places = k.gamma;
+  due = due_after k.theory.now k.gamma k.due;
+  before = take k.earlier k.state.hyps.items;
+  own = k.own.items;
+  state = plain_state k.state;
+  stopped = k.is_stopped;
+  tally = k.tally;
+  derived = derived_of k;
+}
+
+-- what a checker keeps true that has memory
+pub record IsSound (th : Theory) (k : Checker) : Type 0 where
+  pub theory : k.theory.now ≡ th
+  pub unspent : k.is_spent ≡ false
+  pub within : k.earlier ≤ length k.state.hyps.items
+  pub sorted : IsSortedState th (plain_state k.state)
+
+-- The checker has taken these parts.
+pub record Stands (th : Theory) (xs : List Part) (k : Checker) : Type 0 where
+  pub sound : IsSound th k
+  pub checking : StandFor th xs (checking_of k)
+
+-- the part fits behind those that were taken
+abbrev pub Follows : Part → Checker → Type 0
+Follows x k = (th : Theory) × (xs : List Part) × Stands th xs k × Fit th (xs ++ x ∷ [])
+
+-- what is found and what was derived is as before
+pub record IsAsBefore (old new : Checker) : Type 0 where
+  pub failed : failed_of new ≡ failed_of old
+  pub derived : derived_of new ≡ derived_of old
+
+-- the part is taken
+pub record Took (th : Theory) (x : Part) (old new : Checker) : Type 0 where
+  pub sound : IsSound th new
+  pub taken : TakesPart th x (checking_of old) (checking_of new)
+
+-- nothing failed, and the proof is accepted; or this is where it fails first
+abbrev pub Finds : Theory → Proof → Option ℕ → Type 0
+Finds th p None = Accepted th p
+Finds th p (Some n) = FirstFail th p n
+
+-- where nothing failed, each goal of the proof behaves
+abbrev pub FoundBehave : Theory → Proof → Option ℕ → Type 0
+FoundBehave th p None = (b : Block) → Contains p.blocks b → (g : Goal) → Contains b.goals g → Behaves th g.left g.right
+FoundBehave th p (Some n) = Unit {0}

@@ -1,0 +1,296 @@
+//! A checker that takes the parts of a proof one after the other.
+ghost use Rattle.std.specs.Prelude.{◌≡◌, ◌++◌, ◌∷◌, [], ℕ, List, None, map, take};
+ghost use Rattle.std.specs.Prelude.{IfOk, OnOk, IsErr};
+ghost use Rattle.std.specs.Result.{OnErr};
+ghost use Rattle.circ_theory.specs.Theory.{Theory};
+ghost use Rattle.circ_rules.specs.Rules.{state as state_with, Derive};
+ghost use Rattle.circ_rules.specs.Proof.{Proof, ProofFor};
+ghost use Rattle.circ_rules.specs.Parts.{Part as PlainPart, parts_of};
+ghost use Rattle.circ_rules.specs.Parts.{Certificate, Goals, Step as StepPart};
+ghost use Rattle.circ_rules.specs.Accepted.{Derives};
+ghost use Rattle.circ_rules.specs.Plain.{plain_part, plain_state, plain_step};
+ghost use Rattle.circ_replay.specs.Goals.{AreSortedGoals};
+ghost use Rattle.circ_replay.specs.Plain.{plain_links};
+ghost use Rattle.circ_check.specs.Deciding.{plain_list, DerivedBehave};
+ghost use Rattle.circ_check.specs.Checking.{made_by, with_derived, goals_in};
+ghost use Rattle.circ_check.specs.Ready.{IsReady};
+ghost use Rattle.circ_check.specs.Watching.{failed_of, derived_of, checking_of, IsSpent};
+ghost use Rattle.circ_check.specs.Watching.{Stands, Follows, IsSound, IsAsBefore, Took};
+ghost use Rattle.circ_check.specs.Watching.{Finds, FoundBehave};
+
+use crate::running::{put, share};
+use crate::tally::Tally;
+use circ_replay::Link;
+use circ_rules::{Due, Part, State, Step, apply, certify_next};
+use circ_special::Gamma;
+use circ_term::Term;
+use circ_theory::{Goal, Theory};
+use std::alloc::{AllocError, Global};
+use std::collections::VecDeque;
+
+/// A checker that takes the parts of a proof one after the other. After want of memory it takes no
+/// more.
+#[derive(Drop)]
+pub struct Checker<'a> {
+    alloc: Global,
+    theory: &'a Theory,
+    table: Vec<Term>,
+    gamma: Gamma,
+    due: Due,
+    state: State,
+    // How many of the hypotheses are goals of earlier blocks.
+    earlier: usize,
+    // The goals of the block under way.
+    own: Vec<Goal>,
+    // A step has failed.
+    is_stopped: bool,
+    // Memory ran out.
+    is_spent: bool,
+    tally: Tally,
+    derived: Vec<Vec<Goal>>,
+}
+
+impl<'a> Checker<'a> {
+    /// Nothing was taken.
+    pub fn new(alloc: Global, theory: &'a Theory) -> Checker<'a>
+        ensures { Stands theory.now [] result }
+    {
+        Checker {
+            alloc,
+            theory,
+            table: Vec::new(alloc),
+            gamma: no_places(alloc, theory),
+            due: Due {
+                place: 0,
+                derivative: 0,
+            },
+            state: no_state(alloc),
+            earlier: 0,
+            own: Vec::new(alloc),
+            is_stopped: false,
+            is_spent: false,
+            tally: Tally::new(),
+            derived: Vec::new(alloc),
+        }
+    }
+
+    /// The next part of the proof.
+    pub fn take(&mut self, part: Part) -> Result<(), AllocError>
+        requires { (IsSpent self.old → ⊥) → Follows (plain_part part) self.old }
+        ensures taken { OnOk result ((th : Theory) (xs : List PlainPart) →
+            Stands th xs self.old → Stands th (xs ++ plain_part part ∷ []) self.new) }
+        ensures kept { OnErr result (IsAsBefore self.old self.new) }
+        ensures spent { OnErr result (IsSpent self.new) }
+        ensures again { IsSpent self.old → IsErr result }
+    {
+        if self.is_spent {
+            return Err(AllocError);
+        }
+        self.theory.known();
+        match self.take_part(part) {
+            Ok(()) => Ok(()),
+            Err(_) => {
+                self.is_spent = true;
+                Err(AllocError)
+            }
+        }
+    }
+
+    /// The first certificate or step that failed. Certificates are counted from 1, and the steps of
+    /// all blocks follow in one count.
+    pub fn failed(&self) -> Option<u64>
+        ensures same { result ≡ failed_of self.now }
+        ensures exact { (th : Theory) (p : Proof) → ProofFor th p →
+            Stands th (parts_of p) self.now → Finds th p result }
+        ensures sound { (th : Theory) (p : Proof) → ProofFor th p →
+            Stands th (parts_of p) self.now → FoundBehave th p result }
+    {
+        self.theory.known();
+        self.tally.failed
+    }
+
+    /// For each block that was begun, the goals that its Derive steps appended to the hypotheses,
+    /// up to the first step that failed.
+    pub fn derived(&self) -> &[Vec<Goal>]
+        ensures same { map plain_list result.now ≡ derived_of self.now }
+        ensures exact { (th : Theory) (p : Proof) → ProofFor th p →
+            Stands th (parts_of p) self.now → failed_of self.now ≡ None →
+            Derives th p (map plain_list result.now) }
+        ensures sound { (th : Theory) (p : Proof) → ProofFor th p →
+            Stands th (parts_of p) self.now → failed_of self.now ≡ None →
+            DerivedBehave th (map plain_list result.now) }
+    {
+        self.theory.known();
+        self.derived.as_slice()
+    }
+
+    fn take_part(&mut self, part: Part) -> Result<(), AllocError>
+        requires ready { IsReady self.old.theory.now (checking_of self.old) (plain_part part) }
+        requires sound { IsSound self.old.theory.now self.old }
+        ensures took { OnOk result (Took self.old.theory.now (plain_part part) self.old self.new) }
+        ensures kept { OnErr result (IsAsBefore self.old self.new) }
+    {
+        match part {
+            Part::Head { table, gamma } => {
+                self.table = table;
+                self.gamma = gamma;
+                self.due = Due {
+                    place: 0,
+                    derivative: 0,
+                };
+                Ok(())
+            }
+            Part::Certificate { links } => self.take_certificate(links.as_slice()),
+            Part::Goals { goals, .. } => self.begin_block(goals),
+            Part::Step { step } => self.take_step(&step),
+        }
+    }
+
+    fn take_certificate(&mut self, links: &[Link]) -> Result<(), AllocError>
+        requires ready { IsReady self.old.theory.now (checking_of self.old)
+            (Certificate (plain_links links.now)) }
+        requires sound { IsSound self.old.theory.now self.old }
+        ensures took { OnOk result (Took self.old.theory.now
+            (Certificate (plain_links links.now)) self.old self.new) }
+        ensures kept { OnErr result (IsAsBefore self.old self.new) }
+    {
+        let holds = certify_next(
+            self.alloc,
+            self.theory,
+            self.table.as_slice(),
+            &self.gamma,
+            &mut self.due,
+            links,
+        )?;
+        if !holds {
+            self.tally = self.tally.with_failure();
+            return Ok(());
+        }
+        self.tally = self.tally.with_one();
+        Ok(())
+    }
+
+    // A block with these goals. After a step that failed it is begun in name alone.
+    fn begin_block(&mut self, goals: Vec<Goal>) -> Result<(), AllocError>
+        requires hyps_sorted { AreSortedGoals self.old.theory.now
+            (take self.old.earlier self.old.state.hyps.items ++ self.old.own.items) }
+        requires goals_sorted { AreSortedGoals self.old.theory.now goals.items }
+        requires sound { IsSound self.old.theory.now self.old }
+        ensures took { OnOk result ((names : List (ℕ × ℕ)) → Took self.old.theory.now
+            (Goals goals.items names) self.old self.new) }
+        ensures kept { OnErr result (IsAsBefore self.old self.new) }
+    {
+        if self.is_stopped {
+            return begin_list(self.alloc, &mut self.derived);
+        }
+        begin(&mut self.state, self.earlier, &mut self.own, goals.as_slice())?;
+        self.earlier = self.state.hyps.len();
+        self.own = goals;
+        begin_list(self.alloc, &mut self.derived)
+    }
+
+    fn take_step(&mut self, step: &Step) -> Result<(), AllocError>
+        requires ready { IsReady self.old.theory.now (checking_of self.old)
+            (StepPart (plain_step step.now)) }
+        requires sound { IsSound self.old.theory.now self.old }
+        ensures took { OnOk result (Took self.old.theory.now
+            (StepPart (plain_step step.now)) self.old self.new) }
+        ensures kept { OnErr result (IsAsBefore self.old self.new) }
+    {
+        if self.is_stopped {
+            self.tally = self.tally.with_one();
+            return Ok(());
+        }
+        let made = made_by(step, &self.state.goals)?;
+        let table = self.table.as_slice();
+        if !apply(self.alloc, self.theory, table, &self.gamma, &mut self.state, step)? {
+            self.is_stopped = true;
+            self.tally = self.tally.with_failure();
+            return Ok(());
+        }
+        add_last(&mut self.derived, made)?;
+        self.tally = self.tally.with_one();
+        Ok(())
+    }
+}
+
+// Nothing is taken as proved, and nothing is to be proved.
+fn no_state(alloc: Global) -> State
+    ensures { plain_state result ≡ state_with [] [] }
+{
+    State {
+        hyps: Vec::new(alloc),
+        goals: VecDeque::new(alloc),
+    }
+}
+
+fn no_places(alloc: Global, theory: &Theory) -> Gamma
+    ensures { result ≡ [] }
+{
+    match Gamma::of(theory, Vec::new(alloc)) {
+        Some(gamma) => gamma,
+        None => unreachable!(),
+    }
+}
+
+// A block begins: the goals of the last one are hypotheses with those of the blocks before it.
+fn begin(
+    state: &mut State,
+    earlier: usize,
+    own: &mut Vec<Goal>,
+    goals: &[Goal],
+) -> Result<(), AllocError>
+    ensures { OnOk result (plain_state state.new ≡ state_with
+        (take earlier state.old.hyps.items ++ own.old.items) goals.now) }
+{
+    state.hyps.truncate(earlier);
+    state.hyps.append(own)?;
+    state.goals.clear();
+    put(&mut state.goals, goals)
+}
+
+// One more block has derived nothing.
+fn begin_list(alloc: Global, lists: &mut Vec<Vec<Goal>>) -> Result<(), AllocError>
+    ensures begun { OnOk result (map plain_list lists.new.items ≡
+        map plain_list lists.old.items ++ [] ∷ []) }
+    ensures kept { OnErr result (lists.new.items ≡ lists.old.items) }
+{
+    lists.push(Vec::new(alloc))?;
+    Ok(())
+}
+
+// What the step makes a hypothesis, if it holds.
+fn made_by(step: &Step, goals: &VecDeque<Goal>) -> Result<Option<Goal>, AllocError>
+    ensures { IfOk result (λ o. goals_in o ≡ made_by (plain_step step.now) goals.now.items) }
+{
+    match step {
+        Step::Derive => first(goals),
+        _ => Ok(None),
+    }
+}
+
+// The first goal once more.
+fn first(goals: &VecDeque<Goal>) -> Result<Option<Goal>, AllocError>
+    ensures { IfOk result (λ o. goals_in o ≡ made_by Derive goals.now.items) }
+{
+    match goals.front() {
+        Some(goal) => Ok(Some(share(goal)?)),
+        None => Ok(None),
+    }
+}
+
+// The goal goes last in the last list.
+fn add_last(lists: &mut Vec<Vec<Goal>>, made: Option<Goal>) -> Result<(), AllocError>
+    ensures added { OnOk result (map plain_list lists.new.items ≡
+        with_derived (map plain_list lists.old.items) (goals_in made)) }
+    ensures kept { OnErr result (map plain_list lists.new.items ≡
+        map plain_list lists.old.items) }
+{
+    let Some(goal) = made else {
+        return Ok(());
+    };
+    if let Some(list) = lists.last_mut() {
+        list.push(goal)?;
+    }
+    Ok(())
+}
