@@ -4,7 +4,7 @@ use Rattle.std.proofs.Common.{inl, inr, refl, ap, sym, subst, ◌∙◌, arith, 
 use Rattle.circ_term.specs.Tree.{Tree}
 use Rattle.circ_theory.specs.Theory.{Theory, Derivative}
 use Rattle.circ_theory.specs.WellFormed.{IsWellFormed}
-use Rattle.circ_theory.specs.Link.{named}
+use Rattle.circ_theory.specs.Rewriting.{named}
 use Rattle.circ_theory.specs.declared.parts.Goal.{Goal}
 use Rattle.circ_special.specs.declared.place.Place.{Place}
 use Rattle.circ_replay.specs.Goals.{AreSortedGoals}
