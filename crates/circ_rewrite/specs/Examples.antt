@@ -1,0 +1,56 @@
+-- A signature, rules and an assumption that try the definitions.
+use Rattle.std.specs.Prelude.{ℕ, Bool, List, [], ◌∷◌, false, true}
+use Rattle.circ_term.specs.Tree.{Tree, Var, App, none, more}
+use Rattle.circ_theory.specs.Signature.{Signature, Operator}
+use Rattle.circ_theory.specs.declared.parts.Side.TheVariants.{Neither}
+use Rattle.circ_theory.specs.declared.parts.Goal.{Goal}
+use Rattle.circ_rewrite.specs.declared.parts.Rule.{Rule}
+use Rattle.circ_rewrite.specs.declared.parts.RuleName.TheVariants.{Equation, Lemma}
+
+abbrev pub operator : (args : List ℕ) → (assoc comm idem : Bool) → Operator
+operator args assoc comm idem =
+    record { form = []; args = args; result = 0; prec = 0; side = Neither; assoc = assoc; comm = comm; idem = idem }
+
+-- operators 0 and 1 are constants, 2 is a sum, 3 and 4 take one argument, and 5 is idempotent alone
+abbrev pub sums : Signature
+sums = record {
+  sorts = [] ∷ [];
+  ops = operator [] false false false ∷ operator [] false false false ∷ operator (0 ∷ 0 ∷ []) true true true
+      ∷ operator (0 ∷ []) false false false ∷ operator (0 ∷ []) false false false ∷ operator (0 ∷ 0 ∷ []) false false true ∷ [];
+}
+
+abbrev pub a : Tree
+a = App 0 0 none
+
+abbrev pub b : Tree
+b = App 1 0 none
+
+abbrev pub plus : Tree → Tree → Tree
+plus s t = App 2 0 (more s (more t none))
+
+abbrev pub f : Tree → Tree
+f t = App 3 0 (more t none)
+
+abbrev pub g : Tree → Tree
+g t = App 4 0 (more t none)
+
+abbrev pub h : Tree → Tree → Tree
+h s t = App 5 0 (more s (more t none))
+
+abbrev pub x : Tree
+x = Var 0 0
+
+-- f(x) = x
+abbrev pub f_is : Rule
+f_is = record { name = Equation 0; left = f x; right = x }
+
+-- g(x) = g(x), which never ends
+abbrev pub g_is : Rule
+g_is = record { name = Equation 1; left = g x; right = g x }
+
+-- x + x = b, which is never reached
+abbrev pub sum_is : Rule
+sum_is = record { name = Lemma 0; left = plus x x; right = b }
+
+abbrev pub b_is : Goal
+b_is = record { left = b; right = f a }
