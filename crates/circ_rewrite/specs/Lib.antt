@@ -4,6 +4,7 @@ pub mod Due
 pub mod Norm
 pub mod Plain
 pub mod Standing
+pub mod Fitting
 pub mod Choosing
 pub mod Index
 pub mod Working

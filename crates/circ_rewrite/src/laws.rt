@@ -18,6 +18,8 @@ ghost use Rattle.circ_rewrite.specs.Norm.{Normal_form, Budget_spent, norm};
 ghost use Rattle.circ_rewrite.specs.Reductions.{IsReduction};
 ghost use Rattle.circ_rewrite.specs.Links.{IsRuleOf, AreLinks};
 ghost use Rattle.circ_rewrite.specs.Examples.{sums, a, b, plus, f, g, h, f_is, g_is, sum_is, b_is};
+ghost use Rattle.circ_rewrite.specs.Examples.{languages, acc, union, letter_a, letter_b, no, yes};
+ghost use Rattle.circ_rewrite.specs.Examples.{empty_words, b_has};
 
 /// Matching, as normal forms are defined by it, is that there is a substitution, and only one.
 pub fn matching_decides()
@@ -83,4 +85,29 @@ pub fn a_budget_is_enough()
     ensures just { norm sums (f_is ∷ []) [] 1 (f a)
         ≡ Normal_form a (record { path = []; reason = By_rule (Equation 0) (a ∷ []) } ∷ []) 0 }
     ensures nothing { norm sums (f_is ∷ []) [] 0 (g a) ≡ Normal_form (g a) [] 0 }
+{}
+
+/// `acc(b + a)` becomes `acc(a + b)`, which is taken apart, and each part from the left. The terms of
+/// a trace are those of the rule's variables in their order.
+pub fn parts_go_from_the_left()
+    ensures done { norm languages empty_words [] 100 (acc (union letter_b letter_a))
+        ≡ Normal_form no (
+        record { path = 0 ∷ []; reason = By_content 6 (union letter_a letter_b) } ∷
+        record { path = []; reason = By_rule (Equation 20) (letter_a ∷ letter_b ∷ []) } ∷
+        record { path = 0 ∷ []; reason = By_rule (Equation 18) [] } ∷
+        record { path = 1 ∷ []; reason = By_rule (Equation 19) [] } ∷
+        record { path = []; reason = By_rule (Equation 0) (no ∷ []) } ∷ []) 95 }
+    ensures spent { norm languages empty_words [] 4 (acc (union letter_b letter_a))
+        ≡ Budget_spent }
+{}
+
+/// The same under the assumption `acc(b) = 1`.
+pub fn an_assumption_before_a_rule()
+    ensures { norm languages empty_words (b_has ∷ []) 100 (acc (union letter_b letter_a))
+        ≡ Normal_form yes (
+        record { path = 0 ∷ []; reason = By_content 6 (union letter_a letter_b) } ∷
+        record { path = []; reason = By_rule (Equation 20) (letter_a ∷ letter_b ∷ []) } ∷
+        record { path = 0 ∷ []; reason = By_rule (Equation 18) [] } ∷
+        record { path = 1 ∷ []; reason = By_assumption 0 } ∷
+        record { path = []; reason = By_rule (Equation 0) (yes ∷ []) } ∷ []) 95 }
 {}
