@@ -1,0 +1,23 @@
+use Rattle.std.proofs.Common.{refl, arith}
+use Rattle.circ_rewrite.specs.Choosing.{chosen}
+use Rattle.circ_rewrite.proofs.Advancing.{root_settled, step_out, faults_new}
+use Rattle.circ_rewrite.proofs.work.step.Goals as goal
+
+pub returns-in_default-clause-steps : goal.returns-in_default-clause-steps
+returns-in_default-clause-steps c = (root_settled c.args.means.now c.args.here.now c.requires.settled (rw c.in_default.is at c.in_ok-choice.ensures), refl)
+
+pub returns-then-work-eq0-clause-fault : goal.returns-then-work-eq0-clause-fault
+returns-then-work-eq0-clause-fault c = (
+  step_out c.args.means.now c.args.work.now c.args.here.now (chosen c.args.means.now.theory.now.signature c.args.here.now c.in-Some.choice) c.requires.stands c.requires.settled
+      (rw c.in-Some.is at c.in_ok-choice.ensures) c.if-work-eq0.true,
+  c.if-work-eq0.true,
+)
+
+pub put-requires-clause-due : goal.put-requires-clause-due
+put-requires-clause-due c = rw c.in-Some.is at c.in_ok-choice.ensures
+
+pub returns-in-Err-clause-fault : goal.returns-in-Err-clause-fault
+returns-in-Err-clause-fault c =
+    rw c.rewrite_fault.ensures
+    (faults_new c.args.means.now c.args.work.now c.args.here.now (chosen c.args.means.now.theory.now.signature c.args.here.now c.in-Some.choice) c.in-Err.fault
+    c.requires.stands c.requires.settled (rw c.in-Some.is at c.in_ok-choice.ensures) (omega arith) c.known.ensures c.in-Err.ensures)

@@ -1,0 +1,13 @@
+pub mod Replacement
+pub mod Matching
+pub mod Due
+pub mod Norm
+pub mod Plain
+pub mod Standing
+pub mod Fitting
+pub mod Choosing
+pub mod Index
+pub mod Working
+pub mod Reductions
+pub mod Links
+pub mod Examples

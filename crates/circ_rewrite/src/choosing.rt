@@ -1,0 +1,157 @@
+//! Which replacement is due at the root of a term, and the term that it puts there.
+ghost use Rattle.std.specs.Prelude.{◌≡◌, ◌<◌, ◌^◌, length, IfOk, None};
+ghost use Rattle.std.specs.List.{AllByRecursion};
+ghost use Rattle.circ_term.specs.Limits.{Builds};
+ghost use Rattle.circ_theory.specs.Signature.{Signature};
+ghost use Rattle.circ_rewrite.specs.Due.{assumed, rule_due, ruled, IsRewriteRule};
+ghost use Rattle.circ_rewrite.specs.Index.{IsIndex};
+ghost use Rattle.circ_rewrite.specs.Choosing.{chosen, Chooses};
+ghost use Rattle.circ_rewrite.specs.Working.{IsReady, due_by};
+
+use crate::fitting::fits;
+use crate::index::RuleIndex;
+use crate::parts::{Rule, RuleName};
+use circ_aci::{canonical, is_canonical};
+use circ_match::match_term;
+use circ_term::{Subst, Term, TermFault};
+use circ_theory::{Goal, Theory};
+use std::alloc::{AllocError, Global};
+
+// What may be used to rewrite.
+#[derive(Clone, Copy)]
+pub(crate) struct Means<'a> {
+    pub(crate) theory: &'a Theory,
+    pub(crate) index: &'a RuleIndex<'a>,
+    pub(crate) assumptions: &'a [Goal],
+}
+
+// A replacement that is due, before its new term is built.
+#[derive(Drop)]
+pub(crate) enum Choice<'a> {
+    Assumed {
+        number: u32,
+        right: &'a Term,
+    },
+    Content {
+        op: u32,
+    },
+    Ruled {
+        name: RuleName,
+        right: &'a Term,
+        subst: Subst,
+        terms: Vec<Term>,
+    },
+}
+
+// What is due at the root of the term.
+pub(crate) fn choose<'a>(
+    alloc: Global,
+    means: &Means<'a>,
+    here: &Term,
+) -> Result<Option<Choice<'a>>, AllocError>
+    requires ready { IsReady means.now }
+    ensures { IfOk result
+        (Chooses means.now.theory.now.signature here.now (due_by means.now here.now)) }
+{
+    match assumed(means.assumptions, here) {
+        Some(choice) => Ok(Some(choice)),
+        None => choose_besides(alloc, means, here),
+    }
+}
+
+// What is due at the root of a term that no assumption has as its left side.
+fn choose_besides<'a>(
+    alloc: Global,
+    means: &Means<'a>,
+    here: &Term,
+) -> Result<Option<Choice<'a>>, AllocError>
+    requires ready { IsReady means.now }
+    requires none { assumed 0 means.now.assumptions.now here.now ≡ None }
+    ensures { IfOk result
+        (Chooses means.now.theory.now.signature here.now (due_by means.now here.now)) }
+{
+    let Some(op) = here.op_number() else {
+        return Ok(None);
+    };
+    if !is_canonical(means.theory, op, here) {
+        return Ok(Some(Choice::Content { op }));
+    }
+    ruled(alloc, means.index, here)
+}
+
+fn assumed<'a>(assumptions: &'a [Goal], here: &Term) -> Option<Choice<'a>>
+    requires few { length assumptions.now < 2 ^ 32 }
+    ensures { (sig : Signature) → Chooses sig here.now (assumed 0 assumptions.now here.now) result }
+{
+    for i in 0..assumptions.len() {
+        let assumption = &assumptions[i];
+        if assumption.left.same(here) {
+            return Some(Choice::Assumed {
+                number: i as u32,
+                right: &assumption.right,
+            });
+        }
+    }
+    None
+}
+
+// The rules in the term's row are tried in the order of their numbers.
+fn ruled<'a>(
+    alloc: Global,
+    index: &RuleIndex<'a>,
+    here: &Term,
+) -> Result<Option<Choice<'a>>, AllocError>
+    requires index { IsIndex index.now }
+    requires rules { AllByRecursion IsRewriteRule index.now.rules.now }
+    ensures { (sig : Signature) → IfOk result
+        (Chooses sig here.now (ruled index.now.rules.now here.now)) }
+{
+    let rules = index.rules;
+    let mut number = index.first(here);
+    while number < rules.len() {
+        match try_rule(alloc, &rules[number], here)? {
+            Some(choice) => return Ok(Some(choice)),
+            None => number = index.after(number),
+        }
+    }
+    Ok(None)
+}
+
+fn try_rule<'a>(
+    alloc: Global,
+    rule: &'a Rule,
+    here: &Term,
+) -> Result<Option<Choice<'a>>, AllocError>
+    requires { IsRewriteRule rule.now }
+    ensures { (sig : Signature) → IfOk result (Chooses sig here.now (rule_due rule.now here.now)) }
+{
+    if !fits(&rule.left, here) {
+        return Ok(None);
+    }
+    let Some(subst) = match_term(alloc, &rule.left, here)? else {
+        return Ok(None);
+    };
+    let terms = subst.terms()?;
+    Ok(Some(Choice::Ruled {
+        name: rule.name,
+        right: &rule.right,
+        subst,
+        terms,
+    }))
+}
+
+// The term that replaces.
+pub(crate) fn build(
+    alloc: Global,
+    theory: &Theory,
+    here: &Term,
+    choice: &Choice<'_>,
+) -> Result<Term, TermFault>
+    ensures { Builds result (chosen theory.now.signature here.now choice.now).new }
+{
+    match choice {
+        Choice::Assumed { right, .. } => Ok(right.share()?),
+        Choice::Content { op } => canonical(alloc, theory, *op, here),
+        Choice::Ruled { right, subst, .. } => subst.apply(right),
+    }
+}

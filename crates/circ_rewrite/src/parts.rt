@@ -1,0 +1,54 @@
+//! Rules, traces and normal forms.
+use circ_term::{Path, Term};
+
+/// Where a rule comes from.
+#[derive(Clone, Copy, PartialEq, Eq, Debug)]
+pub enum RuleName {
+    /// An equation of the theory.
+    Equation { number: u32 },
+    /// A goal of an earlier block, counted over all of them.
+    Lemma { number: u32 },
+}
+
+/// A rule: an instance of its left side is replaced by that of its right side.
+#[derive(Drop)]
+pub struct Rule {
+    /// Where the rule comes from.
+    pub name: RuleName,
+    /// What is looked for.
+    pub left: Term,
+    /// What replaces it.
+    pub right: Term,
+}
+
+/// One replacement that was made, at a path in the whole term.
+#[derive(Drop)]
+pub enum Trace {
+    /// By a rule. The terms are those that its variables were given, in the order of the variables'
+    /// numbers and then their sorts.
+    Rewrite {
+        name: RuleName,
+        path: Path,
+        terms: Vec<Term>,
+    },
+    /// By an assumption, as it stands.
+    Assumed {
+        number: u32,
+        path: Path,
+    },
+    /// By the canonical form under an operator, which is this term.
+    Content {
+        op: u32,
+        path: Path,
+        term: Term,
+    },
+}
+
+/// A normal form, with the replacements that led to it, in order.
+#[derive(Drop)]
+pub struct Normal {
+    /// The normal form.
+    pub term: Term,
+    /// The replacements.
+    pub traces: Vec<Trace>,
+}
