@@ -1,21 +1,27 @@
-//! Proof files: [`decode`] gives the one proof that bytes are the text of, or their first fault.
+//! Proof files: [`decode`] gives the one proof that bytes are the text of, or their first fault,
+//! and [`encode`] the text of a proof.
 #![tactic(auto)]
 
 mod checks;
 mod counts;
 mod decoding;
+mod encoding;
 mod fault;
+pub mod laws;
 mod lines;
 mod machine;
 mod moving;
+mod numbering;
 mod part;
 mod reader;
 mod splits;
 mod steps;
 mod table;
 mod taken;
+mod writing;
 
 pub use decoding::decode;
+pub use encoding::encode;
 pub use fault::FileFault;
 
 /// The most steps of a proof.
