@@ -37,7 +37,7 @@ whys-push : (ws : List Why) (w : Why) → plain_whys (ws ++ w ∷ []) ≡ push_w
 whys-push [] w = refl
 whys-push (v ∷ ws) w = ap (more_whys (plain_why v)) (whys-push ws w)
 
-count-whys : (ws : List Why) → why_count (plain_whys ws) ≡ length ws
+pub count-whys : (ws : List Why) → why_count (plain_whys ws) ≡ length ws
 count-whys [] = refl
 count-whys (w ∷ ws) = omega (arith, count-whys ws)
 

@@ -9,3 +9,6 @@ pub mod Standing
 pub mod Cutting
 pub mod Handing
 pub mod Popping
+pub mod Written
+pub mod Numbered
+pub mod Encoded

@@ -5,3 +5,6 @@ pub mod Counting
 pub mod Lines
 pub mod Feeding
 pub mod Decoding
+pub mod Writing
+pub mod Encoding
+pub mod Numbering

@@ -1,21 +1,27 @@
-//! Proof files: [`decode`] gives the one proof that bytes are the text of, or their first fault.
-//! [`FileReader`] takes the bytes in pieces, and hands out the proof's parts as they come.
+//! Proof files: [`decode`] gives the one proof that bytes are the text of, or their first fault,
+//! and [`encode`] the text of a proof. [`FileReader`] takes the bytes in pieces, and hands out the
+//! proof's parts as they come.
 #![tactic(auto)]
 
 mod checks;
 mod counts;
 mod decoding;
+mod encoding;
 mod fault;
+pub mod laws;
 mod lines;
 mod machine;
 mod moving;
+mod numbering;
 mod reader;
 mod splits;
 mod steps;
 mod table;
 mod taken;
+mod writing;
 
 pub use decoding::decode;
+pub use encoding::encode;
 pub use fault::FileFault;
 pub use reader::FileReader;
 

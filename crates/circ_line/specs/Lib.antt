@@ -4,3 +4,4 @@ pub mod Front
 pub mod Read
 pub mod Plain
 pub mod Written
+pub mod Lent

@@ -1,17 +1,20 @@
 //! The text of one line of a proof file, both ways: [`read_line`] gives the one line that bytes are
-//! the text of, [`write_line`] appends the text of a line. What order lines have is not told here.
+//! the text of, [`write_line`] appends the text of a line, and [`write_lent_line`] that of one whose
+//! parts are lent. What order lines have is not told here.
 //!
 //! Contracts see a line as plain data (`Line` of specs/), in which numbers stand for terms.
 #![tactic(auto)]
 
 mod fields;
 pub mod laws;
+mod lent;
 mod line;
 mod links;
 mod numbers;
 mod reading;
 mod writing;
 
+pub use lent::{LentLine, write_lent_line};
 pub use line::{Line, TableLine};
 pub use reading::read_line;
 pub use writing::write_line;

@@ -116,7 +116,7 @@ fn put_pair(out: &mut Vec<u8>, first: u32, second: u32) -> Result<(), AllocError
     put_number(out, second)
 }
 
-fn put_link(out: &mut Vec<u8>, link: &Link) -> Result<(), AllocError>
+pub(crate) fn put_link(out: &mut Vec<u8>, link: &Link) -> Result<(), AllocError>
     ensures text { OnOk result (out.new.items ≡
         out.old.items ++ spaced (link_words (plain_link link.now))) }
     ensures keeps { Keeps out.old.items out.new.items }
@@ -220,7 +220,7 @@ fn put_steps(out: &mut Vec<u8>, steps: &[u16]) -> Result<(), AllocError>
 }
 
 /// Numbers with a space before each.
-fn put_numbers(out: &mut Vec<u8>, numbers: &[u32]) -> Result<(), AllocError>
+pub(crate) fn put_numbers(out: &mut Vec<u8>, numbers: &[u32]) -> Result<(), AllocError>
     ensures text { OnOk result (out.new.items ≡
         out.old.items ++ spaced (map decimal numbers.now)) }
     ensures keeps { Keeps out.old.items out.new.items }
@@ -232,7 +232,7 @@ fn put_numbers(out: &mut Vec<u8>, numbers: &[u32]) -> Result<(), AllocError>
 }
 
 /// A number after a space.
-fn put_number(out: &mut Vec<u8>, number: u32) -> Result<(), AllocError>
+pub(crate) fn put_number(out: &mut Vec<u8>, number: u32) -> Result<(), AllocError>
     ensures text { OnOk result (out.new.items ≡ out.old.items ++ codes " " ++ decimal number) }
     ensures keeps { Keeps out.old.items out.new.items }
 {
@@ -248,7 +248,7 @@ fn put_marked(out: &mut Vec<u8>, mark: &[u8], number: u32) -> Result<(), AllocEr
     put(out, buffer.format(number).as_bytes())
 }
 
-fn put(out: &mut Vec<u8>, text: &[u8]) -> Result<(), AllocError>
+pub(crate) fn put(out: &mut Vec<u8>, text: &[u8]) -> Result<(), AllocError>
     ensures text { OnOk result (out.new.items ≡ out.old.items ++ text.now) }
     ensures keeps { Keeps out.old.items out.new.items }
 {

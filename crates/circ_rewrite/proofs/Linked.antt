@@ -13,9 +13,9 @@ use Rattle.circ_theory.specs.Signature.{Signature, IsWellSorted, HaveSorts, IsSu
 use Rattle.circ_theory.specs.Theory.{Theory, pair_with, IsWellSortedPair}
 use Rattle.circ_theory.specs.WellFormed.{IsWellFormed}
 use Rattle.circ_theory.specs.Variables.{Variable, is_variable, is_before, put_in_order, sorted, variables_of, FitVariables, given}
-use Rattle.circ_theory.specs.Link.{RewritesBy}
+use Rattle.circ_theory.specs.Rewriting.{RewritesBy}
 use Rattle.circ_theory.specs.declared.parts.Goal.{Goal}
-use Rattle.circ_theory.specs.declared.replay.Way.TheVariants.{Forth}
+use Rattle.circ_theory.specs.declared.way.Way.TheVariants.{Forth}
 use Rattle.circ_theory.proofs.Instances.{sort_of-instance_by, instance_well_sorted}
 use Rattle.circ_theory.proofs.Sorting.{KeepsSort, at_sorted, replaced_sorted}
 use Rattle.circ_aci.specs.Content.{HasContentOf}

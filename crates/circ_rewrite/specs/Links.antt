@@ -6,7 +6,7 @@ use Rattle.circ_theory.specs.Signature.{IsWellSorted}
 use Rattle.circ_theory.specs.Theory.{Theory, pair_of, pair_with, IsVisible, IsWellSortedPair}
 use Rattle.circ_theory.specs.declared.parts.Equation.{Equation}
 use Rattle.circ_theory.specs.declared.parts.Goal.{Goal}
-use Rattle.circ_theory.specs.declared.replay.Way.TheVariants.{Forth}
+use Rattle.circ_theory.specs.declared.way.Way.TheVariants.{Forth}
 use Rattle.circ_replay.specs.Plain.{LinkOf, Equation_link, Hypothesis_link, Assumption_link, Content_link}
 use Rattle.circ_replay.specs.Goals.{sides}
 use Rattle.circ_replay.specs.Link.{Setting, Leads}

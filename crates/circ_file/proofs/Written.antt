@@ -1,0 +1,77 @@
+-- Text that is written line by line.
+use Rattle.std.specs.Prelude.{◌≡◌, ◌≢◌, ℕ, ◌+◌, ◌-◌, ◌<◌, ◌≤◌, zero, suc, List, [], ◌∷◌, ◌++◌, length, map, refl}
+use Rattle.std.specs.List.{AllByRecursion}
+use Rattle.std.proofs.Common.{ap, sym, subst, ◌∙◌, arith, append_assoc, drop, get_or}
+use Rattle.std.proofs.lemmas.List.{drop_all}
+use Rattle.circ_term.proofs.Within.{drop_read}
+use Rattle.circ_replay.specs.Plain.{WhyOf, WhysOf, Split_why, plain_why, plain_whys}
+use Rattle.circ_replay.specs.declared.links.Why.{Why}
+use Rattle.circ_rules.specs.Rules.{ProofStep, Simplify, Reduce, Derive, Done}
+use Rattle.circ_rules.specs.Proof.{IsWhyFor, AreWhysFor, IsEnded}
+use Rattle.circ_rules.specs.Proof as rules
+use Rattle.circ_line.specs.Line.{Line, simplify_line, reduce_line, derive_line, done_line}
+use Rattle.circ_line.specs.Text.{line_text}
+use Rattle.circ_grammar.specs.Grammar.{lines_of, chain_lines, why_lines, whys_lines, step_lines}
+use Rattle.circ_grammar.specs.FirstBad.{file_text}
+use Rattle.circ_proof_text.specs.ProofText.{without_done}
+use Rattle.circ_file.specs.Writing.{Writes, lines_of_step}
+
+-- a line and its line feed
+pub line_written : (old mid new : List ℕ) (l : Line) → mid ≡ old ++ line_text l → new ≡ mid ++ 10 ∷ [] → Writes old new (λ later. l ∷ later)
+line_written old mid new l e f later =
+    ap (λ x. x ++ file_text later) (f ∙ ap (λ x. x ++ 10 ∷ []) e)
+    ∙ append_assoc (old ++ line_text l) (10 ∷ []) (file_text later)
+    ∙ append_assoc old (line_text l) (10 ∷ file_text later)
+
+-- one after the other
+pub then_writes : (old mid new : List ℕ) (f g : List Line → List Line) → Writes old mid f → Writes mid new g → Writes old new (λ later. f (g later))
+then_writes old mid new f g a b later = b later ∙ a (g later)
+
+-- A list is written up to a place: what is left to be written of it makes the text whole.
+abbrev pub IsLeft : {A : Type 0} → (List A → List Line → List Line) → (old new : List ℕ) → (xs : List A) → ℕ → Type 0
+IsLeft f old new xs i = (later : List Line) → new ++ file_text (f (drop i xs) later) ≡ old ++ file_text (f xs later)
+
+module _ {A : Type 0} (f : List A → List Line → List Line) (g : A → List Line → List Line) (old : List ℕ) (xs : List A) (i : ℕ) where
+  pub item_written : ((x : A) (ys : List A) (later : List Line) → f (x ∷ ys) later ≡ g x (f ys later)) → (mid new : List ℕ) (x : A)
+      → i < length xs → x ≡ get_or xs i x → IsLeft f old mid xs i → Writes mid new (g x) → IsLeft f old new xs (i + 1)
+  item_written cons mid new x h e so_far w later =
+      w (f (drop (i + 1) xs) later)
+      ∙ ap (λ ls. mid ++ file_text ls) (sym (cons x (drop (i + 1) xs) later))
+      ∙ ap (λ ys. mid ++ file_text (f ys later)) (sym (drop_read xs i x h e))
+      ∙ so_far later
+
+  pub all_written : ((later : List Line) → f [] later ≡ later) → (new : List ℕ) → length xs ≤ i → IsLeft f old new xs i → Writes old new (f xs)
+  all_written none new h so_far later =
+      ap (λ ls. new ++ file_text ls) (sym (none later))
+      ∙ ap (λ ys. new ++ file_text (f ys later)) (sym (drop_all i xs h))
+      ∙ so_far later
+
+-- the steps of a block, of which the last and no other is Done
+pub ended_lines : (ss : List (ProofStep ℕ)) → IsEnded ss → (k : List Line) → lines_of lines_of_step ss k ≡ lines_of step_lines (without_done ss) (done_line ∷ k)
+ended_lines [] e k = absurd e
+ended_lines (Simplify c ∷ []) e k = absurd (cc)
+ended_lines (Reduce w ∷ []) e k = absurd (cc)
+ended_lines (Derive ∷ []) e k = absurd (cc)
+ended_lines (Done ∷ []) e k = refl
+ended_lines (Simplify c ∷ t ∷ ss) e k = ap (λ ls. simplify_line ∷ chain_lines c ls) (ended_lines (t ∷ ss) e.1 k)
+ended_lines (Reduce w ∷ t ∷ ss) e k = ap (λ ls. reduce_line ∷ why_lines w ls) (ended_lines (t ∷ ss) e.1 k)
+ended_lines (Derive ∷ t ∷ ss) e k = ap (λ ls. derive_line ∷ ls) (ended_lines (t ∷ ss) e.1 k)
+ended_lines (Done ∷ t ∷ ss) e k = absurd (e.0 refl)
+
+-- the whys of a split
+pub rules_count : (ws : List Why) → rules.why_count (plain_whys ws) ≡ length ws
+rules_count [] = refl
+rules_count (w ∷ ws) = omega (arith, rules_count ws)
+
+pub why_for : (count splits : ℕ) (ws : List Why) (i : ℕ) (w : Why) → AreWhysFor count splits (plain_whys ws) → i < length ws → w ≡ get_or ws i w
+    → IsWhyFor count splits (plain_why w)
+why_for count splits [] i w a h e = absurd (omega arith)
+why_for count splits (x ∷ ws) zero w a h e = let P : Why → Type 0 = λ y. IsWhyFor count splits (plain_why y) in subst P (sym e) a.0
+why_for count splits (x ∷ ws) (suc i) w a h e = why_for count splits ws i w a.1 (omega arith) e
+
+-- an element of a list has what all of them have
+pub mapped_at : {A B : Type 0} (P : B → Type 0) (f : A → B) (xs : List A) (i : ℕ) (x : A) → AllByRecursion P (map f xs) → i < length xs → x ≡ get_or xs i x
+    → P (f x)
+mapped_at P f [] i x a h e = absurd (omega arith)
+mapped_at {A = A} P f (y ∷ xs) zero x a h e = let Q : A → Type 0 = λ z. P (f z) in subst Q (sym e) a.0
+mapped_at P f (y ∷ xs) (suc i) x a h e = mapped_at P f xs i x a.1 (omega arith) e

@@ -1,0 +1,128 @@
+//! The table of a proof as text is written.
+ghost use Rattle.std.specs.Prelude.{◌≡◌, ◌≤◌, ◌<◌, ◌∷◌, ◌++◌, [], true, List, length, map};
+ghost use Rattle.std.specs.Prelude.{IfOk, OnOk};
+ghost use Rattle.std.specs.List.{AllByRecursion};
+ghost use Rattle.circ_term.specs.Tree.{Tree};
+ghost use Rattle.circ_replay.specs.Table.{has, number_in, term_limit};
+ghost use Rattle.circ_rules.specs.Proof.{IsEntry, AreEntries};
+ghost use Rattle.circ_line.specs.Line.{table_line};
+ghost use Rattle.circ_grammar.specs.Grammar.{lines_of, table_lines};
+ghost use Rattle.circ_proof_text.specs.TableText.{entry_of, entries_of};
+ghost use Rattle.circ_file.specs.Writing.{Writes};
+ghost use Rattle.circ_file.specs.Numbering.{IsNumbering};
+
+use crate::writing::{put_lent_line, put_line};
+use circ_line::{LentLine, Line, TableLine};
+use circ_replay::TableBuilder;
+use circ_term::{Kind, Term};
+use smallvec::SmallVec;
+use std::alloc::{AllocError, Global};
+
+/// Appends the lines of a table. Costs a few look-ups for each node of its terms, counted as trees.
+pub(crate) fn put_table(alloc: Global, table: &[Term], out: &mut Vec<u8>) -> Result<(), AllocError>
+    requires entries { AreEntries [] table.now }
+    requires short { length table.now ≤ term_limit }
+    ensures { OnOk result (Writes out.old.items out.new.items
+        (lines_of table_lines (entries_of [] table.now))) }
+{
+    let mut numbering = Numbering::new(alloc);
+    for term in table {
+        numbering.put(term, out)?;
+        numbering.enter(term)?;
+    }
+    Ok(())
+}
+
+// The different terms of the lines so far, each with the number of the first line that has it.
+#[derive(Drop)]
+struct Numbering {
+    alloc: Global,
+    lines: u32,
+    terms: TableBuilder,
+    firsts: Vec<u32>,
+}
+
+impl Numbering {
+    // That of no lines.
+    fn new(alloc: Global) -> Numbering
+        ensures { IsNumbering [] result }
+    {
+        Numbering {
+            alloc,
+            lines: 0,
+            terms: TableBuilder::new(alloc),
+            firsts: Vec::new(alloc),
+        }
+    }
+
+    // Appends the line of a term whose arguments have lines.
+    fn put(&mut self, term: &Term, out: &mut Vec<u8>) -> Result<(), AllocError>
+        requires { (table : List Tree) × IsNumbering table self.old × IsEntry table term.now }
+        ensures { OnOk result ((table : List Tree) → IsNumbering table self.old →
+            IsEntry table term.now → IsNumbering table self.new × Writes out.old.items
+            out.new.items (λ later. table_line (entry_of table term.now) ∷ later)) }
+    {
+        match term.kind() {
+            Kind::Variable { number, sort } => {
+                let line = TableLine::Variable { number, sort };
+                put_line(&Line::Table { line }, out)
+            }
+            Kind::Application { op, args, .. } => {
+                let args = self.numbers_of(args)?;
+                let args = args.as_slice();
+                put_lent_line(LentLine::Application { op, args }, out)
+            }
+        }
+    }
+
+    // The term has the next line.
+    fn enter(&mut self, term: &Term) -> Result<(), AllocError>
+        requires { (table : List Tree) × IsNumbering table self.old ×
+            IsEntry table term.now × (length table < term_limit) }
+        ensures { OnOk result ((table : List Tree) → IsNumbering table self.old →
+            IsEntry table term.now → length table < term_limit →
+            IsNumbering (table ++ term.now ∷ []) self.new) }
+    {
+        match self.terms.number(term)? {
+            Some(number) => {
+                let line = self.lines;
+                self.lines += 1;
+                if (number as usize) < self.firsts.len() {
+                    return Ok(());
+                }
+                self.firsts.push(line)?;
+                Ok(())
+            }
+            None => unreachable!(),
+        }
+    }
+
+    // The numbers of the first lines that have these terms.
+    fn numbers_of(&mut self, terms: &[Term]) -> Result<SmallVec<u32, 4>, AllocError>
+        requires { (table : List Tree) × IsNumbering table self.old ×
+            AllByRecursion (λ t. has table t ≡ true) terms.now }
+        ensures { IfOk result (λ numbers. (table : List Tree) → IsNumbering table self.old →
+            AllByRecursion (λ t. has table t ≡ true) terms.now →
+            IsNumbering table self.new × (numbers.items ≡ map (number_in table) terms.now)) }
+    {
+        let mut numbers = SmallVec::new(self.alloc);
+        for term in terms {
+            numbers.push(self.number_of(term)?)?;
+        }
+        Ok(numbers)
+    }
+
+    // The number of the first line that has the term.
+    fn number_of(&mut self, term: &Term) -> Result<u32, AllocError>
+        requires { (table : List Tree) × IsNumbering table self.old ×
+            (has table term.now ≡ true) }
+        ensures { IfOk result (λ number. (table : List Tree) → IsNumbering table self.old →
+            has table term.now ≡ true →
+            IsNumbering table self.new × (number ≡ number_in table term.now)) }
+    {
+        match self.terms.number(term)? {
+            Some(number) => Ok(self.firsts[number as usize]),
+            None => unreachable!(),
+        }
+    }
+}
