@@ -1,5 +1,5 @@
 -- What stands in the rows that `clap` finds.
-use Rattle.std.proofs.Common.{◌≡◌, ◌<◌, ◌≤◌, ◌^◌, ℕ, List, map, refl, sym, ap, ◌∙◌, arith, Option, Some, None, Result, Ok, Err, decimal, codes, option_map}
+use Rattle.std.proofs.Common.{◌≡◌, ◌<◌, ◌≤◌, ◌^◌, ℕ, List, sym, ◌∙◌, arith, Option, Some, None, Result, Ok, Err, decimal, codes}
 use Rattle.std.specs.Str.Parse.{ParsesUnsigned}
 use Rattle.std.proofs.lemmas.Fmt.{parse-decimal}
 use Rattle.clap.specs.Walk.{Row, all_of, first_of}

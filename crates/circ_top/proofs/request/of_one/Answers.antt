@@ -1,4 +1,4 @@
-use Rattle.std.proofs.Common.{refl, sym, ap, ◌∙◌, ◌≡◌, false, true}
+use Rattle.std.proofs.Common.{refl, sym, ap, ◌∙◌}
 use Rattle.circ_lib.specs.Library.{library_text}
 use Rattle.circ_top.specs.Command.{show, library}
 use Rattle.circ_top.proofs.request.of_one.Goals as goal
