@@ -1,5 +1,5 @@
-//! What is proved of normal forms, and examples that try their definition. The functions do nothing:
-//! a law is a contract.
+//! What is proved of normal forms, and examples that try their definition. The functions do
+//! nothing: a law is a contract.
 ghost use Rattle.std.specs.Prelude.{◌≡◌, ℕ, List, [], ◌∷◌, map};
 ghost use Rattle.std.specs.List.{AllByRecursion};
 ghost use Rattle.circ_term.specs.Tree.{Tree};
@@ -64,8 +64,8 @@ pub fn same_arguments_are_one()
         ≡ Normal_form (h a b) (record { path = []; reason = By_content 5 (h a b) } ∷ []) 9 }
 {}
 
-/// Under the assumption `b = f(a)` the term `f(f(b))` becomes `f(f(f(a)))`, and then `a` by the rule
-/// `f(x) = x`, the inner applications first.
+/// Under the assumption `b = f(a)` the term `f(f(b))` becomes `f(f(f(a)))`, and then `a` by the
+/// rule `f(x) = x`, the inner applications first.
 pub fn assumptions_come_first()
     ensures { norm sums (f_is ∷ []) (b_is ∷ []) 10 (f (f b))
         ≡ Normal_form a (
@@ -87,8 +87,8 @@ pub fn a_budget_is_enough()
     ensures nothing { norm sums (f_is ∷ []) [] 0 (g a) ≡ Normal_form (g a) [] 0 }
 {}
 
-/// `acc(b + a)` becomes `acc(a + b)`, which is taken apart, and each part from the left. The terms of
-/// a trace are those of the rule's variables in their order.
+/// `acc(b + a)` becomes `acc(a + b)`, which is taken apart, and each part from the left. The terms
+/// of a trace are those of the rule's variables in their order.
 pub fn parts_go_from_the_left()
     ensures done { norm languages empty_words [] 100 (acc (union letter_b letter_a))
         ≡ Normal_form no (
