@@ -3,6 +3,8 @@ ghost use Rattle.std.specs.Prelude.{IsTrue};
 ghost use Rattle.circ_mixfix.specs.Answers.{declared_by, HaveSorts};
 
 use circ_aci::{canonical, content, same_content};
+use circ_file::laws::decoded_bytes_are_the_text;
+use circ_file::{decode, encode};
 use circ_lexer::{LexFault, Span, Tokens};
 use circ_match::{match_pair, match_term};
 use circ_mixfix::{ParseFault, Reading, parse_one, parse_pair, print};
@@ -244,6 +246,32 @@ fn sums_hold_two(alloc: Global, theory: &Theory) -> Result<bool, TermFault> {
 fn contents(rt: HostRuntime) {
     let theory = read_theory(rt.alloc(), SETS);
     assert!(rt; theory.is_ok_and(|theory| sums_hold_two(rt.alloc(), &theory).is_ok_and(|two| two)));
+}
+
+// A variable is itself.
+const ITSELF: &[u8] = b"circproof 1
+v 0 0
+block
+goal 0 0
+reduce
+same
+done
+end
+";
+
+// Whether the bytes are read as a proof, which is written as the same bytes.
+fn is_written(alloc: Global, theory: &Theory, bytes: &[u8]) -> bool {
+    decoded_bytes_are_the_text();
+    let Ok(proof) = decode(alloc, theory, bytes) else {
+        return false;
+    };
+    encode(alloc, &proof).is_ok_and(|text| text.as_slice() == bytes)
+}
+
+#[test]
+fn proofs(rt: HostRuntime) {
+    let theory = read_theory(rt.alloc(), SETS);
+    assert!(rt; theory.is_ok_and(|theory| is_written(rt.alloc(), &theory, ITSELF)));
 }
 
 // Whether a link from a variable to itself, by its content, is followed alone and in a list.

@@ -1,11 +1,10 @@
 //! Lines that are written from what is lent, so that nothing is copied for them.
-ghost use Rattle.std.specs.Prelude.{◌≡◌, ◌++◌, OnOk, OnErr};
+ghost use Rattle.std.specs.Prelude.{◌≡◌, ◌∷◌, ◌++◌, OnOk, OnErr};
 ghost use Rattle.circ_replay.specs.Plain.{plain_link};
 ghost use Rattle.circ_line.specs.Line.{Application_line};
 ghost use Rattle.circ_line.specs.Text.{joined, link_words, table_words, line_text};
 ghost use Rattle.circ_line.specs.Plain.{Keeps};
 ghost use Rattle.circ_line.specs.Lent.{plain_lent_line};
-ghost use Rattle.std.specs.Prelude.{◌∷◌};
 
 use crate::writing::{put, put_link, put_number, put_numbers};
 use circ_replay::Link;

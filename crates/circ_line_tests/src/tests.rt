@@ -1,5 +1,5 @@
 //! Each kind of line, read and written again.
-use circ_line::{read_line, write_line};
+use circ_line::{LentLine, Line, read_line, write_lent_line, write_line};
 use std::alloc::{AllocError, Global};
 
 const LINES: &[&[u8]] = &[
@@ -45,4 +45,21 @@ fn are_written_again(alloc: Global) -> Result<bool, AllocError> {
 #[test]
 fn lines(rt: HostRuntime) {
     assert!(rt; are_written_again(rt.alloc()) == Ok(true));
+}
+
+// Whether a line of a lent link has the same text.
+fn is_lent(alloc: Global, text: &[u8]) -> Result<bool, AllocError> {
+    let mut out = Vec::new(alloc);
+    match read_line(alloc, text)? {
+        Some(Line::Left { link }) => {
+            write_lent_line(LentLine::Left { link: &link }, &mut out)?;
+            Ok(out.as_slice() == text)
+        }
+        _ => Ok(false),
+    }
+}
+
+#[test]
+fn lent_lines(rt: HostRuntime) {
+    assert!(rt; is_lent(rt.alloc(), b"left equation > 9 - 1 3") == Ok(true));
 }
