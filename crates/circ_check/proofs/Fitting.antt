@@ -22,6 +22,8 @@ use Rattle.circ_rules.proofs.Sorted.{sorted_none, sorted_append}
 use Rattle.circ_soundness.proofs.Blocks.{names_sorted}
 use Rattle.circ_check.specs.Checking.{Checking, TakesCertificate, TakesGoals, TakesStep, TakesPart, StandFor, nothing_taken}
 use Rattle.circ_check.specs.Ready.{IsReady}
+use Rattle.circ_check.specs.Knowing.{AreKnown, marks_of}
+use Rattle.circ_check.proofs.Marks.{marks_known}
 
 -- ---- goals and steps, where m steps were before
 
@@ -166,7 +168,7 @@ module _ (th : Theory) (ok : IsWellFormed th) (ts : List Tree) (ps : List Place)
   later_ready m [] (Goals gs ns) c d f k e r = subst (λ y. IsReady th y (Goals gs ns)) r (record {
     sorted = (ready_with th ts ps c k).0;
     set = (ready_with th ts ps c k).1;
-    part = (k.goals, goals_sorted th ts k.sorted gs ns f.0);
+    part = (k.goals, goals_sorted th ts k.sorted gs ns f.0, subst (AreKnown (marks_of ns)) (sym f.0.goals_are) (marks_known ts ns));
   })
   later_ready m [] (Step s) c d f k e r = subst (λ y. IsReady th y (Step s)) r (record {
     sorted = (ready_with th ts ps c k).0;

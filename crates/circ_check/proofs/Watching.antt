@@ -18,6 +18,7 @@ use Rattle.circ_soundness.proofs.Sound.{goals_behave}
 use Rattle.circ_check.specs.declared.checker.Checker.{Checker}
 use Rattle.circ_check.specs.Checking.{Checking, TakesGoals, nothing_taken, with_derived}
 use Rattle.circ_check.specs.Deciding.{plain_list}
+use Rattle.circ_check.specs.Knowing.{AreKnown}
 use Rattle.circ_check.specs.Ready.{IsReady}
 use Rattle.circ_check.specs.Watching.{failed_of, derived_of, checking_of, IsSound, Stands, Follows, Took, Finds, FoundBehave}
 use Rattle.circ_check.proofs.Fitting.{part_ready}
@@ -45,21 +46,28 @@ take_whole : (xs : List Goal) → take (length xs) xs ≡ xs
 take_whole [] = refl
 take_whole (x ∷ xs) = ap (λ ys. x ∷ ys) (take_whole xs)
 
--- a block is begun
-pub block_begun : (old : Checker) (s : TheState) (n : ℕ) (own : Vec Goal Global) (lists : Vec (Vec Goal Global) Global) → IsSound old.theory.now old
+-- a block is begun, where its marks are known
+pub block_begun : (old : Checker) (s : TheState) (n : ℕ) (own : Vec Goal Global) (lists : Vec (Vec Goal Global) Global) → old.is_spent ≡ false
     → old.is_stopped ≡ false → plain_state s ≡ state (take old.earlier old.state.hyps.items ++ old.own.items) own.items → n ≡ length s.hyps.items
     → AreSortedGoals old.theory.now (take old.earlier old.state.hyps.items ++ old.own.items) → AreSortedGoals old.theory.now own.items
-    → map plain_list lists.items ≡ derived_of old ++ [] ∷ [] → (names : List (ℕ × ℕ))
+    → AreKnown old.known.items own.items → map plain_list lists.items ≡ derived_of old ++ [] ∷ [] → (names : List (ℕ × ℕ))
     → Took old.theory.now (Goals own.items names) old (record old { state = s; earlier = n; own = own; derived = lists })
-block_begun old s n own lists sound going begun count hyps goals list names =
+block_begun old s n own lists unspent going begun count hyps goals marks list names =
     let H : List Goal = take old.earlier old.state.hyps.items ++ old.own.items in
     let c : Checking = checking_of old in
     let whole : take n s.hyps.items ≡ H = ap (λ m. take m s.hyps.items) count ∙ take_whole s.hyps.items ∙ ap (λ x. x.hypotheses) begun in
     let P : State → Type 0 = IsSortedState old.theory.now in
+    let K : List Goal → Type 0 = AreKnown old.known.items in
     let Q : Bool → Type 0 =
     λ b. TakesGoals c b own.items (checking_of (record old { state = s; earlier = n; own = own; derived = lists })) in
     record {
-      sound = record { theory = refl; unspent = sound.unspent; within = omega (arith, count); sorted = subst P (sym begun) (hyps, goals) };
+      sound = record {
+        theory = refl;
+        unspent = unspent;
+        within = omega (arith, count);
+        sorted = subst P (sym begun) (hyps, goals);
+        known = subst K (sym (ap (λ x. x.goals) begun)) marks;
+      };
       taken = subst Q (sym going) (
           ap (λ x. record c { before = x; own = own.items; state = plain_state s; derived = map plain_list lists.items }) whole
           ∙ ap (λ x. record c { before = H; own = own.items; state = x; derived = map plain_list lists.items }) begun

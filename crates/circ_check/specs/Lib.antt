@@ -1,4 +1,5 @@
 pub mod Deciding
+pub mod Knowing
 pub mod Checking
 pub mod Ready
 pub mod Watching

@@ -13,6 +13,7 @@ use Rattle.circ_rules.specs.Due.{due_after}
 use Rattle.circ_rules.specs.Plain.{plain_state}
 use Rattle.circ_check.specs.Checking.{Checking, TakesPart, StandFor}
 use Rattle.circ_check.specs.Deciding.{plain_list}
+use Rattle.circ_check.specs.Knowing.{AreKnown}
 use Rattle.circ_check.specs.declared.checker.Checker.{Checker}
 
 abbrev pub failed_of : Checker → Option ℕ
@@ -44,6 +45,7 @@ pub record IsSound (th : Theory) (k : Checker) : Type 0 where
   pub unspent : k.is_spent ≡ false
   pub within : k.earlier ≤ length k.state.hyps.items
   pub sorted : IsSortedState th (plain_state k.state)
+  pub known : AreKnown k.known.items k.state.goals.items
 
 -- The checker has taken these parts.
 pub record Stands (th : Theory) (xs : List Part) (k : Checker) : Type 0 where

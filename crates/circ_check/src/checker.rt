@@ -13,15 +13,17 @@ ghost use Rattle.circ_replay.specs.Goals.{AreSortedGoals};
 ghost use Rattle.circ_replay.specs.Plain.{plain_links};
 ghost use Rattle.circ_check.specs.Deciding.{plain_list, DerivedBehave};
 ghost use Rattle.circ_check.specs.Checking.{made_by, with_derived, goals_in};
+ghost use Rattle.circ_check.specs.Knowing.{AreKnown, marks_of};
 ghost use Rattle.circ_check.specs.Ready.{IsReady};
 ghost use Rattle.circ_check.specs.Watching.{failed_of, derived_of, checking_of, IsSpent};
 ghost use Rattle.circ_check.specs.Watching.{Stands, Follows, IsSound, IsAsBefore, Took};
 ghost use Rattle.circ_check.specs.Watching.{Finds, FoundBehave};
 
+use crate::knowing::{apply_known, known_of};
 use crate::running::{put, share};
 use crate::tally::Tally;
 use circ_replay::Link;
-use circ_rules::{Due, Part, State, Step, apply, certify_next};
+use circ_rules::{Due, Part, State, Step, certify_next};
 use circ_special::Gamma;
 use circ_term::Term;
 use circ_theory::{Goal, Theory};
@@ -38,6 +40,8 @@ pub struct Checker<'a> {
     gamma: Gamma,
     due: Due,
     state: State,
+    // Of the first goals, whether their sides are known to be one term.
+    known: VecDeque<bool>,
     // How many of the hypotheses are goals of earlier blocks.
     earlier: usize,
     // The goals of the block under way.
@@ -65,6 +69,7 @@ impl<'a> Checker<'a> {
                 derivative: 0,
             },
             state: no_state(alloc),
+            known: VecDeque::new(alloc),
             earlier: 0,
             own: Vec::new(alloc),
             is_stopped: false,
@@ -141,7 +146,7 @@ impl<'a> Checker<'a> {
                 Ok(())
             }
             Part::Certificate { links } => self.take_certificate(links.as_slice()),
-            Part::Goals { goals, .. } => self.begin_block(goals),
+            Part::Goals { goals, names } => self.begin_block(goals, names.as_slice()),
             Part::Step { step } => self.take_step(&step),
         }
     }
@@ -171,10 +176,15 @@ impl<'a> Checker<'a> {
     }
 
     // A block with these goals. After a step that failed it is begun in name alone.
-    fn begin_block(&mut self, goals: Vec<Goal>) -> Result<(), AllocError>
+    fn begin_block(
+        &mut self,
+        goals: Vec<Goal>,
+        names: &[(u32, u32)],
+    ) -> Result<(), AllocError>
         requires hyps_sorted { AreSortedGoals self.old.theory.now
             (take self.old.earlier self.old.state.hyps.items ++ self.old.own.items) }
         requires goals_sorted { AreSortedGoals self.old.theory.now goals.items }
+        requires known { AreKnown (marks_of names.now) goals.items }
         requires sound { IsSound self.old.theory.now self.old }
         ensures took { OnOk result ((names : List (ℕ × ℕ)) → Took self.old.theory.now
             (Goals goals.items names) self.old self.new) }
@@ -183,6 +193,7 @@ impl<'a> Checker<'a> {
         if self.is_stopped {
             return begin_list(self.alloc, &mut self.derived);
         }
+        self.known = known_of(self.alloc, names)?;
         begin(
             &mut self.state,
             self.earlier,
@@ -208,12 +219,13 @@ impl<'a> Checker<'a> {
         }
         let made = made_by(step, &self.state.goals)?;
         let table = self.table.as_slice();
-        if !apply(
+        if !apply_known(
             self.alloc,
             self.theory,
             table,
             &self.gamma,
             &mut self.state,
+            &mut self.known,
             step,
         )? {
             self.is_stopped = true;

@@ -4,6 +4,7 @@
 
 mod checker;
 mod checking;
+mod knowing;
 mod running;
 mod tally;
 

@@ -10,8 +10,10 @@ ghost use Rattle.circ_rules.specs.Proof.{IsBlockFor};
 ghost use Rattle.circ_rules.specs.Accepted.{steps_of};
 ghost use Rattle.circ_rules.specs.Plain.{plain_state, plain_steps, plain_block};
 ghost use Rattle.circ_check.specs.Deciding.{RunsOrFails};
+ghost use Rattle.circ_check.specs.Knowing.{AreKnown};
 
-use circ_rules::{Block, Proof, State, Step, apply};
+use crate::knowing::{apply_known, known_of};
+use circ_rules::{Block, Proof, State, Step};
 use circ_theory::{Goal, Theory};
 use std::alloc::{AllocError, Global};
 use std::collections::VecDeque;
@@ -52,6 +54,7 @@ fn run(
     theory: &Theory,
     proof: &Proof,
     state: &mut State,
+    known: &mut VecDeque<bool>,
     steps: &[Step],
 ) -> Result<Option<u64>, AllocError>
     requires in_table { AllByRecursion (AllOfStep (λ n. n < length proof.now.table.items))
@@ -59,13 +62,14 @@ fn run(
     requires table_sorted { AllByRecursion (IsWellSorted theory.now.signature)
         proof.now.table.items }
     requires state_sorted { IsSortedState theory.now (plain_state state.old) }
+    requires known { AreKnown known.old.items state.old.goals.items }
     ensures { IfOk result (RunsOrFails theory.now proof.now.gamma
         (map (map_step (named proof.now.table.items)) (plain_steps steps.now))
         (plain_state state.old) (plain_state state.new)) }
 {
     let table = proof.table.as_slice();
     for (done, step) in steps.iter().enumerate() {
-        if !apply(alloc, theory, table, &proof.gamma, state, step)? {
+        if !apply_known(alloc, theory, table, &proof.gamma, state, known, step)? {
             return Ok(Some(done as u64 + 1));
         }
     }
@@ -90,8 +94,9 @@ pub(crate) fn run_block(
         (state_with state.old.hyps.items block.now.goals.items) (plain_state state.new)) }
 {
     let steps = block.steps.as_slice();
+    let mut known = known_of(alloc, block.names.as_slice())?;
     put(&mut state.goals, block.goals.as_slice())?;
-    run(alloc, theory, proof, state, steps)
+    run(alloc, theory, proof, state, &mut known, steps)
 }
 
 // From a block's end to the next one: the block's own goals take the place of what it derived,

@@ -13,6 +13,7 @@ loop-done-init c =
     let ss = map (map_step (named c.as_slice-table.result.now)) (plain_steps c.args.steps.now) in
     record {
       stands = stands_first c.args.theory.now c.args.proof.now.gamma ss (plain_state c.args.state.now) c.requires.state_sorted;
+      known = c.requires.known;
       in_table = rw c.as_slice-table.ensures.value c.requires.in_table;
     }
 
@@ -23,11 +24,12 @@ loop-done-preserved c =
     let i = c.loop-done.done in
     let x = c.index-steps-done.result in
     let e = drop_read steps i x c.loop-done-test.true c.index-steps-done.is in
-    let r = rw c.if-not-branch.false at c.in_ok-apply.ensures.exact in
+    let r = rw c.if-not-branch.false at c.in_ok-apply_known.ensures.exact in
     let P : List Step → Type 0 = λ xs. AllByRecursion (AllOfStep (λ n. n < length table)) (plain_steps xs) in
     record {
       stands = stands_done plain_step (map_step (named table)) c.args.theory.now c.args.proof.now.gamma
-          (map (map_step (named table)) (plain_steps steps)) (plain_state c.args.state.now) (plain_state c.loop-done.state) (plain_state c.apply.new.state)
-          steps x i e c.loop-done.invariant.stands r c.in_ok-apply.ensures.state_sorted;
+          (map (map_step (named table)) (plain_steps steps)) (plain_state c.args.state.now) (plain_state c.loop-done.state) (plain_state c.apply_known.new.state)
+          steps x i e c.loop-done.invariant.stands r c.in_ok-apply_known.ensures.state_sorted;
+      known = c.in_ok-apply_known.ensures.known;
       in_table = (subst P e c.loop-done.invariant.in_table).1;
     }
