@@ -33,7 +33,8 @@ struct Slot {
     derivative: u32,
 }
 
-/// Whether the links are the certificate that is due next. `due` goes on to the one behind it.
+/// Whether the links are the certificate that is due next. `due` goes on to the one behind it. Where
+/// none is due, and after want of memory, nothing is said of `due`.
 pub fn certify_next(
     alloc: Global,
     theory: &Theory,
