@@ -33,8 +33,7 @@ struct Slot {
     derivative: u32,
 }
 
-/// Whether the links are the certificate that is due next. `due` goes on to the one behind it. Where
-/// none is due, and after want of memory, nothing is said of `due`.
+/// Whether the links are the certificate that is due next. `due` goes on to the one behind it.
 pub fn certify_next(
     alloc: Global,
     theory: &Theory,
