@@ -4,7 +4,8 @@ use Rattle.std.proofs.Common.{sym, ◌∙◌, ap, subst, append_assoc}
 use Rattle.std.proofs.lemmas.List.{append-nil}
 use Rattle.circ_theory.specs.Theory.{Theory}
 use Rattle.circ_proof_text.specs.Parts.{Part}
-use Rattle.circ_file.specs.Feeding.{FaultIs, Stands}
+use Rattle.circ_file.specs.Feeding.{FaultIs, IsLineFault, IsShown, Stands}
+use Rattle.circ_file.specs.declared.fault.FileFault.TheVariants.{Line, Limit, Memory}
 use Rattle.circ_file.specs.declared.fault.FileFault.{FileFault}
 use Rattle.circ_file.specs.declared.reader.FileReader.{FileReader}
 
@@ -45,6 +46,24 @@ line_fault th x piece front rest line after later e c d h =
     = sym (append_assoc ((x ++ front) ++ ended_line line) after later)
     ∙ ap (λ y. y ++ later) (append_assoc (x ++ front) (ended_line line) after ∙ append_assoc x front (ended_line line ++ after) ∙ ap (λ y. x ++ y) (sym whole)) in
     subst P same h
+
+shown_in : (th : Theory) (x piece front rest line after : List ℕ) (e : FileFault) → piece ≡ front ++ rest → rest ≡ line ++ (10 ∷ after)
+    → ((later : List ℕ) → FaultIs th (((x ++ front) ++ ended_line line) ++ later) e) → IsLineFault th (x ++ piece) e
+shown_in th x piece front rest line after e c d h = record {
+  before = x ++ front;
+  line = line;
+  after = after;
+  whole = ap (λ y. x ++ y) (c ∙ ap (λ y. front ++ y) (d ∙ sym (append_assoc line (10 ∷ []) after)))
+      ∙ sym (append_assoc x front (ended_line line ++ after)) ∙ sym (append_assoc (x ++ front) (ended_line line) after);
+  fault = h;
+}
+
+-- It is that of a whole line.
+pub line_shown : (th : Theory) (x piece front rest line after : List ℕ) (e : FileFault) → piece ≡ front ++ rest → rest ≡ line ++ (10 ∷ after)
+    → ((later : List ℕ) → FaultIs th (((x ++ front) ++ ended_line line) ++ later) e) → IsShown th (x ++ piece) e
+line_shown th x piece front rest line after Memory c d h = tt
+line_shown th x piece front rest line after (Line n) c d h = shown_in th x piece front rest line after (Line n) c d h
+line_shown th x piece front rest line after (Limit n) c d h = shown_in th x piece front rest line after (Limit n) c d h
 
 -- what is left has no line feed, and all was read then
 pub all_read : (f g h : FileReader) (piece rest : List ℕ) → IsRead f piece rest g

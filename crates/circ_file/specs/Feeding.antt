@@ -59,15 +59,28 @@ pub record Stands (th : Theory) (x : List ℕ) (handed : List Part) (f : FileRea
   pub stands : StandsFor th x handed (reading_of wanted f)
   pub fault : f.fault ≡ None
 
--- It was fed the piece too; or a fault is that of every text that goes on so.
+-- These bytes have a whole line by which every text that goes on from it has this fault.
+pub record IsLineFault (th : Theory) (bytes : List ℕ) (e : FileFault) : Type 0 where
+  pub before : List ℕ
+  pub line : List ℕ
+  pub after : List ℕ
+  pub whole : bytes ≡ (before ++ (line ++ (10 ∷ []))) ++ after
+  pub fault : (later : List ℕ) → FaultIs th ((before ++ (line ++ (10 ∷ []))) ++ later) e
+
+-- The fault is that of a whole line of the bytes, or memory ran out.
+abbrev pub IsShown : Theory → List ℕ → FileFault → Type 0
+IsShown th bytes Memory = Unit {0}
+IsShown th bytes e = IsLineFault th bytes e
+
+-- It was fed the piece too; or a whole line is at fault, and the fault is that of every text that goes on so.
 abbrev pub FeedsLines : Result (Unit {0}) FileFault → Theory → (x piece : List ℕ) → List Part → FileReader → Type 0
 FeedsLines (Ok _) th x piece handed f = Stands th (x ++ piece) handed f
-FeedsLines (Err e) th x piece handed f = (later : List ℕ) → FaultIs th ((x ++ piece) ++ later) e
+FeedsLines (Err e) th x piece handed f = ((later : List ℕ) → FaultIs th ((x ++ piece) ++ later) e) × IsShown th (x ++ piece) e
 
 -- The same, and the fault is kept.
 abbrev pub Feeds : Result (Unit {0}) FileFault → Theory → (x piece : List ℕ) → List Part → FileReader → Type 0
 Feeds (Ok _) th x piece handed f = Stands th (x ++ piece) handed f
-Feeds (Err e) th x piece handed f = (f.fault ≡ Some e) × ((later : List ℕ) → FaultIs th ((x ++ piece) ++ later) e)
+Feeds (Err e) th x piece handed f = (f.fault ≡ Some e) × ((later : List ℕ) → FaultIs th ((x ++ piece) ++ later) e) × IsShown th (x ++ piece) e
 
 -- The same of the rest of a line and its line feed.
 abbrev pub EndsLine : Result (Unit {0}) FileFault → Theory → (x more_bytes : List ℕ) → List Part → FileReader → Type 0

@@ -49,16 +49,20 @@ impl<'a> FileReader<'a> {
         }
     }
 
-    /// The next piece of the text. A fault is that of the whole text, whatever comes later.
+    /// The next piece of the text. A fault is that of a whole line so far, and so of the whole text,
+    /// whatever comes later. It is kept.
     pub fn feed(&mut self, piece: &[u8]) -> Result<(), FileFault>
         requires sound { IsSound self.old }
-        requires room { whole_lines_in self.old + length piece.now < 2 ^ 64 - 1 }
+        requires room { fault_of self.old ≡ None →
+            whole_lines_in self.old + length piece.now < 2 ^ 64 - 1 }
         ensures sound { IsSound self.new }
         ensures lines { whole_lines_in self.new ≤ whole_lines_in self.old + length piece.now }
         ensures stands { (th : Theory) (x : List ℕ) (handed : List PlainPart) →
             Stands th x handed self.old → Feeds result th x piece.now handed self.new }
         ensures again { (fault : FileFault) → fault_of self.old ≡ Some fault →
             result ≡ Err fault }
+        ensures kept { (fault : FileFault) → fault_of self.old ≡ Some fault →
+            fault_of self.new ≡ Some fault }
     {
         if let Some(fault) = self.fault {
             return Err(fault);

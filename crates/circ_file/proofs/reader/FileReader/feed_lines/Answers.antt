@@ -1,17 +1,20 @@
 use Rattle.std.proofs.Common.{◌≡◌, ◌∙◌, ◌++◌, ◌∷◌, length, length-append, refl, ap, arith}
 use Rattle.circ_file.specs.declared.reader.FileReader.{FileReader}
 use Rattle.circ_file.proofs.Standing.{rest_taken}
-use Rattle.circ_file.proofs.Cutting.{none_read, line_read, line_fault, all_read}
+use Rattle.circ_file.proofs.Cutting.{none_read, line_read, line_fault, line_shown, all_read}
 use Rattle.circ_file.proofs.reader.FileReader.feed_lines.Goals as goal
 
 pub loop-line-init : goal.loop-line-init
 loop-line-init c = record { reader = c.requires.reader; room = omega arith; fault = refl; read = none_read c.args.self.now c.args.piece.now }
 
 pub returns-in-Err-clause-stands : goal.returns-in-Err-clause-stands
-returns-in-Err-clause-stands c th x handed s later =
+returns-in-Err-clause-stands c th x handed s =
     let r = c.loop-line.invariant.read in
-    line_fault th x c.args.piece.now r.front c.loop-line.rest.now c.in-Some.line.now c.in-Some.after.now later c.in-Err.fault r.cut c.in-Some.ensures.whole
-    (c.in-Err.ensures.stands th (x ++ r.front) handed (r.stands th x handed s) (c.in-Some.after.now ++ later))
+    let told = c.in-Err.ensures.stands th (x ++ r.front) handed (r.stands th x handed s) in (
+      λ later. line_fault th x c.args.piece.now r.front c.loop-line.rest.now c.in-Some.line.now c.in-Some.after.now later c.in-Err.fault r.cut
+          c.in-Some.ensures.whole (told (c.in-Some.after.now ++ later)),
+      line_shown th x c.args.piece.now r.front c.loop-line.rest.now c.in-Some.line.now c.in-Some.after.now c.in-Err.fault r.cut c.in-Some.ensures.whole told,
+    )
 
 pub loop-line-preserved : goal.loop-line-preserved
 loop-line-preserved c =
