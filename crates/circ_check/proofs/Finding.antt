@@ -56,7 +56,7 @@ failed_stays th (x ∷ xs) c d n r e = failed_stays th xs r.0 d n r.2 (part_stay
 
 -- ---- lists of what was derived
 
-with_none : (dss : List (List Goal)) → with_derived dss [] ≡ dss
+pub with_none : (dss : List (List Goal)) → with_derived dss [] ≡ dss
 with_none [] = refl
 with_none (ds ∷ []) = ap (λ x. x ∷ []) (append-nil ds)
 with_none (ds ∷ es ∷ dss) = ap (λ x. ds ∷ x) (with_none (es ∷ dss))
@@ -129,16 +129,15 @@ module _ (th : Theory) (p : Proof) where
       let P : ℕ → Type 0 = λ m. Runs (TakesPart th) k (here B O a m D) e in
       let Q : List (List Goal) → Type 0 = λ x. Runs (TakesPart th) k (here B O a (n + 0) x) e in
       inl (record { last = a; made = []; leads = refl; grown = sym (append-nil a.hypotheses); rest = subst Q (sym (with_none D)) (subst P z r) })
-  steps_taken (s ∷ ss) k B O a n D e r = go r.1
+  steps_taken (s ∷ ss) k B O a n D e r = go r.1 (λ b m E x. steps_taken ss k B O b m E e x)
     where
-      P : Checking → Type 0
-      P y = Runs (TakesPart th) (step_parts ss ++ k) y e
-
-      go : TakesStep th (here B O a n D) false s r.0 → Lead (s ∷ ss) k B O a n D e ⊎ Fall (s ∷ ss) a n e
-      unfolding P
-      go (inl t) =
+      go : TakesStep th (here B O a n D) false s r.0
+          → ((b : State) (m : ℕ) (E : List (List Goal)) → Runs (TakesPart th) (step_parts ss ++ k) (here B O b m E) e → Lead ss k B O b m E e ⊎ Fall ss b m e)
+          → Lead (s ∷ ss) k B O a n D e ⊎ Fall (s ∷ ss) a n e
+      go (inl t) rest =
+          let P : Checking → Type 0 = λ y. Runs (TakesPart th) (step_parts ss ++ k) y e in
           let D' : List (List Goal) = with_derived D (made_by s a.goals) in
-          elim (steps_taken ss k B O t.0 (n + 1) D' e (subst P t.2 r.2)) [
+          elim (rest t.0 (n + 1) D' (subst P t.2 r.2)) [
             | inl l ↦
                 let count : n + 1 + length ss ≡ n + length (s ∷ ss) = omega arith in
                 let Q : ℕ → Type 0 = λ m. Runs (TakesPart th) k (here B O l.last m (with_derived D' l.made)) e in
@@ -155,7 +154,7 @@ module _ (th : Theory) (p : Proof) where
                 let count : n + 1 + f.number ≡ n + (f.number + 1) = omega arith in
                 inr (record { number = f.number + 1; first = inr (t.0, t.1, f.number, refl, f.first); failed = f.failed ∙ ap Some count })
           ]
-      go (inr t) = inr (record {
+      go (inr t) rest = inr (record {
         number = 1;
         first = inl (refl, t.0);
         failed = failed_stays th (step_parts ss ++ k) r.0 e (n + 1) r.2 (ap (λ y. y.tally.failed) t.1);
@@ -231,15 +230,14 @@ module _ (th : Theory) (p : Proof) where
       inl (record { hold = tt; rest = subst P z r })
   certificates_taken [] k (x ∷ xs) n e l r = absurd (omega (arith, l))
   certificates_taken (ls ∷ lss) k [] n e l r = absurd (omega (arith, l))
-  certificates_taken (ls ∷ lss) k (x ∷ xs) n e l r = go r.1
+  certificates_taken (ls ∷ lss) k (x ∷ xs) n e l r = go r.1 (λ m y. certificates_taken lss k xs m e (omega (arith, l)) y)
     where
-      P : Checking → Type 0
-      P y = Runs (TakesPart th) (certificate_parts lss ++ k) y e
-
-      go : TakesCertificate th (at_front (x ∷ xs) n) (x ∷ xs) (resolved_links p.table ls) r.0 → AllHold (ls ∷ lss) k (x ∷ xs) n e ⊎ OneFails (ls ∷ lss) (x ∷ xs) n e
-      unfolding P
-      go (inl t) =
-          elim (certificates_taken lss k xs (n + 1) e (omega (arith, l)) (subst P t.1 r.2)) [
+      go : TakesCertificate th (at_front (x ∷ xs) n) (x ∷ xs) (resolved_links p.table ls) r.0
+          → ((m : ℕ) → Runs (TakesPart th) (certificate_parts lss ++ k) (at_front xs m) e → AllHold lss k xs m e ⊎ OneFails lss xs m e)
+          → AllHold (ls ∷ lss) k (x ∷ xs) n e ⊎ OneFails (ls ∷ lss) (x ∷ xs) n e
+      go (inl t) rest =
+          let P : Checking → Type 0 = λ y. Runs (TakesPart th) (certificate_parts lss ++ k) y e in
+          elim (rest (n + 1) (subst P t.1 r.2)) [
             | inl h ↦
                 let count : n + 1 + length lss ≡ n + length (ls ∷ lss) = omega arith in
                 let Q : ℕ → Type 0 = λ m. Runs (TakesPart th) k (at_front [] m) e in
@@ -248,7 +246,7 @@ module _ (th : Theory) (p : Proof) where
                 let count : n + 1 + f.number ≡ n + (f.number + 1) = omega arith in
                 inr (record { number = f.number + 1; first = inr (t.0, f.number, refl, f.first); failed = f.failed ∙ ap Some count })
           ]
-      go (inr t) = inr (record {
+      go (inr t) rest = inr (record {
         number = 1;
         first = inl (refl, t.0);
         failed = failed_stays th (certificate_parts lss ++ k) r.0 e (n + 1) r.2 (ap (λ y. y.tally.failed) t.1);

@@ -1,55 +1,27 @@
 -- What a checker knows before a part and after it.
-use Rattle.std.proofs.Common.{◌≡◌, ◌⊎◌, ◌↔◌, ◌+◌, ◌≤◌, ◌<◌, ℕ, zero, suc, Bool, true, false, List, [], ◌∷◌, ◌++◌, map, length, take, drop, Option, Some, None, IsTrue}
-use Rattle.std.proofs.Common.{inl, inr, refl, ap, sym, subst, ◌∙◌, arith, length-append}
-use Rattle.circ_term.specs.Tree.{Tree}
-use Rattle.circ_theory.specs.Theory.{Theory, Derivative}
+use Rattle.std.proofs.Common.{◌≡◌, ◌+◌, ◌≤◌, ◌<◌, ℕ, zero, suc, Bool, true, false, List, [], ◌∷◌, ◌++◌, map, length, take, Option, Some, None}
+use Rattle.std.proofs.Common.{Result, Ok, Err, Vec, Global, slice_set, slice_index_or}
+use Rattle.std.proofs.Common.{inl, inr, refl, ap, sym, subst, ◌∙◌, arith}
+use Rattle.std.specs.Result.{OnOk, OnErr}
+use Rattle.circ_theory.specs.Theory.{Theory}
 use Rattle.circ_theory.specs.WellFormed.{IsWellFormed}
-use Rattle.circ_theory.specs.Rewriting.{named}
 use Rattle.circ_theory.specs.declared.parts.Goal.{Goal}
-use Rattle.circ_special.specs.declared.place.Place.{Place}
 use Rattle.circ_replay.specs.Goals.{AreSortedGoals}
-use Rattle.circ_replay.specs.Plain.{LinkOf}
-use Rattle.circ_rules.specs.Rules.{State, state, ProofStep, map_step, StepOf, IsSortedState}
-use Rattle.circ_rules.specs.Certified.{Certified}
-use Rattle.circ_rules.specs.Proof.{Block, Proof, ProofFor}
-use Rattle.circ_rules.specs.Parts.{Part, parts_of}
+use Rattle.circ_rules.specs.Rules.{State, state, IsSortedState}
+use Rattle.circ_rules.specs.Proof.{Proof, ProofFor}
+use Rattle.circ_rules.specs.Parts.{Part, Goals, parts_of}
 use Rattle.circ_rules.specs.Fitting.{Fit}
 use Rattle.circ_rules.specs.Accepted.{Derives}
 use Rattle.circ_rules.specs.Plain.{plain_state}
-use Rattle.circ_rules.specs.Due.{due_after, CertifiesNext}
-use Rattle.circ_rules.specs.declared.due.Due.{Due}
-use Rattle.circ_rules.proofs.Sorted.{sorted_none}
-use Rattle.circ_soundness.proofs.Sound.{goals_behave, derived_behave}
+use Rattle.circ_rules.specs.declared.state.State.{State as TheState}
+use Rattle.circ_soundness.proofs.Sound.{goals_behave}
 use Rattle.circ_check.specs.declared.checker.Checker.{Checker}
-use Rattle.circ_check.specs.Checking.{Checking, TakesCertificate, TakesGoals, TakesStep, TakesPart, nothing_taken, no_tally, with_one, with_failure, made_by, with_derived}
-use Rattle.circ_check.specs.Deciding.{DerivedBehave}
+use Rattle.circ_check.specs.Checking.{Checking, TakesGoals, nothing_taken, with_derived}
+use Rattle.circ_check.specs.Deciding.{plain_list}
 use Rattle.circ_check.specs.Ready.{IsReady}
 use Rattle.circ_check.specs.Watching.{failed_of, derived_of, checking_of, IsSound, Stands, Follows, Took, Finds, FoundBehave}
 use Rattle.circ_check.proofs.Fitting.{part_ready}
-use Rattle.circ_check.proofs.Finding.{part_more, parts_taken, FoundNothing, FoundFailure, step_makes}
-
--- ---- at the start
-
-pub stands_first : (th : Theory) (k : Checker) → k.theory.now ≡ th → k.is_spent ≡ false → k.is_stopped ≡ false → k.earlier ≡ 0
-    → k.due ≡ record { place = 0; derivative = 0 } → k.table.items ≡ [] → k.gamma ≡ [] → k.own.items ≡ [] → plain_state k.state ≡ state [] []
-    → k.tally ≡ no_tally → derived_of k ≡ [] → Stands th [] k
-stands_first th k t spent stopped earlier at table gamma own s tally derived =
-    let P : State → Type 0 = IsSortedState th in
-    let base : Checking = nothing_taken in
-    record {
-      sound = record { theory = t; unspent = spent; within = omega (arith, earlier); sorted = subst P (sym s) (sorted_none th, sorted_none th) };
-      checking = sym (
-        ap (λ x. record (checking_of k) { table = x }) table
-        ∙ ap (λ x. record (checking_of k) { table = []; places = x; due = due_after k.theory.now x k.due }) gamma
-        ∙ ap (λ x. record (checking_of k) { table = []; places = []; due = due_after k.theory.now [] x }) at
-        ∙ ap (λ x. record (checking_of k) { table = []; places = []; due = []; before = take x k.state.hyps.items }) earlier
-        ∙ ap (λ x. record (checking_of k) { table = []; places = []; due = []; before = []; own = x }) own
-        ∙ ap (λ x. record (checking_of k) { table = []; places = []; due = []; before = []; own = []; state = x }) s
-        ∙ ap (λ x. record (checking_of k) { table = []; places = []; due = []; before = []; own = []; state = state [] []; stopped = x }) stopped
-        ∙ ap (λ x. record base { tally = x; derived = derived_of k }) tally
-        ∙ ap (λ x. record base { derived = x }) derived
-      );
-    }
+use Rattle.circ_check.proofs.Finding.{part_more, parts_taken}
 
 -- ---- before a part
 
@@ -69,62 +41,54 @@ took_stands th xs x old new s took =
     let t : Took th x old new = subst P s.sound.theory took in
     record { sound = t.sound; checking = part_more th xs x nothing_taken (checking_of old) (checking_of new) s.checking t.taken }
 
--- a certificate was told to hold, or to fail
-module _ (th : Theory) (c d : Checking) (ls : List (LinkOf Tree)) (xs : List (Place × Derivative)) where
-  pub certificate_holds : 0 < length c.due
-      → ((x : Place × Derivative) (ys : List (Place × Derivative)) → c.due ≡ x ∷ ys → (xs ≡ ys) × (IsTrue true ↔ Certified th c.places x.0 x.1 ls))
-      → d ≡ record c { due = xs; tally = with_one c.tally } → TakesCertificate th c c.due ls d
-  certificate_holds l told e = go c.due refl l
-    where
-      go : (zs : List (Place × Derivative)) → c.due ≡ zs → 0 < length zs → TakesCertificate th c zs ls d
-      go [] f l = absurd (omega (arith, l))
-      go (x ∷ ys) f l = let t = told x ys f in inl (t.1.0 refl, e ∙ ap (λ y. record c { due = y; tally = with_one c.tally }) t.0)
-
-  pub certificate_fails : 0 < length c.due
-      → ((x : Place × Derivative) (ys : List (Place × Derivative)) → c.due ≡ x ∷ ys → (xs ≡ ys) × (IsTrue false ↔ Certified th c.places x.0 x.1 ls))
-      → d ≡ record c { due = xs; tally = with_failure c.tally } → TakesCertificate th c c.due ls d
-  certificate_fails l told e = go c.due refl l
-    where
-      go : (zs : List (Place × Derivative)) → c.due ≡ zs → 0 < length zs → TakesCertificate th c zs ls d
-      go [] f l = absurd (omega (arith, l))
-      go (x ∷ ys) f l =
-          let t = told x ys f in inr ((λ h. absurd (let u = t.1.1 h in cc)), e ∙ ap (λ y. record c { due = y; tally = with_failure c.tally }) t.0)
+take_whole : (xs : List Goal) → take (length xs) xs ≡ xs
+take_whole [] = refl
+take_whole (x ∷ xs) = ap (λ ys. x ∷ ys) (take_whole xs)
 
 -- a block is begun
-pub block_begun : (c d : Checking) (b : Bool) (gs : List Goal) → b ≡ false
-    → d ≡ record c { before = c.before ++ c.own; own = gs; state = state (c.before ++ c.own) gs; derived = c.derived ++ [] ∷ [] } → TakesGoals c b gs d
-block_begun c d b gs e f = let P : Bool → Type 0 = λ x. TakesGoals c x gs d in subst P (sym e) f
+pub block_begun : (old : Checker) (s : TheState) (n : ℕ) (own : Vec Goal Global) (lists : Vec (Vec Goal Global) Global) → IsSound old.theory.now old
+    → old.is_stopped ≡ false → plain_state s ≡ state (take old.earlier old.state.hyps.items ++ old.own.items) own.items → n ≡ length s.hyps.items
+    → AreSortedGoals old.theory.now (take old.earlier old.state.hyps.items ++ old.own.items) → AreSortedGoals old.theory.now own.items
+    → map plain_list lists.items ≡ derived_of old ++ [] ∷ [] → (names : List (ℕ × ℕ))
+    → Took old.theory.now (Goals own.items names) old (record old { state = s; earlier = n; own = own; derived = lists })
+block_begun old s n own lists sound going begun count hyps goals list names =
+    let H : List Goal = take old.earlier old.state.hyps.items ++ old.own.items in
+    let c : Checking = checking_of old in
+    let whole : take n s.hyps.items ≡ H = ap (λ m. take m s.hyps.items) count ∙ take_whole s.hyps.items ∙ ap (λ x. x.hypotheses) begun in
+    let P : State → Type 0 = IsSortedState old.theory.now in
+    let Q : Bool → Type 0 =
+    λ b. TakesGoals c b own.items (checking_of (record old { state = s; earlier = n; own = own; derived = lists })) in
+    record {
+      sound = record { theory = refl; unspent = sound.unspent; within = omega (arith, count); sorted = subst P (sym begun) (hyps, goals) };
+      taken = subst Q (sym going) (
+          ap (λ x. record c { before = x; own = own.items; state = plain_state s; derived = map plain_list lists.items }) whole
+          ∙ ap (λ x. record c { before = H; own = own.items; state = x; derived = map plain_list lists.items }) begun
+          ∙ ap (λ x. record c { before = H; own = own.items; state = state H own.items; derived = x }) list
+          );
+    }
 
-pub block_named : (c d : Checking) (b : Bool) (gs : List Goal) → b ≡ true → d ≡ record c { derived = c.derived ++ [] ∷ [] } → TakesGoals c b gs d
-block_named c d b gs e f = let P : Bool → Type 0 = λ x. TakesGoals c x gs d in subst P (sym e) f
+-- a list in its place, with the goals that it had, or with one more
+pub set_same : (vs : List (Vec Goal Global)) (n : ℕ) (v w : Vec Goal Global) → w ≡ slice_index_or vs n w → v.items ≡ w.items
+    → map plain_list (slice_set vs n v) ≡ map plain_list vs
+set_same [] n v w e f = refl
+set_same (x ∷ vs) zero v w e f = ap (λ y. y ∷ map plain_list vs) (f ∙ ap plain_list e)
+set_same (x ∷ vs) (suc n) v w e f = ap (λ y. plain_list x ∷ y) (set_same vs n v w e f)
 
--- a step is taken
-module _ (th : Theory) (c d : Checking) (b : Bool) (s : ProofStep ℕ) where
-  pub step_passed : b ≡ true → d ≡ record c { tally = with_one c.tally } → TakesStep th c b s d
-  step_passed e f = let P : Bool → Type 0 = λ x. TakesStep th c x s d in subst P (sym e) f
+pub set_last : (vs : List (Vec Goal Global)) (n : ℕ) (v w : Vec Goal Global) (g : Goal) → n + 1 ≡ length vs → w ≡ slice_index_or vs n w
+    → v.items ≡ w.items ++ g ∷ [] → map plain_list (slice_set vs n v) ≡ with_derived (map plain_list vs) (g ∷ [])
+set_last [] n v w g l e f = absurd (omega (arith, l))
+set_last (x ∷ []) zero v w g l e f = ap (λ y. y ∷ []) (f ∙ ap (λ y. plain_list y ++ g ∷ []) e)
+set_last (x ∷ y ∷ vs) zero v w g l e f = absurd (omega (arith, l))
+set_last (x ∷ []) (suc n) v w g l e f = absurd (omega (arith, l))
+set_last (x ∷ y ∷ vs) (suc n) v w g l e f = ap (λ z. plain_list x ∷ z) (set_last (y ∷ vs) n v w g (omega (arith, l)) e f)
 
-  pub step_fails : b ≡ false → ((x : State) → StepOf th c.places (map_step (named c.table) s) c.state x → ⊥)
-      → d ≡ record c { stopped = true; tally = with_failure c.tally } → TakesStep th c b s d
-  step_fails e n f = let P : Bool → Type 0 = λ x. TakesStep th c x s d in subst P (sym e) (inr (n, f))
+pub on_ok : {T E A B : Type 0} (r : Result T E) → (A → B) → OnOk r A → OnOk r B
+on_ok (Ok x) f a = f a
+on_ok (Err e) f a = tt
 
-  pub step_holds : (x : State) → b ≡ false → StepOf th c.places (map_step (named c.table) s) c.state x
-      → d ≡ record c { state = x; tally = with_one c.tally; derived = with_derived c.derived (made_by s c.state.goals) } → TakesStep th c b s d
-  step_holds x e t f = let P : Bool → Type 0 = λ y. TakesStep th c y s d in subst P (sym e) (inl (x, t, f))
-
-take_front : (xs ys : List Goal) (n : ℕ) → n ≤ length xs → take n (xs ++ ys) ≡ take n xs
-take_front xs ys zero l = refl
-take_front [] ys (suc n) l = absurd (omega (arith, l))
-take_front (x ∷ xs) ys (suc n) l = ap (λ zs. x ∷ zs) (take_front xs ys n (omega (arith, l)))
-
--- a step changes none of the hypotheses that were there
-pub step_keeps_first : (th : Theory) (G : List Place) (name : ℕ → Tree) (s : ProofStep ℕ) (a b : State) (n : ℕ) → StepOf th G (map_step name s) a b
-    → n ≤ length a.hypotheses → take n b.hypotheses ≡ take n a.hypotheses
-step_keeps_first th G name s a b n r l = ap (take n) (step_makes th G name s a b r) ∙ take_front a.hypotheses (made_by s a.goals) n l
-
-pub step_keeps_within : (th : Theory) (G : List Place) (name : ℕ → Tree) (s : ProofStep ℕ) (a b : State) (n : ℕ) → StepOf th G (map_step name s) a b
-    → n ≤ length a.hypotheses → n ≤ length b.hypotheses
-step_keeps_within th G name s a b n r l =
-    omega (arith, l, ap length (step_makes th G name s a b r), length-append a.hypotheses (made_by s a.goals))
+pub on_err : {T E A : Type 0} (r : Result T E) → A → OnErr r A
+on_err (Ok x) a = tt
+on_err (Err e) a = a
 
 -- ---- what was found
 

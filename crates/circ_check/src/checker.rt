@@ -183,7 +183,12 @@ impl<'a> Checker<'a> {
         if self.is_stopped {
             return begin_list(self.alloc, &mut self.derived);
         }
-        begin(&mut self.state, self.earlier, &mut self.own, goals.as_slice())?;
+        begin(
+            &mut self.state,
+            self.earlier,
+            &mut self.own,
+            goals.as_slice(),
+        )?;
         self.earlier = self.state.hyps.len();
         self.own = goals;
         begin_list(self.alloc, &mut self.derived)
@@ -203,7 +208,14 @@ impl<'a> Checker<'a> {
         }
         let made = made_by(step, &self.state.goals)?;
         let table = self.table.as_slice();
-        if !apply(self.alloc, self.theory, table, &self.gamma, &mut self.state, step)? {
+        if !apply(
+            self.alloc,
+            self.theory,
+            table,
+            &self.gamma,
+            &mut self.state,
+            step,
+        )? {
             self.is_stopped = true;
             self.tally = self.tally.with_failure();
             return Ok(());

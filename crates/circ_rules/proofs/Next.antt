@@ -63,7 +63,7 @@ place_taken th gs i from n x g places within is a so_far f =
     let rest : drop i gs ≡ g ∷ drop (i + 1) gs = subst P (sym is) (drop_more gs i x within) in
     let here : (m : ℕ) → due_from th (drop i gs) m ≡ map (λ d. (g, d)) (derivatives_from th f.operator.result m) ++ due th (drop (i + 1) gs)
     = λ m. ap (λ hs. due_from th hs m) rest
-        ∙ ap (λ o. map (λ d. (g, d)) (option_map_or (λ o. derivatives_from th o.result m) o []) ++ due th (drop (i + 1) gs)) f.declared in
+    ∙ ap (λ o. map (λ d. (g, d)) (option_map_or (λ o. derivatives_from th o.result m) o []) ++ due th (drop (i + 1) gs)) f.declared in
     record {
       place = all_at places;
       operator = f.operator;

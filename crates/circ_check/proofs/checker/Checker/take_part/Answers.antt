@@ -1,0 +1,5 @@
+use Rattle.circ_check.proofs.Watching.{on_ok}
+use Rattle.circ_check.proofs.checker.Checker.take_part.Goals as goal
+
+pub returns-in-Goals-clause-took : goal.returns-in-Goals-clause-took
+returns-in-Goals-clause-took c = rw c.in-Goals.is (on_ok c.begin_block.result (λ f. f c.in-Goals.names.items) c.begin_block.ensures.took)
