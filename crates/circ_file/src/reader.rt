@@ -59,6 +59,8 @@ impl<'a> FileReader<'a> {
             Stands th x handed self.old → Feeds result th x piece.now handed self.new }
         ensures again { (fault : FileFault) → fault_of self.old ≡ Some fault →
             result ≡ Err fault }
+        ensures kept { (fault : FileFault) → fault_of self.old ≡ Some fault →
+            fault_of self.new ≡ Some fault }
     {
         if let Some(fault) = self.fault {
             return Err(fault);

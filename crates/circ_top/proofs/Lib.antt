@@ -2,6 +2,8 @@ pub mod Rules
 pub mod Reporting
 pub mod Printing
 pub mod FileFaults
+pub mod ProofFiles
+pub mod Pieces
 pub mod Requests
 pub mod Proofs
 pub mod Agreeing

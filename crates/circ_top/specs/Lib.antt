@@ -7,6 +7,8 @@ pub mod Command
 pub mod Texts
 pub mod Delivery
 pub mod Check
+pub mod CheckProof
+pub mod Incoming
 pub mod Show
 pub mod Library
 pub mod Outcome
