@@ -63,7 +63,13 @@ impl<'a> Incoming<'a> {
             return Err(Status::Refused { step });
         }
         let goals = self.goals.as_slice();
-        match reported(self.alloc, report, self.theory, goals, self.checker.derived()) {
+        match reported(
+            self.alloc,
+            report,
+            self.theory,
+            goals,
+            self.checker.derived(),
+        ) {
             Ok(text) => Ok(text),
             Err(_) => Err(Status::Memory),
         }
@@ -101,7 +107,8 @@ impl<'a> Incoming<'a> {
         ensures theory { self.new.theory.now ≡ self.old.theory.now }
     {
         keep_goals(self.alloc, &mut self.goals, &part)?;
-        self.checker.take(part)
+        self.checker.take(part)?;
+        Ok(())
     }
 }
 

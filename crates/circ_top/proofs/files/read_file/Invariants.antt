@@ -9,7 +9,7 @@ invariant-loop-buf g l = record {
   room : 0 < length l.buf.items;
   most : length l.buf.items ≤ 65536;
   given : (bytes : List ℕ) × (length bytes ≡ l.count) × g.I.Intake.takes l.fn.into bytes l.into
-  × ((g.S.Shelf.state l.fn.shelf).tells ≡ true → (g.S.Shelf.state l.fn.shelf).holds l.name ≡ Some (bytes ++ (g.S.Shelf.state l.shelf).left));
+      × ((g.S.Shelf.state l.fn.shelf).tells ≡ true → (g.S.Shelf.state l.fn.shelf).holds l.name ≡ Some (bytes ++ (g.S.Shelf.state l.shelf).left));
   tells : (g.S.Shelf.state l.shelf).tells ≡ (g.S.Shelf.state l.fn.shelf).tells;
   holds : (n : List ℕ) → (g.S.Shelf.state l.shelf).holds n ≡ (g.S.Shelf.state l.fn.shelf).holds n;
   quiet : IsQuiet (g.S.Shelf.state l.fn.shelf) (g.S.Shelf.state l.shelf);
