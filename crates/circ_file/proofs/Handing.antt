@@ -11,9 +11,9 @@ use Rattle.circ_proof_text.specs.Parts.{Part, parts_of}
 use Rattle.circ_proof_text.specs.ProofText.{ReadsAsProof}
 use Rattle.circ_proof_text.specs.Reading.{Reading, StandsFor}
 use Rattle.circ_proof_text.proofs.Standing.{hands, ends, ends_badly}
-use Rattle.circ_proof_text.proofs.Handed.{handed_fit, handed_first}
+use Rattle.circ_proof_text.proofs.Handed.{handed_fit, handed_first, handed_counted}
 use Rattle.circ_file.specs.View.{now_of, queue_of, plain_part, Pops}
-use Rattle.circ_file.specs.Feeding.{reading_of, Stands, Hands, Ends, handed_with, waiting_in}
+use Rattle.circ_file.specs.Feeding.{reading_of, Stands, Hands, Ends, handed_with, waiting_in, AreShown}
 use Rattle.circ_file.specs.declared.fault.FileFault.TheVariants.{Line}
 use Rattle.circ_rules.specs.declared.part.Part.{Part as CodePart}
 use Rattle.circ_file.specs.Lines.{seen_of}
@@ -77,3 +77,17 @@ pub hands_first : (th : Theory) (x later : List ℕ) (handed : List Part) (o : O
     → Hands o th x handed g → ReadsAsProof th (x ++ later) p → (xs : List Part) × (parts_of p ≡ handed_with handed o ++ xs)
 hands_first th x later handed None g p w h r = stood_first th x later handed g p w h.1 r
 hands_first th x later handed (Some part) g p w h r = stood_first th x later (handed ++ plain_part part ∷ []) g p w h r
+
+-- They are those that the lines show, up to the parts that wait.
+pub hands_shown : (th : Theory) (x later : List ℕ) (handed : List Part) (o : Option CodePart) (g : FileReader) (p : Proof) → IsWellFormed th
+    → Hands o th x handed g → ReadsAsProof th (x ++ later) p → AreShown p g.lines handed o
+hands_shown th x later handed None g p w h r = record {
+  rest = waiting_in g;
+  shown = sym (handed_counted th x later handed (reading_of h.1.wanted g) p w h.1.stands r);
+  all = λ e. h.0;
+}
+hands_shown th x later handed (Some part) g p w h r = record {
+  rest = waiting_in g;
+  shown = sym (handed_counted th x later (handed ++ plain_part part ∷ []) (reading_of h.wanted g) p w h.stands r);
+  all = λ e. absurd (cc);
+}

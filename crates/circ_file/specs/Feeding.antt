@@ -1,11 +1,13 @@
 -- A reader of a proof's text, which comes in pieces.
-use Rattle.std.specs.Prelude.{◌≡◌, ◌≢◌, ℕ, ◌+◌, ◌<◌, ◌^◌, List, [], ◌∷◌, ◌++◌, length, Option, Some, None, Result, Ok, Err}
+use Rattle.std.specs.Prelude.{◌≡◌, ◌≢◌, ℕ, ◌+◌, ◌<◌, ◌^◌, List, [], ◌∷◌, ◌++◌, map, length, Option, Some, None, Result, Ok, Err}
 use Rattle.circ_theory.specs.Theory.{Theory}
 use Rattle.circ_line.specs.Plain.{NoFeed}
 use Rattle.circ_grammar.specs.FirstBad.{Line_fault, Limit_fault}
+use Rattle.circ_grammar.specs.Parts.{shown_by}
+use Rattle.circ_grammar.specs.Parts as grammar
 use Rattle.circ_rules.specs.Proof.{Proof}
-use Rattle.circ_proof_text.specs.Parts.{Part, parts_of}
-use Rattle.circ_proof_text.specs.ProofText.{ReadsAsProof, FirstCause}
+use Rattle.circ_proof_text.specs.Parts.{Part, part_with, parts_of}
+use Rattle.circ_proof_text.specs.ProofText.{numbers_of, ReadsAsProof, FirstCause}
 use Rattle.circ_proof_text.specs.Reading.{Reading, StandsFor}
 use Rattle.circ_file.specs.View.{now_of, queue_of, plain_part}
 use Rattle.circ_file.specs.Lines.{IsReader, seen_of}
@@ -76,6 +78,16 @@ EndsLine (Err e) th x bytes handed f = (later : List ℕ) → FaultIs th ((x ++ 
 abbrev pub handed_with : List Part → Option CodePart → List Part
 handed_with handed None = handed
 handed_with handed (Some part) = handed ++ plain_part part ∷ []
+
+-- the parts that so many lines of a proof's text show
+abbrev pub shown_parts : Proof → (lines : ℕ) → List Part
+shown_parts p n = map (part_with p.table) (shown_by n (grammar.parts_of (numbers_of p)))
+
+-- The parts handed out are the first of those that so many lines show, and all of them where none is handed out now.
+pub record AreShown (p : Proof) (lines : ℕ) (handed : List Part) (o : Option CodePart) : Type 0 where
+  pub rest : List Part
+  pub shown : shown_parts p lines ≡ handed_with handed o ++ rest
+  pub all : o ≡ None → rest ≡ []
 
 -- the next part is handed out, or none is whole
 abbrev pub Hands : Option CodePart → Theory → List ℕ → List Part → FileReader → Type 0

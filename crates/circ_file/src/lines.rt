@@ -23,7 +23,7 @@ use std::alloc::{AllocError, Global};
 #[derive(Drop)]
 pub(crate) struct LineReader<'a> {
     alloc: Global,
-    theory: &'a Theory,
+    pub(crate) theory: &'a Theory,
     pub(crate) machine: Machine,
     table: Table,
     counts: Counts,

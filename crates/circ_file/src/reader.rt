@@ -11,7 +11,7 @@ ghost use Rattle.circ_proof_text.specs.ProofText.{ReadsAsProof};
 ghost use Rattle.circ_file.specs.View.{now_of, queue_of, splits_in, Pops};
 ghost use Rattle.circ_file.specs.Lines.{IsReader, ReadsNext};
 ghost use Rattle.circ_file.specs.Feeding.{IsCut, IsSound, Stands, EndsLine, FeedsLines};
-ghost use Rattle.circ_file.specs.Feeding.{Feeds, Hands, Ends, handed_with};
+ghost use Rattle.circ_file.specs.Feeding.{Feeds, Hands, Ends, handed_with, AreShown};
 ghost use Rattle.circ_file.specs.Feeding.{whole_lines_in, fault_of, waiting_in};
 ghost use Rattle.circ_file.specs.declared.fault.FileFault.{FileFault};
 
@@ -87,6 +87,9 @@ impl<'a> FileReader<'a> {
         ensures first { (th : Theory) (x later : List ℕ) (handed : List PlainPart) (p : Proof) →
             Stands th x handed self.old → ReadsAsProof th (x ++ later) p →
             (xs : List PlainPart) × (parts_of p ≡ handed_with handed result ++ xs) }
+        ensures shown { (th : Theory) (x later : List ℕ) (handed : List PlainPart) (p : Proof) →
+            Stands th x handed self.old → ReadsAsProof th (x ++ later) p →
+            AreShown p (whole_lines_in self.old) handed result }
         ensures again { (fault : FileFault) → fault_of self.old ≡ Some fault → result ≡ None }
         ensures fault { fault_of self.new ≡ fault_of self.old }
         ensures queue { fault_of self.old ≡ None →
