@@ -8,7 +8,7 @@ use Rattle.circ_proof_text.specs.ProofText.{ReadsAsProof}
 use Rattle.circ_top.specs.Check.{IsAccepted, RefusesCheck, proof_fault}
 use Rattle.circ_top.specs.Check as check
 use Rattle.circ_top.specs.CheckProof.{AcceptsProof, RefusesProof, file_fault, step_fails}
-use Rattle.circ_top.specs.Files.{Refusal, Holds, TakesBytes, IsUntaken, IsFileFault}
+use Rattle.circ_top.specs.Files.{Refusal, Holds, IsUntaken, IsFileFault}
 use Rattle.circ_top.specs.Incoming.{Judges, RefusesBytes}
 use Rattle.circ_top.specs.ProofFile.{TakesProof, ProofRefusal}
 use Rattle.circ_top.specs.Quiet.{IsQuietBut, IsQuietCall}

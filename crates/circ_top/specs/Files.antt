@@ -29,13 +29,6 @@ pub record AreBytes (P : List ℕ → Type 0) : Type 0 where
   pub short : length bytes ≤ MOST_BYTES
   pub are : P bytes
 
--- Bytes within the limit were taken, of which this is true. Where the shelf tells, the named file holds them.
-pub record TakesBytes (name : List ℕ) (before : ShelfState) (P : List ℕ → Type 0) : Type 0 where
-  pub bytes : List ℕ
-  pub short : length bytes ≤ MOST_BYTES
-  pub held : before.tells ≡ true → before.holds name ≡ Some bytes
-  pub are : P bytes
-
 -- The named file holds bytes within the limit, of which this is true.
 pub record Holds (held : Held) (name : List ℕ) (P : List ℕ → Type 0) : Type 0 where
   pub bytes : List ℕ

@@ -1,5 +1,6 @@
 pub mod Status
 pub mod Files
+pub mod Intake
 pub mod Quiet
 pub mod TheoryFile
 pub mod ProofFile

@@ -2,7 +2,8 @@
 ghost use Rattle.std.specs.Prelude.{◌≡◌, ◌⊎◌, ◌<◌, ◌≤◌, ◌+◌, ℕ, List, [], true, false, length};
 ghost use Rattle.std.specs.Prelude.{Some, IfOk, OnOk, IfErr};
 ghost use Rattle.circ_outer.specs.Shelf.{Struck, Missing, ShelfFrame};
-ghost use Rattle.circ_top.specs.Files.{TakesBytes, IsUntaken};
+ghost use Rattle.circ_top.specs.Files.{IsUntaken};
+ghost use Rattle.circ_top.specs.Intake.{TakesBytes};
 ghost use Rattle.circ_top.specs.Quiet.{IsQuietCall, IsQuietTaking};
 
 use crate::intake::Intake;
