@@ -2,9 +2,7 @@
 use Rattle.std.proofs.Common.{◌≡◌, ◌≢◌, ◌≤◌, ◌+◌, ◌∙◌, ℕ, List, [], ◌∷◌, ◌++◌, length, map, Some, refl, sym, ap, subst, arith, length-append, append_assoc, append-nil}
 use Rattle.circ_theory.specs.Theory.{Theory}
 use Rattle.circ_theory.specs.declared.parts.Goal.{Goal}
-use Rattle.circ_replay.specs.Plain.{LinkOf}
-use Rattle.circ_rules.specs.Rules.{ProofStep}
-use Rattle.circ_rules.specs.Parts.{Part, Head, Certificate, Goals, Step, certificate_parts, step_parts, block_parts, parts_of}
+use Rattle.circ_rules.specs.Parts.{Part, Head, Certificate, Goals, Step, block_parts, parts_of}
 use Rattle.circ_rules.specs.Proof.{Block, Proof}
 use Rattle.circ_check.specs.Deciding.{plain_list}
 use Rattle.circ_check.specs.Watching as checker
@@ -16,27 +14,25 @@ use Rattle.circ_file.specs.declared.reader.FileReader.{FileReader}
 use Rattle.circ_top.specs.Incoming.{goals_among, HasRead, Follows, all_checked, at_fault, HasTaken}
 use Rattle.circ_top.specs.declared.incoming.Incoming.{Incoming}
 
-pub goals_among-append : (xs ys : List Part) → goals_among (xs ++ ys) ≡ goals_among xs ++ goals_among ys
+goals_among-append : (xs ys : List Part) → goals_among (xs ++ ys) ≡ goals_among xs ++ goals_among ys
 goals_among-append [] ys = refl
 goals_among-append (Head table places ∷ xs) ys = goals_among-append xs ys
 goals_among-append (Certificate links ∷ xs) ys = goals_among-append xs ys
 goals_among-append (Goals goals names ∷ xs) ys = ap (λ gs. goals ∷ gs) (goals_among-append xs ys)
 goals_among-append (Step step ∷ xs) ys = goals_among-append xs ys
 
-goals_among-certificates : (lss : List (List (LinkOf ℕ))) (xs : List Part) → goals_among (certificate_parts lss ++ xs) ≡ goals_among xs
-goals_among-certificates [] xs = refl
-goals_among-certificates (ls ∷ lss) xs = goals_among-certificates lss xs
-
-goals_among-steps : (ss : List (ProofStep ℕ)) (xs : List Part) → goals_among (step_parts ss ++ xs) ≡ goals_among xs
-goals_among-steps [] xs = refl
-goals_among-steps (s ∷ ss) xs = goals_among-steps ss xs
+-- parts that begin no block
+goals_among-map : {A : Type 0} (f : A → Part) → ((x : A) (xs : List Part) → goals_among (f x ∷ xs) ≡ goals_among xs) → (ys : List A) (xs : List Part)
+    → goals_among (map f ys ++ xs) ≡ goals_among xs
+goals_among-map f none [] xs = refl
+goals_among-map f none (x ∷ ys) xs = none x (map f ys ++ xs) ∙ goals_among-map f none ys xs
 
 goals_among-blocks : (bs : List Block) → goals_among (block_parts bs) ≡ map (λ b. b.goals) bs
 goals_among-blocks [] = refl
-goals_among-blocks (b ∷ bs) = ap (λ gs. b.goals ∷ gs) (goals_among-steps b.steps (block_parts bs) ∙ goals_among-blocks bs)
+goals_among-blocks (b ∷ bs) = ap (λ gs. b.goals ∷ gs) (goals_among-map Step (λ s xs. refl) b.steps (block_parts bs) ∙ goals_among-blocks bs)
 
 goals_among-parts : (p : Proof) → goals_among (parts_of p) ≡ map (λ b. b.goals) p.blocks
-goals_among-parts p = goals_among-certificates p.certificates (block_parts p.blocks) ∙ goals_among-blocks p.blocks
+goals_among-parts p = goals_among-map Certificate (λ ls xs. refl) p.certificates (block_parts p.blocks) ∙ goals_among-blocks p.blocks
 
 -- one part more
 pub part_taken : (th : Theory) (bytes : List ℕ) (parts : List Part) (x : Part) (r : FileReader) (old new : Incoming) → HasRead th bytes parts old
