@@ -1,7 +1,6 @@
 -- What `check` answers, and its outcome.
-use Rattle.std.proofs.Common.{◌≡◌, ℕ, List, [], refl, ap, sym, ◌∙◌, subst, inl, inr, true, None, Result, Ok, Err}
-use Rattle.std.specs.Prelude.{IfErr}
-use Rattle.circ_outer.specs.Shelf.{ShelfState, IsQuiet}
+use Rattle.std.proofs.Common.{◌≡◌, ℕ, List, refl, ap, sym, ◌∙◌, subst, inl, inr, true, None}
+use Rattle.circ_outer.specs.Shelf.{ShelfState}
 use Rattle.circ_theory.specs.Theory.{Theory}
 use Rattle.circ_theory.specs.WellFormed.{IsWellFormed}
 use Rattle.circ_theory.specs.declared.parts.Goal.{Goal}
@@ -16,10 +15,9 @@ use Rattle.circ_top.specs.Command.{Check, Asks}
 use Rattle.circ_top.specs.Files.{IsOnly, RefusesFile, IsUnread, IsTooLong, IsFileFault}
 use Rattle.circ_top.specs.Like.{IsLike, itself}
 use Rattle.circ_top.specs.Outcome.{command}
-use Rattle.circ_top.specs.ProofFile.{ReadsProof, TakesProof, ProofRefusal}
-use Rattle.circ_top.specs.Quiet.{IsQuietBut, IsQuietCall}
+use Rattle.circ_top.specs.ProofFile.{ReadsProof, ProofRefusal}
 use Rattle.circ_top.specs.Texts.{refused_text, refusal_text}
-use Rattle.circ_top.specs.TheoryFile.{ReadsTheory, TakesTheory, TheoryRefusal}
+use Rattle.circ_top.specs.TheoryFile.{ReadsTheory, TheoryRefusal}
 use Rattle.circ_top.specs.declared.request.Report.{Report}
 use Rattle.circ_top.specs.declared.status.Status.{Status}
 use Rattle.circ_top.specs.declared.status.Status.TheVariants as status

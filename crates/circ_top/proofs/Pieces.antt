@@ -1,7 +1,6 @@
 -- A proof that is read and checked as its text comes.
 use Rattle.std.proofs.Common.{◌≡◌, ◌≢◌, ◌≤◌, ◌+◌, ◌∙◌, ℕ, List, [], ◌∷◌, ◌++◌, length, map, Some, refl, sym, ap, subst, arith, length-append, append_assoc, append-nil}
 use Rattle.circ_theory.specs.Theory.{Theory}
-use Rattle.circ_theory.specs.declared.parts.Goal.{Goal}
 use Rattle.circ_rules.specs.Parts.{Part, Head, Certificate, Goals, Step, block_parts, parts_of}
 use Rattle.circ_rules.specs.Proof.{Block, Proof}
 use Rattle.circ_check.specs.Deciding.{plain_list}

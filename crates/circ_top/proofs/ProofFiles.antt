@@ -1,5 +1,5 @@
 -- What is found of the proof file, by what is found of its bytes.
-use Rattle.std.proofs.Common.{◌≡◌, ◌≤◌, ℕ, List, length, Some, true, refl, Result, Ok, Err, Vec}
+use Rattle.std.proofs.Common.{◌≡◌, ◌≤◌, ℕ, List, length, Some, true, Result, Ok, Err, Vec}
 use Rattle.std.specs.Prelude.{IfOk, IfErr}
 use Rattle.circ_outer.specs.Shelf.{ShelfState, ShelfFrame, IsQuiet}
 use Rattle.circ_theory.specs.Theory.{Theory}
@@ -8,7 +8,7 @@ use Rattle.circ_proof_text.specs.ProofText.{ReadsAsProof}
 use Rattle.circ_top.specs.Check.{IsAccepted, RefusesCheck, proof_fault}
 use Rattle.circ_top.specs.Check as check
 use Rattle.circ_top.specs.CheckProof.{AcceptsProof, RefusesProof, file_fault, step_fails}
-use Rattle.circ_top.specs.Files.{Refusal, Holds, IsUntaken, IsFileFault}
+use Rattle.circ_top.specs.Files.{Refusal, IsUntaken, IsFileFault}
 use Rattle.circ_top.specs.Incoming.{Judges, RefusesBytes}
 use Rattle.circ_top.specs.ProofFile.{TakesProof, ProofRefusal}
 use Rattle.circ_top.specs.Quiet.{IsQuietBut, IsQuietCall}

@@ -1,4 +1,4 @@
-use Rattle.std.proofs.Common.{◌≡◌, List, ℕ, subst}
+use Rattle.std.proofs.Common.{subst}
 use Rattle.circ_theory.specs.Theory.{Theory}
 use Rattle.circ_top.specs.CheckProof.{file_fault}
 use Rattle.circ_top.specs.Incoming.{HasTaken}

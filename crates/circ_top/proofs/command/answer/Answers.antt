@@ -1,4 +1,4 @@
-use Rattle.std.proofs.Common.{[], None, refl, sym, append-nil}
+use Rattle.std.proofs.Common.{None, refl, sym, append-nil}
 use Rattle.circ_top.specs.Answer.{no_command, success, refusal}
 use Rattle.circ_top.specs.Command.{plain_request}
 use Rattle.circ_top.specs.Delivery.{text_wanted}

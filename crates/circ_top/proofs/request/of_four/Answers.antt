@@ -1,4 +1,4 @@
-use Rattle.std.proofs.Common.{map, refl, sym}
+use Rattle.std.proofs.Common.{map, sym}
 use Rattle.std.specs.String.{string_bytes}
 use Rattle.circ_top.specs.Command.{check, report_name}
 use Rattle.circ_top.proofs.Requests.{four_words, given_four}

@@ -1,4 +1,4 @@
-use Rattle.std.proofs.Common.{◌≡◌, List, [], ◌∷◌, ◌++◌, None, subst, sym, ap, ◌∙◌}
+use Rattle.std.proofs.Common.{[], ◌∷◌, ◌++◌, subst, sym, ap, ◌∙◌}
 use Rattle.circ_rules.specs.Plain.{plain_part}
 use Rattle.circ_file.specs.Feeding as reader
 use Rattle.circ_file.specs.declared.reader.FileReader.{FileReader}
