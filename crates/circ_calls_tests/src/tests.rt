@@ -1,8 +1,11 @@
 //! What no clause says: that a call does not want memory where there is enough.
 ghost use Rattle.std.specs.Prelude.{IsTrue};
 ghost use Rattle.circ_mixfix.specs.Answers.{declared_by, HaveSorts};
+ghost use Rattle.circ_rules.specs.Plain.{plain_proof};
+ghost use Rattle.circ_rules.specs.Proof.{ProofFor};
 
 use circ_aci::{canonical, content, same_content};
+use circ_check::{Verdict, check, derived};
 use circ_file::laws::decoded_bytes_are_the_text;
 use circ_file::{decode, encode};
 use circ_lexer::{LexFault, Span, Tokens};
@@ -11,6 +14,7 @@ use circ_mixfix::{ParseFault, Reading, parse_one, parse_pair, print};
 use circ_outer::{SureShelf, SureSink};
 use circ_read::read_theory;
 use circ_replay::{Chain, Link, TableBuilder, Why, follow, follow_all, follow_why};
+use circ_rules::Proof;
 use circ_show::unobserved;
 use circ_special::Gamma;
 use circ_term::{Path, Subst, Term, TermFault};
@@ -323,6 +327,32 @@ fn replays(rt: HostRuntime) {
 const FILE: &[u8] = b"theory NOT is sort Bit . ops 0 1 : -> Bit . endtheory";
 
 const PROOF: &[u8] = b"circproof 1\na 0\nblock\ngoal 0 0\nreduce\nsame\ndone\nend\n";
+
+// Whether the proof is accepted, and its block derived something or nothing.
+fn is_accepted(alloc: Global, theory: &Theory, proof: &Proof) -> bool
+    requires { ProofFor theory.now (plain_proof proof.now) }
+{
+    match check(alloc, theory, proof) {
+        Ok(Verdict::Accepted) => {
+            derived(alloc, theory, proof).is_ok_and(|blocks| blocks.len() == 1)
+        }
+        _ => false,
+    }
+}
+
+// Whether the proof is read whole, and accepted.
+fn is_decoded(alloc: Global, theory: &Theory) -> bool {
+    match decode(alloc, theory, PROOF) {
+        Ok(proof) => is_accepted(alloc, theory, &proof),
+        Err(_) => false,
+    }
+}
+
+#[test]
+fn whole_proofs(rt: HostRuntime) {
+    let theory = read_theory(rt.alloc(), FILE);
+    assert!(rt; theory.is_ok_and(|theory| is_decoded(rt.alloc(), &theory)));
+}
 
 fn words(alloc: Global) -> Result<Vec<String>, AllocError> {
     let mut words = Vec::new(alloc);

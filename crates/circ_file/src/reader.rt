@@ -40,6 +40,7 @@ impl<'a> FileReader<'a> {
         ensures sound { IsSound result }
         ensures lines { whole_lines_in result ≡ 0 }
         ensures stands { Stands theory.now [] [] result }
+        ensures none { waiting_in result ≡ [] }
     {
         FileReader {
             reader: LineReader::new(alloc, theory),

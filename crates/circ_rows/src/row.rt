@@ -68,12 +68,30 @@ impl<'a> Row<'a> {
         }
     }
 
-    /// Runs the program. Answers the number with which it ended, or what is not as it must be.
+    /// Runs the program. Answers the number with which it ended, or what is not as it must be. A
+    /// row that says neither how many bytes a call of the shelf moves nor which one fails is run
+    /// with pieces of 7 bytes and of 1 byte too.
     pub fn outcome(&self, alloc: Global) -> Result<String, AllocError> {
         if let Some(part) = self.unknown() {
             return format!(in alloc; "has a part {}, which is none", part.kind);
         }
-        let mut shelf = self.shelf(alloc)?;
+        let outcome = self.run(alloc, self.most("pieces"))?;
+        if self.last("pieces").is_some() || self.last("shelf").is_some() {
+            return Ok(outcome);
+        }
+        let sevens = self.run(alloc, 7)?;
+        let ones = self.run(alloc, 1)?;
+        if sevens != outcome || ones != outcome {
+            return format!(in alloc; "{outcome}\nin pieces of 7: {sevens}\nof 1: {ones}");
+        }
+        Ok(outcome)
+    }
+
+    /// The same, where a call of the shelf moves so many bytes at most.
+    fn run(&self, alloc: Global, most: usize) -> Result<String, AllocError>
+        requires { 0 < most }
+    {
+        let mut shelf = self.shelf(alloc, most)?;
         let mut sink = self.sink(alloc)?;
         let words = self.words(alloc)?;
         let status = circ(alloc, &words, &mut shelf, &mut sink);
@@ -120,8 +138,10 @@ impl<'a> Row<'a> {
     }
 
     /// The files that the program finds, and the calls that fail.
-    fn shelf(&self, alloc: Global) -> Result<MemoryShelf, AllocError> {
-        let mut shelf = MemoryShelf::new(alloc, self.most("pieces"));
+    fn shelf(&self, alloc: Global, most: usize) -> Result<MemoryShelf, AllocError>
+        requires { 0 < most }
+    {
+        let mut shelf = MemoryShelf::new(alloc, most);
         for part in &self.parts {
             match part.kind {
                 "file" => shelf.add(part.name, part.text.as_bytes())?,

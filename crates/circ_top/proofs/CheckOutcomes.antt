@@ -10,16 +10,15 @@ use Rattle.circ_rules.specs.Accepted.{Derives, FirstFail}
 use Rattle.circ_proof_text.specs.ProofText.{ReadsAsProof}
 use Rattle.circ_read.specs.ReadsAs.{ReadsAs}
 use Rattle.circ_top.specs.Causes.{AtEither}
-use Rattle.circ_top.specs.Check.{report_text, CheckOutcome, no_theory, no_proof, refused, accepted, Fails, IsAccepted, StepFails, RefusesCheck}
+use Rattle.circ_top.specs.Check.{report_text, CheckOutcome, no_theory, no_proof, refused, accepted, IsAccepted, StepFails, RefusesCheck}
 use Rattle.circ_top.specs.Check.{theory_fault, proof_fault, step_fails}
 use Rattle.circ_top.specs.Command.{Check, Asks}
 use Rattle.circ_top.specs.Files.{IsOnly, RefusesFile, IsUnread, IsTooLong, IsFileFault}
 use Rattle.circ_top.specs.Like.{IsLike, itself}
 use Rattle.circ_top.specs.Outcome.{command}
-use Rattle.circ_top.specs.ProofFile.{ReadsProof, TakesProof, ProofRefusal}
-use Rattle.circ_top.specs.Quiet.{IsQuietBut, IsQuietCall}
+use Rattle.circ_top.specs.ProofFile.{ReadsProof, ProofRefusal}
 use Rattle.circ_top.specs.Texts.{refused_text, refusal_text}
-use Rattle.circ_top.specs.TheoryFile.{ReadsTheory, TakesTheory, TheoryRefusal}
+use Rattle.circ_top.specs.TheoryFile.{ReadsTheory, TheoryRefusal}
 use Rattle.circ_top.specs.declared.request.Report.{Report}
 use Rattle.circ_top.specs.declared.status.Status.{Status}
 use Rattle.circ_top.specs.declared.status.Status.TheVariants as status
@@ -27,23 +26,6 @@ use Rattle.circ_top.proofs.Agreeing.{DueIs, outcome, file_due, Agrees, alike, un
 use Rattle.circ_top.proofs.FileFaults.{FaultOf, fault_of, refuses, unread, out_of_memory, reads_not_refused, refused_alike, refused_held, holds_held}
 use Rattle.circ_top.proofs.FileFaults.{unread_rose, file_fault_not_ok, file_fault_not_refused}
 use Rattle.circ_top.proofs.Proofs.{ProofsOnce, read_or_refused, proofs_once}
-
--- a step that fails, or want of memory, refuses a `check` whose files read
-pub fails_refuses : (theory proof : List ℕ) (before after : ShelfState) (th : Theory) (p : Proof) → TakesTheory theory th before → TakesProof proof th p before
-    → (s : Status) → Fails th p s → RefusesCheck theory proof before after s
-fails_refuses theory proof before after th p a b (status.Refused n) f = step_fails n (record { th = th; p = p; fails = f; takes_theory = a; takes_proof = b })
-fails_refuses theory proof before after th p a b status.Memory f = theory_fault status.Memory tt
-fails_refuses theory proof before after th p a b s f = absurd f
-
-fails_quiet : (th : Theory) (p : Proof) (before after : ShelfState) (s : Status) → IsQuiet before after → Fails th p s → IsQuietBut before after s
-fails_quiet th p before after (status.Refused n) q f = q
-fails_quiet th p before after status.Memory q f = q
-fails_quiet th p before after s q f = absurd f
-
-pub judged_quiet : {A : Type 0} (th : Theory) (p : Proof) (before after : ShelfState) (r : Result A Status) → IsQuiet before after → IfErr r (Fails th p)
-    → IsQuietCall before after r
-judged_quiet th p before after (Ok x) q f = q
-judged_quiet th p before after (Err s) q f = fails_quiet th p before after s q f
 
 module _ (theory proof : List ℕ) (before after : ShelfState) where
   pub check_not_ok : (s : Status) → RefusesCheck theory proof before after s → s ≡ status.Ok → ⊥

@@ -3,6 +3,8 @@ pub mod Reporting
 pub mod Printing
 pub mod FileFaults
 pub mod WordRows
+pub mod ProofFiles
+pub mod Pieces
 pub mod Requests
 pub mod Proofs
 pub mod Agreeing

@@ -54,18 +54,6 @@ pub record Proves (report : Report) (th : Theory) (p : Proof) (text : List ℕ) 
   pub derived_behave : (ds : List Goal) → Contains derived ds → (g : Goal) → Contains ds g → Behaves th g.left g.right
   pub text_is : text ≡ report_text report th.signature p derived
 
--- The text is the report of a proof whose every certificate and step is an instance of its rule.
-pub record Reports (report : Report) (th : Theory) (p : Proof) (text : List ℕ) : Type 0 where
-  pub derived : List (List Goal)
-  pub accepted : Derives th p derived
-  pub text_is : text ≡ report_text report th.signature p derived
-
--- The status names the first step that is no instance of its rule, or memory ran out.
-abbrev pub Fails : Theory → Proof → Status → Type 0
-Fails th p (status.Refused n) = FirstFail th p n
-Fails th p status.Memory = Unit {0}
-Fails th p _ = ⊥
-
 -- The two files read, and the proof is accepted, with this text.
 pub record IsAccepted (report : Report) (theory proof : List ℕ) (text : List ℕ) (before : ShelfState) : Type 0 where
   pub th : Theory

@@ -1,5 +1,6 @@
 pub mod Status
 pub mod Files
+pub mod Intake
 pub mod Quiet
 pub mod TheoryFile
 pub mod ProofFile
@@ -8,6 +9,8 @@ pub mod Command
 pub mod Texts
 pub mod Delivery
 pub mod Check
+pub mod CheckProof
+pub mod Incoming
 pub mod Show
 pub mod Library
 pub mod Outcome

@@ -1,10 +1,12 @@
 //! A whole file, taken in pieces.
-ghost use Rattle.std.specs.Prelude.{◌≡◌, ◌⊎◌, ◌<◌, ◌≤◌, ◌+◌, ℕ, List, true, false, length};
-ghost use Rattle.std.specs.Prelude.{Some, IfOk, IfErr};
+ghost use Rattle.std.specs.Prelude.{◌≡◌, ◌⊎◌, ◌<◌, ◌≤◌, ◌+◌, ℕ, List, [], true, false, length};
+ghost use Rattle.std.specs.Prelude.{Some, IfOk, OnOk, IfErr};
 ghost use Rattle.circ_outer.specs.Shelf.{Struck, Missing, ShelfFrame};
 ghost use Rattle.circ_top.specs.Files.{IsUntaken};
+ghost use Rattle.circ_top.specs.Intake.{TakesBytes};
 ghost use Rattle.circ_top.specs.Quiet.{IsQuietCall, IsQuietTaking};
 
+use crate::intake::Intake;
 use crate::status::Status;
 use circ_outer::{OuterFault, Shelf};
 use std::alloc::{AllocError, Global};
@@ -29,8 +31,30 @@ pub(crate) fn take_file<S: Shelf>(
     ensures quiet { IsQuietCall (S.state shelf.old) (S.state shelf.new) result }
     ensures frame { ShelfFrame (S.state shelf.old) (S.state shelf.new) }
 {
-    match read_file(alloc, shelf, name) {
-        Ok(bytes) => Ok(bytes),
+    let mut bytes = Vec::new(alloc);
+    match take_into(alloc, shelf, file, name, &mut bytes) {
+        Ok(()) => Ok(bytes),
+        Err(status) => Err(status),
+    }
+}
+
+/// Gives all the bytes of a file to what takes them, or says why there are none.
+pub(crate) fn take_into<S: Shelf, I: Intake>(
+    alloc: Global,
+    shelf: &mut S,
+    file: u8,
+    name: &str,
+    into: &mut I,
+) -> Result<(), Status>
+    requires { I.takes into.old [] into.old }
+    ensures taken { OnOk result (TakesBytes name.now (S.state shelf.old)
+        (λ bytes. I.takes into.old bytes into.new)) }
+    ensures fault { IfErr result (IsUntaken file name.now (S.state shelf.old) (S.state shelf.new)) }
+    ensures quiet { IsQuietCall (S.state shelf.old) (S.state shelf.new) result }
+    ensures frame { ShelfFrame (S.state shelf.old) (S.state shelf.new) }
+{
+    match read_file(alloc, shelf, name, into) {
+        Ok(()) => Ok(()),
         Err(FileFault::Failed) => Err(Status::ReadFault {
             count: shelf.faults(),
         }),
@@ -74,11 +98,16 @@ impl From<OuterFault> for FileFault {
     }
 }
 
-/// All the bytes of a file.
-fn read_file<S: Shelf>(alloc: Global, shelf: &mut S, name: &str) -> Result<Vec<u8>, FileFault>
-    ensures content { IfOk result (λ v. (S.state shelf.old).tells ≡ true →
-        (S.state shelf.old).holds name.now ≡ Some v.items) }
-    ensures short { IfOk result (λ v. length v.items ≤ MOST_BYTES) }
+/// Gives all the bytes of a file.
+fn read_file<S: Shelf, I: Intake>(
+    alloc: Global,
+    shelf: &mut S,
+    name: &str,
+    into: &mut I,
+) -> Result<(), FileFault>
+    requires { I.takes into.old [] into.old }
+    ensures taken { OnOk result (TakesBytes name.now (S.state shelf.old)
+        (λ bytes. I.takes into.old bytes into.new)) }
 
     // The count of a file that is too long lies within one piece past the limit, and within the
     // file.
@@ -95,19 +124,20 @@ fn read_file<S: Shelf>(alloc: Global, shelf: &mut S, name: &str) -> Result<Vec<u
     ensures frame { ShelfFrame (S.state shelf.old) (S.state shelf.new) }
 {
     shelf.begin(name)?;
-    let mut bytes = Vec::new(alloc);
     let mut buf = buffer(alloc)?;
+    let mut count = 0;
     loop {
         let n = shelf.piece(&mut buf)?;
         if n == 0 {
-            return Ok(bytes);
+            return Ok(());
         }
-        if n > MOST_BYTES - bytes.len() {
+        if n > MOST_BYTES - count {
             return Err(FileFault::TooLong {
-                count: (bytes.len() + n) as u64,
+                count: (count + n) as u64,
             });
         }
-        bytes.extend_from_slice(&buf[..n])?;
+        into.give(&buf[..n])?;
+        count += n;
     }
 }
 

@@ -4,9 +4,10 @@
 mod check;
 mod command;
 mod files;
+mod incoming;
+mod intake;
 pub mod laws;
 mod library;
-mod proof_file;
 mod request;
 mod show;
 mod status;
