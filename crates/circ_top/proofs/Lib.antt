@@ -3,6 +3,7 @@ pub mod Reporting
 pub mod Printing
 pub mod FileFaults
 pub mod WordRows
+pub mod PlainWords
 pub mod Requests
 pub mod Proofs
 pub mod Agreeing
