@@ -1,5 +1,5 @@
 -- What `clap` makes of words that are taken as they stand.
-use Rattle.std.proofs.Common.{◌≡◌, ℕ, List, [], ◌∷◌, false, codes, refl, ap, None}
+use Rattle.std.proofs.Common.{◌≡◌, ℕ, List, [], ◌∷◌, false, codes, refl, ap, Some, None}
 use Rattle.std.proofs.lemmas.Bool.{ne_eqb}
 use Rattle.std.specs.Str.{bytes_eq}
 use Rattle.clap.specs.Faults.{walk_fault, defaults_fault}
@@ -34,12 +34,12 @@ module _ (program name : List ℕ) where
         limits = usual_limits;
         name = name;
         given = word ∷ [];
-        taken = rw (n.not_minuses, n.not_long, n.not_short, a.not_minuses, a.not_long, a.not_short) refl;
+        taken = rw (n.not_minuses, n.not_long, n.not_short, a.not_minuses, a.not_long, a.not_short) (refl {a = []});
         finds = record {
           steps = rw (n.not_minuses, n.not_long, n.not_short, a.not_minuses, a.not_long, a.not_short) refl;
           derives = rw (n.not_minuses, n.not_long, n.not_short, a.not_minuses, a.not_long, a.not_short) refl;
-          name_is = rw (n.not_minuses, n.not_long, n.not_short, a.not_minuses, a.not_long, a.not_short) refl;
-          given_are = rw (n.not_minuses, n.not_long, n.not_short, a.not_minuses, a.not_long, a.not_short) refl;
+          name_is = rw (n.not_minuses, n.not_long, n.not_short, a.not_minuses, a.not_long, a.not_short) (refl {a = Some name});
+          given_are = rw (n.not_minuses, n.not_long, n.not_short, a.not_minuses, a.not_long, a.not_short) (refl {a = Some (word ∷ [])});
         };
         is = i;
       }
@@ -55,12 +55,12 @@ module _ (program name : List ℕ) where
         limits = usual_limits;
         name = name;
         given = first ∷ second ∷ [];
-        taken = rw (n.not_minuses, n.not_long, n.not_short, a.not_minuses, a.not_long, a.not_short, b.not_minuses, b.not_long, b.not_short) refl;
+        taken = rw (n.not_minuses, n.not_long, n.not_short, a.not_minuses, a.not_long, a.not_short, b.not_minuses, b.not_long, b.not_short) (refl {a = []});
         finds = record {
           steps = rw (n.not_minuses, n.not_long, n.not_short, a.not_minuses, a.not_long, a.not_short, b.not_minuses, b.not_long, b.not_short) refl;
           derives = rw (n.not_minuses, n.not_long, n.not_short, a.not_minuses, a.not_long, a.not_short, b.not_minuses, b.not_long, b.not_short) refl;
-          name_is = rw (n.not_minuses, n.not_long, n.not_short, a.not_minuses, a.not_long, a.not_short, b.not_minuses, b.not_long, b.not_short) refl;
-          given_are = rw (n.not_minuses, n.not_long, n.not_short, a.not_minuses, a.not_long, a.not_short, b.not_minuses, b.not_long, b.not_short) refl;
+          name_is = rw (n.not_minuses, n.not_long, n.not_short, a.not_minuses, a.not_long, a.not_short, b.not_minuses, b.not_long, b.not_short) (refl {a = Some name});
+          given_are = rw (n.not_minuses, n.not_long, n.not_short, a.not_minuses, a.not_long, a.not_short, b.not_minuses, b.not_long, b.not_short) (refl {a = Some (first ∷ second ∷ [])});
         };
         is = i;
       }
