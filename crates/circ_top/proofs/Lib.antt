@@ -5,6 +5,7 @@ pub mod FileFaults
 pub mod WordRows
 pub mod ProofFiles
 pub mod Pieces
+pub mod PlainWords
 pub mod Requests
 pub mod Proofs
 pub mod Agreeing

@@ -6,6 +6,7 @@ pub mod TheoryFile
 pub mod ProofFile
 pub mod Words
 pub mod Command
+pub mod PlainWords
 pub mod Texts
 pub mod Delivery
 pub mod Check

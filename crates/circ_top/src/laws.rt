@@ -1,5 +1,5 @@
 //! Laws on the definitions behind the clauses of `circ`.
-ghost use Rattle.std.specs.Prelude.{◌≡◌, ℕ, List};
+ghost use Rattle.std.specs.Prelude.{◌≡◌, ℕ, List, [], ◌∷◌, codes};
 ghost use Rattle.circ_term.specs.declared.TheConstants.{MOST_NODES, MOST_DEPTH};
 ghost use Rattle.circ_term.specs.declared.TheConstants.{MOST_ARGS as MOST_TERM_ARGS};
 ghost use Rattle.circ_theory.specs.declared.TheConstants.{MOST_SORTS, MOST_VARS, MOST_OPS};
@@ -7,9 +7,11 @@ ghost use Rattle.circ_theory.specs.declared.TheConstants.{MOST_EQUATIONS, MOST_A
 ghost use Rattle.circ_theory.specs.declared.TheConstants.{MOST_DERIVATIVES, MOST_PARAMS};
 ghost use Rattle.circ_theory.specs.declared.TheConstants.{MOST_CASES};
 ghost use Rattle.circ_chart.specs.declared.TheConstants.{MOST_TOKENS};
+ghost use Rattle.circ_top.specs.Command.{Command, IsCommand, Asks, IsNoCommand};
 ghost use Rattle.circ_top.specs.Complete.{HasOutcome};
 ghost use Rattle.circ_top.specs.Files.{Held};
 ghost use Rattle.circ_top.specs.InMemory.{HoldsFiles};
+ghost use Rattle.circ_top.specs.PlainWords.{IsPlainWord, usual_limits};
 ghost use Rattle.circ_top.specs.declared.files.TheConstants.{MOST_BYTES, PIECE};
 
 use circ_proof_text::laws::nothing_left_out as nothing_left_out_of_texts;
@@ -45,3 +47,19 @@ pub fn nothing_left_out()
     nothing_left_out_of_texts();
     nothing_left_out_of_proofs();
 }
+
+/// Words that do not begin with `-` are taken as they stand, and behind `--` so is every word. No
+/// words ask for nothing.
+pub fn words_as_they_stand()
+    ensures none { IsNoCommand [] }
+    ensures one { (program name word : List ℕ) → IsPlainWord name → IsPlainWord word →
+        (c : Command) → IsCommand usual_limits name (word ∷ []) c →
+        Asks (program ∷ name ∷ word ∷ []) c }
+    ensures two { (program name first second : List ℕ) →
+        IsPlainWord name → IsPlainWord first → IsPlainWord second →
+        (c : Command) → IsCommand usual_limits name (first ∷ second ∷ []) c →
+        Asks (program ∷ name ∷ first ∷ second ∷ []) c }
+    ensures behind_minuses { (program name first second : List ℕ) →
+        (c : Command) → IsCommand usual_limits name (first ∷ second ∷ []) c →
+        Asks (program ∷ codes "--" ∷ name ∷ first ∷ second ∷ []) c }
+{}

@@ -5,20 +5,25 @@ ghost use Rattle.clap.specs.Faults.{fault_of};
 ghost use Rattle.clap.specs.Matches.{found_of};
 ghost use Rattle.clap.specs.Simple.{app_of, matches_of};
 ghost use Rattle.clap.specs.Walk.{rule_of, rows_of};
-ghost use Rattle.circ_top.specs.Words.{steps_rule, derives_rule, command_rule, words_rule, circ_app};
-ghost use Rattle.circ_top.specs.Words.{IsBudget, IsNoBudget, IsNoNumber, Finds, FindsNothing};
+ghost use Rattle.circ_top.specs.Words.{steps_rule, derives_rule, command_rule, words_rule};
+ghost use Rattle.circ_top.specs.Words.{circ_app, IsBudget, IsNoBudget, IsNoNumber};
+ghost use Rattle.circ_top.specs.Words.{Finds, FindsNothing};
 
 use clap::error::ErrorKind;
 use clap::{Arg, ArgMatches, Command};
 use itoa::Buffer;
 use std::alloc::{AllocError, Global};
 
-/// The steps that a search may make where the words do not say it, and the most that they may say.
+/// The steps that a search may make where the words do not say it.
 const STEPS: u64 = 100_000;
+
+/// The most steps that the words may say.
 const MOST_STEPS: u64 = 1_000_000;
 
-/// The same of derivations.
+/// The derivations that a search may make where the words do not say it.
 const DERIVES: u64 = 256;
+
+/// The most derivations that the words may say.
 const MOST_DERIVES: u64 = 10_000;
 
 /// How many steps and derivations a search may make.
@@ -37,10 +42,7 @@ pub struct Words<'m, 'a> {
 }
 
 /// What `clap` finds in the words. None exactly where it refuses them.
-pub fn matches<'a>(
-    alloc: Global,
-    words: &'a [String],
-) -> Result<Option<ArgMatches<'a>>, AllocError>
+pub fn matches<'a>(alloc: Global, words: &'a [String]) -> Result<Option<ArgMatches<'a>>, AllocError>
     ensures { IfOk result (λ o. MatchOption o
         (fault_of circ_app (map string_bytes words.now) ≢ [])
         (λ m. (fault_of circ_app (map string_bytes words.now) ≡ [])
