@@ -1,6 +1,5 @@
 -- Proofs that are written and read.
-use Rattle.std.specs.Prelude.{◌≡◌, ℕ, List, Result, Ok, Err, refl}
-use Rattle.std.proofs.Common.{sym}
+use Rattle.std.specs.Prelude.{Result, Ok, Err, refl}
 use Rattle.circ_theory.specs.Theory.{Theory}
 use Rattle.circ_theory.specs.WellFormed.{IsWellFormed}
 use Rattle.circ_rules.specs.Plain.{plain_proof}

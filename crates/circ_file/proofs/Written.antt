@@ -1,17 +1,17 @@
 -- Text that is written line by line.
-use Rattle.std.specs.Prelude.{◌≡◌, ◌≢◌, ℕ, ◌+◌, ◌-◌, ◌<◌, ◌≤◌, zero, suc, List, [], ◌∷◌, ◌++◌, length, map, refl}
+use Rattle.std.specs.Prelude.{◌≡◌, ℕ, ◌+◌, ◌<◌, ◌≤◌, zero, suc, List, [], ◌∷◌, ◌++◌, length, map, refl}
 use Rattle.std.specs.List.{AllByRecursion}
 use Rattle.std.proofs.Common.{ap, sym, subst, ◌∙◌, arith, append_assoc, drop, get_or}
 use Rattle.std.proofs.lemmas.List.{drop_all}
 use Rattle.circ_term.proofs.Within.{drop_read}
-use Rattle.circ_replay.specs.Plain.{WhyOf, WhysOf, Split_why, plain_why, plain_whys}
+use Rattle.circ_replay.specs.Plain.{plain_why, plain_whys}
 use Rattle.circ_replay.specs.declared.links.Why.{Why}
 use Rattle.circ_rules.specs.Rules.{ProofStep, Simplify, Reduce, Derive, Done}
 use Rattle.circ_rules.specs.Proof.{IsWhyFor, AreWhysFor, IsEnded}
 use Rattle.circ_rules.specs.Proof as rules
 use Rattle.circ_line.specs.Line.{Line, simplify_line, reduce_line, derive_line, done_line}
 use Rattle.circ_line.specs.Text.{line_text}
-use Rattle.circ_grammar.specs.Grammar.{lines_of, chain_lines, why_lines, whys_lines, step_lines}
+use Rattle.circ_grammar.specs.Grammar.{lines_of, chain_lines, why_lines, step_lines}
 use Rattle.circ_grammar.specs.FirstBad.{file_text}
 use Rattle.circ_proof_text.specs.ProofText.{without_done}
 use Rattle.circ_file.specs.Writing.{Writes, lines_of_step}

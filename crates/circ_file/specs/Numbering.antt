@@ -1,5 +1,5 @@
 -- The first lines of a table that have its terms.
-use Rattle.std.specs.Prelude.{◌≡◌, ◌≤◌, ℕ, Bool, true, List, length, Some}
+use Rattle.std.specs.Prelude.{◌≡◌, ◌≤◌, ℕ, true, List, length, Some}
 use Rattle.std.specs.List.{slice_get, AllByRecursion}
 use Rattle.circ_term.specs.Tree.{Tree, args_of}
 use Rattle.circ_replay.specs.Table.{has, number_in, term_limit}

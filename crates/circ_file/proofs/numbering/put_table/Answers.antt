@@ -1,4 +1,4 @@
-use Rattle.std.proofs.Common.{◌≡◌, ◌<◌, ◌+◌, ◌++◌, ◌∷◌, [], ◌∙◌, List, length, length-append, take, drop, ap, sym, subst, arith}
+use Rattle.std.proofs.Common.{◌+◌, ◌++◌, ◌∷◌, [], ◌∙◌, List, length, length-append, take, drop, ap, sym, subst, arith}
 use Rattle.std.proofs.lemmas.List.{take-append-drop, drop_all}
 use Rattle.circ_term.specs.Tree.{Tree}
 use Rattle.circ_term.proofs.Within.{drop_read}

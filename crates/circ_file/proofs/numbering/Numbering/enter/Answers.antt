@@ -1,4 +1,4 @@
-use Rattle.std.proofs.Common.{◌≡◌, ◌<◌, ◌≤◌, ◌++◌, ◌∷◌, [], ◌∙◌, ℕ, List, length, length-append, ap, sym, subst, arith}
+use Rattle.std.proofs.Common.{◌<◌, ◌≤◌, ◌++◌, ◌∷◌, [], ◌∙◌, ℕ, List, length, length-append, ap, sym, subst, arith}
 use Rattle.circ_file.specs.Numbering.{AreNumbered}
 use Rattle.circ_file.proofs.Numbered.{entry_grown, entered_old, entered_new}
 use Rattle.circ_file.proofs.numbering.Numbering.enter.Goals as goal
