@@ -14,6 +14,7 @@ use circ_mixfix::{ParseFault, Reading, parse_one, parse_pair, print};
 use circ_outer::{SureShelf, SureSink};
 use circ_read::read_theory;
 use circ_replay::{Chain, Link, TableBuilder, Why, follow, follow_all, follow_why};
+use circ_rewrite::normalise;
 use circ_rules::Proof;
 use circ_show::unobserved;
 use circ_special::Gamma;
@@ -276,6 +277,31 @@ fn is_written(alloc: Global, theory: &Theory, bytes: &[u8]) -> bool {
 fn proofs(rt: HostRuntime) {
     let theory = read_theory(rt.alloc(), SETS);
     assert!(rt; theory.is_ok_and(|theory| is_written(rt.alloc(), &theory, ITSELF)));
+}
+
+// Whether the term becomes `B` where `A` is assumed to be `B`, by three of ten replacements.
+fn becomes_b(alloc: Global, theory: &Theory, term: &Term) -> bool {
+    let assumption = Goal {
+        left: Term::var(0, 0),
+        right: Term::var(1, 0),
+    };
+    let mut budget = 10;
+    match normalise(alloc, theory, &[], &[assumption], term, &mut budget) {
+        Ok(normal) => normal.term.var_number() == Some(1) && budget == 7,
+        Err(_) => false,
+    }
+}
+
+fn sum_becomes_b(alloc: Global, theory: &Theory) -> Result<bool, TermFault> {
+    let two = sum(alloc, Term::var(0, 0), Term::var(1, 0))?;
+    let three = sum(alloc, Term::var(1, 0), two)?;
+    Ok(becomes_b(alloc, theory, &three))
+}
+
+#[test]
+fn normal_forms(rt: HostRuntime) {
+    let theory = read_theory(rt.alloc(), SETS);
+    assert!(rt; theory.is_ok_and(|theory| sum_becomes_b(rt.alloc(), &theory).is_ok_and(|b| b)));
 }
 
 // Whether a link from a variable to itself, by its content, is followed alone and in a list.
