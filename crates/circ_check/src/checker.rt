@@ -176,11 +176,7 @@ impl<'a> Checker<'a> {
     }
 
     // A block with these goals. After a step that failed it is begun in name alone.
-    fn begin_block(
-        &mut self,
-        goals: Vec<Goal>,
-        names: &[(u32, u32)],
-    ) -> Result<(), AllocError>
+    fn begin_block(&mut self, goals: Vec<Goal>, names: &[(u32, u32)]) -> Result<(), AllocError>
         requires hyps_sorted { AreSortedGoals self.old.theory.now
             (take self.old.earlier self.old.state.hyps.items ++ self.old.own.items) }
         requires goals_sorted { AreSortedGoals self.old.theory.now goals.items }
