@@ -1,5 +1,5 @@
 -- How the answer that is due and the outcome agree.
-use Rattle.std.proofs.Common.{◌≡◌, ℕ, List, [], ◌∷◌, ◌++◌, refl, sym, ◌∙◌, subst, append-nil, true, Option, None, Result, Err}
+use Rattle.std.proofs.Common.{◌≡◌, ℕ, List, [], ◌∷◌, ◌++◌, refl, sym, subst, append-nil, true, Option, None, Result, Err}
 use Rattle.circ_outer.specs.Count.{Rose}
 use Rattle.circ_outer.specs.Shelf.{ShelfState}
 use Rattle.circ_outer.specs.Sink.{SinkState}

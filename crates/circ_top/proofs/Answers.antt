@@ -6,7 +6,7 @@ use Rattle.circ_theory.specs.Theory.{Theory}
 use Rattle.circ_theory.specs.declared.parts.Goal.{Goal}
 use Rattle.circ_rules.specs.Proof.{Proof}
 use Rattle.circ_rules.specs.Accepted.{Derives, FirstFail}
-use Rattle.circ_top.specs.Answer.{Succeeds, RefusesCommand, DueAnswer, no_command, success, refusal, AnswersDue, Succeeded}
+use Rattle.circ_top.specs.Answer.{Succeeds, RefusesCommand, DueAnswer, no_command, success, refusal, words_unread, AnswersDue, Succeeded}
 use Rattle.circ_top.specs.Causes.{AtFile, IsPastLimit, IsReadFault, IsWriteFault}
 use Rattle.circ_top.specs.Check.{report_text, refused, accepted, Accepts, Rejects, FilesRead}
 use Rattle.circ_top.specs.Command.{Command, Check, Show, Library, Asks}
@@ -68,6 +68,7 @@ module _ (words : List (List ℕ)) (before after : ShelfState) (start end : Sink
       go _ text stored (success c _ _ i s) h _ (whole p) e q =
           record { command = c; text = text; stored = stored; asks = i; succeeds = s; held = h; quiet = q; prints = p }
       go _ _ _ (refusal c s i f) h _ (whole p) e q = absurd (command_not_ok before after c s f e)
+      go _ _ _ words_unread h _ (whole p) e q = absurd (cc)
       go d text stored x h _ (write_failed n some i rose p) e q = absurd (cc)
       go d text stored x h _ (memory_wanted m p) e q = absurd (cc)
       go d text stored x h _ (text_wanted p) e q = absurd (cc)
@@ -97,6 +98,7 @@ module _ (words : List (List ℕ)) (before after : ShelfState) (start end : Sink
       go _ _ _ (no_command m) _ (whole p) e q = absurd (cc)
       go _ text stored (success c _ _ i s) _ (whole p) e q = absurd (cc)
       go _ _ _ (refusal c s i f) _ (whole p) e q = rejects c s i f e p q
+      go _ _ _ words_unread _ (whole p) e q = absurd (cc)
       go d text stored x _ (write_failed m some i rose p) e q = absurd (cc)
       go d text stored x _ (memory_wanted m p) e q = absurd (cc)
       go d text stored x _ (text_wanted p) e q = absurd (cc)
@@ -112,6 +114,7 @@ module _ (words : List (List ℕ)) (before after : ShelfState) (start end : Sink
           let u = unread_command before after c s n f e in
           let P : Status → Type 0 = λ x. Prints (refusal_text c x) start end in
           record { command = c; asks = i; unread = u.1; counted = u.0; nothing = subst P e p }
+      go _ _ _ words_unread _ (whole p) e = absurd (cc)
       go d text stored x _ (write_failed m some i rose p) e = absurd (cc)
       go d text stored x _ (memory_wanted m p) e = absurd (cc)
       go d text stored x _ (text_wanted p) e = absurd (cc)
@@ -124,6 +127,7 @@ module _ (words : List (List ℕ)) (before after : ShelfState) (start end : Sink
       go _ _ _ (no_command m) _ (whole p) e = absurd (cc)
       go _ text stored (success c _ _ i s) _ (whole p) e = absurd (cc)
       go _ _ _ (refusal c s i f) _ (whole p) e = record { command = c; asks = i; past = past_command before after c s file n f e }
+      go _ _ _ words_unread _ (whole p) e = absurd (cc)
       go d text stored x _ (write_failed m some i rose p) e = absurd (cc)
       go d text stored x _ (memory_wanted m p) e = absurd (cc)
       go d text stored x _ (text_wanted p) e = absurd (cc)
@@ -142,6 +146,7 @@ module _ (words : List (List ℕ)) (before after : ShelfState) (start end : Sink
       go _ _ _ (no_command m) h _ (whole p) e = absurd (cc)
       go _ text stored (success c _ _ i s) h _ (whole p) e = absurd (cc)
       go _ _ _ (refusal c s i f) h _ (whole p) e = absurd (unwritten_command before after c s n f e)
+      go _ _ _ words_unread h _ (whole p) e = absurd (cc)
       go d text stored x h _ (write_failed m some c rose p) e =
           let same : m ≡ n = cc in
           record {

@@ -1,5 +1,5 @@
 -- What `check` answers, and its outcome.
-use Rattle.std.proofs.Common.{◌≡◌, ℕ, List, [], refl, ap, sym, ◌∙◌, subst, inl, inr, true, None, Result, Ok, Err}
+use Rattle.std.proofs.Common.{◌≡◌, ℕ, List, refl, ap, sym, ◌∙◌, subst, inl, inr, true, None, Result, Ok, Err}
 use Rattle.std.specs.Prelude.{IfErr}
 use Rattle.circ_outer.specs.Shelf.{ShelfState, IsQuiet}
 use Rattle.circ_theory.specs.Theory.{Theory}

@@ -1,5 +1,5 @@
 -- No run is without an outcome.
-use Rattle.std.proofs.Common.{◌≡◌, ◌<◌, ◌≤◌, ◌+◌, ◌⊎◌, ℕ, List, [], ◌∷◌, ◌++◌, length, map, inl, inr, refl, arith, Option, Some, None}
+use Rattle.std.proofs.Common.{◌≡◌, ◌<◌, ◌≤◌, ◌+◌, ◌⊎◌, ℕ, List, length, inl, inr, refl, arith, Option, Some, None}
 use Rattle.std.specs.Prelude.{IsSome}
 use Rattle.circ_theory.specs.Theory.{Theory}
 use Rattle.circ_grammar.specs.FirstBad.{LineFault, Line_fault, Limit_fault}

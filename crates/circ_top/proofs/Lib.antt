@@ -2,6 +2,7 @@ pub mod Rules
 pub mod Reporting
 pub mod Printing
 pub mod FileFaults
+pub mod WordRows
 pub mod Requests
 pub mod Proofs
 pub mod Agreeing

@@ -2,7 +2,7 @@
 use Rattle.std.proofs.Common.{◌≡◌, ℕ, List, refl, sym, ◌∙◌, subst, true, Option, None}
 use Rattle.circ_outer.specs.Shelf.{ShelfState}
 use Rattle.circ_outer.specs.Sink.{SinkState}
-use Rattle.circ_top.specs.Answer.{Succeeds, RefusesCommand, DueAnswer, no_command, success, refusal, AnswersDue}
+use Rattle.circ_top.specs.Answer.{Succeeds, RefusesCommand, DueAnswer, no_command, success, refusal, words_unread, AnswersDue}
 use Rattle.circ_top.specs.Causes.{PrintsOutcome, IsOutcomeOrFault, PrintsPartOf, AnswersOutcome}
 use Rattle.circ_top.specs.Command.{Command, Check, Show, Library, Asks}
 use Rattle.circ_top.specs.Delivery.{Delivers, whole, write_failed, memory_wanted, text_wanted}
@@ -37,6 +37,7 @@ due_is words before after _ _ _ t (no_command n) = outcome status.Usage usage_te
 due_is words before after _ text stored t (success c _ _ i a) =
     outcome status.Ok text stored (command c status.Ok text stored i (due_success c text stored before t a))
 due_is words before after s _ _ t (refusal c _ i r) = due_refusal words before after c s t i r
+due_is words before after _ _ _ t words_unread = no_memory_left
 
 -- a command that stores nothing
 stores_nothing : (held : List ℕ → Option (List ℕ)) (c : Command) (s : Status) (text : List ℕ) (stored : Option Stored) → OutcomeOf held c s text stored
@@ -61,6 +62,7 @@ due_stored : (words : List (List ℕ)) (before after : ShelfState) (s : Status) 
 due_stored words before after _ _ _ (no_command n) = refl
 due_stored words before after _ text stored (success c _ _ i a) = success_stored c text stored before a
 due_stored words before after _ _ _ (refusal c s i r) = refl
+due_stored words before after _ _ _ words_unread = refl
 
 module _ (once : ReadsOnce) (proofs : ProofsOnce) (printed_once : PrintsOnce) (words : List (List ℕ)) (before after : ShelfState) (t : before.tells ≡ true) where
   refusal_agrees : (c : Command) (s r : Status) (text : List ℕ) (stored : Option Stored) → OutcomeOf before.holds c s text stored
@@ -94,6 +96,7 @@ module _ (once : ReadsOnce) (proofs : ProofsOnce) (printed_once : PrintsOnce) (w
   due_agrees s r text _ stored _ (command c _ _ _ i x) (refusal d _ j f) =
       let P : Command → Type 0 = λ y. OutcomeOf before.holds y s text stored in
       refusal_agrees d s r text stored (subst P (same_command words c d i j) x) f
+  due_agrees s _ text _ stored _ x words_unread = memory
 
   pub answers_come : (start end : SinkState) (r : Status) → AnswersDue words before after start end r → (s : Status) (text : List ℕ) (stored : Option Stored)
       → Outcome words before.holds s text stored → AnswersOutcome before after start end s text stored r

@@ -1,8 +1,7 @@
 -- A part of a text.
-use Rattle.std.proofs.Common.{◌≡◌, ◌≢◌, ◌-◌, ℕ, List, [], ◌∷◌, ◌++◌, ◌+◌, length, map, take, drop, Some, sym, ap, refl, arith, ◌∙◌, append_assoc, Result, Ok, Err}
+use Rattle.std.proofs.Common.{◌≡◌, ◌≢◌, ◌-◌, ℕ, List, [], ◌++◌, length, take, drop, sym, ap, refl, arith, ◌∙◌, append_assoc, Result, Ok, Err}
 use Rattle.std.specs.Prelude.{is_ok, OnOk, if◌then◌else◌}
-use Rattle.std.proofs.lemmas.List.{take-append-drop, map-append, length-drop}
-use Rattle.std.specs.List.{slice_get}
+use Rattle.std.proofs.lemmas.List.{take-append-drop, length-drop}
 use Rattle.circ_outer.specs.Sink.{AppendsPrefix}
 
 pub prefix_front : (old new text : List ℕ) → AppendsPrefix old new text

@@ -1,5 +1,5 @@
 -- That proofs read in one way, and come to one thing, as the laws of the crates below say.
-use Rattle.std.proofs.Common.{◌≡◌, ℕ, List, refl, sym, subst}
+use Rattle.std.proofs.Common.{◌≡◌, ℕ, List}
 use Rattle.circ_theory.specs.Theory.{Theory}
 use Rattle.circ_theory.specs.WellFormed.{IsWellFormed}
 use Rattle.circ_theory.specs.declared.parts.Goal.{Goal}
@@ -9,7 +9,7 @@ use Rattle.circ_rules.specs.Accepted.{Accepted, Derives, FirstFail}
 use Rattle.circ_proof_text.specs.ProofText.{ReadsAsProof, FirstCause}
 use Rattle.circ_read.specs.declared.cause.Cause.{Cause}
 use Rattle.circ_read.specs.declared.cause.Cause.TheVariants as cause
-use Rattle.circ_top.specs.Like.{IsLikeCause, same_cause}
+use Rattle.circ_top.specs.Like.{same_cause}
 use Rattle.circ_top.specs.ProofFile.{ProofRefusal}
 use Rattle.circ_top.proofs.FileFaults.{IsOneWay}
 

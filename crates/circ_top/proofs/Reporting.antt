@@ -1,6 +1,5 @@
 -- What is printed of an accepted proof, by what stands in memory.
 use Rattle.std.proofs.Common.{◌≡◌, List, [], ◌∷◌, map, refl, ap, Vec}
-use Rattle.circ_theory.specs.Theory.{Pair}
 use Rattle.circ_theory.specs.declared.parts.Goal.{Goal}
 use Rattle.circ_rules.specs.Plain.{plain_block}
 use Rattle.circ_rules.specs.declared.proof.Block.{Block}

@@ -1,63 +1,24 @@
 -- What words ask for.
-use Rattle.std.proofs.Common.{◌≡◌, ℕ, List, [], ◌∷◌, length, map, get_or, codes, refl, ap, sym, ◌∙◌, arith, Some, None}
-use Rattle.std.proofs.lemmas.List.{length-map}
+use Rattle.std.proofs.Common.{◌≡◌, ◌<◌, ◌^◌, ℕ, List, [], ◌∷◌, length, codes, refl, ap, ap₂, sym, ◌∙◌, arith, Option, Some, None}
+use Rattle.std.specs.Prelude.{MatchOption}
+use Rattle.std.proofs.lemmas.Fmt.{decimal_injective}
 use Rattle.std.proofs.lemmas.Option.{same_Some}
+use Rattle.clap.specs.Faults.{fault_of}
+use Rattle.clap.specs.Simple.{matches_of}
+use Rattle.clap.specs.Walk.{Row, first_of}
 use Rattle.circ_lib.specs.Library.{library_text}
-use Rattle.circ_top.specs.Command.{Command, Library, Asks, check, show, library, IsNoCommand, report_name, IsNoReport}
+use Rattle.circ_top.specs.Command.{Command, Library, IsCommand, check, show, library, IsNoneOfTable, report_name, Asks, IsNoCommand, plain_request}
+use Rattle.circ_top.specs.Words.{circ_app, IsBudget, Finds, FindsNothing}
 use Rattle.circ_top.specs.declared.request.Report.{Report}
 use Rattle.circ_top.specs.declared.request.Report.TheVariants.{Goals, Relation}
+use Rattle.circ_top.specs.declared.request.Request.{Request}
+use Rattle.circ_top.specs.declared.words.Limits.{Limits}
 
--- three words, of which two are known
-pub three_words : {X : Type 0} (f : X → List ℕ) (xs : List X) (b c : X) → length xs ≡ 3 → b ≡ get_or xs 1 b → c ≡ get_or xs 2 c
-    → (a : List ℕ) × (map f xs ≡ a ∷ f b ∷ f c ∷ [])
-three_words f [] b c n e g = absurd (omega arith)
-three_words f (x ∷ []) b c n e g = absurd (omega arith)
-three_words f (x ∷ y ∷ []) b c n e g = absurd (omega arith)
-three_words f (x ∷ y ∷ z ∷ []) b c n e g = (f x, rw (e, g) refl)
-three_words f (x ∷ y ∷ z ∷ w ∷ ws) b c n e g = absurd (omega arith)
+other_length : (given : List (List ℕ)) (a b c : List ℕ) → given ≡ a ∷ b ∷ [] → given ≡ c ∷ [] → ⊥
+other_length given a b c e f = let never : 2 ≡ 1 = ap length (sym e ∙ f) in omega (arith, never)
 
--- four words, of which three are known
-pub four_words : {X : Type 0} (f : X → List ℕ) (xs : List X) (b c d : X) → length xs ≡ 4 → b ≡ get_or xs 1 b → c ≡ get_or xs 2 c → d ≡ get_or xs 3 d
-    → (a : List ℕ) × (map f xs ≡ a ∷ f b ∷ f c ∷ f d ∷ [])
-four_words f [] b c d n e g h = absurd (omega arith)
-four_words f (x ∷ []) b c d n e g h = absurd (omega arith)
-four_words f (x ∷ y ∷ []) b c d n e g h = absurd (omega arith)
-four_words f (x ∷ y ∷ z ∷ []) b c d n e g h = absurd (omega arith)
-four_words f (x ∷ y ∷ z ∷ w ∷ []) b c d n e g h = (f x, rw (e, g, h) refl)
-four_words f (x ∷ y ∷ z ∷ w ∷ v ∷ vs) b c d n e g h = absurd (omega arith)
-
-pub given_three : (ws : List (List ℕ)) (a b c p q : List ℕ) → ws ≡ a ∷ b ∷ c ∷ [] → b ≡ p → c ≡ q → ws ≡ a ∷ p ∷ q ∷ []
-given_three ws a b c p q e f g = rw (← f, ← g) e
-
-pub given_four : (ws : List (List ℕ)) (a b c d p q r : List ℕ) → ws ≡ a ∷ b ∷ c ∷ d ∷ [] → b ≡ p → c ≡ q → d ≡ r → ws ≡ a ∷ p ∷ q ∷ r ∷ []
-given_four ws a b c d p q r e f g h = rw (← f, ← g, ← h) e
-
-pub none_of_three : (ws : List (List ℕ)) (a n o : List ℕ) → ws ≡ a ∷ n ∷ o ∷ [] → (n ≡ codes "show" → ⊥) → (n ≡ codes "library" → library_text o ≡ None)
-    → IsNoCommand ws
-none_of_three ws a n o e f g _ (check r p t q i) = let never : 3 ≡ 4 = ap length (sym e ∙ i) in omega (arith, never)
-none_of_three ws a n o e f g _ (show p t i) = let k = sym e ∙ i in f (cc)
-none_of_three ws a n o e f g _ (library p name text i l) =
-    let k = sym e ∙ i in
-    let m : n ≡ codes "library" = cc in
-    let same : o ≡ name = cc in
-    let never : Some text ≡ None = sym l ∙ ap library_text (sym same) ∙ g m in
-    cc
-
-pub none_of_four : (ws : List (List ℕ)) (a n o q : List ℕ) → ws ≡ a ∷ n ∷ o ∷ q ∷ [] → IsNoReport n → IsNoCommand ws
-none_of_four ws a n o q e f _ (check r p t u i) = let k = sym e ∙ i in f r (cc)
-none_of_four ws a n o q e f _ (show p t i) = let never : 4 ≡ 3 = ap length (sym e ∙ i) in omega (arith, never)
-none_of_four ws a n o q e f _ (library p name text i l) = let never : 4 ≡ 3 = ap length (sym e ∙ i) in omega (arith, never)
-
-pub none_of_others : {X : Type 0} (f : X → List ℕ) (xs : List X) → (length xs ≡ 3 → ⊥) → (length xs ≡ 4 → ⊥) → IsNoCommand (map f xs)
-none_of_others f xs g h _ (check r p t q i) = h (sym (length-map xs f) ∙ ap length i)
-none_of_others f xs g h _ (show p t i) = g (sym (length-map xs f) ∙ ap length i)
-none_of_others f xs g h _ (library p name text i l) = g (sym (length-map xs f) ∙ ap length i)
-
-other_length : (ws : List (List ℕ)) (a b c d p q r : List ℕ) → ws ≡ a ∷ b ∷ c ∷ d ∷ [] → ws ≡ p ∷ q ∷ r ∷ [] → ⊥
-other_length ws a b c d p q r e f = let never : 4 ≡ 3 = ap length (sym e ∙ f) in omega (arith, never)
-
-other_name : (u v p t : List ℕ) → u ∷ codes "show" ∷ v ∷ [] ≡ p ∷ codes "library" ∷ t ∷ [] → ⊥
-other_name u v p t e = let same : codes "show" ≡ codes "library" = cc in let never : 4 ≡ 7 = ap length same in omega (arith, never)
+other_name : (n : List ℕ) → n ≡ codes "show" → n ≡ codes "library" → ⊥
+other_name n e f = let never : 4 ≡ 7 = ap length (sym e ∙ f) in omega (arith, never)
 
 same_report : (r s : Report) → report_name r ≡ report_name s → r ≡ s
 same_report Goals Goals e = refl
@@ -65,21 +26,67 @@ same_report Goals Relation e = let never : 5 ≡ 8 = ap length e in absurd (omeg
 same_report Relation Goals e = let never : 8 ≡ 5 = ap length e in absurd (omega (arith, never))
 same_report Relation Relation e = refl
 
+-- a name and its words stand in the table once
+same_of_table : (k l : Limits) (n : List ℕ) (given : List (List ℕ)) (c d : Command) → IsCommand k n given c → IsCommand l n given d → c ≡ d
+same_of_table k l n given _ _ (check r t p e i) (check s u v f j) =
+    let a = sym i ∙ j in
+    let one : r ≡ s = same_report r s (sym e ∙ f) in
+    cc
+same_of_table k l n given _ _ (check r t p e i) (show u f j) = absurd (other_length given t p u i j)
+same_of_table k l n given _ _ (check r t p e i) (library u text f j m) = absurd (other_length given t p u i j)
+same_of_table k l n given _ _ (show u f j) (check r t p e i) = absurd (other_length given t p u i j)
+same_of_table k l n given _ _ (show t e i) (show u f j) = let a = sym i ∙ j in cc
+same_of_table k l n given _ _ (show t e i) (library u text f j m) = absurd (other_name n e f)
+same_of_table k l n given _ _ (library u text f j m) (check r t p e i) = absurd (other_length given t p u i j)
+same_of_table k l n given _ _ (library u text f j m) (show t e i) = absurd (other_name n e f)
+same_of_table k l n given _ _ (library t w e i h) (library u x f j m) =
+    let a = sym i ∙ j in
+    let same : t ≡ u = cc in
+    ap Library (same_Some w x (sym h ∙ ap library_text same ∙ m))
+
+-- `clap` finds one thing in the words
+same_budget : (usual most : ℕ) (value : Option (List ℕ)) (m n : ℕ) → most < 2 ^ 64 → IsBudget usual most value m → IsBudget usual most value n → m ≡ n
+same_budget usual most None m n small a b = a ∙ sym b
+same_budget usual most (Some text) m n small a b = decimal_injective m n (omega (arith, small, a.1)) (omega (arith, small, b.1)) (sym a.0 ∙ b.0)
+
+module _ (rows : List Row) (k l : Limits) (m n : List ℕ) (v w : List (List ℕ)) (f : Finds rows k m v) (g : Finds rows l n w) where
+  same_limits : k ≡ l
+  same_limits =
+      ap₂ (λ steps derives. record { steps = steps; derives = derives })
+      (same_budget 100000 1000000 (first_of (codes "steps") rows) k.steps l.steps (omega arith) f.steps g.steps)
+      (same_budget 256 10000 (first_of (codes "derives") rows) k.derives l.derives (omega arith) f.derives g.derives)
+
+  same_name : m ≡ n
+  same_name = same_Some m n (sym f.name_is ∙ g.name_is)
+
+  same_given : v ≡ w
+  same_given = same_Some v w (sym f.given_are ∙ g.given_are)
+
+module _ (ws : List (List ℕ)) (rows : List Row) (e : rows ≡ matches_of circ_app ws) where
+  -- what `clap` finds lacks a part
+  pub nothing_asked : FindsNothing rows → IsNoCommand ws
+  nothing_asked n c a = n a.limits a.name a.given (rw e a.finds)
+
+  module _ (limits : Limits) (name : List ℕ) (given : List (List ℕ)) (f : Finds rows limits name given) where
+    -- the table has nothing for what `clap` finds
+    none_asked : IsNoneOfTable limits name given → IsNoCommand ws
+    none_asked n c a =
+        let g : Finds rows a.limits a.name a.given = rw e a.finds in
+        let k = same_limits rows limits a.limits name a.name given a.given f g in
+        let m = same_name rows limits a.limits name a.name given a.given f g in
+        let v = same_given rows limits a.limits name a.name given a.given f g in
+        n c (rw (k, m, v) a.is)
+
+    -- what the table has for what `clap` finds
+    pub asked_by_table : (o : Option Request) → fault_of circ_app ws ≡ []
+        → MatchOption o (IsNoneOfTable limits name given) (λ r. IsCommand limits name given (plain_request r))
+        → MatchOption o (IsNoCommand ws) (λ r. Asks ws (plain_request r))
+    asked_by_table None t n = none_asked n
+    asked_by_table (Some r) t i = record { limits = limits; name = name; given = given; taken = t; finds = rw e at f; is = i }
+
 -- words ask for one command
 pub same_command : (ws : List (List ℕ)) (c d : Command) → Asks ws c → Asks ws d → c ≡ d
-same_command ws _ _ (check r p t q i) (check s u v w j) =
-    let e = sym i ∙ j in
-    let same : report_name r ≡ report_name s = cc in
-    let one : r ≡ s = same_report r s same in
-    cc
-same_command ws _ _ (check r p t q i) (show u v j) = absurd (other_length ws p _ t q u _ v i j)
-same_command ws _ _ (check r p t q i) (library u v w j l) = absurd (other_length ws p _ t q u _ v i j)
-same_command ws _ _ (show u v j) (check r p t q i) = absurd (other_length ws p _ t q u _ v i j)
-same_command ws _ _ (show u v i) (show p t j) = let e = sym i ∙ j in cc
-same_command ws _ _ (show u v i) (library p t w j l) = absurd (other_name u v p t (sym i ∙ j))
-same_command ws _ _ (library u v w j l) (check r p t q i) = absurd (other_length ws p _ t q u _ v i j)
-same_command ws _ _ (library p t w j l) (show u v i) = absurd (other_name u v p t (sym i ∙ j))
-same_command ws _ _ (library p t w i l) (library u v x j m) =
-    let e = sym i ∙ j in
-    let same : t ≡ v = cc in
-    ap Library (same_Some w x (sym l ∙ ap library_text same ∙ m))
+same_command ws c d a b =
+    let name = same_name (matches_of circ_app ws) a.limits b.limits a.name b.name a.given b.given a.finds b.finds in
+    let given = same_given (matches_of circ_app ws) a.limits b.limits a.name b.name a.given b.given a.finds b.finds in
+    same_of_table a.limits b.limits b.name b.given c d (rw (name, given) at a.is) b.is

@@ -1,5 +1,5 @@
 -- What a run answers: each answer with its cause and its text (`AnswersDue`).
-use Rattle.std.specs.Prelude.{◌≡◌, ℕ, List, Option, None}
+use Rattle.std.specs.Prelude.{◌≡◌, ℕ, List, [], Option, None}
 use Rattle.circ_outer.specs.Shelf.{ShelfState, IsQuiet}
 use Rattle.circ_outer.specs.Sink.{SinkState}
 use Rattle.circ_top.specs.Check.{IsAccepted, RefusesCheck}
@@ -25,12 +25,14 @@ RefusesCommand (Check report theory proof) before after s = RefusesCheck theory 
 RefusesCommand (Show theory) before after s = IsTheoryFault theory before after s
 RefusesCommand (Library given) before after s = RefusesLibrary s
 
--- The answer that is due to a run, with its text and what is stored: the words are no command, or the command succeeds, or it is refused.
+-- The answer that is due to a run, with its text and what is stored: the words are no command, or the command succeeds, or it is refused; or memory ran out
+-- before the words were read.
 pub data DueAnswer (words : List (List ℕ)) (before after : ShelfState) : Status → (text : List ℕ) → (stored : Option Stored) → Type 0 where
   no_command : IsNoCommand words → DueAnswer words before after status.Usage usage_text None
   success : (c : Command) (text : List ℕ) (stored : Option Stored) → Asks words c → Succeeds c text stored before
       → DueAnswer words before after status.Ok text stored
   refusal : (c : Command) (s : Status) → Asks words c → RefusesCommand c before after s → DueAnswer words before after s (refusal_text c s) None
+  words_unread : DueAnswer words before after status.Memory [] None
 
 -- What a run answers: the answer that is due, with its text printed; or a part of the text, and that the sink failed or memory ran out.
 pub record AnswersDue (words : List (List ℕ)) (before after : ShelfState) (start end : SinkState) (s : Status) : Type 0 where

@@ -1,10 +1,14 @@
 -- What the words of a run ask for.
 use Rattle.std.specs.Prelude.{◌≡◌, List, ℕ, [], ◌∷◌, Option, Some, None, codes}
+use Rattle.clap.specs.Faults.{fault_of}
+use Rattle.clap.specs.Simple.{matches_of}
 use Rattle.circ_lib.specs.Library.{library_text}
+use Rattle.circ_top.specs.Words.{circ_app, Finds}
 use Rattle.circ_top.specs.declared.request.Report.{Report}
 use Rattle.circ_top.specs.declared.request.Report.TheVariants.{Goals, Relation}
 use Rattle.circ_top.specs.declared.request.Request.{Request}
 use Rattle.circ_top.specs.declared.request.Request.TheVariants as request
+use Rattle.circ_top.specs.declared.words.Limits.{Limits}
 
 -- the command that gives a report
 abbrev pub report_name : Report → List ℕ
@@ -21,12 +25,25 @@ pub data Command : Type 0 where
   Show : (theory : List ℕ) → Command
   Library : (text : List ℕ) → Command
 
--- The words are the program's name, the command, and what it takes.
-pub data Asks (words : List (List ℕ)) : Command → Type 0 where
-  check : (report : Report) (program theory proof : List ℕ) → words ≡ program ∷ report_name report ∷ theory ∷ proof ∷ []
-      → Asks words (Check report theory proof)
-  show : (program theory : List ℕ) → words ≡ program ∷ codes "show" ∷ theory ∷ [] → Asks words (Show theory)
-  library : (program name text : List ℕ) → words ≡ program ∷ codes "library" ∷ name ∷ [] → library_text name ≡ Some text → Asks words (Library text)
+-- The table of commands: the name of each, and the words that are given to it.
+pub data IsCommand (limits : Limits) (name : List ℕ) (given : List (List ℕ)) : Command → Type 0 where
+  check : (report : Report) (theory proof : List ℕ) → name ≡ report_name report → given ≡ theory ∷ proof ∷ []
+      → IsCommand limits name given (Check report theory proof)
+  show : (theory : List ℕ) → name ≡ codes "show" → given ≡ theory ∷ [] → IsCommand limits name given (Show theory)
+  library : (theory text : List ℕ) → name ≡ codes "library" → given ≡ theory ∷ [] → library_text theory ≡ Some text
+      → IsCommand limits name given (Library text)
+
+abbrev pub IsNoneOfTable : Limits → (name : List ℕ) → (given : List (List ℕ)) → Type 0
+IsNoneOfTable limits name given = (c : Command) → IsCommand limits name given c → ⊥
+
+-- The words, of which the first is the program's name, ask for a command: `clap` takes them, and the table has the command for what it finds.
+pub record Asks (words : List (List ℕ)) (c : Command) : Type 0 where
+  pub limits : Limits
+  pub name : List ℕ
+  pub given : List (List ℕ)
+  pub taken : fault_of circ_app words ≡ []
+  pub finds : Finds (matches_of circ_app words) limits name given
+  pub is : IsCommand limits name given c
 
 abbrev pub IsNoCommand : List (List ℕ) → Type 0
 IsNoCommand words = (c : Command) → Asks words c → ⊥

@@ -3,6 +3,7 @@ pub mod Files
 pub mod Quiet
 pub mod TheoryFile
 pub mod ProofFile
+pub mod Words
 pub mod Command
 pub mod Texts
 pub mod Delivery

@@ -32,8 +32,9 @@ use circ_soundness::one_verdict;
 use std::alloc::Global;
 
 /// The program: `words` are its name and then a command with what it takes, which is
-/// `check THEORY PROOF`, `relation THEORY PROOF`, `show THEORY` or `library NAME`. The files are
-/// taken from the shelf, and the text of the answer is written to the sink, whole.
+/// `check THEORY PROOF`, `relation THEORY PROOF`, `show THEORY` or `library NAME`. The options
+/// `--steps N` and `--derives N` may stand before, behind or between them. The files are taken
+/// from the shelf, and the text of the answer is written to the sink, whole.
 pub fn circ<S: Shelf, K: Sink>(
     alloc: Global,
     words: &Vec<String>,
@@ -125,14 +126,32 @@ fn answer<S: Shelf, K: Sink>(alloc: Global, words: &[String], shelf: &mut S, out
     ensures shelf_frame { ShelfFrame (S.state shelf.old) (S.state shelf.new) }
     ensures sink_frame { SinkFrame (K.state out.old) (K.state out.new) }
 {
-    let Some(request) = asked(words) else {
-        return deliver(out, Status::Usage, usage());
-    };
-    let status = match run(alloc, &request, shelf) {
+    match asked(alloc, words) {
+        Ok(Some(request)) => answer_to(alloc, &request, shelf, out),
+        Ok(None) => deliver(out, Status::Usage, usage()),
+        Err(_) => Status::Memory,
+    }
+}
+
+/// Runs a command, and says what came of it.
+fn answer_to<S: Shelf, K: Sink>(
+    alloc: Global,
+    request: &Request<'_>,
+    shelf: &mut S,
+    out: &mut K,
+) -> Status
+    ensures answers { (words : List (List ℕ)) → Asks words (plain_request request.now) →
+        AnswersDue words
+        (S.state shelf.old) (S.state shelf.new) (K.state out.old) (K.state out.new) result }
+    ensures quiet { IsQuietBut (S.state shelf.old) (S.state shelf.new) result }
+    ensures shelf_frame { ShelfFrame (S.state shelf.old) (S.state shelf.new) }
+    ensures sink_frame { SinkFrame (K.state out.old) (K.state out.new) }
+{
+    let status = match run(alloc, request, shelf) {
         Ok(text) => return deliver(out, Status::Ok, text.as_slice()),
         Err(status) => status,
     };
-    match refusal(alloc, &request, &status) {
+    match refusal(alloc, request, &status) {
         Ok(text) => deliver(out, status, text.as_slice()),
         Err(_) => Status::Memory,
     }

@@ -13,6 +13,7 @@ mod status;
 pub mod sure;
 mod texts;
 mod theory_file;
+mod words;
 
 pub use command::circ;
 pub use status::Status;

@@ -1,9 +1,11 @@
 //! What the words of a run ask for.
-ghost use Rattle.std.specs.Prelude.{◌≡◌, ◌↔◌, IsTrue, length, map, string_bytes, MatchOption};
-ghost use Rattle.circ_top.specs.Command.{Asks, IsNoCommand, plain_request};
-ghost use Rattle.circ_top.specs.Command.{report_name, IsNoReport};
+ghost use Rattle.std.specs.Prelude.{◌≡◌, [], ◌∷◌, IfOk, MatchOption, map, string_bytes};
+ghost use Rattle.circ_top.specs.Command.{Asks, IsCommand, IsNoCommand, IsNoneOfTable};
+ghost use Rattle.circ_top.specs.Command.{report_name, IsNoReport, plain_request};
 
+use crate::words::{Words, found, is_word, matches};
 use circ_lib::lookup;
+use std::alloc::{AllocError, Global};
 
 /// What is printed of an accepted proof.
 #[derive(Clone, Copy, PartialEq, Eq)]
@@ -34,69 +36,76 @@ pub enum Request<'a> {
 }
 
 /// The request that the words make, if they are those of a command.
-pub fn asked(words: &[String]) -> Option<Request<'_>>
-    ensures { MatchOption result (IsNoCommand (map string_bytes words.now))
-        (λ r. Asks (map string_bytes words.now) (plain_request r)) }
+pub fn asked<'a>(alloc: Global, words: &'a [String]) -> Result<Option<Request<'a>>, AllocError>
+    ensures { IfOk result (λ o. MatchOption o (IsNoCommand (map string_bytes words.now))
+        (λ r. Asks (map string_bytes words.now) (plain_request r))) }
 {
-    match words.len() {
-        3 => of_three(words),
-        4 => of_four(words),
+    let Some(matches) = matches(alloc, words)? else {
+        return Ok(None);
+    };
+    let Some(words) = found(&matches) else {
+        return Ok(None);
+    };
+    Ok(by_table(&words))
+}
+
+/// The request of the table of commands.
+fn by_table<'a>(words: &Words<'_, 'a>) -> Option<Request<'a>>
+    ensures { MatchOption result
+        (IsNoneOfTable words.now.limits words.now.name.now (map (λ x. x.now) words.now.given.now))
+        (λ r. IsCommand words.now.limits words.now.name.now
+        (map (λ x. x.now) words.now.given.now) (plain_request r)) }
+{
+    match words.given {
+        [word] => of_one(words, word),
+        [first, second] => of_two(words, first, second),
         _ => None,
     }
 }
 
-/// Whether the word is this text.
-fn is_word(word: &String, text: &[u8]) -> bool
-    ensures { IsTrue result ↔ (string_bytes word.now ≡ text.now) }
+/// The request with one word.
+fn of_one<'a>(words: &Words<'_, 'a>, word: &'a str) -> Option<Request<'a>>
+    ensures { MatchOption result
+        (IsNoneOfTable words.now.limits words.now.name.now (word.now ∷ []))
+        (λ r. IsCommand words.now.limits words.now.name.now (word.now ∷ []) (plain_request r)) }
 {
-    word.as_bytes() == text
-}
-
-/// The request of three words, of which the first is the program's name.
-fn of_three(words: &[String]) -> Option<Request<'_>>
-    requires { length words.now ≡ 3 }
-    ensures { MatchOption result (IsNoCommand (map string_bytes words.now))
-        (λ r. Asks (map string_bytes words.now) (plain_request r)) }
-{
-    if is_word(&words[1], b"show") {
-        return Some(Request::Show {
-            theory: words[2].as_str(),
-        });
+    if is_word(words.name, b"show") {
+        return Some(Request::Show { theory: word });
     }
-    if !is_word(&words[1], b"library") {
+    if !is_word(words.name, b"library") {
         return None;
     }
-    match lookup(words[2].as_bytes()) {
+    match lookup(word.as_bytes()) {
         None => None,
         Some(text) => Some(Request::Library { text }),
     }
 }
 
-/// The request of four words, of which the first is the program's name.
-fn of_four(words: &[String]) -> Option<Request<'_>>
-    requires { length words.now ≡ 4 }
-    ensures { MatchOption result (IsNoCommand (map string_bytes words.now))
-        (λ r. Asks (map string_bytes words.now) (plain_request r)) }
+/// The request with two words.
+fn of_two<'a>(words: &Words<'_, 'a>, first: &'a str, second: &'a str) -> Option<Request<'a>>
+    ensures { MatchOption result
+        (IsNoneOfTable words.now.limits words.now.name.now (first.now ∷ second.now ∷ []))
+        (λ r. IsCommand words.now.limits words.now.name.now (first.now ∷ second.now ∷ [])
+        (plain_request r)) }
 {
-    let Some(report) = report_of(&words[1]) else {
+    let Some(report) = report_of(words.name) else {
         return None;
     };
     Some(Request::Check {
         report,
-        theory: words[2].as_str(),
-        proof: words[3].as_str(),
+        theory: first,
+        proof: second,
     })
 }
 
 /// What the command with this name prints of an accepted proof.
-fn report_of(word: &String) -> Option<Report>
-    ensures { MatchOption result (IsNoReport (string_bytes word.now))
-        (λ r. string_bytes word.now ≡ report_name r) }
+fn report_of(name: &str) -> Option<Report>
+    ensures { MatchOption result (IsNoReport name.now) (λ r. name.now ≡ report_name r) }
 {
-    if is_word(word, b"check") {
+    if is_word(name, b"check") {
         return Some(Report::Goals);
     }
-    if is_word(word, b"relation") {
+    if is_word(name, b"relation") {
         return Some(Report::Relation);
     }
     None

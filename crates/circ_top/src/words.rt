@@ -1,0 +1,153 @@
+//! The words of the command line, read with `clap`.
+ghost use Rattle.std.specs.Prelude.{◌≡◌, ◌≢◌, ◌↔◌, ◌≤◌, [], false, IsTrue, map, string_bytes};
+ghost use Rattle.std.specs.Prelude.{IfOk, MatchOption, option_map, decimal};
+ghost use Rattle.clap.specs.Faults.{fault_of};
+ghost use Rattle.clap.specs.Matches.{found_of};
+ghost use Rattle.clap.specs.Simple.{app_of, matches_of};
+ghost use Rattle.clap.specs.Walk.{rule_of, rows_of};
+ghost use Rattle.circ_top.specs.Words.{steps_rule, derives_rule, command_rule, words_rule};
+ghost use Rattle.circ_top.specs.Words.{circ_app, IsBudget, IsNoBudget, IsNoNumber};
+ghost use Rattle.circ_top.specs.Words.{Finds, FindsNothing};
+
+use clap::error::ErrorKind;
+use clap::{Arg, ArgMatches, Command};
+use itoa::Buffer;
+use std::alloc::{AllocError, Global};
+
+/// The steps that a search may make where the words do not say it.
+const STEPS: u64 = 100_000;
+
+/// The most steps that the words may say.
+const MOST_STEPS: u64 = 1_000_000;
+
+/// The derivations that a search may make where the words do not say it.
+const DERIVES: u64 = 256;
+
+/// The most derivations that the words may say.
+const MOST_DERIVES: u64 = 10_000;
+
+/// How many steps and derivations a search may make.
+#[derive(Clone, Copy)]
+pub struct Limits {
+    pub steps: u64,
+    pub derives: u64,
+}
+
+/// What the words of a run say: the limits, the command's name, and the words that it takes.
+#[derive(Clone, Copy)]
+pub struct Words<'m, 'a> {
+    pub limits: Limits,
+    pub name: &'a str,
+    pub given: &'m [&'a str],
+}
+
+/// What `clap` finds in the words. None exactly where it refuses them.
+pub fn matches<'a>(alloc: Global, words: &'a [String]) -> Result<Option<ArgMatches<'a>>, AllocError>
+    ensures { IfOk result (λ o. MatchOption o
+        (fault_of circ_app (map string_bytes words.now) ≢ [])
+        (λ m. (fault_of circ_app (map string_bytes words.now) ≡ [])
+        × (rows_of (found_of m) ≡ matches_of circ_app (map string_bytes words.now)))) }
+{
+    match definition(alloc)?.try_get_matches_from(words) {
+        Ok(matches) => Ok(Some(matches)),
+        Err(error) => match error.kind() {
+            ErrorKind::OutOfMemory => Err(AllocError),
+            _ => Ok(None),
+        },
+    }
+}
+
+/// The words by what `clap` found in them. None exactly where a budget is no number within its
+/// limit, or a word is missing.
+pub fn found<'m, 'a>(matches: &'m ArgMatches<'a>) -> Option<Words<'m, 'a>>
+    ensures { MatchOption result (FindsNothing (rows_of (found_of matches.now)))
+        (λ w. Finds (rows_of (found_of matches.now)) w.limits w.name.now
+        (map (λ x. x.now) w.given.now)) }
+{
+    let steps = budget(matches.get_str("steps"), STEPS, MOST_STEPS)?;
+    let derives = budget(matches.get_str("derives"), DERIVES, MOST_DERIVES)?;
+    let name = matches.get_str("command")?;
+    let given = matches.get_strs("words")?;
+    let limits = Limits { steps, derives };
+    Some(Words {
+        limits,
+        name,
+        given,
+    })
+}
+
+/// The budget of an option with this value, or else the usual one.
+fn budget(value: Option<&str>, usual: u64, most: u64) -> Option<u64>
+    ensures { MatchOption result
+        (IsNoBudget usual most (option_map (λ s. s.now) value.entry))
+        (IsBudget usual most (option_map (λ s. s.now) value.entry)) }
+{
+    match value {
+        None => Some(usual),
+        Some(text) => number(text, most),
+    }
+}
+
+/// The number that a text writes in decimal digits, with no sign and no leading zero, if it is at
+/// most this.
+fn number(text: &str, most: u64) -> Option<u64>
+    ensures { MatchOption result (IsNoNumber most text.now)
+        (λ n. (text.now ≡ decimal n) × (n ≤ most)) }
+{
+    let Ok(number) = text.parse::<u64>() else {
+        return None;
+    };
+    if number > most {
+        return None;
+    }
+    if is_word(text, Buffer::new().format(number).as_bytes()) {
+        return Some(number);
+    }
+    None
+}
+
+/// Whether the word is this text.
+pub(crate) fn is_word(word: &str, text: &[u8]) -> bool
+    ensures { IsTrue result ↔ (word.now ≡ text.now) }
+{
+    word.as_bytes() == text
+}
+
+/// What `clap` is asked for.
+fn definition<'a>(alloc: Global) -> Result<Command<'a>, AllocError>
+    ensures { IfOk result (λ c. app_of c ≡ circ_app) }
+{
+    Command::new(alloc, "circ")
+        .arg(steps_arg(alloc))?
+        .arg(derives_arg(alloc))?
+        .arg(command_arg(alloc))?
+        .arg(words_arg(alloc))
+}
+
+fn steps_arg<'a>(alloc: Global) -> Arg<'a>
+    ensures rule { rule_of result ≡ steps_rule }
+    ensures local { result.global ≡ false }
+{
+    Arg::new(alloc, "steps").long("steps")
+}
+
+fn derives_arg<'a>(alloc: Global) -> Arg<'a>
+    ensures rule { rule_of result ≡ derives_rule }
+    ensures local { result.global ≡ false }
+{
+    Arg::new(alloc, "derives").long("derives")
+}
+
+fn command_arg<'a>(alloc: Global) -> Arg<'a>
+    ensures rule { rule_of result ≡ command_rule }
+    ensures local { result.global ≡ false }
+{
+    Arg::new(alloc, "command").required(true)
+}
+
+fn words_arg<'a>(alloc: Global) -> Arg<'a>
+    ensures rule { rule_of result ≡ words_rule }
+    ensures local { result.global ≡ false }
+{
+    Arg::new(alloc, "words").required(true).num_args(1..)
+}
