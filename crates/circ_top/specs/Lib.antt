@@ -3,6 +3,7 @@ pub mod Files
 pub mod Quiet
 pub mod TheoryFile
 pub mod ProofFile
+pub mod ScriptFile
 pub mod Words
 pub mod Command
 pub mod Texts
@@ -10,6 +11,7 @@ pub mod Delivery
 pub mod Check
 pub mod Show
 pub mod Library
+pub mod Reduce
 pub mod Outcome
 pub mod Answer
 pub mod Like

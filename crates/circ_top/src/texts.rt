@@ -3,7 +3,7 @@ ghost use Rattle.std.specs.Prelude.{◌≡◌, ◌++◌, OnOk, OnErr, IfOk, code
 ghost use Rattle.circ_top.specs.Command.{plain_request};
 ghost use Rattle.circ_top.specs.Quiet.{HasText};
 ghost use Rattle.circ_top.specs.Texts.{words_of_cause, details_of_cause, cause_text};
-ghost use Rattle.circ_top.specs.Texts.{place_text, refusal_text, usage_text};
+ghost use Rattle.circ_top.specs.Texts.{place_text, refusal_text, end_text, spent_text, usage_text};
 
 use crate::request::Request;
 use crate::status::Status;
@@ -54,8 +54,39 @@ fn push_refusal(out: &mut Vec<u8>, request: &Request<'_>, status: &Status) -> Re
             push_numbered(out, b"too long: file ", u64::from(*file))?;
             out.extend_from_slice(b"\n")
         }
+        _ => push_end(out, status),
+    }
+}
+
+/// Appends the text of a status with which work on terms ends.
+fn push_end(out: &mut Vec<u8>, status: &Status) -> Result<(), AllocError>
+    ensures { OnOk result (out.new.items ≡ out.old.items ++ end_text status.now) }
+{
+    match status {
+        Status::Spent {
+            rewrites,
+            derives,
+            steps,
+        } => push_spent(out, *rewrites, *derives, *steps),
+        Status::TooBig { nodes } => {
+            push_numbered(out, b"too big: ", *nodes)?;
+            out.extend_from_slice(b" nodes\n")
+        }
+        Status::TooDeep { depth } => {
+            push_numbered(out, b"too deep: ", *depth)?;
+            out.extend_from_slice(b" levels\n")
+        }
         _ => Ok(()),
     }
+}
+
+fn push_spent(out: &mut Vec<u8>, rewrites: u64, derives: u64, steps: u64) -> Result<(), AllocError>
+    ensures { OnOk result (out.new.items ≡ out.old.items ++ spent_text rewrites derives steps) }
+{
+    push_numbered(out, b"spent: ", rewrites)?;
+    push_numbered(out, b" rewrites, ", derives)?;
+    push_numbered(out, b" derives, ", steps)?;
+    out.extend_from_slice(b" steps\n")
 }
 
 /// The places of a file's text: lines of a proof, else statements.
@@ -148,7 +179,7 @@ fn push_readings(out: &mut Vec<u8>, first: &[u8], second: &[u8]) -> Result<(), A
     out.extend_from_slice(second)
 }
 
-fn push_numbered(out: &mut Vec<u8>, text: &[u8], number: u64) -> Result<(), AllocError>
+pub(crate) fn push_numbered(out: &mut Vec<u8>, text: &[u8], number: u64) -> Result<(), AllocError>
     ensures { OnOk result (out.new.items ≡ out.old.items ++ (text.now ++ decimal number)) }
 {
     out.extend_from_slice(text)?;
