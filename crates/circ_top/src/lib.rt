@@ -9,13 +9,13 @@ mod library;
 mod proof_file;
 mod reduce;
 mod request;
-mod rules;
 mod script_file;
 mod show;
 mod status;
 pub mod sure;
 mod texts;
 mod theory_file;
+mod theory_rules;
 mod words;
 
 pub use command::circ;

@@ -8,11 +8,11 @@ ghost use Rattle.circ_top.specs.Reduce.{rules_of, reduced, Reduces, Ends, Result
 ghost use Rattle.circ_top.specs.Reduce.{result_line, results_text, IsReduced, RefusesReduce};
 ghost use Rattle.circ_top.specs.Reduce.{fault_status};
 
-use crate::rules::rules;
 use crate::script_file::take_script;
 use crate::status::Status;
 use crate::texts::push_numbered;
 use crate::theory_file::take_theory;
+use crate::theory_rules::rules;
 use circ_mixfix::print;
 use circ_outer::Shelf;
 use circ_rewrite::{RewriteFault, Rule, normalise};
