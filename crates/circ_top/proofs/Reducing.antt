@@ -14,7 +14,7 @@ use Rattle.circ_top.specs.Reduce.{Reduced, Results, FaultEnds, rules_of, go_on, 
 
 module _ (th : Theory) (rs ts : List Tree) (i n : ℕ) (goal : Reduced) (k : reduced_after th rs n (drop i ts) ≡ goal) where
   module _ (t : Tree) (h : i < length ts) (g : t ≡ get_or ts i t) where
-    then_on : Normalised → Reduced
+    abbrev then_on : Normalised → Reduced
     then_on o = go_on o (λ u left. reduced_after th (rs ++ u ∷ []) left (drop (i + 1) ts))
 
     here : then_on (norm th.signature (rules_of th) [] n t) ≡ goal

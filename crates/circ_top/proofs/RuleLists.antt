@@ -1,5 +1,5 @@
 -- The rules among equations: one equation further on, and that they are rewrite rules.
-use Rattle.std.proofs.Common.{◌≡◌, ◌≤◌, ◌<◌, ◌^◌, ◌+◌, ◌&&◌, ℕ, Bool, true, false, List, [], ◌∷◌, ◌++◌, length, drop, if◌then◌else◌, Option, Some, None, refl, ap, sym, ◌∙◌, subst, append_assoc, append-nil, arith}
+use Rattle.std.proofs.Common.{◌≡◌, ◌≤◌, ◌<◌, ◌^◌, ◌+◌, ◌&&◌, ℕ, zero, suc, Bool, true, false, List, [], ◌∷◌, ◌++◌, length, drop, if◌then◌else◌, Option, Some, None, refl, ap, sym, ◌∙◌, subst, append_assoc, append-nil, arith}
 use Rattle.std.specs.Prelude.{is_some}
 use Rattle.std.specs.List.{slice_get, AllByRecursion}
 use Rattle.std.proofs.lemmas.Bool.{and_parts}
@@ -11,7 +11,6 @@ use Rattle.circ_theory.specs.Rule.{is_rule, is_bound}
 use Rattle.circ_theory.specs.Theory.{Theory, pair_of}
 use Rattle.circ_theory.specs.WellFormed.{IsWellFormed}
 use Rattle.circ_theory.specs.declared.parts.Equation.{Equation}
-use Rattle.circ_show.proofs.Steps.{not_past}
 use Rattle.circ_rewrite.specs.Due.{IsRewriteRule}
 use Rattle.circ_rewrite.specs.declared.parts.Rule.{Rule}
 use Rattle.circ_top.specs.Reduce.{rule_of, rules_at, rules_from, rules_of}
@@ -28,6 +27,11 @@ first_rule n e es = go (is_rule e)
         → (if b then rule_of n e ∷ rules_from (n + 1) es else rules_from (n + 1) es) ≡ with_rule (if b then Some (rule_of n e) else None) (rules_from (n + 1) es)
     go true = refl
     go false = refl
+
+not_past : {X : Type 0} (xs : List X) (n : ℕ) → slice_get xs n ≡ None → n < length xs → ⊥
+not_past [] n g h = omega (arith, h)
+not_past (x ∷ xs) zero g h = let never : Some x ≡ None = g in cc
+not_past (x ∷ xs) (suc n) g h = not_past xs n g (omega (arith, h))
 
 pub next_rule : (es : List Equation) (n : ℕ) → n < length es
     → rules_from n (drop n es) ≡ with_rule (rules_at n (slice_get es n)) (rules_from (n + 1) (drop (n + 1) es))

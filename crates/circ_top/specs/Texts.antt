@@ -75,16 +75,12 @@ too_deep_text n = codes "too deep: " ++ decimal n ++ codes " levels\n"
 abbrev pub usage_text : List ℕ
 usage_text = codes "usage: circ [--steps N] [--derives N] COMMAND WORD...\n"
 
--- the text of a status with which work on terms ends
-abbrev pub end_text : Status → List ℕ
-end_text (status.Spent r d s) = spent_text r d s
-end_text (status.TooBig n) = too_big_text n
-end_text (status.TooDeep n) = too_deep_text n
-end_text _ = []
-
 -- the text of a command's refusal; the other answers have texts of their own, or none
 abbrev pub refusal_text : Command → Status → List ℕ
 refusal_text c (status.Refused n) = refused_text n
 refusal_text c (status.Unreadable file place cause) = unreadable_text (place_text c file) file place cause
 refusal_text c (status.TooLong file n) = too_long_text file
-refusal_text c s = end_text s
+refusal_text c (status.Spent r d s) = spent_text r d s
+refusal_text c (status.TooBig n) = too_big_text n
+refusal_text c (status.TooDeep n) = too_deep_text n
+refusal_text c _ = []

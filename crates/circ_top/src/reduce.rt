@@ -120,7 +120,10 @@ fn normal_forms_by(
 {
     let mut results = Vec::new(alloc);
     for term in terms {
-        let normal = normalise(alloc, theory, rules, &[], term, budget)?;
+        let normal = match normalise(alloc, theory, rules, &[], term, budget) {
+            Ok(normal) => normal,
+            Err(fault) => return Err(fault),
+        };
         results.push(normal.term)?;
     }
     Ok(results)

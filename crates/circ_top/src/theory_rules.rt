@@ -13,8 +13,9 @@ pub(crate) fn rules(alloc: Global, theory: &Theory) -> Result<Vec<Rule>, AllocEr
 {
     let mut rules = Vec::new(alloc);
     for number in 0..theory.equation_count() {
-        if let Some(rule) = rule(theory, number)? {
-            rules.push(rule)?;
+        match rule(theory, number)? {
+            Some(rule) => rules.push(rule)?,
+            None => {}
         }
     }
     Ok(rules)

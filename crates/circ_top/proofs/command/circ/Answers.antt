@@ -23,8 +23,8 @@ returns-clause-complete g c = λ t.
     let once : ReadsOnce = reads_once c.read_in_one_way.ensures.either c.read_in_one_way.ensures.number c.read_in_one_way.ensures.cause in
     let proofs : ProofsOnce = proofs_come_once c.one_answer.ensures.not_both c.one_answer.ensures.cause c.one_verdict.ensures.not_both
     c.one_verdict.ensures.one_failure c.one_verdict.ensures.one_relation in
-    let scripts : ScriptsOnce = scripts_once c.scripts_read_in_one_way.ensures.either c.scripts_read_in_one_way.ensures.number
-    c.scripts_read_in_one_way.ensures.cause in
+    let scripts : ScriptsOnce = scripts_once c.read_in_one_way-2.ensures.either c.read_in_one_way-2.ensures.number
+    c.read_in_one_way-2.ensures.cause in
     answers_come once proofs scripts c.printed_in_one_way.ensures _ _ _ t _ _ c.answer.result (rw c.as_slice.ensures.value at c.answer.ensures.answers)
 
 pub returns-clause-first_failure : goal.returns-clause-first_failure
@@ -32,8 +32,8 @@ returns-clause-first_failure g c = λ t report th p n f fail.
     let once : ReadsOnce = reads_once c.read_in_one_way.ensures.either c.read_in_one_way.ensures.number c.read_in_one_way.ensures.cause in
     let proofs : ProofsOnce = proofs_come_once c.one_answer.ensures.not_both c.one_answer.ensures.cause c.one_verdict.ensures.not_both
     c.one_verdict.ensures.one_failure c.one_verdict.ensures.one_relation in
-    let scripts : ScriptsOnce = scripts_once c.scripts_read_in_one_way.ensures.either c.scripts_read_in_one_way.ensures.number
-    c.scripts_read_in_one_way.ensures.cause in
+    let scripts : ScriptsOnce = scripts_once c.read_in_one_way-2.ensures.either c.read_in_one_way-2.ensures.number
+    c.read_in_one_way-2.ensures.cause in
     answers_come once proofs scripts c.printed_in_one_way.ensures _ _ _ t _ _ c.answer.result (rw c.as_slice.ensures.value at c.answer.ensures.answers) _ _ _
     (read_outcome _ _ report th p n f fail)
 
@@ -42,8 +42,8 @@ returns-clause-accepted_text g c = λ t report th p derived f d.
     let once : ReadsOnce = reads_once c.read_in_one_way.ensures.either c.read_in_one_way.ensures.number c.read_in_one_way.ensures.cause in
     let proofs : ProofsOnce = proofs_come_once c.one_answer.ensures.not_both c.one_answer.ensures.cause c.one_verdict.ensures.not_both
     c.one_verdict.ensures.one_failure c.one_verdict.ensures.one_relation in
-    let scripts : ScriptsOnce = scripts_once c.scripts_read_in_one_way.ensures.either c.scripts_read_in_one_way.ensures.number
-    c.scripts_read_in_one_way.ensures.cause in
+    let scripts : ScriptsOnce = scripts_once c.read_in_one_way-2.ensures.either c.read_in_one_way-2.ensures.number
+    c.read_in_one_way-2.ensures.cause in
     answers_come once proofs scripts c.printed_in_one_way.ensures _ _ _ t _ _ c.answer.result (rw c.as_slice.ensures.value at c.answer.ensures.answers) _ _ _
     (accepted_read_outcome _ _ report th p derived f d)
 
@@ -61,6 +61,6 @@ returns-clause-memory g c = λ e t.
     let once : ReadsOnce = reads_once c.read_in_one_way.ensures.either c.read_in_one_way.ensures.number c.read_in_one_way.ensures.cause in
     let proofs : ProofsOnce = proofs_come_once c.one_answer.ensures.not_both c.one_answer.ensures.cause c.one_verdict.ensures.not_both
     c.one_verdict.ensures.one_failure c.one_verdict.ensures.one_relation in
-    let scripts : ScriptsOnce = scripts_once c.scripts_read_in_one_way.ensures.either c.scripts_read_in_one_way.ensures.number
-    c.scripts_read_in_one_way.ensures.cause in
+    let scripts : ScriptsOnce = scripts_once c.read_in_one_way-2.ensures.either c.read_in_one_way-2.ensures.number
+    c.read_in_one_way-2.ensures.cause in
     answers_memory once proofs scripts c.printed_in_one_way.ensures _ _ _ t _ _ c.answer.result (rw c.as_slice.ensures.value at c.answer.ensures.answers)
