@@ -15,7 +15,7 @@ use std::alloc::{AllocError, Global};
 use std::{fs, io};
 
 /// The tables, in the order in which they are run.
-const TABLES: [&str; 16] = [
+const TABLES: [&str; 17] = [
     "rows-words",
     "rows-faults",
     "rows-causes",
@@ -23,6 +23,7 @@ const TABLES: [&str; 16] = [
     "rows-statements",
     "rows-terms",
     "rows-show",
+    "rows-reduce",
     "rows-check",
     "rows-chains",
     "rows-proofs",

@@ -56,7 +56,7 @@ abbrev pub PrintsOnce : Type 0
 PrintsOnce = (th : Theory) (text other : List ℕ) → IsTheoryText th text → IsTheoryText th other → text ≡ other
 
 -- the causes of bytes that are no theory, as the reader's law has them
-like_causes : {A : Type 0} (c d : Cause) (x y : Result A Cause) → AreAlike x y → x ≡ Err c → y ≡ Err d → IsLikeCause c d
+pub like_causes : {A : Type 0} (c d : Cause) (x y : Result A Cause) → AreAlike x y → x ≡ Err c → y ≡ Err d → IsLikeCause c d
 like_causes c d x _ same a b = let e : c ≡ d = cc in let P : Cause → Type 0 = IsLikeCause c in subst P e (same_cause c)
 like_causes c d _ _ (ambiguous {s} {t} {u} {v}) a b =
     let P : Cause → Type 0 = λ z. IsLikeCause z d in

@@ -19,7 +19,7 @@ use Rattle.circ_top.specs.declared.status.Status.{Status}
 use Rattle.circ_top.specs.declared.status.Status.TheVariants as status
 
 -- what a file held after a call it held before
-moved : (h k : Held) (name : List ℕ) (P : List ℕ → Type 0) → k name ≡ h name → Holds k name P → Holds h name P
+pub moved : (h k : Held) (name : List ℕ) (P : List ℕ → Type 0) → k name ≡ h name → Holds k name P → Holds h name P
 moved h k name P e r = record { bytes = r.bytes; bytes_are = sym e ∙ r.bytes_are; short = r.short; are = r.are }
 
 -- what bytes alone read as, a file that holds them reads as

@@ -1,5 +1,5 @@
 -- No run is without an outcome.
-use Rattle.std.proofs.Common.{◌≡◌, ◌<◌, ◌≤◌, ◌+◌, ◌⊎◌, ℕ, List, length, inl, inr, refl, arith, Option, Some, None}
+use Rattle.std.proofs.Common.{◌≡◌, ◌<◌, ◌≤◌, ◌+◌, ◌-◌, ◌⊎◌, ℕ, List, length, inl, inr, refl, arith, Option, Some, None}
 use Rattle.std.specs.Prelude.{IsSome}
 use Rattle.circ_theory.specs.Theory.{Theory}
 use Rattle.circ_grammar.specs.FirstBad.{LineFault, Line_fault, Limit_fault}
@@ -9,12 +9,19 @@ use Rattle.circ_proof_text.specs.ProofText.{ReadsAsProof, FirstCause}
 use Rattle.circ_read.specs.ReadsAs.{ReadsAs, ReadOrRefused}
 use Rattle.circ_read.specs.declared.cause.Cause.{Cause}
 use Rattle.circ_read.specs.declared.cause.Cause.TheVariants as cause
+use Rattle.circ_script.specs.Script.{Script}
+use Rattle.circ_script.specs.ReadsAsScript.{ReadsAsScript, ScriptOrCause}
+use Rattle.circ_script.specs.declared.job.Job.{Job}
+use Rattle.circ_script.specs.declared.job.Job.TheVariants as job
 use Rattle.circ_top.specs.Check.{report_text, no_theory, no_proof, refused, accepted}
-use Rattle.circ_top.specs.Command.{Command, Check, Show, Library, Asks}
+use Rattle.circ_top.specs.Command.{Command, Check, Show, Reduce, Library, Asks}
 use Rattle.circ_top.specs.Files.{Held, Refusal, RefusesFile, Holds}
 use Rattle.circ_top.specs.InMemory.{HoldsFilesOf, HoldsFiles}
 use Rattle.circ_top.specs.Outcome.{Stored, Outcome, usage, command}
 use Rattle.circ_top.specs.ProofFile.{ProofRefusal}
+use Rattle.circ_top.specs.Reduce.{Results, reduced, EndsWith, results_text, not_reduced, all_reduced}
+use Rattle.circ_top.specs.Reduce as reduce
+use Rattle.circ_top.specs.ScriptFile.{ScriptRefusal}
 use Rattle.circ_top.specs.Show.{not_shown, shown}
 use Rattle.circ_top.specs.Texts.{usage_text, refused_text, refusal_text}
 use Rattle.circ_top.specs.TheoryFile.{TheoryRefusal}
@@ -22,6 +29,7 @@ use Rattle.circ_top.specs.declared.files.TheConstants.{MOST_BYTES}
 use Rattle.circ_top.specs.declared.request.Report.{Report}
 use Rattle.circ_top.specs.declared.status.Status.{Status}
 use Rattle.circ_top.specs.declared.status.Status.TheVariants as status
+use Rattle.circ_top.proofs.Ends.{forms_or_end}
 use Rattle.circ_top.proofs.TheoryTexts.{has_text}
 
 -- bytes within the limit, or past it
@@ -66,7 +74,8 @@ no_fault_left : (th : Theory) (bytes : List ℕ) → ((place : ℕ) (c : Cause) 
 no_fault_left th bytes h (Line_fault n) f = h n cause.Line f
 no_fault_left th bytes h (Limit_fault n) f = h n cause.LineLimit f
 
-module _ (reads : (bytes : List ℕ) → ReadOrRefused bytes) (proofs : ProofsDecided) (words : List (List ℕ)) (held : Held)
+module _ (reads : (bytes : List ℕ) → ReadOrRefused bytes) (proofs : ProofsDecided)
+    (scripts : (th : Theory) (job : Job) (bytes : List ℕ) → ScriptOrCause th job bytes) (words : List (List ℕ)) (held : Held)
     (none_is : (s : Status) (text : List ℕ) (stored : Option Stored) → Outcome words held s text stored → ⊥) where
   no_check : (report : Report) (theory proof : List ℕ) → Asks words (Check report theory proof) → HoldsFilesOf held (Check report theory proof) → ⊥
   no_check report theory proof i h = file_decides held 1 theory TheoryRefusal ReadsAs h.0 reads
@@ -87,9 +96,23 @@ module _ (reads : (bytes : List ℕ) → ReadOrRefused bytes) (proofs : ProofsDe
       (λ th rt. has_text th (λ text x. none_is status.Ok text None (command (Show theory) status.Ok text None i (shown th text rt x, refl))))
       (λ s x. let text : List ℕ = refusal_text (Show theory) s in none_is s text None (command (Show theory) s text None i (not_shown s x, refl)))
 
+  no_reduce : (budget : ℕ) (theory script : List ℕ) → Asks words (Reduce budget theory script) → HoldsFilesOf held (Reduce budget theory script) → ⊥
+  no_reduce budget theory script i h = file_decides held 1 theory TheoryRefusal ReadsAs h.0 reads
+      (λ th rt. file_decides held 2 script (ScriptRefusal th job.Reduce) (ReadsAsScript th job.Reduce) h.1 (scripts th job.Reduce)
+      (λ q rq. forms_or_end budget (reduced th budget q.terms)
+      (λ results left e. let text : List ℕ = results_text th.signature results (budget - left) in none_is status.Ok text None
+      (command (Reduce budget theory script) status.Ok text None i (all_reduced th q results left rt rq e, refl)))
+      (λ s e. let text : List ℕ = refusal_text (Reduce budget theory script) s in none_is s text None
+      (command (Reduce budget theory script) s text None i (not_reduced s th q rt rq e, refl))))
+      (λ s x. let text : List ℕ = refusal_text (Reduce budget theory script) s in none_is s text None
+      (command (Reduce budget theory script) s text None i (reduce.no_script s th rt x, refl))))
+      (λ s x. let text : List ℕ = refusal_text (Reduce budget theory script) s in none_is s text None
+      (command (Reduce budget theory script) s text None i (reduce.no_theory s x, refl)))
+
   no_command_left : (c : Command) → Asks words c → HoldsFilesOf held c → ⊥
   no_command_left (Check report theory proof) i h = no_check report theory proof i h
   no_command_left (Show theory) i h = no_show theory i h
+  no_command_left (Reduce budget theory script) i h = no_reduce budget theory script i h
   no_command_left (Library text) i h = none_is status.Ok text None (command (Library text) status.Ok text None i ((refl, refl), refl))
 
   pub nothing_left : HoldsFiles words held → ⊥

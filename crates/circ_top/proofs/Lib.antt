@@ -11,6 +11,11 @@ pub mod Proofs
 pub mod Agreeing
 pub mod CheckOutcomes
 pub mod ShowOutcomes
+pub mod Scripts
+pub mod Ends
+pub mod RuleLists
+pub mod Reducing
+pub mod ReduceOutcomes
 pub mod Outcomes
 pub mod Answers
 pub mod NoFaults

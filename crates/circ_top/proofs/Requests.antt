@@ -7,7 +7,7 @@ use Rattle.clap.specs.Faults.{fault_of}
 use Rattle.clap.specs.Simple.{matches_of}
 use Rattle.clap.specs.Walk.{Row, first_of}
 use Rattle.circ_lib.specs.Library.{library_text}
-use Rattle.circ_top.specs.Command.{Command, Library, IsCommand, check, show, library, IsNoneOfTable, report_name, Asks, IsNoCommand, plain_request}
+use Rattle.circ_top.specs.Command.{Command, Library, IsCommand, check, show, reduce, library, IsNoneOfTable, report_name, Asks, IsNoCommand, plain_request}
 use Rattle.circ_top.specs.Words.{circ_app, IsBudget, Finds, FindsNothing}
 use Rattle.circ_top.specs.declared.request.Report.{Report}
 use Rattle.circ_top.specs.declared.request.Report.TheVariants.{Goals, Relation}
@@ -20,6 +20,10 @@ other_length given a b c e f = let never : 2 ≡ 1 = ap length (sym e ∙ f) in 
 other_name : (n : List ℕ) → n ≡ codes "show" → n ≡ codes "library" → ⊥
 other_name n e f = let never : 4 ≡ 7 = ap length (sym e ∙ f) in omega (arith, never)
 
+no_report : (r : Report) (n : List ℕ) → n ≡ report_name r → n ≡ codes "reduce" → ⊥
+no_report Goals n e f = let never : 5 ≡ 6 = ap length (sym e ∙ f) in omega (arith, never)
+no_report Relation n e f = let never : 8 ≡ 6 = ap length (sym e ∙ f) in omega (arith, never)
+
 same_report : (r s : Report) → report_name r ≡ report_name s → r ≡ s
 same_report Goals Goals e = refl
 same_report Goals Relation e = let never : 5 ≡ 8 = ap length e in absurd (omega (arith, never))
@@ -27,19 +31,26 @@ same_report Relation Goals e = let never : 8 ≡ 5 = ap length e in absurd (omeg
 same_report Relation Relation e = refl
 
 -- a name and its words stand in the table once
-same_of_table : (k l : Limits) (n : List ℕ) (given : List (List ℕ)) (c d : Command) → IsCommand k n given c → IsCommand l n given d → c ≡ d
-same_of_table k l n given _ _ (check r t p e i) (check s u v f j) =
+same_of_table : (k : Limits) (n : List ℕ) (given : List (List ℕ)) (c d : Command) → IsCommand k n given c → IsCommand k n given d → c ≡ d
+same_of_table k n given _ _ (check r t p e i) (check s u v f j) =
     let a = sym i ∙ j in
     let one : r ≡ s = same_report r s (sym e ∙ f) in
     cc
-same_of_table k l n given _ _ (check r t p e i) (show u f j) = absurd (other_length given t p u i j)
-same_of_table k l n given _ _ (check r t p e i) (library u text f j m) = absurd (other_length given t p u i j)
-same_of_table k l n given _ _ (show u f j) (check r t p e i) = absurd (other_length given t p u i j)
-same_of_table k l n given _ _ (show t e i) (show u f j) = let a = sym i ∙ j in cc
-same_of_table k l n given _ _ (show t e i) (library u text f j m) = absurd (other_name n e f)
-same_of_table k l n given _ _ (library u text f j m) (check r t p e i) = absurd (other_length given t p u i j)
-same_of_table k l n given _ _ (library u text f j m) (show t e i) = absurd (other_name n e f)
-same_of_table k l n given _ _ (library t w e i h) (library u x f j m) =
+same_of_table k n given _ _ (check r t p e i) (show u f j) = absurd (other_length given t p u i j)
+same_of_table k n given _ _ (check r t p e i) (library u text f j m) = absurd (other_length given t p u i j)
+same_of_table k n given _ _ (check r t p e i) (reduce u v f j) = absurd (no_report r n e f)
+same_of_table k n given _ _ (reduce u v f j) (check r t p e i) = absurd (no_report r n e f)
+same_of_table k n given _ _ (reduce t p e i) (reduce u v f j) = let a = sym i ∙ j in cc
+same_of_table k n given _ _ (reduce t p e i) (show u f j) = absurd (other_length given t p u i j)
+same_of_table k n given _ _ (reduce t p e i) (library u text f j m) = absurd (other_length given t p u i j)
+same_of_table k n given _ _ (show u f j) (reduce t p e i) = absurd (other_length given t p u i j)
+same_of_table k n given _ _ (library u text f j m) (reduce t p e i) = absurd (other_length given t p u i j)
+same_of_table k n given _ _ (show u f j) (check r t p e i) = absurd (other_length given t p u i j)
+same_of_table k n given _ _ (show t e i) (show u f j) = let a = sym i ∙ j in cc
+same_of_table k n given _ _ (show t e i) (library u text f j m) = absurd (other_name n e f)
+same_of_table k n given _ _ (library u text f j m) (check r t p e i) = absurd (other_length given t p u i j)
+same_of_table k n given _ _ (library u text f j m) (show t e i) = absurd (other_name n e f)
+same_of_table k n given _ _ (library t w e i h) (library u x f j m) =
     let a = sym i ∙ j in
     let same : t ≡ u = cc in
     ap Library (same_Some w x (sym h ∙ ap library_text same ∙ m))
@@ -89,4 +100,5 @@ pub same_command : (ws : List (List ℕ)) (c d : Command) → Asks ws c → Asks
 same_command ws c d a b =
     let name = same_name (matches_of circ_app ws) a.limits b.limits a.name b.name a.given b.given a.finds b.finds in
     let given = same_given (matches_of circ_app ws) a.limits b.limits a.name b.name a.given b.given a.finds b.finds in
-    same_of_table a.limits b.limits b.name b.given c d (rw (name, given) at a.is) b.is
+    let limits = same_limits (matches_of circ_app ws) a.limits b.limits a.name b.name a.given b.given a.finds b.finds in
+    same_of_table b.limits b.name b.given c d (rw (limits, name, given) at a.is) b.is

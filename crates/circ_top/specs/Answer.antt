@@ -3,10 +3,11 @@ use Rattle.std.specs.Prelude.{◌≡◌, ℕ, List, [], Option, None}
 use Rattle.circ_outer.specs.Shelf.{ShelfState, IsQuiet}
 use Rattle.circ_outer.specs.Sink.{SinkState}
 use Rattle.circ_top.specs.Check.{IsAccepted, RefusesCheck}
-use Rattle.circ_top.specs.Command.{Command, Check, Show, Library, Asks, IsNoCommand}
+use Rattle.circ_top.specs.Command.{Command, Check, Show, Reduce, Library, Asks, IsNoCommand}
 use Rattle.circ_top.specs.Delivery.{Prints, Delivers}
 use Rattle.circ_top.specs.Library.{RefusesLibrary}
 use Rattle.circ_top.specs.Outcome.{Stored, HoldsAfter}
+use Rattle.circ_top.specs.Reduce.{IsReduced, RefusesReduce}
 use Rattle.circ_top.specs.Show.{IsShown}
 use Rattle.circ_top.specs.Texts.{usage_text, refusal_text}
 use Rattle.circ_top.specs.TheoryFile.{IsTheoryFault}
@@ -17,12 +18,14 @@ use Rattle.circ_top.specs.declared.status.Status.TheVariants as status
 abbrev pub Succeeds : Command → (text : List ℕ) → (stored : Option Stored) → (before : ShelfState) → Type 0
 Succeeds (Check report theory proof) text stored before = IsAccepted report theory proof text before × (stored ≡ None)
 Succeeds (Show theory) text stored before = IsShown theory text before × (stored ≡ None)
+Succeeds (Reduce budget theory script) text stored before = IsReduced budget theory script text before × (stored ≡ None)
 Succeeds (Library given) text stored before = (text ≡ given) × (stored ≡ None)
 
 -- why a command is refused
 abbrev pub RefusesCommand : Command → (before after : ShelfState) → Status → Type 0
 RefusesCommand (Check report theory proof) before after s = RefusesCheck theory proof before after s
 RefusesCommand (Show theory) before after s = IsTheoryFault theory before after s
+RefusesCommand (Reduce budget theory script) before after s = RefusesReduce budget theory script before after s
 RefusesCommand (Library given) before after s = RefusesLibrary s
 
 -- The answer that is due to a run, with its text and what is stored: the words are no command, or the command succeeds, or it is refused; or memory ran out

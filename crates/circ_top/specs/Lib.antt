@@ -4,6 +4,7 @@ pub mod Intake
 pub mod Quiet
 pub mod TheoryFile
 pub mod ProofFile
+pub mod ScriptFile
 pub mod Words
 pub mod Command
 pub mod PlainWords
@@ -14,6 +15,7 @@ pub mod CheckProof
 pub mod Incoming
 pub mod Show
 pub mod Library
+pub mod Reduce
 pub mod Outcome
 pub mod Answer
 pub mod Like

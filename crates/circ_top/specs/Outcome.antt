@@ -2,9 +2,10 @@
 use Rattle.std.specs.Prelude.{◌≡◌, ◌≢◌, ℕ, List, Option, Some, None, true}
 use Rattle.circ_outer.specs.Shelf.{ShelfState}
 use Rattle.circ_top.specs.Check.{CheckOutcome}
-use Rattle.circ_top.specs.Command.{Command, Check, Show, Library, Asks, IsNoCommand}
+use Rattle.circ_top.specs.Command.{Command, Check, Show, Reduce, Library, Asks, IsNoCommand}
 use Rattle.circ_top.specs.Files.{Held}
 use Rattle.circ_top.specs.Library.{LibraryOutcome}
+use Rattle.circ_top.specs.Reduce.{ReduceOutcome}
 use Rattle.circ_top.specs.Show.{ShowOutcome}
 use Rattle.circ_top.specs.Texts.{usage_text}
 use Rattle.circ_top.specs.declared.status.Status.{Status}
@@ -19,6 +20,7 @@ pub record Stored : Type 0 where
 abbrev pub OutcomeOf : Held → Command → Status → (text : List ℕ) → (stored : Option Stored) → Type 0
 OutcomeOf held (Check report theory proof) s text stored = CheckOutcome held report theory proof s text × (stored ≡ None)
 OutcomeOf held (Show theory) s text stored = ShowOutcome held theory s text × (stored ≡ None)
+OutcomeOf held (Reduce budget theory script) s text stored = ReduceOutcome held budget theory script s text × (stored ≡ None)
 OutcomeOf held (Library given) s text stored = LibraryOutcome given s text × (stored ≡ None)
 
 -- What a run comes to where nothing of the outside fails and memory is left.

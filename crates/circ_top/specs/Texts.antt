@@ -63,6 +63,15 @@ unreadable_text place_words file place c = codes "unreadable: file " ++ decimal 
 abbrev pub too_long_text : (file : ℕ) → List ℕ
 too_long_text file = codes "too long: file " ++ decimal file ++ codes "\n"
 
+abbrev pub spent_text : (rewrites derives steps : ℕ) → List ℕ
+spent_text r d s = codes "spent: " ++ decimal r ++ codes " rewrites, " ++ decimal d ++ codes " derives, " ++ decimal s ++ codes " steps\n"
+
+abbrev pub too_big_text : (nodes : ℕ) → List ℕ
+too_big_text n = codes "too big: " ++ decimal n ++ codes " nodes\n"
+
+abbrev pub too_deep_text : (depth : ℕ) → List ℕ
+too_deep_text n = codes "too deep: " ++ decimal n ++ codes " levels\n"
+
 abbrev pub usage_text : List ℕ
 usage_text = codes "usage: circ [--steps N] [--derives N] COMMAND WORD...\n"
 
@@ -71,4 +80,7 @@ abbrev pub refusal_text : Command → Status → List ℕ
 refusal_text c (status.Refused n) = refused_text n
 refusal_text c (status.Unreadable file place cause) = unreadable_text (place_text c file) file place cause
 refusal_text c (status.TooLong file n) = too_long_text file
+refusal_text c (status.Spent r d s) = spent_text r d s
+refusal_text c (status.TooBig n) = too_big_text n
+refusal_text c (status.TooDeep n) = too_deep_text n
 refusal_text c _ = []

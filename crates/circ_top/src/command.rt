@@ -20,6 +20,7 @@ ghost use Rattle.circ_top.specs.Quiet.{IsQuietBut, IsQuietCall};
 
 use crate::check::check;
 use crate::library::library;
+use crate::reduce::reduce;
 use crate::request::{Request, asked};
 use crate::show::show;
 use crate::status::Status;
@@ -27,12 +28,14 @@ use crate::texts::{refusal, usage};
 use circ_outer::{OuterFault, Shelf, Sink, write_all};
 use circ_proof_text::laws::one_answer;
 use circ_read::laws::read_in_one_way;
+use circ_script::laws::read_in_one_way as scripts_read_in_one_way;
 use circ_show::laws::printed_in_one_way;
 use circ_soundness::one_verdict;
 use std::alloc::Global;
 
 /// The program: `words` are its name and then a command with what it takes, which is
-/// `check THEORY PROOF`, `relation THEORY PROOF`, `show THEORY` or `library NAME`. The options
+/// `check THEORY PROOF`, `relation THEORY PROOF`, `show THEORY`, `reduce THEORY SCRIPT` or
+/// `library NAME`. The options
 /// `--steps N` and `--derives N` may stand before, behind or between them. The files are taken
 /// from the shelf, and the text of the answer is written to the sink, whole.
 pub fn circ<S: Shelf, K: Sink>(
@@ -112,6 +115,7 @@ pub fn circ<S: Shelf, K: Sink>(
     ensures sink_frame { SinkFrame (K.state out.old) (K.state out.new) }
 {
     read_in_one_way();
+    scripts_read_in_one_way();
     printed_in_one_way();
     one_answer();
     one_verdict();
@@ -173,6 +177,11 @@ fn run<S: Shelf>(alloc: Global, request: &Request<'_>, shelf: &mut S) -> Result<
             proof,
         } => check(alloc, shelf, *report, theory, proof),
         Request::Show { theory } => show(alloc, shelf, theory),
+        Request::Reduce {
+            budget,
+            theory,
+            script,
+        } => reduce(alloc, shelf, *budget, theory, script),
         Request::Library { text } => library(alloc, text),
     }
 }

@@ -16,6 +16,7 @@ ghost use Rattle.circ_top.specs.declared.files.TheConstants.{MOST_BYTES, PIECE};
 
 use circ_proof_text::laws::nothing_left_out as nothing_left_out_of_texts;
 use circ_read::laws::read_or_refused;
+use circ_script::laws::read_or_refused as scripts_read_or_refused;
 use circ_soundness::nothing_left_out as nothing_left_out_of_proofs;
 
 /// The limits in numbers: bytes of a file and of a piece, nodes, levels and arguments of a term,
@@ -44,6 +45,7 @@ pub fn nothing_left_out()
         HoldsFiles words held → HasOutcome words held }
 {
     read_or_refused();
+    scripts_read_or_refused();
     nothing_left_out_of_texts();
     nothing_left_out_of_proofs();
 }

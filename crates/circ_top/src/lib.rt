@@ -8,12 +8,15 @@ mod incoming;
 mod intake;
 pub mod laws;
 mod library;
+mod reduce;
 mod request;
+mod script_file;
 mod show;
 mod status;
 pub mod sure;
 mod texts;
 mod theory_file;
+mod theory_rules;
 mod words;
 
 pub use command::circ;

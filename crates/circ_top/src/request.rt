@@ -29,6 +29,12 @@ pub enum Request<'a> {
     Show {
         theory: &'a str,
     },
+    /// The terms of a script file are reduced over a theory file, with so many replacements at most.
+    Reduce {
+        budget: u64,
+        theory: &'a str,
+        script: &'a str,
+    },
     /// A text of the library is printed.
     Library {
         text: &'static [u8],
@@ -88,6 +94,13 @@ fn of_two<'a>(words: &Words<'_, 'a>, first: &'a str, second: &'a str) -> Option<
         (λ r. IsCommand words.now.limits words.now.name.now (first.now ∷ second.now ∷ [])
         (plain_request r)) }
 {
+    if is_word(words.name, b"reduce") {
+        return Some(Request::Reduce {
+            budget: words.limits.steps,
+            theory: first,
+            script: second,
+        });
+    }
     let Some(report) = report_of(words.name) else {
         return None;
     };

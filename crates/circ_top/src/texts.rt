@@ -3,7 +3,7 @@ ghost use Rattle.std.specs.Prelude.{◌≡◌, ◌++◌, OnOk, OnErr, IfOk, code
 ghost use Rattle.circ_top.specs.Command.{plain_request};
 ghost use Rattle.circ_top.specs.Quiet.{HasText};
 ghost use Rattle.circ_top.specs.Texts.{words_of_cause, details_of_cause, cause_text};
-ghost use Rattle.circ_top.specs.Texts.{place_text, refusal_text, usage_text};
+ghost use Rattle.circ_top.specs.Texts.{place_text, refusal_text, unreadable_text, spent_text, usage_text};
 
 use crate::request::Request;
 use crate::status::Status;
@@ -34,28 +34,54 @@ pub(crate) fn usage() -> &'static [u8]
     b"usage: circ [--steps N] [--derives N] COMMAND WORD...\n"
 }
 
-#[tactic(auto, using(crate::proofs::Rules::joins))]
 fn push_refusal(out: &mut Vec<u8>, request: &Request<'_>, status: &Status) -> Result<(), AllocError>
     ensures text { OnOk result (out.new.items ≡ out.old.items
         ++ refusal_text (plain_request request.now) status.now) }
     ensures memory { OnErr result (HasText status.now) }
 {
     match status {
-        Status::Refused { step } => {
-            push_numbered(out, b"refused at ", *step)?;
-            out.extend_from_slice(b"\n")
-        }
+        Status::Refused { step } => push_counted(out, b"refused at ", *step, b"\n"),
         Status::Unreadable { file, place, cause } => {
-            push_place(out, place_words(request, *file), *file, *place)?;
-            push_cause(out, cause)?;
-            out.extend_from_slice(b"\n")
+            push_unreadable(out, place_words(request, *file), *file, *place, cause)
         }
         Status::TooLong { file, .. } => {
-            push_numbered(out, b"too long: file ", u64::from(*file))?;
-            out.extend_from_slice(b"\n")
+            push_counted(out, b"too long: file ", u64::from(*file), b"\n")
         }
+        Status::Spent {
+            rewrites,
+            derives,
+            steps,
+        } => push_spent(out, *rewrites, *derives, *steps),
+        Status::TooBig { nodes } => push_counted(out, b"too big: ", *nodes, b" nodes\n"),
+        Status::TooDeep { depth } => push_counted(out, b"too deep: ", *depth, b" levels\n"),
         _ => Ok(()),
     }
+}
+
+#[tactic(auto, using(crate::proofs::Rules::joins))]
+fn push_unreadable(
+    out: &mut Vec<u8>,
+    words: &[u8],
+    file: u8,
+    place: u64,
+    cause: &Cause,
+) -> Result<(), AllocError>
+    ensures { OnOk result (out.new.items ≡ out.old.items
+        ++ unreadable_text words.now file place cause.now) }
+{
+    push_place(out, words, file, place)?;
+    push_cause(out, cause)?;
+    out.extend_from_slice(b"\n")
+}
+
+#[tactic(auto, using(crate::proofs::Rules::joins))]
+fn push_spent(out: &mut Vec<u8>, rewrites: u64, derives: u64, steps: u64) -> Result<(), AllocError>
+    ensures { OnOk result (out.new.items ≡ out.old.items ++ spent_text rewrites derives steps) }
+{
+    push_numbered(out, b"spent: ", rewrites)?;
+    push_numbered(out, b" rewrites, ", derives)?;
+    push_numbered(out, b" derives, ", steps)?;
+    out.extend_from_slice(b" steps\n")
 }
 
 /// The places of a file's text: lines of a proof, else statements.
@@ -148,7 +174,22 @@ fn push_readings(out: &mut Vec<u8>, first: &[u8], second: &[u8]) -> Result<(), A
     out.extend_from_slice(second)
 }
 
-fn push_numbered(out: &mut Vec<u8>, text: &[u8], number: u64) -> Result<(), AllocError>
+/// Appends a number between two texts.
+#[tactic(auto, using(crate::proofs::Rules::joins))]
+fn push_counted(
+    out: &mut Vec<u8>,
+    before: &[u8],
+    number: u64,
+    after: &[u8],
+) -> Result<(), AllocError>
+    ensures { OnOk result (out.new.items ≡ out.old.items
+        ++ (before.now ++ decimal number ++ after.now)) }
+{
+    push_numbered(out, before, number)?;
+    out.extend_from_slice(after)
+}
+
+pub(crate) fn push_numbered(out: &mut Vec<u8>, text: &[u8], number: u64) -> Result<(), AllocError>
     ensures { OnOk result (out.new.items ≡ out.old.items ++ (text.now ++ decimal number)) }
 {
     out.extend_from_slice(text)?;

@@ -2,6 +2,7 @@ use Rattle.circ_top.proofs.Answers.{answers_succeed, answers_accepted, answers_r
 use Rattle.circ_top.proofs.Answers.{read_outcome, accepted_read_outcome}
 use Rattle.circ_top.proofs.Agreeing.{ReadsOnce, reads_once}
 use Rattle.circ_top.proofs.Proofs.{ProofsOnce, proofs_come_once}
+use Rattle.circ_top.proofs.Scripts.{ScriptsOnce, scripts_once}
 use Rattle.circ_top.proofs.Outcomes.{answers_outcome, answers_come, answers_memory}
 use Rattle.circ_top.proofs.command.circ.Goals as goal
 
@@ -22,14 +23,18 @@ returns-clause-complete g c = λ t.
     let once : ReadsOnce = reads_once c.read_in_one_way.ensures.either c.read_in_one_way.ensures.number c.read_in_one_way.ensures.cause in
     let proofs : ProofsOnce = proofs_come_once c.one_answer.ensures.not_both c.one_answer.ensures.cause c.one_verdict.ensures.not_both
     c.one_verdict.ensures.one_failure c.one_verdict.ensures.one_relation in
-    answers_come once proofs c.printed_in_one_way.ensures _ _ _ t _ _ c.answer.result (rw c.as_slice.ensures.value at c.answer.ensures.answers)
+    let scripts : ScriptsOnce = scripts_once c.read_in_one_way-2.ensures.either c.read_in_one_way-2.ensures.number
+    c.read_in_one_way-2.ensures.cause in
+    answers_come once proofs scripts c.printed_in_one_way.ensures _ _ _ t _ _ c.answer.result (rw c.as_slice.ensures.value at c.answer.ensures.answers)
 
 pub returns-clause-first_failure : goal.returns-clause-first_failure
 returns-clause-first_failure g c = λ t report th p n f fail.
     let once : ReadsOnce = reads_once c.read_in_one_way.ensures.either c.read_in_one_way.ensures.number c.read_in_one_way.ensures.cause in
     let proofs : ProofsOnce = proofs_come_once c.one_answer.ensures.not_both c.one_answer.ensures.cause c.one_verdict.ensures.not_both
     c.one_verdict.ensures.one_failure c.one_verdict.ensures.one_relation in
-    answers_come once proofs c.printed_in_one_way.ensures _ _ _ t _ _ c.answer.result (rw c.as_slice.ensures.value at c.answer.ensures.answers) _ _ _
+    let scripts : ScriptsOnce = scripts_once c.read_in_one_way-2.ensures.either c.read_in_one_way-2.ensures.number
+    c.read_in_one_way-2.ensures.cause in
+    answers_come once proofs scripts c.printed_in_one_way.ensures _ _ _ t _ _ c.answer.result (rw c.as_slice.ensures.value at c.answer.ensures.answers) _ _ _
     (read_outcome _ _ report th p n f fail)
 
 pub returns-clause-accepted_text : goal.returns-clause-accepted_text
@@ -37,7 +42,9 @@ returns-clause-accepted_text g c = λ t report th p derived f d.
     let once : ReadsOnce = reads_once c.read_in_one_way.ensures.either c.read_in_one_way.ensures.number c.read_in_one_way.ensures.cause in
     let proofs : ProofsOnce = proofs_come_once c.one_answer.ensures.not_both c.one_answer.ensures.cause c.one_verdict.ensures.not_both
     c.one_verdict.ensures.one_failure c.one_verdict.ensures.one_relation in
-    answers_come once proofs c.printed_in_one_way.ensures _ _ _ t _ _ c.answer.result (rw c.as_slice.ensures.value at c.answer.ensures.answers) _ _ _
+    let scripts : ScriptsOnce = scripts_once c.read_in_one_way-2.ensures.either c.read_in_one_way-2.ensures.number
+    c.read_in_one_way-2.ensures.cause in
+    answers_come once proofs scripts c.printed_in_one_way.ensures _ _ _ t _ _ c.answer.result (rw c.as_slice.ensures.value at c.answer.ensures.answers) _ _ _
     (accepted_read_outcome _ _ report th p derived f d)
 
 pub returns-clause-file_limit : goal.returns-clause-file_limit
@@ -54,4 +61,6 @@ returns-clause-memory g c = λ e t.
     let once : ReadsOnce = reads_once c.read_in_one_way.ensures.either c.read_in_one_way.ensures.number c.read_in_one_way.ensures.cause in
     let proofs : ProofsOnce = proofs_come_once c.one_answer.ensures.not_both c.one_answer.ensures.cause c.one_verdict.ensures.not_both
     c.one_verdict.ensures.one_failure c.one_verdict.ensures.one_relation in
-    answers_memory once proofs c.printed_in_one_way.ensures _ _ _ t _ _ c.answer.result (rw c.as_slice.ensures.value at c.answer.ensures.answers)
+    let scripts : ScriptsOnce = scripts_once c.read_in_one_way-2.ensures.either c.read_in_one_way-2.ensures.number
+    c.read_in_one_way-2.ensures.cause in
+    answers_memory once proofs scripts c.printed_in_one_way.ensures _ _ _ t _ _ c.answer.result (rw c.as_slice.ensures.value at c.answer.ensures.answers)

@@ -1,0 +1,177 @@
+//! The command `reduce`: the terms of a script are brought to their normal forms.
+ghost use Rattle.std.specs.Prelude.{◌≡◌, ◌++◌, ◌≤◌, ◌<◌, ◌^◌, flat_map, length, IfOk, IfErr, OnOk};
+ghost use Rattle.std.specs.List.{AllByRecursion};
+ghost use Rattle.circ_outer.specs.Shelf.{ShelfFrame};
+ghost use Rattle.circ_rewrite.specs.Due.{IsRewriteRule};
+ghost use Rattle.circ_top.specs.Quiet.{IsQuietCall};
+ghost use Rattle.circ_top.specs.Reduce.{rules_of, reduced, Reduces, Ends, Results, FaultEnds};
+ghost use Rattle.circ_top.specs.Reduce.{result_line, results_text, IsReduced, RefusesReduce};
+ghost use Rattle.circ_top.specs.Reduce.{fault_status};
+
+use crate::script_file::take_script;
+use crate::status::Status;
+use crate::texts::push_numbered;
+use crate::theory_file::take_theory;
+use crate::theory_rules::rules;
+use circ_mixfix::print;
+use circ_outer::Shelf;
+use circ_rewrite::{RewriteFault, Rule, normalise};
+use circ_script::Job;
+use circ_term::Term;
+use circ_theory::Theory;
+use std::alloc::{AllocError, Global};
+
+/// The normal forms of a script's terms as text, or the answer in its place. The budget is shared
+/// by all terms.
+pub(crate) fn reduce<S: Shelf>(
+    alloc: Global,
+    shelf: &mut S,
+    budget: u64,
+    theory: &str,
+    script: &str,
+) -> Result<Vec<u8>, Status>
+    ensures reduced { IfOk result (λ v.
+        IsReduced budget theory.now script.now v.items (S.state shelf.old)) }
+    ensures refused { IfErr result
+        (RefusesReduce budget theory.now script.now (S.state shelf.old) (S.state shelf.new)) }
+    ensures quiet { IsQuietCall (S.state shelf.old) (S.state shelf.new) result }
+    ensures frame { ShelfFrame (S.state shelf.old) (S.state shelf.new) }
+{
+    let mut theory = match take_theory(alloc, shelf, theory) {
+        Ok(theory) => theory,
+        Err(status) => return Err(status),
+    };
+    let script = match take_script(alloc, shelf, script, &mut theory, Job::Reduce) {
+        Ok(script) => script,
+        Err(status) => return Err(status),
+    };
+    reduce_terms(alloc, budget, &theory, script.terms.as_slice())
+}
+
+/// The text of the terms' normal forms, or why there is none.
+fn reduce_terms(
+    alloc: Global,
+    budget: u64,
+    theory: &Theory,
+    terms: &[Term],
+) -> Result<Vec<u8>, Status>
+    ensures reduced { IfOk result (λ v. Reduces theory.now budget terms.now v.items) }
+    ensures ends { IfErr result (Ends theory.now budget terms.now) }
+{
+    let mut left = budget;
+    let results = match normal_forms(alloc, theory, terms, &mut left) {
+        Ok(results) => results,
+        Err(fault) => return Err(end(fault, budget)),
+    };
+    match results_text(alloc, theory, results.as_slice(), budget - left) {
+        Ok(text) => Ok(text),
+        Err(_) => Err(Status::Memory),
+    }
+}
+
+/// The answer where a term has no normal form: if the budget is spent, the whole budget.
+fn end(fault: RewriteFault, budget: u64) -> Status
+    ensures { result ≡ fault_status budget fault }
+{
+    match fault {
+        RewriteFault::Spent => Status::Spent {
+            rewrites: budget,
+            derives: 0,
+            steps: 0,
+        },
+        RewriteFault::TooBig { nodes } => Status::TooBig { nodes },
+        RewriteFault::TooDeep { depth } => Status::TooDeep { depth },
+        RewriteFault::Memory => Status::Memory,
+    }
+}
+
+/// The normal forms of the terms by the theory's rules, each with what the one before left of the
+/// budget.
+fn normal_forms(
+    alloc: Global,
+    theory: &Theory,
+    terms: &[Term],
+    budget: &mut u64,
+) -> Result<Vec<Term>, RewriteFault>
+    ensures results { IfOk result (λ v.
+        reduced theory.now budget.old terms.now ≡ Results v.items budget.new) }
+    ensures fault { IfErr result (FaultEnds (reduced theory.now budget.old terms.now)) }
+    ensures less { budget.new ≤ budget.old }
+{
+    theory.known();
+    let rules = rules(alloc, theory)?;
+    normal_forms_by(alloc, theory, rules.as_slice(), terms, budget)
+}
+
+fn normal_forms_by(
+    alloc: Global,
+    theory: &Theory,
+    rules: &[Rule],
+    terms: &[Term],
+    budget: &mut u64,
+) -> Result<Vec<Term>, RewriteFault>
+    requires rules { rules.now ≡ rules_of theory.now }
+    requires rewrite { AllByRecursion IsRewriteRule rules.now }
+    requires few { length rules.now < 2 ^ 32 }
+    ensures results { IfOk result (λ v.
+        reduced theory.now budget.old terms.now ≡ Results v.items budget.new) }
+    ensures fault { IfErr result (FaultEnds (reduced theory.now budget.old terms.now)) }
+    ensures less { budget.new ≤ budget.old }
+{
+    let mut results = Vec::new(alloc);
+    for term in terms {
+        let normal = match normalise(alloc, theory, rules, &[], term, budget) {
+            Ok(normal) => normal,
+            Err(fault) => return Err(fault),
+        };
+        results.push(normal.term)?;
+    }
+    Ok(results)
+}
+
+/// The lines of the results, and how many replacements were made.
+fn results_text(
+    alloc: Global,
+    theory: &Theory,
+    results: &[Term],
+    rewrites: u64,
+) -> Result<Vec<u8>, AllocError>
+    ensures { IfOk result (λ v.
+        v.items ≡ results_text theory.now.signature results.now rewrites) }
+{
+    let mut out = Vec::new(alloc);
+    put_results(alloc, theory, results, &mut out)?;
+    push_numbered(&mut out, b"rewrites: ", rewrites)?;
+    out.extend_from_slice(b"\n")?;
+    Ok(out)
+}
+
+/// Appends a line for each result.
+fn put_results(
+    alloc: Global,
+    theory: &Theory,
+    results: &[Term],
+    out: &mut Vec<u8>,
+) -> Result<(), AllocError>
+    ensures { OnOk result (out.new.items ≡ out.old.items
+        ++ flat_map (result_line theory.now.signature) results.now) }
+{
+    for term in results {
+        put_result(alloc, theory, term, out)?;
+    }
+    Ok(())
+}
+
+fn put_result(
+    alloc: Global,
+    theory: &Theory,
+    term: &Term,
+    out: &mut Vec<u8>,
+) -> Result<(), AllocError>
+    ensures { OnOk result (out.new.items ≡ out.old.items
+        ++ result_line theory.now.signature term.now) }
+{
+    out.extend_from_slice(b"result: ")?;
+    print(alloc, theory, term, out)?;
+    out.extend_from_slice(b"\n")
+}
