@@ -26,7 +26,7 @@ returns-in-Err-Line c start bytes t =
     let e = c.in-Err-Line.field-0 in
     let told = c.in-Err-Line.ensures in
     fault_taken th bytes c.args.piece.now c.args.self.now c.feed.new.self e t (λ m. let never = sym c.in-Err-Line.field-0-is ∙ m in cc)
-    (λ parts s. told.stands th bytes parts s) told.kept told.sound told.lines
+    (λ parts s. let f = told.stands th bytes parts s in (f.0, f.1)) told.kept told.sound told.lines
 
 pub returns-in-Err-Limit : goal.returns-in-Err-Limit
 returns-in-Err-Limit c start bytes t =
@@ -34,4 +34,4 @@ returns-in-Err-Limit c start bytes t =
     let e = c.in-Err-Limit.field-0 in
     let told = c.in-Err-Limit.ensures in
     fault_taken th bytes c.args.piece.now c.args.self.now c.feed.new.self e t (λ m. let never = sym c.in-Err-Limit.field-0-is ∙ m in cc)
-    (λ parts s. told.stands th bytes parts s) told.kept told.sound told.lines
+    (λ parts s. let f = told.stands th bytes parts s in (f.0, f.1)) told.kept told.sound told.lines
