@@ -1,8 +1,7 @@
 -- The terms of a script, one term further on.
-use Rattle.std.proofs.Common.{◌≡◌, ◌<◌, ◌≤◌, ◌+◌, ℕ, List, [], ◌∷◌, ◌++◌, length, drop, get_or, refl, ap, sym, ◌∙◌, subst}
+use Rattle.std.proofs.Common.{◌≡◌, ◌<◌, ◌≤◌, ◌+◌, ℕ, List, [], ◌∷◌, ◌++◌, length, drop, get_or, ap, sym, ◌∙◌}
 use Rattle.std.proofs.Math.ListN.{drop_of_length-le}
 use Rattle.circ_term.specs.Tree.{Tree}
-use Rattle.circ_term.specs.Limits.{Big, Deep}
 use Rattle.circ_term.proofs.Within.{drop_read}
 use Rattle.circ_theory.specs.Theory.{Theory}
 use Rattle.circ_rewrite.specs.Norm.{Normalised, Normal_form, norm}
