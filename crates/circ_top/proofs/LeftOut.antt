@@ -9,7 +9,6 @@ use Rattle.circ_proof_text.specs.ProofText.{ReadsAsProof, FirstCause}
 use Rattle.circ_read.specs.ReadsAs.{ReadsAs, ReadOrRefused}
 use Rattle.circ_read.specs.declared.cause.Cause.{Cause}
 use Rattle.circ_read.specs.declared.cause.Cause.TheVariants as cause
-use Rattle.circ_script.specs.Script.{Script}
 use Rattle.circ_script.specs.ReadsAsScript.{ReadsAsScript, ScriptOrCause}
 use Rattle.circ_script.specs.declared.job.Job.{Job}
 use Rattle.circ_script.specs.declared.job.Job.TheVariants as job

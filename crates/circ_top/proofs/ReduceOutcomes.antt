@@ -1,5 +1,5 @@
 -- What `reduce` answers, and its outcome.
-use Rattle.std.proofs.Common.{◌≡◌, ◌-◌, ℕ, List, [], refl, ap, ap₂, sym, ◌∙◌, subst, inl, inr, true, None}
+use Rattle.std.proofs.Common.{◌≡◌, ◌-◌, ℕ, List, refl, ap₂, sym, ◌∙◌, subst, inl, inr, true, None}
 use Rattle.circ_outer.specs.Shelf.{ShelfState}
 use Rattle.circ_term.specs.Tree.{Tree}
 use Rattle.circ_theory.specs.Theory.{Theory}
@@ -12,7 +12,7 @@ use Rattle.circ_top.specs.Command.{Reduce, Asks}
 use Rattle.circ_top.specs.Files.{IsOnly, RefusesFile, IsUnread, IsTooLong, IsFileFault}
 use Rattle.circ_top.specs.Like.{IsLike, itself}
 use Rattle.circ_top.specs.Outcome.{command}
-use Rattle.circ_top.specs.Reduce.{Reduced, Results, reduced, EndsWith, Ends, results_text, ReduceOutcome, no_theory, no_script, not_reduced, all_reduced}
+use Rattle.circ_top.specs.Reduce.{Results, reduced, EndsWith, Ends, results_text, ReduceOutcome, no_theory, no_script, not_reduced, all_reduced}
 use Rattle.circ_top.specs.Reduce.{IsReduced, TermsEnd, RefusesReduce, theory_fault, script_fault, term_ends}
 use Rattle.circ_top.specs.ScriptFile.{ReadsScript, TakesScript, ScriptRefusal}
 use Rattle.circ_top.specs.Texts.{refusal_text}
@@ -20,7 +20,7 @@ use Rattle.circ_top.specs.TheoryFile.{ReadsTheory, TakesTheory, TheoryRefusal}
 use Rattle.circ_top.specs.declared.status.Status.{Status}
 use Rattle.circ_top.specs.declared.status.Status.TheVariants as status
 use Rattle.circ_top.proofs.Agreeing.{DueIs, outcome, file_due, Agrees, alike, unread_file, memory, ReadsOnce}
-use Rattle.circ_top.proofs.Ends.{IsEnd, no_end, one_end, no_early_end}
+use Rattle.circ_top.proofs.Ends.{no_end, one_end, no_early_end}
 use Rattle.circ_top.proofs.FileFaults.{FaultOf, fault_of, refuses, unread, out_of_memory, reads_not_refused, refused_alike, refused_held, holds_held}
 use Rattle.circ_top.proofs.FileFaults.{unread_rose, file_fault_not_ok, file_fault_not_refused}
 use Rattle.circ_top.proofs.Scripts.{ScriptsOnce}

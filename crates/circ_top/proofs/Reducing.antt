@@ -1,8 +1,6 @@
 -- The terms of a script, one term further on.
-use Rattle.std.proofs.Common.{◌≡◌, ◌<◌, ◌≤◌, ◌+◌, ℕ, List, [], ◌∷◌, ◌++◌, length, drop, get_or, refl, ap, sym, ◌∙◌, subst}
-use Rattle.std.proofs.Math.ListN.{drop_of_length-le}
+use Rattle.std.proofs.Common.{◌≡◌, ◌<◌, ◌+◌, ℕ, List, [], ◌∷◌, ◌++◌, length, drop, get_or, ap, sym, ◌∙◌}
 use Rattle.circ_term.specs.Tree.{Tree}
-use Rattle.circ_term.specs.Limits.{Big, Deep}
 use Rattle.circ_term.proofs.Within.{drop_read}
 use Rattle.circ_theory.specs.Theory.{Theory}
 use Rattle.circ_rewrite.specs.Norm.{Normalised, Normal_form, norm}
@@ -10,7 +8,7 @@ use Rattle.circ_rewrite.specs.Plain.{Faults}
 use Rattle.circ_rewrite.specs.Replacement.{Traced}
 use Rattle.circ_rewrite.specs.declared.fault.RewriteFault.{RewriteFault}
 use Rattle.circ_rewrite.specs.declared.fault.RewriteFault.TheVariants as fault
-use Rattle.circ_top.specs.Reduce.{Reduced, Results, FaultEnds, rules_of, go_on, reduced_after}
+use Rattle.circ_top.specs.Reduce.{Reduced, FaultEnds, rules_of, go_on, reduced_after}
 
 module _ (th : Theory) (rs ts : List Tree) (i n : ℕ) (goal : Reduced) (k : reduced_after th rs n (drop i ts) ≡ goal) where
   module _ (t : Tree) (h : i < length ts) (g : t ≡ get_or ts i t) where
@@ -31,7 +29,3 @@ module _ (th : Theory) (rs ts : List Tree) (i n : ℕ) (goal : Reduced) (k : red
     form_missing (fault.TooBig m) left e = sym here ∙ ap then_on e
     form_missing (fault.TooDeep m) left e = sym here ∙ ap then_on e
     form_missing fault.Memory left e = tt
-
-  -- no term is left
-  pub all_forms : length ts ≤ i → goal ≡ Results rs n
-  all_forms h = sym k ∙ ap (reduced_after th rs n) (drop_of_length-le ts h)

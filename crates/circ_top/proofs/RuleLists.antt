@@ -1,9 +1,8 @@
 -- The rules among equations: one equation further on, and that they are rewrite rules.
-use Rattle.std.proofs.Common.{◌≡◌, ◌≤◌, ◌<◌, ◌^◌, ◌+◌, ◌&&◌, ℕ, zero, suc, Bool, true, false, List, [], ◌∷◌, ◌++◌, length, drop, if◌then◌else◌, Option, Some, None, refl, ap, sym, ◌∙◌, subst, append_assoc, append-nil, arith}
+use Rattle.std.proofs.Common.{◌≡◌, ◌≤◌, ◌<◌, ◌^◌, ◌+◌, ◌&&◌, ℕ, zero, suc, Bool, true, false, List, [], ◌∷◌, ◌++◌, length, drop, if◌then◌else◌, Option, Some, None, refl, ap, sym, ◌∙◌, append_assoc, arith}
 use Rattle.std.specs.Prelude.{is_some}
 use Rattle.std.specs.List.{slice_get, AllByRecursion}
 use Rattle.std.proofs.lemmas.Bool.{and_parts}
-use Rattle.std.proofs.Math.ListN.{drop_of_length-le}
 use Rattle.std.proofs.lemmas.Option.{get_or_from_slice_get}
 use Rattle.circ_term.specs.Tree.{operator_number}
 use Rattle.circ_term.proofs.Within.{drop_read}
@@ -53,10 +52,6 @@ module _ (es : List Equation) (n : ℕ) (rs goal : List Rule) (h : n < length es
   rule_passed e =
       let rest : List Rule = rules_from (n + 1) (drop (n + 1) es) in
       ap (λ o. rs ++ with_rule o rest) e ∙ sym (ap (λ xs. rs ++ xs) (next_rule es n h)) ∙ i
-
-pub all_rules : (es : List Equation) (n : ℕ) (rs goal : List Rule) → length es ≤ n → rs ++ rules_from n (drop n es) ≡ goal → rs ≡ goal
-all_rules es n rs goal h i =
-    let P : List Equation → Type 0 = λ xs. rs ++ rules_from n xs ≡ goal in sym (append-nil rs) ∙ subst P (drop_of_length-le es h) i
 
 a_rule : (n : ℕ) (e : Equation) → is_rule e ≡ true → IsRewriteRule (rule_of n e)
 a_rule n e b =

@@ -1,4 +1,4 @@
-use Rattle.std.proofs.Common.{◌≡◌, ◌≤◌, drop, []}
+use Rattle.std.proofs.Common.{◌≡◌, ◌≤◌, drop}
 use Rattle.circ_top.specs.Reduce.{reduced, reduced_after}
 use Rattle.circ_top.proofs.reduce.normal_forms_by.Given as goal
 

@@ -1,6 +1,6 @@
 use Rattle.std.proofs.Common.{◌<◌, length, sym, ◌∙◌, arith}
 use Rattle.circ_top.specs.Reduce.{rules_of}
-use Rattle.circ_top.proofs.RuleLists.{rule_added, rule_passed, all_rules}
+use Rattle.circ_top.proofs.RuleLists.{rule_added, rule_passed}
 use Rattle.circ_top.proofs.theory_rules.rules.Goals.{in-Some+in_ok-push-in-Some, in-None}
 use Rattle.circ_top.proofs.theory_rules.rules.Goals as goal
 
