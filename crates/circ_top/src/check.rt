@@ -35,12 +35,30 @@ pub(crate) fn check<S: Shelf>(
         Ok(theory) => theory,
         Err(status) => return Err(status),
     };
-    let mut incoming = Incoming::new(alloc, &theory);
-    check_proof(alloc, shelf, report, &theory, proof, &mut incoming)
+    check_proof(alloc, shelf, report, &theory, proof)
 }
 
-/// The same of a proof in this theory. It goes through a reader that nothing came to.
+/// The same of a proof in this theory.
 fn check_proof<S: Shelf>(
+    alloc: Global,
+    shelf: &mut S,
+    report: Report,
+    theory: &Theory,
+    name: &str,
+) -> Result<Vec<u8>, Status>
+    ensures accepted { IfOk result (λ v.
+        AcceptsProof report name.now theory.now v.items (S.state shelf.old)) }
+    ensures refused { IfErr result
+        (RefusesProof name.now theory.now (S.state shelf.old) (S.state shelf.new)) }
+    ensures quiet { IsQuietCall (S.state shelf.old) (S.state shelf.new) result }
+    ensures frame { ShelfFrame (S.state shelf.old) (S.state shelf.new) }
+{
+    let mut incoming = Incoming::new(alloc, theory);
+    check_incoming(alloc, shelf, report, theory, name, &mut incoming)
+}
+
+/// The same, where nothing came yet.
+fn check_incoming<S: Shelf>(
     alloc: Global,
     shelf: &mut S,
     report: Report,

@@ -150,7 +150,7 @@ fn keep_goals(alloc: Global, lists: &mut Vec<Vec<Goal>>, part: &Part) -> Result<
 fn shared(alloc: Global, goals: &[Goal]) -> Result<Vec<Goal>, AllocError>
     ensures { IfOk result (λ v. v.items ≡ goals.now) }
 {
-    let mut list = Vec::new(alloc);
+    let mut list = Vec::with_capacity(alloc, goals.len())?;
     for goal in goals {
         list.push(share(goal)?)?;
     }

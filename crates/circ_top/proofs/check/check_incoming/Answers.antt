@@ -4,7 +4,7 @@ use Rattle.circ_top.specs.CheckProof.{file_fault}
 use Rattle.circ_top.specs.Incoming.{HasTaken}
 use Rattle.circ_top.specs.ProofFile.{ProofRefusal}
 use Rattle.circ_top.proofs.ProofFiles.{untaken_fault, OneProof, accepts, refuses, judged_quiet}
-use Rattle.circ_top.proofs.check.check_proof.Goals as goal
+use Rattle.circ_top.proofs.check.check_incoming.Goals as goal
 
 pub returns-in-Err-clause-refused : goal.returns-in-Err-clause-refused
 returns-in-Err-clause-refused g c =
