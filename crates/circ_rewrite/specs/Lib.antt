@@ -3,6 +3,7 @@ pub mod Matching
 pub mod Due
 pub mod Norm
 pub mod Plain
+pub mod Reducing
 pub mod Standing
 pub mod Fitting
 pub mod Choosing

@@ -60,7 +60,7 @@ pub fn normalise(
     normal_form(alloc, &means, term, budget)
 }
 
-fn normal_form(
+pub(crate) fn normal_form(
     alloc: Global,
     means: &Means<'_>,
     term: &Term,

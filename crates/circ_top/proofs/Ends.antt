@@ -5,7 +5,8 @@ use Rattle.circ_term.specs.Limits.{Limit, Big, Deep}
 use Rattle.circ_theory.specs.Theory.{Theory}
 use Rattle.circ_rewrite.specs.declared.fault.RewriteFault.{RewriteFault}
 use Rattle.circ_rewrite.specs.declared.fault.RewriteFault.TheVariants as fault
-use Rattle.circ_top.specs.Reduce.{Reduced, Results, Spent, Past_limit, EndsWith, Ends, FaultEnds, reduced, limit_status, fault_status}
+use Rattle.circ_rewrite.specs.Reducing.{Reduced, Results, Spent, Past_limit, FaultEnds}
+use Rattle.circ_top.specs.Reduce.{EndsWith, Ends, reduced, limit_status, fault_status}
 use Rattle.circ_top.specs.declared.status.Status.{Status}
 use Rattle.circ_top.specs.declared.status.Status.TheVariants as status
 

@@ -9,6 +9,7 @@ use Rattle.circ_proof_text.specs.ProofText.{ReadsAsProof, FirstCause}
 use Rattle.circ_read.specs.ReadsAs.{ReadsAs, ReadOrRefused}
 use Rattle.circ_read.specs.declared.cause.Cause.{Cause}
 use Rattle.circ_read.specs.declared.cause.Cause.TheVariants as cause
+use Rattle.circ_rewrite.specs.Reducing.{Results}
 use Rattle.circ_script.specs.ReadsAsScript.{ReadsAsScript, ScriptOrCause}
 use Rattle.circ_script.specs.declared.job.Job.{Job}
 use Rattle.circ_script.specs.declared.job.Job.TheVariants as job
@@ -18,7 +19,7 @@ use Rattle.circ_top.specs.Files.{Held, Refusal, RefusesFile, Holds}
 use Rattle.circ_top.specs.InMemory.{HoldsFilesOf, HoldsFiles}
 use Rattle.circ_top.specs.Outcome.{Stored, Outcome, usage, command}
 use Rattle.circ_top.specs.ProofFile.{ProofRefusal}
-use Rattle.circ_top.specs.Reduce.{Results, reduced, EndsWith, results_text, not_reduced, all_reduced}
+use Rattle.circ_top.specs.Reduce.{reduced, EndsWith, results_text, not_reduced, all_reduced}
 use Rattle.circ_top.specs.Reduce as reduce
 use Rattle.circ_top.specs.ScriptFile.{ScriptRefusal}
 use Rattle.circ_top.specs.Show.{not_shown, shown}

@@ -11,7 +11,6 @@ pub mod ShowOutcomes
 pub mod Scripts
 pub mod Ends
 pub mod RuleLists
-pub mod Reducing
 pub mod ReduceOutcomes
 pub mod Outcomes
 pub mod Answers

@@ -4,6 +4,7 @@ use Rattle.circ_outer.specs.Shelf.{ShelfState}
 use Rattle.circ_term.specs.Tree.{Tree}
 use Rattle.circ_theory.specs.Theory.{Theory}
 use Rattle.circ_read.specs.ReadsAs.{ReadsAs}
+use Rattle.circ_rewrite.specs.Reducing.{Results}
 use Rattle.circ_script.specs.Script.{Script}
 use Rattle.circ_script.specs.ReadsAsScript.{ReadsAsScript}
 use Rattle.circ_script.specs.declared.job.Job.TheVariants as job
@@ -12,7 +13,7 @@ use Rattle.circ_top.specs.Command.{Reduce, Asks}
 use Rattle.circ_top.specs.Files.{IsOnly, RefusesFile, IsUnread, IsTooLong, IsFileFault}
 use Rattle.circ_top.specs.Like.{IsLike, itself}
 use Rattle.circ_top.specs.Outcome.{command}
-use Rattle.circ_top.specs.Reduce.{Results, reduced, EndsWith, Ends, results_text, ReduceOutcome, no_theory, no_script, not_reduced, all_reduced}
+use Rattle.circ_top.specs.Reduce.{reduced, EndsWith, Ends, results_text, ReduceOutcome, no_theory, no_script, not_reduced, all_reduced}
 use Rattle.circ_top.specs.Reduce.{IsReduced, TermsEnd, RefusesReduce, theory_fault, script_fault, term_ends}
 use Rattle.circ_top.specs.ScriptFile.{ReadsScript, TakesScript, ScriptRefusal}
 use Rattle.circ_top.specs.Texts.{refusal_text}

@@ -8,7 +8,7 @@ use Rattle.circ_theory.specs.Theory.{Theory}
 use Rattle.circ_theory.specs.Rule.{is_rule}
 use Rattle.circ_theory.specs.declared.parts.Equation.{Equation}
 use Rattle.circ_mixfix.specs.Printing.{text_of_term}
-use Rattle.circ_rewrite.specs.Norm.{Normalised, Normal_form, Budget_spent, Limit_passed, norm}
+use Rattle.circ_rewrite.specs.Reducing.{Reduced, Results, Spent, Past_limit, reduced_all}
 use Rattle.circ_rewrite.specs.declared.fault.RewriteFault.{RewriteFault}
 use Rattle.circ_rewrite.specs.declared.fault.RewriteFault.TheVariants as fault
 use Rattle.circ_rewrite.specs.declared.parts.Rule.{Rule}
@@ -40,27 +40,9 @@ rules_from n (e ∷ es) = if is_rule e then rule_of n e ∷ rules_from (n + 1) e
 abbrev pub rules_of : Theory → List Rule
 rules_of th = rules_from 0 th.equations
 
--- What becomes of terms that are reduced with one budget: all have normal forms, and this is left; or the first that has none ends it, since the
--- budget is spent or a limit passed.
-pub data Reduced : Type 0 where
-  Results : (results : List Tree) (left : ℕ) → Reduced
-  Spent : Reduced
-  Past_limit : (limit : Limit) → Reduced
-
--- a normal form and what is left go on; whatever else a term comes to is the end
-abbrev pub go_on : Normalised → (Tree → (left : ℕ) → Reduced) → Reduced
-go_on (Normal_form u traces left) next = next u left
-go_on Budget_spent next = Spent
-go_on (Limit_passed l left) next = Past_limit l
-
--- the terms in order, each with what the one before left, by the theory's rules and no assumptions; these are the results so far
-abbrev pub reduced_after : Theory → (results : List Tree) → (budget : ℕ) → List Tree → Reduced
-reduced_after th results n [] = Results results n
-reduced_after th results n (t ∷ ts) =
-    go_on (norm th.signature (rules_of th) [] n t) (λ u left. reduced_after th (results ++ u ∷ []) left ts)
-
+-- what becomes of terms by the theory's rules and no assumptions
 abbrev pub reduced : Theory → (budget : ℕ) → List Tree → Reduced
-reduced th budget ts = reduced_after th [] budget ts
+reduced th budget ts = reduced_all th.signature (rules_of th) [] budget ts
 
 -- the status of a limit
 abbrev pub limit_status : Limit → Status
@@ -73,18 +55,12 @@ EndsWith budget (Results results left) s = ⊥
 EndsWith budget Spent s = s ≡ status.Spent budget 0 0
 EndsWith budget (Past_limit l) s = s ≡ limit_status l
 
--- the status of a fault, and what it says of the terms
+-- the status of a fault
 abbrev pub fault_status : (budget : ℕ) → RewriteFault → Status
 fault_status budget fault.Spent = status.Spent budget 0 0
 fault_status budget (fault.TooBig nodes) = status.TooBig nodes
 fault_status budget (fault.TooDeep depth) = status.TooDeep depth
 fault_status budget fault.Memory = status.Memory
-
-abbrev pub FaultEnds : Reduced → RewriteFault → Type 0
-FaultEnds r fault.Spent = r ≡ Spent
-FaultEnds r (fault.TooBig nodes) = r ≡ Past_limit (Big nodes)
-FaultEnds r (fault.TooDeep depth) = r ≡ Past_limit (Deep depth)
-FaultEnds r fault.Memory = Unit {0}
 
 -- a result, one a line
 abbrev pub result_line : Signature → Tree → List ℕ

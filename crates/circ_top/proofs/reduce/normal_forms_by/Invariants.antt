@@ -1,9 +1,0 @@
-use Rattle.std.proofs.Common.{◌≡◌, ◌≤◌, drop}
-use Rattle.circ_top.specs.Reduce.{reduced, reduced_after}
-use Rattle.circ_top.proofs.reduce.normal_forms_by.Given as goal
-
-abbrev pub invariant-loop-term : goal.invariant-loop-term
-invariant-loop-term l = record {
-  same : reduced_after l.theory l.results.items l.budget (drop l.term-index l.terms) ≡ reduced l.theory l.fn.budget l.terms;
-  less : l.budget ≤ l.fn.budget;
-}
