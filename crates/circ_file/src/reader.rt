@@ -1,5 +1,6 @@
 //! A reader that is fed the bytes of a proof, and hands out its parts.
-ghost use Rattle.std.specs.Prelude.{◌≡◌, ◌++◌, ◌+◌, ◌-◌, ◌<◌, ◌≤◌, ◌^◌, ◌∷◌, [], ℕ, List, length};
+ghost use Rattle.std.specs.Prelude.{◌≡◌, ◌++◌, ◌+◌, ◌-◌, ◌<◌, ◌≤◌};
+ghost use Rattle.std.specs.Prelude.{◌^◌, ◌∷◌, [], ℕ, List, length};
 ghost use Rattle.std.specs.Prelude.{Some, None, Err, IfOk, OnOk, MatchOption, true, false};
 ghost use Rattle.circ_theory.specs.Theory.{Theory};
 ghost use Rattle.circ_line.specs.Plain.{NoFeed};
