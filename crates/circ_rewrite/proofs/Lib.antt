@@ -7,3 +7,5 @@ pub mod Standings
 pub mod Advancing
 pub mod Runs
 pub mod Linked
+pub mod RuleLists
+pub mod Known
