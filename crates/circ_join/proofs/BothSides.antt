@@ -1,5 +1,5 @@
 -- Matching a goal's two sides at once.
-use Rattle.std.proofs.Common.{◌≡◌, ℕ, Bool, true, false, ◌&&◌, ◌||◌, if◌then◌else◌, List, [], ◌∷◌, map, Option, Some, None, unwrap_or, is_some, refl, ap, sym, ◌∙◌}
+use Rattle.std.proofs.Common.{◌≡◌, ℕ, Bool, true, false, ◌||◌, if◌then◌else◌, List, [], ◌∷◌, map, Option, Some, None, unwrap_or, is_some, refl, ap, sym, ◌∙◌}
 use Rattle.std.specs.Option.{option_or}
 use Rattle.std.specs.List.{list_any}
 use Rattle.std.specs.List.Sorted.{IsStrictlySortedBy}
@@ -16,7 +16,7 @@ use Rattle.circ_theory.proofs.BoundTerms.{bound_terms, variables_apart}
 use Rattle.circ_match.specs.Matcher.{IsMatcher, Makes, has_variable}
 use Rattle.circ_match.proofs.Variables.{instance-variable}
 use Rattle.circ_replay.specs.Goals.{sides}
-use Rattle.circ_rewrite.specs.Matching.{image, matching}
+use Rattle.circ_rewrite.specs.Matching.{image}
 use Rattle.circ_rewrite.specs.Due.{terms_by}
 use Rattle.circ_rewrite.proofs.MatchingFacts.{is_same_term, image-instance, matching-sorts}
 use Rattle.circ_rewrite.proofs.RuleTerms.{has_variable-occurrences, any_seen_in}

@@ -1,17 +1,16 @@
 -- Join in steps.
-use Rattle.std.proofs.Common.{◌≡◌, ◌≢◌, ◌↔◌, ◌≤◌, ◌<◌, ℕ, zero, suc, ◌+◌, ◌-◌, length, Bool, true, false, ◌==◌, ◌&&◌, if◌then◌else◌, List, [], ◌∷◌, ◌++◌, map, drop, take, get_or, Option, Some, None, Result, Ok, Err, refl, ap, sym, subst, ◌∙◌, arith, append_assoc, length-append}
+use Rattle.std.proofs.Common.{◌≡◌, ◌≢◌, ◌↔◌, ◌≤◌, ◌<◌, ℕ, suc, ◌+◌, ◌-◌, length, Bool, true, false, ◌==◌, ◌&&◌, if◌then◌else◌, List, [], ◌∷◌, ◌++◌, drop, take, get_or, Option, Some, None, Ok, refl, ap, sym, subst, ◌∙◌, arith, append_assoc, length-append}
 use Rattle.std.specs.Prelude.{IsTrue}
-use Rattle.std.specs.Option.{option_map, option_or}
-use Rattle.std.proofs.lemmas.Option.{same_Some}
+use Rattle.std.specs.Option.{option_map}
 use Rattle.std.proofs.lemmas.List.{drop_all}
-use Rattle.circ_term.specs.Tree.{Tree, Trees, Var, App, none, more, trees_of}
+use Rattle.circ_term.specs.Tree.{Tree, Trees, Var, App, trees_of}
 use Rattle.circ_term.specs.Order.{is_same}
 use Rattle.circ_term.proofs.Order.{same_itself}
 use Rattle.circ_term.proofs.Within.{drop_read}
 use Rattle.circ_theory.specs.declared.parts.Goal.{Goal}
 use Rattle.circ_special.specs.declared.place.Place.{Place}
 use Rattle.circ_aci.proofs.Finding.{told_same}
-use Rattle.circ_plain_search.specs.Joining.{HypothesisUse, one_use, first_use, meets, beside, joined, all_joined, is_place}
+use Rattle.circ_plain_search.specs.Joining.{HypothesisUse, first_use, beside, joined, all_joined, is_place}
 use Rattle.circ_join.specs.Uses.{Joins}
 
 pub joined_same : (G : List Place) (H : List Goal) (q : List ℕ) (a b : Tree) → a ≡ b → joined G H q a b ≡ Some []

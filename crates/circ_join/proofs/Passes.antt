@@ -1,5 +1,5 @@
 -- A lemma pass in steps.
-use Rattle.std.proofs.Common.{◌≡◌, ℕ, ◌+◌, Bool, ◌==◌, true, false, ◌++◌, if◌then◌else◌, List, [], ◌∷◌, map, length, Option, Some, None, refl, ap, sym, ◌∙◌}
+use Rattle.std.proofs.Common.{◌≡◌, ℕ, ◌+◌, Bool, ◌==◌, true, false, ◌++◌, if◌then◌else◌, List, [], ◌∷◌, map, length, Some, None, refl, ap, sym, ◌∙◌, arith}
 use Rattle.std.proofs.lemmas.Bool.{eqb-true}
 use Rattle.std.specs.List.Sorted.{IsStrictlySortedBy}
 use Rattle.circ_term.specs.Tree.{Tree, Trees, Var, App, none, more}
@@ -14,7 +14,7 @@ use Rattle.circ_rewrite.specs.Due.{rule_variables, terms_by, IsRewriteRule}
 use Rattle.circ_rewrite.specs.declared.parts.Rule.{Rule}
 use Rattle.circ_rewrite.proofs.MatchingFacts.{matches-instance, no_match, matcher_agrees}
 use Rattle.circ_rewrite.proofs.RuleTerms.{terms_of_rule}
-use Rattle.circ_plain_search.specs.Joining.{HypothesisUse, use_with, rule_number, lemma_use, first_lemma, or_inside, is_place, swept, all_swept}
+use Rattle.circ_plain_search.specs.Joining.{HypothesisUse, use_with, rule_number, lemma_use, first_lemma, is_place, swept, all_swept}
 
 map_same : {X Y : Type 0} (f g : X → Y) (xs : List X) → ((x : X) → f x ≡ g x) → map f xs ≡ map g xs
 map_same f g [] h = refl

@@ -1,5 +1,5 @@
 -- Whether an argument is a place of a set.
-use Rattle.std.proofs.Common.{◌≡◌, ◌↔◌, ◌<◌, ℕ, zero, suc, length, Bool, true, false, ◌==◌, ◌&&◌, ◌||◌, List, [], ◌∷◌, ap, sym, ◌∙◌, arith, refl}
+use Rattle.std.proofs.Common.{◌≡◌, ◌↔◌, ◌<◌, ℕ, zero, suc, length, Bool, true, false, ◌==◌, ◌&&◌, ◌||◌, List, [], ◌∷◌, ap, sym, arith, refl}
 use Rattle.std.specs.Prelude.{IsTrue, slice_index_or}
 use Rattle.std.specs.List.{Contains}
 use Rattle.std.proofs.lemmas.Bool.{eqb-true, eq-eqb, and_parts}

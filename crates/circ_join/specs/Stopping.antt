@@ -1,5 +1,5 @@
 -- What parts of a search answer that may stop it.
-use Rattle.std.specs.Prelude.{◌≡◌, ℕ, List, Some, Result, Ok, Err}
+use Rattle.std.specs.Prelude.{◌≡◌, ℕ, List, Result, Ok, Err}
 use Rattle.std.specs.Option.{unwrap_or}
 use Rattle.circ_term.specs.Tree.{Tree, replaced}
 use Rattle.circ_term.specs.Limits.{Big, Deep, first_limit}

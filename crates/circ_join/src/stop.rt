@@ -13,9 +13,13 @@ pub enum Stop {
     /// A rewrite step is due, and none is left.
     Spent,
     /// A term would have this many nodes.
-    TooBig { nodes: u64 },
+    TooBig {
+        nodes: u64,
+    },
     /// A term would have this depth.
-    TooDeep { depth: u64 },
+    TooDeep {
+        depth: u64,
+    },
     /// A case cannot be split further.
     Stuck {
         left: Term,

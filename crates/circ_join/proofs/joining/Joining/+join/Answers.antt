@@ -1,5 +1,5 @@
-use Rattle.std.proofs.Common.{◌≡◌, ◌≢◌, ◌≤◌, ◌<◌, ◌+◌, ◌*◌, length, map, ℕ, Bool, true, false, List, [], ◌∷◌, ◌++◌, Some, None, refl, ap, sym, ◌∙◌, arith}
-use Rattle.circ_term.specs.Tree.{Tree, trees_of, list_of-trees_of, depth_of, args_of}
+use Rattle.std.proofs.Common.{◌≡◌, length, map, List, [], ◌∷◌, ◌++◌, refl, ap, sym, ◌∙◌, arith}
+use Rattle.circ_term.specs.Tree.{trees_of, list_of-trees_of, depth_of, args_of}
 use Rattle.circ_term.proofs.Within.{depth_at}
 use Rattle.circ_plain_search.specs.Joining.{HypothesisUse}
 use Rattle.circ_join.specs.Uses.{plain_use, plain_uses}
@@ -11,17 +11,21 @@ map_append f [] ys = refl
 map_append f (x ∷ xs) ys = ap (λ r. f x ∷ r) (map_append f xs ys)
 
 pub joins-returns-then-same-clause-exact : goal.joins-returns-then-same-clause-exact
-joins-returns-then-same-clause-exact t c =
-    ([], joined_same c.args.self.now.gamma.now c.args.self.now.hyps.now c.args.path.now.items c.args.a.now c.args.b.now (c.same.ensures.0 c.if-same.true),
-    nil_joints (plain_uses c.args.uses.now.items))
+joins-returns-then-same-clause-exact t c = (
+  [],
+  joined_same c.args.self.now.gamma.now c.args.self.now.hyps.now c.args.path.now.items c.args.a.now c.args.b.now (c.same.ensures.0 c.if-same.true),
+  nil_joints (plain_uses c.args.uses.now.items),
+)
 
 pub joins-returns-in-Some-clause-exact : goal.joins-returns-in-Some-clause-exact
 joins-returns-in-Some-clause-exact t c =
     let j : HypothesisUse = plain_use c.in-Some.one in
-    let used = rw (c.in-Some.is, c.as_slice.ensures) at c.in_ok-one.ensures in
-    (j ∷ [], joined_used c.args.self.now.gamma.now c.args.self.now.hyps.now c.args.path.now.items c.args.a.now c.args.b.now j
-    (not_same c.same.result c.args.a.now c.args.b.now c.same.ensures c.if-same.false) (sym used),
-    ap plain_uses c.in_ok-push.ensures.items ∙ map_append plain_use c.args.uses.now.items (c.in-Some.one ∷ []))
+    let used = rw (c.in-Some.is, c.as_slice.ensures) at c.in_ok-one.ensures in (
+      j ∷ [],
+      joined_used c.args.self.now.gamma.now c.args.self.now.hyps.now c.args.path.now.items c.args.a.now c.args.b.now j
+          (not_same c.same.result c.args.a.now c.args.b.now c.same.ensures c.if-same.false) (sym used),
+      ap plain_uses c.in_ok-push.ensures.items ∙ map_append plain_use c.args.uses.now.items (c.in-Some.one ∷ []),
+    )
 
 pub joins-all_join-requires : goal.joins-all_join-requires
 joins-all_join-requires t c =
@@ -36,8 +40,8 @@ joins-returns-else-sort-other_sort-clause-exact t c =
     let x = c.in-Application-Application in
     let none = rw (c.in_default.is, c.as_slice.ensures) at c.in_ok-one.ensures in
     let e = joined_all c.args.self.now.gamma.now c.args.self.now.hyps.now c.args.path.now.items c.args.a.now c.args.b.now x.op x.sort x.other_op x.other_sort
-        (trees_of x.args.now) (trees_of x.others.now) x.ensures.value x.ensures'.value (not_same c.same.result c.args.a.now c.args.b.now c.same.ensures c.if-same.false) (sym none)
-        c.if-op-other_op.false c.if-sort-other_sort.false in
+    (trees_of x.args.now) (trees_of x.others.now) x.ensures.value x.ensures'.value (not_same c.same.result c.args.a.now c.args.b.now c.same.ensures c.if-same.false) (sym none)
+    c.if-op-other_op.false c.if-sort-other_sort.false in
     rw e c.all_join.ensures.exact
 
 pub all_join-returns-then-args-others-clause-exact : goal.all_join-returns-then-args-others-clause-exact
@@ -77,7 +81,7 @@ all_join-loop-i-preserved t c =
     record {
       path = c.in_ok-joins_at.ensures.path ∙ c.loop-i.invariant.path;
       going = going_on c.args.self.now.gamma.now c.args.self.now.hyps.now c.args.op c.args.path.now.items c.args.args.now c.args.others.now
-    (plain_uses c.args.uses.now.items) (plain_uses c.loop-i.uses.items) (plain_uses c.joins_at.new.uses.items) c.loop-i.i c.index-args-i.result c.index-others-i.result c.loop-i.invariant.going c.loop-i-test.true c.index-args-i.is
-    c.index-others-i.is
+          (plain_uses c.args.uses.now.items) (plain_uses c.loop-i.uses.items) (plain_uses c.joins_at.new.uses.items) c.loop-i.i c.index-args-i.result c.index-others-i.result c.loop-i.invariant.going c.loop-i-test.true c.index-args-i.is
+          c.index-others-i.is
           (not_same c.same.result c.index-args-i.result c.index-others-i.result c.same.ensures c.if-same.false) (sym c.has_place.ensures ∙ c.if-not-has_place.false) j;
     }
