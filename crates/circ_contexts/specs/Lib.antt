@@ -1,0 +1,2 @@
+pub mod TheoryRules
+pub mod Greatest

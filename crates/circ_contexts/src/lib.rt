@@ -1,0 +1,6 @@
+//! The greatest special set of a theory, with the certificates of its places.
+//!
+//! `GreatestSpecialSet` of specs/ says which set that is. [`laws`] states what is proved of it.
+#![tactic(auto)]
+
+pub mod laws;
