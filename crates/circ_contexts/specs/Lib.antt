@@ -1,2 +1,3 @@
 pub mod TheoryRules
 pub mod Greatest
+pub mod Keeps
