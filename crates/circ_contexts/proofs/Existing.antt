@@ -1,15 +1,13 @@
 -- It cannot be that a theory has no greatest special set: the places of all self-guarded sets are one.
-use Rattle.std.specs.Prelude.{◌≡◌, ℕ, List, [], ◌∷◌, ◌++◌, map, Option, Some, None}
-use Rattle.std.specs.List.{Contains, slice_get}
-use Rattle.std.specs.Option.{option_map_or}
-use Rattle.std.proofs.Common.{refl, sym, subst}
-use Rattle.std.proofs.lemmas.List.Elements.{Contains-append_left}
+use Rattle.std.specs.Prelude.{ℕ, List, [], ◌∷◌, ◌++◌, map}
+use Rattle.std.specs.List.{Contains}
 use Rattle.circ_term.specs.Tree.{Tree}
 use Rattle.circ_theory.specs.Theory.{Theory, Derivative}
 use Rattle.circ_theory.proofs.Casing.{contains_first}
 use Rattle.circ_theory.proofs.Weakening.{in_rest}
 use Rattle.circ_special.specs.declared.place.Place.{Place}
-use Rattle.circ_special.specs.Special.{IsIncreasing, IsWithin}
+use Rattle.circ_special.specs.Special.{IsWithin}
+use Rattle.circ_special.specs.Guarded.{Guarded}
 use Rattle.circ_special.proofs.Larger.{guarded_more}
 use Rattle.circ_rewrite.specs.Replacement.{Traced}
 use Rattle.circ_rules.specs.Certified.{due, derivatives_at}
@@ -20,9 +18,9 @@ use Rattle.circ_contexts.proofs.Places.{all_places, all_increase, is_listed, inc
 
 module _ (th : Theory) (budget : ℕ) where
   -- traces of what is due, where each has a normal form
-  record SomeTraces (xs : List (Place × Derivative)) : Type 0 where
-    traces : List (List Traced)
-    are : AreTraces th budget xs traces
+  pub record SomeTraces (xs : List (Place × Derivative)) : Type 0 where
+    pub traces : List (List Traced)
+    pub are : AreTraces th budget xs traces
 
   before_others : (g : Place) (ds : List Derivative) (xs : List (Place × Derivative))
       → ((d : Derivative) → Contains ds d → (normal : Tree) × (traces : List Traced) × HasNormalForm th budget g d normal traces)
@@ -48,12 +46,15 @@ module _ (th : Theory) (budget : ℕ) where
 
   is_greatest : (G : List Place) → Keeps IsOfOne (all_places 0 th.signature.ops) G
       → (tss : List (List Traced)) × GreatestSpecialSet th budget G tss
-  is_greatest G k = (made.traces, record {
-    increasing = increasing_kept IsOfOne k (all_increase 0 th.signature.ops);
-    self_guarded = record { candidates = candidates; guarded = guarded };
-    greatest = greatest;
-    recorded = made.are;
-  })
+  is_greatest G k = (
+    made.traces,
+    record {
+      increasing = increasing_kept IsOfOne k (all_increase 0 th.signature.ops);
+      self_guarded = record { candidates = candidates; guarded = guarded };
+      greatest = greatest;
+      recorded = made.are;
+    },
+  )
     where
       greatest : (F : List Place) → IsSelfGuarded th budget F → IsWithin F G
       greatest F s g c =
@@ -63,7 +64,7 @@ module _ (th : Theory) (budget : ℕ) where
       candidates g c = let o = (kept_from IsOfOne k g c).1 in o.self_guarded.candidates g o.of
 
       guarded : (g : Place) → Contains G g → (d : Derivative) → Contains (derivatives_at th g) d → (normal : Tree) (traces : List Traced)
-          → (h : HasNormalForm th budget g d normal traces) → _
+          → (h : HasNormalForm th budget g d normal traces) → Guarded th G normal 0 h.place.sort
       guarded g c d l normal traces h =
           let o = (kept_from IsOfOne k g c).1 in
           guarded_more th o.set G (greatest o.set o.self_guarded) normal 0 h.place.sort (o.self_guarded.guarded g o.of d l normal traces h)

@@ -1,5 +1,5 @@
 -- Places in increasing order: all arguments of a theory's operators, and two such lists with the same places.
-use Rattle.std.specs.Prelude.{◌≡◌, ◌≤◌, ◌<◌, ◌+◌, ℕ, zero, suc, true, false, List, [], ◌∷◌, ◌++◌, length, Some, refl}
+use Rattle.std.specs.Prelude.{◌≡◌, ◌≤◌, ◌+◌, ℕ, zero, suc, true, false, List, [], ◌∷◌, ◌++◌, Some, refl}
 use Rattle.std.specs.List.{Contains, slice_get}
 use Rattle.std.proofs.Common.{ap, sym, subst, ◌∙◌, inl, inr, arith}
 use Rattle.std.proofs.lemmas.Bool.Decides.{nat_tests}
@@ -55,12 +55,18 @@ increasing_kept P (keeps {xs = ps} {ys = qs} p x k) i =
     increasing_first p qs (λ q c. before_all p q ps i (kept_from P k q c).0) (increasing_kept P k (increasing_tail p ps i))
 increasing_kept P (drops {xs = ps} p n k) i = increasing_kept P k (increasing_tail p ps i)
 
+behind_first : (p x : Place) (xs : List Place) → Contains (p ∷ xs) x → comes_before p x ≡ true → Contains xs x
+behind_first p x xs c b = elim (first_or_rest p x xs c) [
+  | inl e ↦ absurd (never_before x (subst (λ y. comes_before y x ≡ true) e b))
+  | inr d ↦ d
+]
+
 -- two increasing lists with the same places are the same
 pub same_places : (G F : List Place) → IsIncreasing G → IsIncreasing F → IsWithin G F → IsWithin F G → G ≡ F
 same_places [] [] i j w v = refl
 same_places [] (f ∷ F) i j w v = contains_none f (v f (contains_first f F))
 same_places (g ∷ G) [] i j w v = contains_none g (w g (contains_first g G))
-same_places (g ∷ G) (f ∷ F) i j w v = go first
+same_places (g ∷ G) (f ∷ F) i j w v = go first (same_places G F (increasing_tail g G i) (increasing_tail f F j))
   where
     -- the two first places are one: else each would come before the other
     first : g ≡ f
@@ -72,17 +78,11 @@ same_places (g ∷ G) (f ∷ F) i j w v = go first
       ]
     ]
 
-    rest : (p x : Place) (xs : List Place) → Contains (p ∷ xs) x → comes_before p x ≡ true → Contains xs x
-    rest p x xs c b = elim (first_or_rest p x xs c) [
-      | inl e ↦ absurd (never_before x (subst (λ y. comes_before y x ≡ true) e b))
-      | inr d ↦ d
-    ]
-
-    go : g ≡ f → g ∷ G ≡ f ∷ F
-    go e =
-        let others = same_places G F (increasing_tail g G i) (increasing_tail f F j)
-        (λ x c. rest f x F (w x (in_rest g x G c)) (subst (λ y. comes_before y x ≡ true) e (before_all g x G i c)))
-        (λ x c. rest g x G (v x (in_rest f x F c)) (subst (λ y. comes_before y x ≡ true) (sym e) (before_all f x F j c))) in
+    go : g ≡ f → (IsWithin G F → IsWithin F G → G ≡ F) → g ∷ G ≡ f ∷ F
+    go e same =
+        let others = same
+        (λ x c. behind_first f x F (w x (in_rest g x G c)) (subst (λ y. comes_before y x ≡ true) e (before_all g x G i c)))
+        (λ x c. behind_first g x G (v x (in_rest f x F c)) (subst (λ y. comes_before y x ≡ true) (sym e) (before_all f x F j c))) in
         ap (λ x. x ∷ G) e ∙ ap (λ xs. f ∷ xs) others
 
 -- ---- all arguments of operators
@@ -152,6 +152,8 @@ listed_all f (suc i) (p ∷ os) o x e c =
 
 pub is_listed : (th : Theory) (g : Place) → IsPlace th g → Contains (all_places 0 th.signature.ops) g
 is_listed th g p =
-    let op = g.op in
-    let arg = g.arg in
-    listed_all 0 g.op th.signature.ops p.operator g p.listed (listed_from g.op 0 g.arg p.operator.args p.sort p.argument)
+    let op : 0 + g.op ≡ g.op = omega arith in
+    let arg : 0 + g.arg ≡ g.arg = omega arith in
+    listed_all 0 g.op th.signature.ops p.operator g p.listed
+    (subst (λ n. Contains (places_from n 0 p.operator.args) g) (sym op)
+    (subst (λ n. Contains (places_from g.op 0 p.operator.args) (place g.op n)) arg (listed_from g.op 0 g.arg p.operator.args p.sort p.argument)))

@@ -1,5 +1,5 @@
 -- A theory has one greatest special set, and one list of traces goes with it.
-use Rattle.std.specs.Prelude.{◌≡◌, ℕ, List, [], ◌∷◌, Some}
+use Rattle.std.specs.Prelude.{◌≡◌, ℕ, List, [], ◌∷◌}
 use Rattle.std.specs.List.{slice_get}
 use Rattle.std.proofs.Common.{refl, ap, sym, subst, ◌∙◌}
 use Rattle.std.proofs.lemmas.Option.{same_Some}
@@ -11,8 +11,8 @@ use Rattle.circ_special.specs.Special.{IsPlace}
 use Rattle.circ_rewrite.specs.Norm.{Normalised, Normal_form, Budget_spent, Limit_passed, norm}
 use Rattle.circ_rewrite.specs.Replacement.{Traced}
 use Rattle.circ_rules.specs.Certified.{start_term, due}
-use Rattle.circ_contexts.specs.TheoryRules.{theory_rules}
-use Rattle.circ_contexts.specs.Greatest.{HasNormalForm, IsSelfGuarded, AreTraces, GreatestSpecialSet}
+use Rattle.circ_rewrite.specs.TheoryRules.{theory_rules}
+use Rattle.circ_contexts.specs.Greatest.{HasNormalForm, AreTraces, GreatestSpecialSet}
 use Rattle.circ_contexts.proofs.Places.{same_places}
 
 -- a place has one operator, and one sort
@@ -23,12 +23,12 @@ pub one_sort : (th : Theory) (g : Place) (p q : IsPlace th g) → p.sort ≡ q.s
 one_sort th g p q = same_Some p.sort q.sort (sym p.argument ∙ ap (λ (o : Operator). slice_get o.args g.arg) (one_operator th g p q) ∙ q.argument)
 
 -- what a normal form is, and its traces
-normal_of : Normalised → Tree
+abbrev normal_of : Normalised → Tree
 normal_of (Normal_form u ts left) = u
 normal_of Budget_spent = Var 0 0
 normal_of (Limit_passed l left) = Var 0 0
 
-traces_of : Normalised → List Traced
+abbrev traces_of : Normalised → List Traced
 traces_of (Normal_form u ts left) = ts
 traces_of Budget_spent = []
 traces_of (Limit_passed l left) = []

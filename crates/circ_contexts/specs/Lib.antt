@@ -1,3 +1,2 @@
-pub mod TheoryRules
 pub mod Greatest
 pub mod Keeps
