@@ -1,5 +1,5 @@
 pub mod Keeping
-pub mod Places
+pub mod Increasing
 pub mod Unique
 pub mod Existing
 pub mod Certifying

@@ -11,6 +11,7 @@ use Rattle.circ_theory.proofs.Casing.{contains_first}
 use Rattle.circ_theory.proofs.Weakening.{first_or_rest, in_rest}
 use Rattle.circ_special.specs.declared.place.Place.{Place}
 use Rattle.circ_special.specs.Special.{IsPlace, IsIncreasing, IsWithin, comes_before, place}
+use Rattle.circ_contexts.specs.Candidates.{places_from, all_places}
 use Rattle.circ_contexts.specs.Keeps.{Keeps, ends, keeps, drops}
 use Rattle.circ_contexts.proofs.Keeping.{contains_none, pick, kept_from}
 
@@ -84,18 +85,6 @@ same_places (g ∷ G) (f ∷ F) i j w v = go first (same_places G F (increasing_
         (λ x c. behind_first f x F (w x (in_rest g x G c)) (subst (λ y. comes_before y x ≡ true) e (before_all g x G i c)))
         (λ x c. behind_first g x G (v x (in_rest f x F c)) (subst (λ y. comes_before y x ≡ true) (sym e) (before_all f x F j c))) in
         ap (λ x. x ∷ G) e ∙ ap (λ xs. f ∷ xs) others
-
--- ---- all arguments of operators
-
--- the arguments of operator f, the first of which has the number i
-abbrev pub places_from : (f i : ℕ) → (sorts : List ℕ) → List Place
-places_from f i [] = []
-places_from f i (s ∷ ss) = place f i ∷ places_from f (i + 1) ss
-
--- those of operators, the first of which has the number f
-abbrev pub all_places : (f : ℕ) → List Operator → List Place
-all_places f [] = []
-all_places f (o ∷ os) = places_from f 0 o.args ++ all_places (f + 1) os
 
 -- ---- they increase
 
