@@ -16,12 +16,12 @@ use Rattle.circ_rewrite.specs.declared.parts.RuleName.TheVariants as name
 use Rattle.circ_script.specs.Script.{Script}
 use Rattle.circ_script.specs.declared.job.Job.TheVariants as job
 use Rattle.circ_top.specs.Command.{Reduce}
-use Rattle.circ_top.specs.Files.{Held, RefusesFile}
-use Rattle.circ_top.specs.ScriptFile.{ReadsScript, TakesScript, ScriptRefusal, IsScriptFault}
-use Rattle.circ_top.specs.Texts.{refusal_text}
-use Rattle.circ_top.specs.TheoryFile.{ReadsTheory, TakesTheory, TheoryRefusal, IsTheoryFault}
-use Rattle.circ_top.specs.declared.status.Status.{Status}
-use Rattle.circ_top.specs.declared.status.Status.TheVariants as status
+use Rattle.circ_files.specs.Files.{Held, RefusesFile}
+use Rattle.circ_files.specs.ScriptFile.{ReadsScript, TakesScript, ScriptRefusal, IsScriptFault}
+use Rattle.circ_top.specs.Refusals.{refusal_text}
+use Rattle.circ_files.specs.TheoryFile.{ReadsTheory, TakesTheory, TheoryRefusal, IsTheoryFault}
+use Rattle.circ_files.specs.declared.status.Status.{Status}
+use Rattle.circ_files.specs.declared.status.Status.TheVariants as status
 
 -- an equation as a rule, which its number names
 abbrev pub rule_of : (number : ℕ) → Equation → Rule

@@ -3,16 +3,13 @@ ghost use Rattle.std.specs.Prelude.{◌≡◌, ◌++◌, ◌≤◌, ◌<◌, ◌
 ghost use Rattle.std.specs.List.{AllByRecursion};
 ghost use Rattle.circ_outer.specs.Shelf.{ShelfFrame};
 ghost use Rattle.circ_rewrite.specs.Due.{IsRewriteRule};
-ghost use Rattle.circ_top.specs.Quiet.{IsQuietCall};
+ghost use Rattle.circ_files.specs.Quiet.{IsQuietCall};
 ghost use Rattle.circ_top.specs.Reduce.{rules_of, reduced, Reduces, Ends, Results, FaultEnds};
 ghost use Rattle.circ_top.specs.Reduce.{result_line, results_text, IsReduced, RefusesReduce};
 ghost use Rattle.circ_top.specs.Reduce.{fault_status};
 
-use crate::script_file::take_script;
-use crate::status::Status;
-use crate::texts::push_numbered;
-use crate::theory_file::take_theory;
 use crate::theory_rules::rules;
+use circ_files::{Status, push_numbered, take_script, take_theory};
 use circ_mixfix::print;
 use circ_outer::Shelf;
 use circ_rewrite::{RewriteFault, Rule, normalise};
