@@ -47,7 +47,7 @@ pub quiet_but_after : (before middle after : ShelfState) (s : Status) → IsQuie
 quiet_but_after before middle after (status.ReadFault n) q r = tt
 quiet_but_after before middle after s q r = quiet_after before middle after q r
 
-quiet_any : (before after : ShelfState) (s : Status) → IsQuiet before after → IsQuietBut before after s
+pub quiet_any : (before after : ShelfState) (s : Status) → IsQuiet before after → IsQuietBut before after s
 quiet_any before after (status.ReadFault n) q = tt
 quiet_any before after s q = q
 

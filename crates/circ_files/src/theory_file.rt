@@ -13,11 +13,7 @@ use circ_theory::Theory;
 use std::alloc::Global;
 
 /// The theory that file 1 reads as, or why there is none.
-pub fn take_theory<S: Shelf>(
-    alloc: Global,
-    shelf: &mut S,
-    name: &str,
-) -> Result<Theory, Status>
+pub fn take_theory<S: Shelf>(alloc: Global, shelf: &mut S, name: &str) -> Result<Theory, Status>
     ensures takes { IfOk result (λ th. TakesTheory name.now th (S.state shelf.old)) }
     ensures fault { IfErr result (IsTheoryFault name.now (S.state shelf.old) (S.state shelf.new)) }
     ensures quiet { IsQuietCall (S.state shelf.old) (S.state shelf.new) result }

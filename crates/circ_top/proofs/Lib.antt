@@ -11,7 +11,6 @@ pub mod Agreeing
 pub mod CheckOutcomes
 pub mod ShowOutcomes
 pub mod Ends
-pub mod RuleLists
 pub mod Reducing
 pub mod ReduceOutcomes
 pub mod Outcomes

@@ -11,7 +11,6 @@ mod refusals;
 mod request;
 mod show;
 pub mod sure;
-mod theory_rules;
 mod words;
 
 pub use circ_files::Status;
