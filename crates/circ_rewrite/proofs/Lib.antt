@@ -7,3 +7,4 @@ pub mod Standings
 pub mod Advancing
 pub mod Runs
 pub mod Linked
+pub mod RuleLists

@@ -6,8 +6,10 @@ pub mod Plain
 pub mod Standing
 pub mod Fitting
 pub mod Choosing
+pub mod Code
 pub mod Index
 pub mod Working
 pub mod Reductions
 pub mod Links
+pub mod TheoryRules
 pub mod Examples

@@ -18,12 +18,12 @@ use Rattle.circ_rewrite.specs.declared.work.Work.{Work}
 
 -- what may be used to rewrite is as the work asks
 pub record IsReady (m : Means) : Type 0 where
-  pub index : IsIndex m.index.now
-  pub rules : AllByRecursion IsRewriteRule m.index.now.rules.now
+  pub rows : IsIndex m.rules.now m.rows.now
+  pub rules : AllByRecursion IsRewriteRule m.rules.now
   pub few : length m.assumptions.now < 2 ^ 32
 
 abbrev pub due_by : Means → Tree → Option Replacement
-due_by m = due_under m.theory.now.signature m.index.now.rules.now m.assumptions.now
+due_by m = due_under m.theory.now.signature m.rules.now m.assumptions.now
 
 -- what comes of going on from here
 abbrev pub from_here : Means → Work → Normalised

@@ -9,7 +9,7 @@ ghost use Rattle.circ_rewrite.specs.Choosing.{chosen, Chooses};
 ghost use Rattle.circ_rewrite.specs.Working.{IsReady, due_by};
 
 use crate::fitting::fits;
-use crate::index::RuleIndex;
+use crate::index::Rows;
 use crate::parts::{Rule, RuleName};
 use circ_aci::{canonical, is_canonical};
 use circ_match::match_term;
@@ -21,7 +21,8 @@ use std::alloc::{AllocError, Global};
 #[derive(Clone, Copy)]
 pub(crate) struct Means<'a> {
     pub(crate) theory: &'a Theory,
-    pub(crate) index: &'a RuleIndex<'a>,
+    pub(crate) rules: &'a [Rule],
+    pub(crate) rows: &'a Rows,
     pub(crate) assumptions: &'a [Goal],
 }
 
@@ -76,7 +77,7 @@ fn choose_besides<'a>(
     if !is_canonical(means.theory, op, here) {
         return Ok(Some(Choice::Content { op }));
     }
-    ruled(alloc, means.index, here)
+    ruled(alloc, means.rules, means.rows, here)
 }
 
 fn assumed<'a>(assumptions: &'a [Goal], here: &Term) -> Option<Choice<'a>>
@@ -98,20 +99,19 @@ fn assumed<'a>(assumptions: &'a [Goal], here: &Term) -> Option<Choice<'a>>
 // The rules in the term's row are tried in the order of their numbers.
 fn ruled<'a>(
     alloc: Global,
-    index: &RuleIndex<'a>,
+    rules: &'a [Rule],
+    rows: &Rows,
     here: &Term,
 ) -> Result<Option<Choice<'a>>, AllocError>
-    requires index { IsIndex index.now }
-    requires rules { AllByRecursion IsRewriteRule index.now.rules.now }
-    ensures { (sig : Signature) → IfOk result
-        (Chooses sig here.now (ruled index.now.rules.now here.now)) }
+    requires rows { IsIndex rules.now rows.now }
+    requires rules { AllByRecursion IsRewriteRule rules.now }
+    ensures { (sig : Signature) → IfOk result (Chooses sig here.now (ruled rules.now here.now)) }
 {
-    let rules = index.rules;
-    let mut number = index.first(here);
+    let mut number = rows.first(here);
     while number < rules.len() {
         match try_rule(alloc, &rules[number], here)? {
             Some(choice) => return Ok(Some(choice)),
-            None => number = index.after(number),
+            None => number = rows.after(number),
         }
     }
     Ok(None)

@@ -1,27 +1,80 @@
 //! Rules, found by the operators at the roots of their left sides.
 ghost use Rattle.std.specs.Prelude.{◌≡◌, ◌<◌, ◌^◌, length, IfOk, ℕ, Some, replicate, slice_set};
-ghost use Rattle.std.specs.List.{slice_get};
+ghost use Rattle.std.specs.List.{slice_get, AllByRecursion};
+ghost use Rattle.circ_rewrite.specs.Due.{IsRewriteRule};
 ghost use Rattle.circ_rewrite.specs.Index.{row_of, IsIndex};
 
 use crate::parts::Rule;
 use circ_term::Term;
 use std::alloc::{AllocError, Global};
+use std::marker::Model;
+
+/// Rewrite rules in their order, found by the operators at the roots of their left sides. Contracts
+/// see the list of the rules.
+#[derive(Drop)]
+pub struct RuleIndex {
+    pub(crate) rules: Vec<Rule>,
+    pub(crate) rows: Rows,
+}
+
+impl Model for RuleIndex {
+    ghost use Rattle.std.specs.Prelude.{List};
+    ghost use Rattle.std.specs.Coded.{coded_list};
+    ghost use Rattle.circ_rewrite.specs.declared.parts.Rule.{Rule as TheRule};
+    ghost use Rattle.circ_rewrite.specs.Code.{rule_code};
+
+    ghost Value = { List TheRule };
+
+    ghost coded = { coded_list rule_code };
+
+    ghost use Rattle.circ_rewrite.specs.Index.{IsRuleIndex};
+
+    ghost view = { λ a. a.rules.items };
+
+    ghost invariant = { λ a. IsRuleIndex a.rules.items a.rows };
+}
+
+impl RuleIndex {
+    /// The index of these rules.
+    pub fn of(alloc: Global, rules: Vec<Rule>) -> Result<RuleIndex, AllocError>
+        requires rules { AllByRecursion IsRewriteRule rules.items }
+        requires few { length rules.items < 2 ^ 32 }
+        ensures { IfOk result (λ x. x ≡ rules.items) }
+    {
+        let rows = Rows::of(alloc, rules.as_slice())?;
+        Ok(RuleIndex { rules, rows })
+    }
+
+    /// The rules, in their order.
+    pub fn rules(&self) -> &[Rule]
+        ensures value { result.now ≡ self.now }
+        ensures rewrite { AllByRecursion IsRewriteRule self.now }
+        ensures few { length self.now < 2 ^ 32 }
+    {
+        self.rules.as_slice()
+    }
+
+    // Their rows.
+    pub(crate) fn rows(&self) -> &Rows
+        ensures { IsIndex self.now result.now }
+    {
+        &self.rows
+    }
+}
 
 // Rules in rows. All rules with one operator at the root stand in one row, in the order of their
 // numbers: `heads` has the first of each row, and `next` has for each rule the next one. Past the
 // last stands the number of all rules. That a row has rules of several operators does no harm.
 #[derive(Drop)]
-pub(crate) struct RuleIndex<'a> {
-    pub(crate) rules: &'a [Rule],
+pub(crate) struct Rows {
     heads: Vec<u32>,
     next: Vec<u32>,
 }
 
-impl<'a> RuleIndex<'a> {
-    pub(crate) fn of(alloc: Global, rules: &'a [Rule]) -> Result<RuleIndex<'a>, AllocError>
+impl Rows {
+    pub(crate) fn of(alloc: Global, rules: &[Rule]) -> Result<Rows, AllocError>
         requires few { length rules.now < 2 ^ 32 }
-        ensures rules { IfOk result (λ x. x.rules.now ≡ rules.now) }
-        ensures index { IfOk result (λ x. IsIndex x) }
+        ensures index { IfOk result (λ x. IsIndex rules.now x) }
     {
         let all = rules.len() as u32;
         let width = rules.len().max(1);
@@ -32,7 +85,7 @@ impl<'a> RuleIndex<'a> {
             let row = row_of(width, &rules[number].left);
             put_first(&mut heads, &mut next, row, number);
         }
-        Ok(RuleIndex { rules, heads, next })
+        Ok(Rows { heads, next })
     }
 
     // The number of the first rule in the term's row, past all rules where there is none.

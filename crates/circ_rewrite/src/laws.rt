@@ -4,7 +4,7 @@ ghost use Rattle.std.specs.Prelude.{◌≡◌, ℕ, List, [], ◌∷◌, map};
 ghost use Rattle.std.specs.List.{AllByRecursion};
 ghost use Rattle.circ_term.specs.Tree.{Tree};
 ghost use Rattle.circ_theory.specs.Signature.{Signature, IsWellSorted};
-ghost use Rattle.circ_theory.specs.Theory.{IsWellSortedPair};
+ghost use Rattle.circ_theory.specs.Theory.{Theory, IsWellSortedPair};
 ghost use Rattle.circ_theory.specs.WellFormed.{IsWellFormed};
 ghost use Rattle.circ_theory.specs.declared.parts.Goal.{Goal};
 ghost use Rattle.circ_replay.specs.Goals.{sides};
@@ -17,6 +17,7 @@ ghost use Rattle.circ_rewrite.specs.Due.{due_under};
 ghost use Rattle.circ_rewrite.specs.Norm.{Normal_form, Budget_spent, norm};
 ghost use Rattle.circ_rewrite.specs.Reductions.{IsReduction};
 ghost use Rattle.circ_rewrite.specs.Links.{IsRuleOf, AreLinks};
+ghost use Rattle.circ_rewrite.specs.TheoryRules.{theory_rules};
 ghost use Rattle.circ_rewrite.specs.Examples.{sums, a, b, plus, f, g, h, f_is, g_is, sum_is, b_is};
 ghost use Rattle.circ_rewrite.specs.Examples.{languages, acc, union, letter_a, letter_b, no, yes};
 ghost use Rattle.circ_rewrite.specs.Examples.{empty_words, b_has};
@@ -110,4 +111,10 @@ pub fn an_assumption_before_a_rule()
         record { path = 0 ∷ []; reason = By_rule (Equation 18) [] } ∷
         record { path = 1 ∷ []; reason = By_assumption 0 } ∷
         record { path = []; reason = By_rule (Equation 0) (yes ∷ []) } ∷ []) 95 }
+{}
+
+/// The rules of a well-formed theory are rules of it, whatever goals were proved before.
+pub fn theory_rules_are_rules()
+    ensures { (th : Theory) → IsWellFormed th → (goals : List Goal)
+        → AllByRecursion (IsRuleOf th goals) (theory_rules th) }
 {}

@@ -15,7 +15,7 @@ ghost use Rattle.circ_rewrite.specs.declared.fault.RewriteFault.TheVariants.{Mem
 
 use crate::choosing::{Choice, Means, build, choose};
 use crate::fault::RewriteFault;
-use crate::index::RuleIndex;
+use crate::index::{Rows, RuleIndex};
 use crate::parts::{Normal, Rule, Trace};
 use circ_term::{Path, Term, TermFault};
 use circ_theory::{Goal, Theory};
@@ -51,10 +51,34 @@ pub fn normalise(
         (norm theory.now.signature rules.now assumptions.now budget.old term.now) }
     ensures less { budget.new ≤ budget.old }
 {
-    let index = RuleIndex::of(alloc, rules)?;
+    let rows = Rows::of(alloc, rules)?;
     let means = Means {
         theory,
-        index: &index,
+        rules,
+        rows: &rows,
+        assumptions,
+    };
+    normal_form(alloc, &means, term, budget)
+}
+
+/// The same with rules whose index was made before, for many terms.
+pub fn normalise_by(
+    alloc: Global,
+    theory: &Theory,
+    index: &RuleIndex,
+    assumptions: &[Goal],
+    term: &Term,
+    budget: &mut u64,
+) -> Result<Normal, RewriteFault>
+    requires few_assumptions { length assumptions.now < 2 ^ 32 }
+    ensures exact { Answers result budget.new
+        (norm theory.now.signature index.now assumptions.now budget.old term.now) }
+    ensures less { budget.new ≤ budget.old }
+{
+    let means = Means {
+        theory,
+        rules: index.rules(),
+        rows: index.rows(),
         assumptions,
     };
     normal_form(alloc, &means, term, budget)
@@ -68,7 +92,7 @@ fn normal_form(
 ) -> Result<Normal, RewriteFault>
     requires ready { IsReady means.now }
     ensures exact { Answers result budget.new
-        (norm means.now.theory.now.signature means.now.index.now.rules.now
+        (norm means.now.theory.now.signature means.now.rules.now
         means.now.assumptions.now budget.old term.now) }
     ensures less { budget.new ≤ budget.old }
 {

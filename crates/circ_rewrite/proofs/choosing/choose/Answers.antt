@@ -6,7 +6,7 @@ pub returns-in-Some : goal.returns-in-Some
 returns-in-Some c =
     let m = c.args.means.now in
     let sig = m.theory.now.signature in
-    due_assumed sig m.index.now.rules.now m.assumptions.now c.args.here.now (chosen sig c.args.here.now c.in-Some.choice) (rw c.in-Some.is at (c.assumed.ensures sig))
+    due_assumed sig m.rules.now m.assumptions.now c.args.here.now (chosen sig c.args.here.now c.in-Some.choice) (rw c.in-Some.is at (c.assumed.ensures sig))
 
 pub choose_besides-requires-clause-none : goal.choose_besides-requires-clause-none
 choose_besides-requires-clause-none c = rw c.in-None.is at (c.assumed.ensures c.args.means.now.theory.now.signature)

@@ -7,32 +7,32 @@ use Rattle.circ_rewrite.proofs.choosing.ruled.Goals as goal
 
 pub loop-number-init : goal.loop-number-init
 loop-number-init c =
-    let x = c.args.index.now in
-    tried_first (length x.heads.items) x.rules.now c.args.here.now c.first-number.result c.requires.rules
-    (same_number (length x.heads.items) x.rules.now x.heads.items c.args.here.now c.first-number.result c.requires.index.wide c.requires.index.heads c.first-number.ensures)
+    let x = c.args.rows.now in
+    let rs = c.args.rules.now in
+    tried_first (length x.heads.items) rs c.args.here.now c.first-number.result c.requires.rules
+    (same_number (length x.heads.items) rs x.heads.items c.args.here.now c.first-number.result c.requires.rows.wide c.requires.rows.heads c.first-number.ensures)
 
 pub try_rule-requires : goal.try_rule-requires
-try_rule-requires c = rw c.index-rules-number.is (all_read IsRewriteRule c.args.index.now.rules.now c.loop-number.number c.index-rules-number.result c.requires.rules c.loop-number-test.true)
+try_rule-requires c = rw c.index-rules-number.is (all_read IsRewriteRule c.args.rules.now c.loop-number.number c.index-rules-number.result c.requires.rules c.loop-number-test.true)
 
 pub after-number-requires : goal.after-number-requires
-after-number-requires c = omega (arith, ap length c.requires.index.next, length-next_in (length c.args.index.now.heads.items) 0 c.args.index.now.rules.now, c.loop-number-test.true)
+after-number-requires c = omega (arith, ap length c.requires.rows.next, length-next_in (length c.args.rows.now.heads.items) 0 c.args.rules.now, c.loop-number-test.true)
 
 pub returns-in-Some : goal.returns-in-Some
 returns-in-Some c = λ sig.
-    let x = c.args.index.now in
-    tried_here (length x.heads.items) x.rules.now c.args.here.now c.loop-number.number c.index-rules-number.result _ c.loop-number.invariant c.loop-number-test.true
+    tried_here (length c.args.rows.now.heads.items) c.args.rules.now c.args.here.now c.loop-number.number c.index-rules-number.result _ c.loop-number.invariant c.loop-number-test.true
     c.index-rules-number.is (rw c.in-Some.is at (c.in_ok-choice.ensures sig))
 
 pub returns : goal.returns
-returns c = λ sig. tried_all (length c.args.index.now.heads.items) c.args.index.now.rules.now c.args.here.now c.loop-number.number c.loop-number-test.false c.loop-number.invariant
+returns c = λ sig. tried_all (length c.args.rows.now.heads.items) c.args.rules.now c.args.here.now c.loop-number.number c.loop-number-test.false c.loop-number.invariant
 
 went : (c : goal.After-after-number)
-    → IsTried (length c.args.index.now.heads.items) c.args.index.now.rules.now c.args.here.now c.after-number.result × (c.loop-number.number < c.after-number.result)
+    → IsTried (length c.args.rows.now.heads.items) c.args.rules.now c.args.here.now c.after-number.result × (c.loop-number.number < c.after-number.result)
 went c =
-    let x = c.args.index.now in
+    let x = c.args.rows.now in
     let none : Signature = record { sorts = []; ops = [] } in
-    tried_next (length x.heads.items) x.rules.now x.next.items c.args.here.now c.loop-number.number c.after-number.result c.index-rules-number.result
-    c.requires.rules c.requires.index.next c.loop-number.invariant c.loop-number-test.true c.index-rules-number.is
+    tried_next (length x.heads.items) c.args.rules.now x.next.items c.args.here.now c.loop-number.number c.after-number.result c.index-rules-number.result
+    c.requires.rules c.requires.rows.next c.loop-number.invariant c.loop-number-test.true c.index-rules-number.is
     (rw c.in-None.is at (c.in_ok-choice.ensures none)) c.after-number.ensures
 
 pub loop-number-smaller : goal.loop-number-smaller

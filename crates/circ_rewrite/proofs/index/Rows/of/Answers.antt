@@ -1,7 +1,7 @@
 use Rattle.std.proofs.Common.{◌≡◌, ◌-◌, length, ap, sym, ◌∙◌, subst, arith}
 use Rattle.circ_rewrite.specs.Index.{row_of, IsMade}
 use Rattle.circ_rewrite.proofs.Indexing.{made_start, made_next}
-use Rattle.circ_rewrite.proofs.index.RuleIndex.of.Goals as goal
+use Rattle.circ_rewrite.proofs.index.Rows.of.Goals as goal
 
 pub loop-done-init : goal.loop-done-init
 loop-done-init c =
