@@ -1,1 +1,4 @@
 pub mod Terms
+pub mod Led
+pub mod PairTerms
+pub mod Rules
