@@ -2,3 +2,4 @@ pub mod Terms
 pub mod Led
 pub mod PairTerms
 pub mod Rules
+pub mod Normals
