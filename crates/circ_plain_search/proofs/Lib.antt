@@ -5,3 +5,5 @@ pub mod Rules
 pub mod Normals
 pub mod Special
 pub mod Uses
+pub mod Joins
+pub mod Passes

@@ -20,6 +20,7 @@ use Rattle.circ_theory.proofs.Rewriting.{contains_at, given_substitution}
 use Rattle.circ_theory.proofs.Sorting.{KeepsSort, replaced_sorted, sorted_to, sort_instances}
 use Rattle.circ_special.specs.declared.place.Place.{Place}
 use Rattle.circ_special.specs.Special.{IsSpecial}
+use Rattle.circ_replay.specs.Plain.{LinkOf}
 use Rattle.circ_replay.specs.Goals.{sides, AreSortedGoals}
 use Rattle.circ_replay.specs.Link.{Setting, setting, Leads}
 use Rattle.circ_plain_search.specs.Joining.{Stop, HypothesisUse, use_link, pair_variables, and_then, within_or, put_in, put, put_all}
@@ -170,22 +171,43 @@ module _ (th : Theory) (m : ℕ) (G : List Place) (H : List Goal) (sorted : AreS
       let end : y.value ≡ u = same_Ok y.value u y.last in
       subst P (sym one) (use_leads q a b x t u it f there special (y.first ∙ ap Ok end))
 
-  -- uses on one argument, then on those after it
-  pub next_leads : (us vs : List HypothesisUse) (q : List ℕ) (f s : ℕ) (front : List Tree) (t u : Tree) (ts : Trees) (z x y : Tree)
+  -- Uses on one argument have led to w, in which it is u, and those after it are to lead to y.
+  pub record AfterOne (us vs : List HypothesisUse) (q : List ℕ) (f s : ℕ) (front : List Tree) (u : Tree) (ts : Trees) (x y : Tree) : Type 0 where
+    pub w : Tree
+    pub first : UsesLead th m G H us (q ++ length front ∷ []) u x w
+    pub made : replaced x q (row f s front (more u ts)) ≡ Some w
+    pub there : at w q ≡ Some (row f s (front ++ u ∷ []) ts)
+    pub special : IsSpecial G w q
+    pub last : put_all w vs ≡ Ok y
+
+  pub after_one : (us vs : List HypothesisUse) (q : List ℕ) (f s : ℕ) (front : List Tree) (t u : Tree) (ts : Trees) (x y : Tree)
       → at x q ≡ Some (row f s front (more t ts)) → IsSpecial G x q → put_all x (us ++ vs) ≡ Ok y
-      → ((w : Tree) → put_all x us ≡ Ok w → UsesLead th m G H us (q ++ length front ∷ []) u x w)
-      → ((w : Tree) → Fine th m w → at w q ≡ Some (row f s (front ++ u ∷ []) ts) → IsSpecial G w q → put_all w vs ≡ Ok y → UsesLead th m G H vs q z w y)
-      → UsesLead th m G H (us ++ vs) q z x y
-  next_leads us vs q f s front t u ts z x y there special e first last =
+      → ((w : Tree) → put_all x us ≡ Ok w → UsesLead th m G H us (q ++ length front ∷ []) u x w) → AfterOne us vs q f s front u ts x y
+  after_one us vs q f s front t u ts x y there special e first =
       let r : Through (put_all x us) (λ w. put_all w vs) y = through (put_all x us) (λ w. put_all w vs) y (sym (put_all_append us vs x) ∙ e) in
-      let a : UsesLead th m G H us (q ++ length front ∷ []) u x r.value = first r.value r.first in
+      let a = first r.value r.first in
       let made : replaced x q (row f s front (more u ts)) ≡ Some r.value
           = sym (replaced_below q (length front ∷ []) x (row f s front (more t ts)) u (row f s front (more u ts)) there (row_put f s front t u ts)) ∙ a.made in
-      let b : UsesLead th m G H vs q z r.value y
-          = last r.value a.led.fine (at_replaced q x (row f s front (more u ts)) r.value made ∙ ap Some (sym (row_next f s front u ts)))
-          (special_replaced G q x (row f s front (more u ts)) r.value made special) r.last in
-      let P : List _ → Type 0 = λ ls. Led around m ls x y in
       record {
-        led = subst P (sym (map_append use_link us vs)) (led_append around m (map use_link us) (map use_link vs) x r.value y a.led b.led);
-        made = sym (replaced_twice q x (row f s front (more u ts)) r.value z made) ∙ b.made;
+        w = r.value;
+        first = a;
+        made = made;
+        there = at_replaced q x (row f s front (more u ts)) r.value made ∙ ap Some (sym (row_next f s front u ts));
+        special = special_replaced G q x (row f s front (more u ts)) r.value made special;
+        last = r.last;
+      }
+
+  -- where uses one after another lead, the first lead
+  pub first_put : (us vs : List HypothesisUse) (x y : Tree) → put_all x (us ++ vs) ≡ Ok y → (w : Tree) × (put_all x us ≡ Ok w)
+  first_put us vs x y e =
+      let r : Through (put_all x us) (λ w. put_all w vs) y = through (put_all x us) (λ w. put_all w vs) y (sym (put_all_append us vs x) ∙ e) in
+      (r.value, r.first)
+
+  pub both_lead : (us vs : List HypothesisUse) (q : List ℕ) (f s : ℕ) (front : List Tree) (u : Tree) (ts : Trees) (x y z : Tree)
+      → (a : AfterOne us vs q f s front u ts x y) → UsesLead th m G H vs q z a.w y → UsesLead th m G H (us ++ vs) q z x y
+  both_lead us vs q f s front u ts x y z a b =
+      let P : List (LinkOf Tree) → Type 0 = λ ls. Led around m ls x y in
+      record {
+        led = subst P (sym (map_append use_link us vs)) (led_append around m (map use_link us) (map use_link vs) x a.w y a.first.led b.led);
+        made = sym (replaced_twice q x (row f s front (more u ts)) a.w z a.made) ∙ b.made;
       }
