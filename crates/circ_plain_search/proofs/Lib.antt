@@ -7,3 +7,6 @@ pub mod Special
 pub mod Uses
 pub mod Joins
 pub mod Passes
+pub mod Splits
+pub mod Deep
+pub mod Derived
