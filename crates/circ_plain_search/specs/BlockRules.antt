@@ -2,25 +2,13 @@
 use Rattle.std.specs.Prelude.{ℕ, ◌+◌, Bool, not, ◌&&◌, if◌then◌else◌, List, [], ◌∷◌, ◌++◌, is_some}
 use Rattle.circ_term.specs.Tree.{sort_of, operator_number}
 use Rattle.circ_theory.specs.Theory.{Theory}
-use Rattle.circ_theory.specs.Rule.{is_rule, is_bound}
+use Rattle.circ_theory.specs.Rule.{is_bound}
 use Rattle.circ_theory.specs.Observing.{is_hidden}
-use Rattle.circ_theory.specs.declared.parts.Equation.{Equation}
 use Rattle.circ_theory.specs.declared.parts.Goal.{Goal}
 use Rattle.circ_replay.specs.Goals.{sides}
+use Rattle.circ_rewrite.specs.TheoryRules.{theory_rules}
 use Rattle.circ_rewrite.specs.declared.parts.Rule.{Rule}
 use Rattle.circ_rewrite.specs.declared.parts.RuleName.TheVariants as name
-
--- an equation as a rule, which its number names
-abbrev pub rule_of : (number : ℕ) → Equation → Rule
-rule_of n e = record { name = name.Equation n; left = e.left; right = e.right }
-
--- the rewrite rules among equations, in order; the first equation has this number
-abbrev pub rules_from : (number : ℕ) → List Equation → List Rule
-rules_from n [] = []
-rules_from n (e ∷ es) = if is_rule e then rule_of n e ∷ rules_from (n + 1) es else rules_from (n + 1) es
-
-abbrev pub theory_rules : Theory → List Rule
-theory_rules th = rules_from 0 th.equations
 
 -- the left side is no variable, and has all variables of the right side
 abbrev pub can_rewrite : Goal → Bool

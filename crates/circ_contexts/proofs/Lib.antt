@@ -1,0 +1,5 @@
+pub mod Keeping
+pub mod Increasing
+pub mod Unique
+pub mod Existing
+pub mod Certifying
