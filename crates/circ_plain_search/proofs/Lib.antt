@@ -10,3 +10,5 @@ pub mod Passes
 pub mod Splits
 pub mod Deep
 pub mod Derived
+pub mod Runs
+pub mod Turns
