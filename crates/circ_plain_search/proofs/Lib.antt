@@ -12,3 +12,5 @@ pub mod Deep
 pub mod Derived
 pub mod Runs
 pub mod Turns
+pub mod Ends
+pub mod Answers

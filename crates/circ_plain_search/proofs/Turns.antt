@@ -316,16 +316,17 @@ module _ (th : Theory) (wf : IsWellFormed th) (G : List Place) (l : Limits) (blo
       join_good (with_sides st rest x.value) o (goal x.value.left x.value.right) rest y (sides_held st o g rest st.budget x.value h s)
       (joined G st.hypotheses [] x.value.left x.value.right) refl x.last
 
-  record IsWhole (st : Standing) (later : List (List Goal)) : Type 0 where
-    whole : Whole th G blocks (with_this st) later st.deep st.made st.derives
-    earlier : st.earlier ++ st.goals ≡ goals_of (with_this st)
-    sorted : AreSortedGoals th (st.earlier ++ st.goals)
+  -- a block's Done has made it whole
+  pub record IsWhole (st : Standing) (later : List (List Goal)) : Type 0 where
+    pub whole : Whole th G blocks (with_this st) later st.deep st.made st.derives
+    pub earlier : st.earlier ++ st.goals ≡ goals_of (with_this st)
+    pub sorted : AreSortedGoals th (st.earlier ++ st.goals)
 
   each_sorted : (E : List Goal) → ((n : ℕ) (g : Goal) → slice_get E n ≡ Some g → IsWellSortedGoal th g) → AreSortedGoals th E
   each_sorted [] f = sorted_none th
   each_sorted (g ∷ gs) f = sorted_more th g gs (f zero g refl) (each_sorted gs (λ n h e. f (suc n) h e))
 
-  done_is_whole : (st y : Standing) → Ran th G blocks st [] → record_step th l st Done ≡ Ok y → IsWhole y y.later
+  pub done_is_whole : (st y : Standing) → Ran th G blocks st [] → record_step th l st Done ≡ Ok y → IsWhole y y.later
   done_is_whole st y h e =
       let P : Standing → Type 0 = λ s. IsWhole s s.later in
       subst P (recorded th l st Done y e) (record {
