@@ -13,14 +13,14 @@ use Rattle.circ_read.specs.declared.cause.Cause.TheVariants as cause
 use Rattle.circ_top.specs.Causes.{PrintsPartOf, AnswersOutcome, printed, not_read, not_written, no_memory}
 use Rattle.circ_top.specs.Command.{Command, Asks}
 use Rattle.circ_top.specs.Delivery.{Prints, PrintsPart, PrintsFront, Delivers, whole, write_failed, memory_wanted, text_wanted}
-use Rattle.circ_top.specs.Files.{Refusal, RefusesFile, IsFileFault}
-use Rattle.circ_top.specs.Like.{IsLikeCause, same_cause, other_readings, IsLike, itself}
+use Rattle.circ_files.specs.Files.{Refusal, RefusesFile, IsFileFault}
+use Rattle.circ_files.specs.Like.{IsLikeCause, same_cause, other_readings, IsLike, itself}
 use Rattle.circ_top.specs.Outcome.{Stored, OutcomeOf, Outcome, command, HoldsAfter}
-use Rattle.circ_top.specs.Texts.{refusal_text}
-use Rattle.circ_top.specs.TheoryFile.{TheoryRefusal}
-use Rattle.circ_top.specs.declared.status.Status.{Status}
-use Rattle.circ_top.specs.declared.status.Status.TheVariants as status
-use Rattle.circ_top.proofs.FileFaults.{IsOneWay, FaultOf, fault_of, refuses, unread, out_of_memory}
+use Rattle.circ_top.specs.Refusals.{refusal_text}
+use Rattle.circ_files.specs.TheoryFile.{TheoryRefusal}
+use Rattle.circ_files.specs.declared.status.Status.{Status}
+use Rattle.circ_files.specs.declared.status.Status.TheVariants as status
+use Rattle.circ_files.proofs.FileFaults.{IsOneWay, FaultOf, fault_of, refuses, unread, out_of_memory}
 
 -- the answer that is due is an outcome, or there is no text, since a file was not read or memory ran out
 pub data DueIs (words : List (List ℕ)) (before after : ShelfState) : Status → List ℕ → Option Stored → Type 0 where
@@ -46,28 +46,9 @@ pub data Agrees (before after : ShelfState) (s : Status) (text : List ℕ) : Sta
   unread_file : (n : ℕ) → Rose before.count after.count → Agrees before after s text (status.ReadFault n) []
   memory : Agrees before after s text status.Memory []
 
--- theories are read in one way
-pub record ReadsOnce : Type 0 where
-  pub either : (bytes : List ℕ) (th : Theory) (n : ℕ) (c : Cause) → ReadsAs bytes th → FirstCause bytes n c → ⊥
-  pub alike : IsOneWay TheoryRefusal
-
 -- theories are printed in one way
 abbrev pub PrintsOnce : Type 0
 PrintsOnce = (th : Theory) (text other : List ℕ) → IsTheoryText th text → IsTheoryText th other → text ≡ other
-
--- the causes of bytes that are no theory, as the reader's law has them
-pub like_causes : {A : Type 0} (c d : Cause) (x y : Result A Cause) → AreAlike x y → x ≡ Err c → y ≡ Err d → IsLikeCause c d
-like_causes c d x _ same a b = let e : c ≡ d = cc in let P : Cause → Type 0 = IsLikeCause c in subst P e (same_cause c)
-like_causes c d _ _ (ambiguous {s} {t} {u} {v}) a b =
-    let P : Cause → Type 0 = λ z. IsLikeCause z d in
-    let Q : Cause → Type 0 = IsLikeCause (cause.Ambiguous s t) in
-    subst P (cc) (subst Q (cc) (other_readings s t u v))
-
-pub reads_once : ((bytes : List ℕ) (th : Theory) (n : ℕ) (c : Cause) → ReadsAs bytes th → FirstCause bytes n c → ⊥)
-    → ((bytes : List ℕ) (n m : ℕ) (c d : Cause) → FirstCause bytes n c → FirstCause bytes m d → m ≡ n)
-    → ((bytes : List ℕ) (n m : ℕ) (c d : Cause) → FirstCause bytes n c → FirstCause bytes m d → AreAlike {A = Scope} (Err c) (Err d)) → ReadsOnce
-reads_once e n l =
-    record { either = e; alike = λ p q c d bytes a b. (sym (n bytes p q c d a b), like_causes c d (Err c) (Err d) (l bytes p q c d a b) refl refl) }
 
 -- what is printed of the text that is due is a part of the outcome's
 pub nothing_part : (text : List ℕ) (start end : SinkState) → PrintsPart [] start end → PrintsPart text start end

@@ -11,16 +11,17 @@ use Rattle.circ_top.specs.Causes.{AtFile, IsPastLimit, IsReadFault, IsWriteFault
 use Rattle.circ_top.specs.Check.{report_text, refused, accepted, Accepts, Rejects, FilesRead}
 use Rattle.circ_top.specs.Command.{Command, Check, Show, Reduce, Library, Asks}
 use Rattle.circ_top.specs.Delivery.{Prints, Delivers, whole, write_failed, memory_wanted, text_wanted}
-use Rattle.circ_top.specs.Files.{Held, IsUnread, IsTooLong, IsFileFault}
+use Rattle.circ_files.specs.Files.{Held, IsUnread, IsTooLong, IsFileFault}
 use Rattle.circ_top.specs.Outcome.{Stored, Outcome, command, HoldsAfter}
-use Rattle.circ_top.specs.Quiet.{IsQuietBut}
-use Rattle.circ_top.specs.Texts.{refused_text, refusal_text}
-use Rattle.circ_top.specs.TheoryFile.{TheoryRefusal}
+use Rattle.circ_files.specs.Quiet.{IsQuietBut}
+use Rattle.circ_files.specs.Texts.{refused_text}
+use Rattle.circ_top.specs.Refusals.{refusal_text}
+use Rattle.circ_files.specs.TheoryFile.{TheoryRefusal}
 use Rattle.circ_top.specs.declared.request.Report.{Report}
-use Rattle.circ_top.specs.declared.status.Status.{Status}
-use Rattle.circ_top.specs.declared.status.Status.TheVariants as status
+use Rattle.circ_files.specs.declared.status.Status.{Status}
+use Rattle.circ_files.specs.declared.status.Status.TheVariants as status
 use Rattle.circ_top.proofs.CheckOutcomes.{check_not_ok, check_refused, unread_check, past_check, unwritten_check}
-use Rattle.circ_top.proofs.FileFaults.{file_fault_not_ok, file_fault_not_refused}
+use Rattle.circ_files.proofs.FileFaults.{file_fault_not_ok, file_fault_not_refused}
 use Rattle.circ_top.proofs.Outcomes.{due_is}
 use Rattle.circ_top.proofs.ReduceOutcomes.{reduce_not_ok, reduce_not_refused, unread_reduce, past_reduce, unwritten_reduce}
 use Rattle.circ_top.proofs.Agreeing.{DueIs, outcome, nothing_read, no_memory_left}

@@ -13,18 +13,21 @@ use Rattle.circ_top.specs.Causes.{AtEither}
 use Rattle.circ_top.specs.Check.{report_text, CheckOutcome, no_theory, no_proof, refused, accepted, IsAccepted, StepFails, RefusesCheck}
 use Rattle.circ_top.specs.Check.{theory_fault, proof_fault, step_fails}
 use Rattle.circ_top.specs.Command.{Check, Asks}
-use Rattle.circ_top.specs.Files.{IsOnly, RefusesFile, IsUnread, IsTooLong, IsFileFault}
-use Rattle.circ_top.specs.Like.{IsLike, itself}
+use Rattle.circ_files.specs.Files.{IsOnly, RefusesFile, IsUnread, IsTooLong, IsFileFault}
+use Rattle.circ_files.specs.Like.{IsLike, itself}
 use Rattle.circ_top.specs.Outcome.{command}
-use Rattle.circ_top.specs.ProofFile.{ReadsProof, ProofRefusal}
-use Rattle.circ_top.specs.Texts.{refused_text, refusal_text}
-use Rattle.circ_top.specs.TheoryFile.{ReadsTheory, TheoryRefusal}
+use Rattle.circ_files.specs.ProofFile.{ReadsProof, ProofRefusal}
+use Rattle.circ_files.specs.Texts.{refused_text}
+use Rattle.circ_top.specs.Refusals.{refusal_text}
+use Rattle.circ_files.specs.TheoryFile.{ReadsTheory, TheoryRefusal}
 use Rattle.circ_top.specs.declared.request.Report.{Report}
-use Rattle.circ_top.specs.declared.status.Status.{Status}
-use Rattle.circ_top.specs.declared.status.Status.TheVariants as status
-use Rattle.circ_top.proofs.Agreeing.{DueIs, outcome, file_due, Agrees, alike, unread_file, memory, ReadsOnce}
-use Rattle.circ_top.proofs.FileFaults.{FaultOf, fault_of, refuses, unread, out_of_memory, reads_not_refused, refused_alike, refused_held, holds_held}
-use Rattle.circ_top.proofs.FileFaults.{unread_rose, file_fault_not_ok, file_fault_not_refused}
+use Rattle.circ_files.specs.declared.status.Status.{Status}
+use Rattle.circ_files.specs.declared.status.Status.TheVariants as status
+use Rattle.circ_files.proofs.Readings.{ReadsOnce}
+use Rattle.circ_top.proofs.Agreeing.{DueIs, outcome, file_due, Agrees, alike, unread_file, memory}
+use Rattle.circ_files.proofs.FileFaults.{FaultOf, fault_of, refuses, unread, out_of_memory, reads_not_refused, refused_held, holds_held}
+use Rattle.circ_top.proofs.Refused.{refused_alike}
+use Rattle.circ_files.proofs.FileFaults.{unread_rose, file_fault_not_ok, file_fault_not_refused}
 use Rattle.circ_top.proofs.Proofs.{ProofsOnce, read_or_refused, proofs_once}
 
 module _ (theory proof : List ℕ) (before after : ShelfState) where

@@ -6,8 +6,8 @@ use Rattle.circ_theory.specs.Theory.{Theory}
 use Rattle.circ_rewrite.specs.declared.fault.RewriteFault.{RewriteFault}
 use Rattle.circ_rewrite.specs.declared.fault.RewriteFault.TheVariants as fault
 use Rattle.circ_top.specs.Reduce.{Reduced, Results, Spent, Past_limit, EndsWith, Ends, FaultEnds, reduced, limit_status, fault_status}
-use Rattle.circ_top.specs.declared.status.Status.{Status}
-use Rattle.circ_top.specs.declared.status.Status.TheVariants as status
+use Rattle.circ_files.specs.declared.status.Status.{Status}
+use Rattle.circ_files.specs.declared.status.Status.TheVariants as status
 
 -- the answers with which terms can end
 abbrev pub IsEnd : Status → Type 0

@@ -14,20 +14,21 @@ use Rattle.circ_script.specs.declared.job.Job.{Job}
 use Rattle.circ_script.specs.declared.job.Job.TheVariants as job
 use Rattle.circ_top.specs.Check.{report_text, no_theory, no_proof, refused, accepted}
 use Rattle.circ_top.specs.Command.{Command, Check, Show, Reduce, Library, Asks}
-use Rattle.circ_top.specs.Files.{Held, Refusal, RefusesFile, Holds}
+use Rattle.circ_files.specs.Files.{Held, Refusal, RefusesFile, Holds}
 use Rattle.circ_top.specs.InMemory.{HoldsFilesOf, HoldsFiles}
 use Rattle.circ_top.specs.Outcome.{Stored, Outcome, usage, command}
-use Rattle.circ_top.specs.ProofFile.{ProofRefusal}
+use Rattle.circ_files.specs.ProofFile.{ProofRefusal}
 use Rattle.circ_top.specs.Reduce.{Results, reduced, EndsWith, results_text, not_reduced, all_reduced}
 use Rattle.circ_top.specs.Reduce as reduce
-use Rattle.circ_top.specs.ScriptFile.{ScriptRefusal}
+use Rattle.circ_files.specs.ScriptFile.{ScriptRefusal}
 use Rattle.circ_top.specs.Show.{not_shown, shown}
-use Rattle.circ_top.specs.Texts.{usage_text, refused_text, refusal_text}
-use Rattle.circ_top.specs.TheoryFile.{TheoryRefusal}
-use Rattle.circ_top.specs.declared.files.TheConstants.{MOST_BYTES}
+use Rattle.circ_files.specs.Texts.{refused_text}
+use Rattle.circ_top.specs.Refusals.{usage_text, refusal_text}
+use Rattle.circ_files.specs.TheoryFile.{TheoryRefusal}
+use Rattle.circ_files.specs.declared.files.TheConstants.{MOST_BYTES}
 use Rattle.circ_top.specs.declared.request.Report.{Report}
-use Rattle.circ_top.specs.declared.status.Status.{Status}
-use Rattle.circ_top.specs.declared.status.Status.TheVariants as status
+use Rattle.circ_files.specs.declared.status.Status.{Status}
+use Rattle.circ_files.specs.declared.status.Status.TheVariants as status
 use Rattle.circ_top.proofs.Ends.{forms_or_end}
 use Rattle.circ_top.proofs.TheoryTexts.{has_text}
 

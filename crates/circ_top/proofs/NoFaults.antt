@@ -6,12 +6,12 @@ use Rattle.circ_outer.specs.Shelf.{ShelfState}
 use Rattle.circ_outer.specs.Sink.{SinkState}
 use Rattle.circ_top.specs.Causes.{IsOutcomeOrFault, AnswersOutcome, printed, not_read, not_written, no_memory, AtFile, IsReadFault}
 use Rattle.circ_top.specs.Command.{Command, Check, Show, Reduce, Library}
-use Rattle.circ_top.specs.Files.{IsUnread}
+use Rattle.circ_files.specs.Files.{IsUnread}
 use Rattle.circ_top.specs.InMemory.{HoldsFilesOf, HoldsFiles, AppendsAnswer, Appends}
 use Rattle.circ_top.specs.Outcome.{Stored}
-use Rattle.circ_top.specs.declared.status.Status.{Status}
-use Rattle.circ_top.specs.declared.status.Status.TheVariants as status
-use Rattle.circ_top.proofs.FileFaults.{unread_rose}
+use Rattle.circ_files.specs.declared.status.Status.{Status}
+use Rattle.circ_files.specs.declared.status.Status.TheVariants as status
+use Rattle.circ_files.proofs.FileFaults.{unread_rose}
 
 pub never_rose : Rose 0 0 → ⊥
 never_rose (inl l) = omega (arith, l)

@@ -6,17 +6,18 @@ use Rattle.circ_top.specs.Answer.{Succeeds, RefusesCommand, DueAnswer, no_comman
 use Rattle.circ_top.specs.Causes.{PrintsOutcome, IsOutcomeOrFault, PrintsPartOf, AnswersOutcome}
 use Rattle.circ_top.specs.Command.{Command, Check, Show, Reduce, Library, Asks}
 use Rattle.circ_top.specs.Delivery.{Delivers, whole, write_failed, memory_wanted, text_wanted}
-use Rattle.circ_top.specs.Like.{IsLike, itself}
+use Rattle.circ_files.specs.Like.{IsLike, itself}
 use Rattle.circ_top.specs.Outcome.{Stored, OutcomeOf, Outcome, usage, command, HoldsAfter}
-use Rattle.circ_top.specs.Texts.{usage_text, refusal_text}
-use Rattle.circ_top.specs.declared.status.Status.{Status}
-use Rattle.circ_top.specs.declared.status.Status.TheVariants as status
-use Rattle.circ_top.proofs.Agreeing.{DueIs, outcome, nothing_read, no_memory_left, Agrees, alike, memory, ReadsOnce, PrintsOnce, agree_answers, answers_part}
+use Rattle.circ_top.specs.Refusals.{usage_text, refusal_text}
+use Rattle.circ_files.specs.declared.status.Status.{Status}
+use Rattle.circ_files.specs.declared.status.Status.TheVariants as status
+use Rattle.circ_files.proofs.Readings.{ReadsOnce}
+use Rattle.circ_top.proofs.Agreeing.{DueIs, outcome, nothing_read, no_memory_left, Agrees, alike, memory, PrintsOnce, agree_answers, answers_part}
 use Rattle.circ_top.proofs.CheckOutcomes.{due_check, accepted_outcome, check_agrees, accepted_agrees}
 use Rattle.circ_top.proofs.ShowOutcomes.{due_show, shown_outcome, show_agrees, shown_agrees}
 use Rattle.circ_top.proofs.ReduceOutcomes.{due_reduce, reduced_outcome, reduce_agrees, reduced_agrees}
 use Rattle.circ_top.proofs.Proofs.{ProofsOnce}
-use Rattle.circ_top.proofs.Scripts.{ScriptsOnce}
+use Rattle.circ_files.proofs.Scripts.{ScriptsOnce}
 use Rattle.circ_top.proofs.Requests.{same_command}
 
 due_refusal : (words : List (List ℕ)) (before after : ShelfState) (c : Command) (s : Status) → before.tells ≡ true → Asks words c

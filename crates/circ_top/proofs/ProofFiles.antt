@@ -8,23 +8,15 @@ use Rattle.circ_proof_text.specs.ProofText.{ReadsAsProof}
 use Rattle.circ_top.specs.Check.{IsAccepted, RefusesCheck, proof_fault}
 use Rattle.circ_top.specs.Check as check
 use Rattle.circ_top.specs.CheckProof.{AcceptsProof, RefusesProof, file_fault, step_fails}
-use Rattle.circ_top.specs.Files.{Refusal, IsUntaken, IsFileFault}
+use Rattle.circ_files.specs.Files.{Refusal, IsUntaken, IsFileFault}
 use Rattle.circ_top.specs.Incoming.{Judges, RefusesBytes}
-use Rattle.circ_top.specs.ProofFile.{TakesProof, ProofRefusal}
-use Rattle.circ_top.specs.Quiet.{IsQuietBut, IsQuietCall}
-use Rattle.circ_top.specs.TheoryFile.{TakesTheory}
+use Rattle.circ_files.specs.ProofFile.{TakesProof, ProofRefusal}
+use Rattle.circ_files.specs.Quiet.{IsQuietBut, IsQuietCall}
+use Rattle.circ_files.specs.TheoryFile.{TakesTheory}
 use Rattle.circ_top.specs.declared.request.Report.{Report}
-use Rattle.circ_top.specs.declared.status.Status.{Status}
-use Rattle.circ_top.specs.declared.status.Status.TheVariants as status
-use Rattle.circ_top.proofs.FileFaults.{only_read, taken_before, quiet_after, quiet_but_after, quiet_fault}
-
--- a file that was not taken gives nothing
-pub untaken_fault : (file : ℕ) (name : List ℕ) (N : Refusal) (before after : ShelfState) (s : Status) → IsUntaken file name before after s
-    → IsFileFault file name N before after s
-untaken_fault file name N before after (status.ReadFault n) u = u
-untaken_fault file name N before after (status.TooLong f n) u = u
-untaken_fault file name N before after status.Memory u = u
-untaken_fault file name N before after s u = absurd u
+use Rattle.circ_files.specs.declared.status.Status.{Status}
+use Rattle.circ_files.specs.declared.status.Status.TheVariants as status
+use Rattle.circ_files.proofs.FileFaults.{only_read, taken_before, quiet_after, quiet_but_after, quiet_fault}
 
 -- the bytes read as one proof at most
 abbrev pub OneProof : Theory → Type 0
@@ -66,11 +58,6 @@ pub judged_quiet : {A : Type 0} (report : Report) (th : Theory) (bytes : List �
     → IsQuiet before after → Judges report th bytes r → IsQuietCall before after r
 judged_quiet report th bytes before after (Ok v) q j = q
 judged_quiet report th bytes before after (Err s) q j = quiet_status th bytes before after s q j
-
-pub quiet_call_after : {A : Type 0} (before middle after : ShelfState) (r : Result A Status) → IsQuiet before middle → IsQuietCall middle after r
-    → IsQuietCall before after r
-quiet_call_after before middle after (Ok x) q r = quiet_after before middle after q r
-quiet_call_after before middle after (Err s) q r = quiet_but_after before middle after s q r
 
 module _ (report : Report) (theory proof : List ℕ) (th : Theory) (before middle after : ShelfState) (takes_theory : TakesTheory theory th before)
     (frame : ShelfFrame before middle) (quiet : IsQuiet before middle) where

@@ -9,9 +9,9 @@ use Rattle.circ_rules.specs.Accepted.{Accepted, Derives, FirstFail}
 use Rattle.circ_proof_text.specs.ProofText.{ReadsAsProof, FirstCause}
 use Rattle.circ_read.specs.declared.cause.Cause.{Cause}
 use Rattle.circ_read.specs.declared.cause.Cause.TheVariants as cause
-use Rattle.circ_top.specs.Like.{same_cause}
-use Rattle.circ_top.specs.ProofFile.{ProofRefusal}
-use Rattle.circ_top.proofs.FileFaults.{IsOneWay}
+use Rattle.circ_files.specs.Like.{same_cause}
+use Rattle.circ_files.specs.ProofFile.{ProofRefusal}
+use Rattle.circ_files.proofs.FileFaults.{IsOneWay}
 
 pub record ProofsOnce : Type 0 where
   pub either : (th : Theory) → IsWellFormed th → (bytes : List ℕ) (p : Proof) (f : LineFault) → ReadsAsProof th bytes p → FirstCause th bytes f → ⊥

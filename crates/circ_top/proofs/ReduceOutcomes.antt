@@ -9,21 +9,23 @@ use Rattle.circ_script.specs.ReadsAsScript.{ReadsAsScript}
 use Rattle.circ_script.specs.declared.job.Job.TheVariants as job
 use Rattle.circ_top.specs.Causes.{AtEither}
 use Rattle.circ_top.specs.Command.{Reduce, Asks}
-use Rattle.circ_top.specs.Files.{IsOnly, RefusesFile, IsUnread, IsTooLong, IsFileFault}
-use Rattle.circ_top.specs.Like.{IsLike, itself}
+use Rattle.circ_files.specs.Files.{IsOnly, RefusesFile, IsUnread, IsTooLong, IsFileFault}
+use Rattle.circ_files.specs.Like.{IsLike, itself}
 use Rattle.circ_top.specs.Outcome.{command}
 use Rattle.circ_top.specs.Reduce.{Results, reduced, EndsWith, Ends, results_text, ReduceOutcome, no_theory, no_script, not_reduced, all_reduced}
 use Rattle.circ_top.specs.Reduce.{IsReduced, TermsEnd, RefusesReduce, theory_fault, script_fault, term_ends}
-use Rattle.circ_top.specs.ScriptFile.{ReadsScript, TakesScript, ScriptRefusal}
-use Rattle.circ_top.specs.Texts.{refusal_text}
-use Rattle.circ_top.specs.TheoryFile.{ReadsTheory, TakesTheory, TheoryRefusal}
-use Rattle.circ_top.specs.declared.status.Status.{Status}
-use Rattle.circ_top.specs.declared.status.Status.TheVariants as status
-use Rattle.circ_top.proofs.Agreeing.{DueIs, outcome, file_due, Agrees, alike, unread_file, memory, ReadsOnce}
+use Rattle.circ_files.specs.ScriptFile.{ReadsScript, TakesScript, ScriptRefusal}
+use Rattle.circ_top.specs.Refusals.{refusal_text}
+use Rattle.circ_files.specs.TheoryFile.{ReadsTheory, TakesTheory, TheoryRefusal}
+use Rattle.circ_files.specs.declared.status.Status.{Status}
+use Rattle.circ_files.specs.declared.status.Status.TheVariants as status
+use Rattle.circ_files.proofs.Readings.{ReadsOnce}
+use Rattle.circ_top.proofs.Agreeing.{DueIs, outcome, file_due, Agrees, alike, unread_file, memory}
 use Rattle.circ_top.proofs.Ends.{no_end, one_end, no_early_end}
-use Rattle.circ_top.proofs.FileFaults.{FaultOf, fault_of, refuses, unread, out_of_memory, reads_not_refused, refused_alike, refused_held, holds_held}
-use Rattle.circ_top.proofs.FileFaults.{unread_rose, file_fault_not_ok, file_fault_not_refused}
-use Rattle.circ_top.proofs.Scripts.{ScriptsOnce}
+use Rattle.circ_files.proofs.FileFaults.{FaultOf, fault_of, refuses, unread, out_of_memory, reads_not_refused, refused_held, holds_held}
+use Rattle.circ_top.proofs.Refused.{refused_alike}
+use Rattle.circ_files.proofs.FileFaults.{unread_rose, file_fault_not_ok, file_fault_not_refused}
+use Rattle.circ_files.proofs.Scripts.{ScriptsOnce}
 
 module _ (budget : ℕ) (theory script : List ℕ) (before after : ShelfState) where
   -- terms that end, or want of memory, refuse a `reduce` whose files read

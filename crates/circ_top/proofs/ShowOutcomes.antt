@@ -5,16 +5,18 @@ use Rattle.circ_theory.specs.Theory.{Theory}
 use Rattle.circ_read.specs.ReadsAs.{ReadsAs}
 use Rattle.circ_show.specs.TheoryText.{IsTheoryText}
 use Rattle.circ_top.specs.Command.{Show, Asks}
-use Rattle.circ_top.specs.Files.{RefusesFile}
-use Rattle.circ_top.specs.Like.{IsLike, itself}
+use Rattle.circ_files.specs.Files.{RefusesFile}
+use Rattle.circ_files.specs.Like.{IsLike, itself}
 use Rattle.circ_top.specs.Show.{ShowOutcome, not_shown, shown, IsShown}
-use Rattle.circ_top.specs.Texts.{refusal_text}
-use Rattle.circ_top.specs.TheoryFile.{ReadsTheory, TheoryRefusal, IsTheoryFault}
-use Rattle.circ_top.specs.declared.status.Status.{Status}
-use Rattle.circ_top.specs.declared.status.Status.TheVariants as status
-use Rattle.circ_top.proofs.Agreeing.{DueIs, file_due, Agrees, alike, unread_file, memory, ReadsOnce, PrintsOnce}
-use Rattle.circ_top.proofs.FileFaults.{FaultOf, fault_of, refuses, unread, out_of_memory, reads_not_refused, refused_alike, refused_held, holds_held}
-use Rattle.circ_top.proofs.FileFaults.{unread_rose}
+use Rattle.circ_top.specs.Refusals.{refusal_text}
+use Rattle.circ_files.specs.TheoryFile.{ReadsTheory, TheoryRefusal, IsTheoryFault}
+use Rattle.circ_files.specs.declared.status.Status.{Status}
+use Rattle.circ_files.specs.declared.status.Status.TheVariants as status
+use Rattle.circ_files.proofs.Readings.{ReadsOnce}
+use Rattle.circ_top.proofs.Agreeing.{DueIs, file_due, Agrees, alike, unread_file, memory, PrintsOnce}
+use Rattle.circ_files.proofs.FileFaults.{FaultOf, fault_of, refuses, unread, out_of_memory, reads_not_refused, refused_held, holds_held}
+use Rattle.circ_top.proofs.Refused.{refused_alike}
+use Rattle.circ_files.proofs.FileFaults.{unread_rose}
 
 pub due_show : (words : List (List ℕ)) (theory : List ℕ) (before after : ShelfState) (s : Status) → before.tells ≡ true → Asks words (Show theory)
     → IsTheoryFault theory before after s

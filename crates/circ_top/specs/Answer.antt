@@ -9,10 +9,10 @@ use Rattle.circ_top.specs.Library.{RefusesLibrary}
 use Rattle.circ_top.specs.Outcome.{Stored, HoldsAfter}
 use Rattle.circ_top.specs.Reduce.{IsReduced, RefusesReduce}
 use Rattle.circ_top.specs.Show.{IsShown}
-use Rattle.circ_top.specs.Texts.{usage_text, refusal_text}
-use Rattle.circ_top.specs.TheoryFile.{IsTheoryFault}
-use Rattle.circ_top.specs.declared.status.Status.{Status}
-use Rattle.circ_top.specs.declared.status.Status.TheVariants as status
+use Rattle.circ_top.specs.Refusals.{usage_text, refusal_text}
+use Rattle.circ_files.specs.TheoryFile.{IsTheoryFault}
+use Rattle.circ_files.specs.declared.status.Status.{Status}
+use Rattle.circ_files.specs.declared.status.Status.TheVariants as status
 
 -- a command that ends with 0, its text, and what is stored
 abbrev pub Succeeds : Command → (text : List ℕ) → (stored : Option Stored) → (before : ShelfState) → Type 0

@@ -6,12 +6,12 @@ use Rattle.circ_outer.specs.Sink.{SinkState}
 use Rattle.circ_theory.specs.Theory.{Theory}
 use Rattle.circ_top.specs.Command.{Command, Check, Show, Reduce, Library, Asks}
 use Rattle.circ_top.specs.Delivery.{Prints, PrintsPart, PrintsFront}
-use Rattle.circ_top.specs.Files.{IsUnread, IsTooLong}
-use Rattle.circ_top.specs.Like.{IsLike}
+use Rattle.circ_files.specs.Files.{IsUnread, IsTooLong}
+use Rattle.circ_files.specs.Like.{IsLike}
 use Rattle.circ_top.specs.Outcome.{Stored, Outcome, HoldsAfter}
-use Rattle.circ_top.specs.TheoryFile.{TakesTheory}
-use Rattle.circ_top.specs.declared.status.Status.{Status}
-use Rattle.circ_top.specs.declared.status.Status.TheVariants as status
+use Rattle.circ_files.specs.TheoryFile.{TakesTheory}
+use Rattle.circ_files.specs.declared.status.Status.{Status}
+use Rattle.circ_files.specs.declared.status.Status.TheVariants as status
 
 -- An outcome of this status: its text was printed, and afterwards the files hold what it stores.
 pub record PrintsOutcome (words : List (List ℕ)) (before after : ShelfState) (start end : SinkState) (s : Status) : Type 0 where

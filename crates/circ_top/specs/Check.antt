@@ -12,14 +12,15 @@ use Rattle.circ_rules.specs.Accepted.{Derives, FirstFail}
 use Rattle.circ_show.specs.GoalsText.{plain_goal, goal_lines, relation_lines}
 use Rattle.circ_top.specs.Command.{Check, Asks}
 use Rattle.circ_top.specs.Delivery.{Prints}
-use Rattle.circ_top.specs.Files.{Held, RefusesFile}
-use Rattle.circ_top.specs.ProofFile.{ReadsProof, TakesProof, ProofRefusal, IsProofFault}
-use Rattle.circ_top.specs.Texts.{refused_text, refusal_text}
-use Rattle.circ_top.specs.TheoryFile.{ReadsTheory, TakesTheory, TheoryRefusal, IsTheoryFault}
+use Rattle.circ_files.specs.Files.{Held, RefusesFile}
+use Rattle.circ_files.specs.ProofFile.{ReadsProof, TakesProof, ProofRefusal, IsProofFault}
+use Rattle.circ_files.specs.Texts.{refused_text}
+use Rattle.circ_top.specs.Refusals.{refusal_text}
+use Rattle.circ_files.specs.TheoryFile.{ReadsTheory, TakesTheory, TheoryRefusal, IsTheoryFault}
 use Rattle.circ_top.specs.declared.request.Report.{Report}
 use Rattle.circ_top.specs.declared.request.Report.TheVariants.{Goals, Relation}
-use Rattle.circ_top.specs.declared.status.Status.{Status}
-use Rattle.circ_top.specs.declared.status.Status.TheVariants as status
+use Rattle.circ_files.specs.declared.status.Status.{Status}
+use Rattle.circ_files.specs.declared.status.Status.TheVariants as status
 
 -- the goals of lists of goals, one a line
 abbrev pub all_goal_lines : Signature → List (List Goal) → List ℕ

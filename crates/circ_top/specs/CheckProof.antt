@@ -5,10 +5,10 @@ use Rattle.circ_theory.specs.Theory.{Theory}
 use Rattle.circ_rules.specs.Accepted.{FirstFail}
 use Rattle.circ_rules.specs.Proof.{Proof}
 use Rattle.circ_top.specs.Check.{Proves}
-use Rattle.circ_top.specs.ProofFile.{TakesProof, IsProofFault}
+use Rattle.circ_files.specs.ProofFile.{TakesProof, IsProofFault}
 use Rattle.circ_top.specs.declared.request.Report.{Report}
-use Rattle.circ_top.specs.declared.status.Status.{Status}
-use Rattle.circ_top.specs.declared.status.Status.TheVariants as status
+use Rattle.circ_files.specs.declared.status.Status.{Status}
+use Rattle.circ_files.specs.declared.status.Status.TheVariants as status
 
 -- The named file reads, and its proof is accepted, with this text.
 pub record AcceptsProof (report : Report) (name : List ℕ) (th : Theory) (text : List ℕ) (before : ShelfState) : Type 0 where

@@ -1,8 +1,8 @@
 -- That nothing is left out: each run has an outcome. This is said by two denials, since nothing here decides which it is.
 use Rattle.std.specs.Prelude.{ℕ, List, Option}
-use Rattle.circ_top.specs.Files.{Held}
+use Rattle.circ_files.specs.Files.{Held}
 use Rattle.circ_top.specs.Outcome.{Stored, Outcome}
-use Rattle.circ_top.specs.declared.status.Status.{Status}
+use Rattle.circ_files.specs.declared.status.Status.{Status}
 
 -- The words and what the named files hold have an outcome.
 abbrev pub HasOutcome : (words : List (List ℕ)) → Held → Type 0

@@ -3,11 +3,11 @@ use Rattle.std.specs.Prelude.{◌≡◌, ◌++◌, ℕ, List, Option, IsSome}
 use Rattle.circ_outer.specs.Shelf.{ShelfState}
 use Rattle.circ_outer.specs.Sink.{SinkState}
 use Rattle.circ_top.specs.Command.{Command, Check, Show, Reduce, Library, Asks}
-use Rattle.circ_top.specs.Files.{Held}
-use Rattle.circ_top.specs.Like.{IsLike}
+use Rattle.circ_files.specs.Files.{Held}
+use Rattle.circ_files.specs.Like.{IsLike}
 use Rattle.circ_top.specs.Outcome.{Stored, Outcome, HoldsAfter}
-use Rattle.circ_top.specs.declared.status.Status.{Status}
-use Rattle.circ_top.specs.declared.status.Status.TheVariants as status
+use Rattle.circ_files.specs.declared.status.Status.{Status}
+use Rattle.circ_files.specs.declared.status.Status.TheVariants as status
 
 -- the files of a command hold something
 abbrev pub HoldsFilesOf : Held → Command → Type 0

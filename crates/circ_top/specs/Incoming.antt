@@ -12,11 +12,11 @@ use Rattle.circ_file.specs.Feeding as reader
 use Rattle.circ_file.specs.declared.fault.FileFault.{FileFault}
 use Rattle.circ_file.specs.declared.fault.FileFault.TheVariants.{Memory}
 use Rattle.circ_top.specs.Check.{Proves}
-use Rattle.circ_top.specs.ProofFile.{ProofRefusal}
+use Rattle.circ_files.specs.ProofFile.{ProofRefusal}
 use Rattle.circ_top.specs.declared.incoming.Incoming.{Incoming}
 use Rattle.circ_top.specs.declared.request.Report.{Report}
-use Rattle.circ_top.specs.declared.status.Status.{Status}
-use Rattle.circ_top.specs.declared.status.Status.TheVariants as status
+use Rattle.circ_files.specs.declared.status.Status.{Status}
+use Rattle.circ_files.specs.declared.status.Status.TheVariants as status
 
 -- the goals of each block that begins among the parts
 abbrev pub goals_among : List Part → List (List Goal)

@@ -1,14 +1,7 @@
-pub mod Status
-pub mod Files
-pub mod Intake
-pub mod Quiet
-pub mod TheoryFile
-pub mod ProofFile
-pub mod ScriptFile
 pub mod Words
 pub mod Command
 pub mod PlainWords
-pub mod Texts
+pub mod Refusals
 pub mod Delivery
 pub mod Check
 pub mod CheckProof
@@ -18,7 +11,6 @@ pub mod Library
 pub mod Reduce
 pub mod Outcome
 pub mod Answer
-pub mod Like
 pub mod Causes
 pub mod InMemory
 pub mod Complete

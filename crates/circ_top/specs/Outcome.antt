@@ -3,13 +3,13 @@ use Rattle.std.specs.Prelude.{◌≡◌, ◌≢◌, ℕ, List, Option, Some, Non
 use Rattle.circ_outer.specs.Shelf.{ShelfState}
 use Rattle.circ_top.specs.Check.{CheckOutcome}
 use Rattle.circ_top.specs.Command.{Command, Check, Show, Reduce, Library, Asks, IsNoCommand}
-use Rattle.circ_top.specs.Files.{Held}
+use Rattle.circ_files.specs.Files.{Held}
 use Rattle.circ_top.specs.Library.{LibraryOutcome}
 use Rattle.circ_top.specs.Reduce.{ReduceOutcome}
 use Rattle.circ_top.specs.Show.{ShowOutcome}
-use Rattle.circ_top.specs.Texts.{usage_text}
-use Rattle.circ_top.specs.declared.status.Status.{Status}
-use Rattle.circ_top.specs.declared.status.Status.TheVariants as status
+use Rattle.circ_top.specs.Refusals.{usage_text}
+use Rattle.circ_files.specs.declared.status.Status.{Status}
+use Rattle.circ_files.specs.declared.status.Status.TheVariants as status
 
 -- a file that a run stores
 pub record Stored : Type 0 where

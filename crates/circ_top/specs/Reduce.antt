@@ -1,44 +1,24 @@
--- What `reduce` does: the rules that it uses, what becomes of the terms, its outcome, and what it prints.
-use Rattle.std.specs.Prelude.{◌≡◌, Option, Some, None, ℕ, ◌+◌, ◌-◌, List, [], ◌∷◌, ◌++◌, false, flat_map, codes, decimal, if◌then◌else◌}
+-- What `reduce` does: what becomes of the terms, its outcome, and what it prints.
+use Rattle.std.specs.Prelude.{◌≡◌, ℕ, ◌-◌, List, [], ◌∷◌, ◌++◌, false, flat_map, codes, decimal}
 use Rattle.circ_outer.specs.Shelf.{ShelfState}
 use Rattle.circ_term.specs.Tree.{Tree}
 use Rattle.circ_term.specs.Limits.{Limit, Big, Deep}
 use Rattle.circ_theory.specs.Signature.{Signature}
 use Rattle.circ_theory.specs.Theory.{Theory}
-use Rattle.circ_theory.specs.Rule.{is_rule}
-use Rattle.circ_theory.specs.declared.parts.Equation.{Equation}
 use Rattle.circ_mixfix.specs.Printing.{text_of_term}
 use Rattle.circ_rewrite.specs.Norm.{Normalised, Normal_form, Budget_spent, Limit_passed, norm}
+use Rattle.circ_rewrite.specs.TheoryRules.{theory_rules}
 use Rattle.circ_rewrite.specs.declared.fault.RewriteFault.{RewriteFault}
 use Rattle.circ_rewrite.specs.declared.fault.RewriteFault.TheVariants as fault
-use Rattle.circ_rewrite.specs.declared.parts.Rule.{Rule}
-use Rattle.circ_rewrite.specs.declared.parts.RuleName.TheVariants as name
 use Rattle.circ_script.specs.Script.{Script}
 use Rattle.circ_script.specs.declared.job.Job.TheVariants as job
 use Rattle.circ_top.specs.Command.{Reduce}
-use Rattle.circ_top.specs.Files.{Held, RefusesFile}
-use Rattle.circ_top.specs.ScriptFile.{ReadsScript, TakesScript, ScriptRefusal, IsScriptFault}
-use Rattle.circ_top.specs.Texts.{refusal_text}
-use Rattle.circ_top.specs.TheoryFile.{ReadsTheory, TakesTheory, TheoryRefusal, IsTheoryFault}
-use Rattle.circ_top.specs.declared.status.Status.{Status}
-use Rattle.circ_top.specs.declared.status.Status.TheVariants as status
-
--- an equation as a rule, which its number names
-abbrev pub rule_of : (number : ℕ) → Equation → Rule
-rule_of n e = record { name = name.Equation n; left = e.left; right = e.right }
-
--- the equation of a number as a rule, if it is one
-abbrev pub rules_at : (number : ℕ) → Option Equation → Option Rule
-rules_at n None = None
-rules_at n (Some e) = if is_rule e then Some (rule_of n e) else None
-
--- the rewrite rules among equations, in order; the first equation has this number
-abbrev pub rules_from : (number : ℕ) → List Equation → List Rule
-rules_from n [] = []
-rules_from n (e ∷ es) = if is_rule e then rule_of n e ∷ rules_from (n + 1) es else rules_from (n + 1) es
-
-abbrev pub rules_of : Theory → List Rule
-rules_of th = rules_from 0 th.equations
+use Rattle.circ_files.specs.Files.{Held, RefusesFile}
+use Rattle.circ_files.specs.ScriptFile.{ReadsScript, TakesScript, ScriptRefusal, IsScriptFault}
+use Rattle.circ_top.specs.Refusals.{refusal_text}
+use Rattle.circ_files.specs.TheoryFile.{ReadsTheory, TakesTheory, TheoryRefusal, IsTheoryFault}
+use Rattle.circ_files.specs.declared.status.Status.{Status}
+use Rattle.circ_files.specs.declared.status.Status.TheVariants as status
 
 -- What becomes of terms that are reduced with one budget: all have normal forms, and this is left; or the first that has none ends it, since the
 -- budget is spent or a limit passed.
@@ -57,7 +37,7 @@ go_on (Limit_passed l left) next = Past_limit l
 abbrev pub reduced_after : Theory → (results : List Tree) → (budget : ℕ) → List Tree → Reduced
 reduced_after th results n [] = Results results n
 reduced_after th results n (t ∷ ts) =
-    go_on (norm th.signature (rules_of th) [] n t) (λ u left. reduced_after th (results ++ u ∷ []) left ts)
+    go_on (norm th.signature (theory_rules th) [] n t) (λ u left. reduced_after th (results ++ u ∷ []) left ts)
 
 abbrev pub reduced : Theory → (budget : ℕ) → List Tree → Reduced
 reduced th budget ts = reduced_after th [] budget ts

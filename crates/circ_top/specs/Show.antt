@@ -4,11 +4,11 @@ use Rattle.circ_outer.specs.Shelf.{ShelfState}
 use Rattle.circ_theory.specs.Theory.{Theory}
 use Rattle.circ_show.specs.TheoryText.{IsTheoryText}
 use Rattle.circ_top.specs.Command.{Show}
-use Rattle.circ_top.specs.Files.{Held, RefusesFile}
-use Rattle.circ_top.specs.Texts.{refusal_text}
-use Rattle.circ_top.specs.TheoryFile.{ReadsTheory, TakesTheory, TheoryRefusal}
-use Rattle.circ_top.specs.declared.status.Status.{Status}
-use Rattle.circ_top.specs.declared.status.Status.TheVariants as status
+use Rattle.circ_files.specs.Files.{Held, RefusesFile}
+use Rattle.circ_top.specs.Refusals.{refusal_text}
+use Rattle.circ_files.specs.TheoryFile.{ReadsTheory, TakesTheory, TheoryRefusal}
+use Rattle.circ_files.specs.declared.status.Status.{Status}
+use Rattle.circ_files.specs.declared.status.Status.TheVariants as status
 
 -- The outcome, with its text: the theory file refuses the command; or it reads, and its text is given.
 pub data ShowOutcome (held : Held) (theory : List ℕ) : Status → (text : List ℕ) → Type 0 where

@@ -4,13 +4,11 @@ ghost use Rattle.circ_outer.specs.Shelf.{ShelfFrame};
 ghost use Rattle.circ_top.specs.Check.{IsAccepted, RefusesCheck};
 ghost use Rattle.circ_top.specs.CheckProof.{AcceptsProof, RefusesProof};
 ghost use Rattle.circ_top.specs.Incoming.{HasTaken};
-ghost use Rattle.circ_top.specs.Quiet.{IsQuietCall};
+ghost use Rattle.circ_files.specs.Quiet.{IsQuietCall};
 
-use crate::files::take_into;
 use crate::incoming::Incoming;
 use crate::request::Report;
-use crate::status::Status;
-use crate::theory_file::take_theory;
+use circ_files::{Status, take_into, take_theory};
 use circ_outer::Shelf;
 use circ_proof_text::laws::one_answer;
 use circ_theory::Theory;

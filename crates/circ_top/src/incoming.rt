@@ -12,11 +12,10 @@ ghost use Rattle.circ_top.specs.Check.{all_goal_lines};
 ghost use Rattle.circ_top.specs.Incoming.{goals_among, HasRead, HasTaken, Judges};
 ghost use Rattle.circ_top.specs.Incoming.{RefusesBytes};
 
-use crate::intake::Intake;
 use crate::request::Report;
-use crate::status::Status;
 use circ_check::Checker;
 use circ_file::{FileFault, FileReader};
+use circ_files::{Intake, Status};
 use circ_read::Cause;
 use circ_rules::Part;
 use circ_show::{goals_text, relation_text};

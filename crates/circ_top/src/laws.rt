@@ -9,10 +9,10 @@ ghost use Rattle.circ_theory.specs.declared.TheConstants.{MOST_CASES};
 ghost use Rattle.circ_chart.specs.declared.TheConstants.{MOST_TOKENS};
 ghost use Rattle.circ_top.specs.Command.{Command, IsCommand, Asks, IsNoCommand};
 ghost use Rattle.circ_top.specs.Complete.{HasOutcome};
-ghost use Rattle.circ_top.specs.Files.{Held};
+ghost use Rattle.circ_files.specs.Files.{Held};
 ghost use Rattle.circ_top.specs.InMemory.{HoldsFiles};
 ghost use Rattle.circ_top.specs.PlainWords.{IsPlainWord, usual_limits};
-ghost use Rattle.circ_top.specs.declared.files.TheConstants.{MOST_BYTES, PIECE};
+ghost use Rattle.circ_files.specs.declared.files.TheConstants.{MOST_BYTES, PIECE};
 
 use circ_proof_text::laws::nothing_left_out as nothing_left_out_of_texts;
 use circ_read::laws::read_or_refused;

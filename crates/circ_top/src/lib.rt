@@ -3,21 +3,15 @@
 
 mod check;
 mod command;
-mod files;
 mod incoming;
-mod intake;
 pub mod laws;
 mod library;
 mod reduce;
+mod refusals;
 mod request;
-mod script_file;
 mod show;
-mod status;
 pub mod sure;
-mod texts;
-mod theory_file;
-mod theory_rules;
 mod words;
 
+pub use circ_files::Status;
 pub use command::circ;
-pub use status::Status;

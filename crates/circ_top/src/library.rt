@@ -2,7 +2,7 @@
 ghost use Rattle.std.specs.Prelude.{◌≡◌, IfOk, IfErr};
 ghost use Rattle.circ_top.specs.Library.{RefusesLibrary};
 
-use crate::status::Status;
+use circ_files::Status;
 use std::alloc::Global;
 
 /// A copy of the text, or the answer in its place.

@@ -1,21 +1,16 @@
 //! The command `reduce`: the terms of a script are brought to their normal forms.
-ghost use Rattle.std.specs.Prelude.{◌≡◌, ◌++◌, ◌≤◌, ◌<◌, ◌^◌, flat_map, length, IfOk, IfErr, OnOk};
-ghost use Rattle.std.specs.List.{AllByRecursion};
+ghost use Rattle.std.specs.Prelude.{◌≡◌, ◌++◌, ◌≤◌, flat_map, IfOk, IfErr, OnOk};
 ghost use Rattle.circ_outer.specs.Shelf.{ShelfFrame};
-ghost use Rattle.circ_rewrite.specs.Due.{IsRewriteRule};
-ghost use Rattle.circ_top.specs.Quiet.{IsQuietCall};
-ghost use Rattle.circ_top.specs.Reduce.{rules_of, reduced, Reduces, Ends, Results, FaultEnds};
+ghost use Rattle.circ_rewrite.specs.TheoryRules.{theory_rules};
+ghost use Rattle.circ_files.specs.Quiet.{IsQuietCall};
+ghost use Rattle.circ_top.specs.Reduce.{reduced, Reduces, Ends, Results, FaultEnds};
 ghost use Rattle.circ_top.specs.Reduce.{result_line, results_text, IsReduced, RefusesReduce};
 ghost use Rattle.circ_top.specs.Reduce.{fault_status};
 
-use crate::script_file::take_script;
-use crate::status::Status;
-use crate::texts::push_numbered;
-use crate::theory_file::take_theory;
-use crate::theory_rules::rules;
+use circ_files::{Status, push_numbered, take_script, take_theory};
 use circ_mixfix::print;
 use circ_outer::Shelf;
-use circ_rewrite::{RewriteFault, Rule, normalise};
+use circ_rewrite::{RewriteFault, RuleIndex, normalise_by, theory_rules};
 use circ_script::Job;
 use circ_term::Term;
 use circ_theory::Theory;
@@ -98,21 +93,18 @@ fn normal_forms(
     ensures fault { IfErr result (FaultEnds (reduced theory.now budget.old terms.now)) }
     ensures less { budget.new ≤ budget.old }
 {
-    theory.known();
-    let rules = rules(alloc, theory)?;
-    normal_forms_by(alloc, theory, rules.as_slice(), terms, budget)
+    let index = RuleIndex::of(alloc, theory_rules(alloc, theory)?)?;
+    normal_forms_by(alloc, theory, &index, terms, budget)
 }
 
 fn normal_forms_by(
     alloc: Global,
     theory: &Theory,
-    rules: &[Rule],
+    index: &RuleIndex,
     terms: &[Term],
     budget: &mut u64,
 ) -> Result<Vec<Term>, RewriteFault>
-    requires rules { rules.now ≡ rules_of theory.now }
-    requires rewrite { AllByRecursion IsRewriteRule rules.now }
-    requires few { length rules.now < 2 ^ 32 }
+    requires { index.now ≡ theory_rules theory.now }
     ensures results { IfOk result (λ v.
         reduced theory.now budget.old terms.now ≡ Results v.items budget.new) }
     ensures fault { IfErr result (FaultEnds (reduced theory.now budget.old terms.now)) }
@@ -120,7 +112,7 @@ fn normal_forms_by(
 {
     let mut results = Vec::new(alloc);
     for term in terms {
-        let normal = match normalise(alloc, theory, rules, &[], term, budget) {
+        let normal = match normalise_by(alloc, theory, index, &[], term, budget) {
             Ok(normal) => normal,
             Err(fault) => return Err(fault),
         };

@@ -2,12 +2,11 @@
 ghost use Rattle.std.specs.Prelude.{IfOk, IfErr};
 ghost use Rattle.circ_outer.specs.Shelf.{ShelfFrame};
 ghost use Rattle.circ_show.specs.TheoryText.{IsTheoryText};
-ghost use Rattle.circ_top.specs.Quiet.{IsQuietCall};
+ghost use Rattle.circ_files.specs.Quiet.{IsQuietCall};
 ghost use Rattle.circ_top.specs.Show.{IsShown};
-ghost use Rattle.circ_top.specs.TheoryFile.{IsTheoryFault};
+ghost use Rattle.circ_files.specs.TheoryFile.{IsTheoryFault};
 
-use crate::status::Status;
-use crate::theory_file::take_theory;
+use circ_files::{Status, take_theory};
 use circ_outer::Shelf;
 use circ_show::theory_text;
 use circ_theory::Theory;

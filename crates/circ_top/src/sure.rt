@@ -8,7 +8,7 @@ ghost use Rattle.circ_top.specs.Answer.{AnswersDue};
 ghost use Rattle.circ_top.specs.InMemory.{HoldsFiles, AppendsAnswer, Appends};
 
 use crate::command::circ;
-use crate::status::Status;
+use circ_files::Status;
 use circ_outer::{SureShelf, SureSink};
 use std::alloc::Global;
 

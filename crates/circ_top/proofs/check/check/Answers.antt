@@ -1,7 +1,8 @@
 use Rattle.circ_top.specs.Check.{IsAccepted, RefusesCheck, theory_fault}
 use Rattle.circ_top.specs.CheckProof.{AcceptsProof, RefusesProof}
-use Rattle.circ_top.proofs.FileFaults.{if_ok, if_err}
-use Rattle.circ_top.proofs.ProofFiles.{quiet_call_after, accepted_since, refused_since}
+use Rattle.circ_files.proofs.FileFaults.{if_ok, if_err}
+use Rattle.circ_files.proofs.FileFaults.{quiet_call_after}
+use Rattle.circ_top.proofs.ProofFiles.{accepted_since, refused_since}
 use Rattle.circ_top.proofs.check.check.Goals as goal
 
 pub returns-in-Err-clause-refused : goal.returns-in-Err-clause-refused

@@ -2,8 +2,9 @@ use Rattle.std.proofs.Common.{subst}
 use Rattle.circ_theory.specs.Theory.{Theory}
 use Rattle.circ_top.specs.CheckProof.{file_fault}
 use Rattle.circ_top.specs.Incoming.{HasTaken}
-use Rattle.circ_top.specs.ProofFile.{ProofRefusal}
-use Rattle.circ_top.proofs.ProofFiles.{untaken_fault, OneProof, accepts, refuses, judged_quiet}
+use Rattle.circ_files.specs.ProofFile.{ProofRefusal}
+use Rattle.circ_files.proofs.FileFaults.{untaken_fault}
+use Rattle.circ_top.proofs.ProofFiles.{OneProof, accepts, refuses, judged_quiet}
 use Rattle.circ_top.proofs.check.check_proof.Goals as goal
 
 pub returns-in-Err-clause-refused : goal.returns-in-Err-clause-refused

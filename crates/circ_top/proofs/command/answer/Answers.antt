@@ -1,8 +1,8 @@
 use Rattle.std.proofs.Common.{[], None, refl, sym, append-nil}
 use Rattle.circ_top.specs.Answer.{no_command, words_unread}
 use Rattle.circ_top.specs.Delivery.{whole}
-use Rattle.circ_top.specs.Texts.{usage_text}
-use Rattle.circ_top.specs.declared.status.Status.TheVariants as status
+use Rattle.circ_top.specs.Refusals.{usage_text}
+use Rattle.circ_files.specs.declared.status.Status.TheVariants as status
 use Rattle.circ_top.proofs.command.answer.Goals as goal
 
 pub returns-in-Ok-None-clause-answers : goal.returns-in-Ok-None-clause-answers

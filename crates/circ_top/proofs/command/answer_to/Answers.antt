@@ -2,9 +2,9 @@ use Rattle.std.proofs.Common.{None, refl, sym, append-nil}
 use Rattle.circ_top.specs.Answer.{success, refusal}
 use Rattle.circ_top.specs.Command.{plain_request}
 use Rattle.circ_top.specs.Delivery.{text_wanted}
-use Rattle.circ_top.specs.Texts.{refusal_text}
-use Rattle.circ_top.specs.declared.status.Status.TheVariants as status
-use Rattle.circ_top.proofs.FileFaults.{delivered_quiet}
+use Rattle.circ_top.specs.Refusals.{refusal_text}
+use Rattle.circ_files.specs.declared.status.Status.TheVariants as status
+use Rattle.circ_top.proofs.Refused.{delivered_quiet}
 use Rattle.circ_top.proofs.command.answer_to.Goals as goal
 
 pub returns-in-Ok-clause-answers : goal.returns-in-Ok-clause-answers

@@ -1,8 +1,8 @@
 use Rattle.circ_top.proofs.Answers.{answers_succeed, answers_accepted, answers_refused, answers_past_limit, answers_read_fault, answers_write_fault}
 use Rattle.circ_top.proofs.Answers.{read_outcome, accepted_read_outcome}
-use Rattle.circ_top.proofs.Agreeing.{ReadsOnce, reads_once}
+use Rattle.circ_files.proofs.Readings.{ReadsOnce, reads_once}
 use Rattle.circ_top.proofs.Proofs.{ProofsOnce, proofs_come_once}
-use Rattle.circ_top.proofs.Scripts.{ScriptsOnce, scripts_once}
+use Rattle.circ_files.proofs.Scripts.{ScriptsOnce, scripts_once}
 use Rattle.circ_top.proofs.Outcomes.{answers_outcome, answers_come, answers_memory}
 use Rattle.circ_top.proofs.command.circ.Goals as goal
 

@@ -10,7 +10,7 @@ returns-in-Err-clause-fault c =
     let ts = c.args.terms.now in
     let l = c.loop-term in
     form_missing th l.results.items ts l.term-index l.budget (reduced th c.args.budget.now ts) l.invariant.same c.term-item.result c.loop-term-test.true
-    c.term-item.is c.in-Err.fault c.normalise.new.budget (rw c.requires.rules at c.in-Err.ensures.exact)
+    c.term-item.is c.in-Err.fault c.normalise_by.new.budget (rw c.requires at c.in-Err.ensures.exact)
 
 pub loop-term-preserved : goal.loop-term-preserved
 loop-term-preserved c =
@@ -18,5 +18,5 @@ loop-term-preserved c =
     let ts = c.args.terms.now in
     let l = c.loop-term in
     let s = form_added th l.results.items ts l.term-index l.budget (reduced th c.args.budget.now ts) l.invariant.same c.term-item.result c.loop-term-test.true
-    c.term-item.is c.in-Ok.normal.term (plain_traces c.in-Ok.normal.traces.items) c.normalise.new.budget (rw c.requires.rules at c.in-Ok.ensures.exact) in
+    c.term-item.is c.in-Ok.normal.term (plain_traces c.in-Ok.normal.traces.items) c.normalise_by.new.budget (rw c.requires at c.in-Ok.ensures.exact) in
     record { same = rw c.in_ok-push.ensures.items s; less = omega (arith, l.invariant.less, c.in-Ok.ensures.less) }

@@ -1,10 +1,10 @@
 use Rattle.circ_script.specs.Script.{plain_script}
 use Rattle.circ_script.specs.declared.job.Job.TheVariants as job
 use Rattle.circ_top.specs.Reduce.{Reduces, Ends, IsReduced, RefusesReduce, theory_fault, script_fault}
-use Rattle.circ_top.specs.ScriptFile.{ScriptRefusal}
-use Rattle.circ_top.proofs.FileFaults.{quiet_fault, if_ok, if_err}
+use Rattle.circ_files.specs.ScriptFile.{ScriptRefusal}
+use Rattle.circ_files.proofs.FileFaults.{quiet_fault, if_ok, if_err}
 use Rattle.circ_top.proofs.ReduceOutcomes.{ends_refuse}
-use Rattle.circ_top.proofs.Scripts.{script_before}
+use Rattle.circ_files.proofs.Scripts.{script_before}
 use Rattle.circ_top.proofs.reduce.reduce.Goals as goal
 
 pub returns-in-Err-clause-refused : goal.returns-in-Err-clause-refused

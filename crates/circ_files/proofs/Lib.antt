@@ -1,0 +1,5 @@
+pub mod Rules
+pub mod Joined
+pub mod FileFaults
+pub mod Readings
+pub mod Scripts

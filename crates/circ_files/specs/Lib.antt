@@ -1,0 +1,9 @@
+pub mod Status
+pub mod Texts
+pub mod Like
+pub mod Files
+pub mod Intake
+pub mod Quiet
+pub mod TheoryFile
+pub mod ProofFile
+pub mod ScriptFile

@@ -1,0 +1,19 @@
+//! The files that a run takes from a shelf, and how the run ends.
+//!
+//! [`take_into`] and [`take_file`] take a whole file in pieces, [`take_theory`] and [`take_script`]
+//! what it reads as. [`Status`] says how a run ended, whose texts are put together here.
+#![tactic(auto)]
+
+mod files;
+mod intake;
+mod script_file;
+mod status;
+mod texts;
+mod theory_file;
+
+pub use files::{MOST_BYTES, PIECE, take_file, take_into};
+pub use intake::Intake;
+pub use script_file::take_script;
+pub use status::Status;
+pub use texts::{push_counted, push_numbered, push_spent, push_unreadable};
+pub use theory_file::take_theory;
