@@ -14,3 +14,7 @@ pub mod Runs
 pub mod Turns
 pub mod Ends
 pub mod Answers
+pub mod Tables
+pub mod Naming
+pub mod Ranges
+pub mod Steps
