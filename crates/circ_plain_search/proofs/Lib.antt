@@ -18,3 +18,6 @@ pub mod Tables
 pub mod Naming
 pub mod Ranges
 pub mod Steps
+pub mod Numbered
+pub mod Certificates
+pub mod Accepting

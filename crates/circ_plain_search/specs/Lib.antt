@@ -2,3 +2,4 @@ pub mod BlockRules
 pub mod Joining
 pub mod Search
 pub mod Numbering
+pub mod PlainSearch
