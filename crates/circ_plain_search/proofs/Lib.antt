@@ -21,3 +21,4 @@ pub mod Steps
 pub mod Numbered
 pub mod Certificates
 pub mod Accepting
+pub mod Founds
