@@ -3,3 +3,4 @@ pub mod Joining
 pub mod Search
 pub mod Numbering
 pub mod PlainSearch
+pub mod Examples

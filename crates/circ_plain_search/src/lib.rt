@@ -3,4 +3,5 @@
 //! nothing, and docs/search.md tells the search in words.
 #![tactic(auto)]
 
+pub mod examples;
 pub mod laws;
