@@ -43,7 +43,7 @@ use Rattle.circ_plain_search.proofs.Certificates.{IsCertifiedSet, no_set, one_ea
 -- ---- blocks
 
 -- the goals of a block that is given
-abbrev IsGivenBlock : Theory → List Goal → Type 0
+abbrev pub IsGivenBlock : Theory → List Goal → Type 0
 IsGivenBlock th gs = (gs ≢ []) × FineGoals th half gs
 
 given_blocks : (th : Theory) (bs : List ProvedBlock) → AllByRecursion (IsGivenBlock th) (block_goals bs) → AllByRecursion (λ b. IsGivenBlock th b.goals) bs
@@ -231,12 +231,12 @@ searchable_fine th (g ∷ gs) a =
       searchable_fine th gs a.1,
     )
 
-blocks_given : (th : Theory) (bs : List (List Goal)) → AllByRecursion (λ b. b ≢ []) bs → AllByRecursion (λ b. AllByRecursion (IsSearchable th) b) bs
+pub blocks_given : (th : Theory) (bs : List (List Goal)) → AllByRecursion (λ b. b ≢ []) bs → AllByRecursion (λ b. AllByRecursion (IsSearchable th) b) bs
     → AllByRecursion (IsGivenBlock th) bs
 blocks_given th [] n a = tt
 blocks_given th (b ∷ bs) n a = ((n.0, searchable_fine th b a.0), blocks_given th bs n.1 a.1)
 
-fine_blocks : (th : Theory) (bs : List (List Goal)) → AllByRecursion (IsGivenBlock th) bs → AllByRecursion (FineGoals th half) bs
+pub fine_blocks : (th : Theory) (bs : List (List Goal)) → AllByRecursion (IsGivenBlock th) bs → AllByRecursion (FineGoals th half) bs
 fine_blocks th [] a = tt
 fine_blocks th (b ∷ bs) a = (a.0.1, fine_blocks th bs a.1)
 

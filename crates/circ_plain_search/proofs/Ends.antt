@@ -134,7 +134,7 @@ module _ (th : Theory) (wf : IsWellFormed th) (G : List Place) (l : Limits) (blo
   reaches_whole st e h (ends _ _ t) bs d m x it = turn_whole st bs d m x h (t ∙ ap Err it)
   reaches_whole st e h (goes _ y _ t r) bs d m x it = reaches_whole y e (turn_good th wf G l blocks st y h t) r bs d m x it
 
-start_opened : (th : Theory) (G : List Place) (l : Limits) (b : List Goal) (bs : List (List Goal)) → FineGoals th half b
+pub start_opened : (th : Theory) (G : List Place) (l : Limits) (b : List Goal) (bs : List (List Goal)) → FineGoals th half b
     → AllByRecursion (FineGoals th half) bs → Opened th G (b ∷ bs) (start l (b ∷ bs)) b
 start_opened th G l b bs fb fbs =
     let n : Standing = start l (b ∷ bs) in
@@ -150,6 +150,7 @@ start_opened th G l b bs fb fbs =
       counted = refl;
       small = omega arith;
       few = omega arith;
+      taken = omega arith;
       finished_terms = tt;
       goals = fb;
       later = fbs;

@@ -22,3 +22,4 @@ pub mod Numbered
 pub mod Certificates
 pub mod Accepting
 pub mod Founds
+pub mod Coming

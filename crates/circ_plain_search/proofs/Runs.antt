@@ -119,6 +119,7 @@ pub record Ran (th : Theory) (G : List Place) (blocks : List (List Goal)) (st : 
   pub counted : all_steps st.finished + length st.steps ≡ st.made
   pub small : st.made ≤ step_limit
   pub few : st.derives ≤ st.made
+  pub taken : st.taken ≤ length st.steps
   pub finished_terms : FineTerms th most (flat_map block_terms st.finished)
   pub goals : FineGoals th half st.goals
   pub later : AllByRecursion (FineGoals th half) st.later
@@ -159,7 +160,7 @@ steps_terms_more (y ∷ xs) x th a f =
 -- a step more, whatever else changes
 pub ran_more : (th : Theory) (G : List Place) (blocks : List (List Goal)) (st : Standing) (Q : List Goal) (x : ProofStep Tree) (L S queue : List Goal)
     (chain : ChainOf Tree) (taken budget derives : ℕ) → Ran th G blocks st Q → StepOf th G x (state st.hypotheses Q) (state L S) → IsOpenStep x
-    → FineTerms th most (step_terms x) → st.made < step_limit → BeginsWith L st.earlier → AreSortedGoals th L → derives ≤ st.made + 1
+    → FineTerms th most (step_terms x) → st.made < step_limit → BeginsWith L st.earlier → AreSortedGoals th L → derives ≤ st.made + 1 → taken ≤ length st.steps + 1
     → Ran th G blocks
     (record st {
       hypotheses = L;
@@ -172,7 +173,7 @@ pub ran_more : (th : Theory) (G : List Place) (blocks : List (List Goal)) (st : 
       made = st.made + 1;
       deep = st.deep || is_deep_step th st.hypotheses x;
     }) S
-ran_more th G blocks st Q x L S queue chain taken budget derives r s o f room begins sorted few =
+ran_more th G blocks st Q x L S queue chain taken budget derives r s o f room begins sorted few fewer =
     let long = length-append st.steps (x ∷ []) in
     let count = r.counted in
     record {
@@ -187,6 +188,7 @@ ran_more th G blocks st Q x L S queue chain taken budget derives r s o f room be
       counted = omega (arith, long, count);
       small = omega (arith, room);
       few = few;
+      taken = omega (arith, long, fewer);
       finished_terms = r.finished_terms;
       goals = r.goals;
       later = r.later;
@@ -208,6 +210,7 @@ ran_same th G blocks st Q queue chain budget r = record {
   counted = r.counted;
   small = r.small;
   few = r.few;
+  taken = r.taken;
   finished_terms = r.finished_terms;
   goals = r.goals;
   later = r.later;

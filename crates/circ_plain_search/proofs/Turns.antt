@@ -81,12 +81,12 @@ module _ (th : Theory) (wf : IsWellFormed th) (G : List Place) (l : Limits) (blo
   bound_small : (st : Standing) (Q : List Goal) → Ran th G blocks st Q → bound st ≤ most
   bound_small st Q r = let a = r.few in let b = r.small in omega (arith, a, b)
 
-  rules_here : (st : Standing) (Q : List Goal) → Ran th G blocks st Q → AllByRecursion (IsRuleOf th st.hypotheses) (block_rules th st.earlier)
+  pub rules_here : (st : Standing) (Q : List Goal) → Ran th G blocks st Q → AllByRecursion (IsRuleOf th st.hypotheses) (block_rules th st.earlier)
   rules_here st Q r = block_rules_are th wf st.hypotheses st.earlier r.sorted r.begins
 
   -- ---- the sides of the goal in hand
 
-  sides_held : (st : Standing) (o g : Goal) (rest : List Goal) (k : ℕ) (n : Sides) → Held th G blocks st o g rest
+  pub sides_held : (st : Standing) (o g : Goal) (rest : List Goal) (k : ℕ) (n : Sides) → Held th G blocks st o g rest
       → SidesLed (around st.hypotheses) (bound st) g.left g.right k n → Held th G blocks (with_sides st rest n) o (goal n.left n.right) rest
   sides_held st o g rest k n h s =
       let small = bound_small st (o ∷ rest) h.ran in
@@ -114,9 +114,10 @@ module _ (th : Theory) (wf : IsWellFormed th) (G : List Place) (l : Limits) (blo
       let room = recorded_room th l st (Reduce why) x.value x.first in
       let Q : Standing → Type 0 = λ z. Good (next_goal z.hypotheses rest z) in
       let few = h.few in
+      let taken = h.taken in
       let ran : Ran th G blocks (next_goal a.hypotheses rest a) rest
           = ran_more th G blocks st (o ∷ rest) (Reduce why) st.hypotheses rest rest no_links (st.taken + 1) st.budget st.derives h (j, refl) fits terms room
-          h.begins h.sorted (omega (arith, few)) in
+          h.begins h.sorted (omega (arith, few)) (omega (arith, taken)) in
       subst Good (same_Ok (next_goal x.value.hypotheses rest x.value) y x.last)
       (subst Q it (fresh_queue th G blocks (next_goal a.hypotheses rest a) rest refl ran fr))
 
@@ -140,6 +141,7 @@ module _ (th : Theory) (wf : IsWellFormed th) (G : List Place) (l : Limits) (blo
       let it : after_step th st Derive ≡ x.value = recorded th l st Derive x.value x.first in
       let room = recorded_room th l st Derive x.value x.first in
       let few = h.few in
+      let taken = h.taken in
       let d : IsFineDerived th (bound st) g = derivatives_fine th wf (bound st) (omega (arith, few, room)) g fg within.0 in
       let b : Standing = next_goal (a.hypotheses ++ g ∷ []) (rest ++ gs) (record a { derives = a.derives + 1 }) in
       let L : List Goal = st.hypotheses ++ g ∷ [] in
@@ -147,7 +149,7 @@ module _ (th : Theory) (wf : IsWellFormed th) (G : List Place) (l : Limits) (blo
           = sorted_append th st.hypotheses (g ∷ []) h.sorted (sorted_more th g [] (goal_sorted th (bound st) g fg) (sorted_none th)) in
       let ran : Ran th G blocks b (rest ++ gs)
           = ran_more th G blocks st (g ∷ rest) Derive L (rest ++ gs) (rest ++ gs) no_links (st.taken + 1) st.budget (st.derives + 1) h
-          (hidden, d.derivable, refl) tt tt room (begins_more st.hypotheses st.earlier g h.begins) sorted (omega (arith, few)) in
+          (hidden, d.derivable, refl) tt tt room (begins_more st.hypotheses st.earlier g h.begins) sorted (omega (arith, few)) (omega (arith, taken)) in
       let up : bound st + 8 ≡ bound b = omega arith in
       let N : ℕ → Type 0 = λ m. FineGoals th m gs in
       let queue : FineGoals th (bound b) (rest ++ gs)
@@ -190,11 +192,12 @@ module _ (th : Theory) (wf : IsWellFormed th) (G : List Place) (l : Limits) (blo
       go true k z =
           let room = recorded_room th l st x y z in
           let few = h.ran.few in
+          let taken = h.ran.taken in
           let P : Standing → Type 0 = λ s. Simplified st s g rest in
           subst P (recorded th l st x y z) (record {
             ran = ran_more th G blocks st (o ∷ rest) x st.hypotheses (g ∷ rest) st.queue st.chain st.taken st.budget st.derives h.ran
                 (sides g, record { left = h.left; right = h.right }, refl) tt (chain_fine th most st.chain h.links) room h.ran.begins h.ran.sorted
-                (omega (arith, few));
+                (omega (arith, few)) (omega (arith, taken));
             derives = refl;
           })
       go false k z =
@@ -354,6 +357,7 @@ module _ (th : Theory) (wf : IsWellFormed th) (G : List Place) (l : Limits) (blo
         counted = omega (arith, count);
         small = h.small;
         few = h.few;
+        taken = omega arith;
         finished_terms = h.terms;
         goals = h.later_goals.0;
         later = h.later_goals.1;
