@@ -1,5 +1,5 @@
 -- A proof that the search finds fits the theory and is accepted, with exactly the given goals.
-use Rattle.std.proofs.Common.{◌≡◌, ◌≢◌, ℕ, zero, suc, ◌+◌, ◌≤◌, ◌<◌, ◌^◌, length, Bool, true, false, if◌then◌else◌, List, [], ◌∷◌, ◌++◌, map, flat_map, refl, ap, sym, subst, ◌∙◌, arith, append-nil, length-append}
+use Rattle.std.proofs.Common.{◌≡◌, ◌≢◌, ℕ, ◌+◌, ◌≤◌, ◌<◌, ◌^◌, length, Bool, true, false, if◌then◌else◌, List, [], ◌∷◌, ◌++◌, map, flat_map, refl, ap, sym, subst, ◌∙◌, arith, append-nil, length-append}
 use Rattle.std.specs.Prelude.{nat_lt}
 use Rattle.std.specs.List.{AllByRecursion}
 use Rattle.std.proofs.lemmas.List.{length-map}
@@ -9,7 +9,6 @@ use Rattle.circ_theory.specs.Signature.{IsWellSorted}
 use Rattle.circ_theory.specs.Theory.{Theory}
 use Rattle.circ_theory.specs.WellFormed.{IsWellFormed}
 use Rattle.circ_theory.specs.Rewriting.{named}
-use Rattle.circ_theory.specs.Fresh.{above}
 use Rattle.circ_theory.specs.declared.parts.Goal.{Goal}
 use Rattle.circ_theory.proofs.Lists.{all_by}
 use Rattle.circ_special.specs.declared.place.Place.{Place}
@@ -18,18 +17,18 @@ use Rattle.circ_replay.specs.Plain.{LinkOf, map_link}
 use Rattle.circ_replay.specs.Link.{AllOfLinks}
 use Rattle.circ_rewrite.specs.Links.{link_of}
 use Rattle.circ_replay.specs.Table.{term_limit}
-use Rattle.circ_rules.specs.Rules.{State, state, ProofStep, Simplify, Reduce, Derive, Done, map_step, AllOfStep, StepsOf}
-use Rattle.circ_rules.specs.Proof.{Block, Proof, AreLinksFor, ProofFor, step_limit}
-use Rattle.circ_rules.specs.Accepted.{steps_of, BlocksDerive, Accepted}
+use Rattle.circ_rules.specs.Rules.{state, ProofStep, Simplify, Reduce, Derive, Done, StepsOf}
+use Rattle.circ_rules.specs.Proof.{Proof, AreLinksFor, ProofFor, step_limit}
+use Rattle.circ_rules.specs.Accepted.{BlocksDerive, Accepted}
 use Rattle.circ_rules.specs.Certified.{due, AreCertified}
 use Rattle.circ_rules.proofs.Sorted.{sorted_none, sorted_append}
 use Rattle.circ_rules.proofs.Stepping.{Grows, steps_grow}
 use Rattle.circ_plain_search.specs.Search.{Limits, ProvedBlock, Ending, All_done, Is_stuck, Is_spent, Is_too_big, Is_too_deep, Reaches, start}
-use Rattle.circ_plain_search.specs.Numbering.{goal_terms, links_terms, step_terms, block_terms, proof_terms, numbered_links, numbered_steps, numbered_block, table_for, proof_with, Special, needed, Found, Proved, LongTable, proved_or_long, found_of}
+use Rattle.circ_plain_search.specs.Numbering.{goal_terms, links_terms, step_terms, block_terms, proof_terms, numbered_links, numbered_block, table_for, proof_with, Special, needed, Proved, LongTable, proved_or_long, found_of}
 use Rattle.circ_plain_search.specs.PlainSearch.{PlainSearch, IsSearchable, AreSearchable, IsProofOf}
 use Rattle.circ_plain_search.proofs.Terms.{Fine, FineTerms}
 use Rattle.circ_plain_search.proofs.Led.{all_append, all_parts}
-use Rattle.circ_plain_search.proofs.Derived.{FineGoal, FineGoals, goals_sorted}
+use Rattle.circ_plain_search.proofs.Derived.{FineGoals, goals_sorted}
 use Rattle.circ_plain_search.proofs.Runs.{most, half, IsOpenStep, EndsDone, all_steps, BlocksRun, block_goals, Whole}
 use Rattle.circ_plain_search.proofs.Turns.{links_fine}
 use Rattle.circ_plain_search.proofs.Ends.{search_whole}
@@ -90,10 +89,9 @@ module _ (th : Theory) (wf : IsWellFormed th) (table : List Tree) where
       let fit = steps_fit b e.0 in
       let run = r.0 in
       let ranged = steps_ranged th wf G b.steps (state E b.goals) (state run.0 []) (s, sorted) (omega (arith, few)) (within_goals th b.goals g.0.1)
-          (steps_all (IsWellSorted th.signature) b.steps (sorted_terms (flat_map step_terms b.steps) fine_parts.1)) fit run.1 in
+      (steps_all (IsWellSorted th.signature) b.steps (sorted_terms (flat_map step_terms b.steps) fine_parts.1)) fit run.1 in
       let fewer = ranged.fewer in
-      let long = length-append E b.goals in
-      (
+      let long = length-append E b.goals in (
         record {
           some_goal = g.0.0;
           goals = have_goals table b.goals has_parts.0;
@@ -221,8 +219,7 @@ searchable_fine : (th : Theory) (gs : List Goal) → AllByRecursion (IsSearchabl
 searchable_fine th [] a = tt
 searchable_fine th (g ∷ gs) a =
     let s = a.0.sorted.sorted in
-    let low = a.0.numbers in
-    (
+    let low = a.0.numbers in (
       record {
         left = record { sorted = s.left; within = a.0.left_within; low = omega (arith, low) };
         right = record { sorted = s.right; within = a.0.right_within; low = omega (arith, low) };

@@ -1,7 +1,7 @@
 -- The certificates of the greatest special set: their terms are fine, and their numbers and paths are small.
-use Rattle.std.proofs.Common.{◌≡◌, ℕ, zero, suc, ◌+◌, ◌≤◌, length, List, [], ◌∷◌, ◌++◌, map, Some, refl, ap, sym, subst, ◌∙◌, arith}
+use Rattle.std.proofs.Common.{◌≡◌, ℕ, zero, suc, ◌+◌, ◌≤◌, length, List, [], ◌∷◌, map, Some, refl, ap, arith}
 use Rattle.std.specs.List.{slice_get, AllByRecursion, Contains}
-use Rattle.circ_term.specs.Tree.{Tree, Trees, App, none, more, trees_of}
+use Rattle.circ_term.specs.Tree.{Tree, App, trees_of}
 use Rattle.circ_theory.specs.Signature.{Operator, IsWellSorted}
 use Rattle.circ_theory.specs.Theory.{Theory, Derivative}
 use Rattle.circ_theory.specs.WellFormed.{IsWellFormed}
@@ -63,7 +63,7 @@ module _ (th : Theory) (wf : IsWellFormed th) where
       let few = few_args th wf g.op o listed in
       let args = args_low g.arg 1 o.args in
       let low = derived_low th wf d (of_place th g o d listed c).0 (length o.args) 18 (App g.op o.result (start_args g.arg 1 o.args)) (omega (arith, few, args))
-          (omega (arith, few)) in
+      (omega (arith, few)) in
       omega (arith, low)
 
   traces_fine : (budget : ℕ) (G : List Place) (xs : List (Place × Derivative)) (tss : List (List Traced))
@@ -80,8 +80,7 @@ module _ (th : Theory) (wf : IsWellFormed th) where
         sorted = starts_sorted th wf x.0 o x.1 f.place.listed c;
         within = f.within;
         low = start_low x.0 o x.1 f.place.listed c;
-      } in
-      (
+      } in (
         (normal_form_led th wf most (omega arith) [] (theory_rules th) (rules_are th wf []) [] tt [] (start_term o x.0 x.1) a.0.0 ts budget f.left fine f.form).terms,
         traces_fine budget G xs tss (λ y d. h y (in_rest x y xs d)) a.1,
       )
@@ -115,8 +114,7 @@ module _ (th : Theory) (wf : IsWellFormed th) where
   each_ranged G (x ∷ xs) (ls ∷ lss) h a f =
       let c : Certified th G x.0 x.1 ls = a.0 in
       let o = c.place.operator in
-      let sorted = starts_sorted th wf x.0 o x.1 c.place.listed (h x (contains_first x xs)).1 in
-      (
+      let sorted = starts_sorted th wf x.0 o x.1 c.place.listed (h x (contains_first x xs)).1 in (
         (links_ranged (setting th G [] []) (alone G) ls (start_term o x.0 x.1) c.last (record { sorted = sorted; within = c.within }) (sorted_links ls f.0) c.leads).ranged,
         each_ranged G xs lss (λ y d. h y (in_rest x y xs d)) a.1 f.1,
       )

@@ -1,5 +1,5 @@
 -- What is known of each standing that a search comes to.
-use Rattle.std.proofs.Common.{◌≡◌, ℕ, zero, suc, ◌+◌, ◌*◌, ◌≤◌, ◌<◌, ◌^◌, max, length, List, [], ◌∷◌, ◌++◌, map, flat_map, Result, Ok, Err, refl, ap, sym, subst, ◌∙◌, arith, length-append}
+use Rattle.std.proofs.Common.{◌≡◌, ℕ, ◌+◌, ◌≤◌, length, List, [], ◌∷◌, ◌++◌, Ok, refl, ap, sym, subst, arith, length-append}
 use Rattle.std.specs.List.{AllByRecursion}
 use Rattle.circ_term.specs.Tree.{Tree}
 use Rattle.circ_theory.specs.Theory.{Theory}
@@ -10,12 +10,12 @@ use Rattle.circ_replay.specs.Goals.{goal}
 use Rattle.circ_rules.specs.Rules.{State, state, ProofStep, Simplify, Reduce, Derive, Done, StepOn, StepsOf, derivatives_on}
 use Rattle.circ_rules.specs.Proof.{step_limit}
 use Rattle.circ_plain_search.specs.BlockRules.{block_rules}
-use Rattle.circ_plain_search.specs.Search.{Limits, ProvedBlock, Standing, Ending, Sides, normal_sides, with_sides, turn, Reaches, goes, start}
+use Rattle.circ_plain_search.specs.Search.{Limits, ProvedBlock, Standing, Ending, Sides, normal_sides, with_sides, Reaches, goes, start}
 use Rattle.circ_plain_search.specs.PlainSearch.{AreSearchable}
 use Rattle.circ_plain_search.specs.Coming.{Comes, here, further, IsSmall, IsReady}
 use Rattle.circ_plain_search.proofs.Splits.{normal_sides_led}
-use Rattle.circ_plain_search.proofs.Derived.{FineGoal, FineGoals, goal_sorted}
-use Rattle.circ_plain_search.proofs.Runs.{half, bound, all_steps, goals_of, BlocksRun, EndsDone, Ran, Held, Opened}
+use Rattle.circ_plain_search.proofs.Derived.{FineGoal, goal_sorted}
+use Rattle.circ_plain_search.proofs.Runs.{bound, all_steps, goals_of, BlocksRun, EndsDone, Ran, Held, Opened}
 use Rattle.circ_plain_search.proofs.Turns.{turn_good, rules_here, sides_held}
 use Rattle.circ_plain_search.proofs.Ends.{start_opened}
 use Rattle.circ_plain_search.proofs.Accepting.{blocks_given, fine_blocks}
@@ -150,6 +150,6 @@ module _ (th : Theory) (wf : IsWellFormed th) (G : List Place) (l : Limits) (blo
       let o = subst P is (comes_good a st c) in
       let h : Held th G blocks st o.0 g rest = o.1 in
       let led = normal_sides_led th wf (bound st) (omega arith) G st.hypotheses (block_rules th st.earlier) (rules_here th wf G l blocks st (o.0 ∷ rest) h.ran) [] tt
-          g.left g.right st.budget n h.fine.left h.fine.right e in
+      g.left g.right st.budget n h.fine.left h.fine.right e in
       let held = sides_held th wf G l blocks st o.0 g rest st.budget n h led in
       ready_if (with_sides st rest n) (o.0 ∷ rest) (goal n.left n.right) held.ran held.fine

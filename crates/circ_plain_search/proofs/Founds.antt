@@ -1,13 +1,12 @@
 -- A search finds one thing, and it cannot find nothing.
-use Rattle.std.proofs.Common.{◌≡◌, ℕ, List, map, refl, ap, sym, subst, ◌∙◌}
+use Rattle.std.proofs.Common.{◌≡◌, List, map, refl, ap, sym, subst, ◌∙◌}
 use Rattle.circ_theory.specs.Theory.{Theory}
 use Rattle.circ_theory.specs.declared.parts.Goal.{Goal}
 use Rattle.circ_special.specs.declared.place.Place.{Place}
 use Rattle.circ_rewrite.specs.Links.{link_of}
-use Rattle.circ_rewrite.specs.Replacement.{Traced}
 use Rattle.circ_contexts.proofs.Unique.{one_set}
 use Rattle.circ_contexts.proofs.Existing.{some_set}
-use Rattle.circ_plain_search.specs.Search.{Limits, Ending, Reaches, start}
+use Rattle.circ_plain_search.specs.Search.{Limits, Reaches, start}
 use Rattle.circ_plain_search.specs.Numbering.{Found, special, found_of}
 use Rattle.circ_plain_search.specs.PlainSearch.{PlainSearch}
 use Rattle.circ_plain_search.proofs.Answers.{one_ending, some_ending}
@@ -25,6 +24,6 @@ pub some_found : (th : Theory) (blocks : List (List Goal)) (l : Limits) → ((f 
 some_found th blocks l none =
     some_set th l.steps
     (λ G tss g.
-        let e = some_ending th G l (start l blocks) in
-        none (found_of (special G (map (map link_of) tss)) e.0)
-        (record { places = G; traces = tss; greatest = g; ending = e.0; run = e.1; is = refl }))
+    let e = some_ending th G l (start l blocks) in
+    none (found_of (special G (map (map link_of) tss)) e.0)
+    (record { places = G; traces = tss; greatest = g; ending = e.0; run = e.1; is = refl }))

@@ -1,9 +1,8 @@
 -- The steps and the blocks of a proof with numbers for its terms fit its table.
-use Rattle.std.proofs.Common.{◌≡◌, ◌≢◌, ℕ, zero, suc, ◌+◌, ◌-◌, ◌≤◌, ◌<◌, ◌^◌, length, Bool, List, [], ◌∷◌, ◌++◌, map, flat_map, refl, ap, sym, subst, ◌∙◌, arith}
+use Rattle.std.proofs.Common.{◌≡◌, ◌≢◌, ℕ, zero, suc, ◌+◌, ◌-◌, ◌<◌, length, List, [], ◌∷◌, ◌++◌, map, refl, ap, sym, subst, ◌∙◌, arith}
 use Rattle.std.specs.List.{AllByRecursion}
 use Rattle.std.proofs.lemmas.List.{length-map}
 use Rattle.circ_term.specs.Tree.{Tree, sort_of}
-use Rattle.circ_theory.specs.Theory.{Theory}
 use Rattle.circ_theory.specs.Rewriting.{named}
 use Rattle.circ_theory.specs.declared.parts.Goal.{Goal}
 use Rattle.circ_replay.specs.Goals.{goal}
@@ -12,7 +11,7 @@ use Rattle.circ_replay.specs.Link.{AllOfLink, AllOfLinks}
 use Rattle.circ_replay.specs.Justified.{AllOfChain, AllOfWhy, AllOfWhys}
 use Rattle.circ_replay.specs.Table.{number_in}
 use Rattle.circ_rules.specs.Rules.{ProofStep, Simplify, Reduce, Derive, Done, map_step, AllOfStep}
-use Rattle.circ_rules.specs.Proof.{Block, IsNumber, IsLinkFor, AreLinksFor, IsChainFor, why_count, IsWhyFor, AreWhysFor, IsStepFor, IsEnded, goal_of, IsNameFor, IsBlockFor, steps_in}
+use Rattle.circ_rules.specs.Proof.{IsLinkFor, AreLinksFor, IsChainFor, why_count, IsWhyFor, AreWhysFor, IsStepFor, IsEnded, goal_of, IsNameFor, IsBlockFor, steps_in}
 use Rattle.circ_plain_search.specs.Search.{ProvedBlock}
 use Rattle.circ_plain_search.specs.Numbering.{goal_name, numbered_links, numbered_steps, numbered_block}
 use Rattle.circ_plain_search.proofs.Splits.{FitsIn, AllFitIn}

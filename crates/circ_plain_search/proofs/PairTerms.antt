@@ -1,5 +1,5 @@
 -- A pair under a substitution, and under the terms that this gives its variables in order.
-use Rattle.std.proofs.Common.{◌≡◌, ℕ, Bool, true, false, ◌==◌, ◌||◌, ◌&&◌, List, [], ◌∷◌, Some, refl, ap, sym, subst, ◌∙◌, arith}
+use Rattle.std.proofs.Common.{◌≡◌, ℕ, Bool, true, false, ◌==◌, ◌||◌, List, [], ◌∷◌, Some, refl, ap, sym, subst, ◌∙◌, arith}
 use Rattle.std.specs.List.{list_any, AllByRecursion}
 use Rattle.circ_term.specs.Tree.{Tree, at}
 use Rattle.circ_term.specs.Substitution.{Substitution, instance}
@@ -11,7 +11,7 @@ use Rattle.circ_rewrite.specs.Due.{terms_by}
 use Rattle.circ_rewrite.proofs.RuleTerms.{any_seen_in, has_variable-occurrences}
 use Rattle.circ_rewrite.proofs.Linked.{any_sorted, given_back}
 use Rattle.circ_plain_search.specs.Joining.{pair_variables}
-use Rattle.circ_plain_search.proofs.Terms.{Fine, FineTerms, variable_at, at_fine}
+use Rattle.circ_plain_search.proofs.Terms.{Fine, variable_at, at_fine}
 
 abbrev variable : ℕ → ℕ → Variable
 variable n s = record { number = n; sort = s }

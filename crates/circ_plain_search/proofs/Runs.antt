@@ -1,20 +1,20 @@
 -- What the search has recorded so far is a run of the rules, and its terms are fine.
-use Rattle.std.proofs.Common.{◌≡◌, ℕ, zero, suc, ◌+◌, ◌*◌, ◌≤◌, ◌<◌, Bool, true, false, ◌||◌, if◌then◌else◌, List, [], ◌∷◌, ◌++◌, map, flat_map, length, Option, Some, Result, Ok, Err, refl, ap, sym, subst, ◌∙◌, arith, append_assoc, append-nil, length-append}
+use Rattle.std.proofs.Common.{◌≡◌, ℕ, ◌+◌, ◌*◌, ◌≤◌, ◌<◌, Bool, true, false, ◌||◌, if◌then◌else◌, List, [], ◌∷◌, ◌++◌, map, flat_map, length, Ok, Err, refl, ap, sym, subst, ◌∙◌, arith, append_assoc, append-nil, length-append}
 use Rattle.std.specs.Prelude.{nat_le}
-use Rattle.std.specs.List.{slice_get, AllByRecursion}
+use Rattle.std.specs.List.{AllByRecursion}
 use Rattle.circ_term.specs.Tree.{Tree}
 use Rattle.circ_theory.specs.Theory.{Theory}
 use Rattle.circ_theory.specs.declared.parts.Goal.{Goal}
 use Rattle.circ_theory.proofs.Lists.{all_push}
 use Rattle.circ_special.specs.declared.place.Place.{Place}
-use Rattle.circ_replay.specs.Plain.{LinkOf, ChainOf}
-use Rattle.circ_replay.specs.Goals.{sides, AreSortedGoals}
+use Rattle.circ_replay.specs.Plain.{ChainOf}
+use Rattle.circ_replay.specs.Goals.{AreSortedGoals}
 use Rattle.circ_replay.specs.Runs.{Runs}
 use Rattle.circ_replay.specs.Link.{setting, Leads}
 use Rattle.circ_replay.specs.Justified.{AllOfChain}
-use Rattle.circ_rules.specs.Rules.{State, state, ProofStep, Simplify, Reduce, Derive, Done, StepOf, StepsOf, AllOfStep}
+use Rattle.circ_rules.specs.Rules.{State, state, ProofStep, Simplify, Reduce, Derive, Done, StepOf, StepsOf}
 use Rattle.circ_rules.specs.Proof.{step_limit}
-use Rattle.circ_plain_search.specs.Search.{Limits, ProvedBlock, proved_block, Standing, Ending, no_links, spent, record_step, is_deep_step}
+use Rattle.circ_plain_search.specs.Search.{Limits, ProvedBlock, proved_block, Standing, no_links, spent, record_step, is_deep_step}
 use Rattle.circ_plain_search.specs.Numbering.{goal_terms, step_terms, block_terms}
 use Rattle.circ_plain_search.proofs.Terms.{Fine, FineTerms, fine_more}
 use Rattle.circ_plain_search.proofs.Led.{all_append, runs_append}
@@ -236,15 +236,17 @@ pub fresh_queue : (th : Theory) (G : List Place) (blocks : List (List Goal)) (st
 fresh_queue th G blocks st [] none r f = r
 fresh_queue th G blocks st (g ∷ rest) none r f =
     let P : ChainOf Tree → Type 0 = λ c. Runs (Leads (setting th G st.hypotheses [])) c.left g.left g.left in
-    let Q : ChainOf Tree → Type 0 = λ c. Runs (Leads (setting th G st.hypotheses [])) c.right g.right g.right in
-    (g, record {
-      ran = r;
-      left = subst P (sym none) refl;
-      right = subst Q (sym none) refl;
-      links = (let R : ChainOf Tree → Type 0 = AllOfChain (Fine th most) in subst R (sym none) (tt, tt));
-      fine = f.0;
-      fine_rest = f.1;
-    })
+    let Q : ChainOf Tree → Type 0 = λ c. Runs (Leads (setting th G st.hypotheses [])) c.right g.right g.right in (
+      g,
+      record {
+        ran = r;
+        left = subst P (sym none) refl;
+        right = subst Q (sym none) refl;
+        links = (let R : ChainOf Tree → Type 0 = AllOfChain (Fine th most) in subst R (sym none) (tt, tt));
+        fine = f.0;
+        fine_rest = f.1;
+      },
+    )
 
 -- ---- the end of a block
 
@@ -285,7 +287,7 @@ done_whole th G blocks st r room =
     let b : ProvedBlock = proved_block st.goals (st.steps ++ Done ∷ []) in
     let E : List Goal → Type 0 = λ x. RunBoth th G (st.deep || false) (state x st.goals) b.steps (state st.hypotheses []) in
     let run : RunBoth th G (st.deep || false) (state (goals_of st.finished) st.goals) b.steps (state st.hypotheses [])
-        = subst E r.earlier (run_more th G st.deep (state st.earlier st.goals) st.steps (state st.hypotheses []) Done (state st.hypotheses []) r.run refl) in
+    = subst E r.earlier (run_more th G st.deep (state st.earlier st.goals) st.steps (state st.hypotheses []) Done (state st.hypotheses []) r.run refl) in
     let before = blocks_later th G st.deep false st.finished r.finished in
     let long = length-append st.steps (Done ∷ []) in
     let count = r.counted in

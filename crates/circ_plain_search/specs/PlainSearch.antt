@@ -1,5 +1,5 @@
 -- What the plain search finds (`PlainSearch`), and what a proof that it finds is.
-use Rattle.std.specs.Prelude.{◌≡◌, ◌≢◌, ◌≤◌, ◌^◌, ℕ, List, [], map}
+use Rattle.std.specs.Prelude.{◌≡◌, ◌≢◌, ◌≤◌, ◌^◌, List, [], map}
 use Rattle.std.specs.List.{AllByRecursion}
 use Rattle.circ_term.specs.Limits.{IsWithinLimits}
 use Rattle.circ_theory.specs.Theory.{Theory}

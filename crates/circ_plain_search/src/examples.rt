@@ -19,14 +19,14 @@ ghost use Rattle.circ_plain_search.specs.Examples.{numbers, from_zero};
 pub fn equal_sides()
     ensures { search bits bits_set (limits 0 0) ((goal zeros zeros ∷ []) ∷ [])
         ≡ Some (Proved (record {
-            table = zeros ∷ [];
-            places = [];
-            certificates = [];
-            blocks = record {
-                goals = goal zeros zeros ∷ [];
-                names = (0, 0) ∷ [];
-                steps = Reduce (Same_why (record { left = []; right = [] })) ∷ Done ∷ [];
-            } ∷ [];
+          table = zeros ∷ [];
+          places = [];
+          certificates = [];
+          blocks = record {
+            goals = goal zeros zeros ∷ [];
+            names = (0, 0) ∷ [];
+            steps = Reduce (Same_why (record { left = []; right = [] })) ∷ Done ∷ [];
+          } ∷ [];
         })) }
 {}
 
@@ -35,26 +35,26 @@ pub fn equal_sides()
 pub fn odd_and_even_parts()
     ensures { search bits bits_set (limits 100 5) ((parts_goal ∷ []) ∷ [])
         ≡ Some (Proved (record {
-            table = s ∷ odd s ∷ tl s ∷ odd (tl s) ∷ parts_goal.left ∷ [];
-            places = [];
-            certificates = [];
-            blocks = record {
-                goals = parts_goal ∷ [];
-                names = (4, 0) ∷ [];
-                steps = Derive
-                    ∷ Reduce (Same_why (record {
-                        left = Equation_link 9 Forth [] (1 ∷ 3 ∷ [])
-                            ∷ Equation_link 7 Forth [] (0 ∷ []) ∷ [];
-                        right = [];
-                    }))
-                    ∷ Reduce (Same_why (record {
-                        left = Equation_link 10 Forth [] (1 ∷ 3 ∷ [])
-                            ∷ Equation_link 8 Forth (1 ∷ []) (0 ∷ [])
-                            ∷ Hypothesis_link 0 Forth [] (2 ∷ []) ∷ [];
-                        right = [];
-                    }))
-                    ∷ Done ∷ [];
-            } ∷ [];
+          table = s ∷ odd s ∷ tl s ∷ odd (tl s) ∷ parts_goal.left ∷ [];
+          places = [];
+          certificates = [];
+          blocks = record {
+            goals = parts_goal ∷ [];
+            names = (4, 0) ∷ [];
+            steps = Derive
+                ∷ Reduce (Same_why (record {
+                  left = Equation_link 9 Forth [] (1 ∷ 3 ∷ [])
+                      ∷ Equation_link 7 Forth [] (0 ∷ []) ∷ [];
+                  right = [];
+                }))
+                ∷ Reduce (Same_why (record {
+                  left = Equation_link 10 Forth [] (1 ∷ 3 ∷ [])
+                      ∷ Equation_link 8 Forth (1 ∷ []) (0 ∷ [])
+                      ∷ Hypothesis_link 0 Forth [] (2 ∷ []) ∷ [];
+                  right = [];
+                }))
+                ∷ Done ∷ [];
+          } ∷ [];
         })) }
 {}
 
@@ -73,26 +73,26 @@ pub fn heads_differ()
 pub fn a_split()
     ensures { search bits bits_set (limits 100 5) ((goal (plus x x) zero_bit ∷ []) ∷ [])
         ≡ Some (Proved (record {
-            table = x ∷ plus x x ∷ zero_bit ∷ [];
-            places = [];
-            certificates = [];
-            blocks = record {
-                goals = goal (plus x x) zero_bit ∷ [];
-                names = (1, 2) ∷ [];
-                steps = Reduce (Split_why (record { left = []; right = [] }) 0
-                    (more_whys (Same_why (record {
-                        left = Assumption_link 0 Forth (0 ∷ [])
-                            ∷ Assumption_link 0 Forth (1 ∷ [])
-                            ∷ Equation_link 0 Forth [] (2 ∷ []) ∷ [];
-                        right = [];
-                    }))
-                    (more_whys (Same_why (record {
-                        left = Assumption_link 0 Forth (0 ∷ [])
-                            ∷ Assumption_link 0 Forth (1 ∷ [])
-                            ∷ Equation_link 2 Forth [] [] ∷ [];
-                        right = [];
-                    })) no_why))) ∷ Done ∷ [];
-            } ∷ [];
+          table = x ∷ plus x x ∷ zero_bit ∷ [];
+          places = [];
+          certificates = [];
+          blocks = record {
+            goals = goal (plus x x) zero_bit ∷ [];
+            names = (1, 2) ∷ [];
+            steps = Reduce (Split_why (record { left = []; right = [] }) 0
+                (more_whys (Same_why (record {
+                  left = Assumption_link 0 Forth (0 ∷ [])
+                      ∷ Assumption_link 0 Forth (1 ∷ [])
+                      ∷ Equation_link 0 Forth [] (2 ∷ []) ∷ [];
+                  right = [];
+                }))
+                (more_whys (Same_why (record {
+                  left = Assumption_link 0 Forth (0 ∷ [])
+                      ∷ Assumption_link 0 Forth (1 ∷ [])
+                      ∷ Equation_link 2 Forth [] [] ∷ [];
+                  right = [];
+                })) no_why))) ∷ Done ∷ [];
+          } ∷ [];
         })) }
 {}
 
@@ -107,25 +107,25 @@ pub fn a_stuck_case()
 pub fn a_place_is_used()
     ensures { search adders adders_set (limits 100 5) ((adders_goal ∷ []) ∷ [])
         ≡ Some (Proved (record {
-            table = s ∷ f s ∷ g s ∷ t ∷ [];
-            places = place 9 1 ∷ [];
-            certificates = (Equation_link 11 Forth [] (3 ∷ 0 ∷ []) ∷ [])
-                ∷ (Equation_link 12 Forth [] (3 ∷ 0 ∷ []) ∷ []) ∷ [];
-            blocks = record {
-                goals = adders_goal ∷ [];
-                names = (1, 2) ∷ [];
-                steps = Derive
-                    ∷ Reduce (Same_why (record {
-                        left = Equation_link 13 Forth [] (0 ∷ []) ∷ [];
-                        right = Equation_link 15 Forth [] (0 ∷ []) ∷ [];
-                    }))
-                    ∷ Reduce (Same_why (record {
-                        left = Equation_link 14 Forth [] (0 ∷ [])
-                            ∷ Hypothesis_link 0 Forth (1 ∷ []) (0 ∷ []) ∷ [];
-                        right = Equation_link 16 Forth [] (0 ∷ []) ∷ [];
-                    }))
-                    ∷ Done ∷ [];
-            } ∷ [];
+          table = s ∷ f s ∷ g s ∷ t ∷ [];
+          places = place 9 1 ∷ [];
+          certificates = (Equation_link 11 Forth [] (3 ∷ 0 ∷ []) ∷ [])
+              ∷ (Equation_link 12 Forth [] (3 ∷ 0 ∷ []) ∷ []) ∷ [];
+          blocks = record {
+            goals = adders_goal ∷ [];
+            names = (1, 2) ∷ [];
+            steps = Derive
+                ∷ Reduce (Same_why (record {
+                  left = Equation_link 13 Forth [] (0 ∷ []) ∷ [];
+                  right = Equation_link 15 Forth [] (0 ∷ []) ∷ [];
+                }))
+                ∷ Reduce (Same_why (record {
+                  left = Equation_link 14 Forth [] (0 ∷ [])
+                      ∷ Hypothesis_link 0 Forth (1 ∷ []) (0 ∷ []) ∷ [];
+                  right = Equation_link 16 Forth [] (0 ∷ []) ∷ [];
+                }))
+                ∷ Done ∷ [];
+          } ∷ [];
         })) }
 {}
 
@@ -141,36 +141,36 @@ pub fn a_lemma_pass()
     ensures { search bits bits_set (limits 100 5)
         ((goal odd_zip s ∷ []) ∷ (goal (odd (zip odd_zip t)) s ∷ []) ∷ [])
         ≡ Some (Proved (record {
-            table = s ∷ t ∷ zip s t ∷ odd_zip ∷ tl s ∷ tl t
-                ∷ zip odd_zip t ∷ odd (zip odd_zip t) ∷ [];
-            places = [];
-            certificates = [];
-            blocks = record {
-                goals = goal odd_zip s ∷ [];
-                names = (3, 0) ∷ [];
-                steps = Derive
-                    ∷ Reduce (Same_why (record {
-                        left = Equation_link 7 Forth [] (2 ∷ [])
-                            ∷ Equation_link 9 Forth [] (0 ∷ 1 ∷ []) ∷ [];
-                        right = [];
-                    }))
-                    ∷ Reduce (Same_why (record {
-                        left = Equation_link 8 Forth [] (2 ∷ [])
-                            ∷ Equation_link 10 Forth (0 ∷ 0 ∷ []) (0 ∷ 1 ∷ [])
-                            ∷ Equation_link 10 Forth (0 ∷ []) (1 ∷ 4 ∷ [])
-                            ∷ Hypothesis_link 0 Forth [] (4 ∷ 5 ∷ []) ∷ [];
-                        right = [];
-                    }))
-                    ∷ Done ∷ [];
-            } ∷ record {
-                goals = goal (odd (zip odd_zip t)) s ∷ [];
-                names = (7, 0) ∷ [];
-                steps = Reduce (Same_why (record {
-                    left = Hypothesis_link 0 Forth [] (3 ∷ 1 ∷ [])
-                        ∷ Hypothesis_link 0 Forth [] (0 ∷ 1 ∷ []) ∷ [];
-                    right = [];
-                })) ∷ Done ∷ [];
-            } ∷ [];
+          table = s ∷ t ∷ zip s t ∷ odd_zip ∷ tl s ∷ tl t
+              ∷ zip odd_zip t ∷ odd (zip odd_zip t) ∷ [];
+          places = [];
+          certificates = [];
+          blocks = record {
+            goals = goal odd_zip s ∷ [];
+            names = (3, 0) ∷ [];
+            steps = Derive
+                ∷ Reduce (Same_why (record {
+                  left = Equation_link 7 Forth [] (2 ∷ [])
+                      ∷ Equation_link 9 Forth [] (0 ∷ 1 ∷ []) ∷ [];
+                  right = [];
+                }))
+                ∷ Reduce (Same_why (record {
+                  left = Equation_link 8 Forth [] (2 ∷ [])
+                      ∷ Equation_link 10 Forth (0 ∷ 0 ∷ []) (0 ∷ 1 ∷ [])
+                      ∷ Equation_link 10 Forth (0 ∷ []) (1 ∷ 4 ∷ [])
+                      ∷ Hypothesis_link 0 Forth [] (4 ∷ 5 ∷ []) ∷ [];
+                  right = [];
+                }))
+                ∷ Done ∷ [];
+          } ∷ record {
+            goals = goal (odd (zip odd_zip t)) s ∷ [];
+            names = (7, 0) ∷ [];
+            steps = Reduce (Same_why (record {
+              left = Hypothesis_link 0 Forth [] (3 ∷ 1 ∷ [])
+                  ∷ Hypothesis_link 0 Forth [] (0 ∷ 1 ∷ []) ∷ [];
+              right = [];
+            })) ∷ Done ∷ [];
+          } ∷ [];
         })) }
 {}
 
