@@ -24,12 +24,10 @@ use Rattle.circ_plain_search.specs.Search.{Limits, Standing, Ending, NormalSide,
 use Rattle.circ_plain_search.proofs.Uses.{Through, through, same_Ok}
 use Rattle.circ_plain_search.proofs.Passes.{counted}
 use Rattle.circ_plain_search.proofs.Runs.{recorded, recorded_room}
+use Rattle.circ_plain_search.proofs.Ends.{same_Err}
 use Rattle.circ_plain_search.proofs.Turns.{if_ended, if_false}
 
 -- ---- one answer
-
-same_Err : {A E : Type 0} (a b : E) → ◌≡◌ {A = Result A E} (Err a) (Err b) → a ≡ b
-same_Err a b e = cc
 
 pub one_ending : (th : Theory) (G : List Place) (l : Limits) (st : Standing) (e f : Ending) → Reaches th G l st e → Reaches th G l st f → e ≡ f
 one_ending th G l st e f (ends _ _ t) (ends _ _ u) = same_Err e f (sym t ∙ u)

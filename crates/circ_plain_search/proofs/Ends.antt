@@ -25,7 +25,7 @@ use Rattle.circ_plain_search.proofs.Turns.{IsWhole, done_is_whole, turn_good}
 abbrev NotDone : {A : Type 0} → Result A Ending → Type 0
 NotDone r = (bs : List ProvedBlock) (d m : ℕ) (x : Bool) → r ≡ Err (All_done bs d m x) → ⊥
 
-same_Err : {A E : Type 0} (a b : E) → ◌≡◌ {A = Result A E} (Err a) (Err b) → a ≡ b
+pub same_Err : {A E : Type 0} (a b : E) → ◌≡◌ {A = Result A E} (Err a) (Err b) → a ≡ b
 same_Err a b e = cc
 
 not_then : {A B : Type 0} (r : Result A Ending) (f : A → Result B Ending) → NotDone r → ((a : A) → NotDone (f a)) → NotDone (and_then r f)

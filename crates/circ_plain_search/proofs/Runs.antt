@@ -17,7 +17,7 @@ use Rattle.circ_rules.specs.Proof.{step_limit}
 use Rattle.circ_plain_search.specs.Search.{Limits, ProvedBlock, proved_block, Standing, no_links, spent, record_step, is_deep_step}
 use Rattle.circ_plain_search.specs.Numbering.{goal_terms, step_terms, block_terms}
 use Rattle.circ_plain_search.proofs.Terms.{Fine, FineTerms, fine_more}
-use Rattle.circ_plain_search.proofs.Led.{all_append, runs_append}
+use Rattle.circ_plain_search.proofs.Led.{all_append, all_parts, runs_append}
 use Rattle.circ_plain_search.proofs.Rules.{BeginsWith}
 use Rattle.circ_plain_search.proofs.Uses.{same_Ok, map_append}
 use Rattle.circ_plain_search.proofs.Splits.{FitsIn}
@@ -150,12 +150,8 @@ steps_terms_more : (xs : List (ProofStep Tree)) (x : ProofStep Tree) (th : Theor
     → FineTerms th most (flat_map step_terms (xs ++ x ∷ []))
 steps_terms_more [] x th a f = all_append (Fine th most) (step_terms x) [] f tt
 steps_terms_more (y ∷ xs) x th a f =
-    let p = parts (step_terms y) (flat_map step_terms xs) a in
+    let p = all_parts (Fine th most) (step_terms y) (flat_map step_terms xs) a in
     all_append (Fine th most) (step_terms y) (flat_map step_terms (xs ++ x ∷ [])) p.0 (steps_terms_more xs x th p.1 f)
-  where
-    parts : (us vs : List Tree) → FineTerms th most (us ++ vs) → FineTerms th most us × FineTerms th most vs
-    parts [] vs c = (tt, c)
-    parts (z ∷ us) vs c = let r = parts us vs c.1 in ((c.0, r.0), r.1)
 
 -- a step more, whatever else changes
 pub ran_more : (th : Theory) (G : List Place) (blocks : List (List Goal)) (st : Standing) (Q : List Goal) (x : ProofStep Tree) (L S queue : List Goal)
@@ -262,12 +258,8 @@ blocks_terms_more : (th : Theory) (bs : List ProvedBlock) (b : ProvedBlock) → 
     → FineTerms th most (flat_map block_terms (bs ++ b ∷ []))
 blocks_terms_more th [] b a f = all_append (Fine th most) (block_terms b) [] f tt
 blocks_terms_more th (d ∷ bs) b a f =
-    let p = parts (block_terms d) (flat_map block_terms bs) a in
+    let p = all_parts (Fine th most) (block_terms d) (flat_map block_terms bs) a in
     all_append (Fine th most) (block_terms d) (flat_map block_terms (bs ++ b ∷ [])) p.0 (blocks_terms_more th bs b p.1 f)
-  where
-    parts : (us vs : List Tree) → FineTerms th most (us ++ vs) → FineTerms th most us × FineTerms th most vs
-    parts [] vs c = (tt, c)
-    parts (z ∷ us) vs c = let r = parts us vs c.1 in ((c.0, r.0), r.1)
 
 -- Each block so far is proved, of which there are so many steps.
 pub record Whole (th : Theory) (G : List Place) (blocks : List (List Goal)) (bs : List ProvedBlock) (later : List (List Goal)) (deep : Bool) (made derives : ℕ) : Type 0 where
