@@ -183,6 +183,7 @@ pub fn derive_steps_are_spent()
 
 /// Two rewrite steps are due, and one is there.
 pub fn rewrite_steps_are_spent()
-    ensures { search bits bits_set (limits 1 5) ((goal (plus zero_bit (plus zero_bit x)) x ∷ []) ∷ [])
+    ensures { search bits bits_set (limits 1 5)
+        ((goal (plus zero_bit (plus zero_bit x)) x ∷ []) ∷ [])
         ≡ Some (Spent 1 0 0) }
 {}
