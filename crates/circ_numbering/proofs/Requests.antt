@@ -1,11 +1,11 @@
 -- One request to a table after another.
-use Rattle.std.proofs.Common.{◌≡◌, ◌<◌, ◌≤◌, ℕ, true, List, [], ◌∷◌, ◌++◌, length, Result, Ok, Err, refl, ap, sym, subst, ◌∙◌, arith, append_assoc}
+use Rattle.std.proofs.Common.{◌≡◌, ℕ, true, List, [], ◌∷◌, ◌++◌, refl, ap, sym, subst, ◌∙◌, arith}
 use Rattle.circ_term.specs.Tree.{Tree}
 use Rattle.circ_replay.specs.Growing.{Continues}
-use Rattle.circ_replay.specs.Table.{added, has, number_in, term_limit}
+use Rattle.circ_replay.specs.Table.{added, has, number_in}
 use Rattle.circ_replay.proofs.Tables.{continues_self, continues_more, continues_length, added_continues, added_has, number_stays}
 use Rattle.circ_plain_search.specs.Numbering.{asked_for}
-use Rattle.circ_numbering.specs.Asking.{IsFaultOf, Asks}
+use Rattle.circ_numbering.specs.Asking.{IsFaultOf}
 use Rattle.circ_numbering.specs.declared.fault.NumberFault.{NumberFault}
 use Rattle.circ_numbering.specs.declared.fault.NumberFault.TheVariants as fault
 
@@ -46,3 +46,8 @@ pub number_later : (old new table : List Tree) (t : Tree) (n : ℕ) → new ≡ 
 number_later old new table t n e m a =
     let P : List Tree → Type 0 = λ x. has x t ≡ true in
     m ∙ sym (number_stays new a.0 t (subst P (sym e) (added_has old t))) ∙ ap (λ x. number_in x t) (sym a.1)
+
+-- what one request has, in the tables that go on from the table after the next
+pub earlier_named : {X : Type 0} (Named : List Tree → X → Type 0) (mid new us : List Tree) (x : X) → new ≡ asked_for mid us
+    → ((table : List Tree) → Continues mid table → Named table x) → (table : List Tree) → Continues new table → Named table x
+earlier_named Named mid new us x e h table a = h table (later_too mid new us table e a)

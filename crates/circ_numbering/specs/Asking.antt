@@ -1,5 +1,5 @@
 -- What calls answer that ask a table for terms.
-use Rattle.std.specs.Prelude.{◌≡◌, ◌<◌, List, length, Result, Ok, Err}
+use Rattle.std.specs.Prelude.{◌≡◌, ◌<◌, ◌≤◌, List, length, Result, Ok, Err}
 use Rattle.circ_term.specs.Tree.{Tree}
 use Rattle.circ_replay.specs.Growing.{Continues}
 use Rattle.circ_replay.specs.Table.{term_limit}
@@ -21,5 +21,5 @@ Asks old new terms Named (Err e) = IsFaultOf (asked_for old terms) e
 
 -- the proof, whose table is short enough; or the fault of its table
 abbrev pub GivesProof : {X : Type 0} → (plain : X → Proof) → Proof → Result X NumberFault → Type 0
-GivesProof plain p (Ok x) = plain x ≡ p
+GivesProof plain p (Ok x) = (plain x ≡ p) × (length p.table ≤ term_limit)
 GivesProof plain p (Err e) = IsFaultOf p.table e

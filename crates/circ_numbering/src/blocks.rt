@@ -35,10 +35,10 @@ pub fn numbered(
     alloc: Global,
     gamma: Gamma,
     certificates: &[Vec<TermLink>],
-    blocks: Vec<TermBlock>,
+    blocks: &[TermBlock],
 ) -> Result<Proof, NumberFault>
     ensures { GivesProof plain_proof (proof_with gamma
-        (plain_term_certificates certificates.now) (plain_term_blocks blocks.items)) result }
+        (plain_term_certificates certificates.now) (plain_term_blocks blocks.now)) result }
 {
     let mut table = TableBuilder::new(alloc);
     let blocks = match named_blocks(alloc, &mut table, blocks) {
@@ -67,14 +67,33 @@ fn shared(alloc: Global, terms: &[Term]) -> Result<Vec<Term>, AllocError>
     Ok(all)
 }
 
+fn shared_goals(alloc: Global, goals: &[Goal]) -> Result<Vec<Goal>, AllocError>
+    ensures { IfOk result (λ v. v.items ≡ goals.now) }
+{
+    let mut all = Vec::with_capacity(alloc, goals.len())?;
+    for goal in goals {
+        all.push(shared_goal(goal)?)?;
+    }
+    Ok(all)
+}
+
+fn shared_goal(goal: &Goal) -> Result<Goal, AllocError>
+    ensures { IfOk result (λ g. g ≡ goal.now) }
+{
+    Ok(Goal {
+        left: goal.left.share()?,
+        right: goal.right.share()?,
+    })
+}
+
 fn named_blocks(
     alloc: Global,
     table: &mut TableBuilder,
-    recorded: Vec<TermBlock>,
+    recorded: &[TermBlock],
 ) -> Result<Vec<Block>, NumberFault>
-    ensures { Asks table.old table.new (flat_map block_terms (plain_term_blocks recorded.items))
+    ensures { Asks table.old table.new (flat_map block_terms (plain_term_blocks recorded.now))
         (λ t v. map plain_block v.items
-        ≡ map (numbered_block t) (plain_term_blocks recorded.items)) result }
+        ≡ map (numbered_block t) (plain_term_blocks recorded.now)) result }
 {
     let mut blocks = Vec::with_capacity(alloc, recorded.len())?;
     for one in recorded {
@@ -89,18 +108,19 @@ fn named_blocks(
 fn named_block(
     alloc: Global,
     table: &mut TableBuilder,
-    recorded: TermBlock,
+    recorded: &TermBlock,
 ) -> Result<Block, NumberFault>
-    ensures { Asks table.old table.new (block_terms (plain_term_block recorded))
-        (λ t x. plain_block x ≡ numbered_block t (plain_term_block recorded)) result }
+    ensures { Asks table.old table.new (block_terms (plain_term_block recorded.now))
+        (λ t x. plain_block x ≡ numbered_block t (plain_term_block recorded.now)) result }
 {
+    let goals = shared_goals(alloc, recorded.goals.as_slice())?;
     let names = match names(alloc, table, recorded.goals.as_slice()) {
         Ok(names) => names,
         Err(fault) => return Err(fault),
     };
     match steps(alloc, table, recorded.steps.as_slice()) {
         Ok(steps) => Ok(Block {
-            goals: recorded.goals,
+            goals,
             names,
             steps,
         }),

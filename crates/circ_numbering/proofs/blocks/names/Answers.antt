@@ -1,6 +1,5 @@
-use Rattle.std.proofs.Common.{◌≡◌, ◌∙◌, [], ◌∷◌, ap, sym, subst}
 use Rattle.circ_plain_search.specs.Numbering.{goal_terms, goal_name}
-use Rattle.circ_numbering.proofs.Walks.{walk_fails, walk_on, walk_asked, walk_named, each_alone, as_they_are, flat_seen, map_seen}
+use Rattle.circ_numbering.proofs.Walks.{walk_fails, walk_on}
 use Rattle.circ_numbering.proofs.blocks.names.Goals as goal
 
 pub returns-in-Err : goal.returns-in-Err
