@@ -13,8 +13,11 @@ pub mod ShowOutcomes
 pub mod Ends
 pub mod Reducing
 pub mod ReduceOutcomes
+pub mod Searches
+pub mod ProveOutcomes
 pub mod Outcomes
 pub mod Answers
+pub mod Concluding
 pub mod NoFaults
 pub mod TheoryTexts
 pub mod LeftOut

@@ -7,7 +7,7 @@ use Rattle.clap.specs.Faults.{fault_of}
 use Rattle.clap.specs.Simple.{matches_of}
 use Rattle.clap.specs.Walk.{Row, first_of}
 use Rattle.circ_lib.specs.Library.{library_text}
-use Rattle.circ_top.specs.Command.{Command, Library, IsCommand, check, show, reduce, library, IsNoneOfTable, report_name, Asks, IsNoCommand, plain_request}
+use Rattle.circ_top.specs.Command.{Command, Library, IsCommand, check, prove, show, reduce, library, IsNoneOfTable, report_name, Asks, IsNoCommand, plain_request}
 use Rattle.circ_top.specs.Words.{circ_app, IsBudget, Finds, FindsNothing}
 use Rattle.circ_top.specs.declared.request.Report.{Report}
 use Rattle.circ_top.specs.declared.request.Report.TheVariants.{Goals, Relation}
@@ -16,6 +16,12 @@ use Rattle.circ_top.specs.declared.words.Limits.{Limits}
 
 other_length : (given : List (List ℕ)) (a b c : List ℕ) → given ≡ a ∷ b ∷ [] → given ≡ c ∷ [] → ⊥
 other_length given a b c e f = let never : 2 ≡ 1 = ap length (sym e ∙ f) in omega (arith, never)
+
+three_not_two : (given : List (List ℕ)) (a b c d e : List ℕ) → given ≡ a ∷ b ∷ c ∷ [] → given ≡ d ∷ e ∷ [] → ⊥
+three_not_two given a b c d e f g = let never : 3 ≡ 2 = ap length (sym f ∙ g) in omega (arith, never)
+
+three_not_one : (given : List (List ℕ)) (a b c d : List ℕ) → given ≡ a ∷ b ∷ c ∷ [] → given ≡ d ∷ [] → ⊥
+three_not_one given a b c d f g = let never : 3 ≡ 1 = ap length (sym f ∙ g) in omega (arith, never)
 
 other_name : (n : List ℕ) → n ≡ codes "show" → n ≡ codes "library" → ⊥
 other_name n e f = let never : 4 ≡ 7 = ap length (sym e ∙ f) in omega (arith, never)
@@ -39,6 +45,15 @@ same_of_table k n given _ _ (check r t p e i) (check s u v f j) =
 same_of_table k n given _ _ (check r t p e i) (show u f j) = absurd (other_length given t p u i j)
 same_of_table k n given _ _ (check r t p e i) (library u text f j m) = absurd (other_length given t p u i j)
 same_of_table k n given _ _ (check r t p e i) (reduce u v f j) = absurd (no_report r n e f)
+same_of_table k n given _ _ (check r t p e i) (prove u v w f j) = absurd (three_not_two given u v w t p j i)
+same_of_table k n given _ _ (prove u v w f j) (check r t p e i) = absurd (three_not_two given u v w t p j i)
+same_of_table k n given _ _ (reduce t p e i) (prove u v w f j) = absurd (three_not_two given u v w t p j i)
+same_of_table k n given _ _ (prove u v w f j) (reduce t p e i) = absurd (three_not_two given u v w t p j i)
+same_of_table k n given _ _ (show t e i) (prove u v w f j) = absurd (three_not_one given u v w t j i)
+same_of_table k n given _ _ (prove u v w f j) (show t e i) = absurd (three_not_one given u v w t j i)
+same_of_table k n given _ _ (library t x e i m) (prove u v w f j) = absurd (three_not_one given u v w t j i)
+same_of_table k n given _ _ (prove u v w f j) (library t x e i m) = absurd (three_not_one given u v w t j i)
+same_of_table k n given _ _ (prove t p q e i) (prove u v w f j) = let a = sym i ∙ j in cc
 same_of_table k n given _ _ (reduce u v f j) (check r t p e i) = absurd (no_report r n e f)
 same_of_table k n given _ _ (reduce t p e i) (reduce u v f j) = let a = sym i ∙ j in cc
 same_of_table k n given _ _ (reduce t p e i) (show u f j) = absurd (other_length given t p u i j)

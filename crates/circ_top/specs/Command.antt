@@ -18,10 +18,11 @@ report_name Relation = codes "relation"
 abbrev pub IsNoReport : (name : List ℕ) → Type 0
 IsNoReport name = (r : Report) → name ≡ report_name r → ⊥
 
--- Files go by their names. A proof is checked, and its goals are reported or the whole relation that it builds. The terms of a script are reduced by so many
--- replacements at most. The library's text is that of a name that it knows.
+-- Files go by their names. A proof is checked, and its goals are reported or the whole relation that it builds. A proof of a script's goals is searched for,
+-- within limits, and stored. The terms of a script are reduced by so many replacements at most. The library's text is that of a name that it knows.
 pub data Command : Type 0 where
   Check : (report : Report) (theory proof : List ℕ) → Command
+  Prove : (limits : Limits) → (theory script proof : List ℕ) → Command
   Show : (theory : List ℕ) → Command
   Reduce : (budget : ℕ) → (theory script : List ℕ) → Command
   Library : (text : List ℕ) → Command
@@ -30,6 +31,8 @@ pub data Command : Type 0 where
 pub data IsCommand (limits : Limits) (name : List ℕ) (given : List (List ℕ)) : Command → Type 0 where
   check : (report : Report) (theory proof : List ℕ) → name ≡ report_name report → given ≡ theory ∷ proof ∷ []
       → IsCommand limits name given (Check report theory proof)
+  prove : (theory script proof : List ℕ) → name ≡ codes "prove" → given ≡ theory ∷ script ∷ proof ∷ []
+      → IsCommand limits name given (Prove limits theory script proof)
   show : (theory : List ℕ) → name ≡ codes "show" → given ≡ theory ∷ [] → IsCommand limits name given (Show theory)
   reduce : (theory script : List ℕ) → name ≡ codes "reduce" → given ≡ theory ∷ script ∷ []
       → IsCommand limits name given (Reduce limits.steps theory script)
@@ -54,6 +57,7 @@ IsNoCommand words = (c : Command) → Asks words c → ⊥
 -- the name under which a command stores a file
 abbrev pub stored_name : Command → Option (List ℕ)
 stored_name (Check report theory proof) = None
+stored_name (Prove limits theory script proof) = Some proof
 stored_name (Show theory) = None
 stored_name (Reduce budget theory script) = None
 stored_name (Library text) = None
@@ -65,6 +69,7 @@ IsNotStored words name = (c : Command) → Asks words c → stored_name c ≡ So
 -- what a request in memory asks for
 abbrev pub plain_request : Request → Command
 plain_request (request.Check report theory proof) = Check report theory.now proof.now
+plain_request (request.Prove limits theory script proof) = Prove limits theory.now script.now proof.now
 plain_request (request.Show theory) = Show theory.now
 plain_request (request.Reduce budget theory script) = Reduce budget theory.now script.now
 plain_request (request.Library text) = Library text.now

@@ -17,6 +17,7 @@ ghost use Rattle.circ_files.specs.declared.files.TheConstants.{MOST_BYTES, PIECE
 use circ_proof_text::laws::nothing_left_out as nothing_left_out_of_texts;
 use circ_read::laws::read_or_refused;
 use circ_script::laws::read_or_refused as scripts_read_or_refused;
+use circ_search::some_answer;
 use circ_soundness::nothing_left_out as nothing_left_out_of_proofs;
 
 /// The limits in numbers: bytes of a file and of a piece, nodes, levels and arguments of a term,
@@ -48,6 +49,7 @@ pub fn nothing_left_out()
     scripts_read_or_refused();
     nothing_left_out_of_texts();
     nothing_left_out_of_proofs();
+    some_answer();
 }
 
 /// Words that do not begin with `-` are taken as they stand, and behind `--` so is every word. No

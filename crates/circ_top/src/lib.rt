@@ -6,6 +6,7 @@ mod command;
 mod incoming;
 pub mod laws;
 mod library;
+mod prove;
 mod reduce;
 mod refusals;
 mod request;

@@ -3,7 +3,7 @@ ghost use Rattle.std.specs.Prelude.{◌≡◌, [], ◌∷◌, IfOk, MatchOption,
 ghost use Rattle.circ_top.specs.Command.{Asks, IsCommand, IsNoCommand, IsNoneOfTable};
 ghost use Rattle.circ_top.specs.Command.{report_name, IsNoReport, plain_request};
 
-use crate::words::{Words, found, is_word, matches};
+use crate::words::{Limits, Words, found, is_word, matches};
 use circ_lib::lookup;
 use std::alloc::{AllocError, Global};
 
@@ -23,6 +23,14 @@ pub enum Request<'a> {
     Check {
         report: Report,
         theory: &'a str,
+        proof: &'a str,
+    },
+    /// A proof of a script file's goals over a theory file is searched for within limits, and
+    /// stored under a name.
+    Prove {
+        limits: Limits,
+        theory: &'a str,
+        script: &'a str,
         proof: &'a str,
     },
     /// A theory file is printed as it is read.
@@ -65,6 +73,7 @@ fn by_table<'a>(words: &Words<'_, 'a>) -> Option<Request<'a>>
     match words.given {
         [word] => of_one(words, word),
         [first, second] => of_two(words, first, second),
+        [first, second, third] => of_three(words, first, second, third),
         _ => None,
     }
 }
@@ -108,6 +117,30 @@ fn of_two<'a>(words: &Words<'_, 'a>, first: &'a str, second: &'a str) -> Option<
         report,
         theory: first,
         proof: second,
+    })
+}
+
+/// The request with three words.
+fn of_three<'a>(
+    words: &Words<'_, 'a>,
+    first: &'a str,
+    second: &'a str,
+    third: &'a str,
+) -> Option<Request<'a>>
+    ensures { MatchOption result
+        (IsNoneOfTable words.now.limits words.now.name.now
+        (first.now ∷ second.now ∷ third.now ∷ []))
+        (λ r. IsCommand words.now.limits words.now.name.now
+        (first.now ∷ second.now ∷ third.now ∷ []) (plain_request r)) }
+{
+    if !is_word(words.name, b"prove") {
+        return None;
+    }
+    Some(Request::Prove {
+        limits: words.limits,
+        theory: first,
+        script: second,
+        proof: third,
     })
 }
 

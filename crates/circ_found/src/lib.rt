@@ -1,0 +1,11 @@
+//! What is answered where a proof was searched for: the status, its text, and the text of the
+//! proof, which is to be stored.
+#![tactic(auto)]
+
+mod answering;
+mod counts;
+mod ending;
+mod texts;
+
+pub use answering::search;
+pub use ending::{Ending, Stored};
