@@ -113,7 +113,7 @@ next_at width i (q ∷ rs) (suc j) r g =
     let z : i + 1 + suc j ≡ i + suc (suc j) = omega arith in
     next_at width (i + 1) rs j r g ∙ ap (λ n. Some (first_in width (row_of width r.left) n (drop (suc j) rs))) z
 
-get_read : {X : Type 0} (xs : List X) (n : ℕ) (x : X) → n < length xs → x ≡ get_or xs n x → slice_get xs n ≡ Some x
+pub get_read : {X : Type 0} (xs : List X) (n : ℕ) (x : X) → n < length xs → x ≡ get_or xs n x → slice_get xs n ≡ Some x
 get_read [] n x h e = absurd (omega arith)
 get_read (y ∷ xs) zero x h e = ap Some (sym e)
 get_read (y ∷ xs) (suc n) x h e = get_read xs n x (omega arith) e

@@ -8,3 +8,4 @@ pub mod Advancing
 pub mod Runs
 pub mod Linked
 pub mod RuleLists
+pub mod Known

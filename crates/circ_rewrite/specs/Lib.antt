@@ -9,6 +9,7 @@ pub mod Choosing
 pub mod Code
 pub mod Index
 pub mod Working
+pub mod Known
 pub mod Reductions
 pub mod Links
 pub mod TheoryRules

@@ -1,11 +1,15 @@
 //! Which replacement is due at the root of a term, and the term that it puts there.
-ghost use Rattle.std.specs.Prelude.{◌≡◌, ◌<◌, ◌^◌, length, IfOk, None};
+ghost use Rattle.std.specs.Prelude.{◌≡◌, ◌<◌, ◌^◌, length, Option, IfOk, IfSome, None};
 ghost use Rattle.std.specs.List.{AllByRecursion};
+ghost use Rattle.std.specs.Option.{option_copied};
 ghost use Rattle.circ_term.specs.Limits.{Builds};
+ghost use Rattle.circ_term.specs.Tree.{Tree};
 ghost use Rattle.circ_theory.specs.Signature.{Signature};
+ghost use Rattle.circ_rewrite.specs.Replacement.{Replacement};
 ghost use Rattle.circ_rewrite.specs.Due.{assumed, rule_due, ruled, IsRewriteRule};
 ghost use Rattle.circ_rewrite.specs.Index.{IsIndex};
 ghost use Rattle.circ_rewrite.specs.Choosing.{chosen, Chooses};
+ghost use Rattle.circ_rewrite.specs.Known.{HasSettledBelow, IsKnownOf, pattern_in};
 ghost use Rattle.circ_rewrite.specs.Working.{IsReady, due_by};
 
 use crate::fitting::fits;
@@ -44,6 +48,26 @@ pub(crate) enum Choice<'a> {
     },
 }
 
+// A new term, and the pattern of which it is known to be an instance by settled terms: the right
+// side of the rule that made it.
+#[derive(Drop)]
+pub(crate) struct Next<'a> {
+    pub(crate) term: Term,
+    pub(crate) pattern: Option<&'a Term>,
+}
+
+impl<'a> Choice<'a> {
+    // The pattern of the term that is chosen.
+    pub(crate) fn pattern(&self) -> Option<&'a Term>
+        ensures { option_copied result ≡ pattern_in self.now }
+    {
+        match self {
+            Choice::Ruled { right, .. } => Some(*right),
+            _ => None,
+        }
+    }
+}
+
 // What is due at the root of the term.
 pub(crate) fn choose<'a>(
     alloc: Global,
@@ -51,8 +75,10 @@ pub(crate) fn choose<'a>(
     here: &Term,
 ) -> Result<Option<Choice<'a>>, AllocError>
     requires ready { IsReady means.now }
-    ensures { IfOk result
+    ensures chooses { IfOk result
         (Chooses means.now.theory.now.signature here.now (due_by means.now here.now)) }
+    ensures known { (sig : Signature) (due : Tree → Option Replacement)
+        → HasSettledBelow due here.now → IfOk result (λ o. IfSome o (IsKnownOf due sig here.now)) }
 {
     match assumed(means.assumptions, here) {
         Some(choice) => Ok(Some(choice)),
@@ -68,8 +94,10 @@ fn choose_besides<'a>(
 ) -> Result<Option<Choice<'a>>, AllocError>
     requires ready { IsReady means.now }
     requires none { assumed 0 means.now.assumptions.now here.now ≡ None }
-    ensures { IfOk result
+    ensures chooses { IfOk result
         (Chooses means.now.theory.now.signature here.now (due_by means.now here.now)) }
+    ensures known { (sig : Signature) (due : Tree → Option Replacement)
+        → HasSettledBelow due here.now → IfOk result (λ o. IfSome o (IsKnownOf due sig here.now)) }
 {
     let Some(op) = here.op_number() else {
         return Ok(None);
@@ -82,7 +110,10 @@ fn choose_besides<'a>(
 
 fn assumed<'a>(assumptions: &'a [Goal], here: &Term) -> Option<Choice<'a>>
     requires few { length assumptions.now < 2 ^ 32 }
-    ensures { (sig : Signature) → Chooses sig here.now (assumed 0 assumptions.now here.now) result }
+    ensures chooses { (sig : Signature)
+        → Chooses sig here.now (assumed 0 assumptions.now here.now) result }
+    ensures known { (sig : Signature) (due : Tree → Option Replacement)
+        → IfSome result (IsKnownOf due sig here.now) }
 {
     for i in 0..assumptions.len() {
         let assumption = &assumptions[i];
@@ -105,7 +136,10 @@ fn ruled<'a>(
 ) -> Result<Option<Choice<'a>>, AllocError>
     requires rows { IsIndex rules.now rows.now }
     requires rules { AllByRecursion IsRewriteRule rules.now }
-    ensures { (sig : Signature) → IfOk result (Chooses sig here.now (ruled rules.now here.now)) }
+    ensures chooses { (sig : Signature)
+        → IfOk result (Chooses sig here.now (ruled rules.now here.now)) }
+    ensures known { (sig : Signature) (due : Tree → Option Replacement)
+        → HasSettledBelow due here.now → IfOk result (λ o. IfSome o (IsKnownOf due sig here.now)) }
 {
     let mut number = rows.first(here);
     while number < rules.len() {
@@ -123,7 +157,10 @@ fn try_rule<'a>(
     here: &Term,
 ) -> Result<Option<Choice<'a>>, AllocError>
     requires { IsRewriteRule rule.now }
-    ensures { (sig : Signature) → IfOk result (Chooses sig here.now (rule_due rule.now here.now)) }
+    ensures chooses { (sig : Signature)
+        → IfOk result (Chooses sig here.now (rule_due rule.now here.now)) }
+    ensures known { (sig : Signature) (due : Tree → Option Replacement)
+        → HasSettledBelow due here.now → IfOk result (λ o. IfSome o (IsKnownOf due sig here.now)) }
 {
     if !fits(&rule.left, here) {
         return Ok(None);

@@ -1,19 +1,21 @@
 //! Normalising: a term's arguments from the left, then the term.
-ghost use Rattle.std.specs.Prelude.{◌≡◌, ◌<◌, ◌≤◌, ◌^◌, length, IfOk, IfErr, IsSome, Some};
-ghost use Rattle.std.specs.List.{AllByRecursion};
-ghost use Rattle.circ_term.specs.Tree.{Tree, at};
+ghost use Rattle.std.specs.Prelude.{◌≡◌, ◌<◌, ◌≤◌, ◌^◌, length, Option, IfOk, IfErr, IfSome, IsSome, IsTrue, Some};
+ghost use Rattle.std.specs.List.{AllByRecursion, slice_get};
+ghost use Rattle.std.specs.Option.{option_copied, option_map};
+ghost use Rattle.circ_term.specs.Tree.{Tree, args_of, at};
 ghost use Rattle.circ_theory.specs.Signature.{Signature};
-ghost use Rattle.circ_rewrite.specs.Replacement.{placed, traced};
+ghost use Rattle.circ_rewrite.specs.Replacement.{Replacement, placed, traced};
 ghost use Rattle.circ_rewrite.specs.Due.{IsRewriteRule};
 ghost use Rattle.circ_rewrite.specs.Norm.{norm};
 ghost use Rattle.circ_rewrite.specs.Plain.{plain_trace, Faults, Answers};
 ghost use Rattle.circ_rewrite.specs.Standing.{IsSettled};
 ghost use Rattle.circ_rewrite.specs.Choosing.{chosen};
+ghost use Rattle.circ_rewrite.specs.Known.{IsKnown};
 ghost use Rattle.circ_rewrite.specs.Working.{IsReady, due_by, from_here, StandsAt};
 ghost use Rattle.circ_rewrite.specs.Working.{HasSettledArgs, Advances, Steps, rewrite_fault};
 ghost use Rattle.circ_rewrite.specs.declared.fault.RewriteFault.TheVariants.{Memory};
 
-use crate::choosing::{Choice, Means, build, choose};
+use crate::choosing::{Choice, Means, Next, build, choose};
 use crate::fault::RewriteFault;
 use crate::index::{Rows, RuleIndex};
 use crate::parts::{Normal, Rule, Trace};
@@ -104,7 +106,7 @@ fn normal_form(
         budget: *budget,
         traces: Vec::new(alloc),
     };
-    let answer = settle(means, &mut work, here);
+    let answer = settle(means, &mut work, here, None);
     *budget = work.budget;
     match answer {
         Ok(_) => Ok(Normal {
@@ -115,10 +117,17 @@ fn normal_form(
     }
 }
 
-// Normalises the term at which the work stands.
+// Normalises the term at which the work stands. Where it is known to be an instance of a pattern by
+// settled terms, these are passed over.
 #[cycle(settle)]
-fn settle(means: &Means<'_>, work: &mut Work, here: Term) -> Result<Term, RewriteFault>
+fn settle<'a>(
+    means: &Means<'a>,
+    work: &mut Work,
+    here: Term,
+    pattern: Option<&'a Term>,
+) -> Result<Term, RewriteFault>
     requires stands { StandsAt means.now work.old here }
+    requires known { IsKnown (due_by means.now) (option_copied pattern) here }
     requires ready { IsReady means.now }
     ensures advances { IfOk result (Advances means.now work.old work.new) }
     ensures settled { IfOk result (IsSettled (due_by means.now)) }
@@ -127,11 +136,18 @@ fn settle(means: &Means<'_>, work: &mut Work, here: Term) -> Result<Term, Rewrit
     ensures less { work.new.budget ≤ work.old.budget }
 {
     let mut here = here;
+    let mut pattern = pattern;
     loop {
-        let settled = settle_args(means, work, &here)?;
+        if is_image(pattern) {
+            return Ok(here);
+        }
+        let settled = settle_args(means, work, &here, pattern)?;
         match step(means, work, &settled)? {
             None => return Ok(settled),
-            Some(new) => here = new,
+            Some(next) => {
+                here = next.term;
+                pattern = next.pattern;
+            }
         }
     }
 }
@@ -139,8 +155,14 @@ fn settle(means: &Means<'_>, work: &mut Work, here: Term) -> Result<Term, Rewrit
 // Normalises the arguments of the term at which the work stands. The answer is the term as it
 // stands then.
 #[cycle(settle)]
-fn settle_args(means: &Means<'_>, work: &mut Work, here: &Term) -> Result<Term, RewriteFault>
+fn settle_args<'a>(
+    means: &Means<'a>,
+    work: &mut Work,
+    here: &Term,
+    pattern: Option<&'a Term>,
+) -> Result<Term, RewriteFault>
     requires stands { StandsAt means.now work.old here.now }
+    requires known { IsKnown (due_by means.now) (option_copied pattern) here.now }
     requires ready { IsReady means.now }
     ensures advances { IfOk result (Advances means.now work.old work.new) }
     ensures settled { IfOk result (HasSettledArgs means.now) }
@@ -154,13 +176,42 @@ fn settle_args(means: &Means<'_>, work: &mut Work, here: &Term) -> Result<Term, 
     for i in 0..args.len() {
         let arg = args[i].share()?;
         work.path.push(i as u16)?;
-        settle(means, work, arg)?;
+        settle(means, work, arg, arg_pattern(pattern, i))?;
         work.path.truncate(depth);
     }
     if work.budget == before {
         return Ok(here.share()?);
     }
     standing(work)
+}
+
+// Whether the pattern is a variable, so that its instance is settled.
+fn is_image(pattern: Option<&Term>) -> bool
+    ensures { (due : Tree → Option Replacement) (t : Tree) → IsTrue result
+        → IsKnown due (option_copied pattern.entry) t → IsSettled due t }
+{
+    match pattern {
+        Some(pattern) => pattern.op_number().is_none(),
+        None => false,
+    }
+}
+
+// The pattern of an argument.
+fn arg_pattern(pattern: Option<&Term>, i: usize) -> Option<&Term>
+    ensures { (due : Tree → Option Replacement) (t a : Tree)
+        → IsKnown due (option_copied pattern.entry) t → slice_get (args_of t) i ≡ Some a
+        → IsKnown due (option_copied result) a }
+{
+    match pattern {
+        Some(pattern) => arg_at(pattern.args(), i),
+        None => None,
+    }
+}
+
+fn arg_at(args: &[Term], i: usize) -> Option<&Term>
+    ensures { option_copied result ≡ slice_get args.now i }
+{
+    args.get(i)
 }
 
 // The term at which the work stands.
@@ -177,11 +228,18 @@ fn standing(work: &Work) -> Result<Term, RewriteFault>
 
 // Makes the replacement that is due at the root of the term at which the work stands, whose
 // arguments are settled. None where none is due.
-fn step(means: &Means<'_>, work: &mut Work, here: &Term) -> Result<Option<Term>, RewriteFault>
+fn step<'a>(
+    means: &Means<'a>,
+    work: &mut Work,
+    here: &Term,
+) -> Result<Option<Next<'a>>, RewriteFault>
     requires stands { StandsAt means.now work.old here.now }
     requires settled { HasSettledArgs means.now here.now }
     requires ready { IsReady means.now }
-    ensures steps { IfOk result (Steps means.now work.old work.new here.now) }
+    ensures steps { IfOk result
+        (λ o. Steps means.now work.old work.new here.now (option_map (λ n. n.term) o)) }
+    ensures known { IfOk result (λ o. IfSome o
+        (λ n. IsKnown (due_by means.now) (option_copied n.pattern) n.term)) }
     ensures fault { IfErr result
         (λ e. Faults e work.new.budget (from_here means.now work.old)) }
     ensures less { work.new.budget ≤ work.old.budget }
@@ -195,8 +253,9 @@ fn step(means: &Means<'_>, work: &mut Work, here: &Term) -> Result<Option<Term>,
     }
     match build(work.alloc, means.theory, here, &choice) {
         Ok(new) => {
+            let pattern = choice.pattern();
             put(means, work, here, choice, &new)?;
-            Ok(Some(new))
+            Ok(Some(Next { term: new, pattern }))
         }
         Err(fault) => Err(rewrite_fault(fault)),
     }

@@ -2,7 +2,7 @@
 use Rattle.std.specs.Prelude.{◌≡◌, ◌≤◌, ◌<◌, ◌+◌, ℕ, zero, suc, Bool, true, false, ◌==◌, List, [], ◌∷◌, ◌++◌, map, length, drop, Some, refl, Vec, IsTrue, ◌↔◌}
 use Rattle.std.proofs.lemmas.List.{drop_more}
 use Rattle.std.proofs.Math.ListN.{drop_of_length-le}
-use Rattle.std.proofs.Common.{Global, ap, sym, ◌∙◌, subst, arith, get_or, inl, inr}
+use Rattle.std.proofs.Common.{Global, ap, sym, subst, arith, get_or, inl, inr}
 use Rattle.std.specs.List.{AllByRecursion, filter, slice_get}
 use Rattle.std.specs.Option.{IfSome, option_map_or}
 use Rattle.circ_term.specs.Tree.{Tree}
@@ -15,7 +15,7 @@ use Rattle.circ_replay.specs.Link.{AllOfLinks}
 use Rattle.circ_rules.specs.declared.basis.Basis.{Basis}
 use Rattle.circ_rules.specs.Plain.{plain_certificates}
 use Rattle.circ_rules.specs.Basis.{links_of, certificates_of}
-use Rattle.circ_rules.specs.Certified.{Certified, due, due_at, derivatives_at, AreCertified, CertificateFails}
+use Rattle.circ_rules.specs.Certified.{Certified, due, due_at, AreCertified, CertificateFails}
 use Rattle.circ_rules.specs.Admitting.{HoldSoFar}
 use Rattle.circ_rules.proofs.Certifying.{fails_among}
 use Rattle.circ_rules.proofs.Deriving.{some_if_at, from_number, derivative_at, taken_next, passed_next}

@@ -11,16 +11,16 @@ use Rattle.circ_term.specs.Limits.{IsWithinLimits}
 use Rattle.circ_theory.specs.Theory.{Theory, Derivative}
 use Rattle.circ_theory.specs.WellFormed.{IsWellFormed, IsDerivative}
 use Rattle.circ_theory.specs.Variables.{Variable, occurrences}
-use Rattle.circ_theory.specs.Observing.{is_parameter, parameters_in}
+use Rattle.circ_theory.specs.Observing.{is_parameter}
 use Rattle.circ_theory.specs.Experiment.{derived}
 use Rattle.circ_theory.specs.Fresh.{numbered_from, given_parameters, parameter_sorts, variables_from, derivatives_of, FitSome}
 use Rattle.circ_theory.specs.declared.parts.Goal.{Goal}
 use Rattle.circ_theory.proofs.Rewriting.{contains_at}
 use Rattle.circ_theory.proofs.Derived.{derived-numbered_from, variables_fit}
 use Rattle.circ_replay.specs.Goals.{goal, IsWellSortedGoal, AreSortedGoals}
-use Rattle.circ_rules.specs.Rules.{State, state, fresh_in, derived_goal, derivatives_on, IsDerivable, IsSortedState}
+use Rattle.circ_rules.specs.Rules.{state, fresh_in, derived_goal, derivatives_on, IsDerivable, IsSortedState}
 use Rattle.circ_rules.specs.Answers.{Gives}
-use Rattle.circ_rules.specs.Deriving.{IsWithin, AreInstances, IsDerivativeOn, AreDerivativesOn, moved, moved_on}
+use Rattle.circ_rules.specs.Deriving.{IsWithin, AreInstances, IsDerivativeOn, AreDerivativesOn, moved_on}
 use Rattle.circ_rules.proofs.Sorted.{sorted_none, sorted_more, sorted_first, sorted_rest, sorted_append, derivatives_sorted}
 
 pub if_some_at : {X : Type 0} (P : X → Type 0) (o : Option X) (x : X) → o ≡ Some x → P x → IfSome o P

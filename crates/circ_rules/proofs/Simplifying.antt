@@ -2,11 +2,11 @@
 use Rattle.std.specs.Prelude.{◌≡◌, ◌<◌, List, [], ◌∷◌, length, slice_set, None, refl}
 use Rattle.std.proofs.Common.{ap, sym, subst, arith, get_or}
 use Rattle.circ_term.specs.Tree.{Tree}
-use Rattle.circ_theory.specs.Theory.{Theory, Pair}
+use Rattle.circ_theory.specs.Theory.{Theory}
 use Rattle.circ_theory.specs.declared.parts.Goal.{Goal}
 use Rattle.circ_special.specs.declared.place.Place.{Place}
 use Rattle.circ_replay.specs.Plain.{ChainOf}
-use Rattle.circ_replay.specs.Goals.{goal, sides, IsWellSortedGoal, AreSortedGoals}
+use Rattle.circ_replay.specs.Goals.{sides, IsWellSortedGoal, AreSortedGoals}
 use Rattle.circ_replay.specs.Link.{setting, Leads}
 use Rattle.circ_replay.specs.Justified.{ChainLeads}
 use Rattle.circ_replay.specs.Following.{FollowsChain}

@@ -15,7 +15,7 @@ use Rattle.circ_theory.proofs.Casing.{contains_first}
 use Rattle.circ_theory.proofs.Behaviour.{plug_substitution}
 use Rattle.circ_theory.proofs.Instances.{instance_well_sorted, sort_of-instance_by}
 use Rattle.circ_replay.specs.Goals.{IsWellSortedGoal, AreSortedGoals}
-use Rattle.circ_theory.specs.Fresh.{numbered_from, derivatives_of}
+use Rattle.circ_theory.specs.Fresh.{numbered_from}
 use Rattle.circ_rules.specs.Rules.{fresh_in, derived_goal, derivatives_on}
 
 pub sorted_none : (th : Theory) → AreSortedGoals th []

@@ -5,8 +5,8 @@ use Rattle.std.specs.Option.{IfSome, option_map}
 use Rattle.std.proofs.Common.{ap, sym, ◌∙◌, subst, arith}
 use Rattle.std.proofs.lemmas.Bool.{eq-eqb, ne_eqb}
 use Rattle.std.proofs.lemmas.Option.{same_Some}
-use Rattle.circ_term.specs.Tree.{Tree, Trees, Var, App, none, more, sort_of, trees_of, list_of, list_of-trees_of, sizes_of, depths_of}
-use Rattle.circ_term.specs.Limits.{Limit, Big, Deep, IsWithinLimits, first_limit}
+use Rattle.circ_term.specs.Tree.{Tree, Trees, Var, App, more, sort_of, trees_of, list_of, list_of-trees_of, sizes_of, depths_of}
+use Rattle.circ_term.specs.Limits.{Limit, IsWithinLimits, first_limit}
 use Rattle.circ_term.proofs.Limits.{first_limit_none}
 use Rattle.circ_theory.specs.Signature.{Signature, Operator, IsSort, IsWellSorted, HaveSorts}
 use Rattle.circ_theory.specs.Theory.{Theory, Derivative}
@@ -26,7 +26,7 @@ use Rattle.circ_rules.specs.Certified.{start_args, start_term, Certified}
 use Rattle.circ_rules.specs.Answers.{Gives}
 use Rattle.circ_rules.specs.Deriving.{IsWithin}
 use Rattle.circ_replay.proofs.Leading.{one_end}
-use Rattle.circ_rules.proofs.Deriving.{if_some_at, some_if_at, past, the_derivative}
+use Rattle.circ_rules.proofs.Deriving.{if_some_at, some_if_at, the_derivative}
 
 -- ---- the arguments
 

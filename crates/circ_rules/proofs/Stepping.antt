@@ -4,7 +4,7 @@ use Rattle.std.specs.List.{AllByRecursion}
 use Rattle.std.proofs.Common.{ap, sym, ◌∙◌, subst, append_assoc, append-nil, arith}
 use Rattle.circ_term.specs.Tree.{Tree}
 use Rattle.circ_theory.specs.Signature.{IsWellSorted}
-use Rattle.circ_theory.specs.Theory.{Theory, Pair}
+use Rattle.circ_theory.specs.Theory.{Theory}
 use Rattle.circ_theory.specs.WellFormed.{IsWellFormed}
 use Rattle.circ_theory.specs.declared.parts.Goal.{Goal}
 use Rattle.circ_special.specs.declared.place.Place.{Place}

@@ -4,7 +4,6 @@ use Rattle.circ_term.specs.Tree.{Tree}
 use Rattle.circ_theory.specs.Theory.{Theory}
 use Rattle.circ_theory.specs.Rewriting.{named}
 use Rattle.circ_theory.specs.declared.parts.Goal.{Goal}
-use Rattle.circ_special.specs.declared.place.Place.{Place}
 use Rattle.circ_replay.specs.Plain.{LinkOf, map_link}
 use Rattle.circ_replay.specs.Runs.{FailsFirst}
 use Rattle.circ_rules.specs.Rules.{State, state, ProofStep, map_step, StepOf, StepsOf}

@@ -18,22 +18,25 @@ ghost use Rattle.circ_rules.specs.Deriving.{IsWithin};
 ghost use Rattle.circ_rules.specs.Admitting.{IsStartOf, IsStart, AdmitsAt};
 
 use crate::basis::Basis;
-use crate::derivatives::variables;
+use crate::derivatives::{instance, variables};
 use circ_replay::Link;
 use circ_special::{Place, guarded};
 use circ_term::{Term, TermFault};
-use circ_theory::OpDecl;
+use circ_theory::{OpDecl, Theory};
 use std::alloc::{AllocError, Global};
 
-// A place, with its operator on variables: variable 0 at the place, and variables 1, 2 and so on at
-// the other arguments from the left.
+/// A place, with its operator on variables: variable 0 at the place, and variables 1, 2 and so on at
+/// the other arguments from the left.
 #[derive(Drop)]
-pub(crate) struct Start<'a> {
-    place: Place,
-    decl: &'a OpDecl,
-    // The sort of the argument.
-    sort: u32,
-    term: Term,
+pub struct Start<'a> {
+    /// The place.
+    pub place: Place,
+    /// Its operator.
+    pub decl: &'a OpDecl,
+    /// The sort of the argument.
+    pub sort: u32,
+    /// The operator on the variables.
+    pub term: Term,
 }
 
 fn start_args(alloc: Global, arg: u16, sorts: &[u32]) -> Result<Vec<Term>, AllocError>
@@ -53,53 +56,61 @@ fn start_args(alloc: Global, arg: u16, sorts: &[u32]) -> Result<Vec<Term>, Alloc
     Ok(args)
 }
 
-impl<'a> Basis<'a> {
-    pub(crate) fn start(&self, place: Place) -> Result<Start<'a>, AllocError>
-        requires { IsPlace self.now.theory.now place }
-        ensures { IfOk result (IsStartOf self.now.theory.now place) }
-    {
-        self.theory.known();
-        let Some(decl) = self.theory.op(place.op) else {
-            unreachable!()
-        };
-        let Some(sort) = decl.args.get(place.arg as usize) else {
-            unreachable!()
-        };
-        let args = start_args(self.alloc, place.arg, decl.args.as_slice())?;
-        match Term::app(self.alloc, place.op, decl.result, args) {
-            Ok(term) => Ok(Start {
-                place,
-                decl,
-                sort: *sort,
-                term,
-            }),
-            Err(TermFault::Memory) => Err(AllocError),
-            Err(TermFault::TooBig { .. }) => unreachable!(),
-            Err(TermFault::TooDeep { .. }) => unreachable!(),
-        }
+/// The start of a place: from it come the start terms of its certificates.
+pub fn start_at<'a>(
+    alloc: Global,
+    theory: &'a Theory,
+    place: Place,
+) -> Result<Start<'a>, AllocError>
+    requires { IsPlace theory.now place }
+    ensures { IfOk result (IsStartOf theory.now place) }
+{
+    theory.known();
+    let Some(decl) = theory.op(place.op) else {
+        unreachable!()
+    };
+    let Some(sort) = decl.args.get(place.arg as usize) else {
+        unreachable!()
+    };
+    let args = start_args(alloc, place.arg, decl.args.as_slice())?;
+    match Term::app(alloc, place.op, decl.result, args) {
+        Ok(term) => Ok(Start {
+            place,
+            decl,
+            sort: *sort,
+            term,
+        }),
+        Err(TermFault::Memory) => Err(AllocError),
+        Err(TermFault::TooBig { .. }) => unreachable!(),
+        Err(TermFault::TooDeep { .. }) => unreachable!(),
     }
+}
 
-    // The derivative of this number on the operator, with the next variables for its parameters.
-    // None where that passes a limit.
-    fn start_term(&self, start: &Start<'_>, derivative: u32) -> Result<Option<Term>, AllocError>
-        requires start { IsStart self.now.theory.now start.now }
-        requires hole { option_map (λ d. d.hole)
-            (slice_get self.now.theory.now.derivatives derivative) ≡
-            Some start.now.decl.now.result }
-        ensures exact { IfSome (slice_get self.now.theory.now.derivatives derivative)
-            (λ d. IfOk result (Gives (IsWithin
-            (start_term (operator_of start.now.decl.now) start.now.place d)))) }
-        ensures well_sorted { IfOk result (λ o.
-            IfSome o (IsWellSorted self.now.theory.now.signature)) }
-    {
-        self.theory.known();
-        let Some(sorts) = self.theory.parameter_sorts(derivative) else {
-            return Ok(None);
-        };
-        let params = variables(self.alloc, start.decl.args.len() as u64, sorts)?;
-        self.instance(derivative, params.as_slice(), &start.term)
-    }
+/// The start term of a place and the derivative of this number, whose parameters get the next
+/// variables. None where it passes a limit.
+pub fn start_term(
+    alloc: Global,
+    theory: &Theory,
+    start: &Start<'_>,
+    derivative: u32,
+) -> Result<Option<Term>, AllocError>
+    requires start { IsStart theory.now start.now }
+    requires hole { option_map (λ d. d.hole)
+        (slice_get theory.now.derivatives derivative) ≡ Some start.now.decl.now.result }
+    ensures exact { IfSome (slice_get theory.now.derivatives derivative)
+        (λ d. IfOk result (Gives (IsWithin
+        (start_term (operator_of start.now.decl.now) start.now.place d)))) }
+    ensures well_sorted { IfOk result (λ o. IfSome o (IsWellSorted theory.now.signature)) }
+{
+    theory.known();
+    let Some(sorts) = theory.parameter_sorts(derivative) else {
+        return Ok(None);
+    };
+    let params = variables(alloc, start.decl.args.len() as u64, sorts)?;
+    instance(alloc, theory, derivative, params.as_slice(), &start.term)
+}
 
+impl Basis<'_> {
     // Whether the links are a certificate of the place and the derivative of this number.
     pub(crate) fn certifies(
         &self,
@@ -118,7 +129,7 @@ impl<'a> Basis<'a> {
             (λ b. IsTrue b ↔ Certified self.now.theory.now self.now.gamma.now
             start.now.place d (links_of self.now links.now))) }
     {
-        let Some(first) = self.start_term(start, derivative)? else {
+        let Some(first) = start_term(self.alloc, self.theory, start, derivative)? else {
             return Ok(false);
         };
         let Some(last) = self.follow_all(&[], links, &first)? else {
@@ -144,7 +155,7 @@ impl<'a> Basis<'a> {
         ensures { IfOk result (AdmitsAt self.now.theory.now self.now.gamma.now place
             (certificates_of self.now certificates.now) done.old done.new) }
     {
-        let start = self.start(place)?;
+        let start = start_at(self.alloc, self.theory, place)?;
         self.admit_start(&start, certificates, done)
     }
 

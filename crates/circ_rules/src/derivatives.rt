@@ -16,7 +16,7 @@ ghost use Rattle.circ_rules.specs.Deriving.{AreDerivativesOn, moved};
 use crate::basis::Basis;
 use crate::state::State;
 use circ_term::{Term, TermFault};
-use circ_theory::{Goal, above};
+use circ_theory::{Goal, Theory, above};
 use std::alloc::{AllocError, Global};
 use std::collections::VecDeque;
 
@@ -34,6 +34,28 @@ pub(crate) fn variables(alloc: Global, first: u64, sorts: &[u32]) -> Result<Vec<
     Ok(made)
 }
 
+// The derivative of this number on a term, with the terms of `params` for its parameters. None
+// where that passes a limit.
+pub(crate) fn instance(
+    alloc: Global,
+    theory: &Theory,
+    derivative: u32,
+    params: &[Term],
+    term: &Term,
+) -> Result<Option<Term>, AllocError>
+    requires { FitSome (slice_get theory.now.derivatives derivative) params.now term.now }
+    ensures { IfSome (slice_get theory.now.derivatives derivative)
+        (λ d. IfOk result
+        (Gives (IsWithin (derived d term.now (given_parameters params.now))))) }
+{
+    match theory.instance(derivative, params, term) {
+        Ok(made) => Ok(Some(made)),
+        Err(TermFault::TooBig { .. }) => Ok(None),
+        Err(TermFault::TooDeep { .. }) => Ok(None),
+        Err(TermFault::Memory) => Err(AllocError),
+    }
+}
+
 impl Basis<'_> {
     // Whether the hole of the derivative of this number has the sort.
     pub(crate) fn takes(&self, derivative: u32, sort: u32) -> bool
@@ -43,28 +65,6 @@ impl Basis<'_> {
         match self.theory.hole_sort(derivative) {
             Some(hole) => hole == sort,
             None => false,
-        }
-    }
-
-    // The derivative of this number on a term, with the terms of `params` for its parameters. None
-    // where that passes a limit.
-    pub(crate) fn instance(
-        &self,
-        derivative: u32,
-        params: &[Term],
-        term: &Term,
-    ) -> Result<Option<Term>, AllocError>
-        requires { FitSome (slice_get self.now.theory.now.derivatives derivative)
-            params.now term.now }
-        ensures { IfSome (slice_get self.now.theory.now.derivatives derivative)
-            (λ d. IfOk result
-            (Gives (IsWithin (derived d term.now (given_parameters params.now))))) }
-    {
-        match self.theory.instance(derivative, params, term) {
-            Ok(made) => Ok(Some(made)),
-            Err(TermFault::TooBig { .. }) => Ok(None),
-            Err(TermFault::TooDeep { .. }) => Ok(None),
-            Err(TermFault::Memory) => Err(AllocError),
         }
     }
 
@@ -112,10 +112,10 @@ impl Basis<'_> {
         ensures { IfSome (slice_get self.now.theory.now.derivatives derivative)
             (λ d. IfOk result (Gives (AreInstances d params.now goal.now))) }
     {
-        let Some(left) = self.instance(derivative, params, &goal.left)? else {
+        let Some(left) = instance(self.alloc, self.theory, derivative, params, &goal.left)? else {
             return Ok(None);
         };
-        let Some(right) = self.instance(derivative, params, &goal.right)? else {
+        let Some(right) = instance(self.alloc, self.theory, derivative, params, &goal.right)? else {
             return Ok(None);
         };
         Ok(Some(Goal { left, right }))

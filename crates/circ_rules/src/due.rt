@@ -11,6 +11,7 @@ ghost use Rattle.circ_rules.specs.Due.{derivatives_from, due_after, IsFirst, Non
 ghost use Rattle.circ_rules.specs.Due.{IsNextSlot, CertifiesNext};
 
 use crate::basis::Basis;
+use crate::certificates::start_at;
 use circ_replay::Link;
 use circ_special::{Gamma, Place};
 use circ_term::Term;
@@ -68,7 +69,7 @@ impl Basis<'_> {
         let Some(slot) = self.next_slot(due) else {
             return Ok(false);
         };
-        let start = self.start(slot.place)?;
+        let start = start_at(self.alloc, self.theory, slot.place)?;
         self.certifies(&start, slot.derivative, links)
     }
 

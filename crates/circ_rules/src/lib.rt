@@ -18,6 +18,7 @@ mod state;
 
 pub use admitting::{Admission, admit};
 pub use applying::apply;
+pub use certificates::{Start, start_at, start_term};
 pub use due::{Due, certify_next};
 pub use part::Part;
 pub use proof::{Block, Proof, Step};

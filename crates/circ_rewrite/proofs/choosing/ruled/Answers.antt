@@ -18,13 +18,13 @@ try_rule-requires c = rw c.index-rules-number.is (all_read IsRewriteRule c.args.
 pub after-number-requires : goal.after-number-requires
 after-number-requires c = omega (arith, ap length c.requires.rows.next, length-next_in (length c.args.rows.now.heads.items) 0 c.args.rules.now, c.loop-number-test.true)
 
-pub returns-in-Some : goal.returns-in-Some
-returns-in-Some c = λ sig.
+pub returns-in-Some-clause-chooses : goal.returns-in-Some-clause-chooses
+returns-in-Some-clause-chooses c = λ sig.
     tried_here (length c.args.rows.now.heads.items) c.args.rules.now c.args.here.now c.loop-number.number c.index-rules-number.result _ c.loop-number.invariant c.loop-number-test.true
-    c.index-rules-number.is (rw c.in-Some.is at (c.in_ok-choice.ensures sig))
+    c.index-rules-number.is (rw c.in-Some.is at (c.in_ok-choice.ensures.chooses sig))
 
-pub returns : goal.returns
-returns c = λ sig. tried_all (length c.args.rows.now.heads.items) c.args.rules.now c.args.here.now c.loop-number.number c.loop-number-test.false c.loop-number.invariant
+pub returns-clause-chooses : goal.returns-clause-chooses
+returns-clause-chooses c = λ sig. tried_all (length c.args.rows.now.heads.items) c.args.rules.now c.args.here.now c.loop-number.number c.loop-number-test.false c.loop-number.invariant
 
 went : (c : goal.After-after-number)
     → IsTried (length c.args.rows.now.heads.items) c.args.rules.now c.args.here.now c.after-number.result × (c.loop-number.number < c.after-number.result)
@@ -33,7 +33,7 @@ went c =
     let none : Signature = record { sorts = []; ops = [] } in
     tried_next (length x.heads.items) c.args.rules.now x.next.items c.args.here.now c.loop-number.number c.after-number.result c.index-rules-number.result
     c.requires.rules c.requires.rows.next c.loop-number.invariant c.loop-number-test.true c.index-rules-number.is
-    (rw c.in-None.is at (c.in_ok-choice.ensures none)) c.after-number.ensures
+    (rw c.in-None.is at (c.in_ok-choice.ensures.chooses none)) c.after-number.ensures
 
 pub loop-number-smaller : goal.loop-number-smaller
 loop-number-smaller c = omega (arith, (went c).1, c.loop-number-test.true)

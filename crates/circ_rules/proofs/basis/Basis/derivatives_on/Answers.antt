@@ -1,9 +1,8 @@
-use Rattle.std.proofs.Common.{◌≡◌, ◌<◌, ◌==◌, Bool, true, false, length, arith, sym, ◌∙◌, subst}
+use Rattle.std.proofs.Common.{◌≡◌, ◌<◌, ◌==◌, true, false, length, arith, sym, ◌∙◌}
 use Rattle.std.specs.List.{slice_get}
 use Rattle.std.specs.Option.{option_map_or}
 use Rattle.circ_term.specs.Tree.{sort_of}
-use Rattle.circ_theory.specs.declared.parts.Goal.{Goal}
-use Rattle.circ_rules.proofs.Deriving.{Stands, stands_taken, stands_passed, stands_past}
+use Rattle.circ_rules.proofs.Deriving.{stands_taken, stands_passed, stands_past}
 use Rattle.circ_rules.proofs.basis.Basis.derivatives_on.Goals as goal
 use Rattle.circ_rules.proofs.basis.Basis.derivatives_on.Goals.{then-takes+in_ok-goal+in-Some+in_ok-push_back-in-Some, else-takes}
 

@@ -1,4 +1,4 @@
-use Rattle.std.proofs.Common.{length, arith, sym, ◌∙◌}
+use Rattle.std.proofs.Common.{arith, sym, ◌∙◌}
 use Rattle.circ_rules.proofs.Next.{first_taken, first_passed}
 use Rattle.circ_rules.proofs.basis.Basis.next_derivative.Goals as goal
 

@@ -1,28 +1,27 @@
 use Rattle.std.proofs.Common.{length, refl, ap, sym, ◌∙◌}
 use Rattle.std.proofs.lemmas.Option.{slice_get_read}
-use Rattle.circ_term.specs.Limits.{Big, Deep}
 use Rattle.circ_term.specs.Tree.{App}
 use Rattle.circ_theory.specs.Operators.{operator_of}
 use Rattle.circ_rules.specs.Certified.{start_args}
 use Rattle.circ_rules.proofs.Starting.{few_args, few_start, start_not_past}
-use Rattle.circ_rules.proofs.basis.Basis.start.Goals as goal
+use Rattle.circ_rules.proofs.certificates.start_at.Goals as goal
 
 pub app-requires : goal.app-requires
 app-requires c =
     few_start c.args.place.arg c.in-Some.decl.now.args.items c.in_ok-args.args.items
-    (few_args c.args.self.now.theory.now c.known.ensures c.args.place.op (operator_of c.in-Some.decl.now) (sym c.in-Some.ensures))
+    (few_args c.args.theory.now c.known.ensures c.args.place.op (operator_of c.in-Some.decl.now) (sym c.in-Some.ensures))
     (c.in_ok-args.ensures ∙ ap (start_args c.args.place.arg 1) c.as_slice.ensures.value)
 
 pub unreachable-requires-in-Err-TooBig : goal.unreachable-requires-in-Err-TooBig
 unreachable-requires-in-Err-TooBig c =
     start_not_past c.args.place.op c.args.place.arg c.in-Some.decl.now.result c.in-Some.decl.now.args.items c.in_ok-args.args.items _
-    (few_args c.args.self.now.theory.now c.known.ensures c.args.place.op (operator_of c.in-Some.decl.now) (sym c.in-Some.ensures))
+    (few_args c.args.theory.now c.known.ensures c.args.place.op (operator_of c.in-Some.decl.now) (sym c.in-Some.ensures))
     (c.in_ok-args.ensures ∙ ap (start_args c.args.place.arg 1) c.as_slice.ensures.value) (rw c.in-Err-TooBig.field-0-is at c.in-Err-TooBig.ensures)
 
 pub unreachable-requires-in-Err-TooDeep : goal.unreachable-requires-in-Err-TooDeep
 unreachable-requires-in-Err-TooDeep c =
     start_not_past c.args.place.op c.args.place.arg c.in-Some.decl.now.result c.in-Some.decl.now.args.items c.in_ok-args.args.items _
-    (few_args c.args.self.now.theory.now c.known.ensures c.args.place.op (operator_of c.in-Some.decl.now) (sym c.in-Some.ensures))
+    (few_args c.args.theory.now c.known.ensures c.args.place.op (operator_of c.in-Some.decl.now) (sym c.in-Some.ensures))
     (c.in_ok-args.ensures ∙ ap (start_args c.args.place.arg 1) c.as_slice.ensures.value) (rw c.in-Err-TooDeep.field-0-is at c.in-Err-TooDeep.ensures)
 
 pub returns-in-Ok : goal.returns-in-Ok

@@ -1,0 +1,3 @@
+pub mod Greatest
+pub mod Keeps
+pub mod Candidates
