@@ -9,7 +9,7 @@ use Rattle.circ_theory.specs.Theory.{Theory}
 use Rattle.circ_theory.specs.Observing.{is_hidden}
 use Rattle.circ_theory.specs.declared.parts.Goal.{Goal}
 use Rattle.circ_special.specs.declared.place.Place.{Place}
-use Rattle.circ_replay.specs.Plain.{LinkOf, ChainOf, WhyOf, Same_why, Split_why, more_whys}
+use Rattle.circ_replay.specs.Plain.{ChainOf, WhyOf, Same_why, Split_why, more_whys}
 use Rattle.circ_replay.specs.Goals.{goal}
 use Rattle.circ_rewrite.specs.Due.{due_under}
 use Rattle.circ_rewrite.specs.Norm.{Normalised, Normal_form, Budget_spent, Limit_passed, norm}
@@ -19,17 +19,15 @@ use Rattle.circ_rewrite.proofs.Runs.{normal_form_reduces}
 use Rattle.circ_rules.specs.Rules.{ProofStep, Simplify, Reduce, Derive, Done, derivatives_on}
 use Rattle.circ_rules.specs.Proof.{step_limit, split_limit}
 use Rattle.circ_plain_search.specs.BlockRules.{block_rules}
-use Rattle.circ_plain_search.specs.Joining.{Stop, HypothesisUse, first_open, use_link, joined, and_then, put_all, put_counted}
-use Rattle.circ_plain_search.specs.Search.{Limits, Standing, Ending, NormalSide, normal_side, side_of, normalised, Sides, sides_with, Reason, reason_with, SplitReason, split_with, case_of, Splitter, case_reason, each_case, constants_of, open_cases, chain_with, chained, normal_sides, split_cases, spent, or_end, record_step, is_nil, has_links, next_goal, with_sides, reduced, goals_limit, unless_past, derive_turn, simplified, hidden_turn, visible_turn, open_turn, pass_uses, swept_sides, pass_turn, join_turn, sides_turn, goal_turn, begun, with_this, next_block, turn_at, turn, Reaches, ends, goes}
+use Rattle.circ_plain_search.specs.Joining.{HypothesisUse, first_open, use_link, joined, and_then, put_all, put_counted}
+use Rattle.circ_plain_search.specs.Search.{Limits, Standing, Ending, NormalSide, normal_side, side_of, normalised, Sides, sides_with, Reason, reason_with, SplitReason, split_with, case_of, Splitter, case_reason, each_case, constants_of, open_cases, chain_with, chained, normal_sides, split_cases, spent, or_end, record_step, is_nil, has_links, next_goal, with_sides, reduced, goals_limit, unless_past, derive_turn, simplified, hidden_turn, visible_turn, open_turn, pass_uses, swept_sides, pass_turn, join_turn, sides_turn, goal_turn, next_block, turn_at, turn, Reaches, ends, goes}
 use Rattle.circ_plain_search.proofs.Uses.{Through, through, same_Ok}
-use Rattle.circ_plain_search.proofs.Passes.{Counted, counted}
-use Rattle.circ_plain_search.proofs.Runs.{after_step, recorded, recorded_room}
-use Rattle.circ_plain_search.proofs.Turns.{if_ended, if_false, unless_passed}
+use Rattle.circ_plain_search.proofs.Passes.{counted}
+use Rattle.circ_plain_search.proofs.Runs.{recorded, recorded_room}
+use Rattle.circ_plain_search.proofs.Ends.{same_Err}
+use Rattle.circ_plain_search.proofs.Turns.{if_ended, if_false}
 
 -- ---- one answer
-
-same_Err : {A E : Type 0} (a b : E) → ◌≡◌ {A = Result A E} (Err a) (Err b) → a ≡ b
-same_Err a b e = cc
 
 pub one_ending : (th : Theory) (G : List Place) (l : Limits) (st : Standing) (e f : Ending) → Reaches th G l st e → Reaches th G l st f → e ≡ f
 one_ending th G l st e f (ends _ _ t) (ends _ _ u) = same_Err e f (sym t ∙ u)
@@ -61,9 +59,9 @@ module _ (th : Theory) where
   sides_fall : (R : List Rule) (A : List Goal) (s t : Tree) (k : ℕ) (n : Sides) → normal_sides th R A s t k ≡ Ok n → n.budget ≤ k
   sides_fall R A s t k n e =
       let x : Through (normalised th R A s k)
-          (λ a. and_then (normalised th R A t a.budget) (λ b. Ok (sides_with a.term b.term (chain_with a.links b.links) b.budget))) n = through _ _ n e in
+      (λ a. and_then (normalised th R A t a.budget) (λ b. Ok (sides_with a.term b.term (chain_with a.links b.links) b.budget))) n = through _ _ n e in
       let y : Through (normalised th R A t x.value.budget)
-          (λ b. Ok (sides_with x.value.term b.term (chain_with x.value.links b.links) b.budget)) n = through _ _ n x.last in
+      (λ b. Ok (sides_with x.value.term b.term (chain_with x.value.links b.links) b.budget)) n = through _ _ n x.last in
       let a = normalised_falls R A s k x.value x.first in
       let b = normalised_falls R A t x.value.budget y.value y.first in
       let c = ap (λ z. z.budget) (same_Ok _ n y.last) in
@@ -90,11 +88,11 @@ module _ (th : Theory) where
   each_falls R again law A u s t (c ∷ cs) k b e =
       let A' : List Goal = A ++ case_of u c ∷ [] in
       let x : Through (and_then (normal_sides th R A' s t k) (case_reason again A'))
-          (λ r. and_then (each_case th R again A u s t cs r.budget)
-              (λ d. Ok (split_with u (more_whys r.why d.whys) d.budget))) b = through _ _ b e in
+      (λ r. and_then (each_case th R again A u s t cs r.budget)
+      (λ d. Ok (split_with u (more_whys r.why d.whys) d.budget))) b = through _ _ b e in
       let y : Through (normal_sides th R A' s t k) (case_reason again A') x.value = through _ _ x.value x.first in
       let z : Through (each_case th R again A u s t cs x.value.budget)
-          (λ d. Ok (split_with u (more_whys x.value.why d.whys) d.budget)) b = through _ _ b x.last in
+      (λ d. Ok (split_with u (more_whys x.value.why d.whys) d.budget)) b = through _ _ b x.last in
       let f1 = sides_fall R A' s t k y.value y.first in
       let f2 = case_falls again law A' y.value x.value y.last in
       let f3 = each_falls R again law A u s t cs x.value.budget z.value z.first in
@@ -133,10 +131,10 @@ module _ (th : Theory) (G : List Place) (l : Limits) where
   derived_less st g rest y e =
       let gs : List Goal = derivatives_on th g in
       let F : List Goal → Result Standing Ending
-          = λ k. and_then (record_step th l st Derive) (λ x. Ok (next_goal (x.hypotheses ++ g ∷ []) (rest ++ k) (record x { derives = x.derives + 1 }))) in
+      = λ k. and_then (record_step th l st Derive) (λ x. Ok (next_goal (x.hypotheses ++ g ∷ []) (rest ++ k) (record x { derives = x.derives + 1 }))) in
       let u : Through (or_end l st (unless_past (goals_limit gs) gs)) F y = through _ _ y (if_false (nat_le step_limit st.made) (spent l st) _ y e) in
       let x : Through (record_step th l st Derive) (λ z. Ok (next_goal (z.hypotheses ++ g ∷ []) (rest ++ u.value) (record z { derives = z.derives + 1 }))) y
-          = through _ _ y u.last in
+      = through _ _ y u.last in
       let r = (recorded_less st Derive x.value x.first).less in
       let P : Standing → Type 0 = λ z. measure z < measure st in
       subst P (same_Ok (next_goal (x.value.hypotheses ++ g ∷ []) (rest ++ u.value) (record x.value { derives = x.value.derives + 1 })) y x.last) r
@@ -151,14 +149,14 @@ module _ (th : Theory) (G : List Place) (l : Limits) where
       go : (b : Bool) → (if b then hidden_turn th l st g rest else visible_turn th l st g rest) ≡ Ok y → measure y < measure st
       go true z =
           let x : Through (simplified th l st) (λ s. derive_turn th l s g rest) y
-              = through _ _ y (if_false (nat_le l.derives st.derives) (spent l st) _ y z) in
+          = through _ _ y (if_false (nat_le l.derives st.derives) (spent l st) _ y z) in
           let a = simple (has_links st.chain) x.value x.first in
           let b = derived_less x.value g rest y x.last in
           omega (arith, a, b)
       go false z =
           let R = block_rules th st.earlier in
           let x : Through (or_end l st (split_cases th R split_limit [] g.left g.right st.budget))
-              (λ c. reduced th l (record st { budget = c.budget }) rest (Split_why st.chain c.term c.whys)) y = through _ _ y z in
+          (λ c. reduced th l (record st { budget = c.budget }) rest (Split_why st.chain c.term c.whys)) y = through _ _ y z in
           let a = split_falls th R split_limit [] g.left g.right st.budget x.value (if_ended l st _ x.value x.first) in
           let b = reduced_less (record st { budget = x.value.budget }) rest (Split_why st.chain x.value.term x.value.whys) y x.last in
           omega (arith, a, b)
@@ -186,7 +184,7 @@ module _ (th : Theory) (G : List Place) (l : Limits) where
   pass_less : (st : Standing) (g : Goal) (rest : List Goal) (y : Standing) → pass_turn th G l st g rest ≡ Ok y → measure y < measure st
   pass_less st g rest y e =
       let x : Through (or_end l st (swept_sides th G st.earlier g.left g.right st.budget))
-          (λ n. if has_links n.chain then Ok (with_sides st rest n) else open_turn th l st g rest) y = through _ _ y e in
+      (λ n. if has_links n.chain then Ok (with_sides st rest n) else open_turn th l st g rest) y = through _ _ y e in
       go x.value (swept_falls st.earlier g.left g.right st.budget x.value (if_ended l st _ x.value x.first)) (has_links x.value.chain) refl x.last
     where
       less : (a m b r : ℕ) → 0 < m → a + m ≡ b → a + r < b + r
@@ -212,7 +210,7 @@ module _ (th : Theory) (G : List Place) (l : Limits) where
   goal_less st g rest y e =
       let R = block_rules th st.earlier in
       let x : Through (or_end l st (normal_sides th R [] g.left g.right st.budget))
-          (λ n. sides_turn th G l (with_sides st rest n) (goal n.left n.right) rest) y = through _ _ y e in
+      (λ n. sides_turn th G l (with_sides st rest n) (goal n.left n.right) rest) y = through _ _ y e in
       let s = sides_fall th R [] g.left g.right st.budget x.value (if_ended l st _ x.value x.first) in
       let r = join_less (with_sides st rest x.value) (goal x.value.left x.value.right) rest (joined G st.hypotheses [] x.value.left x.value.right) y x.last in
       omega (arith, s, r)

@@ -1,5 +1,5 @@
 -- The search ends with every goal done only behind the last block's Done, and each block is whole then.
-use Rattle.std.proofs.Common.{◌≡◌, ℕ, zero, suc, ◌+◌, ◌*◌, ◌≤◌, Bool, true, false, ◌||◌, if◌then◌else◌, List, [], ◌∷◌, ◌++◌, map, length, Option, Some, None, Result, Ok, Err, refl, ap, sym, subst, ◌∙◌, arith}
+use Rattle.std.proofs.Common.{◌≡◌, ℕ, ◌+◌, ◌*◌, Bool, true, false, if◌then◌else◌, List, [], ◌∷◌, ◌++◌, map, Option, Some, None, Result, Ok, Err, refl, ap, subst, ◌∙◌, arith}
 use Rattle.std.specs.Prelude.{nat_le}
 use Rattle.std.specs.List.{AllByRecursion}
 use Rattle.circ_term.specs.Tree.{Tree, sort_of}
@@ -9,23 +9,23 @@ use Rattle.circ_theory.specs.WellFormed.{IsWellFormed}
 use Rattle.circ_theory.specs.Observing.{is_hidden}
 use Rattle.circ_theory.specs.declared.parts.Goal.{Goal}
 use Rattle.circ_special.specs.declared.place.Place.{Place}
-use Rattle.circ_replay.specs.Plain.{ChainOf, WhyOf, Same_why, Split_why}
+use Rattle.circ_replay.specs.Plain.{WhyOf, Same_why, Split_why}
 use Rattle.circ_replay.specs.Goals.{goal}
 use Rattle.circ_rules.specs.Rules.{ProofStep, Simplify, Reduce, Derive, Done, derivatives_on}
 use Rattle.circ_rules.specs.Proof.{step_limit, split_limit}
 use Rattle.circ_rules.proofs.Sorted.{sorted_none}
 use Rattle.circ_plain_search.specs.BlockRules.{block_rules}
 use Rattle.circ_plain_search.specs.Joining.{Stop, No_budget, Past_limit, Not_split, HypothesisUse, use_link, joined, and_then, put_all}
-use Rattle.circ_plain_search.specs.Search.{Limits, ProvedBlock, Standing, Ending, All_done, Sides, chain_with, chained, normal_sides, split_cases, spent, past, or_end, record_step, has_links, next_goal, with_sides, reduced, goals_limit, unless_past, derive_turn, hidden_turn, visible_turn, open_turn, swept_sides, pass_turn, join_turn, sides_turn, goal_turn, begun, with_this, next_block, turn_at, turn, Reaches, ends, goes, start}
+use Rattle.circ_plain_search.specs.Search.{Limits, ProvedBlock, Standing, Ending, All_done, Sides, chain_with, chained, normal_sides, split_cases, spent, past, or_end, record_step, has_links, next_goal, with_sides, reduced, goals_limit, unless_past, derive_turn, hidden_turn, visible_turn, open_turn, swept_sides, join_turn, sides_turn, goal_turn, with_this, next_block, turn_at, turn, Reaches, ends, goes, start}
 use Rattle.circ_plain_search.proofs.Derived.{FineGoals}
-use Rattle.circ_plain_search.proofs.Runs.{half, Ran, after_step, Opened, fresh_queue, Whole}
+use Rattle.circ_plain_search.proofs.Runs.{half, after_step, Opened, fresh_queue, Whole}
 use Rattle.circ_plain_search.proofs.Turns.{IsWhole, done_is_whole, turn_good}
 
 -- the part of a turn does not end the search with every goal done
 abbrev NotDone : {A : Type 0} → Result A Ending → Type 0
 NotDone r = (bs : List ProvedBlock) (d m : ℕ) (x : Bool) → r ≡ Err (All_done bs d m x) → ⊥
 
-same_Err : {A E : Type 0} (a b : E) → ◌≡◌ {A = Result A E} (Err a) (Err b) → a ≡ b
+pub same_Err : {A E : Type 0} (a b : E) → ◌≡◌ {A = Result A E} (Err a) (Err b) → a ≡ b
 same_Err a b e = cc
 
 not_then : {A B : Type 0} (r : Result A Ending) (f : A → Result B Ending) → NotDone r → ((a : A) → NotDone (f a)) → NotDone (and_then r f)
@@ -60,10 +60,10 @@ module _ (th : Theory) (G : List Place) (l : Limits) where
   not_derived st g rest =
       not_spent (nat_le step_limit st.made) l st _
       (not_then _ (λ gs. and_then (record_step th l st Derive)
-          (λ x. Ok (next_goal (x.hypotheses ++ g ∷ []) (rest ++ gs) (record x { derives = x.derives + 1 }))))
+      (λ x. Ok (next_goal (x.hypotheses ++ g ∷ []) (rest ++ gs) (record x { derives = x.derives + 1 }))))
       (not_ended l st (unless_past (goals_limit (derivatives_on th g)) (derivatives_on th g)))
       (λ gs. not_then _ (λ x. Ok (next_goal (x.hypotheses ++ g ∷ []) (rest ++ gs) (record x { derives = x.derives + 1 })))
-          (not_recorded st Derive) (λ x. not_ok _)))
+      (not_recorded st Derive) (λ x. not_ok _)))
 
   not_open : (st : Standing) (g : Goal) (rest : List Goal) → NotDone (open_turn th l st g rest)
   not_open st g rest = go (is_hidden th (sort_of g.left))
@@ -134,7 +134,7 @@ module _ (th : Theory) (wf : IsWellFormed th) (G : List Place) (l : Limits) (blo
   reaches_whole st e h (ends _ _ t) bs d m x it = turn_whole st bs d m x h (t ∙ ap Err it)
   reaches_whole st e h (goes _ y _ t r) bs d m x it = reaches_whole y e (turn_good th wf G l blocks st y h t) r bs d m x it
 
-start_opened : (th : Theory) (G : List Place) (l : Limits) (b : List Goal) (bs : List (List Goal)) → FineGoals th half b
+pub start_opened : (th : Theory) (G : List Place) (l : Limits) (b : List Goal) (bs : List (List Goal)) → FineGoals th half b
     → AllByRecursion (FineGoals th half) bs → Opened th G (b ∷ bs) (start l (b ∷ bs)) b
 start_opened th G l b bs fb fbs =
     let n : Standing = start l (b ∷ bs) in
@@ -150,6 +150,7 @@ start_opened th G l b bs fb fbs =
       counted = refl;
       small = omega arith;
       few = omega arith;
+      taken = omega arith;
       finished_terms = tt;
       goals = fb;
       later = fbs;

@@ -18,3 +18,8 @@ pub mod Tables
 pub mod Naming
 pub mod Ranges
 pub mod Steps
+pub mod Numbered
+pub mod Certificates
+pub mod Accepting
+pub mod Founds
+pub mod Coming

@@ -1,8 +1,8 @@
 -- The numbers and the paths of what leads are small, where the terms that it leads from are fine.
-use Rattle.std.proofs.Common.{◌≡◌, ◌⊎◌, ℕ, zero, suc, ◌+◌, ◌≤◌, ◌<◌, ◌^◌, length, List, [], ◌∷◌, ◌++◌, map, Some, refl, ap, sym, subst, ◌∙◌, arith, inl, inr, length-append}
-use Rattle.std.specs.List.{slice_get, AllByRecursion, Contains}
+use Rattle.std.proofs.Common.{◌≡◌, ◌⊎◌, ℕ, zero, suc, ◌+◌, ◌≤◌, ◌<◌, ◌^◌, length, List, [], ◌∷◌, ◌++◌, refl, sym, subst, ◌∙◌, arith, inl, inr, length-append}
+use Rattle.std.specs.List.{AllByRecursion, Contains}
 use Rattle.std.proofs.lemmas.List.Elements.{Contains-append_cases}
-use Rattle.circ_term.specs.Tree.{Tree, App, none, sort_of}
+use Rattle.circ_term.specs.Tree.{Tree, none, sort_of}
 use Rattle.circ_term.specs.Limits.{IsWithinLimits}
 use Rattle.circ_theory.specs.Signature.{IsWellSorted, HaveSorts}
 use Rattle.circ_theory.specs.Theory.{Theory, Pair, pair_with, CaseList, IsWellSortedPair}
@@ -13,9 +13,9 @@ use Rattle.circ_theory.proofs.Casing.{contains_first, contains_next}
 use Rattle.circ_theory.proofs.Weakening.{first_or_rest}
 use Rattle.circ_special.specs.declared.place.Place.{Place}
 use Rattle.circ_replay.specs.Plain.{LinkOf, Equation_link, Hypothesis_link, Assumption_link, Content_link, ChainOf, WhyOf, WhysOf, Same_why, Split_why, no_why, more_whys}
-use Rattle.circ_replay.specs.Goals.{goal, sides, AreSortedGoals}
+use Rattle.circ_replay.specs.Goals.{AreSortedGoals}
 use Rattle.circ_replay.specs.Runs.{Runs}
-use Rattle.circ_replay.specs.Link.{Setting, setting, Leads, AllOfLink, AllOfLinks}
+use Rattle.circ_replay.specs.Link.{Setting, setting, Leads, AllOfLinks}
 use Rattle.circ_replay.specs.Justified.{ChainLeads, Justified, EachJustified, AllOfChain, AllOfWhy, AllOfWhys}
 use Rattle.circ_replay.proofs.Leading.{IsSortedSetting, link_sorted}
 use Rattle.circ_rules.specs.Proof.{IsNumber, IsPath, why_count}
@@ -164,9 +164,11 @@ module _ (th : Theory) (wf : IsWellFormed th) (G : List Place) (H : List Goal) (
         let cs : CaseList = r.2 in
         let x = chain_ranged (setting th G H A) (small A a (omega (arith, l))) c p q g t.0 r.1 in
         let count = each_counted A q u cs cs.constants ws r.5 in
-        let short = (wf.cases cs r.3).few in
-        (x.ranged, omega (arith, count, short),
-        whys_ranged n A a l ws q u t.1 cs r.3 r.4 cs.constants (λ k h. h) x.given t.2 f r.5)
+        let short = (wf.cases cs r.3).few in (
+          x.ranged,
+          omega (arith, count, short),
+          whys_ranged n A a l ws q u t.1 cs r.3 r.4 cs.constants (λ k h. h) x.given t.2 f r.5,
+        )
 
     whys_ranged : (n : ℕ) (A : List Pair) → AreSortedPairs A → length A + suc n ≤ 8 → (ws : WhysOf Tree) (q : Pair) (u : Tree) → IsWellSorted th.signature u
         → (l : CaseList) → Contains th.cases l → sort_of u ≡ l.sort → (ks : List ℕ) → ((k : ℕ) → Contains ks k → Contains l.constants k) → IsGivenPair th q
@@ -176,8 +178,7 @@ module _ (th : Theory) (wf : IsWellFormed th) (G : List Place) (H : List Goal) (
     whys_ranged n A a b (more_whys w ws) q u su l c e [] within g t f r = absurd r
     whys_ranged n A a b (more_whys w ws) q u su l c e (k ∷ ks) within g t f r =
         let long = length-append A (is_case u l k ∷ []) in
-        let more = pairs_more A (is_case u l k) a (case_sorted th wf u su l c e k (within k (contains_first k ks))) in
-        (
+        let more = pairs_more A (is_case u l k) a (case_sorted th wf u su l c e k (within k (contains_first k ks))) in (
           why_ranged n (A ++ is_case u l k ∷ []) more (omega (arith, long, b)) w q g t.0 f.0 r.0,
           whys_ranged n A a b ws q u su l c e ks (λ j h. within j (contains_next k j ks h)) g t.1 f.1 r.1,
         )

@@ -1,23 +1,23 @@
 -- What the search has recorded so far is a run of the rules, and its terms are fine.
-use Rattle.std.proofs.Common.{◌≡◌, ℕ, zero, suc, ◌+◌, ◌*◌, ◌≤◌, ◌<◌, Bool, true, false, ◌||◌, if◌then◌else◌, List, [], ◌∷◌, ◌++◌, map, flat_map, length, Option, Some, Result, Ok, Err, refl, ap, sym, subst, ◌∙◌, arith, append_assoc, append-nil, length-append}
+use Rattle.std.proofs.Common.{◌≡◌, ℕ, ◌+◌, ◌*◌, ◌≤◌, ◌<◌, Bool, true, false, ◌||◌, if◌then◌else◌, List, [], ◌∷◌, ◌++◌, map, flat_map, length, Ok, Err, refl, ap, sym, subst, ◌∙◌, arith, append_assoc, append-nil, length-append}
 use Rattle.std.specs.Prelude.{nat_le}
-use Rattle.std.specs.List.{slice_get, AllByRecursion}
+use Rattle.std.specs.List.{AllByRecursion}
 use Rattle.circ_term.specs.Tree.{Tree}
 use Rattle.circ_theory.specs.Theory.{Theory}
 use Rattle.circ_theory.specs.declared.parts.Goal.{Goal}
 use Rattle.circ_theory.proofs.Lists.{all_push}
 use Rattle.circ_special.specs.declared.place.Place.{Place}
-use Rattle.circ_replay.specs.Plain.{LinkOf, ChainOf}
-use Rattle.circ_replay.specs.Goals.{sides, AreSortedGoals}
+use Rattle.circ_replay.specs.Plain.{ChainOf}
+use Rattle.circ_replay.specs.Goals.{AreSortedGoals}
 use Rattle.circ_replay.specs.Runs.{Runs}
 use Rattle.circ_replay.specs.Link.{setting, Leads}
 use Rattle.circ_replay.specs.Justified.{AllOfChain}
-use Rattle.circ_rules.specs.Rules.{State, state, ProofStep, Simplify, Reduce, Derive, Done, StepOf, StepsOf, AllOfStep}
+use Rattle.circ_rules.specs.Rules.{State, state, ProofStep, Simplify, Reduce, Derive, Done, StepOf, StepsOf}
 use Rattle.circ_rules.specs.Proof.{step_limit}
-use Rattle.circ_plain_search.specs.Search.{Limits, ProvedBlock, proved_block, Standing, Ending, no_links, spent, record_step, is_deep_step}
+use Rattle.circ_plain_search.specs.Search.{Limits, ProvedBlock, proved_block, Standing, no_links, spent, record_step, is_deep_step}
 use Rattle.circ_plain_search.specs.Numbering.{goal_terms, step_terms, block_terms}
 use Rattle.circ_plain_search.proofs.Terms.{Fine, FineTerms, fine_more}
-use Rattle.circ_plain_search.proofs.Led.{all_append, runs_append}
+use Rattle.circ_plain_search.proofs.Led.{all_append, all_parts, runs_append}
 use Rattle.circ_plain_search.proofs.Rules.{BeginsWith}
 use Rattle.circ_plain_search.proofs.Uses.{same_Ok, map_append}
 use Rattle.circ_plain_search.proofs.Splits.{FitsIn}
@@ -119,6 +119,7 @@ pub record Ran (th : Theory) (G : List Place) (blocks : List (List Goal)) (st : 
   pub counted : all_steps st.finished + length st.steps ≡ st.made
   pub small : st.made ≤ step_limit
   pub few : st.derives ≤ st.made
+  pub taken : st.taken ≤ length st.steps
   pub finished_terms : FineTerms th most (flat_map block_terms st.finished)
   pub goals : FineGoals th half st.goals
   pub later : AllByRecursion (FineGoals th half) st.later
@@ -149,17 +150,13 @@ steps_terms_more : (xs : List (ProofStep Tree)) (x : ProofStep Tree) (th : Theor
     → FineTerms th most (flat_map step_terms (xs ++ x ∷ []))
 steps_terms_more [] x th a f = all_append (Fine th most) (step_terms x) [] f tt
 steps_terms_more (y ∷ xs) x th a f =
-    let p = parts (step_terms y) (flat_map step_terms xs) a in
+    let p = all_parts (Fine th most) (step_terms y) (flat_map step_terms xs) a in
     all_append (Fine th most) (step_terms y) (flat_map step_terms (xs ++ x ∷ [])) p.0 (steps_terms_more xs x th p.1 f)
-  where
-    parts : (us vs : List Tree) → FineTerms th most (us ++ vs) → FineTerms th most us × FineTerms th most vs
-    parts [] vs c = (tt, c)
-    parts (z ∷ us) vs c = let r = parts us vs c.1 in ((c.0, r.0), r.1)
 
 -- a step more, whatever else changes
 pub ran_more : (th : Theory) (G : List Place) (blocks : List (List Goal)) (st : Standing) (Q : List Goal) (x : ProofStep Tree) (L S queue : List Goal)
     (chain : ChainOf Tree) (taken budget derives : ℕ) → Ran th G blocks st Q → StepOf th G x (state st.hypotheses Q) (state L S) → IsOpenStep x
-    → FineTerms th most (step_terms x) → st.made < step_limit → BeginsWith L st.earlier → AreSortedGoals th L → derives ≤ st.made + 1
+    → FineTerms th most (step_terms x) → st.made < step_limit → BeginsWith L st.earlier → AreSortedGoals th L → derives ≤ st.made + 1 → taken ≤ length st.steps + 1
     → Ran th G blocks
     (record st {
       hypotheses = L;
@@ -172,7 +169,7 @@ pub ran_more : (th : Theory) (G : List Place) (blocks : List (List Goal)) (st : 
       made = st.made + 1;
       deep = st.deep || is_deep_step th st.hypotheses x;
     }) S
-ran_more th G blocks st Q x L S queue chain taken budget derives r s o f room begins sorted few =
+ran_more th G blocks st Q x L S queue chain taken budget derives r s o f room begins sorted few fewer =
     let long = length-append st.steps (x ∷ []) in
     let count = r.counted in
     record {
@@ -187,6 +184,7 @@ ran_more th G blocks st Q x L S queue chain taken budget derives r s o f room be
       counted = omega (arith, long, count);
       small = omega (arith, room);
       few = few;
+      taken = omega (arith, long, fewer);
       finished_terms = r.finished_terms;
       goals = r.goals;
       later = r.later;
@@ -208,6 +206,7 @@ ran_same th G blocks st Q queue chain budget r = record {
   counted = r.counted;
   small = r.small;
   few = r.few;
+  taken = r.taken;
   finished_terms = r.finished_terms;
   goals = r.goals;
   later = r.later;
@@ -233,15 +232,17 @@ pub fresh_queue : (th : Theory) (G : List Place) (blocks : List (List Goal)) (st
 fresh_queue th G blocks st [] none r f = r
 fresh_queue th G blocks st (g ∷ rest) none r f =
     let P : ChainOf Tree → Type 0 = λ c. Runs (Leads (setting th G st.hypotheses [])) c.left g.left g.left in
-    let Q : ChainOf Tree → Type 0 = λ c. Runs (Leads (setting th G st.hypotheses [])) c.right g.right g.right in
-    (g, record {
-      ran = r;
-      left = subst P (sym none) refl;
-      right = subst Q (sym none) refl;
-      links = (let R : ChainOf Tree → Type 0 = AllOfChain (Fine th most) in subst R (sym none) (tt, tt));
-      fine = f.0;
-      fine_rest = f.1;
-    })
+    let Q : ChainOf Tree → Type 0 = λ c. Runs (Leads (setting th G st.hypotheses [])) c.right g.right g.right in (
+      g,
+      record {
+        ran = r;
+        left = subst P (sym none) refl;
+        right = subst Q (sym none) refl;
+        links = (let R : ChainOf Tree → Type 0 = AllOfChain (Fine th most) in subst R (sym none) (tt, tt));
+        fine = f.0;
+        fine_rest = f.1;
+      },
+    )
 
 -- ---- the end of a block
 
@@ -257,12 +258,8 @@ blocks_terms_more : (th : Theory) (bs : List ProvedBlock) (b : ProvedBlock) → 
     → FineTerms th most (flat_map block_terms (bs ++ b ∷ []))
 blocks_terms_more th [] b a f = all_append (Fine th most) (block_terms b) [] f tt
 blocks_terms_more th (d ∷ bs) b a f =
-    let p = parts (block_terms d) (flat_map block_terms bs) a in
+    let p = all_parts (Fine th most) (block_terms d) (flat_map block_terms bs) a in
     all_append (Fine th most) (block_terms d) (flat_map block_terms (bs ++ b ∷ [])) p.0 (blocks_terms_more th bs b p.1 f)
-  where
-    parts : (us vs : List Tree) → FineTerms th most (us ++ vs) → FineTerms th most us × FineTerms th most vs
-    parts [] vs c = (tt, c)
-    parts (z ∷ us) vs c = let r = parts us vs c.1 in ((c.0, r.0), r.1)
 
 -- Each block so far is proved, of which there are so many steps.
 pub record Whole (th : Theory) (G : List Place) (blocks : List (List Goal)) (bs : List ProvedBlock) (later : List (List Goal)) (deep : Bool) (made derives : ℕ) : Type 0 where
@@ -282,7 +279,7 @@ done_whole th G blocks st r room =
     let b : ProvedBlock = proved_block st.goals (st.steps ++ Done ∷ []) in
     let E : List Goal → Type 0 = λ x. RunBoth th G (st.deep || false) (state x st.goals) b.steps (state st.hypotheses []) in
     let run : RunBoth th G (st.deep || false) (state (goals_of st.finished) st.goals) b.steps (state st.hypotheses [])
-        = subst E r.earlier (run_more th G st.deep (state st.earlier st.goals) st.steps (state st.hypotheses []) Done (state st.hypotheses []) r.run refl) in
+    = subst E r.earlier (run_more th G st.deep (state st.earlier st.goals) st.steps (state st.hypotheses []) Done (state st.hypotheses []) r.run refl) in
     let before = blocks_later th G st.deep false st.finished r.finished in
     let long = length-append st.steps (Done ∷ []) in
     let count = r.counted in

@@ -1,5 +1,5 @@
 -- The numbers and the paths of steps that run are small; there are never more hypotheses than steps were made.
-use Rattle.std.proofs.Common.{◌≡◌, ℕ, zero, suc, ◌+◌, ◌≤◌, ◌<◌, ◌^◌, length, List, [], ◌∷◌, ◌++◌, map, refl, ap, sym, subst, ◌∙◌, arith, length-append}
+use Rattle.std.proofs.Common.{◌+◌, ◌≤◌, ◌<◌, ◌^◌, length, List, [], ◌∷◌, map, sym, subst, arith, length-append}
 use Rattle.std.specs.List.{AllByRecursion, Contains}
 use Rattle.circ_term.specs.Tree.{Tree}
 use Rattle.circ_theory.specs.Signature.{IsWellSorted}
@@ -8,15 +8,15 @@ use Rattle.circ_theory.specs.WellFormed.{IsWellFormed}
 use Rattle.circ_theory.specs.Fresh.{derivatives_of}
 use Rattle.circ_theory.specs.declared.parts.Goal.{Goal}
 use Rattle.circ_special.specs.declared.place.Place.{Place}
-use Rattle.circ_replay.specs.Goals.{goal, sides, AreSortedGoals}
+use Rattle.circ_replay.specs.Goals.{sides, AreSortedGoals}
 use Rattle.circ_replay.specs.Link.{setting}
-use Rattle.circ_rules.specs.Rules.{State, state, IsSortedState, ProofStep, Simplify, Reduce, Derive, Done, AllOfStep, StepOn, StepOf, StepsOf, IsDerivable, derived_goal, fresh_in, derivatives_on}
-use Rattle.circ_rules.proofs.Sorted.{sorted_first, sorted_rest}
+use Rattle.circ_rules.specs.Rules.{State, IsSortedState, ProofStep, Simplify, Reduce, Derive, Done, AllOfStep, StepOn, StepsOf, IsDerivable, derived_goal, fresh_in, derivatives_on}
+use Rattle.circ_rules.proofs.Sorted.{sorted_first}
 use Rattle.circ_rules.proofs.Stepping.{step_sorted}
 use Rattle.circ_term.specs.Limits.{IsWithinLimits}
 use Rattle.circ_plain_search.proofs.Led.{all_append}
 use Rattle.circ_plain_search.proofs.Splits.{FitsIn}
-use Rattle.circ_plain_search.proofs.Ranges.{IsRangedChain, IsRangedWhy, IsSmallSetting, IsGiven, IsGivenPair, ChainRanged, chain_ranged, why_ranged}
+use Rattle.circ_plain_search.proofs.Ranges.{IsRangedChain, IsRangedWhy, IsSmallSetting, IsGivenPair, chain_ranged, why_ranged}
 
 abbrev pub IsRangedStep : ProofStep Tree → Type 0
 IsRangedStep (Simplify c) = IsRangedChain c

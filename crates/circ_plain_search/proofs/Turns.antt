@@ -1,5 +1,5 @@
 -- A turn keeps what is known of the search, and the search ends with every goal done only where each block is whole.
-use Rattle.std.proofs.Common.{◌≡◌, ℕ, zero, suc, ◌+◌, ◌*◌, ◌≤◌, ◌<◌, ◌^◌, Bool, true, false, ◌||◌, if◌then◌else◌, List, [], ◌∷◌, ◌++◌, map, flat_map, length, Option, Some, None, Result, Ok, Err, refl, ap, sym, subst, ◌∙◌, arith, append-nil}
+use Rattle.std.proofs.Common.{◌≡◌, ℕ, zero, suc, ◌+◌, ◌*◌, ◌≤◌, Bool, true, false, if◌then◌else◌, List, [], ◌∷◌, ◌++◌, map, Option, Some, None, Result, Ok, Err, refl, ap, sym, subst, ◌∙◌, arith}
 use Rattle.std.specs.Prelude.{nat_le, not}
 use Rattle.std.specs.List.{slice_get, AllByRecursion}
 use Rattle.std.proofs.lemmas.List.{length-map}
@@ -18,25 +18,25 @@ use Rattle.circ_replay.specs.Plain.{LinkOf, ChainOf, WhyOf, WhysOf, Same_why, Sp
 use Rattle.circ_replay.specs.Goals.{goal, sides, IsWellSortedGoal, AreSortedGoals}
 use Rattle.circ_replay.specs.Runs.{Runs}
 use Rattle.circ_replay.specs.Link.{Setting, setting, Leads, AllOfLinks}
-use Rattle.circ_replay.specs.Justified.{ChainLeads, Justified, AllOfChain, AllOfWhy, AllOfWhys}
+use Rattle.circ_replay.specs.Justified.{Justified, AllOfChain, AllOfWhy, AllOfWhys}
 use Rattle.circ_replay.proofs.Cases.{cases_listed}
-use Rattle.circ_rules.specs.Rules.{State, state, ProofStep, Simplify, Reduce, Derive, Done, StepOf, derivatives_on}
+use Rattle.circ_rules.specs.Rules.{ProofStep, Simplify, Reduce, Derive, Done, derivatives_on}
 use Rattle.circ_rules.specs.Proof.{step_limit, split_limit}
 use Rattle.circ_rules.proofs.Sorted.{sorted_append, sorted_more, sorted_none}
 use Rattle.circ_rewrite.specs.Links.{IsRuleOf}
 use Rattle.circ_plain_search.specs.BlockRules.{block_rules, hidden_lemmas}
-use Rattle.circ_plain_search.specs.Joining.{Stop, HypothesisUse, use_link, joined, swept, and_then, put_all, put_counted}
-use Rattle.circ_plain_search.specs.Search.{Limits, ProvedBlock, proved_block, Standing, Ending, All_done, Sides, sides_with, SplitReason, chain_with, chained, no_links, normal_sides, split_cases, spent, past, ending_by, or_end, record_step, is_nil, has_links, next_goal, with_sides, reduced, goals_limit, unless_past, derive_turn, simplified, hidden_turn, visible_turn, open_turn, pass_uses, swept_sides, pass_turn, join_turn, sides_turn, goal_turn, begun, with_this, next_block, done_turn, turn_at, turn, Reaches, ends, goes, start, is_deep_step}
-use Rattle.circ_plain_search.specs.Numbering.{links_terms, chain_terms, why_terms, whys_terms, step_terms}
+use Rattle.circ_plain_search.specs.Joining.{Stop, HypothesisUse, use_link, joined, and_then, put_all, put_counted}
+use Rattle.circ_plain_search.specs.Search.{Limits, proved_block, Standing, Ending, Sides, sides_with, chain_with, chained, no_links, normal_sides, split_cases, spent, or_end, record_step, is_nil, has_links, next_goal, with_sides, reduced, goals_limit, unless_past, derive_turn, simplified, hidden_turn, visible_turn, open_turn, pass_uses, swept_sides, pass_turn, join_turn, sides_turn, goal_turn, begun, with_this, next_block, turn_at, turn}
+use Rattle.circ_plain_search.specs.Numbering.{links_terms, chain_terms, why_terms, whys_terms}
 use Rattle.circ_plain_search.proofs.Terms.{Fine, FineTerms, fine_more}
-use Rattle.circ_plain_search.proofs.Led.{Led, all_append, runs_append, links_more}
+use Rattle.circ_plain_search.proofs.Led.{all_append, runs_append, links_more}
 use Rattle.circ_plain_search.proofs.Rules.{BeginsWith, block_rules_are, hidden_lemmas_are}
-use Rattle.circ_plain_search.proofs.Uses.{Through, through, same_Ok, map_append}
+use Rattle.circ_plain_search.proofs.Uses.{Through, through, same_Ok}
 use Rattle.circ_plain_search.proofs.Joins.{joined_leads}
-use Rattle.circ_plain_search.proofs.Passes.{Counted, counted, swept_leads}
-use Rattle.circ_plain_search.proofs.Splits.{SidesLed, FitsIn, AllFitIn, IsSplit, normal_sides_led, split_is}
+use Rattle.circ_plain_search.proofs.Passes.{counted, swept_leads}
+use Rattle.circ_plain_search.proofs.Splits.{SidesLed, FitsIn, AllFitIn, normal_sides_led, split_is}
 use Rattle.circ_plain_search.proofs.Derived.{FineGoal, FineGoals, goal_more, goal_sorted, goals_sorted, IsFineDerived, derivatives_fine}
-use Rattle.circ_plain_search.proofs.Runs.{most, half, bound, IsOpenStep, BlocksBoth, RunBoth, Ran, after_step, recorded, recorded_room, ran_more, ran_same, Held, Opened, fresh_queue, Whole, done_whole, goals_of, goals_of_more, block_goals}
+use Rattle.circ_plain_search.proofs.Runs.{most, half, bound, Ran, after_step, recorded, recorded_room, ran_more, ran_same, Held, Opened, fresh_queue, Whole, done_whole, goals_of, goals_of_more}
 
 -- ---- terms of links, chains and whys
 
@@ -81,12 +81,12 @@ module _ (th : Theory) (wf : IsWellFormed th) (G : List Place) (l : Limits) (blo
   bound_small : (st : Standing) (Q : List Goal) → Ran th G blocks st Q → bound st ≤ most
   bound_small st Q r = let a = r.few in let b = r.small in omega (arith, a, b)
 
-  rules_here : (st : Standing) (Q : List Goal) → Ran th G blocks st Q → AllByRecursion (IsRuleOf th st.hypotheses) (block_rules th st.earlier)
+  pub rules_here : (st : Standing) (Q : List Goal) → Ran th G blocks st Q → AllByRecursion (IsRuleOf th st.hypotheses) (block_rules th st.earlier)
   rules_here st Q r = block_rules_are th wf st.hypotheses st.earlier r.sorted r.begins
 
   -- ---- the sides of the goal in hand
 
-  sides_held : (st : Standing) (o g : Goal) (rest : List Goal) (k : ℕ) (n : Sides) → Held th G blocks st o g rest
+  pub sides_held : (st : Standing) (o g : Goal) (rest : List Goal) (k : ℕ) (n : Sides) → Held th G blocks st o g rest
       → SidesLed (around st.hypotheses) (bound st) g.left g.right k n → Held th G blocks (with_sides st rest n) o (goal n.left n.right) rest
   sides_held st o g rest k n h s =
       let small = bound_small st (o ∷ rest) h.ran in
@@ -114,9 +114,10 @@ module _ (th : Theory) (wf : IsWellFormed th) (G : List Place) (l : Limits) (blo
       let room = recorded_room th l st (Reduce why) x.value x.first in
       let Q : Standing → Type 0 = λ z. Good (next_goal z.hypotheses rest z) in
       let few = h.few in
+      let taken = h.taken in
       let ran : Ran th G blocks (next_goal a.hypotheses rest a) rest
-          = ran_more th G blocks st (o ∷ rest) (Reduce why) st.hypotheses rest rest no_links (st.taken + 1) st.budget st.derives h (j, refl) fits terms room
-          h.begins h.sorted (omega (arith, few)) in
+      = ran_more th G blocks st (o ∷ rest) (Reduce why) st.hypotheses rest rest no_links (st.taken + 1) st.budget st.derives h (j, refl) fits terms room
+      h.begins h.sorted (omega (arith, few)) (omega (arith, taken)) in
       subst Good (same_Ok (next_goal x.value.hypotheses rest x.value) y x.last)
       (subst Q it (fresh_queue th G blocks (next_goal a.hypotheses rest a) rest refl ran fr))
 
@@ -130,30 +131,31 @@ module _ (th : Theory) (wf : IsWellFormed th) (G : List Place) (l : Limits) (blo
   derived_good st g rest y h fg fr hidden e =
       let gs : List Goal = derivatives_on th g in
       let F : List Goal → Result Standing Ending
-          = λ k. and_then (record_step th l st Derive) (λ x. Ok (next_goal (x.hypotheses ++ g ∷ []) (rest ++ k) (record x { derives = x.derives + 1 }))) in
+      = λ k. and_then (record_step th l st Derive) (λ x. Ok (next_goal (x.hypotheses ++ g ∷ []) (rest ++ k) (record x { derives = x.derives + 1 }))) in
       let u : Through (or_end l st (unless_past (goals_limit gs) gs)) F y
-          = through _ _ y (if_false (nat_le step_limit st.made) (spent l st) _ y e) in
+      = through _ _ y (if_false (nat_le step_limit st.made) (spent l st) _ y e) in
       let within = unless_passed (goals_limit gs) gs u.value (if_ended l st _ u.value u.first) in
       let x : Through (record_step th l st Derive) (λ z. Ok (next_goal (z.hypotheses ++ g ∷ []) (rest ++ u.value) (record z { derives = z.derives + 1 }))) y
-          = through _ _ y u.last in
+      = through _ _ y u.last in
       let a : Standing = after_step th st Derive in
       let it : after_step th st Derive ≡ x.value = recorded th l st Derive x.value x.first in
       let room = recorded_room th l st Derive x.value x.first in
       let few = h.few in
+      let taken = h.taken in
       let d : IsFineDerived th (bound st) g = derivatives_fine th wf (bound st) (omega (arith, few, room)) g fg within.0 in
       let b : Standing = next_goal (a.hypotheses ++ g ∷ []) (rest ++ gs) (record a { derives = a.derives + 1 }) in
       let L : List Goal = st.hypotheses ++ g ∷ [] in
       let sorted : AreSortedGoals th L
-          = sorted_append th st.hypotheses (g ∷ []) h.sorted (sorted_more th g [] (goal_sorted th (bound st) g fg) (sorted_none th)) in
+      = sorted_append th st.hypotheses (g ∷ []) h.sorted (sorted_more th g [] (goal_sorted th (bound st) g fg) (sorted_none th)) in
       let ran : Ran th G blocks b (rest ++ gs)
-          = ran_more th G blocks st (g ∷ rest) Derive L (rest ++ gs) (rest ++ gs) no_links (st.taken + 1) st.budget (st.derives + 1) h
-          (hidden, d.derivable, refl) tt tt room (begins_more st.hypotheses st.earlier g h.begins) sorted (omega (arith, few)) in
+      = ran_more th G blocks st (g ∷ rest) Derive L (rest ++ gs) (rest ++ gs) no_links (st.taken + 1) st.budget (st.derives + 1) h
+      (hidden, d.derivable, refl) tt tt room (begins_more st.hypotheses st.earlier g h.begins) sorted (omega (arith, few)) (omega (arith, taken)) in
       let up : bound st + 8 ≡ bound b = omega arith in
       let N : ℕ → Type 0 = λ m. FineGoals th m gs in
       let queue : FineGoals th (bound b) (rest ++ gs)
-          = all_append (FineGoal th (bound b)) rest gs
-          (all_by (FineGoal th (bound st)) (FineGoal th (bound b)) rest (λ q f. goal_more th (bound st) (bound b) q (omega arith) f) fr)
-          (subst N up d.goals) in
+      = all_append (FineGoal th (bound b)) rest gs
+      (all_by (FineGoal th (bound st)) (FineGoal th (bound b)) rest (λ q f. goal_more th (bound st) (bound b) q (omega arith) f) fr)
+      (subst N up d.goals) in
       let Q : Standing → Type 0 = λ z. Good (next_goal (z.hypotheses ++ g ∷ []) (rest ++ u.value) (record z { derives = z.derives + 1 })) in
       let K : List Goal → Type 0 = λ k. Good (next_goal (a.hypotheses ++ g ∷ []) (rest ++ k) (record a { derives = a.derives + 1 })) in
       subst Good (same_Ok (next_goal (x.value.hypotheses ++ g ∷ []) (rest ++ u.value) (record x.value { derives = x.value.derives + 1 })) y x.last)
@@ -190,11 +192,12 @@ module _ (th : Theory) (wf : IsWellFormed th) (G : List Place) (l : Limits) (blo
       go true k z =
           let room = recorded_room th l st x y z in
           let few = h.ran.few in
+          let taken = h.ran.taken in
           let P : Standing → Type 0 = λ s. Simplified st s g rest in
           subst P (recorded th l st x y z) (record {
             ran = ran_more th G blocks st (o ∷ rest) x st.hypotheses (g ∷ rest) st.queue st.chain st.taken st.budget st.derives h.ran
                 (sides g, record { left = h.left; right = h.right }, refl) tt (chain_fine th most st.chain h.links) room h.ran.begins h.ran.sorted
-                (omega (arith, few));
+                (omega (arith, few)) (omega (arith, taken));
             derives = refl;
           })
       go false k z =
@@ -208,7 +211,7 @@ module _ (th : Theory) (wf : IsWellFormed th) (G : List Place) (l : Limits) (blo
       → hidden_turn th l st g rest ≡ Ok y → Good y
   hidden_good st o g rest y h hidden e =
       let x : Through (simplified th l st) (λ z. derive_turn th l z g rest) y
-          = through _ _ y (if_false (nat_le l.derives st.derives) (spent l st) _ y e) in
+      = through _ _ y (if_false (nat_le l.derives st.derives) (spent l st) _ y e) in
       let s = simplified_ran st o g rest x.value h x.first in
       let P : ℕ → Type 0 = λ d. FineGoal th (half + 8 * d) g in
       let Q : ℕ → Type 0 = λ d. FineGoals th (half + 8 * d) rest in
@@ -225,16 +228,21 @@ module _ (th : Theory) (wf : IsWellFormed th) (G : List Place) (l : Limits) (blo
   visible_good st o g rest y h e =
       let R = block_rules th st.earlier in
       let x : Through (or_end l st (split_cases th R split_limit [] g.left g.right st.budget))
-          (λ c. reduced th l (record st { budget = c.budget }) rest (Split_why st.chain c.term c.whys)) y = through _ _ y e in
+      (λ c. reduced th l (record st { budget = c.budget }) rest (Split_why st.chain c.term c.whys)) y = through _ _ y e in
       let split = split_is th wf (bound st) (omega arith) G st.hypotheses R (rules_here st (o ∷ rest) h.ran) split_limit [] tt g.left g.right st.budget
-          x.value h.fine.left h.fine.right (if_ended l st _ x.value x.first) in
+      x.value h.fine.left h.fine.right (if_ended l st _ x.value x.first) in
       let s = split.2 in
       let small = bound_small st (o ∷ rest) h.ran in
       let why : WhyOf Tree = Split_why st.chain x.value.term x.value.whys in
       let ran = ran_same th G blocks st (o ∷ rest) st.queue st.chain x.value.budget h.ran in
-      reduced_good (record st { budget = x.value.budget }) o rest why y ran h.fine_rest
-      (sides g, record { left = h.left; right = h.right }, case_list (sort_of x.value.term) s.constants,
-      cases_listed th (sort_of x.value.term) s.constants s.listed, refl, s.each)
+      reduced_good (record st { budget = x.value.budget }) o rest why y ran h.fine_rest (
+        sides g,
+        record { left = h.left; right = h.right },
+        case_list (sort_of x.value.term) s.constants,
+        cases_listed th (sort_of x.value.term) s.constants s.listed,
+        refl,
+        s.each,
+      )
       (eight split.0 st.chain x.value.term x.value.whys split.1 s.fits)
       (all_append (Fine th most) (chain_terms st.chain) (x.value.term ∷ whys_terms x.value.whys) (chain_fine th most st.chain h.links)
       (fine_more th (bound st) most x.value.term small s.term, whys_fine th (bound st) most small x.value.whys s.terms)) x.last
@@ -273,7 +281,7 @@ module _ (th : Theory) (wf : IsWellFormed th) (G : List Place) (l : Limits) (blo
   pass_good : (st : Standing) (o g : Goal) (rest : List Goal) (y : Standing) → Held th G blocks st o g rest → pass_turn th G l st g rest ≡ Ok y → Good y
   pass_good st o g rest y h e =
       let x : Through (or_end l st (swept_sides th G st.earlier g.left g.right st.budget))
-          (λ n. if has_links n.chain then Ok (with_sides st rest n) else open_turn th l st g rest) y = through _ _ y e in
+      (λ n. if has_links n.chain then Ok (with_sides st rest n) else open_turn th l st g rest) y = through _ _ y e in
       go x.value (swept_sides_led st o g rest st.budget x.value h (if_ended l st _ x.value x.first)) (has_links x.value.chain) x.last
     where
       go : (n : Sides) → SidesLed (around st.hypotheses) (bound st) g.left g.right st.budget n → (v : Bool)
@@ -290,7 +298,7 @@ module _ (th : Theory) (wf : IsWellFormed th) (G : List Place) (l : Limits) (blo
       let c : ChainOf Tree = chained st.chain (chain_with (map use_link us) []) in
       let x : Through (or_end l st (put_all g.left us)) (λ u. reduced th l st rest (Same_why c)) y = through _ _ y e in
       let d = joined_leads th (bound st) G st.hypotheses h.ran.sorted g.left g.right [] us g.left x.value h.fine.left h.fine.left h.fine.right refl tt j
-          (if_ended l st _ x.value x.first) in
+      (if_ended l st _ x.value x.first) in
       let equal : x.value ≡ g.right = same_Some x.value g.right (sym d.made) in
       let small = bound_small st (o ∷ rest) h.ran in
       let P : Tree → Type 0 = λ t. Runs (Leads (around st.hypotheses)) c.right o.right t in
@@ -298,11 +306,13 @@ module _ (th : Theory) (wf : IsWellFormed th) (G : List Place) (l : Limits) (blo
         all_append _ st.chain.left (map use_link us) h.links.0 (links_more th (bound st) most (map use_link us) small d.led.terms),
         all_append _ st.chain.right [] h.links.1 tt,
       ) in
-      reduced_good st o rest (Same_why c) y h.ran h.fine_rest
-      (x.value, record {
-        left = runs_append (Leads (around st.hypotheses)) st.chain.left (map use_link us) o.left g.left x.value h.left d.led.leads;
-        right = subst P (sym equal) (runs_append (Leads (around st.hypotheses)) st.chain.right [] o.right g.right g.right h.right refl);
-      }) tt (chain_fine th most c links) x.last
+      reduced_good st o rest (Same_why c) y h.ran h.fine_rest (
+        x.value,
+        record {
+          left = runs_append (Leads (around st.hypotheses)) st.chain.left (map use_link us) o.left g.left x.value h.left d.led.leads;
+          right = subst P (sym equal) (runs_append (Leads (around st.hypotheses)) st.chain.right [] o.right g.right g.right h.right refl);
+        },
+      ) tt (chain_fine th most c links) x.last
 
   -- ---- one goal, and the end of a block
 
@@ -310,9 +320,9 @@ module _ (th : Theory) (wf : IsWellFormed th) (G : List Place) (l : Limits) (blo
   goal_good st o g rest y h e =
       let R = block_rules th st.earlier in
       let x : Through (or_end l st (normal_sides th R [] g.left g.right st.budget))
-          (λ n. sides_turn th G l (with_sides st rest n) (goal n.left n.right) rest) y = through _ _ y e in
+      (λ n. sides_turn th G l (with_sides st rest n) (goal n.left n.right) rest) y = through _ _ y e in
       let s = normal_sides_led th wf (bound st) (omega arith) G st.hypotheses R (rules_here st (o ∷ rest) h.ran) [] tt g.left g.right st.budget x.value
-          h.fine.left h.fine.right (if_ended l st _ x.value x.first) in
+      h.fine.left h.fine.right (if_ended l st _ x.value x.first) in
       join_good (with_sides st rest x.value) o (goal x.value.left x.value.right) rest y (sides_held st o g rest st.budget x.value h s)
       (joined G st.hypotheses [] x.value.left x.value.right) refl x.last
 
@@ -354,6 +364,7 @@ module _ (th : Theory) (wf : IsWellFormed th) (G : List Place) (l : Limits) (blo
         counted = omega (arith, count);
         small = h.small;
         few = h.few;
+        taken = omega arith;
         finished_terms = h.terms;
         goals = h.later_goals.0;
         later = h.later_goals.1;
