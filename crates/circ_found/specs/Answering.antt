@@ -11,7 +11,9 @@ use Rattle.circ_rules.specs.Rules.{ProofStep, Derive}
 use Rattle.circ_proof_text.specs.ProofText.{proof_text}
 use Rattle.circ_script.specs.Script.{Script}
 use Rattle.circ_show.specs.GoalsText.{plain_goal, pair_lines, goal_lines}
-use Rattle.circ_search.specs.Found.{Limits, PlainSearch, Found, Proved, LongTable, Stuck, Spent, TooBig, TooDeep}
+use Rattle.circ_plain_search.specs.Numbering.{Found, Proved, LongTable, Stuck, Spent, TooBig, TooDeep}
+use Rattle.circ_plain_search.specs.PlainSearch.{PlainSearch}
+use Rattle.circ_plain_search.specs.Search.{Limits}
 use Rattle.circ_files.specs.Texts.{too_long_text, spent_text, too_big_text, too_deep_text}
 use Rattle.circ_files.specs.declared.status.Status.TheVariants as status
 use Rattle.circ_found.specs.Ending.{stored_as, Ending, ending}

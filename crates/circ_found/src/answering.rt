@@ -1,16 +1,15 @@
-//! The search for a proof of a script's goals, and what is answered.
-ghost use Rattle.std.specs.Prelude.{◌≡◌, None, IfOk};
+//! The search for a proof of goals, and what is answered.
+ghost use Rattle.std.specs.Prelude.{◌≡◌, None, map, IfOk};
 ghost use Rattle.circ_rules.specs.Plain.{plain_proof};
 ghost use Rattle.circ_rules.specs.Proof.{Proof as PlainProof, ProofFor};
-ghost use Rattle.circ_script.specs.Script.{plain_script};
-ghost use Rattle.circ_script.specs.Fit.{IsFit, IsScriptFor};
-ghost use Rattle.circ_script.specs.declared.job.Job.TheVariants.{Prove};
-ghost use Rattle.circ_search.specs.Found.{Proved, plain_found, plain_limits};
+ghost use Rattle.circ_plain_search.specs.Numbering.{Proved};
+ghost use Rattle.circ_plain_search.specs.PlainSearch.{AreSearchable};
+ghost use Rattle.circ_search.specs.Plain.{plain_found, plain_limits};
 ghost use Rattle.circ_files.specs.Texts.{too_long_text, spent_text};
 ghost use Rattle.circ_files.specs.Texts.{too_big_text, too_deep_text};
 ghost use Rattle.circ_files.specs.declared.status.Status.TheVariants as status;
 ghost use Rattle.circ_found.specs.Ending.{ending, plain_ending};
-ghost use Rattle.circ_found.specs.Answering.{SearchEnds, blocks_of, found_ending, proof_ending};
+ghost use Rattle.circ_found.specs.Answering.{SearchEnds, found_ending, proof_ending};
 
 use crate::ending::{Ending, Stored};
 use crate::texts::{proved_text, stuck_text};
@@ -18,27 +17,27 @@ use circ_file::encode;
 use circ_file::laws::texts_decode;
 use circ_files::{MOST_BYTES, Status, push_counted, push_spent};
 use circ_rules::Proof;
-use circ_search::{Found, Limits, proved_is_accepted, prove};
-use circ_theory::{Script, Theory};
+use circ_plain_search::laws::proved_is_accepted;
+use circ_search::{Found, Limits, prove};
+use circ_theory::{Goal, Theory};
 use std::alloc::{AllocError, Global};
 
-/// How the search for a proof of a script's goals ends. The proof's text is to be stored under this
-/// name.
+/// How the search for a proof of these blocks of goals ends. The proof's text is to be stored under
+/// this name.
 pub fn search<'a>(
     alloc: Global,
     theory: &Theory,
-    script: &Script,
+    blocks: &[Vec<Goal>],
     limits: &Limits,
     name: &'a str,
 ) -> Result<Ending<'a>, AllocError>
-    requires fit { IsFit theory.now.signature (plain_script script.now) }
-    requires goals { IsScriptFor Prove (plain_script script.now) }
+    requires { AreSearchable theory.now (map (λ b. b.items) blocks.now) }
     ensures { IfOk result (λ e. SearchEnds theory.now (plain_limits limits.now) name.now
-        (blocks_of (plain_script script.now)) (plain_ending e)) }
+        (map (λ b. b.items) blocks.now) (plain_ending e)) }
 {
     theory.known();
     proved_is_accepted();
-    let found = prove(alloc, theory, script.blocks.as_slice(), limits)?;
+    let found = prove(alloc, theory, blocks, limits)?;
     found_ending(alloc, theory, &found, name)
 }
 

@@ -5,7 +5,9 @@
 mod answering;
 mod counts;
 mod ending;
+mod script_goals;
 mod texts;
 
 pub use answering::search;
 pub use ending::{Ending, Stored};
+pub use script_goals::searchable;

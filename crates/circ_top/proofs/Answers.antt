@@ -7,7 +7,9 @@ use Rattle.circ_theory.specs.declared.parts.Goal.{Goal}
 use Rattle.circ_theory.specs.WellFormed.{IsWellFormed}
 use Rattle.circ_rules.specs.Proof.{Proof, ProofFor}
 use Rattle.circ_rules.specs.Accepted.{Accepted, Derives, FirstFail}
-use Rattle.circ_search.specs.Found.{PlainSearch, Proved, Limits as SearchLimits}
+use Rattle.circ_plain_search.specs.Numbering.{Proved}
+use Rattle.circ_plain_search.specs.PlainSearch.{PlainSearch, AreSearchable, IsProofOf}
+use Rattle.circ_plain_search.specs.Search.{Limits as SearchLimits}
 use Rattle.circ_top.specs.Answer.{Succeeds, Comes, RefusesCommand, DueAnswer, no_command, work_done, refusal, words_unread, AnswersDue, Succeeded}
 use Rattle.circ_top.specs.Causes.{AtFile, HasLongProof, IsPastLimit, IsReadFault, IsUnwritten, FailsToPut, IsWriteFault, IsQuietRun}
 use Rattle.circ_top.specs.Check.{report_text, refused, accepted, Accepts, Rejects, FilesRead}
@@ -127,8 +129,8 @@ module _ (before : ShelfState) where
 
 -- what a search proves fits the theory, is accepted, and has exactly the given goals
 abbrev pub ProofsFound : Type 0
-ProofsFound = (th : Theory) (blocks : List (List Goal)) (limits : SearchLimits) (p : Proof) → IsWellFormed th → PlainSearch th blocks limits (Proved p)
-    → ProofFor th p × Accepted th p × (map (λ b. b.goals) p.blocks ≡ blocks)
+ProofsFound = (th : Theory) → IsWellFormed th → (blocks : List (List Goal)) → AreSearchable th blocks → (limits : SearchLimits) (p : Proof)
+    → PlainSearch th blocks limits (Proved p) → IsProofOf th blocks p
 
 -- the command that stores, where something is stored
 pub record StoredBy (words : List (List ℕ)) (x : Stored) : Type 0 where
@@ -186,7 +188,7 @@ module _ (words : List (List ℕ)) (before after : ShelfState) (start end : Sink
       let P : Command → Type 0 = λ c. Succeeds c s.text s.stored before in
       let a = subst P (same_command words s.command (Prove limits theory script proof) s.asks i) s.succeeds in
       let ok = search_ok a.th (search_limits limits) proof (blocks_of a.sc) s.text s.stored a.ends in
-      let says = found a.th (blocks_of a.sc) (search_limits limits) ok.p a.takes_theory.well_formed ok.search in
+      let says = found a.th a.takes_theory.well_formed (blocks_of a.sc) a.searchable (search_limits limits) ok.p ok.search in
       let H : Option Stored → Type 0 = λ x. HoldsAfter x before after in
       let T : List ℕ → Type 0 = λ x. Prints x start end in
       let held = subst H ok.stored_is s.held in
@@ -196,9 +198,9 @@ module _ (words : List (List ℕ)) (before after : ShelfState) (start end : Sink
         p = ok.p;
         takes_theory = a.takes_theory;
         takes_script = a.takes_script;
-        proof_for = says.0;
-        accepted = says.1;
-        goals = says.2;
+        proof_for = says.fits;
+        accepted = says.accepted;
+        goals = says.goals;
         short = ok.short;
         holds = held.0;
         others = held.1;

@@ -17,7 +17,9 @@ use Rattle.circ_top.specs.Check.{report_text, no_theory, no_proof, refused, acce
 use Rattle.circ_top.specs.Command.{Command, Check, Prove, Show, Reduce, Library, Asks}
 use Rattle.circ_files.specs.Files.{Held, Refusal, RefusesFile, Holds}
 use Rattle.circ_top.specs.InMemory.{HoldsFilesOf, HoldsFiles}
-use Rattle.circ_search.specs.Found.{Limits as SearchLimits, Found, PlainSearch}
+use Rattle.circ_plain_search.specs.Numbering.{Found}
+use Rattle.circ_plain_search.specs.PlainSearch.{PlainSearch}
+use Rattle.circ_plain_search.specs.Search.{Limits as SearchLimits}
 use Rattle.circ_found.specs.Ending.{Stored, Ending}
 use Rattle.circ_found.specs.Answering.{blocks_of, found_ending}
 use Rattle.circ_top.specs.Outcome.{Outcome, usage, command}

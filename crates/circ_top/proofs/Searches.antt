@@ -6,7 +6,9 @@ use Rattle.circ_theory.specs.Theory.{Theory}
 use Rattle.circ_theory.specs.declared.parts.Goal.{Goal}
 use Rattle.circ_rules.specs.Proof.{Proof}
 use Rattle.circ_proof_text.specs.ProofText.{proof_text}
-use Rattle.circ_search.specs.Found.{Limits, PlainSearch, Found, Proved, LongTable, Stuck, Spent, TooBig, TooDeep}
+use Rattle.circ_plain_search.specs.Numbering.{Found, Proved, LongTable, Stuck, Spent, TooBig, TooDeep}
+use Rattle.circ_plain_search.specs.PlainSearch.{PlainSearch}
+use Rattle.circ_plain_search.specs.Search.{Limits}
 use Rattle.circ_files.specs.Texts.{too_long_text}
 use Rattle.circ_files.specs.declared.status.Status.{Status}
 use Rattle.circ_files.specs.declared.status.Status.TheVariants as status

@@ -8,7 +8,8 @@ use Rattle.circ_rules.specs.Proof.{Proof, ProofFor}
 use Rattle.circ_proof_text.specs.ProofText.{proof_text}
 use Rattle.circ_script.specs.Script.{Script}
 use Rattle.circ_script.specs.declared.job.Job.TheVariants as job
-use Rattle.circ_search.specs.Found.{Limits}
+use Rattle.circ_plain_search.specs.PlainSearch.{AreSearchable}
+use Rattle.circ_plain_search.specs.Search.{Limits}
 use Rattle.circ_files.specs.Files.{Held, RefusesFile}
 use Rattle.circ_files.specs.ScriptFile.{ReadsScript, TakesScript, ScriptRefusal, IsScriptFault}
 use Rattle.circ_files.specs.TheoryFile.{ReadsTheory, TakesTheory, TheoryRefusal, IsTheoryFault}
@@ -34,10 +35,11 @@ pub data ProveOutcome (held : Held) (limits : Budgets) (theory script name : Lis
       → ReadsScript held script th job.Prove sc → SearchEnds th (search_limits limits) name (blocks_of sc) (ending s text stored)
       → ProveOutcome held limits theory script name s text stored
 
--- The two files read, and the search ends so.
+-- The two files read, the script's goals can be searched, and the search ends so.
 pub record IsSearched (limits : Budgets) (theory script name : List ℕ) (e : Ending) (before : ShelfState) : Type 0 where
   pub th : Theory
   pub sc : Script
+  pub searchable : AreSearchable th (blocks_of sc)
   pub ends : SearchEnds th (search_limits limits) name (blocks_of sc) e
   pub takes_theory : TakesTheory theory th before
   pub takes_script : TakesScript script th job.Prove sc before

@@ -14,10 +14,10 @@ ghost use Rattle.circ_top.specs.InMemory.{HoldsFiles};
 ghost use Rattle.circ_top.specs.PlainWords.{IsPlainWord, usual_limits};
 ghost use Rattle.circ_files.specs.declared.files.TheConstants.{MOST_BYTES, PIECE};
 
+use circ_plain_search::laws::some_answer;
 use circ_proof_text::laws::nothing_left_out as nothing_left_out_of_texts;
 use circ_read::laws::read_or_refused;
 use circ_script::laws::read_or_refused as scripts_read_or_refused;
-use circ_search::some_answer;
 use circ_soundness::nothing_left_out as nothing_left_out_of_proofs;
 
 /// The limits in numbers: bytes of a file and of a piece, nodes, levels and arguments of a term,

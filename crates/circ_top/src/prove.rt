@@ -7,7 +7,7 @@ ghost use Rattle.circ_top.specs.Prove.{IsSearched, RefusesProve};
 
 use crate::words::Limits;
 use circ_files::{Status, take_script, take_theory};
-use circ_found::{Ending, search};
+use circ_found::{Ending, search, searchable};
 use circ_outer::Shelf;
 use circ_script::Job;
 use circ_script::laws::scripts_are_fit;
@@ -44,7 +44,8 @@ pub(crate) fn prove<'a, S: Shelf>(
         steps: limits.steps,
         derives: limits.derives,
     };
-    match search(alloc, &theory, &script, &limits, name) {
+    searchable(&theory, &script);
+    match search(alloc, &theory, script.blocks.as_slice(), &limits, name) {
         Ok(ending) => Ok(ending),
         Err(_) => Err(Status::Memory),
     }

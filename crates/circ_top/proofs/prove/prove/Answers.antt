@@ -1,3 +1,4 @@
+use Rattle.std.proofs.Common.{sym}
 use Rattle.circ_script.specs.Script.{plain_script}
 use Rattle.circ_script.specs.declared.job.Job.TheVariants as job
 use Rattle.circ_files.specs.ScriptFile.{ScriptRefusal}
@@ -16,14 +17,14 @@ returns-in-Err-take_script-clause-refused g c =
     (quiet_fault 2 c.args.script.now (ScriptRefusal c.in-Ok.theory job.Prove) _ _ _ c.in-Err-take_script.status
     c.in-Ok.ensures.frame c.in-Ok.ensures.quiet c.in-Err-take_script.ensures.fault)
 
-pub search-requires-clause-fit : goal.search-requires-clause-fit
-search-requires-clause-fit g c =
+pub searchable-requires-clause-fit : goal.searchable-requires-clause-fit
+searchable-requires-clause-fit g c =
     let read = c.in-Ok-take_script.ensures.takes.bytes in
     rw c.in-Ok-take_script.ensures.kept
     (c.scripts_are_fit.ensures.fit c.in-Ok.theory job.Prove read.bytes (plain_script c.in-Ok-take_script.script) c.in-Ok.ensures.takes.well_formed read.are)
 
-pub search-requires-clause-goals : goal.search-requires-clause-goals
-search-requires-clause-goals g c =
+pub searchable-requires-clause-goals : goal.searchable-requires-clause-goals
+searchable-requires-clause-goals g c =
     let read = c.in-Ok-take_script.ensures.takes.bytes in
     c.scripts_are_fit.ensures.is_for c.in-Ok.theory job.Prove read.bytes (plain_script c.in-Ok-take_script.script) read.are
 
@@ -34,10 +35,14 @@ returns-in-Ok-search-clause-searched g c =
     record {
       th = th;
       sc = sc;
-      ends = rw c.in-Ok-take_script.ensures.kept at c.in-Ok-search.ensures;
+      searchable = rw c.in-Ok-take_script.ensures.kept at c.searchable.ensures.searchable;
+      ends = rw (c.as_slice.ensures.value, sym c.searchable.ensures.same, c.in-Ok-take_script.ensures.kept) at c.in-Ok-search.ensures;
       takes_theory = c.in-Ok.ensures.takes;
       takes_script = script_before c.args.script.now th job.Prove sc _ _ c.in-Ok.ensures.frame c.in-Ok-take_script.ensures.takes;
     }
 
 pub returns-clause-refused : goal.returns-clause-refused
 returns-clause-refused g c = theory_fault status.Memory tt
+
+pub search-requires : goal.search-requires
+search-requires g c = rw (c.as_slice.ensures.value, sym c.searchable.ensures.same) c.searchable.ensures.searchable
