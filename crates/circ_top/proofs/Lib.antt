@@ -18,6 +18,7 @@ pub mod ProveOutcomes
 pub mod Outcomes
 pub mod Answers
 pub mod Concluding
+pub mod StoredProofs
 pub mod NoFaults
 pub mod TheoryTexts
 pub mod LeftOut
