@@ -11,3 +11,4 @@ mod texts;
 pub use answering::search;
 pub use ending::{Ending, Stored};
 pub use script_goals::searchable;
+pub use texts::push_counts;

@@ -4,6 +4,7 @@ ghost use Rattle.circ_rules.specs.Plain.{plain_block, plain_proof};
 ghost use Rattle.circ_rules.specs.Proof.{steps_in};
 ghost use Rattle.circ_show.specs.GoalsText.{plain_goal, pair_line, pair_lines};
 ghost use Rattle.circ_found.specs.Answering.{all_goal_lines, counts_text, proved_text};
+ghost use Rattle.circ_found.specs.Answering.{derives_in};
 ghost use Rattle.circ_found.specs.Answering.{side_line, stuck_text};
 
 use crate::counts::{derives_in, steps_in};
@@ -28,7 +29,7 @@ pub(crate) fn proved_text(
     let blocks = proof.blocks.as_slice();
     let mut out = Vec::from_slice(alloc, b"proved\n")?;
     put_blocks(alloc, theory, blocks, &mut out)?;
-    push_counts(&mut out, steps_in(blocks), derives_in(blocks))?;
+    push_counts(&mut out, blocks)?;
     Ok(out)
 }
 
@@ -48,8 +49,17 @@ fn put_blocks(
     Ok(())
 }
 
+/// Appends how many steps and Derive steps the blocks have.
+pub fn push_counts(out: &mut Vec<u8>, blocks: &[Block]) -> Result<(), AllocError>
+    requires few { steps_in (map plain_block blocks.now) ≤ 100000 }
+    ensures { OnOk result (out.new.items ≡ out.old.items ++ counts_text
+        (steps_in (map plain_block blocks.now)) (derives_in (map plain_block blocks.now))) }
+{
+    push_both(out, steps_in(blocks), derives_in(blocks))
+}
+
 #[tactic(auto, using(crate::proofs::Rules::joins))]
-fn push_counts(out: &mut Vec<u8>, steps: u64, derives: u64) -> Result<(), AllocError>
+fn push_both(out: &mut Vec<u8>, steps: u64, derives: u64) -> Result<(), AllocError>
     ensures { OnOk result (out.new.items ≡ out.old.items ++ counts_text steps derives) }
 {
     push_numbered(out, b"steps: ", steps)?;
