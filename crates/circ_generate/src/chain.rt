@@ -8,7 +8,7 @@ use std::alloc::{AllocError, Global};
 
 /// The theory of a chain of the streams from 0 to n.
 pub(crate) fn chain_theory(alloc: Global, n: u64) -> Result<Vec<u8>, AllocError>
-    requires { n ≤ 1000 }
+    requires { n ≤ 65535 }
     ensures { IfOk result (λ v. v.items ≡ chain_theory n) }
 {
     let mut out = Vec::from_slice(alloc, b"theory CHAIN is\n  inc BITS .\n")?;
@@ -35,7 +35,7 @@ fn push_op(out: &mut Vec<u8>, i: u64) -> Result<(), AllocError>
 }
 
 fn push_all_eqs(out: &mut Vec<u8>, last: u64, n: u64) -> Result<(), AllocError>
-    requires { n ≤ 1001 }
+    requires { n ≤ 65536 }
     ensures { OnOk result (out.new.items ≡ out.old.items ++ each_below (eqs_text last) n) }
 {
     for i in 0..n {
@@ -46,7 +46,7 @@ fn push_all_eqs(out: &mut Vec<u8>, last: u64, n: u64) -> Result<(), AllocError>
 
 #[tactic(auto, using(crate::proofs::Rules::joins))]
 fn push_eqs(out: &mut Vec<u8>, last: u64, i: u64) -> Result<(), AllocError>
-    requires { i ≤ 1000 }
+    requires { i ≤ 65535 }
     ensures { OnOk result (out.new.items ≡ out.old.items ++ eqs_text last i) }
 {
     push_numbered(out, b"  eq hd(c", i)?;
@@ -55,7 +55,7 @@ fn push_eqs(out: &mut Vec<u8>, last: u64, i: u64) -> Result<(), AllocError>
 }
 
 fn next_in(last: u64, i: u64) -> u64
-    requires { i ≤ 1000 }
+    requires { i ≤ 65535 }
     ensures { result ≡ next_in last i }
 {
     if i == last { 0 } else { i + 1 }
@@ -63,7 +63,7 @@ fn next_in(last: u64, i: u64) -> u64
 
 /// The script of the chain's goals.
 pub(crate) fn chain_script(alloc: Global, n: u64) -> Result<Vec<u8>, AllocError>
-    requires { n ≤ 1000 }
+    requires { n ≤ 65535 }
     ensures { IfOk result (λ v. v.items ≡ chain_script n) }
 {
     let mut out = Vec::new(alloc);
@@ -73,7 +73,7 @@ pub(crate) fn chain_script(alloc: Global, n: u64) -> Result<Vec<u8>, AllocError>
 }
 
 fn push_goals(out: &mut Vec<u8>, n: u64) -> Result<(), AllocError>
-    requires { n ≤ 1000 }
+    requires { n ≤ 65535 }
     ensures { OnOk result (out.new.items ≡ out.old.items ++ each_below goal_text n) }
 {
     for i in 0..n {
@@ -84,7 +84,7 @@ fn push_goals(out: &mut Vec<u8>, n: u64) -> Result<(), AllocError>
 
 #[tactic(auto, using(crate::proofs::Rules::joins))]
 fn push_goal(out: &mut Vec<u8>, i: u64) -> Result<(), AllocError>
-    requires { i ≤ 1000 }
+    requires { i ≤ 65535 }
     ensures { OnOk result (out.new.items ≡ out.old.items ++ goal_text i) }
 {
     push_counted(out, b"add goal c", i, b" = ")?;

@@ -29,10 +29,10 @@ use circ_theory::{Script, Theory};
 use std::alloc::{AllocError, Global};
 
 /// What comes of the chain of the streams from 0 to this number.
-pub fn generate<'a>(alloc: Global, number: u64) -> Result<Ending<'a>, AllocError>
-    requires { number ≤ 1000 }
+pub fn generate<'a>(alloc: Global, number: u16) -> Result<Ending<'a>, AllocError>
     ensures { IfOk result (λ e. Generates number (plain_ending e)) }
 {
+    let number = u64::from(number);
     let text = chain_theory(alloc, number)?;
     match read_theory(alloc, text.as_slice()) {
         Ok(mut theory) => with_theory(alloc, number, &mut theory),
@@ -49,7 +49,7 @@ fn with_theory<'a>(
     number: u64,
     theory: &mut Theory,
 ) -> Result<Ending<'a>, AllocError>
-    requires most { number ≤ 1000 }
+    requires most { number ≤ 65535 }
     requires reads { ReadsAs (chain_theory number) theory.old }
     ensures { IfOk result (λ e. Generates number (plain_ending e)) }
 {

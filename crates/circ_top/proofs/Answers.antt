@@ -13,7 +13,7 @@ use Rattle.circ_plain_search.specs.Search.{Limits as SearchLimits}
 use Rattle.circ_top.specs.Answer.{Succeeds, Comes, RefusesCommand, DueAnswer, no_command, work_done, refusal, words_unread, AnswersDue, Succeeded}
 use Rattle.circ_top.specs.Causes.{AtFile, HasLongProof, IsPastLimit, IsReadFault, IsUnwritten, FailsToPut, IsWriteFault, IsQuietRun}
 use Rattle.circ_top.specs.Check.{report_text, refused, accepted, Accepts, Rejects, FilesRead}
-use Rattle.circ_top.specs.Command.{Command, Check, Prove, Show, Reduce, Library, Asks, IsNotStored, stored_name}
+use Rattle.circ_top.specs.Command.{Command, Check, Prove, Show, Contexts, Reduce, Library, Generate, Asks, IsNotStored, stored_name}
 use Rattle.circ_top.specs.Prove.{IsSearched, search_limits, StoresProof}
 use Rattle.circ_top.specs.Delivery.{Prints, Delivers, whole, write_failed, memory_wanted, text_wanted}
 use Rattle.circ_files.specs.Files.{Held, IsUnread, IsTooLong, IsFileFault}
@@ -32,6 +32,8 @@ use Rattle.circ_top.proofs.CheckOutcomes.{check_not_ok, check_refused, unread_ch
 use Rattle.circ_files.proofs.FileFaults.{file_fault_not_ok, file_fault_not_refused}
 use Rattle.circ_top.proofs.Outcomes.{due_is}
 use Rattle.circ_top.proofs.ProveOutcomes.{prove_not_ok, prove_not_refused, unread_prove, past_prove, unwritten_prove}
+use Rattle.circ_generate.specs.Generating.{Generates}
+use Rattle.circ_top.proofs.GenerateOutcomes.{generates_end}
 use Rattle.circ_top.proofs.Searches.{IsSearchEnd, search_end, search_name, search_ok}
 use Rattle.circ_top.proofs.ReduceOutcomes.{reduce_not_ok, reduce_not_refused, unread_reduce, past_reduce, unwritten_reduce}
 use Rattle.circ_top.proofs.Agreeing.{DueIs, outcome, nothing_read, no_memory_left}
@@ -42,10 +44,12 @@ module _ (before after : ShelfState) where
   command_not_ok (Check report theory proof) s r e = check_not_ok theory proof before after s r e
   command_not_ok (Prove limits theory script proof) s r e = prove_not_ok theory script before after s r e
   command_not_ok (Show theory) s r e = file_fault_not_ok 1 theory TheoryRefusal before after s e r
+  command_not_ok (Contexts budget theory) s r e = file_fault_not_ok 1 theory TheoryRefusal before after s e r
   command_not_ok (Reduce budget theory script) s r e = reduce_not_ok budget theory script before after s r e
   command_not_ok (Library text) s r e = let never : status.Memory ≡ status.Ok = sym r ∙ e in cc
+  command_not_ok (Generate k) s r e = let never : status.Memory ≡ status.Ok = sym r ∙ e in cc
 
-  command_not_refused : (theory : List ℕ) (s : Status) (n : ℕ) → RefusesCommand (Show theory) before after s → s ≡ status.Refused n → ⊥
+  command_not_refused : (theory : List ℕ) (s : Status) (n : ℕ) → IsFileFault 1 theory TheoryRefusal before after s → s ≡ status.Refused n → ⊥
   command_not_refused theory s n r e = file_fault_not_refused 1 theory TheoryRefusal before after s n e r
 
   unread_command : (c : Command) (s : Status) (n : ℕ) → RefusesCommand c before after s → s ≡ status.ReadFault n
@@ -53,23 +57,30 @@ module _ (before after : ShelfState) where
   unread_command (Check report theory proof) s n r e = unread_check theory proof before after s n r e
   unread_command (Prove limits theory script proof) s n r e = unread_prove theory script before after s n r e
   unread_command (Show theory) s n r e = let P : Status → Type 0 = IsFileFault 1 theory TheoryRefusal before after in subst P e r
+  unread_command (Contexts budget theory) s n r e = let P : Status → Type 0 = IsFileFault 1 theory TheoryRefusal before after in subst P e r
   unread_command (Reduce budget theory script) s n r e = unread_reduce budget theory script before after s n r e
   unread_command (Library text) s n r e = absurd (let never : status.Memory ≡ status.ReadFault n = sym r ∙ e in cc)
+  unread_command (Generate k) s n r e = absurd (let never : status.Memory ≡ status.ReadFault n = sym r ∙ e in cc)
 
   past_command : (c : Command) (s : Status) (file n : ℕ) → RefusesCommand c before after s → s ≡ status.TooLong file n
       → AtFile before c (λ f name. (f ≡ file) × IsTooLong name n before)
   past_command (Check report theory proof) s file n r e = past_check theory proof before after s file n r e
   past_command (Prove limits theory script proof) s file n r e = past_prove theory script before after s file n r e
   past_command (Show theory) s file n r e = let P : Status → Type 0 = IsFileFault 1 theory TheoryRefusal before after in let x = subst P e r in (sym x.0, x.1)
+  past_command (Contexts budget theory) s file n r e =
+      let P : Status → Type 0 = IsFileFault 1 theory TheoryRefusal before after in let x = subst P e r in (sym x.0, x.1)
   past_command (Reduce budget theory script) s file n r e = past_reduce budget theory script before after s file n r e
   past_command (Library text) s file n r e = absurd (let never : status.Memory ≡ status.TooLong file n = sym r ∙ e in cc)
+  past_command (Generate k) s file n r e = absurd (let never : status.Memory ≡ status.TooLong file n = sym r ∙ e in cc)
 
   unwritten_command : (c : Command) (s : Status) (n : ℕ) → RefusesCommand c before after s → s ≡ status.WriteFault n → ⊥
   unwritten_command (Check report theory proof) s n r e = unwritten_check theory proof before after s n r e
   unwritten_command (Prove limits theory script proof) s n r e = unwritten_prove theory script before after s n r e
   unwritten_command (Show theory) s n r e = let P : Status → Type 0 = IsFileFault 1 theory TheoryRefusal before after in subst P e r
+  unwritten_command (Contexts budget theory) s n r e = let P : Status → Type 0 = IsFileFault 1 theory TheoryRefusal before after in subst P e r
   unwritten_command (Reduce budget theory script) s n r e = unwritten_reduce budget theory script before after s n r e
   unwritten_command (Library text) s n r e = let never : status.Memory ≡ status.WriteFault n = sym r ∙ e in cc
+  unwritten_command (Generate k) s n r e = let never : status.Memory ≡ status.WriteFault n = sym r ∙ e in cc
 
 -- an answer with a success or a refusal at a step comes over a quiet shelf
 quiet_ok : (before after : ShelfState) (words : List (List ℕ)) (r : Status) → r ≡ status.Ok → IsQuietRun words before after r → IsQuiet before after
@@ -87,8 +98,10 @@ module _ (before : ShelfState) where
   work_end (Check report theory proof) s text stored a = ok_end s a.0
   work_end (Prove limits theory script proof) s text stored a = search_end a.th (search_limits limits) proof (blocks_of a.sc) s text stored a.ends
   work_end (Show theory) s text stored a = ok_end s a.0
+  work_end (Contexts budget theory) s text stored a = ok_end s a.0
   work_end (Reduce budget theory script) s text stored a = ok_end s a.0
   work_end (Library given) s text stored a = ok_end s a.0
+  work_end (Generate k) s text stored a = (generates_end k (ending s text stored) a).0
 
   not_work_end : (c : Command) (s r : Status) (text : List ℕ) (stored : Option Stored) → Comes c s text stored before → s ≡ r → (IsSearchEnd r → ⊥) → ⊥
   not_work_end c s r text stored a e not = not (subst IsSearchEnd e (work_end c s text stored a))
@@ -100,8 +113,10 @@ module _ (before : ShelfState) where
   work_succeeds (Prove limits theory script proof) s text stored a e =
       let P : Status → Type 0 = λ x. IsSearched limits theory script proof (ending x text stored) before in subst P e a
   work_succeeds (Show theory) s text stored a e = a.1
+  work_succeeds (Contexts budget theory) s text stored a e = a.1
   work_succeeds (Reduce budget theory script) s text stored a e = a.1
   work_succeeds (Library given) s text stored a e = a.1
+  work_succeeds (Generate k) s text stored a e = let P : Status → Type 0 = λ x. Generates k (ending x text stored) in subst P e a
 
   -- a text that is too long to be stored
   work_past : (c : Command) (s : Status) (text : List ℕ) (stored : Option Stored) (file n : ℕ) → Comes c s text stored before → s ≡ status.TooLong file n
@@ -110,8 +125,10 @@ module _ (before : ShelfState) where
   work_past (Prove limits theory script proof) s text stored file n a e =
       let P : Status → Type 0 = λ x. IsSearched limits theory script proof (ending x text stored) before in (text, stored, subst P e a)
   work_past (Show theory) s text stored file n a e = let never : status.Ok ≡ status.TooLong file n = sym a.0 ∙ e in cc
+  work_past (Contexts budget theory) s text stored file n a e = let never : status.Ok ≡ status.TooLong file n = sym a.0 ∙ e in cc
   work_past (Reduce budget theory script) s text stored file n a e = let never : status.Ok ≡ status.TooLong file n = sym a.0 ∙ e in cc
   work_past (Library given) s text stored file n a e = let never : status.Ok ≡ status.TooLong file n = sym a.0 ∙ e in cc
+  work_past (Generate k) s text stored file n a e = let P : Status → Type 0 = λ x. Generates k (ending x text stored) in (text, stored, subst P e a)
 
   nothing_stored : {A : Type 0} → (stored : Option Stored) (x : Stored) → stored ≡ None → stored ≡ Some x → A
   nothing_stored stored x n e = absurd (let never : None ≡ Some x = sym n ∙ e in cc)
@@ -124,8 +141,10 @@ module _ (before : ShelfState) where
       let P : Option Stored → Type 0 = λ y. SearchEnds a.th (search_limits limits) proof (blocks_of a.sc) (ending s text y) in
       ap Some (sym (search_name a.th (search_limits limits) proof (blocks_of a.sc) s text x (subst P e a.ends)))
   work_name (Show theory) s text stored x a e = nothing_stored stored x a.1.1 e
+  work_name (Contexts budget theory) s text stored x a e = nothing_stored stored x a.1.1 e
   work_name (Reduce budget theory script) s text stored x a e = nothing_stored stored x a.1.1 e
   work_name (Library given) s text stored x a e = nothing_stored stored x a.1.1 e
+  work_name (Generate k) s text stored x a e = nothing_stored stored x (generates_end k (ending s text stored) a).1 e
 
 -- what a search proves fits the theory, is accepted, and has exactly the given goals
 abbrev pub ProofsFound : Type 0
@@ -219,8 +238,10 @@ module _ (words : List (List ℕ)) (before after : ShelfState) (start end : Sink
           record { report = report; theory = theory; proof = proof; asks = i; refused = check_refused theory proof before after s n f e; quiet = q; prints = subst P e p }
       rejects (Prove limits theory script proof) s i f e p q = absurd (prove_not_refused theory script before after s n f e)
       rejects (Show theory) s i f e p q = absurd (command_not_refused before after theory s n f e)
+      rejects (Contexts budget theory) s i f e p q = absurd (command_not_refused before after theory s n f e)
       rejects (Reduce budget theory script) s i f e p q = absurd (reduce_not_refused budget theory script before after s n f e)
       rejects (Library text) s i f e p q = absurd (let never : status.Memory ≡ status.Refused n = sym f ∙ e in cc)
+      rejects (Generate k) s i f e p q = absurd (let never : status.Memory ≡ status.Refused n = sym f ∙ e in cc)
 
       go : (d : Status) (text : List ℕ) (stored : Option Stored) → DueAnswer words before after d text stored
           → (r : Status) → Delivers text start end d r → r ≡ status.Refused n → IsQuiet before after → Rejects words before after start end n

@@ -14,7 +14,7 @@ use Rattle.circ_script.specs.ReadsAsScript.{ReadsAsScript, ScriptOrCause}
 use Rattle.circ_script.specs.declared.job.Job.{Job}
 use Rattle.circ_script.specs.declared.job.Job.TheVariants as job
 use Rattle.circ_top.specs.Check.{report_text, no_theory, no_proof, refused, accepted}
-use Rattle.circ_top.specs.Command.{Command, Check, Prove, Show, Reduce, Library, Asks}
+use Rattle.circ_top.specs.Command.{Command, Check, Prove, Show, Contexts, Reduce, Library, Generate, Asks}
 use Rattle.circ_files.specs.Files.{Held, Refusal, RefusesFile, Holds}
 use Rattle.circ_top.specs.InMemory.{HoldsFilesOf, HoldsFiles}
 use Rattle.circ_plain_search.specs.Numbering.{Found}
@@ -28,6 +28,12 @@ use Rattle.circ_top.specs.Reduce.{Results, reduced, EndsWith, results_text, not_
 use Rattle.circ_top.specs.Reduce as reduce
 use Rattle.circ_top.specs.Prove.{search_limits, searched}
 use Rattle.circ_top.specs.Prove as prove
+use Rattle.circ_top.specs.Contexts.{not_listed, listed}
+use Rattle.circ_show.specs.PlacesText.{place_lines}
+use Rattle.circ_contexts.proofs.Existing.{some_set}
+use Rattle.circ_generate.specs.Chain.{chain_theory, chain_script}
+use Rattle.circ_generate.specs.Generating.{Generates, greatest_limits, chain_ending, unread_ending}
+use Rattle.circ_generate.specs.Generating as generating
 use Rattle.circ_files.specs.ScriptFile.{ScriptRefusal}
 use Rattle.circ_top.specs.Show.{not_shown, shown}
 use Rattle.circ_files.specs.Texts.{refused_text}
@@ -132,10 +138,31 @@ module _ (reads : (bytes : List ℕ) → ReadOrRefused bytes) (proofs : ProofsDe
       (λ s x. let text : List ℕ = refusal_text (Prove limits theory script proof) s in none_is s text None
       (command (Prove limits theory script proof) s text None i (prove.no_theory s x)))
 
+  no_contexts : (budget : ℕ) (theory : List ℕ) → Asks words (Contexts budget theory) → HoldsFilesOf held (Contexts budget theory) → ⊥
+  no_contexts budget theory i h = file_decides held 1 theory TheoryRefusal ReadsAs h reads
+      (λ th rt. some_set th budget (λ G tss g. let text : List ℕ = place_lines th.signature G in none_is status.Ok text None
+      (command (Contexts budget theory) status.Ok text None i
+      (listed th text rt (record { places = G; traces = tss; greatest = g; text_is = refl }), refl))))
+      (λ s x. let text : List ℕ = refusal_text (Contexts budget theory) s in none_is s text None
+      (command (Contexts budget theory) s text None i (not_listed s x, refl)))
+
+  ended : (n : ℕ) → Asks words (Generate n) → (e : Ending) → Generates n e → ⊥
+  ended n i e g = none_is e.status e.text e.stored (command (Generate n) e.status e.text e.stored i g)
+
+  no_generate : (n : ℕ) → Asks words (Generate n) → ⊥
+  no_generate n i = reads (chain_theory n)
+      (λ th rt. scripts th job.Prove (chain_script n)
+      (λ sc rs. searches th (blocks_of sc) greatest_limits
+      (λ f x. ended n i (chain_ending th.signature n f) (generating.searched (chain_ending th.signature n f) th sc f rt rs x refl)))
+      (λ place c f. ended n i (unread_ending 2 place c) (generating.no_script (unread_ending 2 place c) th place c rt f refl)))
+      (λ place c f. ended n i (unread_ending 1 place c) (generating.no_theory (unread_ending 1 place c) place c f refl))
+
   no_command_left : (c : Command) → Asks words c → HoldsFilesOf held c → ⊥
   no_command_left (Check report theory proof) i h = no_check report theory proof i h
   no_command_left (Prove limits theory script proof) i h = no_prove limits theory script proof i h
   no_command_left (Show theory) i h = no_show theory i h
+  no_command_left (Contexts budget theory) i h = no_contexts budget theory i h
+  no_command_left (Generate n) i h = no_generate n i
   no_command_left (Reduce budget theory script) i h = no_reduce budget theory script i h
   no_command_left (Library text) i h = none_is status.Ok text None (command (Library text) status.Ok text None i ((refl, refl), refl))
 

@@ -10,11 +10,13 @@ pub mod Refused
 pub mod Agreeing
 pub mod CheckOutcomes
 pub mod ShowOutcomes
+pub mod ContextsOutcomes
 pub mod Ends
 pub mod Reducing
 pub mod ReduceOutcomes
 pub mod Searches
 pub mod ProveOutcomes
+pub mod GenerateOutcomes
 pub mod Outcomes
 pub mod Answers
 pub mod Concluding

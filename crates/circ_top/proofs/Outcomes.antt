@@ -7,7 +7,7 @@ use Rattle.circ_top.specs.Check.{CheckOutcome}
 use Rattle.circ_top.specs.Reduce.{ReduceOutcome}
 use Rattle.circ_top.specs.Show.{ShowOutcome}
 use Rattle.circ_top.specs.Causes.{PrintsOutcome, IsOutcomeOrFault, PrintsPartOf, AnswersOutcome}
-use Rattle.circ_top.specs.Command.{Command, Check, Prove, Show, Reduce, Library, Asks}
+use Rattle.circ_top.specs.Command.{Command, Check, Prove, Show, Contexts, Reduce, Library, Generate, Asks}
 use Rattle.circ_top.specs.Delivery.{Delivers, whole, write_failed, memory_wanted, text_wanted}
 use Rattle.circ_files.specs.Like.{IsLike, itself}
 use Rattle.circ_found.specs.Ending.{Stored}
@@ -18,6 +18,10 @@ use Rattle.circ_files.specs.declared.status.Status.{Status}
 use Rattle.circ_files.specs.declared.status.Status.TheVariants as status
 use Rattle.circ_files.proofs.Readings.{ReadsOnce}
 use Rattle.circ_top.proofs.Agreeing.{DueIs, outcome, nothing_read, no_memory_left, Agrees, alike, AgreesWith, agreed, memory_with, stored_nothing, PrintsOnce, agree_answers, answers_part}
+use Rattle.circ_found.specs.Ending.{ending}
+use Rattle.circ_top.specs.Contexts.{ContextsOutcome}
+use Rattle.circ_top.proofs.ContextsOutcomes.{due_contexts, listed_outcome, contexts_agrees, listed_agrees}
+use Rattle.circ_top.proofs.GenerateOutcomes.{generates_alike}
 use Rattle.circ_top.proofs.ProveOutcomes.{due_prove, searched_outcome, prove_agrees, searched_agrees}
 use Rattle.circ_top.proofs.Searches.{SearchesOnce}
 use Rattle.circ_top.proofs.CheckOutcomes.{due_check, accepted_outcome, check_agrees, accepted_agrees}
@@ -33,9 +37,12 @@ due_refusal : (words : List (List ℕ)) (before after : ShelfState) (c : Command
 due_refusal words before after (Check report theory proof) s t i r = due_check words report theory proof before after s t i r
 due_refusal words before after (Prove limits theory script proof) s t i r = due_prove limits theory script proof before after words s t i r
 due_refusal words before after (Show theory) s t i r = due_show words theory before after s t i r
+due_refusal words before after (Contexts budget theory) s t i r = due_contexts words budget theory before after s t i r
 due_refusal words before after (Reduce budget theory script) s t i r = due_reduce budget theory script before after words s t i r
 due_refusal words before after (Library text) s t i r =
     let P : Status → Type 0 = λ x. DueIs words before after x (refusal_text (Library text) x) None in subst P (sym r) no_memory_left
+due_refusal words before after (Generate n) s t i r =
+    let P : Status → Type 0 = λ x. DueIs words before after x (refusal_text (Generate n) x) None in subst P (sym r) no_memory_left
 
 due_work : (c : Command) (s : Status) (text : List ℕ) (stored : Option Stored) (before : ShelfState) → before.tells ≡ true → Comes c s text stored before
     → OutcomeOf before.holds c s text stored
@@ -45,10 +52,14 @@ due_work (Check report theory proof) s text stored before t a =
 due_work (Prove limits theory script proof) s text stored before t a = searched_outcome limits theory script proof before before s text stored t a
 due_work (Show theory) s text stored before t a =
     let P : Status → Type 0 = λ x. ShowOutcome before.holds theory x text in (subst P (sym a.0) (shown_outcome theory text before t a.1.0), a.1.1)
+due_work (Contexts budget theory) s text stored before t a =
+    let P : Status → Type 0 = λ x. ContextsOutcome before.holds budget theory x text in
+    (subst P (sym a.0) (listed_outcome budget theory text before t a.1.0), a.1.1)
 due_work (Reduce budget theory script) s text stored before t a =
     let P : Status → Type 0 = λ x. ReduceOutcome before.holds budget theory script x text in
     (subst P (sym a.0) (reduced_outcome budget theory script before before text t a.1.0), a.1.1)
 due_work (Library given) s text stored before t a = ((a.0, a.1.0), a.1.1)
+due_work (Generate n) s text stored before t a = a
 
 pub due_is : (words : List (List ℕ)) (before after : ShelfState) (s : Status) (text : List ℕ) (stored : Option Stored) → before.tells ≡ true
     → DueAnswer words before after s text stored → DueIs words before after s text stored
@@ -70,11 +81,16 @@ module _ (once : ReadsOnce) (proofs : ProofsOnce) (scripts : ScriptsOnce) (searc
       prove_agrees once scripts searches limits theory script proof before after t r s text stored f c
   refusal_agrees (Show theory) s r text stored c f =
       stored_nothing before after s text stored r (refusal_text (Show theory) r) c.1 (show_agrees once theory before after t r s text f c.0)
+  refusal_agrees (Contexts budget theory) s r text stored c f =
+      stored_nothing before after s text stored r (refusal_text (Contexts budget theory) r) c.1
+      (contexts_agrees once budget theory before after t r s text f c.0)
   refusal_agrees (Reduce budget theory script) s r text stored c f =
       stored_nothing before after s text stored r (refusal_text (Reduce budget theory script) r) c.1
       (reduce_agrees once scripts budget theory script before after t r s text f c.0)
   refusal_agrees (Library given) s r text stored c f =
       let P : Status → Type 0 = λ x. AgreesWith before after s text stored x (refusal_text (Library given) x) None in subst P (sym f) memory_with
+  refusal_agrees (Generate n) s r text stored c f =
+      let P : Status → Type 0 = λ x. AgreesWith before after s text stored x (refusal_text (Generate n) x) None in subst P (sym f) memory_with
 
   -- work that ends with 0, of a command that stores nothing
   ok_agrees : (s r : Status) (text given : List ℕ) (stored other : Option Stored) → r ≡ status.Ok → other ≡ None → stored ≡ None
@@ -92,6 +108,8 @@ module _ (once : ReadsOnce) (proofs : ProofsOnce) (scripts : ScriptsOnce) (searc
       searched_agrees once scripts searches limits theory script proof before after t r given other a s text stored c
   work_agrees (Show theory) s r text given stored other c a =
       ok_agrees s r text given stored other a.0 a.1.1 c.1 (shown_agrees once theory before after t printed_once given a.1.0 s text c.0)
+  work_agrees (Contexts budget theory) s r text given stored other c a =
+      ok_agrees s r text given stored other a.0 a.1.1 c.1 (listed_agrees once budget theory before after t given a.1.0 s text c.0)
   work_agrees (Reduce budget theory script) s r text given stored other c a =
       ok_agrees s r text given stored other a.0 a.1.1 c.1 (reduced_agrees once scripts budget theory script before after t given a.1.0 s text c.0)
   work_agrees (Library words) s r text given stored other c a =
@@ -99,6 +117,9 @@ module _ (once : ReadsOnce) (proofs : ProofsOnce) (scripts : ScriptsOnce) (searc
       let Q : Status → Type 0 = λ x. Agrees before after x text status.Ok given in
       ok_agrees s r text given stored other a.0 a.1.1 c.1
       (subst Q (sym c.0.0) (alike status.Ok given (subst P (c.0.1 ∙ sym a.1.0) (itself status.Ok text))))
+
+  work_agrees (Generate n) s r text given stored other c a =
+      let same = generates_alike once scripts searches n (ending s text stored) (ending r given other) c a in agreed r given other same.0 (sym same.1)
 
   due_agrees : (s r : Status) (text given : List ℕ) (stored other : Option Stored) → Outcome words before.holds s text stored
       → DueAnswer words before after r given other

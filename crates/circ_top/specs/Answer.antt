@@ -2,8 +2,10 @@
 use Rattle.std.specs.Prelude.{◌≡◌, ℕ, List, [], Option, None}
 use Rattle.circ_outer.specs.Shelf.{ShelfState, IsQuiet}
 use Rattle.circ_outer.specs.Sink.{SinkState}
+use Rattle.circ_top.specs.Contexts.{IsListed}
+use Rattle.circ_generate.specs.Generating.{Generates}
 use Rattle.circ_top.specs.Check.{IsAccepted, RefusesCheck}
-use Rattle.circ_top.specs.Command.{Command, Check, Prove, Show, Reduce, Library, Asks, IsNoCommand}
+use Rattle.circ_top.specs.Command.{Command, Check, Prove, Show, Contexts, Reduce, Library, Generate, Asks, IsNoCommand}
 use Rattle.circ_top.specs.Delivery.{Prints}
 use Rattle.circ_found.specs.Ending.{ending}
 use Rattle.circ_top.specs.Library.{RefusesLibrary}
@@ -23,12 +25,15 @@ Succeeds (Check report theory proof) text stored before = IsAccepted report theo
 Succeeds (Prove limits theory script proof) text stored before =
     IsSearched limits theory script proof (ending status.Ok text stored) before
 Succeeds (Show theory) text stored before = IsShown theory text before × (stored ≡ None)
+Succeeds (Contexts budget theory) text stored before = IsListed budget theory text before × (stored ≡ None)
 Succeeds (Reduce budget theory script) text stored before = IsReduced budget theory script text before × (stored ≡ None)
 Succeeds (Library given) text stored before = (text ≡ given) × (stored ≡ None)
+Succeeds (Generate n) text stored before = Generates n (ending status.Ok text stored)
 
--- how a command's work ends; that of a search may end with other statuses too
+-- how a command's work ends; a search may end with other statuses too
 abbrev pub Comes : Command → Status → (text : List ℕ) → (stored : Option Stored) → (before : ShelfState) → Type 0
 Comes (Prove limits theory script proof) s text stored before = IsSearched limits theory script proof (ending s text stored) before
+Comes (Generate n) s text stored before = Generates n (ending s text stored)
 Comes c s text stored before = (s ≡ status.Ok) × Succeeds c text stored before
 
 -- why a command's work is refused
@@ -36,8 +41,10 @@ abbrev pub RefusesCommand : Command → (before after : ShelfState) → Status �
 RefusesCommand (Check report theory proof) before after s = RefusesCheck theory proof before after s
 RefusesCommand (Prove limits theory script proof) before after s = RefusesProve theory script before after s
 RefusesCommand (Show theory) before after s = IsTheoryFault theory before after s
+RefusesCommand (Contexts budget theory) before after s = IsTheoryFault theory before after s
 RefusesCommand (Reduce budget theory script) before after s = RefusesReduce budget theory script before after s
 RefusesCommand (Library given) before after s = RefusesLibrary s
+RefusesCommand (Generate n) before after s = s ≡ status.Memory
 
 -- The answer that is due to a run, with its text and what is to be stored: the words are no command, or the command's work ends so, or it is refused; or
 -- memory ran out before the words were read.

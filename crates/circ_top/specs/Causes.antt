@@ -4,11 +4,12 @@ use Rattle.circ_outer.specs.Count.{Rose}
 use Rattle.circ_outer.specs.Shelf.{ShelfState, Struck, PutFrame, IsQuiet}
 use Rattle.circ_outer.specs.Sink.{SinkState}
 use Rattle.circ_theory.specs.Theory.{Theory}
-use Rattle.circ_top.specs.Command.{Command, Check, Prove, Show, Reduce, Library, Asks, stored_name}
+use Rattle.circ_top.specs.Command.{Command, Check, Prove, Show, Contexts, Reduce, Library, Generate, Asks, stored_name}
 use Rattle.circ_top.specs.Delivery.{Prints, PrintsPart, PrintsFront}
 use Rattle.circ_files.specs.Files.{IsUnread, IsTooLong}
 use Rattle.circ_files.specs.Like.{IsLike}
 use Rattle.circ_found.specs.Ending.{ending}
+use Rattle.circ_generate.specs.Generating.{Generates}
 use Rattle.circ_top.specs.Outcome.{Outcome}
 use Rattle.circ_top.specs.Prove.{IsSearched}
 use Rattle.circ_found.specs.Ending.{Stored}
@@ -60,13 +61,16 @@ abbrev pub AtFile : ShelfState → Command → (ℕ → List ℕ → Type 0) →
 AtFile before (Check report theory proof) P = AtEither before theory proof P
 AtFile before (Prove limits theory script proof) P = AtEither before theory script P
 AtFile before (Show theory) P = P 1 theory
+AtFile before (Contexts budget theory) P = P 1 theory
 AtFile before (Reduce budget theory script) P = AtEither before theory script P
 AtFile before (Library text) P = ⊥
+AtFile before (Generate n) P = ⊥
 
 -- The text of a proof that was found is longer than a file may be.
 abbrev pub HasLongProof : ShelfState → Command → (file count : ℕ) → Type 0
 HasLongProof before (Prove limits theory script proof) file n =
     (text : List ℕ) × (stored : Option Stored) × IsSearched limits theory script proof (ending (status.TooLong file n) text stored) before
+HasLongProof before (Generate m) file n = (text : List ℕ) × (stored : Option Stored) × Generates m (ending (status.TooLong file n) text stored)
 HasLongProof before c file n = ⊥
 
 -- The words are those of a command, of which a file was taken past the limit, or the file that it stores would be past it.

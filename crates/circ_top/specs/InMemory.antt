@@ -2,7 +2,7 @@
 use Rattle.std.specs.Prelude.{◌≡◌, ◌++◌, ℕ, List, Option, IsSome}
 use Rattle.circ_outer.specs.Shelf.{ShelfState}
 use Rattle.circ_outer.specs.Sink.{SinkState}
-use Rattle.circ_top.specs.Command.{Command, Check, Prove, Show, Reduce, Library, Asks}
+use Rattle.circ_top.specs.Command.{Command, Check, Prove, Show, Contexts, Reduce, Library, Generate, Asks}
 use Rattle.circ_files.specs.Files.{Held}
 use Rattle.circ_files.specs.Like.{IsLike}
 use Rattle.circ_top.specs.Outcome.{Outcome}
@@ -16,8 +16,10 @@ abbrev pub HoldsFilesOf : Held → Command → Type 0
 HoldsFilesOf held (Check report theory proof) = IsSome (held theory) × IsSome (held proof)
 HoldsFilesOf held (Prove limits theory script proof) = IsSome (held theory) × IsSome (held script)
 HoldsFilesOf held (Show theory) = IsSome (held theory)
+HoldsFilesOf held (Contexts budget theory) = IsSome (held theory)
 HoldsFilesOf held (Reduce budget theory script) = IsSome (held theory) × IsSome (held script)
 HoldsFilesOf held (Library text) = Unit {0}
+HoldsFilesOf held (Generate n) = Unit {0}
 
 abbrev pub HoldsFiles : List (List ℕ) → Held → Type 0
 HoldsFiles words held = (c : Command) → Asks words c → HoldsFilesOf held c

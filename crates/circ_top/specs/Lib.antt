@@ -9,6 +9,7 @@ pub mod Incoming
 pub mod Storing
 pub mod Prove
 pub mod Show
+pub mod Contexts
 pub mod Library
 pub mod Reduce
 pub mod Outcome

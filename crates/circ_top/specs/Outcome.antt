@@ -1,7 +1,10 @@
 -- What a run of the program comes to, from its words and what the named files hold (`Outcome`).
 use Rattle.std.specs.Prelude.{◌≡◌, ℕ, List, Option, None}
+use Rattle.circ_found.specs.Ending.{ending}
+use Rattle.circ_generate.specs.Generating.{Generates}
+use Rattle.circ_top.specs.Contexts.{ContextsOutcome}
 use Rattle.circ_top.specs.Check.{CheckOutcome}
-use Rattle.circ_top.specs.Command.{Command, Check, Prove, Show, Reduce, Library, Asks, IsNoCommand}
+use Rattle.circ_top.specs.Command.{Command, Check, Prove, Show, Contexts, Reduce, Library, Generate, Asks, IsNoCommand}
 use Rattle.circ_files.specs.Files.{Held}
 use Rattle.circ_top.specs.Library.{LibraryOutcome}
 use Rattle.circ_top.specs.Prove.{ProveOutcome}
@@ -17,8 +20,10 @@ abbrev pub OutcomeOf : Held → Command → Status → (text : List ℕ) → (st
 OutcomeOf held (Check report theory proof) s text stored = CheckOutcome held report theory proof s text × (stored ≡ None)
 OutcomeOf held (Prove limits theory script proof) s text stored = ProveOutcome held limits theory script proof s text stored
 OutcomeOf held (Show theory) s text stored = ShowOutcome held theory s text × (stored ≡ None)
+OutcomeOf held (Contexts budget theory) s text stored = ContextsOutcome held budget theory s text × (stored ≡ None)
 OutcomeOf held (Reduce budget theory script) s text stored = ReduceOutcome held budget theory script s text × (stored ≡ None)
 OutcomeOf held (Library given) s text stored = LibraryOutcome given s text × (stored ≡ None)
+OutcomeOf held (Generate n) s text stored = Generates n (ending s text stored)
 
 -- What a run comes to where nothing of the outside fails and memory is left.
 pub data Outcome (words : List (List ℕ)) (held : Held) : Status → (text : List ℕ) → (stored : Option Stored) → Type 0 where

@@ -9,10 +9,11 @@ ghost use Rattle.circ_rules.specs.Proof.{Proof};
 ghost use Rattle.circ_rules.specs.Accepted.{Derives, FirstFail};
 ghost use Rattle.circ_top.specs.declared.request.Report.{Report};
 ghost use Rattle.circ_top.specs.declared.words.Limits.{Limits};
-ghost use Rattle.circ_top.specs.Command.{Check, Prove, Asks, IsNotStored, stored_name};
+ghost use Rattle.circ_top.specs.Command.{Check, Prove, Asks, IsNotStored, IsReport};
 ghost use Rattle.circ_top.specs.Command.{plain_request};
 ghost use Rattle.circ_files.specs.Texts.{refused_text};
-ghost use Rattle.circ_found.specs.Ending.{Stored as PlainStored, plain_stored};
+ghost use Rattle.circ_found.specs.Ending.{Stored as PlainStored, plain_stored, plain_ending};
+ghost use Rattle.circ_generate.specs.Generating.{Generates};
 ghost use Rattle.circ_top.specs.Refusals.{refusal_text};
 ghost use Rattle.circ_top.specs.Delivery.{Delivers};
 ghost use Rattle.circ_top.specs.Check.{report_text, Accepts, Rejects, FilesRead};
@@ -26,6 +27,7 @@ ghost use Rattle.circ_top.specs.Causes.{IsPastLimit, IsReadFault, IsWriteFault, 
 ghost use Rattle.circ_files.specs.Quiet.{IsQuietCall};
 
 use crate::check::check;
+use crate::contexts::contexts;
 use crate::library::library;
 use crate::prove::prove;
 use crate::reduce::reduce;
@@ -34,6 +36,7 @@ use crate::request::{Request, asked};
 use crate::show::show;
 use circ_files::Status;
 use circ_found::{Ending, Stored};
+use circ_generate::generate;
 use circ_outer::{OuterFault, Shelf, Sink, write_all};
 use circ_plain_search::laws::{one_answer as one_search, proved_is_accepted};
 use circ_proof_text::laws::one_answer;
@@ -45,7 +48,7 @@ use std::alloc::Global;
 
 /// The program: `words` are its name and then a command with what it takes, which is
 /// `check THEORY PROOF`, `relation THEORY PROOF`, `prove THEORY SCRIPT PROOF`, `show THEORY`,
-/// `reduce THEORY SCRIPT` or `library NAME`. The options `--steps N` and `--derives N` may stand
+/// `contexts THEORY`, `reduce THEORY SCRIPT`, `library NAME` or `generate NUMBER`. The options `--steps N` and `--derives N` may stand
 /// before, behind or between them. The files are taken from the shelf, to which `prove` stores the
 /// proof, and the text of the answer is written to the sink, whole.
 pub fn circ<S: Shelf, K: Sink>(
@@ -195,28 +198,39 @@ fn run<'a, S: Shelf>(
     ensures quiet { IsQuietCall (S.state shelf.old) (S.state shelf.new) result }
     ensures frame { ShelfFrame (S.state shelf.old) (S.state shelf.new) }
 {
-    if let Request::Prove {
-        limits,
-        theory,
-        script,
-        proof,
-    } = request
-    {
-        return prove(alloc, shelf, *limits, theory, script, proof);
-    }
-    match report(alloc, request, shelf) {
-        Ok(text) => Ok(Ending {
-            status: Status::Ok,
-            text,
-            stored: None,
-        }),
-        Err(status) => Err(status),
+    match request {
+        Request::Prove {
+            limits,
+            theory,
+            script,
+            proof,
+        } => prove(alloc, shelf, *limits, theory, script, proof),
+        Request::Generate { number } => generated(alloc, *number),
+        _ => match report(alloc, request, shelf) {
+            Ok(text) => Ok(Ending {
+                status: Status::Ok,
+                text,
+                stored: None,
+            }),
+            Err(status) => Err(status),
+        },
     }
 }
 
-/// The text of a command that stores nothing, or the answer in its place.
+/// What comes of a chain, or want of memory.
+fn generated<'a>(alloc: Global, number: u16) -> Result<Ending<'a>, Status>
+    ensures comes { IfOk result (λ e. Generates number (plain_ending e)) }
+    ensures memory { IfErr result (λ s. s ≡ Status.Memory) }
+{
+    match generate(alloc, number) {
+        Ok(ending) => Ok(ending),
+        Err(_) => Err(Status::Memory),
+    }
+}
+
+/// The text of a command that prints it alone, or the answer in its place.
 fn report<S: Shelf>(alloc: Global, request: &Request<'_>, shelf: &mut S) -> Result<Vec<u8>, Status>
-    requires { stored_name (plain_request request.now) ≡ None }
+    requires { IsReport (plain_request request.now) }
     ensures succeeds { IfOk result (λ v.
         Succeeds (plain_request request.now) v.items None (S.state shelf.old)) }
     ensures refuses { IfErr result
@@ -231,13 +245,14 @@ fn report<S: Shelf>(alloc: Global, request: &Request<'_>, shelf: &mut S) -> Resu
             proof,
         } => check(alloc, shelf, *report, theory, proof),
         Request::Show { theory } => show(alloc, shelf, theory),
+        Request::Contexts { budget, theory } => contexts(alloc, shelf, *budget, theory),
         Request::Reduce {
             budget,
             theory,
             script,
         } => reduce(alloc, shelf, *budget, theory, script),
         Request::Library { text } => library(alloc, text),
-        Request::Prove { .. } => unreachable!(),
+        _ => unreachable!(),
     }
 }
 

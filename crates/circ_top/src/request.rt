@@ -1,9 +1,9 @@
 //! What the words of a run ask for.
-ghost use Rattle.std.specs.Prelude.{◌≡◌, [], ◌∷◌, IfOk, MatchOption, map, string_bytes};
-ghost use Rattle.circ_top.specs.Command.{Asks, IsCommand, IsNoCommand, IsNoneOfTable};
+ghost use Rattle.std.specs.Prelude.{◌≡◌, ◌≤◌, ℕ, [], ◌∷◌, IfOk, MatchOption, map, string_bytes, decimal};
+ghost use Rattle.circ_top.specs.Command.{Generate, Asks, IsCommand, IsNoCommand, IsNoneOfTable};
 ghost use Rattle.circ_top.specs.Command.{report_name, IsNoReport, plain_request};
 
-use crate::words::{Limits, Words, found, is_word, matches};
+use crate::words::{Limits, Words, found, is_word, matches, number};
 use circ_lib::lookup;
 use std::alloc::{AllocError, Global};
 
@@ -37,11 +37,21 @@ pub enum Request<'a> {
     Show {
         theory: &'a str,
     },
+    /// The places of a theory file's greatest special set are printed, for which each start term has
+    /// so many replacements at most.
+    Contexts {
+        budget: u64,
+        theory: &'a str,
+    },
     /// The terms of a script file are reduced over a theory file, with so many replacements at most.
     Reduce {
         budget: u64,
         theory: &'a str,
         script: &'a str,
+    },
+    /// A chain of so many streams is made and proved.
+    Generate {
+        number: u16,
     },
     /// A text of the library is printed.
     Library {
@@ -87,6 +97,15 @@ fn of_one<'a>(words: &Words<'_, 'a>, word: &'a str) -> Option<Request<'a>>
     if is_word(words.name, b"show") {
         return Some(Request::Show { theory: word });
     }
+    if is_word(words.name, b"contexts") {
+        return Some(Request::Contexts {
+            budget: words.limits.steps,
+            theory: word,
+        });
+    }
+    if is_word(words.name, b"generate") {
+        return chain_of(word);
+    }
     if !is_word(words.name, b"library") {
         return None;
     }
@@ -94,6 +113,22 @@ fn of_one<'a>(words: &Words<'_, 'a>, word: &'a str) -> Option<Request<'a>>
         None => None,
         Some(text) => Some(Request::Library { text }),
     }
+}
+
+/// The chain of the number that a word writes.
+fn chain_of<'a>(word: &str) -> Option<Request<'a>>
+    ensures { MatchOption result
+        ((n : ℕ) → 2 ≤ n → n ≤ 1000 → word.now ≡ decimal n → ⊥)
+        (λ r. (n : ℕ) × (plain_request r ≡ Generate n) × (2 ≤ n) × (n ≤ 1000)
+        × (word.now ≡ decimal n)) }
+{
+    let number = number(word, 1_000)?;
+    if number < 2 {
+        return None;
+    }
+    Some(Request::Generate {
+        number: number as u16,
+    })
 }
 
 /// The request with two words.

@@ -25,30 +25,33 @@ returns-clause-outcome g c = answers_outcome _ _ _ _ _ c.answer.result (rw c.as_
 
 pub returns-clause-complete : goal.returns-clause-complete
 returns-clause-complete g c = λ t.
-    let once : ReadsOnce = reads_once c.read_in_one_way.ensures.either c.read_in_one_way.ensures.number c.read_in_one_way.ensures.cause in
+    let once : ReadsOnce = reads_once c.read_in_one_way.ensures.either c.read_in_one_way.ensures.number c.read_in_one_way.ensures.cause
+    c.read_in_one_way.ensures.theory in
     let proofs : ProofsOnce = proofs_come_once c.one_answer.ensures.not_both c.one_answer.ensures.cause c.one_verdict.ensures.not_both
     c.one_verdict.ensures.one_failure c.one_verdict.ensures.one_relation in
     let scripts : ScriptsOnce = scripts_once c.read_in_one_way-2.ensures.either c.read_in_one_way-2.ensures.number
-    c.read_in_one_way-2.ensures.cause in
+    c.read_in_one_way-2.ensures.cause c.read_in_one_way-2.ensures.script in
     answers_come once proofs scripts c.one_answer-2.ensures c.printed_in_one_way.ensures _ _ _ t _ _ c.answer.result (rw c.as_slice.ensures.value at c.answer.ensures.answers)
 
 pub returns-clause-first_failure : goal.returns-clause-first_failure
 returns-clause-first_failure g c = λ t report th p n f fail.
-    let once : ReadsOnce = reads_once c.read_in_one_way.ensures.either c.read_in_one_way.ensures.number c.read_in_one_way.ensures.cause in
+    let once : ReadsOnce = reads_once c.read_in_one_way.ensures.either c.read_in_one_way.ensures.number c.read_in_one_way.ensures.cause
+    c.read_in_one_way.ensures.theory in
     let proofs : ProofsOnce = proofs_come_once c.one_answer.ensures.not_both c.one_answer.ensures.cause c.one_verdict.ensures.not_both
     c.one_verdict.ensures.one_failure c.one_verdict.ensures.one_relation in
     let scripts : ScriptsOnce = scripts_once c.read_in_one_way-2.ensures.either c.read_in_one_way-2.ensures.number
-    c.read_in_one_way-2.ensures.cause in
+    c.read_in_one_way-2.ensures.cause c.read_in_one_way-2.ensures.script in
     answers_come once proofs scripts c.one_answer-2.ensures c.printed_in_one_way.ensures _ _ _ t _ _ c.answer.result (rw c.as_slice.ensures.value at c.answer.ensures.answers) _ _ _
     (read_outcome _ _ report th p n f fail)
 
 pub returns-clause-accepted_text : goal.returns-clause-accepted_text
 returns-clause-accepted_text g c = λ t report th p derived f d.
-    let once : ReadsOnce = reads_once c.read_in_one_way.ensures.either c.read_in_one_way.ensures.number c.read_in_one_way.ensures.cause in
+    let once : ReadsOnce = reads_once c.read_in_one_way.ensures.either c.read_in_one_way.ensures.number c.read_in_one_way.ensures.cause
+    c.read_in_one_way.ensures.theory in
     let proofs : ProofsOnce = proofs_come_once c.one_answer.ensures.not_both c.one_answer.ensures.cause c.one_verdict.ensures.not_both
     c.one_verdict.ensures.one_failure c.one_verdict.ensures.one_relation in
     let scripts : ScriptsOnce = scripts_once c.read_in_one_way-2.ensures.either c.read_in_one_way-2.ensures.number
-    c.read_in_one_way-2.ensures.cause in
+    c.read_in_one_way-2.ensures.cause c.read_in_one_way-2.ensures.script in
     answers_come once proofs scripts c.one_answer-2.ensures c.printed_in_one_way.ensures _ _ _ t _ _ c.answer.result (rw c.as_slice.ensures.value at c.answer.ensures.answers) _ _ _
     (accepted_read_outcome _ _ report th p derived f d)
 
@@ -63,11 +66,12 @@ returns-clause-write_fault g c = answers_write_fault _ _ _ _ _ c.answer.result (
 
 pub returns-clause-memory : goal.returns-clause-memory
 returns-clause-memory g c = λ e t.
-    let once : ReadsOnce = reads_once c.read_in_one_way.ensures.either c.read_in_one_way.ensures.number c.read_in_one_way.ensures.cause in
+    let once : ReadsOnce = reads_once c.read_in_one_way.ensures.either c.read_in_one_way.ensures.number c.read_in_one_way.ensures.cause
+    c.read_in_one_way.ensures.theory in
     let proofs : ProofsOnce = proofs_come_once c.one_answer.ensures.not_both c.one_answer.ensures.cause c.one_verdict.ensures.not_both
     c.one_verdict.ensures.one_failure c.one_verdict.ensures.one_relation in
     let scripts : ScriptsOnce = scripts_once c.read_in_one_way-2.ensures.either c.read_in_one_way-2.ensures.number
-    c.read_in_one_way-2.ensures.cause in
+    c.read_in_one_way-2.ensures.cause c.read_in_one_way-2.ensures.script in
     answers_memory once proofs scripts c.one_answer-2.ensures c.printed_in_one_way.ensures _ _ _ t _ _ c.answer.result (rw c.as_slice.ensures.value at c.answer.ensures.answers)
 
 pub returns-clause-holds : goal.returns-clause-holds
