@@ -14,6 +14,7 @@ use Rattle.circ_files.proofs.FileFaults.{IsOneWay}
 pub record ReadsOnce : Type 0 where
   pub either : (bytes : List ℕ) (th : Theory) (n : ℕ) (c : Cause) → ReadsAs bytes th → FirstCause bytes n c → ⊥
   pub alike : IsOneWay TheoryRefusal
+  pub theory : (bytes : List ℕ) (th u : Theory) → ReadsAs bytes th → ReadsAs bytes u → u ≡ th
 
 -- the causes of bytes that are no theory, as the reader's law has them
 pub like_causes : {A : Type 0} (c d : Cause) (x y : Result A Cause) → AreAlike x y → x ≡ Err c → y ≡ Err d → IsLikeCause c d
@@ -25,6 +26,7 @@ like_causes c d _ _ (ambiguous {s} {t} {u} {v}) a b =
 
 pub reads_once : ((bytes : List ℕ) (th : Theory) (n : ℕ) (c : Cause) → ReadsAs bytes th → FirstCause bytes n c → ⊥)
     → ((bytes : List ℕ) (n m : ℕ) (c d : Cause) → FirstCause bytes n c → FirstCause bytes m d → m ≡ n)
-    → ((bytes : List ℕ) (n m : ℕ) (c d : Cause) → FirstCause bytes n c → FirstCause bytes m d → AreAlike {A = Scope} (Err c) (Err d)) → ReadsOnce
-reads_once e n l =
-    record { either = e; alike = λ p q c d bytes a b. (sym (n bytes p q c d a b), like_causes c d (Err c) (Err d) (l bytes p q c d a b) refl refl) }
+    → ((bytes : List ℕ) (n m : ℕ) (c d : Cause) → FirstCause bytes n c → FirstCause bytes m d → AreAlike {A = Scope} (Err c) (Err d))
+    → ((bytes : List ℕ) (th u : Theory) → ReadsAs bytes th → ReadsAs bytes u → u ≡ th) → ReadsOnce
+reads_once e n l t =
+    record { either = e; theory = t; alike = λ p q c d bytes a b. (sym (n bytes p q c d a b), like_causes c d (Err c) (Err d) (l bytes p q c d a b) refl refl) }

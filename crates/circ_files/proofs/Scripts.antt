@@ -16,13 +16,16 @@ use Rattle.circ_files.proofs.FileFaults.{IsOneWay, moved}
 pub record ScriptsOnce : Type 0 where
   pub either : (th : Theory) (job : Job) (bytes : List ℕ) (s : Script) (n : ℕ) (c : Cause) → ReadsAsScript th job bytes s → FirstScriptCause th job bytes n c → ⊥
   pub alike : (th : Theory) (job : Job) → IsOneWay (ScriptRefusal th job)
+  pub script : (th : Theory) (job : Job) (bytes : List ℕ) (s t : Script) → ReadsAsScript th job bytes s → ReadsAsScript th job bytes t → t ≡ s
 
 pub scripts_once : ((th : Theory) (job : Job) (bytes : List ℕ) (s : Script) (n : ℕ) (c : Cause) → ReadsAsScript th job bytes s → FirstScriptCause th job bytes n c → ⊥)
     → ((th : Theory) (job : Job) (bytes : List ℕ) (n m : ℕ) (c d : Cause) → FirstScriptCause th job bytes n c → FirstScriptCause th job bytes m d → m ≡ n)
     → ((th : Theory) (job : Job) (bytes : List ℕ) (n m : ℕ) (c d : Cause) → FirstScriptCause th job bytes n c → FirstScriptCause th job bytes m d
-    → AreAlike {A = Script} (Err c) (Err d)) → ScriptsOnce
-scripts_once e n l = record {
+    → AreAlike {A = Script} (Err c) (Err d))
+    → ((th : Theory) (job : Job) (bytes : List ℕ) (s t : Script) → ReadsAsScript th job bytes s → ReadsAsScript th job bytes t → t ≡ s) → ScriptsOnce
+scripts_once e n l t = record {
   either = e;
+  script = t;
   alike = λ th job p q c d bytes a b. (sym (n th job bytes p q c d a b), like_causes c d (Err c) (Err d) (l th job bytes p q c d a b) refl refl);
 }
 

@@ -1,5 +1,5 @@
 -- How the answer that is due and the outcome agree.
-use Rattle.std.proofs.Common.{◌≡◌, ℕ, List, [], ◌∷◌, ◌++◌, refl, sym, subst, append-nil, true, Option, None, Result, Err}
+use Rattle.std.proofs.Common.{◌≡◌, ℕ, List, [], ◌∷◌, ◌++◌, refl, sym, subst, ◌∙◌, append-nil, true, Option, Some, None}
 use Rattle.circ_outer.specs.Count.{Rose}
 use Rattle.circ_outer.specs.Shelf.{ShelfState}
 use Rattle.circ_outer.specs.Sink.{SinkState}
@@ -10,12 +10,14 @@ use Rattle.circ_read.specs.ReadsAs.{ReadsAs, FirstCause}
 use Rattle.circ_show.specs.TheoryText.{IsTheoryText}
 use Rattle.circ_read.specs.declared.cause.Cause.{Cause}
 use Rattle.circ_read.specs.declared.cause.Cause.TheVariants as cause
-use Rattle.circ_top.specs.Causes.{PrintsPartOf, AnswersOutcome, printed, not_read, not_written, no_memory}
+use Rattle.circ_top.specs.Causes.{PrintsPartOf, AnswersOutcome, printed, not_read, not_written, not_put, no_memory}
 use Rattle.circ_top.specs.Command.{Command, Asks}
 use Rattle.circ_top.specs.Delivery.{Prints, PrintsPart, PrintsFront, Delivers, whole, write_failed, memory_wanted, text_wanted}
 use Rattle.circ_files.specs.Files.{Refusal, RefusesFile, IsFileFault}
 use Rattle.circ_files.specs.Like.{IsLikeCause, same_cause, other_readings, IsLike, itself}
-use Rattle.circ_top.specs.Outcome.{Stored, OutcomeOf, Outcome, command, HoldsAfter}
+use Rattle.circ_found.specs.Ending.{Stored}
+use Rattle.circ_top.specs.Outcome.{OutcomeOf, Outcome, command}
+use Rattle.circ_top.specs.Storing.{HoldsAfter, IsUnstored, FailsToStore, Ends, stored_first, not_stored}
 use Rattle.circ_top.specs.Refusals.{refusal_text}
 use Rattle.circ_files.specs.TheoryFile.{TheoryRefusal}
 use Rattle.circ_files.specs.declared.status.Status.{Status}
@@ -46,6 +48,19 @@ pub data Agrees (before after : ShelfState) (s : Status) (text : List ℕ) : Sta
   unread_file : (n : ℕ) → Rose before.count after.count → Agrees before after s text (status.ReadFault n) []
   memory : Agrees before after s text status.Memory []
 
+-- the same, with what is stored
+pub data AgreesWith (before after : ShelfState) (s : Status) (text : List ℕ) (stored : Option Stored) : Status → List ℕ → Option Stored → Type 0 where
+  agreed : (r : Status) (given : List ℕ) (other : Option Stored) → IsLike s text r given → other ≡ stored → AgreesWith before after s text stored r given other
+  unread_file_with : (n : ℕ) → Rose before.count after.count → AgreesWith before after s text stored (status.ReadFault n) [] None
+  memory_with : AgreesWith before after s text stored status.Memory [] None
+
+-- where nothing is stored
+pub stored_nothing : (before after : ShelfState) (s : Status) (text : List ℕ) (stored : Option Stored) (r : Status) (given : List ℕ) → stored ≡ None
+    → Agrees before after s text r given → AgreesWith before after s text stored r given None
+stored_nothing before after s text stored r given e (alike _ _ l) = agreed r given None l (sym e)
+stored_nothing before after s text stored _ _ e (unread_file n rose) = unread_file_with n rose
+stored_nothing before after s text stored _ _ e memory = memory_with
+
 -- theories are printed in one way
 abbrev pub PrintsOnce : Type 0
 PrintsOnce = (th : Theory) (text other : List ℕ) → IsTheoryText th text → IsTheoryText th other → text ≡ other
@@ -71,27 +86,63 @@ itself_part : (s : Status) (text : List ℕ) (start end : SinkState) → PrintsP
 itself_part s text start end p = record { answer = s; given = text; like = itself s text; part = p }
 
 module _ (before after : ShelfState) (start end : SinkState) (s : Status) (text : List ℕ) where
-  pub agree_answers : (stored : Option Stored) (d r : Status) (given : List ℕ) → HoldsAfter stored before after → Agrees before after s text d given
-      → Delivers given start end d r
-      → AnswersOutcome before after start end s text stored r
-  agree_answers stored d _ given h (alike _ _ l) (whole p) = printed d given l h p
-  agree_answers stored d _ given h (alike _ _ l) (write_failed n some c rose p) =
+  nothing_printed : Prints [] start end → PrintsPartOf s text start end
+  nothing_printed p = itself_part s text start end (nothing_part text start end (whole_part [] start end p))
+
+  front_printed : PrintsFront [] start end → PrintsPartOf s text start end
+  front_printed p = itself_part s text start end (nothing_part text start end (front_part [] start end p))
+
+  -- a like answer, by what becomes of its text
+  like_answers : (stored : Option Stored) (d r : Status) (given : List ℕ) → HoldsAfter stored before after → IsLike s text d given
+      → Delivers given start end d r → AnswersOutcome before after start end s text stored r
+  like_answers stored d _ given h l (whole p) = printed d given l h p
+  like_answers stored d _ given h l (write_failed n some c rose p) =
       not_written n rose h (record { answer = d; given = given; like = l; part = front_part given start end p })
-  agree_answers stored d _ given h (alike _ _ l) (memory_wanted q p) = no_memory (record { answer = d; given = given; like = l; part = front_part given start end p })
-  agree_answers stored d _ given h (alike _ _ l) (text_wanted p) =
+  like_answers stored d _ given h l (memory_wanted q p) = no_memory (record { answer = d; given = given; like = l; part = front_part given start end p })
+  like_answers stored d _ given h l (text_wanted p) =
       no_memory (record { answer = d; given = given; like = l; part = nothing_part given start end (whole_part [] start end p) })
-  agree_answers stored _ _ _ h (unread_file n rose) (whole p) = not_read n rose p
-  agree_answers stored _ _ _ h (unread_file n rose) (write_failed m some c up p) = absurd (some refl)
-  agree_answers stored _ _ _ h (unread_file n rose) (memory_wanted q p) = no_memory (itself_part s text start end (nothing_part text start end (front_part [] start end p)))
-  agree_answers stored _ _ _ h (unread_file n rose) (text_wanted p) = no_memory (itself_part s text start end (nothing_part text start end (whole_part [] start end p)))
-  agree_answers stored _ _ _ h memory (whole p) = no_memory (itself_part s text start end (nothing_part text start end (whole_part [] start end p)))
-  agree_answers stored _ _ _ h memory (write_failed m some c up p) = absurd (some refl)
-  agree_answers stored _ _ _ h memory (memory_wanted q p) = no_memory (itself_part s text start end (nothing_part text start end (front_part [] start end p)))
-  agree_answers stored _ _ _ h memory (text_wanted p) = no_memory (itself_part s text start end (nothing_part text start end (whole_part [] start end p)))
+
+  -- an answer without a text, of a file that was not read
+  unread_answers : (stored : Option Stored) (n : ℕ) (r : Status) → Rose before.count after.count → Delivers [] start end (status.ReadFault n) r
+      → AnswersOutcome before after start end s text stored r
+  unread_answers stored n _ rose (whole p) = not_read n rose p
+  unread_answers stored n _ rose (write_failed m some c up p) = absurd (some refl)
+  unread_answers stored n _ rose (memory_wanted q p) = no_memory (front_printed p)
+  unread_answers stored n _ rose (text_wanted p) = no_memory (nothing_printed p)
+
+  memory_answers : (stored : Option Stored) (r : Status) → Delivers [] start end status.Memory r → AnswersOutcome before after start end s text stored r
+  memory_answers stored _ (whole p) = no_memory (nothing_printed p)
+  memory_answers stored _ (write_failed m some c up p) = absurd (some refl)
+  memory_answers stored _ (memory_wanted q p) = no_memory (front_printed p)
+  memory_answers stored _ (text_wanted p) = no_memory (nothing_printed p)
+
+  -- what was to be stored was not
+  unstored_answers : (stored other : Option Stored) (r : Status) → other ≡ stored → FailsToStore other before after r → Prints [] start end
+      → AnswersOutcome before after start end s text stored r
+  unstored_answers stored other r e u p = go r u.why
+    where
+      go : (r : Status) → IsUnstored u.file.name before after r → AnswersOutcome before after start end s text stored r
+      go (status.WriteFault n) w = not_put n u.file (sym e ∙ u.is) w.0 w.1 u.others p
+      go status.Memory w = no_memory (nothing_printed p)
+      go _ w = absurd w
+
+  nothing_unstored : {A : Type 0} → (r : Status) → FailsToStore None before after r → A
+  nothing_unstored r u = absurd (let never : None ≡ Some u.file = u.is in cc)
+
+  pub agree_answers : (stored other : Option Stored) (d r : Status) (given : List ℕ) → AgreesWith before after s text stored d given other
+      → Ends before after start end d given other r → AnswersOutcome before after start end s text stored r
+  agree_answers stored other d r given (agreed _ _ _ l e) (stored_first _ h x) =
+      let H : Option Stored → Type 0 = λ y. HoldsAfter y before after in like_answers stored d r given (subst H e h) l x
+  agree_answers stored other d r given (agreed _ _ _ l e) (not_stored _ u p) = unstored_answers stored other r e u p
+  agree_answers stored _ _ r _ (unread_file_with n rose) (stored_first _ h x) = unread_answers stored n r rose x
+  agree_answers stored _ _ r _ (unread_file_with n rose) (not_stored _ u p) = nothing_unstored r u
+  agree_answers stored _ _ r _ memory_with (stored_first _ h x) = memory_answers stored r x
+  agree_answers stored _ _ r _ memory_with (not_stored _ u p) = nothing_unstored r u
 
   -- whatever is answered, a part of a like answer's text is printed
   pub answers_part : (stored : Option Stored) (r : Status) → AnswersOutcome before after start end s text stored r → PrintsPartOf s text start end
   answers_part stored _ (printed r given l h p) = record { answer = r; given = given; like = l; part = whole_part given start end p }
   answers_part stored _ (not_read n rose p) = itself_part s text start end (nothing_part text start end (whole_part [] start end p))
   answers_part stored _ (not_written n rose h p) = p
+  answers_part stored _ (not_put n x e c k o p) = nothing_printed p
   answers_part stored _ (no_memory p) = p

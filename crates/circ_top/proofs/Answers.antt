@@ -1,28 +1,40 @@
 -- What one answer says: a success, a step that fails, a file that was not read or is past the limit, a text that was not written.
-use Rattle.std.proofs.Common.{◌≡◌, ◌≢◌, ℕ, List, [], refl, sym, ◌∙◌, subst, Option, None}
+use Rattle.std.proofs.Common.{◌≡◌, ◌≢◌, ℕ, List, [], map, refl, ap, sym, ◌∙◌, subst, inl, inr, Option, Some, None}
 use Rattle.circ_outer.specs.Shelf.{ShelfState, IsQuiet}
 use Rattle.circ_outer.specs.Sink.{SinkState}
 use Rattle.circ_theory.specs.Theory.{Theory}
 use Rattle.circ_theory.specs.declared.parts.Goal.{Goal}
-use Rattle.circ_rules.specs.Proof.{Proof}
-use Rattle.circ_rules.specs.Accepted.{Derives, FirstFail}
-use Rattle.circ_top.specs.Answer.{Succeeds, RefusesCommand, DueAnswer, no_command, success, refusal, words_unread, AnswersDue, Succeeded}
-use Rattle.circ_top.specs.Causes.{AtFile, IsPastLimit, IsReadFault, IsWriteFault}
+use Rattle.circ_theory.specs.WellFormed.{IsWellFormed}
+use Rattle.circ_rules.specs.Proof.{Proof, ProofFor}
+use Rattle.circ_rules.specs.Accepted.{Accepted, Derives, FirstFail}
+use Rattle.circ_plain_search.specs.Numbering.{Proved}
+use Rattle.circ_plain_search.specs.PlainSearch.{PlainSearch, AreSearchable, IsProofOf}
+use Rattle.circ_plain_search.specs.Search.{Limits as SearchLimits}
+use Rattle.circ_top.specs.Answer.{Succeeds, Comes, RefusesCommand, DueAnswer, no_command, work_done, refusal, words_unread, AnswersDue, Succeeded}
+use Rattle.circ_top.specs.Causes.{AtFile, HasLongProof, IsPastLimit, IsReadFault, IsUnwritten, FailsToPut, IsWriteFault, IsQuietRun}
 use Rattle.circ_top.specs.Check.{report_text, refused, accepted, Accepts, Rejects, FilesRead}
-use Rattle.circ_top.specs.Command.{Command, Check, Show, Contexts, Reduce, Library, Asks}
+use Rattle.circ_top.specs.Command.{Command, Check, Prove, Show, Contexts, Reduce, Library, Generate, Asks, IsNotStored, stored_name}
+use Rattle.circ_top.specs.Prove.{IsSearched, search_limits, StoresProof}
 use Rattle.circ_top.specs.Delivery.{Prints, Delivers, whole, write_failed, memory_wanted, text_wanted}
 use Rattle.circ_files.specs.Files.{Held, IsUnread, IsTooLong, IsFileFault}
-use Rattle.circ_top.specs.Outcome.{Stored, Outcome, command, HoldsAfter}
-use Rattle.circ_files.specs.Quiet.{IsQuietBut}
+use Rattle.circ_found.specs.Ending.{Stored, ending}
+use Rattle.circ_found.specs.Answering.{blocks_of, SearchEnds}
+use Rattle.circ_top.specs.Outcome.{Outcome, command}
+use Rattle.circ_top.specs.Storing.{HoldsAfter, IsUnstored, Ends, stored_first, not_stored}
 use Rattle.circ_files.specs.Texts.{refused_text}
 use Rattle.circ_top.specs.Refusals.{refusal_text}
 use Rattle.circ_files.specs.TheoryFile.{TheoryRefusal}
 use Rattle.circ_top.specs.declared.request.Report.{Report}
+use Rattle.circ_top.specs.declared.words.Limits.{Limits}
 use Rattle.circ_files.specs.declared.status.Status.{Status}
 use Rattle.circ_files.specs.declared.status.Status.TheVariants as status
 use Rattle.circ_top.proofs.CheckOutcomes.{check_not_ok, check_refused, unread_check, past_check, unwritten_check}
 use Rattle.circ_files.proofs.FileFaults.{file_fault_not_ok, file_fault_not_refused}
 use Rattle.circ_top.proofs.Outcomes.{due_is}
+use Rattle.circ_top.proofs.ProveOutcomes.{prove_not_ok, prove_not_refused, unread_prove, past_prove, unwritten_prove}
+use Rattle.circ_generate.specs.Generating.{Generates}
+use Rattle.circ_top.proofs.GenerateOutcomes.{generates_end}
+use Rattle.circ_top.proofs.Searches.{IsSearchEnd, search_end, search_name, search_ok}
 use Rattle.circ_top.proofs.ReduceOutcomes.{reduce_not_ok, reduce_not_refused, unread_reduce, past_reduce, unwritten_reduce}
 use Rattle.circ_top.proofs.Agreeing.{DueIs, outcome, nothing_read, no_memory_left}
 use Rattle.circ_top.proofs.Requests.{same_command}
@@ -30,10 +42,12 @@ use Rattle.circ_top.proofs.Requests.{same_command}
 module _ (before after : ShelfState) where
   command_not_ok : (c : Command) (s : Status) → RefusesCommand c before after s → s ≡ status.Ok → ⊥
   command_not_ok (Check report theory proof) s r e = check_not_ok theory proof before after s r e
+  command_not_ok (Prove limits theory script proof) s r e = prove_not_ok theory script before after s r e
   command_not_ok (Show theory) s r e = file_fault_not_ok 1 theory TheoryRefusal before after s e r
   command_not_ok (Contexts budget theory) s r e = file_fault_not_ok 1 theory TheoryRefusal before after s e r
   command_not_ok (Reduce budget theory script) s r e = reduce_not_ok budget theory script before after s r e
   command_not_ok (Library text) s r e = let never : status.Memory ≡ status.Ok = sym r ∙ e in cc
+  command_not_ok (Generate k) s r e = let never : status.Memory ≡ status.Ok = sym r ∙ e in cc
 
   command_not_refused : (theory : List ℕ) (s : Status) (n : ℕ) → IsFileFault 1 theory TheoryRefusal before after s → s ≡ status.Refused n → ⊥
   command_not_refused theory s n r e = file_fault_not_refused 1 theory TheoryRefusal before after s n e r
@@ -41,50 +55,144 @@ module _ (before after : ShelfState) where
   unread_command : (c : Command) (s : Status) (n : ℕ) → RefusesCommand c before after s → s ≡ status.ReadFault n
       → (n ≡ after.count) × AtFile before c (λ f name. IsUnread name before after)
   unread_command (Check report theory proof) s n r e = unread_check theory proof before after s n r e
+  unread_command (Prove limits theory script proof) s n r e = unread_prove theory script before after s n r e
   unread_command (Show theory) s n r e = let P : Status → Type 0 = IsFileFault 1 theory TheoryRefusal before after in subst P e r
   unread_command (Contexts budget theory) s n r e = let P : Status → Type 0 = IsFileFault 1 theory TheoryRefusal before after in subst P e r
   unread_command (Reduce budget theory script) s n r e = unread_reduce budget theory script before after s n r e
   unread_command (Library text) s n r e = absurd (let never : status.Memory ≡ status.ReadFault n = sym r ∙ e in cc)
+  unread_command (Generate k) s n r e = absurd (let never : status.Memory ≡ status.ReadFault n = sym r ∙ e in cc)
 
   past_command : (c : Command) (s : Status) (file n : ℕ) → RefusesCommand c before after s → s ≡ status.TooLong file n
       → AtFile before c (λ f name. (f ≡ file) × IsTooLong name n before)
   past_command (Check report theory proof) s file n r e = past_check theory proof before after s file n r e
+  past_command (Prove limits theory script proof) s file n r e = past_prove theory script before after s file n r e
   past_command (Show theory) s file n r e = let P : Status → Type 0 = IsFileFault 1 theory TheoryRefusal before after in let x = subst P e r in (sym x.0, x.1)
   past_command (Contexts budget theory) s file n r e =
       let P : Status → Type 0 = IsFileFault 1 theory TheoryRefusal before after in let x = subst P e r in (sym x.0, x.1)
   past_command (Reduce budget theory script) s file n r e = past_reduce budget theory script before after s file n r e
   past_command (Library text) s file n r e = absurd (let never : status.Memory ≡ status.TooLong file n = sym r ∙ e in cc)
+  past_command (Generate k) s file n r e = absurd (let never : status.Memory ≡ status.TooLong file n = sym r ∙ e in cc)
 
   unwritten_command : (c : Command) (s : Status) (n : ℕ) → RefusesCommand c before after s → s ≡ status.WriteFault n → ⊥
   unwritten_command (Check report theory proof) s n r e = unwritten_check theory proof before after s n r e
+  unwritten_command (Prove limits theory script proof) s n r e = unwritten_prove theory script before after s n r e
   unwritten_command (Show theory) s n r e = let P : Status → Type 0 = IsFileFault 1 theory TheoryRefusal before after in subst P e r
   unwritten_command (Contexts budget theory) s n r e = let P : Status → Type 0 = IsFileFault 1 theory TheoryRefusal before after in subst P e r
   unwritten_command (Reduce budget theory script) s n r e = unwritten_reduce budget theory script before after s n r e
   unwritten_command (Library text) s n r e = let never : status.Memory ≡ status.WriteFault n = sym r ∙ e in cc
+  unwritten_command (Generate k) s n r e = let never : status.Memory ≡ status.WriteFault n = sym r ∙ e in cc
 
 -- an answer with a success or a refusal at a step comes over a quiet shelf
-quiet_ok : (before after : ShelfState) (r : Status) → r ≡ status.Ok → IsQuietBut before after r → IsQuiet before after
-quiet_ok before after r e q = let P : Status → Type 0 = IsQuietBut before after in subst P e q
+quiet_ok : (before after : ShelfState) (words : List (List ℕ)) (r : Status) → r ≡ status.Ok → IsQuietRun words before after r → IsQuiet before after
+quiet_ok before after words r e q = let P : Status → Type 0 = IsQuietRun words before after in subst P e q
 
-quiet_refused : (before after : ShelfState) (r : Status) (n : ℕ) → r ≡ status.Refused n → IsQuietBut before after r → IsQuiet before after
-quiet_refused before after r n e q = let P : Status → Type 0 = IsQuietBut before after in subst P e q
+quiet_refused : (before after : ShelfState) (words : List (List ℕ)) (r : Status) (n : ℕ) → r ≡ status.Refused n → IsQuietRun words before after r → IsQuiet before after
+quiet_refused before after words r n e q = let P : Status → Type 0 = IsQuietRun words before after in subst P e q
+
+-- how a command's work ends
+module _ (before : ShelfState) where
+  ok_end : (s : Status) → s ≡ status.Ok → IsSearchEnd s
+  ok_end s e = subst IsSearchEnd (sym e) tt
+
+  pub work_end : (c : Command) (s : Status) (text : List ℕ) (stored : Option Stored) → Comes c s text stored before → IsSearchEnd s
+  work_end (Check report theory proof) s text stored a = ok_end s a.0
+  work_end (Prove limits theory script proof) s text stored a = search_end a.th (search_limits limits) proof (blocks_of a.sc) s text stored a.ends
+  work_end (Show theory) s text stored a = ok_end s a.0
+  work_end (Contexts budget theory) s text stored a = ok_end s a.0
+  work_end (Reduce budget theory script) s text stored a = ok_end s a.0
+  work_end (Library given) s text stored a = ok_end s a.0
+  work_end (Generate k) s text stored a = (generates_end k (ending s text stored) a).0
+
+  not_work_end : (c : Command) (s r : Status) (text : List ℕ) (stored : Option Stored) → Comes c s text stored before → s ≡ r → (IsSearchEnd r → ⊥) → ⊥
+  not_work_end c s r text stored a e not = not (subst IsSearchEnd e (work_end c s text stored a))
+
+  -- work that ends with 0 is a success
+  work_succeeds : (c : Command) (s : Status) (text : List ℕ) (stored : Option Stored) → Comes c s text stored before → s ≡ status.Ok
+      → Succeeds c text stored before
+  work_succeeds (Check report theory proof) s text stored a e = a.1
+  work_succeeds (Prove limits theory script proof) s text stored a e =
+      let P : Status → Type 0 = λ x. IsSearched limits theory script proof (ending x text stored) before in subst P e a
+  work_succeeds (Show theory) s text stored a e = a.1
+  work_succeeds (Contexts budget theory) s text stored a e = a.1
+  work_succeeds (Reduce budget theory script) s text stored a e = a.1
+  work_succeeds (Library given) s text stored a e = a.1
+  work_succeeds (Generate k) s text stored a e = let P : Status → Type 0 = λ x. Generates k (ending x text stored) in subst P e a
+
+  -- a text that is too long to be stored
+  work_past : (c : Command) (s : Status) (text : List ℕ) (stored : Option Stored) (file n : ℕ) → Comes c s text stored before → s ≡ status.TooLong file n
+      → HasLongProof before c file n
+  work_past (Check report theory proof) s text stored file n a e = let never : status.Ok ≡ status.TooLong file n = sym a.0 ∙ e in cc
+  work_past (Prove limits theory script proof) s text stored file n a e =
+      let P : Status → Type 0 = λ x. IsSearched limits theory script proof (ending x text stored) before in (text, stored, subst P e a)
+  work_past (Show theory) s text stored file n a e = let never : status.Ok ≡ status.TooLong file n = sym a.0 ∙ e in cc
+  work_past (Contexts budget theory) s text stored file n a e = let never : status.Ok ≡ status.TooLong file n = sym a.0 ∙ e in cc
+  work_past (Reduce budget theory script) s text stored file n a e = let never : status.Ok ≡ status.TooLong file n = sym a.0 ∙ e in cc
+  work_past (Library given) s text stored file n a e = let never : status.Ok ≡ status.TooLong file n = sym a.0 ∙ e in cc
+  work_past (Generate k) s text stored file n a e = let P : Status → Type 0 = λ x. Generates k (ending x text stored) in (text, stored, subst P e a)
+
+  nothing_stored : {A : Type 0} → (stored : Option Stored) (x : Stored) → stored ≡ None → stored ≡ Some x → A
+  nothing_stored stored x n e = absurd (let never : None ≡ Some x = sym n ∙ e in cc)
+
+  -- what is stored goes under the command's name
+  pub work_name : (c : Command) (s : Status) (text : List ℕ) (stored : Option Stored) (x : Stored) → Comes c s text stored before → stored ≡ Some x
+      → stored_name c ≡ Some x.name
+  work_name (Check report theory proof) s text stored x a e = nothing_stored stored x a.1.1 e
+  work_name (Prove limits theory script proof) s text stored x a e =
+      let P : Option Stored → Type 0 = λ y. SearchEnds a.th (search_limits limits) proof (blocks_of a.sc) (ending s text y) in
+      ap Some (sym (search_name a.th (search_limits limits) proof (blocks_of a.sc) s text x (subst P e a.ends)))
+  work_name (Show theory) s text stored x a e = nothing_stored stored x a.1.1 e
+  work_name (Contexts budget theory) s text stored x a e = nothing_stored stored x a.1.1 e
+  work_name (Reduce budget theory script) s text stored x a e = nothing_stored stored x a.1.1 e
+  work_name (Library given) s text stored x a e = nothing_stored stored x a.1.1 e
+  work_name (Generate k) s text stored x a e = nothing_stored stored x (generates_end k (ending s text stored) a).1 e
+
+-- what a search proves fits the theory, is accepted, and has exactly the given goals
+abbrev pub ProofsFound : Type 0
+ProofsFound = (th : Theory) → IsWellFormed th → (blocks : List (List Goal)) → AreSearchable th blocks → (limits : SearchLimits) (p : Proof)
+    → PlainSearch th blocks limits (Proved p) → IsProofOf th blocks p
+
+-- the command that stores, where something is stored
+pub record StoredBy (words : List (List ℕ)) (x : Stored) : Type 0 where
+  pub command : Command
+  pub asks : Asks words command
+  pub named : stored_name command ≡ Some x.name
+
+pub stored_by : (words : List (List ℕ)) (before after : ShelfState) (d : Status) (text : List ℕ) (stored : Option Stored) (x : Stored)
+    → DueAnswer words before after d text stored → stored ≡ Some x → StoredBy words x
+stored_by words before after _ _ _ x (no_command n) e = absurd (let never : None ≡ Some x = e in cc)
+stored_by words before after d text stored x (work_done c _ _ _ i a) e = record { command = c; asks = i; named = work_name before c d text stored x a e }
+stored_by words before after _ _ _ x (refusal c s i f) e = absurd (let never : None ≡ Some x = e in cc)
+stored_by words before after _ _ _ x words_unread e = absurd (let never : None ≡ Some x = e in cc)
 
 module _ (words : List (List ℕ)) (before after : ShelfState) (start end : SinkState) (r : Status) (a : AnswersDue words before after start end r) where
-  pub answers_succeed : IsQuietBut before after r → r ≡ status.Ok → Succeeded words before after start end
-  answers_succeed q e = go a.answer a.text a.stored a.due a.held r a.delivered e (quiet_ok before after r e q)
+  pub answers_succeed : IsQuietRun words before after r → r ≡ status.Ok → Succeeded words before after start end
+  answers_succeed q e = ended r a.ends e (quiet_ok before after words r e q)
     where
       go : (d : Status) (text : List ℕ) (stored : Option Stored) → DueAnswer words before after d text stored → HoldsAfter stored before after
           → (r : Status) → Delivers text start end d r → r ≡ status.Ok → IsQuiet before after → Succeeded words before after start end
       go _ _ _ (no_command n) h _ (whole p) e q = absurd (cc)
-      go _ text stored (success c _ _ i s) h _ (whole p) e q =
-          record { command = c; text = text; stored = stored; asks = i; succeeds = s; held = h; quiet = q; prints = p }
+      go d text stored (work_done c _ _ _ i s) h _ (whole p) e q = record {
+        command = c;
+        text = text;
+        stored = stored;
+        asks = i;
+        succeeds = work_succeeds before c d text stored s e;
+        held = h;
+        quiet = q;
+        prints = p;
+      }
       go _ _ _ (refusal c s i f) h _ (whole p) e q = absurd (command_not_ok before after c s f e)
       go _ _ _ words_unread h _ (whole p) e q = absurd (cc)
       go d text stored x h _ (write_failed n some i rose p) e q = absurd (cc)
       go d text stored x h _ (memory_wanted m p) e q = absurd (cc)
       go d text stored x h _ (text_wanted p) e q = absurd (cc)
 
-  pub answers_accepted : IsQuietBut before after r → (report : Report) (theory proof : List ℕ) → Asks words (Check report theory proof) → r ≡ status.Ok
+      ended : (r : Status) → Ends before after start end a.answer a.text a.stored r → r ≡ status.Ok → IsQuiet before after
+          → Succeeded words before after start end
+      ended r (stored_first _ h x) e q = go a.answer a.text a.stored a.due h r x e q
+      ended r (not_stored _ u p) e q = absurd (let P : Status → Type 0 = IsUnstored u.file.name before after in subst P e u.why)
+
+  pub answers_accepted : IsQuietRun words before after r → (report : Report) (theory proof : List ℕ) → Asks words (Check report theory proof) → r ≡ status.Ok
       → Accepts report theory proof before after start end
   answers_accepted q report theory proof i e =
       let s = answers_succeed q e in
@@ -92,8 +200,35 @@ module _ (words : List (List ℕ)) (before after : ShelfState) (start end : Sink
       let accepted = (subst P (same_command words s.command (Check report theory proof) s.asks i) s.succeeds).0 in
       record { text = s.text; accepted = accepted; quiet = s.quiet; prints = s.prints }
 
-  pub answers_refused : IsQuietBut before after r → (n : ℕ) → r ≡ status.Refused n → Rejects words before after start end n
-  answers_refused q n e = go a.answer a.text a.stored a.due r a.delivered e (quiet_refused before after r n e q)
+  pub answers_proved : ProofsFound → IsQuietRun words before after r → (limits : Limits) (theory script proof : List ℕ)
+      → Asks words (Prove limits theory script proof) → r ≡ status.Ok → StoresProof theory script proof before after start end
+  answers_proved found q limits theory script proof i e =
+      let s = answers_succeed q e in
+      let P : Command → Type 0 = λ c. Succeeds c s.text s.stored before in
+      let a = subst P (same_command words s.command (Prove limits theory script proof) s.asks i) s.succeeds in
+      let ok = search_ok a.th (search_limits limits) proof (blocks_of a.sc) s.text s.stored a.ends in
+      let says = found a.th a.takes_theory.well_formed (blocks_of a.sc) a.searchable (search_limits limits) ok.p ok.search in
+      let H : Option Stored → Type 0 = λ x. HoldsAfter x before after in
+      let T : List ℕ → Type 0 = λ x. Prints x start end in
+      let held = subst H ok.stored_is s.held in
+      record {
+        th = a.th;
+        sc = a.sc;
+        p = ok.p;
+        takes_theory = a.takes_theory;
+        takes_script = a.takes_script;
+        proof_for = says.fits;
+        accepted = says.accepted;
+        goals = says.goals;
+        short = ok.short;
+        holds = held.0;
+        others = held.1;
+        quiet = s.quiet;
+        prints = subst T ok.text_is s.prints;
+      }
+
+  pub answers_refused : IsQuietRun words before after r → (n : ℕ) → r ≡ status.Refused n → Rejects words before after start end n
+  answers_refused q n e = ended r a.ends e (quiet_refused before after words r n e q)
     where
       rejects : (c : Command) (s : Status) → Asks words c → RefusesCommand c before after s → s ≡ status.Refused n → Prints (refusal_text c s) start end
           → IsQuiet before after
@@ -101,28 +236,35 @@ module _ (words : List (List ℕ)) (before after : ShelfState) (start end : Sink
       rejects (Check report theory proof) s i f e p q =
           let P : Status → Type 0 = λ x. Prints (refusal_text (Check report theory proof) x) start end in
           record { report = report; theory = theory; proof = proof; asks = i; refused = check_refused theory proof before after s n f e; quiet = q; prints = subst P e p }
+      rejects (Prove limits theory script proof) s i f e p q = absurd (prove_not_refused theory script before after s n f e)
       rejects (Show theory) s i f e p q = absurd (command_not_refused before after theory s n f e)
       rejects (Contexts budget theory) s i f e p q = absurd (command_not_refused before after theory s n f e)
       rejects (Reduce budget theory script) s i f e p q = absurd (reduce_not_refused budget theory script before after s n f e)
       rejects (Library text) s i f e p q = absurd (let never : status.Memory ≡ status.Refused n = sym f ∙ e in cc)
+      rejects (Generate k) s i f e p q = absurd (let never : status.Memory ≡ status.Refused n = sym f ∙ e in cc)
 
       go : (d : Status) (text : List ℕ) (stored : Option Stored) → DueAnswer words before after d text stored
           → (r : Status) → Delivers text start end d r → r ≡ status.Refused n → IsQuiet before after → Rejects words before after start end n
       go _ _ _ (no_command m) _ (whole p) e q = absurd (cc)
-      go _ text stored (success c _ _ i s) _ (whole p) e q = absurd (cc)
+      go d text stored (work_done c _ _ _ i s) _ (whole p) e q = absurd (not_work_end before c d (status.Refused n) text stored s e (λ x. x))
       go _ _ _ (refusal c s i f) _ (whole p) e q = rejects c s i f e p q
       go _ _ _ words_unread _ (whole p) e q = absurd (cc)
       go d text stored x _ (write_failed m some i rose p) e q = absurd (cc)
       go d text stored x _ (memory_wanted m p) e q = absurd (cc)
       go d text stored x _ (text_wanted p) e q = absurd (cc)
 
+      ended : (r : Status) → Ends before after start end a.answer a.text a.stored r → r ≡ status.Refused n → IsQuiet before after
+          → Rejects words before after start end n
+      ended r (stored_first _ h x) e q = go a.answer a.text a.stored a.due r x e q
+      ended r (not_stored _ u p) e q = absurd (let P : Status → Type 0 = IsUnstored u.file.name before after in subst P e u.why)
+
   pub answers_read_fault : (n : ℕ) → r ≡ status.ReadFault n → IsReadFault words before after start end n
-  answers_read_fault n = go a.answer a.text a.stored a.due r a.delivered
+  answers_read_fault n = ended r a.ends
     where
       go : (d : Status) (text : List ℕ) (stored : Option Stored) → DueAnswer words before after d text stored
           → (r : Status) → Delivers text start end d r → r ≡ status.ReadFault n → IsReadFault words before after start end n
       go _ _ _ (no_command m) _ (whole p) e = absurd (cc)
-      go _ text stored (success c _ _ i s) _ (whole p) e = absurd (cc)
+      go d text stored (work_done c _ _ _ i s) _ (whole p) e = absurd (not_work_end before c d (status.ReadFault n) text stored s e (λ x. x))
       go _ _ _ (refusal c s i f) _ (whole p) e =
           let u = unread_command before after c s n f e in
           let P : Status → Type 0 = λ x. Prints (refusal_text c x) start end in
@@ -132,21 +274,30 @@ module _ (words : List (List ℕ)) (before after : ShelfState) (start end : Sink
       go d text stored x _ (memory_wanted m p) e = absurd (cc)
       go d text stored x _ (text_wanted p) e = absurd (cc)
 
+      ended : (r : Status) → Ends before after start end a.answer a.text a.stored r → r ≡ status.ReadFault n → IsReadFault words before after start end n
+      ended r (stored_first _ h x) e = go a.answer a.text a.stored a.due r x e
+      ended r (not_stored _ u p) e = absurd (let P : Status → Type 0 = IsUnstored u.file.name before after in subst P e u.why)
+
   pub answers_past_limit : (file n : ℕ) → r ≡ status.TooLong file n → IsPastLimit words before file n
-  answers_past_limit file n = go a.answer a.text a.stored a.due r a.delivered
+  answers_past_limit file n = ended r a.ends
     where
       go : (d : Status) (text : List ℕ) (stored : Option Stored) → DueAnswer words before after d text stored
           → (r : Status) → Delivers text start end d r → r ≡ status.TooLong file n → IsPastLimit words before file n
       go _ _ _ (no_command m) _ (whole p) e = absurd (cc)
-      go _ text stored (success c _ _ i s) _ (whole p) e = absurd (cc)
-      go _ _ _ (refusal c s i f) _ (whole p) e = record { command = c; asks = i; past = past_command before after c s file n f e }
+      go d text stored (work_done c _ _ _ i s) _ (whole p) e =
+          record { command = c; asks = i; past = inr (work_past before c d text stored file n s e) }
+      go _ _ _ (refusal c s i f) _ (whole p) e = record { command = c; asks = i; past = inl (past_command before after c s file n f e) }
       go _ _ _ words_unread _ (whole p) e = absurd (cc)
       go d text stored x _ (write_failed m some i rose p) e = absurd (cc)
       go d text stored x _ (memory_wanted m p) e = absurd (cc)
       go d text stored x _ (text_wanted p) e = absurd (cc)
 
+      ended : (r : Status) → Ends before after start end a.answer a.text a.stored r → r ≡ status.TooLong file n → IsPastLimit words before file n
+      ended r (stored_first _ h x) e = go a.answer a.text a.stored a.due r x e
+      ended r (not_stored _ u p) e = absurd (let P : Status → Type 0 = IsUnstored u.file.name before after in subst P e u.why)
+
   pub answers_write_fault : (n : ℕ) → r ≡ status.WriteFault n → IsWriteFault words before after start end n
-  answers_write_fault n = go a.answer a.text a.stored a.due a.held r a.delivered
+  answers_write_fault n = ended r a.ends
     where
       with_text : (d : Status) (text : List ℕ) (stored : Option Stored) → text ≢ [] → DueIs words before after d text stored
           → Outcome words before.holds d text stored
@@ -155,9 +306,9 @@ module _ (words : List (List ℕ)) (before after : ShelfState) (start end : Sink
       with_text _ _ _ some no_memory_left = absurd (some refl)
 
       go : (d : Status) (text : List ℕ) (stored : Option Stored) → DueAnswer words before after d text stored → HoldsAfter stored before after
-          → (r : Status) → Delivers text start end d r → r ≡ status.WriteFault n → IsWriteFault words before after start end n
+          → (r : Status) → Delivers text start end d r → r ≡ status.WriteFault n → IsUnwritten words before after start end n
       go _ _ _ (no_command m) h _ (whole p) e = absurd (cc)
-      go _ text stored (success c _ _ i s) h _ (whole p) e = absurd (cc)
+      go d text stored (work_done c _ _ _ i s) h _ (whole p) e = absurd (not_work_end before c d (status.WriteFault n) text stored s e (λ x. x))
       go _ _ _ (refusal c s i f) h _ (whole p) e = absurd (unwritten_command before after c s n f e)
       go _ _ _ words_unread h _ (whole p) e = absurd (cc)
       go d text stored x h _ (write_failed m some c rose p) e =
@@ -174,6 +325,31 @@ module _ (words : List (List ℕ)) (before after : ShelfState) (start end : Sink
           }
       go d text stored x h _ (memory_wanted m p) e = absurd (cc)
       go d text stored x h _ (text_wanted p) e = absurd (cc)
+
+      ended : (r : Status) → Ends before after start end a.answer a.text a.stored r → r ≡ status.WriteFault n → IsWriteFault words before after start end n
+      ended r (stored_first _ h x) e = inl (go a.answer a.text a.stored a.due h r x e)
+      ended r (not_stored _ u p) e =
+          let P : Status → Type 0 = IsUnstored u.file.name before after in
+          let w = subst P e u.why in
+          let by = stored_by words before after a.answer a.text a.stored u.file a.due u.is in
+          let put : FailsToPut words before after = record { command = by.command; asks = by.asks; name = u.file.name; named = by.named; struck = w.1 } in
+          inr (record { put = put; others = u.others; counted = w.0; nothing = p })
+
+  -- no name changes but the one under which the command stores
+  pub answers_hold : (n : List ℕ) → IsNotStored words n → after.holds n ≡ before.holds n
+  answers_hold n not = ended a.ends
+    where
+      other : (x : Stored) → a.stored ≡ Some x → n ≢ x.name
+      other x e same =
+          let by = stored_by words before after a.answer a.text a.stored x a.due e in not by.command by.asks (by.named ∙ ap Some (sym same))
+
+      go : (stored : Option Stored) → a.stored ≡ stored → HoldsAfter stored before after → after.holds n ≡ before.holds n
+      go None e h = h n
+      go (Some x) e h = h.1 n (other x e)
+
+      ended : Ends before after start end a.answer a.text a.stored r → after.holds n ≡ before.holds n
+      ended (stored_first _ h x) = go a.stored refl h
+      ended (not_stored _ u p) = u.others.others n (other u.file u.is)
 
 -- the two special cases where both files read
 

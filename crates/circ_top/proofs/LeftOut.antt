@@ -2,6 +2,7 @@
 use Rattle.std.proofs.Common.{◌≡◌, ◌<◌, ◌≤◌, ◌+◌, ◌-◌, ◌⊎◌, ℕ, List, length, inl, inr, refl, arith, Option, Some, None}
 use Rattle.std.specs.Prelude.{IsSome}
 use Rattle.circ_theory.specs.Theory.{Theory}
+use Rattle.circ_theory.specs.declared.parts.Goal.{Goal}
 use Rattle.circ_grammar.specs.FirstBad.{LineFault, Line_fault, Limit_fault}
 use Rattle.circ_rules.specs.Proof.{Proof, ProofFor}
 use Rattle.circ_rules.specs.Accepted.{Accepted, FirstFail}
@@ -13,25 +14,36 @@ use Rattle.circ_script.specs.ReadsAsScript.{ReadsAsScript, ScriptOrCause}
 use Rattle.circ_script.specs.declared.job.Job.{Job}
 use Rattle.circ_script.specs.declared.job.Job.TheVariants as job
 use Rattle.circ_top.specs.Check.{report_text, no_theory, no_proof, refused, accepted}
-use Rattle.circ_top.specs.Command.{Command, Check, Show, Contexts, Reduce, Library, Asks}
+use Rattle.circ_top.specs.Command.{Command, Check, Prove, Show, Contexts, Reduce, Library, Generate, Asks}
 use Rattle.circ_files.specs.Files.{Held, Refusal, RefusesFile, Holds}
 use Rattle.circ_top.specs.InMemory.{HoldsFilesOf, HoldsFiles}
-use Rattle.circ_top.specs.Outcome.{Stored, Outcome, usage, command}
+use Rattle.circ_plain_search.specs.Numbering.{Found}
+use Rattle.circ_plain_search.specs.PlainSearch.{PlainSearch}
+use Rattle.circ_plain_search.specs.Search.{Limits as SearchLimits}
+use Rattle.circ_found.specs.Ending.{Stored, Ending}
+use Rattle.circ_found.specs.Answering.{blocks_of, found_ending}
+use Rattle.circ_top.specs.Outcome.{Outcome, usage, command}
 use Rattle.circ_files.specs.ProofFile.{ProofRefusal}
 use Rattle.circ_top.specs.Reduce.{Results, reduced, EndsWith, results_text, not_reduced, all_reduced}
 use Rattle.circ_top.specs.Reduce as reduce
+use Rattle.circ_top.specs.Prove.{search_limits, searched}
+use Rattle.circ_top.specs.Prove as prove
+use Rattle.circ_top.specs.Contexts.{not_listed, listed}
+use Rattle.circ_show.specs.PlacesText.{place_lines}
+use Rattle.circ_contexts.proofs.Existing.{some_set}
+use Rattle.circ_generate.specs.Chain.{chain_theory, chain_script}
+use Rattle.circ_generate.specs.Generating.{Generates, greatest_limits, chain_ending, unread_ending}
+use Rattle.circ_generate.specs.Generating as generating
 use Rattle.circ_files.specs.ScriptFile.{ScriptRefusal}
 use Rattle.circ_top.specs.Show.{not_shown, shown}
-use Rattle.circ_top.specs.Contexts.{not_listed, listed}
 use Rattle.circ_files.specs.Texts.{refused_text}
 use Rattle.circ_top.specs.Refusals.{usage_text, refusal_text}
 use Rattle.circ_files.specs.TheoryFile.{TheoryRefusal}
 use Rattle.circ_files.specs.declared.files.TheConstants.{MOST_BYTES}
 use Rattle.circ_top.specs.declared.request.Report.{Report}
+use Rattle.circ_top.specs.declared.words.Limits.{Limits}
 use Rattle.circ_files.specs.declared.status.Status.{Status}
 use Rattle.circ_files.specs.declared.status.Status.TheVariants as status
-use Rattle.circ_show.specs.PlacesText.{place_lines}
-use Rattle.circ_contexts.proofs.Existing.{some_set}
 use Rattle.circ_top.proofs.Ends.{forms_or_end}
 use Rattle.circ_top.proofs.TheoryTexts.{has_text}
 
@@ -78,7 +90,8 @@ no_fault_left th bytes h (Line_fault n) f = h n cause.Line f
 no_fault_left th bytes h (Limit_fault n) f = h n cause.LineLimit f
 
 module _ (reads : (bytes : List ℕ) → ReadOrRefused bytes) (proofs : ProofsDecided)
-    (scripts : (th : Theory) (job : Job) (bytes : List ℕ) → ScriptOrCause th job bytes) (words : List (List ℕ)) (held : Held)
+    (scripts : (th : Theory) (job : Job) (bytes : List ℕ) → ScriptOrCause th job bytes)
+    (searches : (th : Theory) (blocks : List (List Goal)) (limits : SearchLimits) → ((f : Found) → PlainSearch th blocks limits f → ⊥) → ⊥) (words : List (List ℕ)) (held : Held)
     (none_is : (s : Status) (text : List ℕ) (stored : Option Stored) → Outcome words held s text stored → ⊥) where
   no_check : (report : Report) (theory proof : List ℕ) → Asks words (Check report theory proof) → HoldsFilesOf held (Check report theory proof) → ⊥
   no_check report theory proof i h = file_decides held 1 theory TheoryRefusal ReadsAs h.0 reads
@@ -99,14 +112,6 @@ module _ (reads : (bytes : List ℕ) → ReadOrRefused bytes) (proofs : ProofsDe
       (λ th rt. has_text th (λ text x. none_is status.Ok text None (command (Show theory) status.Ok text None i (shown th text rt x, refl))))
       (λ s x. let text : List ℕ = refusal_text (Show theory) s in none_is s text None (command (Show theory) s text None i (not_shown s x, refl)))
 
-  no_contexts : (budget : ℕ) (theory : List ℕ) → Asks words (Contexts budget theory) → HoldsFilesOf held (Contexts budget theory) → ⊥
-  no_contexts budget theory i h = file_decides held 1 theory TheoryRefusal ReadsAs h reads
-      (λ th rt. some_set th budget (λ G tss g. let text : List ℕ = place_lines th.signature G in none_is status.Ok text None
-      (command (Contexts budget theory) status.Ok text None i
-      (listed th text rt (record { places = G; traces = tss; greatest = g; text_is = refl }), refl))))
-      (λ s x. let text : List ℕ = refusal_text (Contexts budget theory) s in none_is s text None
-      (command (Contexts budget theory) s text None i (not_listed s x, refl)))
-
   no_reduce : (budget : ℕ) (theory script : List ℕ) → Asks words (Reduce budget theory script) → HoldsFilesOf held (Reduce budget theory script) → ⊥
   no_reduce budget theory script i h = file_decides held 1 theory TheoryRefusal ReadsAs h.0 reads
       (λ th rt. file_decides held 2 script (ScriptRefusal th job.Reduce) (ReadsAsScript th job.Reduce) h.1 (scripts th job.Reduce)
@@ -120,10 +125,44 @@ module _ (reads : (bytes : List ℕ) → ReadOrRefused bytes) (proofs : ProofsDe
       (λ s x. let text : List ℕ = refusal_text (Reduce budget theory script) s in none_is s text None
       (command (Reduce budget theory script) s text None i (reduce.no_theory s x, refl)))
 
+  no_prove : (limits : Limits) (theory script proof : List ℕ) → Asks words (Prove limits theory script proof)
+      → HoldsFilesOf held (Prove limits theory script proof) → ⊥
+  no_prove limits theory script proof i h = file_decides held 1 theory TheoryRefusal ReadsAs h.0 reads
+      (λ th rt. file_decides held 2 script (ScriptRefusal th job.Prove) (ReadsAsScript th job.Prove) h.1 (scripts th job.Prove)
+      (λ q rq. searches th (blocks_of q) (search_limits limits)
+      (λ f x. let e : Ending = found_ending th.signature proof f in none_is e.status e.text e.stored
+      (command (Prove limits theory script proof) e.status e.text e.stored i
+      (searched e.status e.text e.stored th q rt rq (record { found = f; search = x; is = refl })))))
+      (λ s x. let text : List ℕ = refusal_text (Prove limits theory script proof) s in none_is s text None
+      (command (Prove limits theory script proof) s text None i (prove.no_script s th rt x))))
+      (λ s x. let text : List ℕ = refusal_text (Prove limits theory script proof) s in none_is s text None
+      (command (Prove limits theory script proof) s text None i (prove.no_theory s x)))
+
+  no_contexts : (budget : ℕ) (theory : List ℕ) → Asks words (Contexts budget theory) → HoldsFilesOf held (Contexts budget theory) → ⊥
+  no_contexts budget theory i h = file_decides held 1 theory TheoryRefusal ReadsAs h reads
+      (λ th rt. some_set th budget (λ G tss g. let text : List ℕ = place_lines th.signature G in none_is status.Ok text None
+      (command (Contexts budget theory) status.Ok text None i
+      (listed th text rt (record { places = G; traces = tss; greatest = g; text_is = refl }), refl))))
+      (λ s x. let text : List ℕ = refusal_text (Contexts budget theory) s in none_is s text None
+      (command (Contexts budget theory) s text None i (not_listed s x, refl)))
+
+  ended : (n : ℕ) → Asks words (Generate n) → (e : Ending) → Generates n e → ⊥
+  ended n i e g = none_is e.status e.text e.stored (command (Generate n) e.status e.text e.stored i g)
+
+  no_generate : (n : ℕ) → Asks words (Generate n) → ⊥
+  no_generate n i = reads (chain_theory n)
+      (λ th rt. scripts th job.Prove (chain_script n)
+      (λ sc rs. searches th (blocks_of sc) greatest_limits
+      (λ f x. ended n i (chain_ending th.signature n f) (generating.searched (chain_ending th.signature n f) th sc f rt rs x refl)))
+      (λ place c f. ended n i (unread_ending 2 place c) (generating.no_script (unread_ending 2 place c) th place c rt f refl)))
+      (λ place c f. ended n i (unread_ending 1 place c) (generating.no_theory (unread_ending 1 place c) place c f refl))
+
   no_command_left : (c : Command) → Asks words c → HoldsFilesOf held c → ⊥
   no_command_left (Check report theory proof) i h = no_check report theory proof i h
+  no_command_left (Prove limits theory script proof) i h = no_prove limits theory script proof i h
   no_command_left (Show theory) i h = no_show theory i h
   no_command_left (Contexts budget theory) i h = no_contexts budget theory i h
+  no_command_left (Generate n) i h = no_generate n i
   no_command_left (Reduce budget theory script) i h = no_reduce budget theory script i h
   no_command_left (Library text) i h = none_is status.Ok text None (command (Library text) status.Ok text None i ((refl, refl), refl))
 

@@ -14,8 +14,13 @@ pub mod ContextsOutcomes
 pub mod Ends
 pub mod Reducing
 pub mod ReduceOutcomes
+pub mod Searches
+pub mod ProveOutcomes
+pub mod GenerateOutcomes
 pub mod Outcomes
 pub mod Answers
+pub mod Concluding
+pub mod StoredProofs
 pub mod NoFaults
 pub mod TheoryTexts
 pub mod LeftOut

@@ -4,11 +4,11 @@ use Rattle.std.specs.Prelude.{IsSome}
 use Rattle.circ_outer.specs.Count.{Rose}
 use Rattle.circ_outer.specs.Shelf.{ShelfState}
 use Rattle.circ_outer.specs.Sink.{SinkState}
-use Rattle.circ_top.specs.Causes.{IsOutcomeOrFault, AnswersOutcome, printed, not_read, not_written, no_memory, AtFile, IsReadFault}
-use Rattle.circ_top.specs.Command.{Command, Check, Show, Contexts, Reduce, Library}
+use Rattle.circ_top.specs.Causes.{IsOutcomeOrFault, AnswersOutcome, printed, not_read, not_written, not_put, no_memory, AtFile, IsReadFault, IsWriteFault}
+use Rattle.circ_top.specs.Command.{Command, Check, Prove, Show, Contexts, Reduce, Library, Generate}
 use Rattle.circ_files.specs.Files.{IsUnread}
 use Rattle.circ_top.specs.InMemory.{HoldsFilesOf, HoldsFiles, AppendsAnswer, Appends}
-use Rattle.circ_top.specs.Outcome.{Stored}
+use Rattle.circ_found.specs.Ending.{Stored}
 use Rattle.circ_files.specs.declared.status.Status.{Status}
 use Rattle.circ_files.specs.declared.status.Status.TheVariants as status
 use Rattle.circ_files.proofs.FileFaults.{unread_rose}
@@ -25,11 +25,14 @@ held_file : (before after : ShelfState) (c : Command) → (Rose before.count aft
     → AtFile before c (λ file name. IsUnread name before after) → ⊥
 held_file before after (Check report theory proof) quiet h (inl u) = quiet (unread_rose theory before after (some_held (before.holds theory) h.0) u)
 held_file before after (Check report theory proof) quiet h (inr u) = quiet (unread_rose proof before after (some_held (before.holds proof) h.1) u.1.1)
+held_file before after (Prove limits theory script proof) quiet h (inl u) = quiet (unread_rose theory before after (some_held (before.holds theory) h.0) u)
+held_file before after (Prove limits theory script proof) quiet h (inr u) = quiet (unread_rose script before after (some_held (before.holds script) h.1) u.1.1)
 held_file before after (Show theory) quiet h u = quiet (unread_rose theory before after (some_held (before.holds theory) h) u)
 held_file before after (Contexts budget theory) quiet h u = quiet (unread_rose theory before after (some_held (before.holds theory) h) u)
 held_file before after (Reduce budget theory script) quiet h (inl u) = quiet (unread_rose theory before after (some_held (before.holds theory) h.0) u)
 held_file before after (Reduce budget theory script) quiet h (inr u) = quiet (unread_rose script before after (some_held (before.holds script) h.1) u.1.1)
 held_file before after (Library text) quiet h u = u
+held_file before after (Generate n) quiet h u = u
 
 module _ (before after : ShelfState) (start end : SinkState) where
   pub always_read : (words : List (List ℕ)) (n : ℕ) → (Rose before.count after.count → ⊥) → HoldsFiles words before.holds
@@ -50,4 +53,10 @@ module _ (before after : ShelfState) (start end : SinkState) where
   sure_answer s r text stored t f g (printed _ given l h p) = inl (record { given = given; like = l; held = h; appended = p.printed t })
   sure_answer s _ text stored t f g (not_read n rose p) = absurd (f rose)
   sure_answer s _ text stored t f g (not_written n rose h p) = absurd (g rose)
+  sure_answer s _ text stored t f g (not_put n x e c k o p) = absurd (f k.rose)
   sure_answer s _ text stored t f g (no_memory p) = inr refl
+
+  pub always_written : (words : List (List ℕ)) (n : ℕ) → (Rose before.count after.count → ⊥) → (Rose start.count end.count → ⊥)
+      → IsWriteFault words before after start end n → ⊥
+  always_written words n quiet sure (inl u) = sure u.rose
+  always_written words n quiet sure (inr u) = quiet u.put.struck.rose

@@ -2,20 +2,30 @@
 use Rattle.std.proofs.Common.{◌≡◌, ℕ, List, refl, sym, ◌∙◌, subst, true, Option, None}
 use Rattle.circ_outer.specs.Shelf.{ShelfState}
 use Rattle.circ_outer.specs.Sink.{SinkState}
-use Rattle.circ_top.specs.Answer.{Succeeds, RefusesCommand, DueAnswer, no_command, success, refusal, words_unread, AnswersDue}
+use Rattle.circ_top.specs.Answer.{Comes, RefusesCommand, DueAnswer, no_command, work_done, refusal, words_unread, AnswersDue}
+use Rattle.circ_top.specs.Check.{CheckOutcome}
+use Rattle.circ_top.specs.Reduce.{ReduceOutcome}
+use Rattle.circ_top.specs.Show.{ShowOutcome}
 use Rattle.circ_top.specs.Causes.{PrintsOutcome, IsOutcomeOrFault, PrintsPartOf, AnswersOutcome}
-use Rattle.circ_top.specs.Command.{Command, Check, Show, Contexts, Reduce, Library, Asks}
+use Rattle.circ_top.specs.Command.{Command, Check, Prove, Show, Contexts, Reduce, Library, Generate, Asks}
 use Rattle.circ_top.specs.Delivery.{Delivers, whole, write_failed, memory_wanted, text_wanted}
 use Rattle.circ_files.specs.Like.{IsLike, itself}
-use Rattle.circ_top.specs.Outcome.{Stored, OutcomeOf, Outcome, usage, command, HoldsAfter}
+use Rattle.circ_found.specs.Ending.{Stored}
+use Rattle.circ_top.specs.Outcome.{OutcomeOf, Outcome, usage, command}
+use Rattle.circ_top.specs.Storing.{HoldsAfter, IsUnstored, Ends, stored_first, not_stored}
 use Rattle.circ_top.specs.Refusals.{usage_text, refusal_text}
 use Rattle.circ_files.specs.declared.status.Status.{Status}
 use Rattle.circ_files.specs.declared.status.Status.TheVariants as status
 use Rattle.circ_files.proofs.Readings.{ReadsOnce}
-use Rattle.circ_top.proofs.Agreeing.{DueIs, outcome, nothing_read, no_memory_left, Agrees, alike, memory, PrintsOnce, agree_answers, answers_part}
+use Rattle.circ_top.proofs.Agreeing.{DueIs, outcome, nothing_read, no_memory_left, Agrees, alike, AgreesWith, agreed, memory_with, stored_nothing, PrintsOnce, agree_answers, answers_part}
+use Rattle.circ_found.specs.Ending.{ending}
+use Rattle.circ_top.specs.Contexts.{ContextsOutcome}
+use Rattle.circ_top.proofs.ContextsOutcomes.{due_contexts, listed_outcome, contexts_agrees, listed_agrees}
+use Rattle.circ_top.proofs.GenerateOutcomes.{generates_alike}
+use Rattle.circ_top.proofs.ProveOutcomes.{due_prove, searched_outcome, prove_agrees, searched_agrees}
+use Rattle.circ_top.proofs.Searches.{SearchesOnce}
 use Rattle.circ_top.proofs.CheckOutcomes.{due_check, accepted_outcome, check_agrees, accepted_agrees}
 use Rattle.circ_top.proofs.ShowOutcomes.{due_show, shown_outcome, show_agrees, shown_agrees}
-use Rattle.circ_top.proofs.ContextsOutcomes.{due_contexts, listed_outcome, contexts_agrees, listed_agrees}
 use Rattle.circ_top.proofs.ReduceOutcomes.{due_reduce, reduced_outcome, reduce_agrees, reduced_agrees}
 use Rattle.circ_top.proofs.Proofs.{ProofsOnce}
 use Rattle.circ_files.proofs.Scripts.{ScriptsOnce}
@@ -25,103 +35,111 @@ due_refusal : (words : List (List ℕ)) (before after : ShelfState) (c : Command
     → RefusesCommand c before after s
     → DueIs words before after s (refusal_text c s) None
 due_refusal words before after (Check report theory proof) s t i r = due_check words report theory proof before after s t i r
+due_refusal words before after (Prove limits theory script proof) s t i r = due_prove limits theory script proof before after words s t i r
 due_refusal words before after (Show theory) s t i r = due_show words theory before after s t i r
 due_refusal words before after (Contexts budget theory) s t i r = due_contexts words budget theory before after s t i r
 due_refusal words before after (Reduce budget theory script) s t i r = due_reduce budget theory script before after words s t i r
 due_refusal words before after (Library text) s t i r =
     let P : Status → Type 0 = λ x. DueIs words before after x (refusal_text (Library text) x) None in subst P (sym r) no_memory_left
+due_refusal words before after (Generate n) s t i r =
+    let P : Status → Type 0 = λ x. DueIs words before after x (refusal_text (Generate n) x) None in subst P (sym r) no_memory_left
 
-due_success : (c : Command) (text : List ℕ) (stored : Option Stored) (before : ShelfState) → before.tells ≡ true → Succeeds c text stored before
-    → OutcomeOf before.holds c status.Ok text stored
-due_success (Check report theory proof) text stored before t a = (accepted_outcome theory proof before before report text t a.0, a.1)
-due_success (Show theory) text stored before t a = (shown_outcome theory text before t a.0, a.1)
-due_success (Contexts budget theory) text stored before t a = (listed_outcome budget theory text before t a.0, a.1)
-due_success (Reduce budget theory script) text stored before t a = (reduced_outcome budget theory script before before text t a.0, a.1)
-due_success (Library given) text stored before t a = ((refl, a.0), a.1)
+due_work : (c : Command) (s : Status) (text : List ℕ) (stored : Option Stored) (before : ShelfState) → before.tells ≡ true → Comes c s text stored before
+    → OutcomeOf before.holds c s text stored
+due_work (Check report theory proof) s text stored before t a =
+    let P : Status → Type 0 = λ x. CheckOutcome before.holds report theory proof x text in
+    (subst P (sym a.0) (accepted_outcome theory proof before before report text t a.1.0), a.1.1)
+due_work (Prove limits theory script proof) s text stored before t a = searched_outcome limits theory script proof before before s text stored t a
+due_work (Show theory) s text stored before t a =
+    let P : Status → Type 0 = λ x. ShowOutcome before.holds theory x text in (subst P (sym a.0) (shown_outcome theory text before t a.1.0), a.1.1)
+due_work (Contexts budget theory) s text stored before t a =
+    let P : Status → Type 0 = λ x. ContextsOutcome before.holds budget theory x text in
+    (subst P (sym a.0) (listed_outcome budget theory text before t a.1.0), a.1.1)
+due_work (Reduce budget theory script) s text stored before t a =
+    let P : Status → Type 0 = λ x. ReduceOutcome before.holds budget theory script x text in
+    (subst P (sym a.0) (reduced_outcome budget theory script before before text t a.1.0), a.1.1)
+due_work (Library given) s text stored before t a = ((a.0, a.1.0), a.1.1)
+due_work (Generate n) s text stored before t a = a
 
 pub due_is : (words : List (List ℕ)) (before after : ShelfState) (s : Status) (text : List ℕ) (stored : Option Stored) → before.tells ≡ true
     → DueAnswer words before after s text stored → DueIs words before after s text stored
 due_is words before after _ _ _ t (no_command n) = outcome status.Usage usage_text None (usage n)
-due_is words before after _ text stored t (success c _ _ i a) =
-    outcome status.Ok text stored (command c status.Ok text stored i (due_success c text stored before t a))
+due_is words before after s text stored t (work_done c _ _ _ i a) =
+    outcome s text stored (command c s text stored i (due_work c s text stored before t a))
 due_is words before after s _ _ t (refusal c _ i r) = due_refusal words before after c s t i r
 due_is words before after _ _ _ t words_unread = no_memory_left
 
--- a command that stores nothing
-stores_nothing : (held : List ℕ → Option (List ℕ)) (c : Command) (s : Status) (text : List ℕ) (stored : Option Stored) → OutcomeOf held c s text stored
-    → stored ≡ None
-stores_nothing held (Check report theory proof) s text stored c = c.1
-stores_nothing held (Show theory) s text stored c = c.1
-stores_nothing held (Contexts budget theory) s text stored c = c.1
-stores_nothing held (Reduce budget theory script) s text stored c = c.1
-stores_nothing held (Library given) s text stored c = c.1
-
--- the answer that is due stores what the outcome does
-outcome_stored : (words : List (List ℕ)) (held : List ℕ → Option (List ℕ)) (s : Status) (text : List ℕ) (stored : Option Stored)
-    → Outcome words held s text stored → stored ≡ None
-outcome_stored words held _ _ _ (usage n) = refl
-outcome_stored words held s text stored (command c _ _ _ i x) = stores_nothing held c s text stored x
-
-success_stored : (c : Command) (text : List ℕ) (stored : Option Stored) (before : ShelfState) → Succeeds c text stored before → stored ≡ None
-success_stored (Check report theory proof) text stored before a = a.1
-success_stored (Show theory) text stored before a = a.1
-success_stored (Contexts budget theory) text stored before a = a.1
-success_stored (Reduce budget theory script) text stored before a = a.1
-success_stored (Library given) text stored before a = a.1
-
-due_stored : (words : List (List ℕ)) (before after : ShelfState) (s : Status) (text : List ℕ) (stored : Option Stored)
-    → DueAnswer words before after s text stored → stored ≡ None
-due_stored words before after _ _ _ (no_command n) = refl
-due_stored words before after _ text stored (success c _ _ i a) = success_stored c text stored before a
-due_stored words before after _ _ _ (refusal c s i r) = refl
-due_stored words before after _ _ _ words_unread = refl
-
-module _ (once : ReadsOnce) (proofs : ProofsOnce) (scripts : ScriptsOnce) (printed_once : PrintsOnce) (words : List (List ℕ)) (before after : ShelfState) (t : before.tells ≡ true) where
+module _ (once : ReadsOnce) (proofs : ProofsOnce) (scripts : ScriptsOnce) (searches : SearchesOnce) (printed_once : PrintsOnce) (words : List (List ℕ))
+    (before after : ShelfState) (t : before.tells ≡ true) where
   refusal_agrees : (c : Command) (s r : Status) (text : List ℕ) (stored : Option Stored) → OutcomeOf before.holds c s text stored
       → RefusesCommand c before after r
-      → Agrees before after s text r (refusal_text c r)
-  refusal_agrees (Check report theory proof) s r text stored c f = check_agrees once proofs report theory proof before after t r s text f c.0
-  refusal_agrees (Show theory) s r text stored c f = show_agrees once theory before after t r s text f c.0
-  refusal_agrees (Contexts budget theory) s r text stored c f = contexts_agrees once budget theory before after t r s text f c.0
-  refusal_agrees (Reduce budget theory script) s r text stored c f = reduce_agrees once scripts budget theory script before after t r s text f c.0
+      → AgreesWith before after s text stored r (refusal_text c r) None
+  refusal_agrees (Check report theory proof) s r text stored c f =
+      stored_nothing before after s text stored r (refusal_text (Check report theory proof) r) c.1
+      (check_agrees once proofs report theory proof before after t r s text f c.0)
+  refusal_agrees (Prove limits theory script proof) s r text stored c f =
+      prove_agrees once scripts searches limits theory script proof before after t r s text stored f c
+  refusal_agrees (Show theory) s r text stored c f =
+      stored_nothing before after s text stored r (refusal_text (Show theory) r) c.1 (show_agrees once theory before after t r s text f c.0)
+  refusal_agrees (Contexts budget theory) s r text stored c f =
+      stored_nothing before after s text stored r (refusal_text (Contexts budget theory) r) c.1
+      (contexts_agrees once budget theory before after t r s text f c.0)
+  refusal_agrees (Reduce budget theory script) s r text stored c f =
+      stored_nothing before after s text stored r (refusal_text (Reduce budget theory script) r) c.1
+      (reduce_agrees once scripts budget theory script before after t r s text f c.0)
   refusal_agrees (Library given) s r text stored c f =
-      let P : Status → Type 0 = λ x. Agrees before after s text x (refusal_text (Library given) x) in subst P (sym f) memory
+      let P : Status → Type 0 = λ x. AgreesWith before after s text stored x (refusal_text (Library given) x) None in subst P (sym f) memory_with
+  refusal_agrees (Generate n) s r text stored c f =
+      let P : Status → Type 0 = λ x. AgreesWith before after s text stored x (refusal_text (Generate n) x) None in subst P (sym f) memory_with
 
-  success_agrees : (c : Command) (s : Status) (text given : List ℕ) (stored other : Option Stored) → OutcomeOf before.holds c s text stored
-      → Succeeds c given other before
-      → Agrees before after s text status.Ok given
-  success_agrees (Check report theory proof) s text given stored other c a = accepted_agrees once proofs report theory proof before after t given a.0 s text c.0
-  success_agrees (Show theory) s text given stored other c a = shown_agrees once theory before after t printed_once given a.0 s text c.0
-  success_agrees (Contexts budget theory) s text given stored other c a = listed_agrees once budget theory before after t given a.0 s text c.0
-  success_agrees (Reduce budget theory script) s text given stored other c a =
-      reduced_agrees once scripts budget theory script before after t given a.0 s text c.0
-  success_agrees (Library words) s text given stored other c a =
+  -- work that ends with 0, of a command that stores nothing
+  ok_agrees : (s r : Status) (text given : List ℕ) (stored other : Option Stored) → r ≡ status.Ok → other ≡ None → stored ≡ None
+      → Agrees before after s text status.Ok given → AgreesWith before after s text stored r given other
+  ok_agrees s r text given stored other e o n a =
+      let P : Status → Type 0 = λ x. AgreesWith before after s text stored x given other in
+      let Q : Option Stored → Type 0 = λ x. AgreesWith before after s text stored status.Ok given x in
+      subst P (sym e) (subst Q (sym o) (stored_nothing before after s text stored status.Ok given n a))
+
+  work_agrees : (c : Command) (s r : Status) (text given : List ℕ) (stored other : Option Stored) → OutcomeOf before.holds c s text stored
+      → Comes c r given other before → AgreesWith before after s text stored r given other
+  work_agrees (Check report theory proof) s r text given stored other c a =
+      ok_agrees s r text given stored other a.0 a.1.1 c.1 (accepted_agrees once proofs report theory proof before after t given a.1.0 s text c.0)
+  work_agrees (Prove limits theory script proof) s r text given stored other c a =
+      searched_agrees once scripts searches limits theory script proof before after t r given other a s text stored c
+  work_agrees (Show theory) s r text given stored other c a =
+      ok_agrees s r text given stored other a.0 a.1.1 c.1 (shown_agrees once theory before after t printed_once given a.1.0 s text c.0)
+  work_agrees (Contexts budget theory) s r text given stored other c a =
+      ok_agrees s r text given stored other a.0 a.1.1 c.1 (listed_agrees once budget theory before after t given a.1.0 s text c.0)
+  work_agrees (Reduce budget theory script) s r text given stored other c a =
+      ok_agrees s r text given stored other a.0 a.1.1 c.1 (reduced_agrees once scripts budget theory script before after t given a.1.0 s text c.0)
+  work_agrees (Library words) s r text given stored other c a =
       let P : List ℕ → Type 0 = λ x. IsLike status.Ok text status.Ok x in
       let Q : Status → Type 0 = λ x. Agrees before after x text status.Ok given in
-      subst Q (sym c.0.0) (alike status.Ok given (subst P (c.0.1 ∙ sym a.0) (itself status.Ok text)))
+      ok_agrees s r text given stored other a.0 a.1.1 c.1
+      (subst Q (sym c.0.0) (alike status.Ok given (subst P (c.0.1 ∙ sym a.1.0) (itself status.Ok text))))
+
+  work_agrees (Generate n) s r text given stored other c a =
+      let same = generates_alike once scripts searches n (ending s text stored) (ending r given other) c a in agreed r given other same.0 (sym same.1)
 
   due_agrees : (s r : Status) (text given : List ℕ) (stored other : Option Stored) → Outcome words before.holds s text stored
       → DueAnswer words before after r given other
-      → Agrees before after s text r given
-  due_agrees _ _ _ _ _ _ (usage n) (no_command m) = alike status.Usage usage_text (itself status.Usage usage_text)
-  due_agrees _ _ _ given _ _ (usage n) (success c _ _ i a) = absurd (n c i)
+      → AgreesWith before after s text stored r given other
+  due_agrees _ _ _ _ _ _ (usage n) (no_command m) = agreed status.Usage usage_text None (itself status.Usage usage_text) refl
+  due_agrees _ r _ given _ other (usage n) (work_done c _ _ _ i a) = absurd (n c i)
   due_agrees _ r _ _ _ _ (usage n) (refusal c _ i f) = absurd (n c i)
   due_agrees s _ text _ stored _ (command c _ _ _ i x) (no_command m) = absurd (m c i)
-  due_agrees s _ text given stored other (command c _ _ _ i x) (success d _ _ j a) =
+  due_agrees s r text given stored other (command c _ _ _ i x) (work_done d _ _ _ j a) =
       let P : Command → Type 0 = λ y. OutcomeOf before.holds y s text stored in
-      success_agrees d s text given stored other (subst P (same_command words c d i j) x) a
+      work_agrees d s r text given stored other (subst P (same_command words c d i j) x) a
   due_agrees s r text _ stored _ (command c _ _ _ i x) (refusal d _ j f) =
       let P : Command → Type 0 = λ y. OutcomeOf before.holds y s text stored in
       refusal_agrees d s r text stored (subst P (same_command words c d i j) x) f
-  due_agrees s _ text _ stored _ x words_unread = memory
+  due_agrees s _ text _ stored _ x words_unread = memory_with
 
   pub answers_come : (start end : SinkState) (r : Status) → AnswersDue words before after start end r → (s : Status) (text : List ℕ) (stored : Option Stored)
       → Outcome words before.holds s text stored → AnswersOutcome before after start end s text stored r
   answers_come start end r a s text stored c =
-      let same : a.stored ≡ stored = due_stored words before after a.answer a.text a.stored a.due ∙ sym (outcome_stored words before.holds s text stored c) in
-      let H : Option Stored → Type 0 = λ x. HoldsAfter x before after in
-      agree_answers before after start end s text stored a.answer r a.text (subst H same a.held)
-      (due_agrees s a.answer text a.text stored a.stored c a.due) a.delivered
+      agree_answers before after start end s text stored a.stored a.answer r a.text (due_agrees s a.answer text a.text stored a.stored c a.due) a.ends
 
   pub answers_memory : (start end : SinkState) (r : Status) → AnswersDue words before after start end r → (s : Status) (text : List ℕ) (stored : Option Stored)
       → Outcome words before.holds s text stored → PrintsPartOf s text start end
@@ -135,11 +153,18 @@ printed_outcome words before after start end (status.WriteFault n) p = tt
 printed_outcome words before after start end status.Memory p = tt
 printed_outcome words before after start end s p = p
 
+-- an answer that is not that of the work is a fault
+unstored_fault : (words : List (List ℕ)) (before after : ShelfState) (start end : SinkState) (name : List ℕ) (r : Status) → IsUnstored name before after r
+    → IsOutcomeOrFault words before after start end r
+unstored_fault words before after start end name (status.WriteFault n) u = tt
+unstored_fault words before after start end name status.Memory u = tt
+unstored_fault words before after start end name r u = absurd u
+
 pub answers_outcome : (words : List (List ℕ)) (before after : ShelfState) (start end : SinkState) (r : Status) → AnswersDue words before after start end r
     → before.tells ≡ true
     → IsOutcomeOrFault words before after start end r
 answers_outcome words before after start end r a t =
-    go a.answer r a.text a.stored (due_is words before after a.answer a.text a.stored t a.due) a.held a.delivered
+    ended a.answer r a.text a.stored (due_is words before after a.answer a.text a.stored t a.due) a.ends
   where
     go : (d r : Status) (text : List ℕ) (stored : Option Stored) → DueIs words before after d text stored → HoldsAfter stored before after
         → Delivers text start end d r
@@ -151,3 +176,8 @@ answers_outcome words before after start end r a t =
     go d _ text stored x h (write_failed n some c rose p) = tt
     go d _ text stored x h (memory_wanted q p) = tt
     go d _ text stored x h (text_wanted p) = tt
+
+    ended : (d r : Status) (text : List ℕ) (stored : Option Stored) → DueIs words before after d text stored
+        → Ends before after start end d text stored r → IsOutcomeOrFault words before after start end r
+    ended d r text stored x (stored_first _ h y) = go d r text stored x h y
+    ended d r text stored x (not_stored _ u p) = unstored_fault words before after start end u.file.name r u.why

@@ -19,7 +19,7 @@ pub delivered_quiet : (before after : ShelfState) (k : Command) (d r : Status) �
 delivered_quiet before after k (status.ReadFault n) r empty q = let P : Status → Type 0 = IsQuietBut before after in subst P (sym (empty refl)) tt
 delivered_quiet before after k d r empty q = quiet_any before after r q
 
-unreadable_like : (k : Command) (f g p q : ℕ) (c d : Cause) → f ≡ g → p ≡ q → IsLikeCause c d
+pub unreadable_like : (k : Command) (f g p q : ℕ) (c d : Cause) → f ≡ g → p ≡ q → IsLikeCause c d
     → IsLike (status.Unreadable f p c) (refusal_text k (status.Unreadable f p c)) (status.Unreadable g q d) (refusal_text k (status.Unreadable g q d))
 unreadable_like k f g p q c d e h l =
     let text : Status → List ℕ = refusal_text k in

@@ -1,5 +1,5 @@
 -- What words ask for.
-use Rattle.std.proofs.Common.{◌≡◌, ◌<◌, ◌^◌, ℕ, List, [], ◌∷◌, length, codes, refl, ap, ap₂, sym, ◌∙◌, arith, Option, Some, None}
+use Rattle.std.proofs.Common.{◌≡◌, ◌<◌, ◌≤◌, ◌^◌, ℕ, List, [], ◌∷◌, length, decimal, codes, refl, ap, ap₂, sym, ◌∙◌, arith, Option, Some, None}
 use Rattle.std.specs.Prelude.{MatchOption}
 use Rattle.std.proofs.lemmas.Fmt.{decimal_injective}
 use Rattle.std.proofs.lemmas.Option.{same_Some}
@@ -7,7 +7,7 @@ use Rattle.clap.specs.Faults.{fault_of}
 use Rattle.clap.specs.Simple.{matches_of}
 use Rattle.clap.specs.Walk.{Row, first_of}
 use Rattle.circ_lib.specs.Library.{library_text}
-use Rattle.circ_top.specs.Command.{Command, Library, IsCommand, check, show, contexts, reduce, library, IsNoneOfTable, report_name, Asks, IsNoCommand, plain_request}
+use Rattle.circ_top.specs.Command.{Command, Library, Generate, IsCommand, check, prove, show, contexts, reduce, library, generate, IsNoneOfTable, report_name, Asks, IsNoCommand, plain_request}
 use Rattle.circ_top.specs.Words.{circ_app, IsBudget, Finds, FindsNothing}
 use Rattle.circ_top.specs.declared.request.Report.{Report}
 use Rattle.circ_top.specs.declared.request.Report.TheVariants.{Goals, Relation}
@@ -17,6 +17,12 @@ use Rattle.circ_top.specs.declared.words.Limits.{Limits}
 other_length : (given : List (List ℕ)) (a b c : List ℕ) → given ≡ a ∷ b ∷ [] → given ≡ c ∷ [] → ⊥
 other_length given a b c e f = let never : 2 ≡ 1 = ap length (sym e ∙ f) in omega (arith, never)
 
+three_not_two : (given : List (List ℕ)) (a b c d e : List ℕ) → given ≡ a ∷ b ∷ c ∷ [] → given ≡ d ∷ e ∷ [] → ⊥
+three_not_two given a b c d e f g = let never : 3 ≡ 2 = ap length (sym f ∙ g) in omega (arith, never)
+
+three_not_one : (given : List (List ℕ)) (a b c d : List ℕ) → given ≡ a ∷ b ∷ c ∷ [] → given ≡ d ∷ [] → ⊥
+three_not_one given a b c d f g = let never : 3 ≡ 1 = ap length (sym f ∙ g) in omega (arith, never)
+
 other_name : (n : List ℕ) → n ≡ codes "show" → n ≡ codes "library" → ⊥
 other_name n e f = let never : 4 ≡ 7 = ap length (sym e ∙ f) in omega (arith, never)
 
@@ -25,6 +31,15 @@ no_contexts_show n e f = let never : 8 ≡ 4 = ap length (sym e ∙ f) in omega 
 
 no_contexts_library : (n : List ℕ) → n ≡ codes "contexts" → n ≡ codes "library" → ⊥
 no_contexts_library n e f = let never : 8 ≡ 7 = ap length (sym e ∙ f) in omega (arith, never)
+
+no_generate_show : (n : List ℕ) → n ≡ codes "generate" → n ≡ codes "show" → ⊥
+no_generate_show n e f = let never : 8 ≡ 4 = ap length (sym e ∙ f) in omega (arith, never)
+
+no_generate_library : (n : List ℕ) → n ≡ codes "generate" → n ≡ codes "library" → ⊥
+no_generate_library n e f = let never : 8 ≡ 7 = ap length (sym e ∙ f) in omega (arith, never)
+
+no_generate_contexts : (n : List ℕ) → n ≡ codes "generate" → n ≡ codes "contexts" → ⊥
+no_generate_contexts n e f = let never : codes "generate" ≡ codes "contexts" = sym e ∙ f in cc
 
 no_report : (r : Report) (n : List ℕ) → n ≡ report_name r → n ≡ codes "reduce" → ⊥
 no_report Goals n e f = let never : 5 ≡ 6 = ap length (sym e ∙ f) in omega (arith, never)
@@ -36,6 +51,13 @@ same_report Goals Relation e = let never : 5 ≡ 8 = ap length e in absurd (omeg
 same_report Relation Goals e = let never : 8 ≡ 5 = ap length e in absurd (omega (arith, never))
 same_report Relation Relation e = refl
 
+-- a number is written in one way
+same_number : (given : List (List ℕ)) (m n : ℕ) → m ≤ 1000 → n ≤ 1000 → given ≡ decimal m ∷ [] → given ≡ decimal n ∷ [] → m ≡ n
+same_number given m n h k e f =
+    let same : decimal m ∷ [] ≡ decimal n ∷ [] = sym e ∙ f in
+    let one : decimal m ≡ decimal n = cc in
+    decimal_injective m n (omega (arith, h)) (omega (arith, k)) one
+
 -- a name and its words stand in the table once
 same_of_table : (k : Limits) (n : List ℕ) (given : List (List ℕ)) (c d : Command) → IsCommand k n given c → IsCommand k n given d → c ≡ d
 same_of_table k n given _ _ (check r t p e i) (check s u v f j) =
@@ -45,6 +67,15 @@ same_of_table k n given _ _ (check r t p e i) (check s u v f j) =
 same_of_table k n given _ _ (check r t p e i) (show u f j) = absurd (other_length given t p u i j)
 same_of_table k n given _ _ (check r t p e i) (library u text f j m) = absurd (other_length given t p u i j)
 same_of_table k n given _ _ (check r t p e i) (reduce u v f j) = absurd (no_report r n e f)
+same_of_table k n given _ _ (check r t p e i) (prove u v w f j) = absurd (three_not_two given u v w t p j i)
+same_of_table k n given _ _ (prove u v w f j) (check r t p e i) = absurd (three_not_two given u v w t p j i)
+same_of_table k n given _ _ (reduce t p e i) (prove u v w f j) = absurd (three_not_two given u v w t p j i)
+same_of_table k n given _ _ (prove u v w f j) (reduce t p e i) = absurd (three_not_two given u v w t p j i)
+same_of_table k n given _ _ (show t e i) (prove u v w f j) = absurd (three_not_one given u v w t j i)
+same_of_table k n given _ _ (prove u v w f j) (show t e i) = absurd (three_not_one given u v w t j i)
+same_of_table k n given _ _ (library t x e i m) (prove u v w f j) = absurd (three_not_one given u v w t j i)
+same_of_table k n given _ _ (prove u v w f j) (library t x e i m) = absurd (three_not_one given u v w t j i)
+same_of_table k n given _ _ (prove t p q e i) (prove u v w f j) = let a = sym i ∙ j in cc
 same_of_table k n given _ _ (reduce u v f j) (check r t p e i) = absurd (no_report r n e f)
 same_of_table k n given _ _ (reduce t p e i) (reduce u v f j) = let a = sym i ∙ j in cc
 same_of_table k n given _ _ (reduce t p e i) (show u f j) = absurd (other_length given t p u i j)
@@ -54,17 +85,32 @@ same_of_table k n given _ _ (library u text f j m) (reduce t p e i) = absurd (ot
 same_of_table k n given _ _ (show u f j) (check r t p e i) = absurd (other_length given t p u i j)
 same_of_table k n given _ _ (show t e i) (show u f j) = let a = sym i ∙ j in cc
 same_of_table k n given _ _ (show t e i) (library u text f j m) = absurd (other_name n e f)
+same_of_table k n given _ _ (library u text f j m) (check r t p e i) = absurd (other_length given t p u i j)
+same_of_table k n given _ _ (library u text f j m) (show t e i) = absurd (other_name n e f)
 same_of_table k n given _ _ (contexts t e i) (contexts u f j) = let a = sym i ∙ j in cc
 same_of_table k n given _ _ (contexts u f j) (check r t p e i) = absurd (other_length given t p u i j)
 same_of_table k n given _ _ (check r t p e i) (contexts u f j) = absurd (other_length given t p u i j)
 same_of_table k n given _ _ (contexts u f j) (reduce t p e i) = absurd (other_length given t p u i j)
 same_of_table k n given _ _ (reduce t p e i) (contexts u f j) = absurd (other_length given t p u i j)
+same_of_table k n given _ _ (contexts t e i) (prove u v w f j) = absurd (three_not_one given u v w t j i)
+same_of_table k n given _ _ (prove u v w f j) (contexts t e i) = absurd (three_not_one given u v w t j i)
 same_of_table k n given _ _ (contexts t e i) (show u f j) = absurd (no_contexts_show n e f)
 same_of_table k n given _ _ (show u f j) (contexts t e i) = absurd (no_contexts_show n e f)
 same_of_table k n given _ _ (contexts t e i) (library u text f j m) = absurd (no_contexts_library n e f)
 same_of_table k n given _ _ (library u text f j m) (contexts t e i) = absurd (no_contexts_library n e f)
-same_of_table k n given _ _ (library u text f j m) (check r t p e i) = absurd (other_length given t p u i j)
-same_of_table k n given _ _ (library u text f j m) (show t e i) = absurd (other_name n e f)
+same_of_table k n given _ _ (generate m few most e i) (check r t p f j) = absurd (other_length given t p (decimal m) j i)
+same_of_table k n given _ _ (check r t p f j) (generate m few most e i) = absurd (other_length given t p (decimal m) j i)
+same_of_table k n given _ _ (generate m few most e i) (reduce t p f j) = absurd (other_length given t p (decimal m) j i)
+same_of_table k n given _ _ (reduce t p f j) (generate m few most e i) = absurd (other_length given t p (decimal m) j i)
+same_of_table k n given _ _ (generate m few most e i) (prove u v w f j) = absurd (three_not_one given u v w (decimal m) j i)
+same_of_table k n given _ _ (prove u v w f j) (generate m few most e i) = absurd (three_not_one given u v w (decimal m) j i)
+same_of_table k n given _ _ (generate m few most e i) (show u f j) = absurd (no_generate_show n e f)
+same_of_table k n given _ _ (show u f j) (generate m few most e i) = absurd (no_generate_show n e f)
+same_of_table k n given _ _ (generate m few most e i) (library u text f j x) = absurd (no_generate_library n e f)
+same_of_table k n given _ _ (library u text f j x) (generate m few most e i) = absurd (no_generate_library n e f)
+same_of_table k n given _ _ (generate m few most e i) (contexts u f j) = absurd (no_generate_contexts n e f)
+same_of_table k n given _ _ (contexts u f j) (generate m few most e i) = absurd (no_generate_contexts n e f)
+same_of_table k n given _ _ (generate m few most e i) (generate o less least f j) = ap Generate (same_number given m o most least i j)
 same_of_table k n given _ _ (library t w e i h) (library u x f j m) =
     let a = sym i ∙ j in
     let same : t ≡ u = cc in

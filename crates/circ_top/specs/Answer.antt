@@ -2,52 +2,67 @@
 use Rattle.std.specs.Prelude.{◌≡◌, ℕ, List, [], Option, None}
 use Rattle.circ_outer.specs.Shelf.{ShelfState, IsQuiet}
 use Rattle.circ_outer.specs.Sink.{SinkState}
-use Rattle.circ_top.specs.Check.{IsAccepted, RefusesCheck}
 use Rattle.circ_top.specs.Contexts.{IsListed}
-use Rattle.circ_top.specs.Command.{Command, Check, Show, Contexts, Reduce, Library, Asks, IsNoCommand}
-use Rattle.circ_top.specs.Delivery.{Prints, Delivers}
+use Rattle.circ_generate.specs.Generating.{Generates}
+use Rattle.circ_top.specs.Check.{IsAccepted, RefusesCheck}
+use Rattle.circ_top.specs.Command.{Command, Check, Prove, Show, Contexts, Reduce, Library, Generate, Asks, IsNoCommand}
+use Rattle.circ_top.specs.Delivery.{Prints}
+use Rattle.circ_found.specs.Ending.{ending}
 use Rattle.circ_top.specs.Library.{RefusesLibrary}
-use Rattle.circ_top.specs.Outcome.{Stored, HoldsAfter}
+use Rattle.circ_top.specs.Prove.{IsSearched, RefusesProve, StoresProof}
 use Rattle.circ_top.specs.Reduce.{IsReduced, RefusesReduce}
 use Rattle.circ_top.specs.Show.{IsShown}
+use Rattle.circ_found.specs.Ending.{Stored}
+use Rattle.circ_top.specs.Storing.{HoldsAfter, Ends}
 use Rattle.circ_top.specs.Refusals.{usage_text, refusal_text}
 use Rattle.circ_files.specs.TheoryFile.{IsTheoryFault}
 use Rattle.circ_files.specs.declared.status.Status.{Status}
 use Rattle.circ_files.specs.declared.status.Status.TheVariants as status
 
--- a command that ends with 0, its text, and what is stored
+-- a command whose work ends with 0, its text, and what is stored
 abbrev pub Succeeds : Command → (text : List ℕ) → (stored : Option Stored) → (before : ShelfState) → Type 0
 Succeeds (Check report theory proof) text stored before = IsAccepted report theory proof text before × (stored ≡ None)
+Succeeds (Prove limits theory script proof) text stored before =
+    IsSearched limits theory script proof (ending status.Ok text stored) before
 Succeeds (Show theory) text stored before = IsShown theory text before × (stored ≡ None)
 Succeeds (Contexts budget theory) text stored before = IsListed budget theory text before × (stored ≡ None)
 Succeeds (Reduce budget theory script) text stored before = IsReduced budget theory script text before × (stored ≡ None)
 Succeeds (Library given) text stored before = (text ≡ given) × (stored ≡ None)
+Succeeds (Generate n) text stored before = Generates n (ending status.Ok text stored)
 
--- why a command is refused
+-- how a command's work ends; a search may end with other statuses too
+abbrev pub Comes : Command → Status → (text : List ℕ) → (stored : Option Stored) → (before : ShelfState) → Type 0
+Comes (Prove limits theory script proof) s text stored before = IsSearched limits theory script proof (ending s text stored) before
+Comes (Generate n) s text stored before = Generates n (ending s text stored)
+Comes c s text stored before = (s ≡ status.Ok) × Succeeds c text stored before
+
+-- why a command's work is refused
 abbrev pub RefusesCommand : Command → (before after : ShelfState) → Status → Type 0
 RefusesCommand (Check report theory proof) before after s = RefusesCheck theory proof before after s
+RefusesCommand (Prove limits theory script proof) before after s = RefusesProve theory script before after s
 RefusesCommand (Show theory) before after s = IsTheoryFault theory before after s
 RefusesCommand (Contexts budget theory) before after s = IsTheoryFault theory before after s
 RefusesCommand (Reduce budget theory script) before after s = RefusesReduce budget theory script before after s
 RefusesCommand (Library given) before after s = RefusesLibrary s
+RefusesCommand (Generate n) before after s = s ≡ status.Memory
 
--- The answer that is due to a run, with its text and what is stored: the words are no command, or the command succeeds, or it is refused; or memory ran out
--- before the words were read.
+-- The answer that is due to a run, with its text and what is to be stored: the words are no command, or the command's work ends so, or it is refused; or
+-- memory ran out before the words were read.
 pub data DueAnswer (words : List (List ℕ)) (before after : ShelfState) : Status → (text : List ℕ) → (stored : Option Stored) → Type 0 where
   no_command : IsNoCommand words → DueAnswer words before after status.Usage usage_text None
-  success : (c : Command) (text : List ℕ) (stored : Option Stored) → Asks words c → Succeeds c text stored before
-      → DueAnswer words before after status.Ok text stored
+  work_done : (c : Command) (s : Status) (text : List ℕ) (stored : Option Stored) → Asks words c → Comes c s text stored before
+      → DueAnswer words before after s text stored
   refusal : (c : Command) (s : Status) → Asks words c → RefusesCommand c before after s → DueAnswer words before after s (refusal_text c s) None
   words_unread : DueAnswer words before after status.Memory [] None
 
--- What a run answers: the answer that is due, with its text printed; or a part of the text, and that the sink failed or memory ran out.
+-- What a run answers: the answer that is due, with its file stored and its text printed; or that the file was not stored; or a part of the text, and that the
+-- sink failed or memory ran out.
 pub record AnswersDue (words : List (List ℕ)) (before after : ShelfState) (start end : SinkState) (s : Status) : Type 0 where
   pub answer : Status
   pub text : List ℕ
   pub stored : Option Stored
   pub due : DueAnswer words before after answer text stored
-  pub held : HoldsAfter stored before after
-  pub delivered : Delivers text start end answer s
+  pub ends : Ends before after start end answer text stored s
 
 -- Status 0: the words are those of a command that succeeds, its text was printed, and the outside did not fail.
 pub record Succeeded (words : List (List ℕ)) (before after : ShelfState) (start end : SinkState) : Type 0 where

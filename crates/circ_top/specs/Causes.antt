@@ -1,14 +1,19 @@
 -- When each answer comes, by the outcome of the run and the faults of the outside.
-use Rattle.std.specs.Prelude.{◌≡◌, ◌⊎◌, ℕ, List, [], Option, true}
+use Rattle.std.specs.Prelude.{◌≡◌, ◌⊎◌, ℕ, List, [], Option, Some, true}
 use Rattle.circ_outer.specs.Count.{Rose}
-use Rattle.circ_outer.specs.Shelf.{ShelfState}
+use Rattle.circ_outer.specs.Shelf.{ShelfState, Struck, PutFrame, IsQuiet}
 use Rattle.circ_outer.specs.Sink.{SinkState}
 use Rattle.circ_theory.specs.Theory.{Theory}
-use Rattle.circ_top.specs.Command.{Command, Check, Show, Contexts, Reduce, Library, Asks}
+use Rattle.circ_top.specs.Command.{Command, Check, Prove, Show, Contexts, Reduce, Library, Generate, Asks, stored_name}
 use Rattle.circ_top.specs.Delivery.{Prints, PrintsPart, PrintsFront}
 use Rattle.circ_files.specs.Files.{IsUnread, IsTooLong}
 use Rattle.circ_files.specs.Like.{IsLike}
-use Rattle.circ_top.specs.Outcome.{Stored, Outcome, HoldsAfter}
+use Rattle.circ_found.specs.Ending.{ending}
+use Rattle.circ_generate.specs.Generating.{Generates}
+use Rattle.circ_top.specs.Outcome.{Outcome}
+use Rattle.circ_top.specs.Prove.{IsSearched}
+use Rattle.circ_found.specs.Ending.{Stored}
+use Rattle.circ_top.specs.Storing.{HoldsAfter}
 use Rattle.circ_files.specs.TheoryFile.{TakesTheory}
 use Rattle.circ_files.specs.declared.status.Status.{Status}
 use Rattle.circ_files.specs.declared.status.Status.TheVariants as status
@@ -35,12 +40,15 @@ pub record PrintsPartOf (s : Status) (text : List ℕ) (start end : SinkState) :
   pub like : IsLike s text answer given
   pub part : PrintsPart given start end
 
--- What is answered where this is the outcome: the same or a like answer, with its text printed; or that a count of faults rose or memory ran out.
+-- What is answered where this is the outcome: the same or a like answer, with its file stored and its text printed; or that a count of faults rose or memory
+-- ran out.
 pub data AnswersOutcome (before after : ShelfState) (start end : SinkState) (s : Status) (text : List ℕ) (stored : Option Stored) : Status → Type 0 where
   printed : (r : Status) (given : List ℕ) → IsLike s text r given → HoldsAfter stored before after → Prints given start end
       → AnswersOutcome before after start end s text stored r
   not_read : (n : ℕ) → Rose before.count after.count → Prints [] start end → AnswersOutcome before after start end s text stored (status.ReadFault n)
   not_written : (n : ℕ) → Rose start.count end.count → HoldsAfter stored before after → PrintsPartOf s text start end
+      → AnswersOutcome before after start end s text stored (status.WriteFault n)
+  not_put : (n : ℕ) (x : Stored) → stored ≡ Some x → n ≡ after.count → Struck x.name true before after → PutFrame x.name before after → Prints [] start end
       → AnswersOutcome before after start end s text stored (status.WriteFault n)
   no_memory : PrintsPartOf s text start end → AnswersOutcome before after start end s text stored status.Memory
 
@@ -51,16 +59,25 @@ AtEither before theory second P = P 1 theory ⊎ ((th : Theory) × (TakesTheory 
 -- A file of the command has the fact.
 abbrev pub AtFile : ShelfState → Command → (ℕ → List ℕ → Type 0) → Type 0
 AtFile before (Check report theory proof) P = AtEither before theory proof P
+AtFile before (Prove limits theory script proof) P = AtEither before theory script P
 AtFile before (Show theory) P = P 1 theory
 AtFile before (Contexts budget theory) P = P 1 theory
 AtFile before (Reduce budget theory script) P = AtEither before theory script P
 AtFile before (Library text) P = ⊥
+AtFile before (Generate n) P = ⊥
 
--- The words are those of a command, of which a file was taken past the limit.
+-- The text of a proof that was found is longer than a file may be.
+abbrev pub HasLongProof : ShelfState → Command → (file count : ℕ) → Type 0
+HasLongProof before (Prove limits theory script proof) file n =
+    (text : List ℕ) × (stored : Option Stored) × IsSearched limits theory script proof (ending (status.TooLong file n) text stored) before
+HasLongProof before (Generate m) file n = (text : List ℕ) × (stored : Option Stored) × Generates m (ending (status.TooLong file n) text stored)
+HasLongProof before c file n = ⊥
+
+-- The words are those of a command, of which a file was taken past the limit, or the file that it stores would be past it.
 pub record IsPastLimit (words : List (List ℕ)) (before : ShelfState) (file count : ℕ) : Type 0 where
   pub command : Command
   pub asks : Asks words command
-  pub past : AtFile before command (λ f name. (f ≡ file) × IsTooLong name count before)
+  pub past : AtFile before command (λ f name. (f ≡ file) × IsTooLong name count before) ⊎ HasLongProof before command file count
 
 -- The words are those of a command, of which a file was not read. The shelf's count is given, and the sink got nothing.
 pub record IsReadFault (words : List (List ℕ)) (before after : ShelfState) (start end : SinkState) (count : ℕ) : Type 0 where
@@ -71,7 +88,7 @@ pub record IsReadFault (words : List (List ℕ)) (before after : ShelfState) (st
   pub nothing : Prints [] start end
 
 -- A text was not written whole. The sink's count rose and is given, and the sink got a part of the text, which is the outcome's where the shelf tells.
-pub record IsWriteFault (words : List (List ℕ)) (before after : ShelfState) (start end : SinkState) (count : ℕ) : Type 0 where
+pub record IsUnwritten (words : List (List ℕ)) (before after : ShelfState) (start end : SinkState) (count : ℕ) : Type 0 where
   pub outcome : Status
   pub text : List ℕ
   pub stored : Option Stored
@@ -80,3 +97,28 @@ pub record IsWriteFault (words : List (List ℕ)) (before after : ShelfState) (s
   pub rose : Rose start.count end.count
   pub counted : count ≡ end.count
   pub part : PrintsFront text start end
+
+-- The outside failed to store the file of the command.
+pub record FailsToPut (words : List (List ℕ)) (before after : ShelfState) : Type 0 where
+  pub command : Command
+  pub asks : Asks words command
+  pub name : List ℕ
+  pub named : stored_name command ≡ Some name
+  pub struck : Struck name true before after
+
+-- The file of a command was not stored. The shelf's count rose and is given, and its last fault is a `put` of this file. Every other name holds what it held,
+-- and the sink got nothing.
+pub record IsNotPut (words : List (List ℕ)) (before after : ShelfState) (start end : SinkState) (count : ℕ) : Type 0 where
+  pub put : FailsToPut words before after
+  pub others : PutFrame put.name before after
+  pub counted : count ≡ after.count
+  pub nothing : Prints [] start end
+
+abbrev pub IsWriteFault : (words : List (List ℕ)) → (before after : ShelfState) → (start end : SinkState) → (count : ℕ) → Type 0
+IsWriteFault words before after start end n = IsUnwritten words before after start end n ⊎ IsNotPut words before after start end n
+
+-- A fault of the shelf gives ReadFault, or WriteFault where it is a `put` of the file that the command stores, and no other answer.
+abbrev pub IsQuietRun : (words : List (List ℕ)) → (before after : ShelfState) → Status → Type 0
+IsQuietRun words before after (status.ReadFault n) = Unit {0}
+IsQuietRun words before after (status.WriteFault n) = IsQuiet before after ⊎ FailsToPut words before after
+IsQuietRun words before after s = IsQuiet before after

@@ -1,5 +1,5 @@
 -- What `check` and `relation` do: their outcome, what they answer, and what they print.
-use Rattle.std.specs.Prelude.{◌≡◌, ℕ, List, ◌++◌, map, flat_map, codes}
+use Rattle.std.specs.Prelude.{◌≡◌, ℕ, List, ◌++◌, map, codes}
 use Rattle.std.specs.List.{Contains}
 use Rattle.circ_outer.specs.Shelf.{ShelfState, IsQuiet}
 use Rattle.circ_outer.specs.Sink.{SinkState}
@@ -9,7 +9,8 @@ use Rattle.circ_theory.specs.Experiment.{Behaves}
 use Rattle.circ_theory.specs.declared.parts.Goal.{Goal}
 use Rattle.circ_rules.specs.Proof.{Block, Proof}
 use Rattle.circ_rules.specs.Accepted.{Derives, FirstFail}
-use Rattle.circ_show.specs.GoalsText.{plain_goal, goal_lines, relation_lines}
+use Rattle.circ_show.specs.GoalsText.{plain_goal, relation_lines}
+use Rattle.circ_found.specs.Answering.{all_goal_lines}
 use Rattle.circ_top.specs.Command.{Check, Asks}
 use Rattle.circ_top.specs.Delivery.{Prints}
 use Rattle.circ_files.specs.Files.{Held, RefusesFile}
@@ -21,10 +22,6 @@ use Rattle.circ_top.specs.declared.request.Report.{Report}
 use Rattle.circ_top.specs.declared.request.Report.TheVariants.{Goals, Relation}
 use Rattle.circ_files.specs.declared.status.Status.{Status}
 use Rattle.circ_files.specs.declared.status.Status.TheVariants as status
-
--- the goals of lists of goals, one a line
-abbrev pub all_goal_lines : Signature → List (List Goal) → List ℕ
-all_goal_lines sig goals = flat_map (λ gs. goal_lines sig (map plain_goal gs)) goals
 
 -- the text of an accepted proof: the goals of its blocks
 abbrev pub accepted_text : Signature → Proof → List ℕ

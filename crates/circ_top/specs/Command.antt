@@ -1,5 +1,5 @@
 -- What the words of a run ask for.
-use Rattle.std.specs.Prelude.{◌≡◌, List, ℕ, [], ◌∷◌, Option, Some, None, codes}
+use Rattle.std.specs.Prelude.{◌≡◌, ◌≤◌, List, ℕ, [], ◌∷◌, Option, Some, None, codes, decimal}
 use Rattle.clap.specs.Faults.{fault_of}
 use Rattle.clap.specs.Simple.{matches_of}
 use Rattle.circ_lib.specs.Library.{library_text}
@@ -18,25 +18,32 @@ report_name Relation = codes "relation"
 abbrev pub IsNoReport : (name : List ℕ) → Type 0
 IsNoReport name = (r : Report) → name ≡ report_name r → ⊥
 
--- Files go by their names. A proof is checked, and its goals are reported or the whole relation that it builds. The places of the greatest special set are
--- listed, and the terms of a script are reduced, by so many replacements at most. The library's text is that of a name that it knows.
+-- Files go by their names. A proof is checked, and its goals are reported or the whole relation that it builds. A proof of a script's goals is searched for,
+-- within limits, and stored. The places of the greatest special set are listed, and the terms of a script are reduced, by so many replacements at most. The
+-- library's text is that of a name that it knows. A chain of so many streams is made and proved.
 pub data Command : Type 0 where
   Check : (report : Report) (theory proof : List ℕ) → Command
+  Prove : (limits : Limits) → (theory script proof : List ℕ) → Command
   Show : (theory : List ℕ) → Command
   Contexts : (budget : ℕ) → (theory : List ℕ) → Command
   Reduce : (budget : ℕ) → (theory script : List ℕ) → Command
   Library : (text : List ℕ) → Command
+  Generate : (number : ℕ) → Command
 
 -- The table of commands: the name of each, and the words that are given to it.
 pub data IsCommand (limits : Limits) (name : List ℕ) (given : List (List ℕ)) : Command → Type 0 where
   check : (report : Report) (theory proof : List ℕ) → name ≡ report_name report → given ≡ theory ∷ proof ∷ []
       → IsCommand limits name given (Check report theory proof)
+  prove : (theory script proof : List ℕ) → name ≡ codes "prove" → given ≡ theory ∷ script ∷ proof ∷ []
+      → IsCommand limits name given (Prove limits theory script proof)
   show : (theory : List ℕ) → name ≡ codes "show" → given ≡ theory ∷ [] → IsCommand limits name given (Show theory)
   contexts : (theory : List ℕ) → name ≡ codes "contexts" → given ≡ theory ∷ [] → IsCommand limits name given (Contexts limits.steps theory)
   reduce : (theory script : List ℕ) → name ≡ codes "reduce" → given ≡ theory ∷ script ∷ []
       → IsCommand limits name given (Reduce limits.steps theory script)
   library : (theory text : List ℕ) → name ≡ codes "library" → given ≡ theory ∷ [] → library_text theory ≡ Some text
       → IsCommand limits name given (Library text)
+  generate : (number : ℕ) → 2 ≤ number → number ≤ 1000 → name ≡ codes "generate" → given ≡ decimal number ∷ []
+      → IsCommand limits name given (Generate number)
 
 abbrev pub IsNoneOfTable : Limits → (name : List ℕ) → (given : List (List ℕ)) → Type 0
 IsNoneOfTable limits name given = (c : Command) → IsCommand limits name given c → ⊥
@@ -56,10 +63,18 @@ IsNoCommand words = (c : Command) → Asks words c → ⊥
 -- the name under which a command stores a file
 abbrev pub stored_name : Command → Option (List ℕ)
 stored_name (Check report theory proof) = None
+stored_name (Prove limits theory script proof) = Some proof
 stored_name (Show theory) = None
 stored_name (Contexts budget theory) = None
 stored_name (Reduce budget theory script) = None
 stored_name (Library text) = None
+stored_name (Generate n) = None
+
+-- a command that stores nothing, and whose work ends with 0 or is refused
+abbrev pub IsReport : Command → Type 0
+IsReport (Prove limits theory script proof) = ⊥
+IsReport (Generate n) = ⊥
+IsReport c = Unit {0}
 
 -- No command that the words ask for stores under this name.
 abbrev pub IsNotStored : (words : List (List ℕ)) → (name : List ℕ) → Type 0
@@ -68,7 +83,9 @@ IsNotStored words name = (c : Command) → Asks words c → stored_name c ≡ So
 -- what a request in memory asks for
 abbrev pub plain_request : Request → Command
 plain_request (request.Check report theory proof) = Check report theory.now proof.now
+plain_request (request.Prove limits theory script proof) = Prove limits theory.now script.now proof.now
 plain_request (request.Show theory) = Show theory.now
 plain_request (request.Contexts budget theory) = Contexts budget theory.now
 plain_request (request.Reduce budget theory script) = Reduce budget theory.now script.now
 plain_request (request.Library text) = Library text.now
+plain_request (request.Generate n) = Generate n

@@ -1,7 +1,8 @@
 -- That nothing is left out: each run has an outcome. This is said by two denials, since nothing here decides which it is.
 use Rattle.std.specs.Prelude.{ℕ, List, Option}
 use Rattle.circ_files.specs.Files.{Held}
-use Rattle.circ_top.specs.Outcome.{Stored, Outcome}
+use Rattle.circ_top.specs.Outcome.{Outcome}
+use Rattle.circ_found.specs.Ending.{Stored}
 use Rattle.circ_files.specs.declared.status.Status.{Status}
 
 -- The words and what the named files hold have an outcome.

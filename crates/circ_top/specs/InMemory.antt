@@ -2,20 +2,24 @@
 use Rattle.std.specs.Prelude.{◌≡◌, ◌++◌, ℕ, List, Option, IsSome}
 use Rattle.circ_outer.specs.Shelf.{ShelfState}
 use Rattle.circ_outer.specs.Sink.{SinkState}
-use Rattle.circ_top.specs.Command.{Command, Check, Show, Contexts, Reduce, Library, Asks}
+use Rattle.circ_top.specs.Command.{Command, Check, Prove, Show, Contexts, Reduce, Library, Generate, Asks}
 use Rattle.circ_files.specs.Files.{Held}
 use Rattle.circ_files.specs.Like.{IsLike}
-use Rattle.circ_top.specs.Outcome.{Stored, Outcome, HoldsAfter}
+use Rattle.circ_top.specs.Outcome.{Outcome}
+use Rattle.circ_found.specs.Ending.{Stored}
+use Rattle.circ_top.specs.Storing.{HoldsAfter}
 use Rattle.circ_files.specs.declared.status.Status.{Status}
 use Rattle.circ_files.specs.declared.status.Status.TheVariants as status
 
 -- the files of a command hold something
 abbrev pub HoldsFilesOf : Held → Command → Type 0
 HoldsFilesOf held (Check report theory proof) = IsSome (held theory) × IsSome (held proof)
+HoldsFilesOf held (Prove limits theory script proof) = IsSome (held theory) × IsSome (held script)
 HoldsFilesOf held (Show theory) = IsSome (held theory)
 HoldsFilesOf held (Contexts budget theory) = IsSome (held theory)
 HoldsFilesOf held (Reduce budget theory script) = IsSome (held theory) × IsSome (held script)
 HoldsFilesOf held (Library text) = Unit {0}
+HoldsFilesOf held (Generate n) = Unit {0}
 
 abbrev pub HoldsFiles : List (List ℕ) → Held → Type 0
 HoldsFiles words held = (c : Command) → Asks words c → HoldsFilesOf held c

@@ -6,6 +6,8 @@ pub mod Delivery
 pub mod Check
 pub mod CheckProof
 pub mod Incoming
+pub mod Storing
+pub mod Prove
 pub mod Show
 pub mod Contexts
 pub mod Library

@@ -1,32 +1,44 @@
 //! The call `circ`: the program over any shelf and any sink.
 ghost use Rattle.std.specs.Prelude.{◌≡◌, ◌≤◌, ℕ, List, [], true, Option, None, map, string_bytes};
-ghost use Rattle.std.specs.Prelude.{IfOk, IfErr};
-ghost use Rattle.circ_outer.specs.Shelf.{ShelfFrame};
+ghost use Rattle.std.specs.Prelude.{IfOk, OnOk, IfErr};
+ghost use Rattle.circ_outer.specs.Shelf.{ShelfFrame, IsQuiet};
 ghost use Rattle.circ_outer.specs.Sink.{SinkFrame};
 ghost use Rattle.circ_theory.specs.Theory.{Theory};
 ghost use Rattle.circ_theory.specs.declared.parts.Goal.{Goal};
 ghost use Rattle.circ_rules.specs.Proof.{Proof};
 ghost use Rattle.circ_rules.specs.Accepted.{Derives, FirstFail};
 ghost use Rattle.circ_top.specs.declared.request.Report.{Report};
-ghost use Rattle.circ_top.specs.Command.{Check, Asks, IsNotStored, plain_request};
+ghost use Rattle.circ_top.specs.declared.words.Limits.{Limits};
+ghost use Rattle.circ_top.specs.Command.{Check, Prove, Asks, IsNotStored, IsReport};
+ghost use Rattle.circ_top.specs.Command.{plain_request};
 ghost use Rattle.circ_files.specs.Texts.{refused_text};
+ghost use Rattle.circ_found.specs.Ending.{Stored as PlainStored, plain_stored, plain_ending};
+ghost use Rattle.circ_generate.specs.Generating.{Generates};
+ghost use Rattle.circ_top.specs.Refusals.{refusal_text};
 ghost use Rattle.circ_top.specs.Delivery.{Delivers};
 ghost use Rattle.circ_top.specs.Check.{report_text, Accepts, Rejects, FilesRead};
-ghost use Rattle.circ_top.specs.Outcome.{Stored, Outcome};
-ghost use Rattle.circ_top.specs.Answer.{Succeeds, RefusesCommand, AnswersDue, Succeeded};
+ghost use Rattle.circ_top.specs.Outcome.{Outcome};
+ghost use Rattle.circ_top.specs.Prove.{StoresProof};
+ghost use Rattle.circ_top.specs.Storing.{HoldsAfter, FailsToStore, Ends, IsQuietEnd};
+ghost use Rattle.circ_top.specs.Answer.{Succeeds, Comes, RefusesCommand, AnswersDue};
+ghost use Rattle.circ_top.specs.Answer.{Succeeded};
 ghost use Rattle.circ_top.specs.Causes.{IsOutcomeOrFault, AnswersOutcome, PrintsPartOf};
-ghost use Rattle.circ_top.specs.Causes.{IsPastLimit, IsReadFault, IsWriteFault};
-ghost use Rattle.circ_files.specs.Quiet.{IsQuietBut, IsQuietCall};
+ghost use Rattle.circ_top.specs.Causes.{IsPastLimit, IsReadFault, IsWriteFault, IsQuietRun};
+ghost use Rattle.circ_files.specs.Quiet.{IsQuietCall};
 
 use crate::check::check;
 use crate::contexts::contexts;
 use crate::library::library;
+use crate::prove::prove;
 use crate::reduce::reduce;
 use crate::refusals::{refusal, usage};
 use crate::request::{Request, asked};
 use crate::show::show;
 use circ_files::Status;
+use circ_found::{Ending, Stored};
+use circ_generate::generate;
 use circ_outer::{OuterFault, Shelf, Sink, write_all};
+use circ_plain_search::laws::{one_answer as one_search, proved_is_accepted};
 use circ_proof_text::laws::one_answer;
 use circ_read::laws::read_in_one_way;
 use circ_script::laws::read_in_one_way as scripts_read_in_one_way;
@@ -35,10 +47,10 @@ use circ_soundness::one_verdict;
 use std::alloc::Global;
 
 /// The program: `words` are its name and then a command with what it takes, which is
-/// `check THEORY PROOF`, `relation THEORY PROOF`, `show THEORY`, `contexts THEORY`,
-/// `reduce THEORY SCRIPT` or `library NAME`. The options
-/// `--steps N` and `--derives N` may stand before, behind or between them. The files are taken
-/// from the shelf, and the text of the answer is written to the sink, whole.
+/// `check THEORY PROOF`, `relation THEORY PROOF`, `prove THEORY SCRIPT PROOF`, `show THEORY`,
+/// `contexts THEORY`, `reduce THEORY SCRIPT`, `library NAME` or `generate NUMBER`. The options `--steps N` and `--derives N` may stand
+/// before, behind or between them. The files are taken from the shelf, to which `prove` stores the
+/// proof, and the text of the answer is written to the sink, whole.
 pub fn circ<S: Shelf, K: Sink>(
     alloc: Global,
     words: &Vec<String>,
@@ -56,6 +68,13 @@ pub fn circ<S: Shelf, K: Sink>(
         Rejects (map string_bytes words.now.items)
         (S.state shelf.old) (S.state shelf.new) (K.state out.old) (K.state out.new) n }
 
+    // Status 0 of `prove`: the third word's file holds the text of an accepted proof of exactly the
+    // script's goals.
+    ensures proved { (limits : Limits) (theory script proof : List ℕ) →
+        Asks (map string_bytes words.now.items) (Prove limits theory script proof) →
+        result ≡ Status.Ok → StoresProof theory script proof
+        (S.state shelf.old) (S.state shelf.new) (K.state out.old) (K.state out.new) }
+
     // Status 0 of any command: its text is printed, which `Succeeds` states for each.
     ensures succeeded { result ≡ Status.Ok →
         Succeeded (map string_bytes words.now.items)
@@ -71,7 +90,7 @@ pub fn circ<S: Shelf, K: Sink>(
         IsOutcomeOrFault (map string_bytes words.now.items)
         (S.state shelf.old) (S.state shelf.new) (K.state out.old) (K.state out.new) result }
     ensures complete { (S.state shelf.old).tells ≡ true →
-        (s : Status) (text : List ℕ) (stored : Option Stored) →
+        (s : Status) (text : List ℕ) (stored : Option PlainStored) →
         Outcome (map string_bytes words.now.items) (S.state shelf.old).holds s text stored →
         AnswersOutcome (S.state shelf.old) (S.state shelf.new) (K.state out.old) (K.state out.new)
         s text stored result }
@@ -102,13 +121,15 @@ pub fn circ<S: Shelf, K: Sink>(
         IsWriteFault (map string_bytes words.now.items)
         (S.state shelf.old) (S.state shelf.new) (K.state out.old) (K.state out.new) n }
     ensures memory { result ≡ Status.Memory → (S.state shelf.old).tells ≡ true →
-        (s : Status) (text : List ℕ) (stored : Option Stored) →
+        (s : Status) (text : List ℕ) (stored : Option PlainStored) →
         Outcome (map string_bytes words.now.items) (S.state shelf.old).holds s text stored →
         PrintsPartOf s text (K.state out.old) (K.state out.new) }
 
-    // A fault of the shelf gives ReadFault and no other answer. No name changes what it holds but
-    // the one under which the command stores.
-    ensures quiet { IsQuietBut (S.state shelf.old) (S.state shelf.new) result }
+    // A fault of the shelf gives ReadFault, or WriteFault if it is that of storing the command's
+    // file, and no other answer. No name changes what it holds but the one under which the command
+    // stores.
+    ensures quiet { IsQuietRun (map string_bytes words.now.items)
+        (S.state shelf.old) (S.state shelf.new) result }
     ensures holds { (n : List ℕ) → IsNotStored (map string_bytes words.now.items) n →
         (S.state shelf.new).holds n ≡ (S.state shelf.old).holds n }
     ensures shelf_tells { (S.state shelf.new).tells ≡ (S.state shelf.old).tells }
@@ -120,6 +141,8 @@ pub fn circ<S: Shelf, K: Sink>(
     printed_in_one_way();
     one_answer();
     one_verdict();
+    one_search();
+    proved_is_accepted();
     answer(alloc, words.as_slice(), shelf, out)
 }
 
@@ -127,8 +150,10 @@ pub fn circ<S: Shelf, K: Sink>(
 fn answer<S: Shelf, K: Sink>(alloc: Global, words: &[String], shelf: &mut S, out: &mut K) -> Status
     ensures answers { AnswersDue (map string_bytes words.now)
         (S.state shelf.old) (S.state shelf.new) (K.state out.old) (K.state out.new) result }
-    ensures quiet { IsQuietBut (S.state shelf.old) (S.state shelf.new) result }
-    ensures shelf_frame { ShelfFrame (S.state shelf.old) (S.state shelf.new) }
+    ensures quiet { IsQuietRun (map string_bytes words.now)
+        (S.state shelf.old) (S.state shelf.new) result }
+    ensures shelf_tells { (S.state shelf.new).tells ≡ (S.state shelf.old).tells }
+    ensures shelf_count { (S.state shelf.old).count ≤ (S.state shelf.new).count }
     ensures sink_frame { SinkFrame (K.state out.old) (K.state out.new) }
 {
     match asked(alloc, words) {
@@ -148,22 +173,64 @@ fn answer_to<S: Shelf, K: Sink>(
     ensures answers { (words : List (List ℕ)) → Asks words (plain_request request.now) →
         AnswersDue words
         (S.state shelf.old) (S.state shelf.new) (K.state out.old) (K.state out.new) result }
-    ensures quiet { IsQuietBut (S.state shelf.old) (S.state shelf.new) result }
-    ensures shelf_frame { ShelfFrame (S.state shelf.old) (S.state shelf.new) }
+    ensures quiet { (words : List (List ℕ)) → Asks words (plain_request request.now) →
+        IsQuietRun words (S.state shelf.old) (S.state shelf.new) result }
+    ensures shelf_tells { (S.state shelf.new).tells ≡ (S.state shelf.old).tells }
+    ensures shelf_count { (S.state shelf.old).count ≤ (S.state shelf.new).count }
     ensures sink_frame { SinkFrame (K.state out.old) (K.state out.new) }
 {
-    let status = match run(alloc, request, shelf) {
-        Ok(text) => return deliver(out, Status::Ok, text.as_slice()),
-        Err(status) => status,
-    };
-    match refusal(alloc, request, &status) {
-        Ok(text) => deliver(out, status, text.as_slice()),
-        Err(_) => Status::Memory,
+    match run(alloc, request, shelf) {
+        Ok(ending) => conclude(shelf, out, ending),
+        Err(status) => refuse(alloc, request, status, out),
     }
 }
 
-/// The text of a command that succeeds, or the answer in its place.
-fn run<S: Shelf>(alloc: Global, request: &Request<'_>, shelf: &mut S) -> Result<Vec<u8>, Status>
+/// How the work of a command ends, or the answer in its place.
+fn run<'a, S: Shelf>(
+    alloc: Global,
+    request: &Request<'a>,
+    shelf: &mut S,
+) -> Result<Ending<'a>, Status>
+    ensures comes { IfOk result (λ e. Comes (plain_request request.now)
+        e.status e.text.items (plain_stored e.stored) (S.state shelf.old)) }
+    ensures refuses { IfErr result
+        (RefusesCommand (plain_request request.now) (S.state shelf.old) (S.state shelf.new)) }
+    ensures quiet { IsQuietCall (S.state shelf.old) (S.state shelf.new) result }
+    ensures frame { ShelfFrame (S.state shelf.old) (S.state shelf.new) }
+{
+    match request {
+        Request::Prove {
+            limits,
+            theory,
+            script,
+            proof,
+        } => prove(alloc, shelf, *limits, theory, script, proof),
+        Request::Generate { number } => generated(alloc, *number),
+        _ => match report(alloc, request, shelf) {
+            Ok(text) => Ok(Ending {
+                status: Status::Ok,
+                text,
+                stored: None,
+            }),
+            Err(status) => Err(status),
+        },
+    }
+}
+
+/// What comes of a chain, or want of memory.
+fn generated<'a>(alloc: Global, number: u16) -> Result<Ending<'a>, Status>
+    ensures comes { IfOk result (λ e. Generates number (plain_ending e)) }
+    ensures memory { IfErr result (λ s. s ≡ Status.Memory) }
+{
+    match generate(alloc, number) {
+        Ok(ending) => Ok(ending),
+        Err(_) => Err(Status::Memory),
+    }
+}
+
+/// The text of a command that prints it alone, or the answer in its place.
+fn report<S: Shelf>(alloc: Global, request: &Request<'_>, shelf: &mut S) -> Result<Vec<u8>, Status>
+    requires { IsReport (plain_request request.now) }
     ensures succeeds { IfOk result (λ v.
         Succeeds (plain_request request.now) v.items None (S.state shelf.old)) }
     ensures refuses { IfErr result
@@ -185,6 +252,58 @@ fn run<S: Shelf>(alloc: Global, request: &Request<'_>, shelf: &mut S) -> Result<
             script,
         } => reduce(alloc, shelf, *budget, theory, script),
         Request::Library { text } => library(alloc, text),
+        _ => unreachable!(),
+    }
+}
+
+/// Stores the file of an ending, and writes its text.
+fn conclude<S: Shelf, K: Sink>(shelf: &mut S, out: &mut K, ending: Ending<'_>) -> Status
+    ensures ends { Ends (S.state shelf.old) (S.state shelf.new) (K.state out.old) (K.state out.new)
+        ending.entry.status ending.entry.text.items (plain_stored ending.entry.stored) result }
+    ensures quiet { IsQuietEnd (plain_stored ending.entry.stored)
+        (S.state shelf.old) (S.state shelf.new) result }
+    ensures shelf_tells { (S.state shelf.new).tells ≡ (S.state shelf.old).tells }
+    ensures shelf_count { (S.state shelf.old).count ≤ (S.state shelf.new).count }
+    ensures sink_frame { SinkFrame (K.state out.old) (K.state out.new) }
+{
+    if let Err(status) = store(shelf, &ending.stored) {
+        return status;
+    }
+    deliver(out, ending.status, ending.text.as_slice())
+}
+
+/// Stores what is to be stored, or says why it is not.
+fn store<S: Shelf>(shelf: &mut S, file: &Option<Stored<'_>>) -> Result<(), Status>
+    ensures held { OnOk result
+        (HoldsAfter (plain_stored file.now) (S.state shelf.old) (S.state shelf.new)) }
+    ensures quiet { OnOk result (IsQuiet (S.state shelf.old) (S.state shelf.new)) }
+    ensures fails { IfErr result
+        (FailsToStore (plain_stored file.now) (S.state shelf.old) (S.state shelf.new)) }
+    ensures tells { (S.state shelf.new).tells ≡ (S.state shelf.old).tells }
+    ensures count { (S.state shelf.old).count ≤ (S.state shelf.new).count }
+{
+    let Some(file) = file else {
+        return Ok(());
+    };
+    match shelf.put(file.name, file.bytes.as_slice()) {
+        Ok(()) => Ok(()),
+        Err(OuterFault::Failed) => Err(Status::WriteFault {
+            count: shelf.faults(),
+        }),
+        Err(OuterFault::Memory) => Err(Status::Memory),
+    }
+}
+
+/// Writes the text of a refusal.
+fn refuse<K: Sink>(alloc: Global, request: &Request<'_>, status: Status, out: &mut K) -> Status
+    ensures delivers { Delivers (refusal_text (plain_request request.now) status)
+        (K.state out.old) (K.state out.new) status result }
+    ensures unread { (n : ℕ) → status ≡ Status.ReadFault n → result ≡ status }
+    ensures frame { SinkFrame (K.state out.old) (K.state out.new) }
+{
+    match refusal(alloc, request, &status) {
+        Ok(text) => deliver(out, status, text.as_slice()),
+        Err(_) => Status::Memory,
     }
 }
 

@@ -8,7 +8,7 @@ ghost use Rattle.circ_check.specs.Deciding.{plain_list};
 ghost use Rattle.circ_check.specs.Watching as checker;
 ghost use Rattle.circ_file.specs.Feeding as reader;
 ghost use Rattle.circ_top.specs.Check.{report_text};
-ghost use Rattle.circ_top.specs.Check.{all_goal_lines};
+ghost use Rattle.circ_found.specs.Answering.{all_goal_lines};
 ghost use Rattle.circ_top.specs.Incoming.{goals_among, HasRead, HasTaken, Judges};
 ghost use Rattle.circ_top.specs.Incoming.{RefusesBytes};
 

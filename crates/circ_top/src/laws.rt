@@ -1,5 +1,5 @@
 //! Laws on the definitions behind the clauses of `circ`.
-ghost use Rattle.std.specs.Prelude.{◌≡◌, ℕ, List, [], ◌∷◌, codes};
+ghost use Rattle.std.specs.Prelude.{◌≡◌, ◌≤◌, ℕ, List, [], ◌∷◌, length, Option, Some, codes};
 ghost use Rattle.circ_term.specs.declared.TheConstants.{MOST_NODES, MOST_DEPTH};
 ghost use Rattle.circ_term.specs.declared.TheConstants.{MOST_ARGS as MOST_TERM_ARGS};
 ghost use Rattle.circ_theory.specs.declared.TheConstants.{MOST_SORTS, MOST_VARS, MOST_OPS};
@@ -7,17 +7,31 @@ ghost use Rattle.circ_theory.specs.declared.TheConstants.{MOST_EQUATIONS, MOST_A
 ghost use Rattle.circ_theory.specs.declared.TheConstants.{MOST_DERIVATIVES, MOST_PARAMS};
 ghost use Rattle.circ_theory.specs.declared.TheConstants.{MOST_CASES};
 ghost use Rattle.circ_chart.specs.declared.TheConstants.{MOST_TOKENS};
-ghost use Rattle.circ_top.specs.Command.{Command, IsCommand, Asks, IsNoCommand};
+ghost use Rattle.circ_theory.specs.Theory.{Theory};
+ghost use Rattle.circ_theory.specs.WellFormed.{IsWellFormed};
+ghost use Rattle.circ_rules.specs.Proof.{Proof, ProofFor};
+ghost use Rattle.circ_rules.specs.Accepted.{Accepted};
+ghost use Rattle.circ_proof_text.specs.ProofText.{proof_text};
+ghost use Rattle.circ_files.specs.TheoryFile.{ReadsTheory};
+ghost use Rattle.circ_files.specs.declared.status.Status.{Status};
+ghost use Rattle.circ_files.specs.declared.status.Status.TheVariants.{Ok};
+ghost use Rattle.circ_found.specs.Ending.{Stored};
+ghost use Rattle.circ_top.specs.Outcome.{Outcome};
+ghost use Rattle.circ_top.specs.declared.request.Report.{Report};
+ghost use Rattle.circ_top.specs.Command.{Command, Check, IsCommand, Asks, IsNoCommand};
 ghost use Rattle.circ_top.specs.Complete.{HasOutcome};
 ghost use Rattle.circ_files.specs.Files.{Held};
 ghost use Rattle.circ_top.specs.InMemory.{HoldsFiles};
 ghost use Rattle.circ_top.specs.PlainWords.{IsPlainWord, usual_limits};
 ghost use Rattle.circ_files.specs.declared.files.TheConstants.{MOST_BYTES, PIECE};
 
+use circ_plain_search::laws::some_answer;
 use circ_proof_text::laws::nothing_left_out as nothing_left_out_of_texts;
-use circ_read::laws::read_or_refused;
+use circ_proof_text::laws::{one_answer, text_reads_back};
+use circ_read::laws::{read_in_one_way, read_or_refused};
 use circ_script::laws::read_or_refused as scripts_read_or_refused;
 use circ_soundness::nothing_left_out as nothing_left_out_of_proofs;
+use circ_soundness::one_verdict;
 
 /// The limits in numbers: bytes of a file and of a piece, nodes, levels and arguments of a term,
 /// sorts, variables, operators, their arguments, equations and derivatives of a theory, parameters
@@ -48,6 +62,23 @@ pub fn nothing_left_out()
     scripts_read_or_refused();
     nothing_left_out_of_texts();
     nothing_left_out_of_proofs();
+    some_answer();
+}
+
+/// What `check` comes to on a proof that was stored: over the theory and the proof's text no outcome
+/// is another than 0.
+pub fn stored_proofs_are_accepted()
+    ensures { (words : List (List ℕ)) (held : Held) (report : Report) (theory proof : List ℕ) →
+        Asks words (Check report theory proof) → (th : Theory) (p : Proof) →
+        ReadsTheory held theory th → IsWellFormed th → ProofFor th p → Accepted th p →
+        length (proof_text p) ≤ 67108864 → held proof ≡ Some (proof_text p) →
+        (s : Status) (text : List ℕ) (stored : Option Stored) →
+        Outcome words held s text stored → s ≡ Ok }
+{
+    read_in_one_way();
+    one_answer();
+    one_verdict();
+    text_reads_back();
 }
 
 /// Words that do not begin with `-` are taken as they stand, and behind `--` so is every word. No

@@ -7,6 +7,7 @@ mod contexts;
 mod incoming;
 pub mod laws;
 mod library;
+mod prove;
 mod reduce;
 mod refusals;
 mod request;

@@ -1,9 +1,9 @@
 //! What the words of a run ask for.
-ghost use Rattle.std.specs.Prelude.{◌≡◌, [], ◌∷◌, IfOk, MatchOption, map, string_bytes};
-ghost use Rattle.circ_top.specs.Command.{Asks, IsCommand, IsNoCommand, IsNoneOfTable};
+ghost use Rattle.std.specs.Prelude.{◌≡◌, ◌≤◌, ℕ, [], ◌∷◌, IfOk, MatchOption, map, string_bytes, decimal};
+ghost use Rattle.circ_top.specs.Command.{Generate, Asks, IsCommand, IsNoCommand, IsNoneOfTable};
 ghost use Rattle.circ_top.specs.Command.{report_name, IsNoReport, plain_request};
 
-use crate::words::{Words, found, is_word, matches};
+use crate::words::{Limits, Words, found, is_word, matches, number};
 use circ_lib::lookup;
 use std::alloc::{AllocError, Global};
 
@@ -25,6 +25,14 @@ pub enum Request<'a> {
         theory: &'a str,
         proof: &'a str,
     },
+    /// A proof of a script file's goals over a theory file is searched for within limits, and
+    /// stored under a name.
+    Prove {
+        limits: Limits,
+        theory: &'a str,
+        script: &'a str,
+        proof: &'a str,
+    },
     /// A theory file is printed as it is read.
     Show {
         theory: &'a str,
@@ -40,6 +48,10 @@ pub enum Request<'a> {
         budget: u64,
         theory: &'a str,
         script: &'a str,
+    },
+    /// A chain of so many streams is made and proved.
+    Generate {
+        number: u16,
     },
     /// A text of the library is printed.
     Library {
@@ -71,6 +83,7 @@ fn by_table<'a>(words: &Words<'_, 'a>) -> Option<Request<'a>>
     match words.given {
         [word] => of_one(words, word),
         [first, second] => of_two(words, first, second),
+        [first, second, third] => of_three(words, first, second, third),
         _ => None,
     }
 }
@@ -90,6 +103,9 @@ fn of_one<'a>(words: &Words<'_, 'a>, word: &'a str) -> Option<Request<'a>>
             theory: word,
         });
     }
+    if is_word(words.name, b"generate") {
+        return chain_of(word);
+    }
     if !is_word(words.name, b"library") {
         return None;
     }
@@ -97,6 +113,22 @@ fn of_one<'a>(words: &Words<'_, 'a>, word: &'a str) -> Option<Request<'a>>
         None => None,
         Some(text) => Some(Request::Library { text }),
     }
+}
+
+/// The chain of the number that a word writes.
+fn chain_of<'a>(word: &str) -> Option<Request<'a>>
+    ensures { MatchOption result
+        ((n : ℕ) → 2 ≤ n → n ≤ 1000 → word.now ≡ decimal n → ⊥)
+        (λ r. (n : ℕ) × (plain_request r ≡ Generate n) × (2 ≤ n) × (n ≤ 1000)
+        × (word.now ≡ decimal n)) }
+{
+    let number = number(word, 1_000)?;
+    if number < 2 {
+        return None;
+    }
+    Some(Request::Generate {
+        number: number as u16,
+    })
 }
 
 /// The request with two words.
@@ -120,6 +152,30 @@ fn of_two<'a>(words: &Words<'_, 'a>, first: &'a str, second: &'a str) -> Option<
         report,
         theory: first,
         proof: second,
+    })
+}
+
+/// The request with three words.
+fn of_three<'a>(
+    words: &Words<'_, 'a>,
+    first: &'a str,
+    second: &'a str,
+    third: &'a str,
+) -> Option<Request<'a>>
+    ensures { MatchOption result
+        (IsNoneOfTable words.now.limits words.now.name.now
+        (first.now ∷ second.now ∷ third.now ∷ []))
+        (λ r. IsCommand words.now.limits words.now.name.now
+        (first.now ∷ second.now ∷ third.now ∷ []) (plain_request r)) }
+{
+    if !is_word(words.name, b"prove") {
+        return None;
+    }
+    Some(Request::Prove {
+        limits: words.limits,
+        theory: first,
+        script: second,
+        proof: third,
     })
 }
 

@@ -90,7 +90,7 @@ fn budget(value: Option<&str>, usual: u64, most: u64) -> Option<u64>
 
 /// The number that a text writes in decimal digits, with no sign and no leading zero, if it is at
 /// most this.
-fn number(text: &str, most: u64) -> Option<u64>
+pub(crate) fn number(text: &str, most: u64) -> Option<u64>
     ensures { MatchOption result (IsNoNumber most text.now)
         (λ n. (text.now ≡ decimal n) × (n ≤ most)) }
 {

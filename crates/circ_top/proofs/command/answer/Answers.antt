@@ -1,6 +1,7 @@
 use Rattle.std.proofs.Common.{[], None, refl, sym, append-nil}
 use Rattle.circ_top.specs.Answer.{no_command, words_unread}
 use Rattle.circ_top.specs.Delivery.{whole}
+use Rattle.circ_top.specs.Storing.{stored_first}
 use Rattle.circ_top.specs.Refusals.{usage_text}
 use Rattle.circ_files.specs.declared.status.Status.TheVariants as status
 use Rattle.circ_top.proofs.command.answer.Goals as goal
@@ -11,8 +12,7 @@ returns-in-Ok-None-clause-answers g c = record {
   text = usage_text;
   stored = None;
   due = no_command (rw c.in-Ok-None.field-0-is at c.in-Ok-None.ensures);
-  held = λ n. refl;
-  delivered = rw c.usage.ensures at c.deliver.ensures.delivers;
+  ends = stored_first c.deliver.result (λ n. refl) (rw c.usage.ensures at c.deliver.ensures.delivers);
 }
 
 pub returns-in-Err-clause-answers : goal.returns-in-Err-clause-answers
@@ -21,6 +21,5 @@ returns-in-Err-clause-answers g c = record {
   text = [];
   stored = None;
   due = words_unread;
-  held = λ n. refl;
-  delivered = whole (record { quiet = refl; printed = λ t. sym (append-nil _) });
+  ends = stored_first status.Memory (λ n. refl) (whole (record { quiet = refl; printed = λ t. sym (append-nil _) }));
 }

@@ -1,6 +1,6 @@
 use Rattle.std.proofs.Common.{◌≡◌, ◌++◌, map, drop}
 use Rattle.circ_check.specs.Deciding.{plain_list}
-use Rattle.circ_top.specs.Check.{all_goal_lines}
+use Rattle.circ_found.specs.Answering.{all_goal_lines}
 use Rattle.circ_top.proofs.incoming.put_goals.Given as goal
 
 abbrev pub invariant-loop-list : goal.invariant-loop-list

@@ -1,0 +1,12 @@
+-- Goals within the limits of terms.
+use Rattle.std.specs.Prelude.{List}
+use Rattle.std.specs.List.{AllByRecursion}
+use Rattle.circ_term.specs.Limits.{IsWithinLimits}
+use Rattle.circ_theory.specs.declared.parts.Goal.{Goal}
+
+pub record IsWithinGoal (g : Goal) : Type 0 where
+  pub left : IsWithinLimits g.left
+  pub right : IsWithinLimits g.right
+
+abbrev pub AreWithin : (blocks : List (List Goal)) → Type 0
+AreWithin blocks = AllByRecursion (λ b. AllByRecursion IsWithinGoal b) blocks

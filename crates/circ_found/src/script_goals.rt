@@ -1,0 +1,46 @@
+//! That the goals of a script can be searched.
+ghost use Rattle.std.specs.Prelude.{◌≡◌, map};
+ghost use Rattle.std.specs.List.{AllByRecursion};
+ghost use Rattle.circ_plain_search.specs.PlainSearch.{AreSearchable};
+ghost use Rattle.circ_script.specs.Script.{plain_script};
+ghost use Rattle.circ_script.specs.Fit.{IsFit, IsScriptFor};
+ghost use Rattle.circ_script.specs.declared.job.Job.TheVariants.{Prove};
+ghost use Rattle.circ_found.specs.Answering.{blocks_of};
+ghost use Rattle.circ_found.specs.Searchable.{IsWithinGoal, AreWithin};
+
+use circ_theory::{Goal, Script, Theory};
+
+/// What is read as a script for a proof can be searched: its terms are within the limits, as every
+/// term is.
+pub fn searchable(theory: &Theory, script: &Script)
+    requires fit { IsFit theory.now.signature (plain_script script.now) }
+    requires goals { IsScriptFor Prove (plain_script script.now) }
+    ensures searchable { AreSearchable theory.now (blocks_of (plain_script script.now)) }
+    ensures same { blocks_of (plain_script script.now)
+        ≡ map (λ b. b.items) script.now.blocks.items }
+{
+    blocks_within(script.blocks.as_slice());
+}
+
+fn blocks_within(blocks: &[Vec<Goal>])
+    ensures { AreWithin (map (λ b. b.items) blocks.now) }
+{
+    for block in blocks {
+        goals_within(block.as_slice());
+    }
+}
+
+fn goals_within(goals: &[Goal])
+    ensures { AllByRecursion IsWithinGoal goals.now }
+{
+    for goal in goals {
+        within(goal);
+    }
+}
+
+fn within(goal: &Goal)
+    ensures { IsWithinGoal goal.now }
+{
+    goal.left.known();
+    goal.right.known();
+}

@@ -1,0 +1,6 @@
+use Rattle.std.proofs.Common.{◌≡◌, ◌++◌}
+use Rattle.circ_generate.specs.Chain.{each_below, eqs_text}
+use Rattle.circ_generate.proofs.chain.push_all_eqs.Given as goal
+
+abbrev pub invariant-loop-i : goal.invariant-loop-i
+invariant-loop-i l = l.out.items ≡ l.fn.out.items ++ each_below (eqs_text l.last) l.i
