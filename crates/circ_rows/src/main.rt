@@ -15,7 +15,7 @@ use std::alloc::{AllocError, Global};
 use std::{fs, io};
 
 /// The tables, in the order in which they are run.
-const TABLES: [&str; 18] = [
+const TABLES: [&str; 20] = [
     "rows-words",
     "rows-faults",
     "rows-causes",
@@ -34,6 +34,8 @@ const TABLES: [&str; 18] = [
     "rows-content",
     "rows-changed-contexts",
     "rows-changed-proofs",
+    "rows-prove",
+    "rows-search",
 ];
 
 /// What ends a row and begins the next.
