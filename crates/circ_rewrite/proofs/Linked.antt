@@ -53,11 +53,11 @@ any_put p v (w ∷ ws) = go (is_before w v) (any_put p v ws)
     go true ih = ap (λ b. p w || b) ih ∙ swap (p w) (p v) (list_any p ws)
     go false ih = refl
 
-any_sorted : (p : Variable → Bool) (vs : List Variable) → list_any p (sorted vs) ≡ list_any p vs
+pub any_sorted : (p : Variable → Bool) (vs : List Variable) → list_any p (sorted vs) ≡ list_any p vs
 any_sorted p [] = refl
 any_sorted p (v ∷ vs) = any_put p v (sorted vs) ∙ ap (λ b. p v || b) (any_sorted p vs)
 
-fit_given : (σ : Substitution) → KeepsSorts σ → (vs : List Variable) → FitVariables vs (terms_by σ vs)
+pub fit_given : (σ : Substitution) → KeepsSorts σ → (vs : List Variable) → FitVariables vs (terms_by σ vs)
 fit_given σ k [] = tt
 fit_given σ k (v ∷ vs) = (k v.number v.sort, fit_given σ k vs)
 
@@ -66,7 +66,7 @@ flip v w e =
     let p = and_parts (v.number == w.number) (v.sort == w.sort) e in
     rw (eq-eqb w.number v.number (sym (eqb-true v.number w.number p.0)), eq-eqb w.sort v.sort (sym (eqb-true v.sort w.sort p.1))) refl
 
-given_back : (σ : Substitution) (vs : List Variable) (n s : ℕ) → list_any (is_variable (record { number = n; sort = s })) vs ≡ true
+pub given_back : (σ : Substitution) (vs : List Variable) (n s : ℕ) → list_any (is_variable (record { number = n; sort = s })) vs ≡ true
     → given vs (terms_by σ vs) n s ≡ σ n s
 given_back σ [] n s e = absurd (cc)
 given_back σ (v ∷ vs) n s e = go (given_back σ vs n s) ((v.number == n) && (v.sort == s)) refl
@@ -232,7 +232,7 @@ module _ (c : Setting) (ok : IsWellFormed c.theory) where
             keeps = kept.0;
           })
 
-assumed_is : (n : ℕ) (gs : List Goal) (t : Tree) (r : Replacement) → assumed n gs t ≡ Some r
+pub assumed_is : (n : ℕ) (gs : List Goal) (t : Tree) (r : Replacement) → assumed n gs t ≡ Some r
     → (i : ℕ) × (g : Goal) × (slice_get gs i ≡ Some g) × (g.left ≡ t) × (r ≡ record { reason = By_assumption (n + i); new = g.right })
 assumed_is n [] t r e = absurd (cc)
 assumed_is n (g ∷ gs) t r e = go (is_same g.left t) refl (assumed_is (n + 1) gs t r) e

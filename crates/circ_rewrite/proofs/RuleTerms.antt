@@ -38,7 +38,7 @@ any_seen v w us = go (list_any (is_variable w) us) refl (is_variable v w) refl
     go false h b e = list_any-append (is_variable v) us (w ∷ []) ∙ ap (λ x. list_any (is_variable v) us || x) (or-false (is_variable v w) ∙ e)
 
 mutual
-  any_seen_in : (v : Variable) (t : Tree) (us : List Variable)
+  pub any_seen_in : (v : Variable) (t : Tree) (us : List Variable)
       → list_any (is_variable v) (seen_in t us) ≡ (list_any (is_variable v) us || list_any (is_variable v) (occurrences t))
   any_seen_in v (Var n s) us = any_seen v (variable n s) us ∙ ap (λ b. list_any (is_variable v) us || b) (sym (or-false (is_variable v (variable n s))))
   any_seen_in v (App f s ts) us = any_seen_in_all v ts us

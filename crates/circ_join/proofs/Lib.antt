@@ -1,0 +1,4 @@
+pub mod Joins
+pub mod BothSides
+pub mod Passes
+pub mod Places

@@ -1,0 +1,20 @@
+use Rattle.std.proofs.Common.{◌≡◌, ◌+◌, ◌*◌}
+use Rattle.circ_term.specs.Tree.{trees_of, depth_of, depths_of}
+use Rattle.circ_join.specs.Uses.{plain_uses}
+use Rattle.circ_join.proofs.Joins.{Going}
+use Rattle.circ_join.proofs.joining.Joining.+join.Given as goal
+
+abbrev pub decreases-joins : goal.decreases-joins
+decreases-joins l = 3 * depth_of l.a.now
+
+abbrev pub decreases-all_join : goal.decreases-all_join
+decreases-all_join l = 3 * depths_of (trees_of l.args.now) + 2
+
+abbrev pub decreases-joins_at : goal.decreases-joins_at
+decreases-joins_at l = 3 * depth_of l.arg.now + 1
+
+abbrev pub invariant-all_join-loop-i : goal.invariant-all_join-loop-i
+invariant-all_join-loop-i l = record {
+  path : l.path.items ≡ l.fn.path.items;
+  going : Going l.self.gamma.now l.self.hyps.now l.op l.fn.path.items l.args l.others (plain_uses l.fn.uses.items) (plain_uses l.uses.items) l.i;
+}

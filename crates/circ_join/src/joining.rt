@@ -1,0 +1,215 @@
+//! Whether two terms join by hypotheses at special paths.
+ghost use Rattle.std.specs.Prelude.{◌≡◌, ◌<◌, ◌≤◌, ◌^◌, [], ◌∷◌, ◌++◌, length, map, IfOk, OnOk};
+ghost use Rattle.std.specs.Option.{option_map};
+ghost use Rattle.circ_term.specs.Tree.{trees_of};
+ghost use Rattle.circ_plain_search.specs.Joining.{one_use, first_use, joined, all_joined, use_with};
+ghost use Rattle.circ_plain_search.specs.Joining.{pair_use, is_place};
+ghost use Rattle.circ_join.specs.Uses.{plain_use, plain_uses, Joins};
+
+use crate::pairs::pair_terms;
+use crate::uses::HypothesisUse;
+use circ_special::Gamma;
+use circ_term::{Kind, Path, Term};
+use circ_theory::{Goal, Way};
+use std::alloc::{AllocError, Global};
+
+/// What two terms may join by.
+#[derive(Clone, Copy)]
+pub struct Joining<'a> {
+    /// Where memory comes from.
+    pub alloc: Global,
+    /// The special set.
+    pub gamma: &'a Gamma,
+    /// The hypotheses.
+    pub hyps: &'a [Goal],
+}
+
+impl Joining<'_> {
+    /// The uses of hypotheses that make the first term equal to the second. None where they do not
+    /// join.
+    pub fn join(&self, a: &Term, b: &Term) -> Result<Option<Vec<HypothesisUse>>, AllocError>
+        requires few { length self.now.hyps.now < 2 ^ 32 }
+        ensures { IfOk result (λ o. option_map (λ v. plain_uses v.items) o
+            ≡ joined self.now.gamma.now self.now.hyps.now [] a.now b.now) }
+    {
+        let mut path = Path::new(self.alloc);
+        let mut uses = Vec::new(self.alloc);
+        if self.joins(a, b, &mut path, &mut uses)? {
+            Ok(Some(uses))
+        } else {
+            Ok(None)
+        }
+    }
+
+    // Whether a and b, which stand at the path, join. The uses are appended in order. After false
+    // there may be some that count for nothing.
+    #[cycle(join)]
+    fn joins(
+        &self,
+        a: &Term,
+        b: &Term,
+        path: &mut Path,
+        uses: &mut Vec<HypothesisUse>,
+    ) -> Result<bool, AllocError>
+        requires few { length self.now.hyps.now < 2 ^ 32 }
+        ensures exact { Joins (joined self.now.gamma.now self.now.hyps.now path.old.items
+            a.now b.now) (plain_uses uses.old.items) (plain_uses uses.new.items) result }
+        ensures path { OnOk result (path.new.items ≡ path.old.items) }
+    {
+        if a.same(b) {
+            return Ok(true);
+        }
+        if let Some(one) = self.first_use(path.as_slice(), a, b)? {
+            uses.push(one)?;
+            return Ok(true);
+        }
+        match (a.kind(), b.kind()) {
+            (Kind::Variable { .. }, _) => Ok(false),
+            (Kind::Application { .. }, Kind::Variable { .. }) => Ok(false),
+            (
+                Kind::Application { op, sort, args },
+                Kind::Application {
+                    op: other_op,
+                    sort: other_sort,
+                    args: others,
+                },
+            ) => {
+                if op != other_op || sort != other_sort {
+                    return Ok(false);
+                }
+                self.all_join(op, args, others, path, uses)
+            }
+        }
+    }
+
+    // The same for the arguments of an operator.
+    #[cycle(join)]
+    fn all_join(
+        &self,
+        op: u32,
+        args: &[Term],
+        others: &[Term],
+        path: &mut Path,
+        uses: &mut Vec<HypothesisUse>,
+    ) -> Result<bool, AllocError>
+        requires few { length self.now.hyps.now < 2 ^ 32 }
+        requires narrow { length args.now ≤ 65536 }
+        ensures exact { Joins (all_joined self.now.gamma.now self.now.hyps.now op path.old.items 0
+            (trees_of args.now) (trees_of others.now))
+            (plain_uses uses.old.items) (plain_uses uses.new.items) result }
+        ensures path { OnOk result (path.new.items ≡ path.old.items) }
+    {
+        if args.len() != others.len() {
+            return Ok(false);
+        }
+        for i in 0..args.len() {
+            let arg = &args[i];
+            let other = &others[i];
+            if arg.same(other) {
+                continue;
+            }
+            if !has_place(self.gamma, op, i as u16) {
+                return Ok(false);
+            }
+            if !self.joins_at(i as u16, arg, other, path, uses)? {
+                return Ok(false);
+            }
+        }
+        Ok(true)
+    }
+
+    // The same for the arguments at a place.
+    #[cycle(join)]
+    fn joins_at(
+        &self,
+        i: u16,
+        arg: &Term,
+        other: &Term,
+        path: &mut Path,
+        uses: &mut Vec<HypothesisUse>,
+    ) -> Result<bool, AllocError>
+        requires few { length self.now.hyps.now < 2 ^ 32 }
+        ensures exact { Joins (joined self.now.gamma.now self.now.hyps.now
+            (path.old.items ++ i ∷ []) arg.now other.now)
+            (plain_uses uses.old.items) (plain_uses uses.new.items) result }
+        ensures path { OnOk result (path.new.items ≡ path.old.items) }
+    {
+        path.push(i)?;
+        let joins = self.joins(arg, other, path, uses)?;
+        let _last = path.pop();
+        Ok(joins)
+    }
+
+    // The first use of a hypothesis on both terms. They are tried in order.
+    fn first_use(
+        &self,
+        path: &[u16],
+        a: &Term,
+        b: &Term,
+    ) -> Result<Option<HypothesisUse>, AllocError>
+        requires few { length self.now.hyps.now < 2 ^ 32 }
+        ensures { IfOk result (λ o. option_map plain_use o
+            ≡ first_use 0 self.now.hyps.now path.now a.now b.now) }
+    {
+        for n in 0..self.hyps.len() {
+            let found = one_use(self.alloc, n as u32, &self.hyps[n], path, a, b)?;
+            if let Some(one) = found {
+                return Ok(Some(one));
+            }
+        }
+        Ok(None)
+    }
+}
+
+/// Whether an argument of an operator is a place of the set.
+pub(crate) fn has_place(gamma: &Gamma, op: u32, arg: u16) -> bool
+    ensures { result ≡ is_place gamma.now op arg }
+{
+    gamma.has(op, arg)
+}
+
+// One hypothesis, with its left side on a, or else the other way about.
+fn one_use(
+    alloc: Global,
+    number: u32,
+    hyp: &Goal,
+    path: &[u16],
+    a: &Term,
+    b: &Term,
+) -> Result<Option<HypothesisUse>, AllocError>
+    ensures { IfOk result (λ o. option_map plain_use o
+        ≡ one_use number hyp.now path.now a.now b.now) }
+{
+    if let Some(one) = pair_use(alloc, number, Way::Forth, hyp, path, b, a, b)? {
+        return Ok(Some(one));
+    }
+    pair_use(alloc, number, Way::Back, hyp, path, b, b, a)
+}
+
+// A hypothesis with its left side on a and its right side on b.
+fn pair_use(
+    alloc: Global,
+    number: u32,
+    way: Way,
+    hyp: &Goal,
+    path: &[u16],
+    new: &Term,
+    a: &Term,
+    b: &Term,
+) -> Result<Option<HypothesisUse>, AllocError>
+    ensures { IfOk result (λ o. option_map plain_use o
+        ≡ pair_use number way hyp.now path.now new.now a.now b.now) }
+{
+    let Some(terms) = pair_terms(alloc, hyp, a, b)? else {
+        return Ok(None);
+    };
+    let path = Path::from_slice(alloc, path)?;
+    let new = new.share()?;
+    Ok(Some(HypothesisUse {
+        number,
+        way,
+        path,
+        terms,
+        new,
+    }))
+}

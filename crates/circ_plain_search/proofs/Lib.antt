@@ -1,0 +1,12 @@
+pub mod Terms
+pub mod Led
+pub mod PairTerms
+pub mod Rules
+pub mod Normals
+pub mod Special
+pub mod Uses
+pub mod Joins
+pub mod Passes
+pub mod Splits
+pub mod Deep
+pub mod Derived

@@ -1,0 +1,4 @@
+pub mod BlockRules
+pub mod Joining
+pub mod Search
+pub mod Numbering

@@ -1,0 +1,4 @@
+//! The plain search by definitions alone: what a search for a proof comes to, and why what it
+//! proves is accepted. This crate has no code: its laws are contracts of functions that do
+//! nothing, and docs/search.md tells the search in words.
+#![tactic(auto)]
