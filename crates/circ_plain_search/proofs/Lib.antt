@@ -10,3 +10,11 @@ pub mod Passes
 pub mod Splits
 pub mod Deep
 pub mod Derived
+pub mod Runs
+pub mod Turns
+pub mod Ends
+pub mod Answers
+pub mod Tables
+pub mod Naming
+pub mod Ranges
+pub mod Steps

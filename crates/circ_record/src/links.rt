@@ -3,7 +3,9 @@ ghost use Rattle.std.specs.Prelude.{◌≡◌, map, IfOk};
 ghost use Rattle.circ_rewrite.specs.Plain.{plain_trace, plain_traces};
 ghost use Rattle.circ_rewrite.specs.Replacement.{By_rule};
 ghost use Rattle.circ_rewrite.specs.Links.{link_of, link_by};
-ghost use Rattle.circ_record.specs.Plain.{plain_term_link};
+ghost use Rattle.circ_replay.specs.Plain.{Same_why, Split_why};
+ghost use Rattle.circ_record.specs.Plain.{plain_term_link, plain_term_chain};
+ghost use Rattle.circ_record.specs.Plain.{plain_term_why, plain_term_whys};
 
 use circ_rewrite::{RuleName, Trace};
 use circ_term::{Path, Term};
@@ -63,6 +65,23 @@ pub enum TermWhy {
         term: Term,
         whys: Vec<TermWhy>,
     },
+}
+
+impl TermWhy {
+    /// The reason that the chain leads to one term.
+    pub fn same(chain: TermChain) -> TermWhy
+        ensures { plain_term_why result ≡ Same_why (plain_term_chain chain) }
+    {
+        TermWhy::Same { chain }
+    }
+
+    /// The reason that after the chain each case of the term has a reason.
+    pub fn split(chain: TermChain, term: Term, whys: Vec<TermWhy>) -> TermWhy
+        ensures { plain_term_why result
+            ≡ Split_why (plain_term_chain chain) term (plain_term_whys whys.items) }
+    {
+        TermWhy::Split { chain, term, whys }
+    }
 }
 
 /// A step of a proof.

@@ -1,0 +1,25 @@
+use Rattle.std.proofs.Common.{◌≡◌, ◌+◌, ◌*◌, drop}
+use Rattle.circ_plain_search.specs.Search.{each_case, split_cases}
+use Rattle.circ_split.proofs.Splits.{Rest}
+use Rattle.circ_split.proofs.sides.Splitting.+split.Given as goal
+
+abbrev pub decreases-split_with : goal.decreases-split_with
+decreases-split_with l = 4 * l.room
+
+abbrev pub decreases-each_case : goal.decreases-each_case
+decreases-each_case l = 4 * l.room + 3
+
+abbrev pub decreases-one_case : goal.decreases-one_case
+decreases-one_case l = 4 * l.room + 2
+
+abbrev pub decreases-case_reason : goal.decreases-case_reason
+decreases-case_reason l = 4 * l.room + 1
+
+abbrev pub invariant-each_case-loop-i : goal.invariant-each_case-loop-i
+invariant-each_case-loop-i l = record {
+  same : l.assumptions.items ≡ l.fn.assumptions.items;
+  rest : Rest
+      (each_case l.self.theory.now l.self.rules.now (split_cases l.self.theory.now l.self.rules.now l.room) l.fn.assumptions.items l.term l.left l.right l.constants l.fn.budget)
+      (each_case l.self.theory.now l.self.rules.now (split_cases l.self.theory.now l.self.rules.now l.room) l.fn.assumptions.items l.term l.left l.right (drop l.i l.constants) l.budget)
+      l.whys.items;
+}

@@ -1,0 +1,208 @@
+//! The splits of a goal into cases.
+ghost use Rattle.std.specs.Prelude.{◌≡◌, ◌≤◌, ◌+◌, ℕ, [], ◌∷◌, ◌++◌, length, Err, IfOk, OnOk};
+ghost use Rattle.circ_term.specs.Tree.{App, none, sort_of};
+ghost use Rattle.circ_rules.specs.Proof.{split_limit};
+ghost use Rattle.circ_plain_search.specs.Joining.{Not_split};
+ghost use Rattle.circ_plain_search.specs.Search.{split_cases, each_case, case_of, constants_of};
+ghost use Rattle.circ_split.specs.Answers.{GivesReason, GivesWhys, GivesCases, case_answer};
+
+use crate::opening::{constants_of, open_of};
+use crate::sides::Splitting;
+use circ_join::Stop;
+use circ_record::TermWhy;
+use circ_term::{Term, TermFault};
+use circ_theory::Goal;
+use std::alloc::{AllocError, Global};
+
+/// A term that is split on, with a reason for each constant of its sort's case list.
+#[derive(Drop)]
+pub struct Cases {
+    /// The term.
+    pub term: Term,
+    /// The reasons.
+    pub whys: Vec<TermWhy>,
+}
+
+impl Splitting<'_> {
+    /// The cases of the first open subterm of the left side, or else of the right side. A case
+    /// whose sides are not equal is split again, with eight splits inside one another at most.
+    pub fn split_cases(&self, left: &Term, right: &Term, budget: &mut u64) -> Result<Cases, Stop>
+        ensures { GivesCases (split_cases self.now.theory.now self.now.rules.now split_limit []
+            left.now right.now budget.old) budget.new result }
+    {
+        let mut assumptions = Vec::new(self.alloc);
+        self.split_with(8, &mut assumptions, left, right, budget)
+    }
+
+    // The same under assumptions, with room for so many splits.
+    #[cycle(split)]
+    fn split_with(
+        &self,
+        room: u32,
+        assumptions: &mut Vec<Goal>,
+        left: &Term,
+        right: &Term,
+        budget: &mut u64,
+    ) -> Result<Cases, Stop>
+        requires few { length assumptions.old.items + room ≤ split_limit }
+        ensures exact { GivesCases (split_cases self.now.theory.now self.now.rules.now room
+            assumptions.old.items left.now right.now budget.old) budget.new result }
+        ensures same { OnOk result (assumptions.new.items ≡ assumptions.old.items) }
+    {
+        if room == 0 {
+            return stuck(self.alloc, left, right, assumptions.as_slice());
+        }
+        match open_of(self.theory, left, right) {
+            None => stuck(self.alloc, left, right, assumptions.as_slice()),
+            Some(term) => {
+                match self.each_case(room - 1, assumptions, term, left, right, budget) {
+                    Err(stop) => Err(stop),
+                    Ok(whys) => Ok(Cases {
+                        term: term.share()?,
+                        whys,
+                    }),
+                }
+            }
+        }
+    }
+
+    // For each constant in order: a reason.
+    #[cycle(split)]
+    fn each_case(
+        &self,
+        room: u32,
+        assumptions: &mut Vec<Goal>,
+        term: &Term,
+        left: &Term,
+        right: &Term,
+        budget: &mut u64,
+    ) -> Result<Vec<TermWhy>, Stop>
+        requires few { length assumptions.old.items + room + 1 ≤ split_limit }
+        ensures exact { GivesWhys (each_case self.now.theory.now self.now.rules.now
+            (split_cases self.now.theory.now self.now.rules.now room) assumptions.old.items
+            term.now left.now right.now (constants_of self.now.theory.now (sort_of term.now))
+            budget.old) term.now budget.new result }
+        ensures same { OnOk result (assumptions.new.items ≡ assumptions.old.items) }
+    {
+        let mut whys = Vec::new(self.alloc);
+        let constants = constants_of(self.theory, term.sort());
+        for i in 0..constants.len() {
+            match self.one_case(room, assumptions, term, constants[i], left, right, budget) {
+                Err(stop) => return Err(stop),
+                Ok(why) => whys.push(why)?,
+            }
+        }
+        Ok(whys)
+    }
+
+    // The case is assumed, and both sides are normalised.
+    #[cycle(split)]
+    fn one_case(
+        &self,
+        room: u32,
+        assumptions: &mut Vec<Goal>,
+        term: &Term,
+        constant: u32,
+        left: &Term,
+        right: &Term,
+        budget: &mut u64,
+    ) -> Result<TermWhy, Stop>
+        requires few { length assumptions.old.items + room + 1 ≤ split_limit }
+        ensures exact { GivesReason (case_answer self.now.theory.now self.now.rules.now room
+            (assumptions.old.items ++ case_of term.now constant ∷ []) left.now right.now
+            budget.old) budget.new result }
+        ensures same { OnOk result (assumptions.new.items ≡ assumptions.old.items) }
+    {
+        let case = case_of(self.alloc, term, constant)?;
+        assumptions.push(case)?;
+        match self.case_reason(room, assumptions, left, right, budget) {
+            Err(stop) => Err(stop),
+            Ok(why) => {
+                let _case = assumptions.pop();
+                Ok(why)
+            }
+        }
+    }
+
+    // A case ends where the sides are equal, and else is split again.
+    #[cycle(split)]
+    fn case_reason(
+        &self,
+        room: u32,
+        assumptions: &mut Vec<Goal>,
+        left: &Term,
+        right: &Term,
+        budget: &mut u64,
+    ) -> Result<TermWhy, Stop>
+        requires few { length assumptions.old.items + room ≤ split_limit }
+        ensures exact { GivesReason (case_answer self.now.theory.now self.now.rules.now room
+            assumptions.old.items left.now right.now budget.old) budget.new result }
+        ensures same { OnOk result (assumptions.new.items ≡ assumptions.old.items) }
+    {
+        match self.normal_sides(assumptions.as_slice(), left, right, budget) {
+            Err(stop) => Err(stop),
+            Ok(sides) => {
+                if sides.left.same(&sides.right) {
+                    return Ok(TermWhy::same(sides.chain));
+                }
+                match self.split_with(room, assumptions, &sides.left, &sides.right, budget) {
+                    Err(stop) => Err(stop),
+                    Ok(cases) => Ok(TermWhy::split(sides.chain, cases.term, cases.whys)),
+                }
+            }
+        }
+    }
+}
+
+// The two sides cannot be split further under the assumptions.
+fn stuck(alloc: Global, left: &Term, right: &Term, assumptions: &[Goal]) -> Result<Cases, Stop>
+    ensures { (n : ℕ) → GivesCases (Err (Not_split left.now right.now assumptions.now))
+        n result }
+{
+    let left = left.share()?;
+    let right = right.share()?;
+    let assumptions = share_goals(alloc, assumptions)?;
+    Err(Stop::Stuck {
+        left,
+        right,
+        assumptions,
+    })
+}
+
+fn share_goals(alloc: Global, goals: &[Goal]) -> Result<Vec<Goal>, AllocError>
+    ensures { IfOk result (λ v. v.items ≡ goals.now) }
+{
+    let mut copy = Vec::with_capacity(alloc, goals.len())?;
+    for goal in goals {
+        copy.push(share_goal(goal)?)?;
+    }
+    Ok(copy)
+}
+
+fn share_goal(goal: &Goal) -> Result<Goal, AllocError>
+    ensures { IfOk result (λ g. g ≡ goal.now) }
+{
+    let left = goal.left.share()?;
+    let right = goal.right.share()?;
+    Ok(Goal { left, right })
+}
+
+// The term is the constant.
+fn case_of(alloc: Global, term: &Term, constant: u32) -> Result<Goal, AllocError>
+    ensures { IfOk result (λ g. g ≡ case_of term.now constant) }
+{
+    let left = term.share()?;
+    let right = constant_of(alloc, constant, term.sort())?;
+    Ok(Goal { left, right })
+}
+
+fn constant_of(alloc: Global, constant: u32, sort: u32) -> Result<Term, AllocError>
+    ensures { IfOk result (λ t. t ≡ App constant sort none) }
+{
+    match Term::app(alloc, constant, sort, Vec::new(alloc)) {
+        Ok(term) => Ok(term),
+        Err(TermFault::Memory) => Err(AllocError),
+        Err(TermFault::TooBig { .. }) => unreachable!(),
+        Err(TermFault::TooDeep { .. }) => unreachable!(),
+    }
+}
