@@ -1,0 +1,26 @@
+-- What the derivatives of a goal are, as the code makes them.
+use Rattle.std.specs.Prelude.{◌≡◌, ◌≤◌, ◌+◌, ◌^◌, [], ◌∷◌, None, Result, Ok, Err}
+use Rattle.std.proofs.Common.{Global}
+use Rattle.std.specs.declared.collections.VecDeque.{VecDeque}
+use Rattle.circ_theory.specs.Theory.{Theory}
+use Rattle.circ_theory.specs.declared.parts.Goal.{Goal}
+use Rattle.circ_replay.specs.Goals.{IsWellSortedGoal}
+use Rattle.circ_rules.specs.Rules.{fresh_in, derivatives_on}
+use Rattle.circ_plain_search.specs.Search.{goals_limit, unless_past}
+use Rattle.circ_join.specs.Stopping.{Stops}
+use Rattle.circ_join.specs.declared.stop.Stop.{Stop}
+
+-- a goal whose derivatives can be made: well-sorted, with room for the numbers of parameters
+pub record IsFineGoal (th : Theory) (g : Goal) : Type 0 where
+  pub sorted : IsWellSortedGoal th g
+  pub low : fresh_in g + 8 ≤ 2 ^ 32
+
+-- the derivatives of the goal, or the first limit that one of them passes
+abbrev pub GivesDerivatives : Theory → Goal → Result (VecDeque Goal Global) Stop → Type 0
+GivesDerivatives th g (Ok q) = unless_past (goals_limit (derivatives_on th g)) (derivatives_on th g) ≡ Ok q.items
+GivesDerivatives th g (Err e) = Stops (unless_past (goals_limit (derivatives_on th g)) (derivatives_on th g)) e
+
+-- the goal, or the first limit that one of its sides passes, the left side first
+abbrev pub GivesGoal : Goal → Result Goal Stop → Type 0
+GivesGoal g (Ok h) = (h ≡ g) × (goals_limit (g ∷ []) ≡ None)
+GivesGoal g (Err e) = Stops (unless_past (goals_limit (g ∷ [])) (g ∷ [])) e
