@@ -1,7 +1,4 @@
 //! What a search goes by, and its run.
-ghost use Rattle.std.specs.Prelude.{◌≡◌, [], ◌∷◌, map, IfOk};
-ghost use Rattle.circ_plain_search.specs.Search.{start};
-ghost use Rattle.circ_turn.specs.Standing.{standing, plain_limits};
 
 use crate::end::End;
 use crate::state::State;

@@ -1,8 +1,4 @@
 //! Where a search stands.
-ghost use Rattle.std.specs.Prelude.{◌≡◌, ◌<◌, ◌++◌, [], 0, length, drop, map, IfOk, OnOk};
-ghost use Rattle.circ_plain_search.specs.Search.{no_links, with_sides, sides_with, start};
-ghost use Rattle.circ_record.specs.Plain.{plain_term_chain};
-ghost use Rattle.circ_turn.specs.Standing.{standing, without_chain};
 
 use circ_block::{share_goal, share_goals};
 use circ_record::{TermChain, TermStep};
