@@ -31,7 +31,14 @@ impl BlockRules {
         let mut rules = theory_rules(alloc, theory)?;
         let mut lemmas = Vec::new(alloc);
         for n in 0..earlier.len() {
-            put_lemma(alloc, theory, n as u32, &earlier[n], &mut rules, &mut lemmas)?;
+            put_lemma(
+                alloc,
+                theory,
+                n as u32,
+                &earlier[n],
+                &mut rules,
+                &mut lemmas,
+            )?;
         }
         let rules = RuleIndex::of(alloc, rules)?;
         Ok(BlockRules { rules, lemmas })

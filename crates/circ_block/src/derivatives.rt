@@ -3,9 +3,10 @@ ghost use Rattle.std.specs.Prelude.{◌≡◌, ◌≤◌, ◌+◌, ◌^◌, Some
 ghost use Rattle.std.specs.List.{slice_get};
 ghost use Rattle.std.specs.Option.{IfSome, option_map, option_map_or};
 ghost use Rattle.circ_term.specs.Tree.{sort_of};
-ghost use Rattle.circ_theory.specs.Fresh.{variables_from};
+ghost use Rattle.circ_theory.specs.Fresh.{variables_from, FitSome};
 ghost use Rattle.circ_rules.specs.Rules.{fresh_in, derived_goal};
-ghost use Rattle.circ_block.specs.Derived.{IsFineGoal, GivesDerivatives, GivesGoal};
+ghost use Rattle.circ_block.specs.Derived.{IsFineGoal, GivesDerivatives};
+ghost use Rattle.circ_block.specs.Derived.{GivesGoal, instances_on};
 
 use circ_join::Stop;
 use circ_term::Term;
@@ -64,13 +65,24 @@ fn derivative_on(
         unreachable!();
     };
     let params = variables(alloc, fresh, sorts)?;
-    let left = match theory.instance(derivative, params.as_slice(), &goal.left) {
-        Ok(left) => left,
-        Err(fault) => return Err(Stop::of_term(fault)),
-    };
-    match theory.instance(derivative, params.as_slice(), &goal.right) {
-        Ok(right) => Ok(Goal { left, right }),
+    both_sides(theory, derivative, params.as_slice(), goal)
+}
+
+// The derivative on both sides of the goal, with these terms for its parameters.
+fn both_sides(theory: &Theory, derivative: u32, params: &[Term], goal: &Goal) -> Result<Goal, Stop>
+    requires left { FitSome (slice_get theory.now.derivatives derivative)
+        params.now goal.now.left }
+    requires right { FitSome (slice_get theory.now.derivatives derivative)
+        params.now goal.now.right }
+    ensures { IfSome (slice_get theory.now.derivatives derivative)
+        (λ d. GivesGoal (instances_on d params.now goal.now) result) }
+{
+    match theory.instance(derivative, params, &goal.left) {
         Err(fault) => Err(Stop::of_term(fault)),
+        Ok(left) => match theory.instance(derivative, params, &goal.right) {
+            Err(fault) => Err(Stop::of_term(fault)),
+            Ok(right) => Ok(Goal { left, right }),
+        },
     }
 }
 

@@ -1,9 +1,9 @@
-use Rattle.std.proofs.Common.{◌≡◌, ap, sym, ◌∙◌, subst, List, [], drop, length, ◌<◌, ◌^◌}
+use Rattle.std.proofs.Common.{◌≡◌, sym, ◌∙◌, subst, List, length, ◌<◌, ◌^◌}
 use Rattle.std.specs.List.{AllByRecursion}
 use Rattle.std.proofs.lemmas.List.{drop_all}
 use Rattle.circ_rewrite.specs.Due.{IsRewriteRule}
 use Rattle.circ_rewrite.specs.declared.parts.Rule.{Rule}
-use Rattle.circ_plain_search.specs.BlockRules.{block_rules, lemma_rules, hidden_lemmas}
+use Rattle.circ_plain_search.specs.BlockRules.{block_rules, hidden_lemmas}
 use Rattle.circ_block.proofs.Lemmas.{block_rewrites, lemmas_rewrite, block_few, nil_right}
 use Rattle.circ_block.proofs.block.BlockRules.of.Goals as goal
 
@@ -30,4 +30,4 @@ returns c =
     let all : c.loop-n.rules.items ≡ block_rules th c.args.earlier.now = sym (nil_right c.loop-n.rules.items) ∙ (rw done at c.loop-n.invariant.rules) in
     let lemmas : c.loop-n.lemmas.items ≡ hidden_lemmas th 0 c.args.earlier.now = sym (nil_right c.loop-n.lemmas.items) ∙ (rw done at c.loop-n.invariant.lemmas) in
     let P : List Rule → Type 0 = AllByRecursion IsRewriteRule in
-    record { rules = c.in_ok-rules.ensures ∙ all; lemmas = lemmas; rewrite = subst P (sym lemmas) (lemmas_rewrite th c.args.earlier.now) }
+    record { rules = c.in_ok-rules-2.ensures ∙ all; lemmas = lemmas; rewrite = subst P (sym lemmas) (lemmas_rewrite th c.args.earlier.now) }
