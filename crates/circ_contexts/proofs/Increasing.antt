@@ -26,17 +26,17 @@ before_next p q r e f = grind (arith, nat_tests)
 never_before : (p : Place) → comes_before p p ≡ true → ⊥
 never_before p e = let x = before_itself p in absurd (cc)
 
-increasing_tail : (p : Place) (ps : List Place) → IsIncreasing (p ∷ ps) → IsIncreasing ps
+pub increasing_tail : (p : Place) (ps : List Place) → IsIncreasing (p ∷ ps) → IsIncreasing ps
 increasing_tail p [] h = tt
 increasing_tail p (q ∷ qs) h = h.1
 
-before_all : (p q : Place) (ps : List Place) → IsIncreasing (p ∷ ps) → Contains ps q → comes_before p q ≡ true
+pub before_all : (p q : Place) (ps : List Place) → IsIncreasing (p ∷ ps) → Contains ps q → comes_before p q ≡ true
 before_all p q [] h c = contains_none q c
 before_all p q (r ∷ rs) h c =
     let P : Place → Type 0 = λ x. comes_before p x ≡ true in
     pick P r q rs h.0 (λ d. before_next p r q h.0 (before_all r q rs h.1 d)) c
 
-increasing_first : (p : Place) (ps : List Place) → ((q : Place) → Contains ps q → comes_before p q ≡ true) → IsIncreasing ps → IsIncreasing (p ∷ ps)
+pub increasing_first : (p : Place) (ps : List Place) → ((q : Place) → Contains ps q → comes_before p q ≡ true) → IsIncreasing ps → IsIncreasing (p ∷ ps)
 increasing_first p [] h i = tt
 increasing_first p (q ∷ qs) h i = (h q (contains_first q qs), i)
 

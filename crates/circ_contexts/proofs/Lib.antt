@@ -1,5 +1,10 @@
 pub mod Keeping
 pub mod Increasing
 pub mod Unique
+pub mod Adding
 pub mod Existing
 pub mod Certifying
+pub mod Starting
+pub mod Listing
+pub mod Gathering
+pub mod Dropping

@@ -1,9 +1,9 @@
 -- Steps without a hidden hypothesis at a path that is not empty hold under no special set.
-use Rattle.std.proofs.Common.{◌≡◌, ℕ, Bool, true, false, ◌||◌, List, [], ◌∷◌, ◌++◌, map, Option, Some, refl, ap, sym, ◌∙◌}
-use Rattle.std.specs.List.{slice_get, list_any}
+use Rattle.std.proofs.Common.{◌≡◌, ℕ, Bool, true, false, ◌||◌, List, [], ◌∷◌, ◌++◌, refl, ap, sym, ◌∙◌}
+use Rattle.std.specs.List.{list_any}
 use Rattle.std.specs.Option.{option_map_or}
 use Rattle.circ_term.specs.Tree.{Tree, sort_of}
-use Rattle.circ_theory.specs.Theory.{Theory, Pair, CaseList, IsHidden}
+use Rattle.circ_theory.specs.Theory.{Theory, Pair, CaseList}
 use Rattle.circ_theory.specs.Derivable.{is_case}
 use Rattle.circ_theory.specs.Observing.{is_hidden}
 use Rattle.circ_theory.specs.declared.parts.Goal.{Goal}
@@ -32,7 +32,7 @@ module _ (th : Theory) (G : List Place) (H : List Goal) where
     rewrites = k.rewrites;
     special = λ h.
         let seen : is_hidden th (sort_of k.hypothesis.left) ≡ false
-            = ap (λ o. option_map_or (λ g. is_hidden th (sort_of g.left)) o false) (sym k.listed) ∙ e in
+        = ap (λ o. option_map_or (λ g. is_hidden th (sort_of g.left)) o false) (sym k.listed) ∙ e in
         absurd (let z = sym ((hidden_tells th (sort_of k.hypothesis.left)).1 h) ∙ seen in cc);
   }
   flat_link A (Assumption_link n w p) t u k e = record { assumed = k.assumed; listed = k.listed; replaces = k.replaces }

@@ -1,23 +1,23 @@
 -- The derivatives of a fine goal are fine, with variables of numbers a little greater.
-use Rattle.std.proofs.Common.{◌≡◌, ℕ, zero, suc, ◌+◌, ◌-◌, ◌≤◌, ◌^◌, max, length, Bool, true, false, ◌==◌, ◌&&◌, if◌then◌else◌, List, [], ◌∷◌, ◌++◌, map, Option, Some, None, refl, ap, sym, subst, ◌∙◌, arith}
+use Rattle.std.proofs.Common.{◌≡◌, ℕ, ◌+◌, ◌-◌, ◌≤◌, ◌^◌, length, Bool, true, false, ◌==◌, ◌&&◌, if◌then◌else◌, List, [], ◌∷◌, ◌++◌, map, None, refl, arith}
 use Rattle.std.specs.Prelude.{not}
 use Rattle.std.specs.List.{AllByRecursion, Contains, filter}
 use Rattle.std.proofs.lemmas.Bool.{eqb-true}
 use Rattle.std.proofs.lemmas.List.{length-map}
 use Rattle.circ_term.specs.Tree.{Tree, Trees, Var, App, none, more, sort_of}
-use Rattle.circ_term.specs.Limits.{IsWithinLimits, Limit, first_limit, or_else}
+use Rattle.circ_term.specs.Limits.{IsWithinLimits, first_limit}
 use Rattle.circ_term.specs.Substitution.{instance, instances}
 use Rattle.circ_term.proofs.Limits.{or_else_parts}
-use Rattle.circ_theory.specs.Theory.{Theory, Derivative, IsWellSortedPair}
+use Rattle.circ_theory.specs.Theory.{Theory, Derivative}
 use Rattle.circ_theory.specs.WellFormed.{IsWellFormed}
 use Rattle.circ_theory.specs.Variables.{Variable, occurrences, all_occurrences, AreNumberedFrom}
 use Rattle.circ_theory.specs.Experiment.{plug, derived}
-use Rattle.circ_theory.specs.Observing.{is_parameter, is_hole, parameters_in}
+use Rattle.circ_theory.specs.Observing.{is_parameter, is_hole}
 use Rattle.circ_theory.specs.Fresh.{above, all_above, numbered_from, derivatives_of}
 use Rattle.circ_theory.specs.declared.parts.Goal.{Goal}
 use Rattle.circ_theory.proofs.Casing.{contains_first}
 use Rattle.circ_theory.proofs.Weakening.{in_rest}
-use Rattle.circ_replay.specs.Goals.{sides, IsWellSortedGoal, AreSortedGoals}
+use Rattle.circ_replay.specs.Goals.{IsWellSortedGoal, AreSortedGoals}
 use Rattle.circ_rules.specs.Rules.{fresh_in, derived_goal, derivatives_on, IsDerivable}
 use Rattle.circ_rules.proofs.Sorted.{derived_sorted, sorted_none, sorted_more}
 use Rattle.circ_plain_search.specs.Search.{goals_limit}

@@ -1,6 +1,6 @@
 -- Join's uses lead from a term to the one in which the other side stands.
-use Rattle.std.proofs.Common.{◌≡◌, ℕ, zero, suc, ◌+◌, ◌≤◌, length, Bool, true, false, ◌==◌, ◌&&◌, ◌||◌, if◌then◌else◌, List, [], ◌∷◌, ◌++◌, Option, Some, None, Result, Ok, refl, ap, sym, subst, ◌∙◌, arith}
-use Rattle.std.specs.List.{slice_get, AllByRecursion}
+use Rattle.std.proofs.Common.{◌≡◌, ℕ, zero, suc, ◌+◌, length, Bool, true, false, ◌==◌, ◌&&◌, if◌then◌else◌, List, [], ◌∷◌, ◌++◌, Option, Some, None, Ok, refl, ap, sym, subst, ◌∙◌, arith}
+use Rattle.std.specs.List.{slice_get}
 use Rattle.std.specs.Option.{option_or, unwrap_or}
 use Rattle.std.proofs.lemmas.Bool.{eqb-true, and_parts}
 use Rattle.std.proofs.lemmas.Option.{same_Some}
@@ -10,7 +10,6 @@ use Rattle.circ_term.specs.Substitution.{KeepsSorts, instance}
 use Rattle.circ_term.proofs.Order.{same_here}
 use Rattle.circ_theory.specs.Theory.{Theory, Pair}
 use Rattle.circ_theory.specs.declared.parts.Goal.{Goal}
-use Rattle.circ_theory.specs.declared.way.Way.{Way}
 use Rattle.circ_theory.specs.declared.way.Way.TheVariants.{Forth, Back}
 use Rattle.circ_special.specs.declared.place.Place.{Place}
 use Rattle.circ_special.specs.Special.{IsSpecial}
@@ -19,7 +18,7 @@ use Rattle.circ_rewrite.specs.Matching.{image, matching}
 use Rattle.circ_rewrite.specs.Due.{terms_by}
 use Rattle.circ_rewrite.proofs.Linked.{fit_given}
 use Rattle.circ_rewrite.proofs.MatchingFacts.{matching-sorts}
-use Rattle.circ_plain_search.specs.Joining.{HypothesisUse, use_with, pair_matching, pair_matches, pair_variables, pair_use, one_use, first_use, is_place, meets, beside, joined, all_joined, put_all}
+use Rattle.circ_plain_search.specs.Joining.{HypothesisUse, use_with, pair_matching, pair_matches, pair_variables, pair_use, first_use, is_place, meets, beside, joined, all_joined, put_all}
 use Rattle.circ_plain_search.proofs.Terms.{Fine, FineTerms, args_fine}
 use Rattle.circ_plain_search.proofs.PairTerms.{pair_terms, given_fine, left_instance, right_instance}
 use Rattle.circ_plain_search.proofs.Special.{place_there, special_deeper, at_deeper}
@@ -187,7 +186,7 @@ module _ (th : Theory) (m : ℕ) (G : List Place) (H : List Goal) (sorted : AreS
             let both = and_parts (f == g) (s == k) v in
             let P : Tree → Type 0 = λ y. Joins us q y t u in
             let r : row f s [] vs ≡ App g k vs
-                = ap (App f s) (trees_of-list_of vs) ∙ ap (λ y. App y s vs) (eqb-true f g both.0) ∙ ap (λ y. App g y vs) (eqb-true s k both.1) in
+            = ap (App f s) (trees_of-list_of vs) ∙ ap (λ y. App y s vs) (eqb-true f g both.0) ∙ ap (λ y. App g y vs) (eqb-true s k both.1) in
             subst P r (ih x)
         inside false v ih x = absurd (cc)
 
@@ -201,24 +200,24 @@ module _ (th : Theory) (m : ℕ) (G : List Place) (H : List Goal) (sorted : AreS
     all_joined_leads (more a as') (more b bs) f s front q i us t u ft fa fb n there special e p =
         besides (is_same a b) (is_place G f i) (joined G H (q ++ i ∷ []) a b) (all_joined G H f q (i + 1) as' bs) us e
         (λ same rest.
-            let P : Tree → Type 0 = λ y. Joins us q y t u in
-            subst P (row_next f s front b bs)
-            (all_joined_leads as' bs f s (front ++ b ∷ []) q (i + 1) us t u ft fa.1 fb.1
-            (ap (λ k. k + 1) n ∙ sym (longer front b))
-            (there ∙ ap (λ y. Some (row f s front (more y as'))) (same_here a b same) ∙ ap Some (sym (row_next f s front b as'))) special rest p))
+        let P : Tree → Type 0 = λ y. Joins us q y t u in
+        subst P (row_next f s front b bs)
+        (all_joined_leads as' bs f s (front ++ b ∷ []) q (i + 1) us t u ft fa.1 fb.1
+        (ap (λ k. k + 1) n ∙ sym (longer front b))
+        (there ∙ ap (λ y. Some (row f s front (more y as'))) (same_here a b same) ∙ ap Some (sym (row_next f s front b as'))) special rest p))
         (λ place x.
-            let P : List HypothesisUse → Type 0 = λ l. Joins l q (row f s front (more b bs)) t u in
-            let N : ℕ → Type 0 = λ k. joined G H (q ++ k ∷ []) a b ≡ Some x.us in
-            let g = place_there G f (length front) (ap (is_place G f) (sym n) ∙ place) in
-            let y : AfterOne th m G H sorted x.us x.vs q f s front b as' t u
-                = after_one th m G H sorted x.us x.vs q f s front a b as' t u there special (ap (put_all t) (sym x.whole) ∙ p)
-                (λ w e. joined_leads a b (q ++ length front ∷ []) x.us t w ft fa.0 fb.0
-                    (at_deeper q t f s _ (length front) a there (row_arg front a as'))
-                    (special_deeper G q t f s _ (length front) a special there g (row_arg front a as'))
-                    (subst N n x.first) e) in
-            let M : Tree → Type 0 = λ z. Joins x.vs q z y.w u in
-            subst P (sym x.whole)
-            (both_lead th m G H sorted x.us x.vs q f s front b as' t u (row f s front (more b bs)) y
-            (subst M (row_next f s front b bs)
-            (all_joined_leads as' bs f s (front ++ b ∷ []) q (i + 1) x.vs y.w u y.first.led.fine fa.1 fb.1
-            (ap (λ k. k + 1) n ∙ sym (longer front b)) y.there y.special x.last y.last))))
+        let P : List HypothesisUse → Type 0 = λ l. Joins l q (row f s front (more b bs)) t u in
+        let N : ℕ → Type 0 = λ k. joined G H (q ++ k ∷ []) a b ≡ Some x.us in
+        let g = place_there G f (length front) (ap (is_place G f) (sym n) ∙ place) in
+        let y : AfterOne th m G H sorted x.us x.vs q f s front b as' t u
+        = after_one th m G H sorted x.us x.vs q f s front a b as' t u there special (ap (put_all t) (sym x.whole) ∙ p)
+        (λ w e. joined_leads a b (q ++ length front ∷ []) x.us t w ft fa.0 fb.0
+        (at_deeper q t f s _ (length front) a there (row_arg front a as'))
+        (special_deeper G q t f s _ (length front) a special there g (row_arg front a as'))
+        (subst N n x.first) e) in
+        let M : Tree → Type 0 = λ z. Joins x.vs q z y.w u in
+        subst P (sym x.whole)
+        (both_lead th m G H sorted x.us x.vs q f s front b as' t u (row f s front (more b bs)) y
+        (subst M (row_next f s front b bs)
+        (all_joined_leads as' bs f s (front ++ b ∷ []) q (i + 1) x.vs y.w u y.first.led.fine fa.1 fb.1
+        (ap (λ k. k + 1) n ∙ sym (longer front b)) y.there y.special x.last y.last))))

@@ -10,3 +10,16 @@ pub mod Passes
 pub mod Splits
 pub mod Deep
 pub mod Derived
+pub mod Runs
+pub mod Turns
+pub mod Ends
+pub mod Answers
+pub mod Tables
+pub mod Naming
+pub mod Ranges
+pub mod Steps
+pub mod Numbered
+pub mod Certificates
+pub mod Accepting
+pub mod Founds
+pub mod Coming

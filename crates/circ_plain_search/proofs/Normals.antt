@@ -1,10 +1,10 @@
 -- The traces of a normal form lead to it, and its terms are fine.
-use Rattle.std.proofs.Common.{◌≡◌, ℕ, zero, suc, ◌+◌, ◌≤◌, length, Bool, true, false, if◌then◌else◌, List, [], ◌∷◌, ◌++◌, map, Option, Some, None, Result, Ok, Err, refl, ap, sym, subst, ◌∙◌, arith}
-use Rattle.std.specs.List.{slice_get, AllByRecursion}
+use Rattle.std.proofs.Common.{◌≡◌, ℕ, ◌+◌, ◌≤◌, length, Bool, true, false, if◌then◌else◌, List, [], ◌∷◌, map, Option, Some, None, Result, Ok, refl, sym, subst, ◌∙◌, arith}
+use Rattle.std.specs.List.{AllByRecursion}
 use Rattle.std.specs.Option.{option_or}
 use Rattle.std.proofs.lemmas.List.{length-map}
 use Rattle.std.proofs.lemmas.Option.{same_Some}
-use Rattle.circ_term.specs.Tree.{Tree, Trees, Var, App, none, more, sort_of, at, replaced}
+use Rattle.circ_term.specs.Tree.{Tree, Var, App}
 use Rattle.circ_term.specs.Limits.{IsWithinLimits}
 use Rattle.circ_term.specs.Order.{is_same}
 use Rattle.circ_term.specs.Substitution.{Substitution, instance}
@@ -19,11 +19,9 @@ use Rattle.circ_theory.proofs.Lists.{all_at}
 use Rattle.circ_special.specs.declared.place.Place.{Place}
 use Rattle.circ_aci.specs.Canonical.{canonical_under}
 use Rattle.circ_aci.proofs.Again.{is_canonical}
-use Rattle.circ_replay.specs.Plain.{LinkOf}
 use Rattle.circ_replay.specs.Goals.{sides}
-use Rattle.circ_replay.specs.Link.{Setting, setting, Leads, AllOfLink, AllOfLinks}
-use Rattle.circ_replay.specs.Runs.{Runs}
-use Rattle.circ_rewrite.specs.Replacement.{Replacement, Traced, By_rule, By_assumption, By_content}
+use Rattle.circ_replay.specs.Link.{Setting, setting, AllOfLink}
+use Rattle.circ_rewrite.specs.Replacement.{Replacement, Traced, By_rule, By_content}
 use Rattle.circ_rewrite.specs.Matching.{matching, matches}
 use Rattle.circ_rewrite.specs.Due.{assumed, content_due, rule_variables, terms_by, ruled, due_under}
 use Rattle.circ_rewrite.specs.Norm.{Normalised, Normal_form, Budget_spent, Limit_passed, norm}
@@ -145,10 +143,10 @@ module _ (th : Theory) (wf : IsWellFormed th) (m : ℕ) (one : 1 ≤ m) (H : Lis
       let step = h.3 in
       let links = are_links (around G) wf A refl (sorted_assumptions A fine) rules all (tr ∷ []) t v f.sorted (r, v, h.2, step, refl) in
       let due = due_fine tr.path step.old (at_fine th m tr.path t step.old f step.there) r step.is_due
-          (replaced_within tr.path t r.new v step.made step.within) in
+      (replaced_within tr.path t r.new v step.made step.within) in
       let P : Traced → Type 0 = λ x. AllOfLink (Fine th m) (link_of x) in
       let now : Fine th m v
-          = record { sorted = links.well_sorted; within = step.within; low = replaced_low m tr.path t r.new v step.made f.low due.low } in
+      = record { sorted = links.well_sorted; within = step.within; low = replaced_low m tr.path t r.new v step.made f.low due.low } in
       led_append (around G) m (link_of tr ∷ []) (map link_of ts) t v u
       (record { leads = links.lead; fine = now; same_sort = links.same_sort; terms = (subst P (sym h.2) due.terms, tt) })
       (traces_led G ts v u now h.4)

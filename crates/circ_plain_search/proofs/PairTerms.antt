@@ -1,5 +1,5 @@
 -- A pair under a substitution, and under the terms that this gives its variables in order.
-use Rattle.std.proofs.Common.{◌≡◌, ℕ, Bool, true, false, ◌==◌, ◌||◌, ◌&&◌, List, [], ◌∷◌, Some, refl, ap, sym, subst, ◌∙◌, arith}
+use Rattle.std.proofs.Common.{◌≡◌, ℕ, Bool, true, false, ◌==◌, ◌||◌, List, [], ◌∷◌, Some, refl, ap, sym, subst, ◌∙◌, arith}
 use Rattle.std.specs.List.{list_any, AllByRecursion}
 use Rattle.circ_term.specs.Tree.{Tree, at}
 use Rattle.circ_term.specs.Substitution.{Substitution, instance}
@@ -11,7 +11,7 @@ use Rattle.circ_rewrite.specs.Due.{terms_by}
 use Rattle.circ_rewrite.proofs.RuleTerms.{any_seen_in, has_variable-occurrences}
 use Rattle.circ_rewrite.proofs.Linked.{any_sorted, given_back}
 use Rattle.circ_plain_search.specs.Joining.{pair_variables}
-use Rattle.circ_plain_search.proofs.Terms.{Fine, FineTerms, variable_at, at_fine}
+use Rattle.circ_plain_search.proofs.Terms.{Fine, either, or_left, or_right, same_number, variable_at, at_fine}
 
 abbrev variable : ℕ → ℕ → Variable
 variable n s = record { number = n; sort = s }
@@ -32,22 +32,11 @@ pair_instance p σ x within =
     instance-variable (given (pair_variables p) (terms_by σ (pair_variables p))) σ x
     (λ n s h. given_back σ (pair_variables p) n s (stands p n s ∙ within n s h))
 
-or_left : (a b : Bool) → a ≡ true → (a || b) ≡ true
-or_left true b e = refl
-or_left false b e = absurd (cc)
-
-or_right : (a b : Bool) → b ≡ true → (a || b) ≡ true
-or_right true b e = refl
-or_right false b e = e
-
 pub left_instance : (p : Pair) (σ : Substitution) → instance (given (pair_variables p) (terms_by σ (pair_variables p))) p.left ≡ instance σ p.left
 left_instance p σ = pair_instance p σ p.left (λ n s h. or_left (has_variable p.left n s) (has_variable p.right n s) h)
 
 pub right_instance : (p : Pair) (σ : Substitution) → instance (given (pair_variables p) (terms_by σ (pair_variables p))) p.right ≡ instance σ p.right
 right_instance p σ = pair_instance p σ p.right (λ n s h. or_right (has_variable p.left n s) (has_variable p.right n s) h)
-
-same_number : (n : ℕ) → (n == n) ≡ true
-same_number n = grind arith
 
 each_term : (P : Tree → Type 0) (σ : Substitution) (vs : List Variable) → ((n s : ℕ) → list_any (is_variable (variable n s)) vs ≡ true → P (σ n s))
     → AllByRecursion P (terms_by σ vs)
@@ -56,10 +45,6 @@ each_term P σ (v ∷ vs) f = (
   f v.number v.sort (rw (same_number v.number, same_number v.sort) refl),
   each_term P σ vs (λ n s e. f n s (or_right (is_variable (variable n s) v) (list_any (is_variable (variable n s)) vs) e)),
 )
-
-either : {X : Type 0} (a b : Bool) → (a || b) ≡ true → (a ≡ true → X) → (b ≡ true → X) → X
-either true b h x y = x refl
-either false b h x y = y h
 
 pub pair_terms : (P : Tree → Type 0) (p : Pair) (σ : Substitution) → ((n s : ℕ) → has_variable p.left n s ≡ true → P (σ n s))
     → ((n s : ℕ) → has_variable p.right n s ≡ true → P (σ n s)) → AllByRecursion P (terms_by σ (pair_variables p))

@@ -1,6 +1,6 @@
 -- The uses of a lemma pass lead from a term to a term.
-use Rattle.std.proofs.Common.{◌≡◌, ℕ, zero, suc, ◌+◌, ◌≤◌, length, Bool, true, false, if◌then◌else◌, List, [], ◌∷◌, ◌++◌, map, Option, Some, None, Result, Ok, Err, refl, ap, sym, subst, ◌∙◌, arith}
-use Rattle.std.specs.List.{slice_get, AllByRecursion}
+use Rattle.std.proofs.Common.{◌≡◌, ℕ, zero, suc, ◌+◌, ◌≤◌, length, Bool, true, false, if◌then◌else◌, List, [], ◌∷◌, ◌++◌, Option, Some, None, Result, Ok, Err, refl, ap, sym, subst, ◌∙◌, arith}
+use Rattle.std.specs.List.{AllByRecursion}
 use Rattle.std.specs.Option.{option_or}
 use Rattle.std.proofs.lemmas.Option.{same_Some}
 use Rattle.circ_term.specs.Tree.{Tree, Trees, Var, App, none, more, list_of, trees_of-list_of, at}
@@ -25,7 +25,7 @@ use Rattle.circ_plain_search.proofs.Terms.{Fine, FineTerms, instance_low, args_f
 use Rattle.circ_plain_search.proofs.PairTerms.{pair_terms, given_fine, left_instance, right_instance}
 use Rattle.circ_plain_search.proofs.Rules.{IsLemma}
 use Rattle.circ_plain_search.proofs.Special.{place_there, special_deeper, at_deeper}
-use Rattle.circ_plain_search.proofs.Uses.{IsUse, UsesLead, Through, through, same_Ok, row, row_arg, row_next, longer, nothing_leads, one_leads, AfterOne, after_one, first_put, both_lead}
+use Rattle.circ_plain_search.proofs.Uses.{IsUse, UsesLead, same_Ok, row, row_arg, row_next, longer, nothing_leads, one_leads, AfterOne, after_one, first_put, both_lead}
 
 -- a counted pass makes the same replacements, each one rewrite step
 pub record Counted (k : ℕ) (t : Tree) (us : List HypothesisUse) (r : Tree × ℕ) : Type 0 where
@@ -66,11 +66,11 @@ module _ (th : Theory) (m : ℕ) (H : List Goal) (q : List ℕ) (a : Tree) (f : 
           let left : (n s : ℕ) → _ → Fine th m (matching x.left a n s) = given_fine th m (matching x.left a) x.left a made f in
           let low = instance_low m (matching x.left a) x.right (λ n s h. (left n s (bound_in_left x ok n s h)).low) in
           let P : Rule → Type 0 = λ y. IsUse th m H q a (instance (matching y.left a) y.right)
-              (use_with (rule_number y.name) Forth q (terms_by (matching y.left a) (rule_variables y)) (instance (matching y.left a) y.right)) in
+          (use_with (rule_number y.name) Forth q (terms_by (matching y.left a) (rule_variables y)) (instance (matching y.left a) y.right)) in
           let T : Rule → Type 0 = λ y. FineTerms th m (terms_by (matching y.left a) (rule_variables y)) in
           let L : Rule → Type 0 = λ y. instance (matching y.left a) y.left ≡ a in
           let terms : FineTerms th m (terms_by (matching x.left a) (rule_variables x))
-              = pair_terms (Fine th m) (record { left = x.left; right = x.right }) (matching x.left a) left (λ n s h. left n s (bound_in_left x ok n s h)) in
+          = pair_terms (Fine th m) (record { left = x.left; right = x.right }) (matching x.left a) left (λ n s h. left n s (bound_in_left x ok n s h)) in
           let W : Rule → Type 0 = λ y. above (instance (matching y.left a) y.right) ≤ m in
           subst P (sym is) (record {
             hypothesis = l.hypothesis;
@@ -132,7 +132,7 @@ module _ (th : Theory) (m : ℕ) (G : List Place) (H : List Goal) (sorted : AreS
     swept_leads (App f s ts) q t u ft fa there special p =
         at_term (App f s ts) q t u (all_swept G L f q 0 ts) ft fa there special
         (λ z. let r = all_swept_leads ts f s [] q 0 t u ft (args_fine th m f s ts fa) refl
-            (there ∙ ap (λ l. Some (App f s l)) (sym (trees_of-list_of ts))) special z in record { new = row f s [] r.args; lead = r.lead }) p
+        (there ∙ ap (λ l. Some (App f s l)) (sym (trees_of-list_of ts))) special z in record { new = row f s [] r.args; lead = r.lead }) p
 
     all_swept_leads : (ts : Trees) (f s : ℕ) (front : List Tree) (q : List ℕ) (i : ℕ) (t u : Tree) → Fine th m t → FineTerms th m (list_of ts)
         → i ≡ length front → at t q ≡ Some (row f s front ts) → IsSpecial G t q → put_all t (all_swept G L f q i ts) ≡ Ok u
@@ -148,9 +148,9 @@ module _ (th : Theory) (m : ℕ) (G : List Place) (H : List Goal) (sorted : AreS
         rest = all_swept G L f q (i + 1) ts
 
         go : ((w : Tree) → at t (q ++ length front ∷ []) ≡ Some a → IsSpecial G t (q ++ length front ∷ []) → put_all t (swept G L (q ++ length front ∷ []) a) ≡ Ok w
-                → PassLeads th m G H (swept G L (q ++ length front ∷ []) a) (q ++ length front ∷ []) t w)
+            → PassLeads th m G H (swept G L (q ++ length front ∷ []) a) (q ++ length front ∷ []) t w)
             → ((w b : Tree) → Fine th m w → at w q ≡ Some (row f s (front ++ b ∷ []) ts) → IsSpecial G w q → put_all w rest ≡ Ok u
-                → RowLeads th m G H rest f s (front ++ b ∷ []) q w u)
+            → RowLeads th m G H rest f s (front ++ b ∷ []) q w u)
             → (v : Bool) → is_place G f i ≡ v → put_all t ((if v then swept G L (q ++ i ∷ []) a else []) ++ rest) ≡ Ok u
             → RowLeads th m G H ((if v then swept G L (q ++ i ∷ []) a else []) ++ rest) f s front q t u
         go one later true v z =
@@ -160,11 +160,11 @@ module _ (th : Theory) (m : ℕ) (G : List Place) (H : List Goal) (sorted : AreS
             let e = subst P n z in
             let w = first_put th m G H sorted us rest t u e in
             let one_led = one w.0 (at_deeper q t f s _ (length front) a there (row_arg front a ts))
-                (special_deeper G q t f s _ (length front) a special there g (row_arg front a ts)) w.1 in
+            (special_deeper G q t f s _ (length front) a special there g (row_arg front a ts)) w.1 in
             let b : Tree = one_led.new in
             let Q : Tree → Type 0 = λ y. UsesLead th m G H us (q ++ length front ∷ []) b t y in
             let x : AfterOne th m G H sorted us rest q f s front b ts t u
-                = after_one th m G H sorted us rest q f s front a b ts t u there special e (λ y d. subst Q (same_Ok w.0 y (sym w.1 ∙ d)) one_led.lead) in
+            = after_one th m G H sorted us rest q f s front a b ts t u there special e (λ y d. subst Q (same_Ok w.0 y (sym w.1 ∙ d)) one_led.lead) in
             let r = later x.w b x.first.led.fine x.there x.special x.last in
             let M : Tree → Type 0 = λ y. UsesLead th m G H rest q y x.w u in
             let R : ℕ → Type 0 = λ k. RowLeads th m G H (swept G L (q ++ k ∷ []) a ++ rest) f s front q t u in

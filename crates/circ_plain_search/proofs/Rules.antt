@@ -1,5 +1,5 @@
 -- The rules and the lemmas of a block are rules of the theory and of its hypotheses.
-use Rattle.std.proofs.Common.{◌≡◌, ℕ, zero, suc, ◌+◌, Bool, true, false, ◌&&◌, if◌then◌else◌, List, [], ◌∷◌, ◌++◌, Some, refl, ap, sym, ◌∙◌, arith, IsTrue}
+use Rattle.std.proofs.Common.{◌≡◌, ℕ, zero, suc, ◌+◌, Bool, true, false, if◌then◌else◌, List, [], ◌∷◌, Some, refl, ap, ◌∙◌, arith}
 use Rattle.std.specs.Prelude.{not, is_some}
 use Rattle.std.specs.List.{slice_get, AllByRecursion}
 use Rattle.std.proofs.lemmas.Bool.{and_parts}
@@ -16,7 +16,6 @@ use Rattle.circ_rewrite.specs.TheoryRules.{theory_rules}
 use Rattle.circ_rewrite.specs.Due.{IsRewriteRule}
 use Rattle.circ_rewrite.specs.Links.{IsRuleOf}
 use Rattle.circ_rewrite.specs.declared.parts.Rule.{Rule}
-use Rattle.circ_rewrite.specs.declared.parts.RuleName.TheVariants as name
 use Rattle.circ_rewrite.proofs.RuleLists.{rules_are}
 use Rattle.circ_plain_search.specs.BlockRules.{can_rewrite, lemma_rule, passing, is_visible_lemma, is_hidden_lemma, lemma_rules, hidden_lemmas, block_rules}
 use Rattle.circ_plain_search.proofs.Led.{all_append}
@@ -62,12 +61,12 @@ block_rules_are th wf H E sorted begins =
     all_append (IsRuleOf th H) (theory_rules th) (lemma_rules th 0 E) (rules_are th wf H)
     (each_passing (IsRuleOf th H) (is_visible_lemma th) H
     (λ n g there e.
-        let p = and_parts (can_rewrite g) (not (is_hidden th (sort_of g.left))) e in
-        record {
-          rewrites = can_is n g p.0;
-          sorted = (sorted g (contains_at H n g there)).sorted;
-          named = (g, there, refl, visible_is th (sort_of g.left) p.1);
-        })
+    let p = and_parts (can_rewrite g) (not (is_hidden th (sort_of g.left))) e in
+    record {
+      rewrites = can_is n g p.0;
+      sorted = (sorted g (contains_at H n g there)).sorted;
+      named = (g, there, refl, visible_is th (sort_of g.left) p.1);
+    })
     0 E (stands_all H E begins))
 
 -- A hidden lemma is a rewrite rule, and the hypothesis of its number.

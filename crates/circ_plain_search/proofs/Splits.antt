@@ -1,7 +1,7 @@
 -- A split justifies its sides, by a reason for each constant.
-use Rattle.std.proofs.Common.{◌≡◌, ℕ, zero, suc, ◌+◌, ◌≤◌, length, Bool, true, false, if◌then◌else◌, List, [], ◌∷◌, ◌++◌, map, Option, Some, None, Result, Ok, Err, refl, ap, sym, subst, ◌∙◌, arith}
+use Rattle.std.proofs.Common.{◌≡◌, ℕ, zero, suc, ◌+◌, ◌≤◌, length, Bool, true, false, if◌then◌else◌, List, [], ◌∷◌, ◌++◌, map, Option, Some, None, Ok, refl, ap, sym, subst, ◌∙◌, arith}
 use Rattle.std.specs.Prelude.{not, nat_eq}
-use Rattle.std.specs.List.{slice_get, list_any, AllByRecursion, Contains}
+use Rattle.std.specs.List.{list_any, AllByRecursion, Contains}
 use Rattle.std.specs.Option.{option_or, option_map_or}
 use Rattle.std.proofs.lemmas.Option.{same_Some}
 use Rattle.circ_term.specs.Tree.{Tree, Trees, Var, App, none, more, sort_of, list_of, operator_number}
@@ -18,15 +18,15 @@ use Rattle.circ_special.specs.declared.place.Place.{Place}
 use Rattle.circ_replay.specs.Plain.{ChainOf, WhyOf, WhysOf, Same_why, Split_why, no_why, more_whys}
 use Rattle.circ_replay.specs.Goals.{sides}
 use Rattle.circ_replay.specs.Link.{Setting, setting, Leads}
-use Rattle.circ_replay.specs.Justified.{ChainLeads, Justified, EachJustified, AllOfChain, AllOfWhy, AllOfWhys}
+use Rattle.circ_replay.specs.Justified.{ChainLeads, Justified, EachJustified, AllOfWhy, AllOfWhys}
 use Rattle.circ_replay.proofs.Cases.{cases_listed}
 use Rattle.circ_rewrite.specs.Links.{IsRuleOf}
 use Rattle.circ_rewrite.specs.declared.parts.Rule.{Rule}
-use Rattle.circ_plain_search.specs.Joining.{Stop, and_then, is_open, first_open, first_open_in}
-use Rattle.circ_plain_search.specs.Search.{NormalSide, Sides, sides_with, chain_with, normalised, normal_sides, Reason, reason_with, SplitReason, split_with, case_of, Splitter, case_reason, each_case, constants_of, open_cases, split_cases}
+use Rattle.circ_plain_search.specs.Joining.{and_then, is_open, first_open, first_open_in}
+use Rattle.circ_plain_search.specs.Search.{Sides, sides_with, chain_with, normalised, normal_sides, Reason, reason_with, SplitReason, split_with, case_of, Splitter, case_reason, each_case, open_cases, split_cases}
 use Rattle.circ_plain_search.proofs.Terms.{Fine, FineTerms, args_fine}
 use Rattle.circ_plain_search.proofs.Led.{Led}
-use Rattle.circ_plain_search.proofs.Normals.{IsAssumption, IsNormalSide, normalised_led}
+use Rattle.circ_plain_search.proofs.Normals.{IsAssumption, normalised_led}
 use Rattle.circ_plain_search.proofs.Uses.{Through, through, same_Ok, map_append}
 
 -- The chain leads from two sides to two sides, and a budget pays for its links.
@@ -125,9 +125,9 @@ module _ (th : Theory) (wf : IsWellFormed th) (m : ℕ) (one : 1 ≤ m) (G : Lis
       → normal_sides th R A s t k ≡ Ok n → SidesLed (setting th G H (map sides A)) m s t k n
   normal_sides_led A fine s t k n fs ft e =
       let x : Through (normalised th R A s k)
-          (λ a. and_then (normalised th R A t a.budget) (λ b. Ok (sides_with a.term b.term (chain_with a.links b.links) b.budget))) n = through _ _ n e in
+      (λ a. and_then (normalised th R A t a.budget) (λ b. Ok (sides_with a.term b.term (chain_with a.links b.links) b.budget))) n = through _ _ n e in
       let y : Through (normalised th R A t x.value.budget)
-          (λ b. Ok (sides_with x.value.term b.term (chain_with x.value.links b.links) b.budget)) n = through _ _ n x.last in
+      (λ b. Ok (sides_with x.value.term b.term (chain_with x.value.links b.links) b.budget)) n = through _ _ n x.last in
       let a = normalised_led th wf m one H R all A fine G s k x.value fs x.first in
       let b = normalised_led th wf m one H R all A fine G t x.value.budget y.value ft y.first in
       let ca = a.count in
@@ -195,12 +195,12 @@ module _ (th : Theory) (wf : IsWellFormed th) (m : ℕ) (one : 1 ≤ m) (G : Lis
     each_is (c ∷ cs) within k b e =
         let A' : List Goal = A ++ case_of u c ∷ [] in
         let x : Through (and_then (normal_sides th R A' s t k) (case_reason again A'))
-            (λ r. and_then (each_case th R again A u s t cs r.budget) (λ d. Ok (split_with u (more_whys r.why d.whys) d.budget))) b = through _ _ b e in
+        (λ r. and_then (each_case th R again A u s t cs r.budget) (λ d. Ok (split_with u (more_whys r.why d.whys) d.budget))) b = through _ _ b e in
         let y : Through (normal_sides th R A' s t k) (case_reason again A') x.value = through _ _ x.value x.first in
         let z : Through (each_case th R again A u s t cs x.value.budget) (λ d. Ok (split_with u (more_whys x.value.why d.whys) d.budget)) b
-            = through _ _ b x.last in
+        = through _ _ b x.last in
         let more_fine : AllByRecursion (IsAssumption th m) A'
-            = all_push (IsAssumption th m) A (case_of u c) fine (case_assumed c (within c (contains_first c cs))) in
+        = all_push (IsAssumption th m) A (case_of u c) fine (case_assumed c (within c (contains_first c cs))) in
         let led = normal_sides_led A' more_fine s t k y.value fs ft y.first in
         let here = case_is n again law A' more_fine s t k y.value x.value led y.last in
         let rest = each_is cs (λ d h. within d (contains_next c d cs h)) x.value.budget z.value z.first in
@@ -238,7 +238,10 @@ module _ (th : Theory) (wf : IsWellFormed th) (m : ℕ) (one : 1 ≤ m) (G : Lis
 
   pub split_is : (n : ℕ) → IsSplitter n (split_cases th R n)
   split_is zero A fine s t k b fs ft e = absurd (cc)
-  split_is (suc n) A fine s t k b fs ft e = (n, refl,
-      open_is n (split_cases th R n) (split_is n) (option_or (first_open th s) (first_open th t))
-      (λ u x. either_open th m (first_open th s) (first_open th t) u (λ y. first_open_is th m s u fs y) (λ y. first_open_is th m t u ft y) x)
-      A fine s t k b fs ft e)
+  split_is (suc n) A fine s t k b fs ft e = (
+    n,
+    refl,
+    open_is n (split_cases th R n) (split_is n) (option_or (first_open th s) (first_open th t))
+        (λ u x. either_open th m (first_open th s) (first_open th t) u (λ y. first_open_is th m s u fs y) (λ y. first_open_is th m t u ft y) x)
+        A fine s t k b fs ft e,
+  )

@@ -1,16 +1,16 @@
 -- Terms that a proof may hold: well-sorted, within the limits, and with variables of small numbers.
-use Rattle.std.proofs.Common.{◌≡◌, ℕ, zero, suc, ◌+◌, ◌≤◌, ◌<◌, ◌^◌, max, length, Bool, true, false, ◌==◌, ◌&&◌, ◌||◌, if◌then◌else◌, cond, List, [], ◌∷◌, ◌++◌, map, Option, Some, None, refl, ap, sym, subst, ◌∙◌, arith}
+use Rattle.std.proofs.Common.{◌≡◌, ℕ, zero, suc, ◌≤◌, ◌<◌, ◌^◌, length, Bool, true, false, ◌==◌, ◌&&◌, ◌||◌, if◌then◌else◌, cond, List, [], ◌∷◌, ◌++◌, Option, Some, None, refl, ap, subst, ◌∙◌, arith}
 use Rattle.std.specs.Prelude.{not, slice_set}
 use Rattle.std.specs.List.{slice_get, AllByRecursion, dedup, dedup_from}
 use Rattle.std.specs.Option.{option_map, unwrap_or}
 use Rattle.std.proofs.lemmas.Bool.{and_parts, eqb-true}
 use Rattle.std.proofs.lemmas.Option.{same_Some}
-use Rattle.circ_term.specs.Tree.{Tree, Trees, Var, App, none, more, sort_of, list_of, trees_of, trees_of-list_of, args_of, at, put_at, replaced, depth_of, depths_of}
-use Rattle.circ_term.specs.Limits.{IsWithinLimits, depth_limit}
+use Rattle.circ_term.specs.Tree.{Tree, Trees, Var, App, none, more, list_of, trees_of, trees_of-list_of, at, replaced, depth_of, depths_of}
+use Rattle.circ_term.specs.Limits.{IsWithinLimits}
 use Rattle.circ_term.specs.Order.{is_same, comes_before}
 use Rattle.circ_term.specs.Substitution.{Substitution, instance, instances}
 use Rattle.circ_term.proofs.Paths.{Down, down, Deeper, deeper}
-use Rattle.circ_term.proofs.Limits.{within_limits, arg_within, at_within, replaced_within}
+use Rattle.circ_term.proofs.Limits.{within_limits, at_within}
 use Rattle.circ_theory.specs.Signature.{Signature, Operator, IsWellSorted, HaveSorts}
 use Rattle.circ_theory.specs.Theory.{Theory}
 use Rattle.circ_theory.specs.Operators.{has_mark}
@@ -69,19 +69,19 @@ replaced_low m (i ∷ p) t new u e h k =
     let w = ap above d.whole in
     omega (arith, s, w)
 
-either : {X : Type 0} (a b : Bool) → (a || b) ≡ true → (a ≡ true → X) → (b ≡ true → X) → X
+pub either : {X : Type 0} (a b : Bool) → (a || b) ≡ true → (a ≡ true → X) → (b ≡ true → X) → X
 either true b h x y = x refl
 either false b h x y = y h
 
-or_left : (a b : Bool) → a ≡ true → (a || b) ≡ true
+pub or_left : (a b : Bool) → a ≡ true → (a || b) ≡ true
 or_left true b e = refl
 or_left false b e = absurd (cc)
 
-or_right : (a b : Bool) → b ≡ true → (a || b) ≡ true
+pub or_right : (a b : Bool) → b ≡ true → (a || b) ≡ true
 or_right true b e = refl
 or_right false b e = e
 
-same_number : (n : ℕ) → (n == n) ≡ true
+pub same_number : (n : ℕ) → (n == n) ≡ true
 same_number n = grind arith
 
 -- an instance of variables with low terms

@@ -1,15 +1,14 @@
 -- A hypothesis that is used at a special path leads on, and what a list of arguments becomes.
-use Rattle.std.proofs.Common.{◌≡◌, ℕ, zero, suc, ◌+◌, ◌≤◌, length, List, [], ◌∷◌, ◌++◌, map, Option, Some, None, Result, Ok, Err, refl, ap, sym, subst, ◌∙◌, append_assoc, length-append}
+use Rattle.std.proofs.Common.{◌≡◌, ℕ, ◌+◌, ◌≤◌, length, List, [], ◌∷◌, ◌++◌, map, Option, Some, None, Result, Ok, Err, refl, ap, sym, subst, ◌∙◌, append_assoc, length-append}
 use Rattle.std.specs.Prelude.{slice_set}
-use Rattle.std.specs.List.{slice_get, AllByRecursion}
+use Rattle.std.specs.List.{slice_get}
 use Rattle.std.specs.Option.{unwrap_or}
-use Rattle.std.proofs.lemmas.Option.{same_Some}
-use Rattle.circ_term.specs.Tree.{Tree, Trees, App, none, more, sort_of, list_of, trees_of, list_of-trees_of, at, put_at, replaced}
+use Rattle.circ_term.specs.Tree.{Tree, Trees, App, more, sort_of, list_of, trees_of, list_of-trees_of, at, replaced}
 use Rattle.circ_term.specs.Limits.{Limit, first_limit, or_else, IsWithinLimits}
 use Rattle.circ_term.specs.Substitution.{Substitution, instance}
 use Rattle.circ_term.proofs.Paths.{replaced_there, replaced_self, at_replaced, replaced_twice, replaced_below}
 use Rattle.circ_theory.specs.Signature.{IsWellSorted, IsSubstitution}
-use Rattle.circ_theory.specs.Theory.{Theory, Pair, IsHidden, IsWellSortedPair}
+use Rattle.circ_theory.specs.Theory.{Theory, Pair}
 use Rattle.circ_theory.specs.Variables.{FitVariables, given}
 use Rattle.circ_theory.specs.Rewriting.{from_side, to_side}
 use Rattle.circ_theory.specs.Fresh.{above}
@@ -22,7 +21,7 @@ use Rattle.circ_special.specs.declared.place.Place.{Place}
 use Rattle.circ_special.specs.Special.{IsSpecial}
 use Rattle.circ_replay.specs.Plain.{LinkOf}
 use Rattle.circ_replay.specs.Goals.{sides, AreSortedGoals}
-use Rattle.circ_replay.specs.Link.{Setting, setting, Leads}
+use Rattle.circ_replay.specs.Link.{Setting, setting}
 use Rattle.circ_plain_search.specs.Joining.{Stop, HypothesisUse, use_link, pair_variables, and_then, within_or, put_in, put, put_all}
 use Rattle.circ_plain_search.proofs.Terms.{Fine, FineTerms, replaced_low}
 use Rattle.circ_plain_search.proofs.Led.{Led, led_none, led_append}
@@ -101,7 +100,7 @@ row_put : (f s : ℕ) (front : List Tree) (t u : Tree) (ts : Trees) → replaced
 row_put f s front t u ts =
     let got : slice_get (list_of (trees_of (front ++ t ∷ list_of ts))) (length front) ≡ Some t = row_arg front t ts in
     let e : slice_set (list_of (trees_of (front ++ t ∷ list_of ts))) (length front) u ≡ front ++ u ∷ list_of ts
-        = ap (λ l. slice_set l (length front) u) (list_of-trees_of (front ++ t ∷ list_of ts)) ∙ set_mid front t u (list_of ts) in
+    = ap (λ l. slice_set l (length front) u) (list_of-trees_of (front ++ t ∷ list_of ts)) ∙ set_mid front t u (list_of ts) in
     rw got (ap (λ l. Some (App f s (trees_of l))) e)
 
 pub row_next : (f s : ℕ) (front : List Tree) (t : Tree) (ts : Trees) → row f s (front ++ t ∷ []) ts ≡ row f s front (more t ts)
@@ -120,7 +119,7 @@ module _ (th : Theory) (m : ℕ) (G : List Place) (H : List Goal) (sorted : AreS
       let w = (sorted it.hypothesis (contains_at H u.number it.hypothesis it.listed)).sorted in
       let σ : Substitution = given (pair_variables p) u.terms in
       let s : IsSubstitution th.signature σ
-          = given_substitution th.signature (pair_variables p) u.terms it.fit (all_by (Fine th m) (IsWellSorted th.signature) u.terms (λ t f. f.sorted) it.terms) in
+      = given_substitution th.signature (pair_variables p) u.terms it.fit (all_by (Fine th m) (IsWellSorted th.signature) u.terms (λ t f. f.sorted) it.terms) in
       let P : Tree → Type 0 = IsWellSorted th.signature in
       record {
         well_sorted = subst P it.made (instance_well_sorted th.signature σ (to_side u.way p) s (sorted_to th.signature u.way p w));
@@ -139,15 +138,19 @@ module _ (th : Theory) (m : ℕ) (G : List Place) (H : List Goal) (sorted : AreS
       let keeps = replaced_sorted th u.path t a u.new v f.sorted here (use_keeps q a b u it) made in
       record {
         led = record {
-          leads = (v, record {
-            hypothesis = it.hypothesis;
-            listed = it.listed;
-            rewrites = record {
-              fit = it.fit;
-              replaces = record { there = here ∙ ap Some (sym it.old); made = ap (replaced t u.path) it.made ∙ made; within = d.1 };
-            };
-            special = λ h. subst S (sym it.path) special;
-          }, refl);
+          leads = (
+            v,
+            record {
+              hypothesis = it.hypothesis;
+              listed = it.listed;
+              rewrites = record {
+                fit = it.fit;
+                replaces = record { there = here ∙ ap Some (sym it.old); made = ap (replaced t u.path) it.made ∙ made; within = d.1 };
+              };
+              special = λ h. subst S (sym it.path) special;
+            },
+            refl,
+          );
           fine = record { sorted = keeps.well_sorted; within = d.1; low = replaced_low m u.path t u.new v made f.low it.low };
           same_sort = keeps.same_sort;
           terms = (it.terms, tt);
@@ -187,7 +190,7 @@ module _ (th : Theory) (m : ℕ) (G : List Place) (H : List Goal) (sorted : AreS
       let r : Through (put_all x us) (λ w. put_all w vs) y = through (put_all x us) (λ w. put_all w vs) y (sym (put_all_append us vs x) ∙ e) in
       let a = first r.value r.first in
       let made : replaced x q (row f s front (more u ts)) ≡ Some r.value
-          = sym (replaced_below q (length front ∷ []) x (row f s front (more t ts)) u (row f s front (more u ts)) there (row_put f s front t u ts)) ∙ a.made in
+      = sym (replaced_below q (length front ∷ []) x (row f s front (more t ts)) u (row f s front (more u ts)) there (row_put f s front t u ts)) ∙ a.made in
       record {
         w = r.value;
         first = a;

@@ -2,3 +2,6 @@
 //! proves is accepted. This crate has no code: its laws are contracts of functions that do
 //! nothing, and docs/search.md tells the search in words.
 #![tactic(auto)]
+
+pub mod examples;
+pub mod laws;

@@ -32,3 +32,7 @@ pub ends : {E : Type 0} (r : Result (Unit {0}) E) (old one new a b : List ℕ) �
     → OnOk r (new ≡ old ++ (a ++ b))
 ends (Ok u) old one new a b e f = joins old one new a b e f
 ends (Err x) old one new a b e f = tt
+
+pub joins_ok : {E : Type 0} (r : Result (Unit {0}) E) (old one new a b : List ℕ) → one ≡ old ++ a → OnOk r (new ≡ one ++ b) → OnOk r (new ≡ old ++ (a ++ b))
+joins_ok (Ok u) old one new a b e f = joins old one new a b e f
+joins_ok (Err x) old one new a b e f = tt

@@ -4,3 +4,4 @@ pub mod TheoryText
 pub mod GoalsText
 pub mod Observed
 pub mod SortMarks
+pub mod PlacesText

@@ -64,10 +64,12 @@ theory_line name = codes "theory" ++ spaced_word name ++ codes " is\n"
 abbrev pub sort_line : (name : List ℕ) → List ℕ
 sort_line name = codes "sort" ++ spaced_word name ++ codes " .\n"
 
+-- an operator's form, and the sorts of its arguments and of its result
+abbrev pub declaration : Signature → Operator → List ℕ
+declaration sig o = text_of o.form ++ codes " :" ++ flat_map (spaced_sort sig) o.args ++ codes " ->" ++ spaced_sort sig o.result
+
 abbrev pub op_line : Signature → Operator → List ℕ
-op_line sig o =
-    codes "op " ++ text_of o.form ++ codes " :" ++ flat_map (spaced_sort sig) o.args
-    ++ codes " ->" ++ spaced_sort sig o.result ++ attributes_text o ++ codes " .\n"
+op_line sig o = codes "op " ++ declaration sig o ++ attributes_text o ++ codes " .\n"
 
 abbrev pub var_line : Signature → Declared → List ℕ
 var_line sig d = codes "var" ++ spaced_word d.name ++ codes " :" ++ spaced_sort sig d.sort ++ codes " .\n"

@@ -1,11 +1,13 @@
 //! Theories and goals as text.
 //!
-//! [`theory_text`] appends a whole theory, [`goals_text`] the goals of a proof. [`unobserved`]
+//! [`theory_text`] appends a whole theory, [`goals_text`] the goals of a proof, [`contexts_text`] a
+//! special set. [`unobserved`]
 //! tells a hidden sort that no experiment fits: of such a sort every pair behaves, so the text of a
 //! theory ends with a line for each.
 #![tactic(auto)]
 
 mod attributes;
+mod contexts;
 mod goals;
 pub mod laws;
 mod lines;
@@ -13,6 +15,7 @@ mod observed;
 mod relation;
 mod theories;
 
+pub use contexts::contexts_text;
 pub use goals::goals_text;
 pub use observed::unobserved;
 pub use relation::relation_text;

@@ -4,7 +4,7 @@ ghost use Rattle.std.specs.Option.{option_copied};
 ghost use Rattle.circ_theory.specs.Form.{text_of};
 ghost use Rattle.circ_theory.specs.Theory.{declared};
 ghost use Rattle.circ_theory.specs.Operators.{operator_of};
-ghost use Rattle.circ_show.specs.Lines.{spaced_word, spaced_sort, spaced_form, sort_name, theory_line, sort_line, op_line, var_line, equation_line, derivative_line, cases_line, unobserved_line};
+ghost use Rattle.circ_show.specs.Lines.{spaced_word, spaced_sort, spaced_form, sort_name, theory_line, sort_line, declaration, op_line, var_line, equation_line, derivative_line, cases_line, unobserved_line};
 
 use crate::attributes::put_attributes;
 use circ_mixfix::{print_derivative, print_pair};
@@ -33,13 +33,21 @@ pub fn put_op(out: &mut Vec<u8>, theory: &Theory, decl: &OpDecl) -> Result<(), A
         out.old.items ++ op_line theory.now.signature (operator_of decl.now)) }
 {
     out.extend_from_slice(b"op ")?;
+    put_declaration(out, theory, decl)?;
+    put_attributes(out, decl)?;
+    out.extend_from_slice(b" .\n")
+}
+
+// An operator's form, and the sorts of its arguments and of its result.
+pub fn put_declaration(out: &mut Vec<u8>, theory: &Theory, decl: &OpDecl) -> Result<(), AllocError>
+    ensures { OnOk result (out.new.items ≡
+        out.old.items ++ declaration theory.now.signature (operator_of decl.now)) }
+{
     put_form(out, decl.form.pieces())?;
     out.extend_from_slice(b" :")?;
     put_names(out, theory, &decl.args)?;
     out.extend_from_slice(b" ->")?;
-    put_word(out, name_of(theory, decl.result))?;
-    put_attributes(out, decl)?;
-    out.extend_from_slice(b" .\n")
+    put_word(out, name_of(theory, decl.result))
 }
 
 pub fn put_var(out: &mut Vec<u8>, theory: &Theory, name: &[u8], sort: u32) -> Result<(), AllocError>

@@ -9,7 +9,7 @@ use Rattle.circ_rules.specs.Accepted.{Derives, FirstFail}
 use Rattle.circ_top.specs.Answer.{Succeeds, RefusesCommand, DueAnswer, no_command, success, refusal, words_unread, AnswersDue, Succeeded}
 use Rattle.circ_top.specs.Causes.{AtFile, IsPastLimit, IsReadFault, IsWriteFault}
 use Rattle.circ_top.specs.Check.{report_text, refused, accepted, Accepts, Rejects, FilesRead}
-use Rattle.circ_top.specs.Command.{Command, Check, Show, Reduce, Library, Asks}
+use Rattle.circ_top.specs.Command.{Command, Check, Show, Contexts, Reduce, Library, Asks}
 use Rattle.circ_top.specs.Delivery.{Prints, Delivers, whole, write_failed, memory_wanted, text_wanted}
 use Rattle.circ_files.specs.Files.{Held, IsUnread, IsTooLong, IsFileFault}
 use Rattle.circ_top.specs.Outcome.{Stored, Outcome, command, HoldsAfter}
@@ -31,16 +31,18 @@ module _ (before after : ShelfState) where
   command_not_ok : (c : Command) (s : Status) → RefusesCommand c before after s → s ≡ status.Ok → ⊥
   command_not_ok (Check report theory proof) s r e = check_not_ok theory proof before after s r e
   command_not_ok (Show theory) s r e = file_fault_not_ok 1 theory TheoryRefusal before after s e r
+  command_not_ok (Contexts budget theory) s r e = file_fault_not_ok 1 theory TheoryRefusal before after s e r
   command_not_ok (Reduce budget theory script) s r e = reduce_not_ok budget theory script before after s r e
   command_not_ok (Library text) s r e = let never : status.Memory ≡ status.Ok = sym r ∙ e in cc
 
-  command_not_refused : (theory : List ℕ) (s : Status) (n : ℕ) → RefusesCommand (Show theory) before after s → s ≡ status.Refused n → ⊥
+  command_not_refused : (theory : List ℕ) (s : Status) (n : ℕ) → IsFileFault 1 theory TheoryRefusal before after s → s ≡ status.Refused n → ⊥
   command_not_refused theory s n r e = file_fault_not_refused 1 theory TheoryRefusal before after s n e r
 
   unread_command : (c : Command) (s : Status) (n : ℕ) → RefusesCommand c before after s → s ≡ status.ReadFault n
       → (n ≡ after.count) × AtFile before c (λ f name. IsUnread name before after)
   unread_command (Check report theory proof) s n r e = unread_check theory proof before after s n r e
   unread_command (Show theory) s n r e = let P : Status → Type 0 = IsFileFault 1 theory TheoryRefusal before after in subst P e r
+  unread_command (Contexts budget theory) s n r e = let P : Status → Type 0 = IsFileFault 1 theory TheoryRefusal before after in subst P e r
   unread_command (Reduce budget theory script) s n r e = unread_reduce budget theory script before after s n r e
   unread_command (Library text) s n r e = absurd (let never : status.Memory ≡ status.ReadFault n = sym r ∙ e in cc)
 
@@ -48,12 +50,15 @@ module _ (before after : ShelfState) where
       → AtFile before c (λ f name. (f ≡ file) × IsTooLong name n before)
   past_command (Check report theory proof) s file n r e = past_check theory proof before after s file n r e
   past_command (Show theory) s file n r e = let P : Status → Type 0 = IsFileFault 1 theory TheoryRefusal before after in let x = subst P e r in (sym x.0, x.1)
+  past_command (Contexts budget theory) s file n r e =
+      let P : Status → Type 0 = IsFileFault 1 theory TheoryRefusal before after in let x = subst P e r in (sym x.0, x.1)
   past_command (Reduce budget theory script) s file n r e = past_reduce budget theory script before after s file n r e
   past_command (Library text) s file n r e = absurd (let never : status.Memory ≡ status.TooLong file n = sym r ∙ e in cc)
 
   unwritten_command : (c : Command) (s : Status) (n : ℕ) → RefusesCommand c before after s → s ≡ status.WriteFault n → ⊥
   unwritten_command (Check report theory proof) s n r e = unwritten_check theory proof before after s n r e
   unwritten_command (Show theory) s n r e = let P : Status → Type 0 = IsFileFault 1 theory TheoryRefusal before after in subst P e r
+  unwritten_command (Contexts budget theory) s n r e = let P : Status → Type 0 = IsFileFault 1 theory TheoryRefusal before after in subst P e r
   unwritten_command (Reduce budget theory script) s n r e = unwritten_reduce budget theory script before after s n r e
   unwritten_command (Library text) s n r e = let never : status.Memory ≡ status.WriteFault n = sym r ∙ e in cc
 
@@ -97,6 +102,7 @@ module _ (words : List (List ℕ)) (before after : ShelfState) (start end : Sink
           let P : Status → Type 0 = λ x. Prints (refusal_text (Check report theory proof) x) start end in
           record { report = report; theory = theory; proof = proof; asks = i; refused = check_refused theory proof before after s n f e; quiet = q; prints = subst P e p }
       rejects (Show theory) s i f e p q = absurd (command_not_refused before after theory s n f e)
+      rejects (Contexts budget theory) s i f e p q = absurd (command_not_refused before after theory s n f e)
       rejects (Reduce budget theory script) s i f e p q = absurd (reduce_not_refused budget theory script before after s n f e)
       rejects (Library text) s i f e p q = absurd (let never : status.Memory ≡ status.Refused n = sym f ∙ e in cc)
 

@@ -13,7 +13,7 @@ use Rattle.circ_script.specs.ReadsAsScript.{ReadsAsScript, ScriptOrCause}
 use Rattle.circ_script.specs.declared.job.Job.{Job}
 use Rattle.circ_script.specs.declared.job.Job.TheVariants as job
 use Rattle.circ_top.specs.Check.{report_text, no_theory, no_proof, refused, accepted}
-use Rattle.circ_top.specs.Command.{Command, Check, Show, Reduce, Library, Asks}
+use Rattle.circ_top.specs.Command.{Command, Check, Show, Contexts, Reduce, Library, Asks}
 use Rattle.circ_files.specs.Files.{Held, Refusal, RefusesFile, Holds}
 use Rattle.circ_top.specs.InMemory.{HoldsFilesOf, HoldsFiles}
 use Rattle.circ_top.specs.Outcome.{Stored, Outcome, usage, command}
@@ -22,6 +22,7 @@ use Rattle.circ_top.specs.Reduce.{Results, reduced, EndsWith, results_text, not_
 use Rattle.circ_top.specs.Reduce as reduce
 use Rattle.circ_files.specs.ScriptFile.{ScriptRefusal}
 use Rattle.circ_top.specs.Show.{not_shown, shown}
+use Rattle.circ_top.specs.Contexts.{not_listed, listed}
 use Rattle.circ_files.specs.Texts.{refused_text}
 use Rattle.circ_top.specs.Refusals.{usage_text, refusal_text}
 use Rattle.circ_files.specs.TheoryFile.{TheoryRefusal}
@@ -29,6 +30,8 @@ use Rattle.circ_files.specs.declared.files.TheConstants.{MOST_BYTES}
 use Rattle.circ_top.specs.declared.request.Report.{Report}
 use Rattle.circ_files.specs.declared.status.Status.{Status}
 use Rattle.circ_files.specs.declared.status.Status.TheVariants as status
+use Rattle.circ_show.specs.PlacesText.{place_lines}
+use Rattle.circ_contexts.proofs.Existing.{some_set}
 use Rattle.circ_top.proofs.Ends.{forms_or_end}
 use Rattle.circ_top.proofs.TheoryTexts.{has_text}
 
@@ -96,6 +99,14 @@ module _ (reads : (bytes : List ℕ) → ReadOrRefused bytes) (proofs : ProofsDe
       (λ th rt. has_text th (λ text x. none_is status.Ok text None (command (Show theory) status.Ok text None i (shown th text rt x, refl))))
       (λ s x. let text : List ℕ = refusal_text (Show theory) s in none_is s text None (command (Show theory) s text None i (not_shown s x, refl)))
 
+  no_contexts : (budget : ℕ) (theory : List ℕ) → Asks words (Contexts budget theory) → HoldsFilesOf held (Contexts budget theory) → ⊥
+  no_contexts budget theory i h = file_decides held 1 theory TheoryRefusal ReadsAs h reads
+      (λ th rt. some_set th budget (λ G tss g. let text : List ℕ = place_lines th.signature G in none_is status.Ok text None
+      (command (Contexts budget theory) status.Ok text None i
+      (listed th text rt (record { places = G; traces = tss; greatest = g; text_is = refl }), refl))))
+      (λ s x. let text : List ℕ = refusal_text (Contexts budget theory) s in none_is s text None
+      (command (Contexts budget theory) s text None i (not_listed s x, refl)))
+
   no_reduce : (budget : ℕ) (theory script : List ℕ) → Asks words (Reduce budget theory script) → HoldsFilesOf held (Reduce budget theory script) → ⊥
   no_reduce budget theory script i h = file_decides held 1 theory TheoryRefusal ReadsAs h.0 reads
       (λ th rt. file_decides held 2 script (ScriptRefusal th job.Reduce) (ReadsAsScript th job.Reduce) h.1 (scripts th job.Reduce)
@@ -112,6 +123,7 @@ module _ (reads : (bytes : List ℕ) → ReadOrRefused bytes) (proofs : ProofsDe
   no_command_left : (c : Command) → Asks words c → HoldsFilesOf held c → ⊥
   no_command_left (Check report theory proof) i h = no_check report theory proof i h
   no_command_left (Show theory) i h = no_show theory i h
+  no_command_left (Contexts budget theory) i h = no_contexts budget theory i h
   no_command_left (Reduce budget theory script) i h = no_reduce budget theory script i h
   no_command_left (Library text) i h = none_is status.Ok text None (command (Library text) status.Ok text None i ((refl, refl), refl))
 

@@ -10,6 +10,7 @@ pub mod Refused
 pub mod Agreeing
 pub mod CheckOutcomes
 pub mod ShowOutcomes
+pub mod ContextsOutcomes
 pub mod Ends
 pub mod Reducing
 pub mod ReduceOutcomes

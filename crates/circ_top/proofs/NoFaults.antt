@@ -5,7 +5,7 @@ use Rattle.circ_outer.specs.Count.{Rose}
 use Rattle.circ_outer.specs.Shelf.{ShelfState}
 use Rattle.circ_outer.specs.Sink.{SinkState}
 use Rattle.circ_top.specs.Causes.{IsOutcomeOrFault, AnswersOutcome, printed, not_read, not_written, no_memory, AtFile, IsReadFault}
-use Rattle.circ_top.specs.Command.{Command, Check, Show, Reduce, Library}
+use Rattle.circ_top.specs.Command.{Command, Check, Show, Contexts, Reduce, Library}
 use Rattle.circ_files.specs.Files.{IsUnread}
 use Rattle.circ_top.specs.InMemory.{HoldsFilesOf, HoldsFiles, AppendsAnswer, Appends}
 use Rattle.circ_top.specs.Outcome.{Stored}
@@ -26,6 +26,7 @@ held_file : (before after : ShelfState) (c : Command) → (Rose before.count aft
 held_file before after (Check report theory proof) quiet h (inl u) = quiet (unread_rose theory before after (some_held (before.holds theory) h.0) u)
 held_file before after (Check report theory proof) quiet h (inr u) = quiet (unread_rose proof before after (some_held (before.holds proof) h.1) u.1.1)
 held_file before after (Show theory) quiet h u = quiet (unread_rose theory before after (some_held (before.holds theory) h) u)
+held_file before after (Contexts budget theory) quiet h u = quiet (unread_rose theory before after (some_held (before.holds theory) h) u)
 held_file before after (Reduce budget theory script) quiet h (inl u) = quiet (unread_rose theory before after (some_held (before.holds theory) h.0) u)
 held_file before after (Reduce budget theory script) quiet h (inr u) = quiet (unread_rose script before after (some_held (before.holds script) h.1) u.1.1)
 held_file before after (Library text) quiet h u = u

@@ -4,7 +4,7 @@ use Rattle.circ_outer.specs.Shelf.{ShelfState}
 use Rattle.circ_outer.specs.Sink.{SinkState}
 use Rattle.circ_top.specs.Answer.{Succeeds, RefusesCommand, DueAnswer, no_command, success, refusal, words_unread, AnswersDue}
 use Rattle.circ_top.specs.Causes.{PrintsOutcome, IsOutcomeOrFault, PrintsPartOf, AnswersOutcome}
-use Rattle.circ_top.specs.Command.{Command, Check, Show, Reduce, Library, Asks}
+use Rattle.circ_top.specs.Command.{Command, Check, Show, Contexts, Reduce, Library, Asks}
 use Rattle.circ_top.specs.Delivery.{Delivers, whole, write_failed, memory_wanted, text_wanted}
 use Rattle.circ_files.specs.Like.{IsLike, itself}
 use Rattle.circ_top.specs.Outcome.{Stored, OutcomeOf, Outcome, usage, command, HoldsAfter}
@@ -15,6 +15,7 @@ use Rattle.circ_files.proofs.Readings.{ReadsOnce}
 use Rattle.circ_top.proofs.Agreeing.{DueIs, outcome, nothing_read, no_memory_left, Agrees, alike, memory, PrintsOnce, agree_answers, answers_part}
 use Rattle.circ_top.proofs.CheckOutcomes.{due_check, accepted_outcome, check_agrees, accepted_agrees}
 use Rattle.circ_top.proofs.ShowOutcomes.{due_show, shown_outcome, show_agrees, shown_agrees}
+use Rattle.circ_top.proofs.ContextsOutcomes.{due_contexts, listed_outcome, contexts_agrees, listed_agrees}
 use Rattle.circ_top.proofs.ReduceOutcomes.{due_reduce, reduced_outcome, reduce_agrees, reduced_agrees}
 use Rattle.circ_top.proofs.Proofs.{ProofsOnce}
 use Rattle.circ_files.proofs.Scripts.{ScriptsOnce}
@@ -25,6 +26,7 @@ due_refusal : (words : List (List ℕ)) (before after : ShelfState) (c : Command
     → DueIs words before after s (refusal_text c s) None
 due_refusal words before after (Check report theory proof) s t i r = due_check words report theory proof before after s t i r
 due_refusal words before after (Show theory) s t i r = due_show words theory before after s t i r
+due_refusal words before after (Contexts budget theory) s t i r = due_contexts words budget theory before after s t i r
 due_refusal words before after (Reduce budget theory script) s t i r = due_reduce budget theory script before after words s t i r
 due_refusal words before after (Library text) s t i r =
     let P : Status → Type 0 = λ x. DueIs words before after x (refusal_text (Library text) x) None in subst P (sym r) no_memory_left
@@ -33,6 +35,7 @@ due_success : (c : Command) (text : List ℕ) (stored : Option Stored) (before :
     → OutcomeOf before.holds c status.Ok text stored
 due_success (Check report theory proof) text stored before t a = (accepted_outcome theory proof before before report text t a.0, a.1)
 due_success (Show theory) text stored before t a = (shown_outcome theory text before t a.0, a.1)
+due_success (Contexts budget theory) text stored before t a = (listed_outcome budget theory text before t a.0, a.1)
 due_success (Reduce budget theory script) text stored before t a = (reduced_outcome budget theory script before before text t a.0, a.1)
 due_success (Library given) text stored before t a = ((refl, a.0), a.1)
 
@@ -49,6 +52,7 @@ stores_nothing : (held : List ℕ → Option (List ℕ)) (c : Command) (s : Stat
     → stored ≡ None
 stores_nothing held (Check report theory proof) s text stored c = c.1
 stores_nothing held (Show theory) s text stored c = c.1
+stores_nothing held (Contexts budget theory) s text stored c = c.1
 stores_nothing held (Reduce budget theory script) s text stored c = c.1
 stores_nothing held (Library given) s text stored c = c.1
 
@@ -61,6 +65,7 @@ outcome_stored words held s text stored (command c _ _ _ i x) = stores_nothing h
 success_stored : (c : Command) (text : List ℕ) (stored : Option Stored) (before : ShelfState) → Succeeds c text stored before → stored ≡ None
 success_stored (Check report theory proof) text stored before a = a.1
 success_stored (Show theory) text stored before a = a.1
+success_stored (Contexts budget theory) text stored before a = a.1
 success_stored (Reduce budget theory script) text stored before a = a.1
 success_stored (Library given) text stored before a = a.1
 
@@ -77,6 +82,7 @@ module _ (once : ReadsOnce) (proofs : ProofsOnce) (scripts : ScriptsOnce) (print
       → Agrees before after s text r (refusal_text c r)
   refusal_agrees (Check report theory proof) s r text stored c f = check_agrees once proofs report theory proof before after t r s text f c.0
   refusal_agrees (Show theory) s r text stored c f = show_agrees once theory before after t r s text f c.0
+  refusal_agrees (Contexts budget theory) s r text stored c f = contexts_agrees once budget theory before after t r s text f c.0
   refusal_agrees (Reduce budget theory script) s r text stored c f = reduce_agrees once scripts budget theory script before after t r s text f c.0
   refusal_agrees (Library given) s r text stored c f =
       let P : Status → Type 0 = λ x. Agrees before after s text x (refusal_text (Library given) x) in subst P (sym f) memory
@@ -86,6 +92,7 @@ module _ (once : ReadsOnce) (proofs : ProofsOnce) (scripts : ScriptsOnce) (print
       → Agrees before after s text status.Ok given
   success_agrees (Check report theory proof) s text given stored other c a = accepted_agrees once proofs report theory proof before after t given a.0 s text c.0
   success_agrees (Show theory) s text given stored other c a = shown_agrees once theory before after t printed_once given a.0 s text c.0
+  success_agrees (Contexts budget theory) s text given stored other c a = listed_agrees once budget theory before after t given a.0 s text c.0
   success_agrees (Reduce budget theory script) s text given stored other c a =
       reduced_agrees once scripts budget theory script before after t given a.0 s text c.0
   success_agrees (Library words) s text given stored other c a =

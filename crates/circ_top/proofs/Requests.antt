@@ -7,7 +7,7 @@ use Rattle.clap.specs.Faults.{fault_of}
 use Rattle.clap.specs.Simple.{matches_of}
 use Rattle.clap.specs.Walk.{Row, first_of}
 use Rattle.circ_lib.specs.Library.{library_text}
-use Rattle.circ_top.specs.Command.{Command, Library, IsCommand, check, show, reduce, library, IsNoneOfTable, report_name, Asks, IsNoCommand, plain_request}
+use Rattle.circ_top.specs.Command.{Command, Library, IsCommand, check, show, contexts, reduce, library, IsNoneOfTable, report_name, Asks, IsNoCommand, plain_request}
 use Rattle.circ_top.specs.Words.{circ_app, IsBudget, Finds, FindsNothing}
 use Rattle.circ_top.specs.declared.request.Report.{Report}
 use Rattle.circ_top.specs.declared.request.Report.TheVariants.{Goals, Relation}
@@ -19,6 +19,12 @@ other_length given a b c e f = let never : 2 ≡ 1 = ap length (sym e ∙ f) in 
 
 other_name : (n : List ℕ) → n ≡ codes "show" → n ≡ codes "library" → ⊥
 other_name n e f = let never : 4 ≡ 7 = ap length (sym e ∙ f) in omega (arith, never)
+
+no_contexts_show : (n : List ℕ) → n ≡ codes "contexts" → n ≡ codes "show" → ⊥
+no_contexts_show n e f = let never : 8 ≡ 4 = ap length (sym e ∙ f) in omega (arith, never)
+
+no_contexts_library : (n : List ℕ) → n ≡ codes "contexts" → n ≡ codes "library" → ⊥
+no_contexts_library n e f = let never : 8 ≡ 7 = ap length (sym e ∙ f) in omega (arith, never)
 
 no_report : (r : Report) (n : List ℕ) → n ≡ report_name r → n ≡ codes "reduce" → ⊥
 no_report Goals n e f = let never : 5 ≡ 6 = ap length (sym e ∙ f) in omega (arith, never)
@@ -48,6 +54,15 @@ same_of_table k n given _ _ (library u text f j m) (reduce t p e i) = absurd (ot
 same_of_table k n given _ _ (show u f j) (check r t p e i) = absurd (other_length given t p u i j)
 same_of_table k n given _ _ (show t e i) (show u f j) = let a = sym i ∙ j in cc
 same_of_table k n given _ _ (show t e i) (library u text f j m) = absurd (other_name n e f)
+same_of_table k n given _ _ (contexts t e i) (contexts u f j) = let a = sym i ∙ j in cc
+same_of_table k n given _ _ (contexts u f j) (check r t p e i) = absurd (other_length given t p u i j)
+same_of_table k n given _ _ (check r t p e i) (contexts u f j) = absurd (other_length given t p u i j)
+same_of_table k n given _ _ (contexts u f j) (reduce t p e i) = absurd (other_length given t p u i j)
+same_of_table k n given _ _ (reduce t p e i) (contexts u f j) = absurd (other_length given t p u i j)
+same_of_table k n given _ _ (contexts t e i) (show u f j) = absurd (no_contexts_show n e f)
+same_of_table k n given _ _ (show u f j) (contexts t e i) = absurd (no_contexts_show n e f)
+same_of_table k n given _ _ (contexts t e i) (library u text f j m) = absurd (no_contexts_library n e f)
+same_of_table k n given _ _ (library u text f j m) (contexts t e i) = absurd (no_contexts_library n e f)
 same_of_table k n given _ _ (library u text f j m) (check r t p e i) = absurd (other_length given t p u i j)
 same_of_table k n given _ _ (library u text f j m) (show t e i) = absurd (other_name n e f)
 same_of_table k n given _ _ (library t w e i h) (library u x f j m) =

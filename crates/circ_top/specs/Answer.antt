@@ -3,7 +3,8 @@ use Rattle.std.specs.Prelude.{◌≡◌, ℕ, List, [], Option, None}
 use Rattle.circ_outer.specs.Shelf.{ShelfState, IsQuiet}
 use Rattle.circ_outer.specs.Sink.{SinkState}
 use Rattle.circ_top.specs.Check.{IsAccepted, RefusesCheck}
-use Rattle.circ_top.specs.Command.{Command, Check, Show, Reduce, Library, Asks, IsNoCommand}
+use Rattle.circ_top.specs.Contexts.{IsListed}
+use Rattle.circ_top.specs.Command.{Command, Check, Show, Contexts, Reduce, Library, Asks, IsNoCommand}
 use Rattle.circ_top.specs.Delivery.{Prints, Delivers}
 use Rattle.circ_top.specs.Library.{RefusesLibrary}
 use Rattle.circ_top.specs.Outcome.{Stored, HoldsAfter}
@@ -18,6 +19,7 @@ use Rattle.circ_files.specs.declared.status.Status.TheVariants as status
 abbrev pub Succeeds : Command → (text : List ℕ) → (stored : Option Stored) → (before : ShelfState) → Type 0
 Succeeds (Check report theory proof) text stored before = IsAccepted report theory proof text before × (stored ≡ None)
 Succeeds (Show theory) text stored before = IsShown theory text before × (stored ≡ None)
+Succeeds (Contexts budget theory) text stored before = IsListed budget theory text before × (stored ≡ None)
 Succeeds (Reduce budget theory script) text stored before = IsReduced budget theory script text before × (stored ≡ None)
 Succeeds (Library given) text stored before = (text ≡ given) × (stored ≡ None)
 
@@ -25,6 +27,7 @@ Succeeds (Library given) text stored before = (text ≡ given) × (stored ≡ No
 abbrev pub RefusesCommand : Command → (before after : ShelfState) → Status → Type 0
 RefusesCommand (Check report theory proof) before after s = RefusesCheck theory proof before after s
 RefusesCommand (Show theory) before after s = IsTheoryFault theory before after s
+RefusesCommand (Contexts budget theory) before after s = IsTheoryFault theory before after s
 RefusesCommand (Reduce budget theory script) before after s = RefusesReduce budget theory script before after s
 RefusesCommand (Library given) before after s = RefusesLibrary s
 

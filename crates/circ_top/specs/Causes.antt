@@ -4,7 +4,7 @@ use Rattle.circ_outer.specs.Count.{Rose}
 use Rattle.circ_outer.specs.Shelf.{ShelfState}
 use Rattle.circ_outer.specs.Sink.{SinkState}
 use Rattle.circ_theory.specs.Theory.{Theory}
-use Rattle.circ_top.specs.Command.{Command, Check, Show, Reduce, Library, Asks}
+use Rattle.circ_top.specs.Command.{Command, Check, Show, Contexts, Reduce, Library, Asks}
 use Rattle.circ_top.specs.Delivery.{Prints, PrintsPart, PrintsFront}
 use Rattle.circ_files.specs.Files.{IsUnread, IsTooLong}
 use Rattle.circ_files.specs.Like.{IsLike}
@@ -52,6 +52,7 @@ AtEither before theory second P = P 1 theory ⊎ ((th : Theory) × (TakesTheory 
 abbrev pub AtFile : ShelfState → Command → (ℕ → List ℕ → Type 0) → Type 0
 AtFile before (Check report theory proof) P = AtEither before theory proof P
 AtFile before (Show theory) P = P 1 theory
+AtFile before (Contexts budget theory) P = P 1 theory
 AtFile before (Reduce budget theory script) P = AtEither before theory script P
 AtFile before (Library text) P = ⊥
 

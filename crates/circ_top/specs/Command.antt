@@ -18,11 +18,12 @@ report_name Relation = codes "relation"
 abbrev pub IsNoReport : (name : List ℕ) → Type 0
 IsNoReport name = (r : Report) → name ≡ report_name r → ⊥
 
--- Files go by their names. A proof is checked, and its goals are reported or the whole relation that it builds. The terms of a script are reduced by so many
--- replacements at most. The library's text is that of a name that it knows.
+-- Files go by their names. A proof is checked, and its goals are reported or the whole relation that it builds. The places of the greatest special set are
+-- listed, and the terms of a script are reduced, by so many replacements at most. The library's text is that of a name that it knows.
 pub data Command : Type 0 where
   Check : (report : Report) (theory proof : List ℕ) → Command
   Show : (theory : List ℕ) → Command
+  Contexts : (budget : ℕ) → (theory : List ℕ) → Command
   Reduce : (budget : ℕ) → (theory script : List ℕ) → Command
   Library : (text : List ℕ) → Command
 
@@ -31,6 +32,7 @@ pub data IsCommand (limits : Limits) (name : List ℕ) (given : List (List ℕ))
   check : (report : Report) (theory proof : List ℕ) → name ≡ report_name report → given ≡ theory ∷ proof ∷ []
       → IsCommand limits name given (Check report theory proof)
   show : (theory : List ℕ) → name ≡ codes "show" → given ≡ theory ∷ [] → IsCommand limits name given (Show theory)
+  contexts : (theory : List ℕ) → name ≡ codes "contexts" → given ≡ theory ∷ [] → IsCommand limits name given (Contexts limits.steps theory)
   reduce : (theory script : List ℕ) → name ≡ codes "reduce" → given ≡ theory ∷ script ∷ []
       → IsCommand limits name given (Reduce limits.steps theory script)
   library : (theory text : List ℕ) → name ≡ codes "library" → given ≡ theory ∷ [] → library_text theory ≡ Some text
@@ -55,6 +57,7 @@ IsNoCommand words = (c : Command) → Asks words c → ⊥
 abbrev pub stored_name : Command → Option (List ℕ)
 stored_name (Check report theory proof) = None
 stored_name (Show theory) = None
+stored_name (Contexts budget theory) = None
 stored_name (Reduce budget theory script) = None
 stored_name (Library text) = None
 
@@ -66,5 +69,6 @@ IsNotStored words name = (c : Command) → Asks words c → stored_name c ≡ So
 abbrev pub plain_request : Request → Command
 plain_request (request.Check report theory proof) = Check report theory.now proof.now
 plain_request (request.Show theory) = Show theory.now
+plain_request (request.Contexts budget theory) = Contexts budget theory.now
 plain_request (request.Reduce budget theory script) = Reduce budget theory.now script.now
 plain_request (request.Library text) = Library text.now

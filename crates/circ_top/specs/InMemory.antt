@@ -2,7 +2,7 @@
 use Rattle.std.specs.Prelude.{◌≡◌, ◌++◌, ℕ, List, Option, IsSome}
 use Rattle.circ_outer.specs.Shelf.{ShelfState}
 use Rattle.circ_outer.specs.Sink.{SinkState}
-use Rattle.circ_top.specs.Command.{Command, Check, Show, Reduce, Library, Asks}
+use Rattle.circ_top.specs.Command.{Command, Check, Show, Contexts, Reduce, Library, Asks}
 use Rattle.circ_files.specs.Files.{Held}
 use Rattle.circ_files.specs.Like.{IsLike}
 use Rattle.circ_top.specs.Outcome.{Stored, Outcome, HoldsAfter}
@@ -13,6 +13,7 @@ use Rattle.circ_files.specs.declared.status.Status.TheVariants as status
 abbrev pub HoldsFilesOf : Held → Command → Type 0
 HoldsFilesOf held (Check report theory proof) = IsSome (held theory) × IsSome (held proof)
 HoldsFilesOf held (Show theory) = IsSome (held theory)
+HoldsFilesOf held (Contexts budget theory) = IsSome (held theory)
 HoldsFilesOf held (Reduce budget theory script) = IsSome (held theory) × IsSome (held script)
 HoldsFilesOf held (Library text) = Unit {0}
 

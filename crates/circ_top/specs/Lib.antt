@@ -7,6 +7,7 @@ pub mod Check
 pub mod CheckProof
 pub mod Incoming
 pub mod Show
+pub mod Contexts
 pub mod Library
 pub mod Reduce
 pub mod Outcome

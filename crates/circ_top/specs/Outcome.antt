@@ -2,7 +2,8 @@
 use Rattle.std.specs.Prelude.{◌≡◌, ◌≢◌, ℕ, List, Option, Some, None, true}
 use Rattle.circ_outer.specs.Shelf.{ShelfState}
 use Rattle.circ_top.specs.Check.{CheckOutcome}
-use Rattle.circ_top.specs.Command.{Command, Check, Show, Reduce, Library, Asks, IsNoCommand}
+use Rattle.circ_top.specs.Contexts.{ContextsOutcome}
+use Rattle.circ_top.specs.Command.{Command, Check, Show, Contexts, Reduce, Library, Asks, IsNoCommand}
 use Rattle.circ_files.specs.Files.{Held}
 use Rattle.circ_top.specs.Library.{LibraryOutcome}
 use Rattle.circ_top.specs.Reduce.{ReduceOutcome}
@@ -20,6 +21,7 @@ pub record Stored : Type 0 where
 abbrev pub OutcomeOf : Held → Command → Status → (text : List ℕ) → (stored : Option Stored) → Type 0
 OutcomeOf held (Check report theory proof) s text stored = CheckOutcome held report theory proof s text × (stored ≡ None)
 OutcomeOf held (Show theory) s text stored = ShowOutcome held theory s text × (stored ≡ None)
+OutcomeOf held (Contexts budget theory) s text stored = ContextsOutcome held budget theory s text × (stored ≡ None)
 OutcomeOf held (Reduce budget theory script) s text stored = ReduceOutcome held budget theory script s text × (stored ≡ None)
 OutcomeOf held (Library given) s text stored = LibraryOutcome given s text × (stored ≡ None)
 

@@ -19,6 +19,7 @@ ghost use Rattle.circ_top.specs.Causes.{IsPastLimit, IsReadFault, IsWriteFault};
 ghost use Rattle.circ_files.specs.Quiet.{IsQuietBut, IsQuietCall};
 
 use crate::check::check;
+use crate::contexts::contexts;
 use crate::library::library;
 use crate::reduce::reduce;
 use crate::refusals::{refusal, usage};
@@ -34,8 +35,8 @@ use circ_soundness::one_verdict;
 use std::alloc::Global;
 
 /// The program: `words` are its name and then a command with what it takes, which is
-/// `check THEORY PROOF`, `relation THEORY PROOF`, `show THEORY`, `reduce THEORY SCRIPT` or
-/// `library NAME`. The options
+/// `check THEORY PROOF`, `relation THEORY PROOF`, `show THEORY`, `contexts THEORY`,
+/// `reduce THEORY SCRIPT` or `library NAME`. The options
 /// `--steps N` and `--derives N` may stand before, behind or between them. The files are taken
 /// from the shelf, and the text of the answer is written to the sink, whole.
 pub fn circ<S: Shelf, K: Sink>(
@@ -177,6 +178,7 @@ fn run<S: Shelf>(alloc: Global, request: &Request<'_>, shelf: &mut S) -> Result<
             proof,
         } => check(alloc, shelf, *report, theory, proof),
         Request::Show { theory } => show(alloc, shelf, theory),
+        Request::Contexts { budget, theory } => contexts(alloc, shelf, *budget, theory),
         Request::Reduce {
             budget,
             theory,

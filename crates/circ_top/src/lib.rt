@@ -3,6 +3,7 @@
 
 mod check;
 mod command;
+mod contexts;
 mod incoming;
 pub mod laws;
 mod library;

@@ -29,6 +29,12 @@ pub enum Request<'a> {
     Show {
         theory: &'a str,
     },
+    /// The places of a theory file's greatest special set are printed, for which each start term has
+    /// so many replacements at most.
+    Contexts {
+        budget: u64,
+        theory: &'a str,
+    },
     /// The terms of a script file are reduced over a theory file, with so many replacements at most.
     Reduce {
         budget: u64,
@@ -77,6 +83,12 @@ fn of_one<'a>(words: &Words<'_, 'a>, word: &'a str) -> Option<Request<'a>>
 {
     if is_word(words.name, b"show") {
         return Some(Request::Show { theory: word });
+    }
+    if is_word(words.name, b"contexts") {
+        return Some(Request::Contexts {
+            budget: words.limits.steps,
+            theory: word,
+        });
     }
     if !is_word(words.name, b"library") {
         return None;

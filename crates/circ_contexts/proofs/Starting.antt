@@ -1,0 +1,163 @@
+-- The normal forms of start terms, as the code finds them one by one.
+use Rattle.std.specs.Prelude.{◌≡◌, ◌≤◌, ◌<◌, ◌==◌, ◌+◌, ℕ, true, false, List, [], ◌∷◌, ◌++◌, length, Option, Some, None, Result, Ok, Err, IfOk, Vec, Bool, refl}
+use Rattle.std.specs.List.{Contains, slice_get, filter}
+use Rattle.std.specs.Option.{IfSome, option_map_or}
+use Rattle.std.proofs.Common.{Global, ap, sym, subst, ◌∙◌, append-nil, append_assoc}
+use Rattle.std.proofs.Math.ListN.{drop_of_length-le}
+use Rattle.std.proofs.lemmas.Option.{same_Some}
+use Rattle.circ_term.specs.Tree.{Tree}
+use Rattle.circ_term.specs.Limits.{IsWithinLimits}
+use Rattle.circ_theory.specs.Signature.{Operator}
+use Rattle.circ_theory.specs.Operators.{operator_of}
+use Rattle.circ_theory.specs.Theory.{Theory, Derivative}
+use Rattle.circ_theory.proofs.Casing.{contains_first}
+use Rattle.circ_theory.proofs.Weakening.{in_rest}
+use Rattle.circ_special.specs.declared.place.Place.{Place}
+use Rattle.circ_special.specs.Special.{IsPlace}
+use Rattle.circ_rewrite.specs.Norm.{norm}
+use Rattle.circ_rewrite.specs.TheoryRules.{theory_rules}
+use Rattle.circ_rewrite.specs.declared.parts.Normal.{Normal}
+use Rattle.circ_rewrite.specs.declared.parts.Rule.{Rule}
+use Rattle.circ_rules.specs.Admitting.{IsStart}
+use Rattle.circ_rules.specs.Answers.{Gives}
+use Rattle.circ_rules.specs.Certified.{start_term, derivatives_at}
+use Rattle.circ_rules.specs.Deriving.{IsWithin}
+use Rattle.circ_rules.specs.declared.certificates.Start.{Start}
+use Rattle.circ_rules.proofs.Deriving.{StartsWith, derivative_at, from_number, taken_next, passed_next, if_some_at, some_if_at}
+use Rattle.circ_contexts.specs.Candidates.{ComesTo, GivesNormal, AreNormals, IsFound}
+use Rattle.circ_contexts.specs.Greatest.{IsCandidate}
+
+module _ (th : Theory) (budget : ℕ) where
+  -- ---- one start term
+
+  module _ (s : Start) (start : IsStart th s) (d : Derivative) where
+    abbrev o : Operator
+    o = operator_of s.decl.now
+
+    its : (p : IsPlace th s.place) → p.operator ≡ o
+    its p = same_Some p.operator o (sym p.listed ∙ start.listed)
+
+    -- it passes a limit
+    pub no_start : Gives (IsWithin (start_term o s.place d)) None → GivesNormal th budget s.place d None
+    no_start none normal traces h =
+        let P : Operator → Type 0 = λ o. IsWithinLimits (start_term o s.place d) in
+        none (start_term o s.place d) (record { within = subst P (its h.place) h.within; same = refl })
+
+    -- what it comes to
+    pub start_comes : (t : Tree) → IsWithin (start_term o s.place d) t → (rules : List Rule) → rules ≡ theory_rules th → (x : Option Normal)
+        → ComesTo (norm th.signature rules [] budget t) x → GivesNormal th budget s.place d x
+    start_comes t w rules e None c = λ normal traces h.
+        let same : norm th.signature rules [] budget t ≡ norm th.signature (theory_rules th) [] budget (start_term h.place.operator s.place d)
+        = ap (λ rs. norm th.signature rs [] budget t) e ∙ ap (norm th.signature (theory_rules th) [] budget) w.same
+        ∙ ap (λ o. norm th.signature (theory_rules th) [] budget (start_term o s.place d)) (sym (its h.place)) in
+        c normal traces h.left (same ∙ h.form)
+    start_comes t w rules e (Some n) c =
+        let p = start.place in
+        let P : Operator → Type 0 = λ o. IsWithinLimits (start_term o s.place d) in
+        let same : norm th.signature (theory_rules th) [] budget (start_term p.operator s.place d) ≡ norm th.signature rules [] budget t
+        = ap (λ o. norm th.signature (theory_rules th) [] budget (start_term o s.place d)) (its p)
+        ∙ ap (norm th.signature (theory_rules th) [] budget) (sym w.same) ∙ ap (λ rs. norm th.signature rs [] budget t) (sym e) in
+        record { place = p; within = subst P (sym (its p)) w.within; left = c.0; form = same ∙ c.1 }
+
+  -- the same for the derivative of a number
+  module _ (s : Start) (start : IsStart th s) (i : ℕ) (d : Derivative) (there : slice_get th.derivatives i ≡ Some d) where
+    pub none_at : IfSome (slice_get th.derivatives i) (λ d. Gives (IsWithin (start_term (operator_of s.decl.now) s.place d)) None)
+        → IfSome (slice_get th.derivatives i) (λ d. GivesNormal th budget s.place d None)
+    none_at x =
+        if_some_at (λ d. GivesNormal th budget s.place d None) (slice_get th.derivatives i) d there
+        (no_start s start d (some_if_at (λ d. Gives (IsWithin (start_term (operator_of s.decl.now) s.place d)) None) (slice_get th.derivatives i) d there x))
+
+    pub comes_at : (t : Tree) → IfSome (slice_get th.derivatives i) (λ d. Gives (IsWithin (start_term (operator_of s.decl.now) s.place d)) (Some t))
+        → (rules : List Rule) → rules ≡ theory_rules th → {E : Type 0} (r : Result (Option Normal) E)
+        → IfOk r (ComesTo (norm th.signature rules [] budget t)) → IfSome (slice_get th.derivatives i) (λ d. IfOk r (GivesNormal th budget s.place d))
+    comes_at t x rules e r y =
+        let w = some_if_at (λ d. Gives (IsWithin (start_term (operator_of s.decl.now) s.place d)) (Some t)) (slice_get th.derivatives i) d there x in
+        if_some_at (λ d. IfOk r (GivesNormal th budget s.place d)) (slice_get th.derivatives i) d there (go r y w)
+      where
+        go : {E : Type 0} (r : Result (Option Normal) E) → IfOk r (ComesTo (norm th.signature rules [] budget t))
+            → IsWithin (start_term (operator_of s.decl.now) s.place d) t → IfOk r (GivesNormal th budget s.place d)
+        go (Ok x) y w = start_comes s start d t w rules e x y
+        go (Err x) y w = tt
+
+  -- ---- those of a place, one after another
+
+  -- What is found up to the derivative of number i, for a place whose operator has this result.
+  pub record NormalsTo (g : Place) (result i : ℕ) (ns : List Normal) : Type 0 where
+    pub rest : (ms : List Normal) → AreNormals th budget g (from_number th.derivatives result i) ms
+        → AreNormals th budget g (derivatives_at th g) (ns ++ ms)
+    pub among : (d : Derivative) → Contains (from_number th.derivatives result i) d → Contains (derivatives_at th g) d
+
+  pub normals_start : (g : Place) (o : Operator) → slice_get th.signature.ops g.op ≡ Some o → NormalsTo g o.result 0 []
+  normals_start g o e =
+      let same : derivatives_at th g ≡ from_number th.derivatives o.result 0
+      = ap (λ x. option_map_or (λ o. from_number th.derivatives o.result 0) x []) e in
+      let P : List Derivative → List Normal → Type 0 = AreNormals th budget g in
+      record {
+        rest = λ ms a. let Q : List Derivative → Type 0 = λ ds. AreNormals th budget g ds ms in subst Q (sym same) a;
+        among = λ d c. let Q : List Derivative → Type 0 = λ ds. Contains ds d in subst Q (sym same) c;
+      }
+
+  module _ (g : Place) (result i : ℕ) (ns : List Normal) (within : i < length th.derivatives) (st : NormalsTo g result i ns) where
+    abbrev d : Derivative
+    d = (derivative_at th.derivatives i within).0
+
+    abbrev test : Bool
+    test = option_map_or (λ d. d.hole == result) (slice_get th.derivatives i) false
+
+    at : StartsWith th.derivatives i d
+    at = (derivative_at th.derivatives i within).1
+
+    is_next : test ≡ true → from_number th.derivatives result i ≡ d ∷ from_number th.derivatives result (i + 1)
+    is_next e = taken_next th.derivatives result i d at e
+
+    pub normals_passed : test ≡ false → NormalsTo g result (i + 1) ns
+    normals_passed e =
+        let next = passed_next th.derivatives result i d at e in
+        record {
+          rest = λ ms a. let Q : List Derivative → Type 0 = λ ds. AreNormals th budget g ds ms in st.rest ms (subst Q (sym next) a);
+          among = λ x c. let Q : List Derivative → Type 0 = λ ds. Contains ds x in st.among x (subst Q (sym next) c);
+        }
+
+    pub normals_taken : test ≡ true → (n : Normal) → IfSome (slice_get th.derivatives i) (λ d. GivesNormal th budget g d (Some n))
+        → NormalsTo g result (i + 1) (ns ++ n ∷ [])
+    normals_taken e n x =
+        let h = some_if_at (λ d. GivesNormal th budget g d (Some n)) (slice_get th.derivatives i) d at.there x in
+        let next = is_next e in
+        let all : List Normal → Type 0 = AreNormals th budget g (derivatives_at th g) in
+        record {
+          rest = λ ms a.
+              let Q : List Derivative → Type 0 = λ ds. AreNormals th budget g ds (n ∷ ms) in
+              subst all (sym (append_assoc ns (n ∷ []) ms)) (st.rest (n ∷ ms) (subst Q (sym next) (h, a)));
+          among = λ y c.
+              let Q : List Derivative → Type 0 = λ ds. Contains ds y in
+              st.among y (subst Q (sym next) (in_rest d y (from_number th.derivatives result (i + 1)) c));
+        }
+
+    -- a start term without a normal form: the place is no candidate
+    pub normals_missing : test ≡ true → IfSome (slice_get th.derivatives i) (λ d. GivesNormal th budget g d None) → IsCandidate th budget g → ⊥
+    normals_missing e x c =
+        let h = some_if_at (λ d. GivesNormal th budget g d None) (slice_get th.derivatives i) d at.there x in
+        let Q : List Derivative → Type 0 = λ ds. Contains ds d in
+        let has = c.normal_forms d (st.among d (subst Q (sym (is_next e)) (contains_first d (from_number th.derivatives result (i + 1))))) in
+        h has.0 has.1 has.2
+
+  pub normals_last : (g : Place) (result i : ℕ) (ns : List Normal) → length th.derivatives ≤ i → NormalsTo g result i ns
+      → AreNormals th budget g (derivatives_at th g) ns
+  normals_last g result i ns past st =
+      let none : from_number th.derivatives result i ≡ [] = ap (filter (λ d. d.hole == result)) (drop_of_length-le th.derivatives past) in
+      let Q : List Derivative → Type 0 = λ ds. AreNormals th budget g ds [] in
+      subst (AreNormals th budget g (derivatives_at th g)) (append-nil ns) (st.rest [] (subst Q (sym none) tt))
+
+  -- ---- the candidate
+
+  pub found : (s : Start) → IsStart th s → (ns : Vec Normal Global) → AreNormals th budget s.place (derivatives_at th s.place) ns.items
+      → IsFound th budget (record { place = s.place; sort = s.sort; normals = ns })
+  found s start ns a =
+      let p = start.place in
+      let o = operator_of s.decl.now in
+      let e : p.operator ≡ o = same_Some p.operator o (sym p.listed ∙ start.listed) in
+      record {
+        place = p;
+        sort = same_Some p.sort s.sort (sym p.argument ∙ ap (λ (o : Operator). slice_get o.args s.place.arg) e ∙ start.argument);
+        normals = a;
+      }

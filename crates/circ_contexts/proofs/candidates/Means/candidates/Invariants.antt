@@ -1,0 +1,5 @@
+use Rattle.circ_contexts.proofs.Gathering.{Gathered}
+use Rattle.circ_contexts.proofs.candidates.Means.candidates.Given as goal
+
+abbrev pub invariant-loop-place : goal.invariant-loop-place
+invariant-loop-place l = Gathered l.self.theory.now l.self.budget l.places l.place-index l.found.items

@@ -1,0 +1,5 @@
+use Rattle.circ_contexts.proofs.Starting.{NormalsTo}
+use Rattle.circ_contexts.proofs.candidates.Means.normals.Given as goal
+
+abbrev pub invariant-loop-derivative : goal.invariant-loop-derivative
+invariant-loop-derivative l = NormalsTo l.self.theory.now l.self.budget l.start.place l.start.decl.now.result l.derivative l.normals.items

@@ -1,0 +1,3 @@
+mod Requests
+mod Walks
+mod Reasons

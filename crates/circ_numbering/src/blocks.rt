@@ -1,0 +1,182 @@
+//! Finished blocks, and the proof that they make.
+ghost use Rattle.std.specs.Prelude.{◌≡◌, flat_map, map, IfOk};
+ghost use Rattle.circ_rules.specs.Plain.{plain_block, plain_certificates, plain_proof};
+ghost use Rattle.circ_plain_search.specs.Numbering.{goal_terms, goal_name, links_terms};
+ghost use Rattle.circ_plain_search.specs.Numbering.{block_terms, numbered_block, numbered_links};
+ghost use Rattle.circ_plain_search.specs.Numbering.{proof_with};
+ghost use Rattle.circ_numbering.specs.Asking.{Asks, GivesProof};
+ghost use Rattle.circ_numbering.specs.Plain.{plain_term_block, plain_term_blocks};
+ghost use Rattle.circ_numbering.specs.Plain.{plain_term_certificates};
+
+use crate::asking::{links, number};
+use crate::fault::NumberFault;
+use crate::whys::steps;
+use circ_record::{TermLink, TermStep};
+use circ_replay::{Link, TableBuilder};
+use circ_rules::{Block, Proof};
+use circ_special::Gamma;
+use circ_term::Term;
+use circ_theory::Goal;
+use std::alloc::{AllocError, Global};
+
+/// A block of which all goals are done.
+#[derive(Drop)]
+pub struct TermBlock {
+    /// The goals.
+    pub goals: Vec<Goal>,
+    /// The steps. The last is `Done`.
+    pub steps: Vec<TermStep>,
+}
+
+/// The proof of these blocks, with this special set and its certificates. Its table has the terms
+/// in the order of the lines: the blocks in order, in each the goals and then the steps; then the
+/// certificates.
+pub fn numbered(
+    alloc: Global,
+    gamma: Gamma,
+    certificates: &[Vec<TermLink>],
+    blocks: &[TermBlock],
+) -> Result<Proof, NumberFault>
+    ensures { GivesProof plain_proof (proof_with gamma
+        (plain_term_certificates certificates.now) (plain_term_blocks blocks.now)) result }
+{
+    let mut table = TableBuilder::new(alloc);
+    let blocks = match named_blocks(alloc, &mut table, blocks) {
+        Ok(blocks) => blocks,
+        Err(fault) => return Err(fault),
+    };
+    let certificates = match named_certificates(alloc, &mut table, certificates) {
+        Ok(certificates) => certificates,
+        Err(fault) => return Err(fault),
+    };
+    Ok(Proof {
+        table: shared(alloc, table.terms())?,
+        gamma,
+        certificates,
+        blocks,
+    })
+}
+
+fn shared(alloc: Global, terms: &[Term]) -> Result<Vec<Term>, AllocError>
+    ensures { IfOk result (λ v. v.items ≡ terms.now) }
+{
+    let mut all = Vec::with_capacity(alloc, terms.len())?;
+    for term in terms {
+        all.push(term.share()?)?;
+    }
+    Ok(all)
+}
+
+fn shared_goals(alloc: Global, goals: &[Goal]) -> Result<Vec<Goal>, AllocError>
+    ensures { IfOk result (λ v. v.items ≡ goals.now) }
+{
+    let mut all = Vec::with_capacity(alloc, goals.len())?;
+    for goal in goals {
+        all.push(shared_goal(goal)?)?;
+    }
+    Ok(all)
+}
+
+fn shared_goal(goal: &Goal) -> Result<Goal, AllocError>
+    ensures { IfOk result (λ g. g ≡ goal.now) }
+{
+    Ok(Goal {
+        left: goal.left.share()?,
+        right: goal.right.share()?,
+    })
+}
+
+fn named_blocks(
+    alloc: Global,
+    table: &mut TableBuilder,
+    recorded: &[TermBlock],
+) -> Result<Vec<Block>, NumberFault>
+    ensures { Asks table.old table.new (flat_map block_terms (plain_term_blocks recorded.now))
+        (λ t v. map plain_block v.items
+        ≡ map (numbered_block t) (plain_term_blocks recorded.now)) result }
+{
+    let mut blocks = Vec::with_capacity(alloc, recorded.len())?;
+    for one in recorded {
+        match named_block(alloc, table, one) {
+            Ok(block) => blocks.push(block)?,
+            Err(fault) => return Err(fault),
+        }
+    }
+    Ok(blocks)
+}
+
+fn named_block(
+    alloc: Global,
+    table: &mut TableBuilder,
+    recorded: &TermBlock,
+) -> Result<Block, NumberFault>
+    ensures { Asks table.old table.new (block_terms (plain_term_block recorded.now))
+        (λ t x. plain_block x ≡ numbered_block t (plain_term_block recorded.now)) result }
+{
+    let goals = shared_goals(alloc, recorded.goals.as_slice())?;
+    let names = match names(alloc, table, recorded.goals.as_slice()) {
+        Ok(names) => names,
+        Err(fault) => return Err(fault),
+    };
+    match steps(alloc, table, recorded.steps.as_slice()) {
+        Ok(steps) => Ok(Block {
+            goals,
+            names,
+            steps,
+        }),
+        Err(fault) => Err(fault),
+    }
+}
+
+// The numbers of the sides of goals.
+fn names(
+    alloc: Global,
+    table: &mut TableBuilder,
+    goals: &[Goal],
+) -> Result<Vec<(u32, u32)>, NumberFault>
+    ensures { Asks table.old table.new (flat_map goal_terms goals.now)
+        (λ t v. v.items ≡ map (goal_name t) goals.now) result }
+{
+    let mut names = Vec::with_capacity(alloc, goals.len())?;
+    for goal in goals {
+        match name(table, goal) {
+            Ok(name) => names.push(name)?,
+            Err(fault) => return Err(fault),
+        }
+    }
+    Ok(names)
+}
+
+fn name(table: &mut TableBuilder, goal: &Goal) -> Result<(u32, u32), NumberFault>
+    ensures { Asks table.old table.new (goal_terms goal.now)
+        (λ t x. x ≡ goal_name t goal.now) result }
+{
+    let left = match number(table, &goal.left) {
+        Ok(left) => left,
+        Err(fault) => return Err(fault),
+    };
+    match number(table, &goal.right) {
+        Ok(right) => Ok((left, right)),
+        Err(fault) => Err(fault),
+    }
+}
+
+fn named_certificates(
+    alloc: Global,
+    table: &mut TableBuilder,
+    recorded: &[Vec<TermLink>],
+) -> Result<Vec<Vec<Link>>, NumberFault>
+    ensures { Asks table.old table.new
+        (flat_map links_terms (plain_term_certificates recorded.now))
+        (λ t v. plain_certificates v.items
+        ≡ map (numbered_links t) (plain_term_certificates recorded.now)) result }
+{
+    let mut certificates = Vec::with_capacity(alloc, recorded.len())?;
+    for one in recorded {
+        match links(alloc, table, one.as_slice()) {
+            Ok(links) => certificates.push(links)?,
+            Err(fault) => return Err(fault),
+        }
+    }
+    Ok(certificates)
+}

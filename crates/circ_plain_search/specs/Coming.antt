@@ -1,0 +1,28 @@
+-- Where the search comes to, turn by turn, and what is known of each such standing.
+use Rattle.std.specs.Prelude.{◌≡◌, ◌≤◌, ◌+◌, ◌^◌, List, length, Ok}
+use Rattle.circ_theory.specs.Theory.{Theory}
+use Rattle.circ_theory.specs.declared.parts.Goal.{Goal}
+use Rattle.circ_special.specs.declared.place.Place.{Place}
+use Rattle.circ_replay.specs.Goals.{IsWellSortedGoal}
+use Rattle.circ_rules.specs.Rules.{fresh_in}
+use Rattle.circ_rules.specs.Proof.{step_limit}
+use Rattle.circ_plain_search.specs.Search.{Limits, Standing, turn}
+
+-- From the first standing the search comes to the second, turn by turn.
+pub data Comes (th : Theory) (G : List Place) (l : Limits) (first : Standing) : Standing → Type 0 where
+  here : Comes th G l first first
+  further : (st next : Standing) → Comes th G l first st → turn th G l st ≡ Ok next → Comes th G l first next
+
+-- A standing that a search comes to has few hypotheses and few goals of earlier blocks, and has made few steps.
+pub record IsSmall (st : Standing) : Type 0 where
+  pub hypotheses : length st.hypotheses ≤ step_limit
+  pub earlier : length st.earlier ≤ step_limit
+  pub finished : length st.finished ≤ step_limit
+  pub taken : st.taken ≤ step_limit
+  pub derives : st.derives ≤ st.made
+  pub made : st.made ≤ step_limit
+
+-- A goal whose derivatives can be made: it is well-sorted, and there is room for the numbers of parameters.
+pub record IsReady (th : Theory) (g : Goal) : Type 0 where
+  pub sorted : IsWellSortedGoal th g
+  pub numbers : fresh_in g + 8 ≤ 2 ^ 32
