@@ -1,5 +1,5 @@
 -- What the derivatives of a goal are, as the code makes them.
-use Rattle.std.specs.Prelude.{◌≡◌, ◌≤◌, ◌+◌, ◌^◌, List, [], ◌∷◌, None, Result, Ok, Err}
+use Rattle.std.specs.Prelude.{◌≡◌, List, [], ◌∷◌, None, Result, Ok, Err}
 use Rattle.std.proofs.Common.{Global}
 use Rattle.std.specs.declared.collections.VecDeque.{VecDeque}
 use Rattle.circ_term.specs.Tree.{Tree}
@@ -7,16 +7,11 @@ use Rattle.circ_theory.specs.Theory.{Theory, Derivative}
 use Rattle.circ_theory.specs.Experiment.{derived}
 use Rattle.circ_theory.specs.Fresh.{given_parameters}
 use Rattle.circ_theory.specs.declared.parts.Goal.{Goal}
-use Rattle.circ_replay.specs.Goals.{goal, IsWellSortedGoal}
-use Rattle.circ_rules.specs.Rules.{fresh_in, derivatives_on}
+use Rattle.circ_replay.specs.Goals.{goal}
+use Rattle.circ_rules.specs.Rules.{derivatives_on}
 use Rattle.circ_plain_search.specs.Search.{goals_limit, unless_past}
 use Rattle.circ_join.specs.Stopping.{Stops}
 use Rattle.circ_join.specs.declared.stop.Stop.{Stop}
-
--- a goal whose derivatives can be made: well-sorted, with room for the numbers of parameters
-pub record IsFineGoal (th : Theory) (g : Goal) : Type 0 where
-  pub sorted : IsWellSortedGoal th g
-  pub low : fresh_in g + 8 ≤ 2 ^ 32
 
 -- the derivatives of the goal, or the first limit that one of them passes
 abbrev pub GivesDerivatives : Theory → Goal → Result (VecDeque Goal Global) Stop → Type 0

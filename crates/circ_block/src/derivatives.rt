@@ -5,7 +5,8 @@ ghost use Rattle.std.specs.Option.{IfSome, option_map, option_map_or};
 ghost use Rattle.circ_term.specs.Tree.{sort_of};
 ghost use Rattle.circ_theory.specs.Fresh.{variables_from, FitSome};
 ghost use Rattle.circ_rules.specs.Rules.{fresh_in, derived_goal};
-ghost use Rattle.circ_block.specs.Derived.{IsFineGoal, GivesDerivatives};
+ghost use Rattle.circ_plain_search.specs.Coming.{IsReady};
+ghost use Rattle.circ_block.specs.Derived.{GivesDerivatives};
 ghost use Rattle.circ_block.specs.Derived.{GivesGoal, instances_on};
 
 use circ_join::Stop;
@@ -16,7 +17,7 @@ use std::collections::VecDeque;
 
 /// The derivatives of a goal: that of each derivative of its sort, with fresh parameters.
 pub fn derivatives_on(alloc: Global, theory: &Theory, goal: &Goal) -> Result<VecDeque<Goal>, Stop>
-    requires fine { IsFineGoal theory.now goal.now }
+    requires fine { IsReady theory.now goal.now }
     ensures { GivesDerivatives theory.now goal.now result }
 {
     theory.known();
@@ -53,7 +54,7 @@ fn derivative_on(
     goal: &Goal,
     fresh: u64,
 ) -> Result<Goal, Stop>
-    requires fine { IsFineGoal theory.now goal.now }
+    requires fine { IsReady theory.now goal.now }
     requires hole { option_map (λ d. d.hole) (slice_get theory.now.derivatives derivative)
         ≡ Some (sort_of goal.now.left) }
     requires fresh { fresh ≡ fresh_in goal.now }

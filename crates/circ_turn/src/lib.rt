@@ -12,7 +12,7 @@ mod turns;
 
 pub use end::End;
 pub use search::{Limits, Search};
-pub use state::{ProvedBlock, State};
+pub use state::State;
 
 /// The most steps of a proof.
 pub const MOST_STEPS: u64 = 100_000;

@@ -1,6 +1,13 @@
 //! Where a search stands.
 
+ghost use Rattle.std.specs.Prelude.{◌≡◌, ◌<◌, ◌≤◌, length, drop, map, ℕ, IfOk, OnOk};
+ghost use Rattle.circ_plain_search.specs.Search.{no_links, next_goal, with_sides, sides_with};
+ghost use Rattle.circ_plain_search.specs.Search.{start};
+ghost use Rattle.circ_record.specs.Plain.{plain_term_chain};
+ghost use Rattle.circ_turn.specs.Standing.{standing, unlinked, limits_with, Keeps};
+
 use circ_block::{share_goal, share_goals};
+use circ_numbering::TermBlock;
 use circ_record::{TermChain, TermStep};
 use circ_split::Sides;
 use circ_theory::Goal;
@@ -8,21 +15,12 @@ use std::alloc::{AllocError, Global};
 use std::collections::VecDeque;
 use std::mem;
 
-/// A block that is proved.
-#[derive(Drop)]
-pub struct ProvedBlock {
-    /// Its goals.
-    pub goals: Vec<Goal>,
-    /// The steps that prove them.
-    pub steps: Vec<TermStep>,
-}
-
 /// Where a search stands, in the midst of a block. The first goal of the queue is the one in hand:
 /// its sides are as they stand now, and the chain has led to them.
 #[derive(Drop)]
 pub struct State<'a> {
     /// The blocks that are finished.
-    pub finished: Vec<ProvedBlock>,
+    pub finished: Vec<TermBlock>,
     /// Their goals.
     pub earlier: Vec<Goal>,
     /// The goals of this block.
@@ -55,7 +53,10 @@ impl<'a> State<'a> {
         alloc: Global,
         blocks: &'a [Vec<Goal>],
         budget: u64,
-    ) -> Result<State<'a>, AllocError> {
+    ) -> Result<State<'a>, AllocError>
+        ensures { (derives : ℕ) → IfOk result (λ s. standing s
+            ≡ start (limits_with budget derives) (map (λ v. v.items) blocks.now)) }
+    {
         let mut state = State {
             finished: Vec::new(alloc),
             earlier: Vec::new(alloc),
@@ -80,28 +81,42 @@ impl<'a> State<'a> {
     }
 
     // The goal in hand has these sides now, to which these links have led.
-    pub(crate) fn set_sides(&mut self, sides: Sides, budget: u64) -> Result<(), AllocError> {
-        let mut left = sides.chain.left;
-        let mut right = sides.chain.right;
-        self.chain.left.append(&mut left)?;
-        self.chain.right.append(&mut right)?;
-        if let Some(hand) = self.queue.front_mut() {
-            *hand = Goal {
-                left: sides.left,
-                right: sides.right,
-            };
+    pub(crate) fn set_sides(&mut self, sides: Sides, budget: u64) -> Result<(), AllocError>
+        requires { 0 < length self.old.queue.items }
+        ensures { OnOk result (standing self.new
+            ≡ with_sides (standing self.old) (drop 1 self.old.queue.items)
+            (sides_with sides.left sides.right (plain_term_chain sides.chain) budget)) }
+    {
+        let Sides { left, right, chain } = sides;
+        let hand = Goal { left, right };
+        let TermChain {
+            left: mut lefts,
+            right: mut rights,
+        } = chain;
+        self.chain.left.append(&mut lefts)?;
+        self.chain.right.append(&mut rights)?;
+        if let Some(first) = self.queue.front_mut() {
+            *first = hand;
         }
         self.budget = budget;
         Ok(())
     }
 
     // The chain, which has no links afterwards.
-    pub(crate) fn take_chain(&mut self, alloc: Global) -> TermChain {
+    pub(crate) fn take_chain(&mut self, alloc: Global) -> TermChain
+        ensures taken { plain_term_chain result ≡ plain_term_chain self.old.chain }
+        ensures left { standing self.new ≡ unlinked (standing self.old) }
+        ensures kept { Keeps self.old self.new }
+    {
         mem::replace(&mut self.chain, no_links(alloc))
     }
 
     // The goal in hand is done with.
-    pub(crate) fn next_goal(&mut self, alloc: Global) {
+    pub(crate) fn next_goal(&mut self, alloc: Global)
+        requires { self.old.taken ≤ 100000 }
+        ensures { standing self.new
+            ≡ next_goal self.old.hyps.items (drop 1 self.old.queue.items) (standing self.old) }
+    {
         let _hand = self.queue.pop_front();
         self.chain = no_links(alloc);
         self.taken += 1;
@@ -109,7 +124,9 @@ impl<'a> State<'a> {
 }
 
 // A chain without links.
-fn no_links(alloc: Global) -> TermChain {
+fn no_links(alloc: Global) -> TermChain
+    ensures { plain_term_chain result ≡ no_links }
+{
     TermChain {
         left: Vec::new(alloc),
         right: Vec::new(alloc),
@@ -117,8 +134,10 @@ fn no_links(alloc: Global) -> TermChain {
 }
 
 /// The same goals once more, as a queue.
-pub(crate) fn share_queue(alloc: Global, goals: &[Goal]) -> Result<VecDeque<Goal>, AllocError> {
-    let mut queue = VecDeque::with_capacity(alloc, goals.len())?;
+pub(crate) fn share_queue(alloc: Global, goals: &[Goal]) -> Result<VecDeque<Goal>, AllocError>
+    ensures { IfOk result (λ q. q.items ≡ goals.now) }
+{
+    let mut queue = VecDeque::new(alloc);
     for goal in goals {
         queue.push_back(share_goal(goal)?)?;
     }

@@ -1,7 +1,24 @@
 //! The turns of a search.
+ghost use Rattle.std.specs.Prelude.{◌≡◌, ◌<◌, ◌∷◌, [], List, length, drop, Some, Ok};
+ghost use Rattle.std.specs.List.{AllByRecursion};
+ghost use Rattle.circ_theory.specs.declared.parts.Goal.{Goal as TheGoal};
+ghost use Rattle.circ_replay.specs.Goals.{goal};
+ghost use Rattle.circ_rewrite.specs.Due.{IsRewriteRule};
+ghost use Rattle.circ_plain_search.specs.BlockRules.{block_rules, hidden_lemmas};
+ghost use Rattle.circ_plain_search.specs.Coming.{IsReady, IsSmall};
+ghost use Rattle.circ_plain_search.specs.Search.{goal_turn, sides_turn, join_turn, pass_turn};
+ghost use Rattle.circ_plain_search.specs.Search.{open_turn, visible_turn, swept_sides};
+ghost use Rattle.circ_plain_search.specs.Search.{normal_sides, Sides as TheSides};
+ghost use Rattle.circ_block.specs.Rules.{IsRulesOf};
+ghost use Rattle.circ_join.specs.Uses.{plain_uses};
+ghost use Rattle.circ_split.specs.Answers.{GivesSides};
+ghost use Rattle.circ_turn.specs.Standing.{standing, plain_limits};
+ghost use Rattle.circ_turn.specs.Ending.{GoesTo};
+
 use crate::end::End;
 use crate::search::Search;
 use crate::state::State;
+use crate::steps::has_links;
 use circ_block::{BlockRules, share_goal};
 use circ_join::{HypothesisUse, Joining, Passing, Stop, lemma_links, put_all, use_all, use_links};
 use circ_record::{TermChain, TermWhy};
@@ -11,7 +28,20 @@ use circ_theory::Goal;
 
 impl Search<'_> {
     // One goal: both sides are normalised, and then it is looked at.
-    pub(crate) fn goal_turn(&self, rules: &BlockRules, state: &mut State<'_>) -> Result<(), End> {
+    pub(crate) fn goal_turn(&self, rules: &BlockRules, state: &mut State<'_>) -> Result<(), End>
+        requires rules { IsRulesOf self.now.theory.now state.old.earlier.items rules.now }
+        requires small { IsSmall (standing state.old) }
+        requires ready { (g : TheGoal) (rest : List TheGoal) (n : TheSides)
+            → state.old.queue.items ≡ g ∷ rest
+            → normal_sides self.now.theory.now
+                (block_rules self.now.theory.now state.old.earlier.items) []
+                g.left g.right state.old.budget ≡ Ok n
+            → IsReady self.now.theory.now (goal n.left n.right) }
+        ensures { (g : TheGoal) (rest : List TheGoal) → state.old.queue.items ≡ g ∷ rest
+            → GoesTo (goal_turn self.now.theory.now self.now.gamma.now
+                (plain_limits self.now.limits) (standing state.old) g rest)
+                (standing state.new) result }
+    {
         let Some(hand) = state.queue.front() else {
             return Ok(());
         };
@@ -40,7 +70,15 @@ impl Search<'_> {
         rules: &BlockRules,
         state: &mut State<'_>,
         goal: &Goal,
-    ) -> Result<(), End> {
+    ) -> Result<(), End>
+        requires rules { IsRulesOf self.now.theory.now state.old.earlier.items rules.now }
+        requires some { 0 < length state.old.queue.items }
+        requires small { IsSmall (standing state.old) }
+        requires ready { IsReady self.now.theory.now goal.now }
+        ensures { GoesTo (sides_turn self.now.theory.now self.now.gamma.now
+            (plain_limits self.now.limits) (standing state.old) goal.now
+            (drop 1 state.old.queue.items)) (standing state.new) result }
+    {
         let joining = Joining {
             alloc: self.alloc,
             gamma: self.gamma,
@@ -58,7 +96,12 @@ impl Search<'_> {
         state: &mut State<'_>,
         goal: &Goal,
         uses: Vec<HypothesisUse>,
-    ) -> Result<(), End> {
+    ) -> Result<(), End>
+        requires small { IsSmall (standing state.old) }
+        ensures { GoesTo (join_turn self.now.theory.now self.now.gamma.now
+            (plain_limits self.now.limits) (standing state.old) goal.now
+            (drop 1 state.old.queue.items) (Some (plain_uses uses.items))) (standing state.new) result }
+    {
         match put_all(self.alloc, &goal.left, uses.as_slice()) {
             Err(stop) => return Err(self.end(state, stop)),
             Ok(_) => {}
@@ -75,12 +118,20 @@ impl Search<'_> {
         rules: &BlockRules,
         state: &mut State<'_>,
         goal: &Goal,
-    ) -> Result<(), End> {
+    ) -> Result<(), End>
+        requires rules { IsRulesOf self.now.theory.now state.old.earlier.items rules.now }
+        requires some { 0 < length state.old.queue.items }
+        requires small { IsSmall (standing state.old) }
+        requires ready { IsReady self.now.theory.now goal.now }
+        ensures { GoesTo (pass_turn self.now.theory.now self.now.gamma.now
+            (plain_limits self.now.limits) (standing state.old) goal.now
+            (drop 1 state.old.queue.items)) (standing state.new) result }
+    {
         let mut budget = state.budget;
         match self.swept_sides(rules.lemmas.as_slice(), goal, &mut budget) {
             Err(stop) => Err(self.end(state, stop)),
             Ok(sides) => {
-                if sides.chain.left.is_empty() && sides.chain.right.is_empty() {
+                if !has_links(&sides.chain) {
                     return self.open_turn(rules, state, goal);
                 }
                 state.set_sides(sides, budget)?;
@@ -94,7 +145,12 @@ impl Search<'_> {
         lemmas: &[Rule],
         goal: &Goal,
         budget: &mut u64,
-    ) -> Result<Sides, Stop> {
+    ) -> Result<Sides, Stop>
+        requires rewrite { AllByRecursion IsRewriteRule lemmas.now }
+        ensures { (E : List TheGoal) → lemmas.now ≡ hidden_lemmas self.now.theory.now 0 E
+            → GivesSides (swept_sides self.now.theory.now self.now.gamma.now E
+                goal.now.left goal.now.right budget.old) budget.new result }
+    {
         let passing = Passing {
             alloc: self.alloc,
             gamma: self.gamma,
@@ -118,7 +174,14 @@ impl Search<'_> {
     }
 
     // A goal on which neither Join nor a lemma pass does anything.
-    fn open_turn(&self, rules: &BlockRules, state: &mut State<'_>, goal: &Goal) -> Result<(), End> {
+    fn open_turn(&self, rules: &BlockRules, state: &mut State<'_>, goal: &Goal) -> Result<(), End>
+        requires rules { IsRulesOf self.now.theory.now state.old.earlier.items rules.now }
+        requires small { IsSmall (standing state.old) }
+        requires ready { IsReady self.now.theory.now goal.now }
+        ensures { GoesTo (open_turn self.now.theory.now
+            (plain_limits self.now.limits) (standing state.old) goal.now
+            (drop 1 state.old.queue.items)) (standing state.new) result }
+    {
         if self.theory.is_hidden(goal.left.sort()) {
             self.hidden_turn(state, goal)
         } else {
@@ -132,7 +195,13 @@ impl Search<'_> {
         rules: &BlockRules,
         state: &mut State<'_>,
         goal: &Goal,
-    ) -> Result<(), End> {
+    ) -> Result<(), End>
+        requires rules { IsRulesOf self.now.theory.now state.old.earlier.items rules.now }
+        requires small { IsSmall (standing state.old) }
+        ensures { GoesTo (visible_turn self.now.theory.now
+            (plain_limits self.now.limits) (standing state.old) goal.now
+            (drop 1 state.old.queue.items)) (standing state.new) result }
+    {
         let splitting = Splitting {
             alloc: self.alloc,
             theory: self.theory,
