@@ -5,7 +5,6 @@
 #![tactic(auto)]
 
 mod found;
-mod numbering;
 mod proving;
 
 pub use circ_turn::Limits;

@@ -1,8 +1,6 @@
 -- Turns in steps.
-use Rattle.std.proofs.Common.{◌≡◌, ℕ, zero, suc, ◌+◌, ◌-◌, ◌<◌, ◌≤◌, length, Bool, true, false, not, ◌||◌, ◌==◌, if◌then◌else◌, List, [], ◌∷◌, ◌++◌, map, drop, Option, Some, None, Result, Ok, Err, refl, ap, sym, subst, ◌∙◌, arith}
+use Rattle.std.proofs.Common.{◌≡◌, ◌+◌, length, Bool, true, false, not, ◌||◌, ◌==◌, if◌then◌else◌, List, [], ◌∷◌, ◌++◌, map, drop, Option, Some, None, Result, Ok, Err, refl, ap, sym, subst, ◌∙◌}
 use Rattle.std.specs.Prelude.{nat_le}
-use Rattle.std.proofs.lemmas.Bool.{eqb-true}
-use Rattle.std.proofs.lemmas.List.{length-map}
 use Rattle.circ_term.specs.Tree.{Tree, sort_of}
 use Rattle.circ_term.specs.Limits.{Limit}
 use Rattle.circ_theory.specs.Theory.{Theory}
@@ -11,18 +9,18 @@ use Rattle.circ_theory.specs.declared.parts.Goal.{Goal}
 use Rattle.circ_special.specs.declared.place.Place.{Place}
 use Rattle.circ_replay.specs.Plain.{LinkOf, ChainOf, WhyOf, Same_why, Split_why}
 use Rattle.circ_replay.specs.Goals.{goal}
-use Rattle.circ_rules.specs.Rules.{ProofStep, Simplify, Reduce, Derive, Done, derivatives_on}
+use Rattle.circ_rules.specs.Rules.{Simplify, Done, derivatives_on}
 use Rattle.circ_rules.specs.Proof.{step_limit, split_limit}
 use Rattle.circ_plain_search.specs.BlockRules.{block_rules}
-use Rattle.circ_plain_search.specs.Joining.{Stop, HypothesisUse, use_link, and_then, put_all, joined}
-use Rattle.circ_plain_search.specs.Search.{Limits, Standing, Ending, All_done, Sides, SplitReason, chain_with, chained, no_links, has_links, is_nil, normal_sides, split_cases, or_end, ending_by, record_step, reduced, goals_limit, unless_past, derive_turn, simplified, hidden_turn, visible_turn, open_turn, swept_sides, pass_turn, join_turn, sides_turn, goal_turn, with_sides, next_block, done_turn, begun, with_this, next_goal, is_deep_step}
+use Rattle.circ_plain_search.specs.Joining.{Stop, HypothesisUse, use_link, and_then, put_all}
+use Rattle.circ_plain_search.specs.Search.{Limits, Standing, Ending, Sides, SplitReason, chain_with, chained, no_links, has_links, is_nil, normal_sides, split_cases, or_end, record_step, reduced, goals_limit, derive_turn, simplified, hidden_turn, visible_turn, open_turn, swept_sides, pass_turn, join_turn, sides_turn, goal_turn, with_sides, next_block, done_turn, is_deep_step}
 use Rattle.circ_join.specs.Stopping.{Stops}
 use Rattle.circ_join.specs.declared.stop.Stop.{Stop as TheStop}
 use Rattle.circ_join.specs.declared.stop.Stop.TheVariants as stop
 use Rattle.circ_turn.specs.declared.end.End.{End}
 use Rattle.circ_turn.specs.declared.end.End.TheVariants as end
 use Rattle.circ_turn.specs.Standing.{unlinked}
-use Rattle.circ_turn.specs.Ending.{Ends, GoesTo, GoesUnlinked, end_by}
+use Rattle.circ_turn.specs.Ending.{Ends, GoesTo, GoesUnlinked, IsEnd, end_by}
 
 same_Ok : {A E : Type 0} (a b : A) → ◌≡◌ {A = Result A E} (Ok a) (Ok b) → a ≡ b
 same_Ok a b e = cc
@@ -196,3 +194,11 @@ goal_turn_goes {X = X} th G l st mid g rest n q Q new r e m same queue h =
     let M : Standing → Type 0 = λ x. GoesTo {X = X} (sides_turn th G l x (goal n.left n.right) rest) new r in
     goes_same (goal_turn th G l st g rest) (sides_turn th G l (with_sides st rest n) (goal n.left n.right) rest) new r (goal_goes th G l st g rest n e)
     (subst M m (subst N same (subst P tail h)))
+
+-- the ending that is told is such
+pub is_end : {A : Type 0} (R : Ending → Type 0) (r : Result A Ending) (e : End) → ((x : Ending) → r ≡ Err x → R x) → Ends r e → IsEnd R e
+is_end R r (end.Stuck b g s t A) f h = f _ h
+is_end R r (end.Spent r1 d m) f h = f _ h
+is_end R r (end.TooBig n) f h = f _ h
+is_end R r (end.TooDeep n) f h = f _ h
+is_end R r end.Memory f h = tt

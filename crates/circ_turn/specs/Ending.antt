@@ -1,5 +1,5 @@
 -- What parts of a turn answer.
-use Rattle.std.specs.Prelude.{◌≡◌, ℕ, ◌+◌, ◌-◌, Bool, true, false, length, Result, Ok, Err}
+use Rattle.std.specs.Prelude.{◌≡◌, ◌+◌, ◌-◌, Bool, true, false, length, Result, Ok, Err}
 use Rattle.circ_plain_search.specs.Search.{Limits, Standing, Ending, All_done, Is_stuck, Is_spent, Is_too_big, Is_too_deep}
 use Rattle.circ_join.specs.declared.stop.Stop.{Stop}
 use Rattle.circ_join.specs.declared.stop.Stop.TheVariants as stop

@@ -22,9 +22,13 @@ pub enum End {
         steps: u64,
     },
     /// A term would have this many nodes.
-    TooBig { nodes: u64 },
+    TooBig {
+        nodes: u64,
+    },
     /// A term would have this depth.
-    TooDeep { depth: u64 },
+    TooDeep {
+        depth: u64,
+    },
     /// Memory ran out.
     Memory,
 }

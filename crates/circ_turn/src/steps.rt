@@ -206,9 +206,11 @@ impl Search<'_> {
     // The block is finished.
     fn finish(&self, state: &mut State<'_>) -> Result<(), AllocError>
         ensures { OnOk result (standing state.new ≡ record (standing state.old) {
-            finished = with_this (standing state.old);
-            earlier = state.old.earlier.items ++ state.old.goals.items;
-            goals = []; steps = [] }) }
+          finished = with_this (standing state.old);
+          earlier = state.old.earlier.items ++ state.old.goals.items;
+          goals = [];
+          steps = [];
+        }) }
     {
         share_to(&mut state.earlier, state.goals.as_slice())?;
         let goals = mem::replace(&mut state.goals, Vec::new(self.alloc));
@@ -220,8 +222,12 @@ impl Search<'_> {
     // A block with these goals begins.
     fn begin(&self, state: &mut State<'_>, block: &[Goal]) -> Result<(), AllocError>
         ensures { OnOk result (standing state.new ≡ record (standing state.old) {
-            hypotheses = state.old.earlier.items; goals = block.now; queue = block.now;
-            chain = no_links; taken = 0 }) }
+          hypotheses = state.old.earlier.items;
+          goals = block.now;
+          queue = block.now;
+          chain = no_links;
+          taken = 0;
+        }) }
     {
         state.hyps = share_goals(self.alloc, state.earlier.as_slice())?;
         state.goals = share_goals(self.alloc, block)?;

@@ -34,13 +34,13 @@ impl Search<'_> {
         requires ready { (g : TheGoal) (rest : List TheGoal) (n : TheSides)
             → state.old.queue.items ≡ g ∷ rest
             → normal_sides self.now.theory.now
-                (block_rules self.now.theory.now state.old.earlier.items) []
-                g.left g.right state.old.budget ≡ Ok n
+            (block_rules self.now.theory.now state.old.earlier.items) []
+            g.left g.right state.old.budget ≡ Ok n
             → IsReady self.now.theory.now (goal n.left n.right) }
         ensures { (g : TheGoal) (rest : List TheGoal) → state.old.queue.items ≡ g ∷ rest
             → GoesTo (goal_turn self.now.theory.now self.now.gamma.now
-                (plain_limits self.now.limits) (standing state.old) g rest)
-                (standing state.new) result }
+            (plain_limits self.now.limits) (standing state.old) g rest)
+            (standing state.new) result }
     {
         let Some(hand) = state.queue.front() else {
             return Ok(());
@@ -65,12 +65,7 @@ impl Search<'_> {
     }
 
     // A goal whose sides are in normal form.
-    fn sides_turn(
-        &self,
-        rules: &BlockRules,
-        state: &mut State<'_>,
-        goal: &Goal,
-    ) -> Result<(), End>
+    fn sides_turn(&self, rules: &BlockRules, state: &mut State<'_>, goal: &Goal) -> Result<(), End>
         requires rules { IsRulesOf self.now.theory.now state.old.earlier.items rules.now }
         requires some { 0 < length state.old.queue.items }
         requires small { IsSmall (standing state.old) }
@@ -113,12 +108,7 @@ impl Search<'_> {
     }
 
     // A lemma pass over both sides. Where a replacement was made, the goal goes on.
-    fn pass_turn(
-        &self,
-        rules: &BlockRules,
-        state: &mut State<'_>,
-        goal: &Goal,
-    ) -> Result<(), End>
+    fn pass_turn(&self, rules: &BlockRules, state: &mut State<'_>, goal: &Goal) -> Result<(), End>
         requires rules { IsRulesOf self.now.theory.now state.old.earlier.items rules.now }
         requires some { 0 < length state.old.queue.items }
         requires small { IsSmall (standing state.old) }
@@ -140,16 +130,11 @@ impl Search<'_> {
         }
     }
 
-    fn swept_sides(
-        &self,
-        lemmas: &[Rule],
-        goal: &Goal,
-        budget: &mut u64,
-    ) -> Result<Sides, Stop>
+    fn swept_sides(&self, lemmas: &[Rule], goal: &Goal, budget: &mut u64) -> Result<Sides, Stop>
         requires rewrite { AllByRecursion IsRewriteRule lemmas.now }
         ensures { (E : List TheGoal) → lemmas.now ≡ hidden_lemmas self.now.theory.now 0 E
             → GivesSides (swept_sides self.now.theory.now self.now.gamma.now E
-                goal.now.left goal.now.right budget.old) budget.new result }
+            goal.now.left goal.now.right budget.old) budget.new result }
     {
         let passing = Passing {
             alloc: self.alloc,

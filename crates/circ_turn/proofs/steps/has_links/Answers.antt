@@ -1,4 +1,4 @@
-use Rattle.std.proofs.Common.{◌≡◌, sym, ◌∙◌}
+use Rattle.std.proofs.Common.{sym, ◌∙◌}
 use Rattle.circ_record.specs.Plain.{plain_term_link}
 use Rattle.circ_turn.proofs.Turning.{has_left}
 use Rattle.circ_turn.proofs.steps.has_links.Goals as goal

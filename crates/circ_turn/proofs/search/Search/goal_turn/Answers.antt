@@ -1,4 +1,4 @@
-use Rattle.std.proofs.Common.{◌≡◌, ◌∷◌, [], List, Ok, drop, sym, ap, subst, refl, ◌∙◌}
+use Rattle.std.proofs.Common.{◌≡◌, ◌∷◌, List, drop, sym, ap, subst, refl, ◌∙◌}
 use Rattle.circ_term.proofs.Within.{drop_read}
 use Rattle.circ_theory.specs.declared.parts.Goal.{Goal}
 use Rattle.circ_replay.specs.Goals.{goal as goal_with}
@@ -38,7 +38,7 @@ returns-in_ok-set_sides-in-Ok c =
     let same = ap (λ x. goal_with x c.in_ok-share-in-Ok-2.field-0) c.in_ok-share-in-Ok.ensures.same ∙ ap (goal_with c.in-Ok.sides.left) c.in_ok-share-in-Ok-2.ensures.same in
     each_front Q c.in-Some.hand.now
     (λ g rest. GoesTo (goal_turn c.args.self.now.theory.now c.args.self.now.gamma.now (plain_limits c.args.self.now.limits) (standing c.args.state.now) g rest) (standing c.sides_turn.new.state)
-      c.sides_turn.result) front
+    c.sides_turn.result) front
     (goal_turn_goes c.args.self.now.theory.now c.args.self.now.gamma.now (plain_limits c.args.self.now.limits) (standing c.args.state.now) (standing c.set_sides.new.self) c.in-Some.hand.now (drop 1 Q) n
     (goal_with c.in_ok-share-in-Ok.field-0 c.in_ok-share-in-Ok-2.field-0) c.set_sides.new.self.queue.items (standing c.sides_turn.new.state) c.sides_turn.result h
     c.in_ok-set_sides-in-Ok.ensures same refl c.sides_turn.ensures)
