@@ -1,6 +1,6 @@
 use Rattle.std.proofs.Common.{ap}
 use Rattle.circ_rules.specs.Plain.{plain_proof}
-use Rattle.circ_search.specs.Finding.{plain_found}
+use Rattle.circ_search.specs.Plain.{plain_found}
 use Rattle.circ_found.proofs.answering.found_ending.Goals as goal
 
 pub proof_ending-requires : goal.proof_ending-requires
