@@ -1,5 +1,5 @@
 -- What is answered is what the plain search finds.
-use Rattle.std.proofs.Common.{◌≡◌, List, Some, Result, Ok, Err, subst, ◌∙◌}
+use Rattle.std.proofs.Common.{◌≡◌, List, Some, Result, Ok, Err, subst}
 use Rattle.std.specs.Prelude.{IfOk}
 use Rattle.std.proofs.lemmas.Option.{same_Some}
 use Rattle.circ_theory.specs.Theory.{Theory}

@@ -142,16 +142,23 @@ fn needed_proof(
 {
     if state.deep {
         let certificates = certificates(alloc, traces)?;
-        numbered(alloc, gamma, certificates.as_slice(), state.finished.as_slice())
+        numbered(
+            alloc,
+            gamma,
+            certificates.as_slice(),
+            state.finished.as_slice(),
+        )
     } else {
-        numbered(alloc, no_places(alloc, theory), &[], state.finished.as_slice())
+        numbered(
+            alloc,
+            no_places(alloc, theory),
+            &[],
+            state.finished.as_slice(),
+        )
     }
 }
 
-fn certificates(
-    alloc: Global,
-    traces: Vec<Vec<Trace>>,
-) -> Result<Vec<Vec<TermLink>>, AllocError>
+fn certificates(alloc: Global, traces: Vec<Vec<Trace>>) -> Result<Vec<Vec<TermLink>>, AllocError>
     ensures { IfOk result (λ v. plain_term_certificates v.items
         ≡ map (map link_of) (plain_lists traces.items)) }
 {
