@@ -4,7 +4,7 @@ use Rattle.circ_contexts.specs.Candidates.{plain_lists}
 use Rattle.circ_plain_search.specs.Search.{Standing, Reaches, All_done}
 use Rattle.circ_turn.specs.Ending.{IsEnd}
 use Rattle.circ_turn.specs.Standing.{standing, plain_limits}
-use Rattle.circ_search.specs.Finding.{special_with}
+use Rattle.circ_search.specs.Plain.{special_with}
 use Rattle.circ_search.proofs.Answered.{done_plain, ended_plain}
 use Rattle.circ_search.proofs.proving.search_with.Goals as goal
 
