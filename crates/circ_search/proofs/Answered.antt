@@ -1,5 +1,5 @@
 -- What is answered is what the plain search finds.
-use Rattle.std.proofs.Common.{◌≡◌, List, Some, Result, Ok, Err, subst, ◌∙◌}
+use Rattle.std.proofs.Common.{◌≡◌, List, Some, Result, Ok, Err, subst}
 use Rattle.std.specs.Prelude.{IfOk}
 use Rattle.std.proofs.lemmas.Option.{same_Some}
 use Rattle.circ_theory.specs.Theory.{Theory}
@@ -14,7 +14,7 @@ use Rattle.circ_plain_search.specs.PlainSearch.{PlainSearch, IsProofOf}
 use Rattle.circ_turn.specs.Ending.{IsEnd}
 use Rattle.circ_turn.specs.declared.end.End.{End}
 use Rattle.circ_turn.specs.declared.end.End.TheVariants as end
-use Rattle.circ_search.specs.Finding.{plain_found, ending_of, special_with, IfProved}
+use Rattle.circ_search.specs.Plain.{plain_found, ending_of, special_with, IfProved}
 use Rattle.circ_search.specs.declared.found.Found.{Found}
 use Rattle.circ_search.specs.declared.found.Found.TheVariants as found
 

@@ -9,8 +9,8 @@ ghost use Rattle.circ_plain_search.specs.PlainSearch.{AreSearchable, PlainSearch
 ghost use Rattle.circ_plain_search.specs.Search.{All_done, Ending};
 ghost use Rattle.circ_numbering.specs.Asking.{GivesProof};
 ghost use Rattle.circ_numbering.specs.Plain.{plain_term_blocks, plain_term_certificates};
-ghost use Rattle.circ_turn.specs.Standing.{plain_limits};
-ghost use Rattle.circ_search.specs.Finding.{plain_found, ending_of, special_with, IfProved};
+ghost use Rattle.circ_search.specs.Plain.{plain_found, plain_limits, ending_of, special_with};
+ghost use Rattle.circ_search.specs.Plain.{IfProved};
 
 use crate::found::Found;
 use circ_contexts::special_contexts;
@@ -24,8 +24,8 @@ use circ_theory::{Goal, Theory};
 use circ_turn::{End, Limits, Search, State};
 use std::alloc::{AllocError, Global};
 
-/// Searches a proof of the blocks of goals, each with the goals of those before it as lemmas, within
-/// the limits.
+/// Searches a proof of the blocks of goals, each with the goals of those before it as lemmas,
+/// within the limits.
 pub fn prove(
     alloc: Global,
     theory: &Theory,
@@ -142,16 +142,23 @@ fn needed_proof(
 {
     if state.deep {
         let certificates = certificates(alloc, traces)?;
-        numbered(alloc, gamma, certificates.as_slice(), state.finished.as_slice())
+        numbered(
+            alloc,
+            gamma,
+            certificates.as_slice(),
+            state.finished.as_slice(),
+        )
     } else {
-        numbered(alloc, no_places(alloc, theory), &[], state.finished.as_slice())
+        numbered(
+            alloc,
+            no_places(alloc, theory),
+            &[],
+            state.finished.as_slice(),
+        )
     }
 }
 
-fn certificates(
-    alloc: Global,
-    traces: Vec<Vec<Trace>>,
-) -> Result<Vec<Vec<TermLink>>, AllocError>
+fn certificates(alloc: Global, traces: Vec<Vec<Trace>>) -> Result<Vec<Vec<TermLink>>, AllocError>
     ensures { IfOk result (λ v. plain_term_certificates v.items
         ≡ map (map link_of) (plain_lists traces.items)) }
 {

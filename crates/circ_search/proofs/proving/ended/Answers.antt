@@ -1,6 +1,6 @@
 use Rattle.std.proofs.Common.{ap, refl}
 use Rattle.circ_plain_search.specs.Search.{Is_stuck, Is_spent, Is_too_big, Is_too_deep}
-use Rattle.circ_search.specs.Finding.{ending_of}
+use Rattle.circ_search.specs.Plain.{ending_of}
 use Rattle.circ_search.proofs.proving.ended.Goals as goal
 
 pub returns-in-Stuck : goal.returns-in-Stuck
