@@ -32,7 +32,13 @@ use std::alloc::{AllocError, Global};
 pub fn generate<'a>(alloc: Global, number: u16) -> Result<Ending<'a>, AllocError>
     ensures { IfOk result (λ e. Generates number (plain_ending e)) }
 {
-    let number = u64::from(number);
+    chain(alloc, u64::from(number))
+}
+
+fn chain<'a>(alloc: Global, number: u64) -> Result<Ending<'a>, AllocError>
+    requires { number ≤ 65535 }
+    ensures { IfOk result (λ e. Generates number (plain_ending e)) }
+{
     let text = chain_theory(alloc, number)?;
     match read_theory(alloc, text.as_slice()) {
         Ok(mut theory) => with_theory(alloc, number, &mut theory),
