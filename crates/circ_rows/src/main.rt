@@ -15,7 +15,7 @@ use std::alloc::{AllocError, Global};
 use std::{fs, io};
 
 /// The tables, in the order in which they are run.
-const TABLES: [&str; 18] = [
+const TABLES: [&str; 19] = [
     "rows-words",
     "rows-faults",
     "rows-causes",
@@ -24,6 +24,7 @@ const TABLES: [&str; 18] = [
     "rows-terms",
     "rows-show",
     "rows-reduce",
+    "rows-prove",
     "rows-contexts",
     "rows-check",
     "rows-chains",
