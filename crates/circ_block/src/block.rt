@@ -1,0 +1,105 @@
+//! The rules and the lemmas of a block.
+ghost use Rattle.std.specs.Prelude.{◌≡◌, ◌≤◌, ◌++◌, ◌∷◌, [], length, IfOk, OnOk};
+ghost use Rattle.circ_theory.specs.Rule.{is_bound};
+ghost use Rattle.circ_theory.specs.Theory.{pair_with};
+ghost use Rattle.circ_plain_search.specs.BlockRules.{lemma_rules, hidden_lemmas};
+ghost use Rattle.circ_plain_search.specs.BlockRules.{can_rewrite, lemma_rule};
+ghost use Rattle.circ_block.specs.Rules.{IsRulesOf};
+
+use circ_rewrite::{Rule, RuleIndex, RuleName, theory_rules};
+use circ_term::Term;
+use circ_theory::{Goal, Theory, gather};
+use indexmap::IndexSet;
+use std::alloc::{AllocError, Global};
+
+/// The rules of a block, and the lemmas of its lemma passes.
+#[derive(Drop)]
+pub struct BlockRules {
+    /// The theory's rules, and the visible goals of earlier blocks that rewrite.
+    pub rules: RuleIndex,
+    /// The hidden goals of earlier blocks that rewrite.
+    pub lemmas: Vec<Rule>,
+}
+
+impl BlockRules {
+    /// The rules after these goals of earlier blocks.
+    pub fn of(alloc: Global, theory: &Theory, earlier: &[Goal]) -> Result<BlockRules, AllocError>
+        requires few { length earlier.now ≤ 100000 }
+        ensures { IfOk result (λ r. IsRulesOf theory.now earlier.now r) }
+    {
+        theory.known();
+        let mut rules = theory_rules(alloc, theory)?;
+        let mut lemmas = Vec::new(alloc);
+        for n in 0..earlier.len() {
+            put_lemma(
+                alloc,
+                theory,
+                n as u32,
+                &earlier[n],
+                &mut rules,
+                &mut lemmas,
+            )?;
+        }
+        let rules = RuleIndex::of(alloc, rules)?;
+        Ok(BlockRules { rules, lemmas })
+    }
+}
+
+// A goal that rewrites goes behind the rules where it is visible, and behind the lemmas where it is
+// hidden.
+fn put_lemma(
+    alloc: Global,
+    theory: &Theory,
+    number: u32,
+    goal: &Goal,
+    rules: &mut Vec<Rule>,
+    lemmas: &mut Vec<Rule>,
+) -> Result<(), AllocError>
+    ensures rules { OnOk result (rules.new.items
+        ≡ rules.old.items ++ lemma_rules theory.now number (goal.now ∷ [])) }
+    ensures lemmas { OnOk result (lemmas.new.items
+        ≡ lemmas.old.items ++ hidden_lemmas theory.now number (goal.now ∷ [])) }
+{
+    if !can_rewrite(alloc, goal)? {
+        return Ok(());
+    }
+    let rule = lemma_rule(number, goal)?;
+    if theory.is_hidden(goal.left.sort()) {
+        lemmas.push(rule)?;
+    } else {
+        rules.push(rule)?;
+    }
+    Ok(())
+}
+
+fn lemma_rule(number: u32, goal: &Goal) -> Result<Rule, AllocError>
+    ensures { IfOk result (λ r. r ≡ lemma_rule number goal.now) }
+{
+    let left = goal.left.share()?;
+    let right = goal.right.share()?;
+    Ok(Rule {
+        name: RuleName::Lemma { number },
+        left,
+        right,
+    })
+}
+
+// Whether the left side is no variable, and has all variables of the right side.
+fn can_rewrite(alloc: Global, goal: &Goal) -> Result<bool, AllocError>
+    ensures { IfOk result (λ b. b ≡ can_rewrite goal.now) }
+{
+    if goal.left.op_number().is_none() {
+        return Ok(false);
+    }
+    is_bound(alloc, &goal.left, &goal.right)
+}
+
+fn is_bound(alloc: Global, left: &Term, right: &Term) -> Result<bool, AllocError>
+    ensures { IfOk result (λ b. b ≡ is_bound (pair_with left.now right.now)) }
+{
+    let mut variables = IndexSet::new(alloc);
+    gather(left, &mut variables)?;
+    let count = variables.len();
+    gather(right, &mut variables)?;
+    Ok(variables.len() == count)
+}

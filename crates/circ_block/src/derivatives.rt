@@ -1,0 +1,102 @@
+//! The goals that Derive makes.
+ghost use Rattle.std.specs.Prelude.{◌≡◌, ◌≤◌, ◌+◌, ◌^◌, Some, false, ◌==◌, length, IfOk};
+ghost use Rattle.std.specs.List.{slice_get};
+ghost use Rattle.std.specs.Option.{IfSome, option_map, option_map_or};
+ghost use Rattle.circ_term.specs.Tree.{sort_of};
+ghost use Rattle.circ_theory.specs.Fresh.{variables_from, FitSome};
+ghost use Rattle.circ_rules.specs.Rules.{fresh_in, derived_goal};
+ghost use Rattle.circ_plain_search.specs.Coming.{IsReady};
+ghost use Rattle.circ_block.specs.Derived.{GivesDerivatives};
+ghost use Rattle.circ_block.specs.Derived.{GivesGoal, instances_on};
+
+use circ_join::Stop;
+use circ_term::Term;
+use circ_theory::{Goal, Theory, above};
+use std::alloc::{AllocError, Global};
+use std::collections::VecDeque;
+
+/// The derivatives of a goal: that of each derivative of its sort, with fresh parameters.
+pub fn derivatives_on(alloc: Global, theory: &Theory, goal: &Goal) -> Result<VecDeque<Goal>, Stop>
+    requires fine { IsReady theory.now goal.now }
+    ensures { GivesDerivatives theory.now goal.now result }
+{
+    theory.known();
+    let sort = goal.left.sort();
+    let fresh = above(&goal.left).max(above(&goal.right));
+    let mut derived = VecDeque::new(alloc);
+    for derivative in 0..theory.derivative_count() {
+        if takes(theory, derivative, sort) {
+            match derivative_on(alloc, theory, derivative, goal, fresh) {
+                Ok(goal) => derived.push_back(goal)?,
+                Err(stop) => return Err(stop),
+            }
+        }
+    }
+    Ok(derived)
+}
+
+// Whether the hole of the derivative has the sort.
+fn takes(theory: &Theory, derivative: u32, sort: u32) -> bool
+    ensures { result ≡ option_map_or (λ d. d.hole == sort)
+        (slice_get theory.now.derivatives derivative) false }
+{
+    match theory.hole_sort(derivative) {
+        Some(hole) => hole == sort,
+        None => false,
+    }
+}
+
+// The derivative on both sides of the goal, its parameters numbered from `fresh`.
+fn derivative_on(
+    alloc: Global,
+    theory: &Theory,
+    derivative: u32,
+    goal: &Goal,
+    fresh: u64,
+) -> Result<Goal, Stop>
+    requires fine { IsReady theory.now goal.now }
+    requires hole { option_map (λ d. d.hole) (slice_get theory.now.derivatives derivative)
+        ≡ Some (sort_of goal.now.left) }
+    requires fresh { fresh ≡ fresh_in goal.now }
+    ensures { IfSome (slice_get theory.now.derivatives derivative)
+        (λ d. GivesGoal (derived_goal d goal.now (fresh_in goal.now)) result) }
+{
+    theory.known();
+    let Some(sorts) = theory.parameter_sorts(derivative) else {
+        unreachable!();
+    };
+    let params = variables(alloc, fresh, sorts)?;
+    both_sides(theory, derivative, params.as_slice(), goal)
+}
+
+// The derivative on both sides of the goal, with these terms for its parameters.
+fn both_sides(theory: &Theory, derivative: u32, params: &[Term], goal: &Goal) -> Result<Goal, Stop>
+    requires left { FitSome (slice_get theory.now.derivatives derivative)
+        params.now goal.now.left }
+    requires right { FitSome (slice_get theory.now.derivatives derivative)
+        params.now goal.now.right }
+    ensures { IfSome (slice_get theory.now.derivatives derivative)
+        (λ d. GivesGoal (instances_on d params.now goal.now) result) }
+{
+    match theory.instance(derivative, params, &goal.left) {
+        Err(fault) => Err(Stop::of_term(fault)),
+        Ok(left) => match theory.instance(derivative, params, &goal.right) {
+            Err(fault) => Err(Stop::of_term(fault)),
+            Ok(right) => Ok(Goal { left, right }),
+        },
+    }
+}
+
+// Variables of these sorts, numbered from `first`.
+fn variables(alloc: Global, first: u64, sorts: &[u32]) -> Result<Vec<Term>, AllocError>
+    requires { first + length sorts.now ≤ 2 ^ 32 }
+    ensures { IfOk result (λ v. v.items ≡ variables_from first sorts.now) }
+{
+    let mut made = Vec::with_capacity(alloc, sorts.len())?;
+    let mut next = first;
+    for sort in sorts {
+        made.push(Term::var(next as u32, *sort))?;
+        next += 1;
+    }
+    Ok(made)
+}

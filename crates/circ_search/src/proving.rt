@@ -1,0 +1,171 @@
+//! The search for a proof.
+ghost use Rattle.std.specs.Prelude.{◌≡◌, ◌×◌, Some, map, IfOk};
+ghost use Rattle.circ_rewrite.specs.Links.{link_of};
+ghost use Rattle.circ_contexts.specs.Candidates.{plain_lists};
+ghost use Rattle.circ_rules.specs.Plain.{plain_proof};
+ghost use Rattle.circ_plain_search.specs.Numbering.{Special, found_of, needed, proof_with};
+ghost use Rattle.circ_plain_search.specs.Numbering.{proved_or_long};
+ghost use Rattle.circ_plain_search.specs.PlainSearch.{AreSearchable, PlainSearch, IsProofOf};
+ghost use Rattle.circ_plain_search.specs.Search.{All_done, Ending};
+ghost use Rattle.circ_rules.specs.Proof.{Proof as TheProof};
+ghost use Rattle.circ_numbering.specs.Asking.{GivesProof};
+ghost use Rattle.circ_numbering.specs.Plain.{plain_term_blocks, plain_term_certificates};
+ghost use Rattle.circ_turn.specs.Standing.{plain_limits};
+ghost use Rattle.circ_search.specs.Finding.{plain_found, ending_of, special_with, IfProved};
+
+use crate::found::Found;
+use circ_contexts::special_contexts;
+use circ_numbering::{NumberFault, numbered};
+use circ_plain_search::laws::proved_is_accepted;
+use circ_record::{TermLink, term_links};
+use circ_rewrite::Trace;
+use circ_rules::Proof;
+use circ_special::Gamma;
+use circ_theory::{Goal, Theory};
+use circ_turn::{End, Limits, Search, State};
+use std::alloc::{AllocError, Global};
+
+/// Searches a proof of the blocks of goals, each with the goals of those before it as lemmas, within
+/// the limits.
+pub fn prove(
+    alloc: Global,
+    theory: &Theory,
+    blocks: &[Vec<Goal>],
+    limits: &Limits,
+) -> Result<Found, AllocError>
+    requires searchable { AreSearchable theory.now (map (λ b. b.items) blocks.now) }
+    ensures exact { IfOk result (λ f. PlainSearch theory.now (map (λ b. b.items) blocks.now)
+        (plain_limits limits.now) (plain_found f)) }
+    ensures accepted { IfOk result (λ f. IfProved f
+        (IsProofOf theory.now (map (λ b. b.items) blocks.now))) }
+{
+    theory.known();
+    proved_is_accepted();
+    let (gamma, traces) = special_contexts(alloc, theory, limits.steps)?;
+    search_with(alloc, theory, blocks, limits, gamma, traces.as_slice())
+}
+
+// The search with the special set and the traces of its start terms.
+fn search_with(
+    alloc: Global,
+    theory: &Theory,
+    blocks: &[Vec<Goal>],
+    limits: &Limits,
+    gamma: Gamma,
+    traces: &[Vec<Trace>],
+) -> Result<Found, AllocError>
+    requires searchable { AreSearchable theory.now (map (λ b. b.items) blocks.now) }
+    requires greatest { GreatestSpecialSet theory.now limits.now.steps gamma
+        (plain_lists traces.now) }
+    ensures exact { IfOk result (λ f. PlainSearch theory.now (map (λ b. b.items) blocks.now)
+        (plain_limits limits.now) (plain_found f)) }
+{
+    let mut state = State::start(alloc, blocks, limits.steps)?;
+    let search = Search {
+        alloc,
+        theory,
+        gamma: &gamma,
+        limits: *limits,
+    };
+    match search.run(&mut state) {
+        Ok(()) => found(alloc, theory, gamma, traces, &state),
+        Err(end) => ended(end),
+    }
+}
+
+// What is found where a search ends before every goal is done.
+fn ended(end: End) -> Result<Found, AllocError>
+    ensures { (s : Special) → IfOk result (λ f. (x : Ending) × (ending_of end ≡ Some x)
+        × (plain_found f ≡ found_of s x)) }
+{
+    match end {
+        End::Stuck {
+            block,
+            goal,
+            left,
+            right,
+            assumptions,
+        } => Ok(Found::Stuck {
+            block,
+            goal,
+            left,
+            right,
+            assumptions,
+        }),
+        End::Spent {
+            rewrites,
+            derives,
+            steps,
+        } => Ok(Found::Spent {
+            rewrites,
+            derives,
+            steps,
+        }),
+        End::TooBig { nodes } => Ok(Found::TooBig { nodes }),
+        End::TooDeep { depth } => Ok(Found::TooDeep { depth }),
+        End::Memory => Err(AllocError),
+    }
+}
+
+// What is found where every goal is done.
+fn found(
+    alloc: Global,
+    theory: &Theory,
+    gamma: Gamma,
+    traces: &[Vec<Trace>],
+    state: &State<'_>,
+) -> Result<Found, AllocError>
+    ensures { IfOk result (λ f. plain_found f
+        ≡ found_of (special_with gamma (plain_lists traces.now))
+        (All_done (plain_term_blocks state.now.finished.items) state.now.derives state.now.made
+        state.now.deep)) }
+{
+    match needed_proof(alloc, theory, gamma, traces, state) {
+        Ok(proof) => Ok(Found::Proved { proof }),
+        Err(NumberFault::LongTable) => Ok(Found::LongTable { terms: 16_777_217 }),
+        Err(NumberFault::Memory) => Err(AllocError),
+    }
+}
+
+// The proof. It has the special set with its certificates where the search has used a hidden
+// hypothesis at a path that is not empty, and no places otherwise.
+fn needed_proof(
+    alloc: Global,
+    theory: &Theory,
+    gamma: Gamma,
+    traces: &[Vec<Trace>],
+    state: &State<'_>,
+) -> Result<Proof, NumberFault>
+    ensures { GivesProof plain_proof (proof_with
+        (needed state.now.deep (special_with gamma (plain_lists traces.now))).places
+        (needed state.now.deep (special_with gamma (plain_lists traces.now))).certificates
+        (plain_term_blocks state.now.finished.items)) result }
+{
+    if state.deep {
+        let certificates = certificates(alloc, traces)?;
+        numbered(alloc, gamma, certificates.as_slice(), state.finished.as_slice())
+    } else {
+        numbered(alloc, no_places(alloc, theory), &[], state.finished.as_slice())
+    }
+}
+
+fn certificates(alloc: Global, traces: &[Vec<Trace>]) -> Result<Vec<Vec<TermLink>>, AllocError>
+    ensures { IfOk result (λ v. plain_term_certificates v.items
+        ≡ map (map link_of) (plain_lists traces.now)) }
+{
+    let mut certificates = Vec::with_capacity(alloc, traces.len())?;
+    for links in traces {
+        certificates.push(shared_links(alloc, links.as_slice())?)?;
+    }
+    Ok(certificates)
+}
+
+// The special set without places.
+fn no_places(alloc: Global, theory: &Theory) -> Gamma
+    ensures { result ≡ [] }
+{
+    match Gamma::of(theory, Vec::new(alloc)) {
+        Some(gamma) => gamma,
+        None => unreachable!(),
+    }
+}

@@ -1,0 +1,30 @@
+use Rattle.std.proofs.Common.{◌≡◌, ◌∷◌, [], List, Ok, length, drop, sym, ap, subst, ◌∙◌, arith}
+use Rattle.circ_term.proofs.Within.{drop_read}
+use Rattle.circ_theory.specs.declared.parts.Goal.{Goal}
+use Rattle.circ_block.specs.Rules.{IsRulesOf}
+use Rattle.circ_plain_search.specs.Search.{turn, turn_at}
+use Rattle.circ_turn.specs.Standing.{standing, plain_limits}
+use Rattle.circ_turn.proofs.Earlier.{goal_keeps, none_there}
+use Rattle.circ_turn.proofs.search.Search.turn.Goals as goal
+
+empty : (c : goal.After-as_slice) → c.args.state.now.queue.items ≡ []
+empty c = none_there c.args.state.now.queue.items c.args.state.now.queue.len (sym c.args.state.now.queue.ok.0) c.in-None.ensures.variant.1
+
+pub of-requires : goal.of-requires
+of-requires c =
+    let st = standing c.args.state.now in
+    let d = rw (c.in-Ok-true.is, c.in-Ok-true.field-0-test) at c.done_turn.ensures in
+    let t : turn c.args.self.now.theory.now c.args.self.now.gamma.now (plain_limits c.args.self.now.limits) st ≡ Ok (standing c.done_turn.new.state)
+    = ap (turn_at c.args.self.now.theory.now c.args.self.now.gamma.now (plain_limits c.args.self.now.limits) st) (empty c) ∙ d in
+    let small = c.requires.next (standing c.done_turn.new.state) t in
+    record { few = omega (arith, small.earlier, ap length c.as_slice.ensures.value) }
+
+pub returns-in-Ok-clause-rules : goal.returns-in-Ok-clause-rules
+returns-in-Ok-clause-rules c =
+    let st = standing c.args.state.now in
+    let Q : List Goal = c.args.state.now.queue.items in
+    let front : Q ≡ c.in-Some.field-0.now ∷ drop 1 Q = drop_read Q 0 c.in-Some.field-0.now c.in-Some.ensures.item.3.0 c.in-Some.ensures.lookup in
+    let g = rw c.in-Ok.is at (c.goal_turn.ensures c.in-Some.field-0.now (drop 1 Q) front) in
+    let same = goal_keeps c.args.self.now.theory.now (plain_limits c.args.self.now.limits) c.args.self.now.gamma.now st (standing c.goal_turn.new.state) c.in-Some.field-0.now (drop 1 Q) g in
+    let P : List Goal → Type 0 = λ E. IsRulesOf c.args.self.now.theory.now E c.args.rules.now in
+    subst P (sym same) c.requires.rules

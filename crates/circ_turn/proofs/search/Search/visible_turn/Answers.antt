@@ -1,0 +1,27 @@
+use Rattle.std.proofs.Common.{List, drop, ap, subst, ◌∙◌}
+use Rattle.circ_replay.specs.Plain.{Split_why}
+use Rattle.circ_plain_search.specs.Search.{split_with, reduced}
+use Rattle.circ_record.specs.Plain.{plain_term_why, plain_term_whys}
+use Rattle.circ_theory.specs.declared.parts.Goal.{Goal}
+use Rattle.circ_turn.specs.Ending.{GoesTo}
+use Rattle.circ_turn.specs.Standing.{standing, plain_limits}
+use Rattle.circ_turn.proofs.Turning.{visible_goes, goes_same, part_ends}
+use Rattle.circ_turn.proofs.search.Search.visible_turn.Goals as goal
+
+pub returns-in-Err : goal.returns-in-Err
+returns-in-Err c =
+    let h = rw (c.in-Err.is, c.requires.rules.rules) at c.split_cases.ensures in
+    rw c.end.ensures (part_ends (plain_limits c.args.self.now.limits) (standing c.args.state.now) c.in-Err.stop _ _ h)
+
+pub returns-in-Ok : goal.returns-in-Ok
+returns-in-Ok c =
+    let st = standing c.args.state.now in
+    let h = rw (c.in-Ok.is, c.requires.rules.rules) at c.split_cases.ensures in
+    let why = c.split.ensures ∙ ap (λ x. Split_why x c.in-Ok.cases.term (plain_term_whys c.in-Ok.cases.whys.items)) c.take_chain-chain.ensures.taken in
+    let P : List Goal → Type 0 = λ q. GoesTo (reduced c.args.self.now.theory.now (plain_limits c.args.self.now.limits) (standing c.take_chain-chain.new.self) (drop 1 q) (plain_term_why c.split.result))
+    (standing c.reduced.new.state) c.reduced.result in
+    let goes = subst P c.take_chain-chain.ensures.kept.queue c.reduced.ensures in
+    goes_same _ _ _ _
+    (visible_goes c.args.self.now.theory.now (plain_limits c.args.self.now.limits) st (standing c.take_chain-chain.new.self) c.args.goal.now
+    (drop 1 c.args.state.now.queue.items) (split_with c.in-Ok.cases.term (plain_term_whys c.in-Ok.cases.whys.items) c.split_cases.new.budget) (plain_term_why c.split.result) h
+    c.take_chain-chain.ensures.left why) goes

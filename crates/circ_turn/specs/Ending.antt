@@ -1,0 +1,57 @@
+-- What parts of a turn answer.
+use Rattle.std.specs.Prelude.{◌≡◌, ◌+◌, ◌-◌, Bool, true, false, length, Result, Ok, Err}
+use Rattle.circ_plain_search.specs.Search.{Limits, Standing, Ending, All_done, Is_stuck, Is_spent, Is_too_big, Is_too_deep}
+use Rattle.circ_join.specs.declared.stop.Stop.{Stop}
+use Rattle.circ_join.specs.declared.stop.Stop.TheVariants as stop
+use Rattle.circ_turn.specs.declared.end.End.{End}
+use Rattle.circ_turn.specs.declared.end.End.TheVariants as end
+use Rattle.circ_turn.specs.Standing.{unlinked}
+
+-- the search ends so, or memory ran out
+abbrev pub Ends : {A : Type 0} → Result A Ending → End → Type 0
+Ends r (end.Stuck block goal s t A) = r ≡ Err (Is_stuck block goal s t A.items)
+Ends r (end.Spent rewrites derives steps) = r ≡ Err (Is_spent rewrites derives steps)
+Ends r (end.TooBig nodes) = r ≡ Err (Is_too_big nodes)
+Ends r (end.TooDeep depth) = r ≡ Err (Is_too_deep depth)
+Ends r end.Memory = Unit {0}
+
+-- the search goes on from this standing, or ends
+abbrev pub GoesTo : {X : Type 0} → Result Standing Ending → Standing → Result X End → Type 0
+GoesTo r st (Ok x) = r ≡ Ok st
+GoesTo r st (Err e) = Ends r e
+
+-- the same, where the links of the goal in hand count no more
+abbrev pub GoesUnlinked : {X : Type 0} → Result Standing Ending → Standing → Result X End → Type 0
+GoesUnlinked r st (Ok x) = (y : Standing) × (r ≡ Ok y) × (st ≡ unlinked y)
+GoesUnlinked r st (Err e) = Ends r e
+
+-- a block is finished: the next begins, or every goal is done
+abbrev pub GoesOrDone : Result Standing Ending → Standing → Result Bool End → Type 0
+GoesOrDone r st (Ok true) = r ≡ Ok st
+GoesOrDone r st (Ok false) = r ≡ Err (All_done st.finished st.derives st.made st.deep)
+GoesOrDone r st (Err e) = Ends r e
+
+-- how a search ends that a part of it stops
+abbrev pub end_by : Limits → Standing → Stop → End
+end_by l st stop.Spent = end.Spent l.steps st.derives st.made
+end_by l st (stop.TooBig nodes) = end.TooBig nodes
+end_by l st (stop.TooDeep depth) = end.TooDeep depth
+end_by l st (stop.Stuck s t A) = end.Stuck (length st.finished + 1) (st.taken + 1) s t A
+end_by l st stop.Memory = end.Memory
+
+-- how it ends where a budget is spent
+abbrev pub end_spent : Limits → Standing → End
+end_spent l st = end.Spent (l.steps - st.budget) st.derives st.made
+
+-- the ending is such
+abbrev pub IsEnd : (Ending → Type 0) → End → Type 0
+IsEnd R (end.Stuck block goal s t A) = R (Is_stuck block goal s t A.items)
+IsEnd R (end.Spent rewrites derives steps) = R (Is_spent rewrites derives steps)
+IsEnd R (end.TooBig nodes) = R (Is_too_big nodes)
+IsEnd R (end.TooDeep depth) = R (Is_too_deep depth)
+IsEnd R end.Memory = Unit {0}
+
+-- a search ends so: with every goal done where it stands, or as it says
+abbrev pub RunEnds : {X : Type 0} → (Ending → Type 0) → Standing → Result X End → Type 0
+RunEnds R st (Ok x) = R (All_done st.finished st.derives st.made st.deep)
+RunEnds R st (Err e) = IsEnd R e

@@ -1,0 +1,50 @@
+-- What contracts see of a search and of where it stands.
+use Rattle.std.specs.Prelude.{◌≡◌, ℕ, List, map}
+use Rattle.circ_plain_search.specs.Search.{Limits, Standing, no_links, start}
+use Rattle.circ_plain_search.specs.PlainSearch.{AreSearchable}
+use Rattle.circ_theory.specs.Theory.{Theory}
+use Rattle.circ_theory.specs.declared.parts.Goal.{Goal}
+use Rattle.circ_record.specs.Plain.{plain_term_chain, plain_term_steps}
+use Rattle.circ_numbering.specs.Plain.{plain_term_blocks}
+use Rattle.circ_turn.specs.declared.search.Limits.{Limits as TheLimits}
+use Rattle.circ_turn.specs.declared.state.State.{State}
+
+abbrev pub plain_limits : TheLimits → Limits
+plain_limits l = record { steps = l.steps; derives = l.derives }
+
+abbrev pub standing : State → Standing
+standing s = record {
+  finished = plain_term_blocks s.finished.items;
+  earlier = s.earlier.items;
+  goals = s.goals.items;
+  later = map (λ v. v.items) s.later.now;
+  hypotheses = s.hyps.items;
+  queue = s.queue.items;
+  chain = plain_term_chain s.chain;
+  steps = plain_term_steps s.steps.items;
+  taken = s.taken;
+  budget = s.budget;
+  derives = s.derives;
+  made = s.made;
+  deep = s.deep;
+}
+
+abbrev pub limits_with : (steps derives : ℕ) → Limits
+limits_with n m = record { steps = n; derives = m }
+
+-- the same without links that have led to the goal in hand
+abbrev pub unlinked : Standing → Standing
+unlinked st = record st { chain = no_links }
+
+-- the start of a search of such blocks
+pub record IsStart (th : Theory) (l : Limits) (st : Standing) : Type 0 where
+  pub blocks : List (List Goal)
+  pub searchable : AreSearchable th blocks
+  pub start : st ≡ start l blocks
+
+-- these parts are as before
+pub record Keeps (old new : State) : Type 0 where
+  pub finished : new.finished.items ≡ old.finished.items
+  pub taken : new.taken ≡ old.taken
+  pub derives : new.derives ≡ old.derives
+  pub queue : new.queue.items ≡ old.queue.items

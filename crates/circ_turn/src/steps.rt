@@ -1,0 +1,239 @@
+//! Steps that are recorded.
+ghost use Rattle.std.specs.Prelude.{◌≡◌, ◌<◌, ◌≤◌, ◌+◌, ◌++◌, ◌∷◌, [], length, drop, OnOk};
+ghost use Rattle.circ_plain_search.specs.Coming.{IsReady};
+ghost use Rattle.circ_plain_search.specs.Search.{record_step, reduced, simplified, derive_turn};
+ghost use Rattle.circ_plain_search.specs.Search.{hidden_turn, done_turn, next_goal, with_this};
+ghost use Rattle.circ_plain_search.specs.Search.{no_links, has_links};
+ghost use Rattle.circ_record.specs.Plain.{plain_term_chain, plain_term_step, plain_term_why};
+ghost use Rattle.circ_turn.specs.Standing.{standing, plain_limits, Keeps};
+ghost use Rattle.circ_turn.specs.Ending.{GoesTo, GoesUnlinked, GoesOrDone, end_by, end_spent};
+
+use crate::MOST_STEPS;
+use crate::end::End;
+use crate::search::Search;
+use crate::state::{State, share_queue};
+use circ_block::{derivatives_on, is_deep_step, share_goal, share_goals, share_to};
+use circ_join::Stop;
+use circ_numbering::TermBlock;
+use circ_record::{TermChain, TermStep, TermWhy};
+use circ_theory::Goal;
+use std::alloc::AllocError;
+use std::collections::VecDeque;
+use std::mem;
+
+/// Whether a chain has a link.
+pub(crate) fn has_links(chain: &TermChain) -> bool
+    ensures { result ≡ has_links (plain_term_chain chain.now) }
+{
+    if !chain.left.as_slice().is_empty() {
+        return true;
+    }
+    !chain.right.as_slice().is_empty()
+}
+
+impl Search<'_> {
+    // A budget is spent.
+    pub(crate) fn spent(&self, state: &State<'_>) -> End
+        ensures { result ≡ end_spent (plain_limits self.now.limits) (standing state.now) }
+    {
+        End::Spent {
+            rewrites: self.limits.steps.saturating_sub(state.budget),
+            derives: state.derives,
+            steps: state.made,
+        }
+    }
+
+    // How a search ends that a part of it stops.
+    pub(crate) fn end(&self, state: &State<'_>, stop: Stop) -> End
+        requires finished { length state.now.finished.items ≤ 100000 }
+        requires taken { state.now.taken ≤ 100000 }
+        ensures { result ≡ end_by (plain_limits self.now.limits) (standing state.now) stop }
+    {
+        match stop {
+            Stop::Spent => End::Spent {
+                rewrites: self.limits.steps,
+                derives: state.derives,
+                steps: state.made,
+            },
+            Stop::TooBig { nodes } => End::TooBig { nodes },
+            Stop::TooDeep { depth } => End::TooDeep { depth },
+            Stop::Stuck {
+                left,
+                right,
+                assumptions,
+            } => End::Stuck {
+                block: state.finished.len() as u32 + 1,
+                goal: state.taken + 1,
+                left,
+                right,
+                assumptions,
+            },
+            Stop::Memory => End::Memory,
+        }
+    }
+
+    // A step is recorded, unless it would be one too many.
+    fn record_step(&self, state: &mut State<'_>, step: TermStep) -> Result<(), End>
+        ensures exact { GoesTo (record_step self.now.theory.now (plain_limits self.now.limits)
+            (standing state.old) (plain_term_step step)) (standing state.new) result }
+        ensures kept { Keeps state.old state.new }
+    {
+        if state.made >= MOST_STEPS {
+            return Err(self.spent(state));
+        }
+        let deep = is_deep_step(self.theory, state.hyps.as_slice(), &step);
+        state.steps.push(step)?;
+        state.made += 1;
+        state.deep = state.deep || deep;
+        Ok(())
+    }
+
+    // The goal in hand is reduced by the reason.
+    pub(crate) fn reduced(&self, state: &mut State<'_>, why: TermWhy) -> Result<(), End>
+        requires taken { state.old.taken ≤ 100000 }
+        ensures { GoesTo (reduced self.now.theory.now (plain_limits self.now.limits)
+            (standing state.old) (drop 1 state.old.queue.items) (plain_term_why why))
+            (standing state.new) result }
+    {
+        match self.record_step(state, TermStep::Reduce { why }) {
+            Err(end) => return Err(end),
+            Ok(()) => {}
+        }
+        state.next_goal(self.alloc);
+        Ok(())
+    }
+
+    // A hidden goal: the Derive budget first, then a Simplify step, then Derive.
+    pub(crate) fn hidden_turn(&self, state: &mut State<'_>, goal: &Goal) -> Result<(), End>
+        requires ready { IsReady self.now.theory.now goal.now }
+        requires finished { length state.old.finished.items ≤ 100000 }
+        requires taken { state.old.taken ≤ 100000 }
+        requires derives { state.old.derives ≤ 100000 }
+        ensures { GoesTo (hidden_turn self.now.theory.now (plain_limits self.now.limits)
+            (standing state.old) goal.now (drop 1 state.old.queue.items))
+            (standing state.new) result }
+    {
+        if state.derives >= self.limits.derives {
+            return Err(self.spent(state));
+        }
+        match self.simplified(state) {
+            Err(end) => Err(end),
+            Ok(()) => self.derive_turn(state, goal),
+        }
+    }
+
+    // A Simplify step, where the chain has a link.
+    fn simplified(&self, state: &mut State<'_>) -> Result<(), End>
+        ensures exact { GoesUnlinked (simplified self.now.theory.now
+            (plain_limits self.now.limits) (standing state.old)) (standing state.new) result }
+        ensures kept { Keeps state.old state.new }
+    {
+        if !has_links(&state.chain) {
+            return Ok(());
+        }
+        let chain = state.take_chain(self.alloc);
+        self.record_step(state, TermStep::Simplify { chain })
+    }
+
+    // The goal in hand becomes a hypothesis, and its derivatives become goals.
+    fn derive_turn(&self, state: &mut State<'_>, goal: &Goal) -> Result<(), End>
+        requires ready { IsReady self.now.theory.now goal.now }
+        requires finished { length state.old.finished.items ≤ 100000 }
+        requires taken { state.old.taken ≤ 100000 }
+        requires derives { state.old.derives ≤ 100000 }
+        ensures { GoesTo (derive_turn self.now.theory.now (plain_limits self.now.limits)
+            (standing state.old) goal.now (drop 1 state.old.queue.items))
+            (standing state.new) result }
+    {
+        if state.made >= MOST_STEPS {
+            return Err(self.spent(state));
+        }
+        match derivatives_on(self.alloc, self.theory, goal) {
+            Err(stop) => Err(self.end(state, stop)),
+            Ok(derived) => {
+                match self.record_step(state, TermStep::Derive) {
+                    Err(end) => return Err(end),
+                    Ok(()) => {}
+                }
+                self.derived(state, goal, derived)?;
+                Ok(())
+            }
+        }
+    }
+
+    fn derived(
+        &self,
+        state: &mut State<'_>,
+        goal: &Goal,
+        derived: VecDeque<Goal>,
+    ) -> Result<(), AllocError>
+        requires taken { state.old.taken ≤ 100000 }
+        requires derives { state.old.derives ≤ 100000 }
+        ensures { OnOk result (standing state.new
+            ≡ next_goal (state.old.hyps.items ++ goal.now ∷ [])
+            (drop 1 state.old.queue.items ++ derived.items)
+            (record (standing state.old) { derives = state.old.derives + 1 })) }
+    {
+        let mut derived = derived;
+        state.derives += 1;
+        state.next_goal(self.alloc);
+        state.hyps.push(share_goal(goal)?)?;
+        state.queue.append(&mut derived)?;
+        Ok(())
+    }
+
+    // After a block's last goal a Done step is made, and the next block begins. False where there
+    // is none.
+    pub(crate) fn done_turn(&self, state: &mut State<'_>) -> Result<bool, End>
+        ensures { GoesOrDone (done_turn self.now.theory.now (plain_limits self.now.limits)
+            (standing state.old)) (standing state.new) result }
+    {
+        match self.record_step(state, TermStep::Done) {
+            Err(end) => return Err(end),
+            Ok(()) => {}
+        }
+        self.finish(state)?;
+        match state.later.split_first() {
+            None => Ok(false),
+            Some((block, later)) => {
+                self.begin(state, block.as_slice())?;
+                state.later = later;
+                Ok(true)
+            }
+        }
+    }
+
+    // The block is finished.
+    fn finish(&self, state: &mut State<'_>) -> Result<(), AllocError>
+        ensures { OnOk result (standing state.new ≡ record (standing state.old) {
+          finished = with_this (standing state.old);
+          earlier = state.old.earlier.items ++ state.old.goals.items;
+          goals = [];
+          steps = [];
+        }) }
+    {
+        share_to(&mut state.earlier, state.goals.as_slice())?;
+        let goals = mem::replace(&mut state.goals, Vec::new(self.alloc));
+        let steps = mem::replace(&mut state.steps, Vec::new(self.alloc));
+        state.finished.push(TermBlock { goals, steps })?;
+        Ok(())
+    }
+
+    // A block with these goals begins.
+    fn begin(&self, state: &mut State<'_>, block: &[Goal]) -> Result<(), AllocError>
+        ensures { OnOk result (standing state.new ≡ record (standing state.old) {
+          hypotheses = state.old.earlier.items;
+          goals = block.now;
+          queue = block.now;
+          chain = no_links;
+          taken = 0;
+        }) }
+    {
+        state.hyps = share_goals(self.alloc, state.earlier.as_slice())?;
+        state.goals = share_goals(self.alloc, block)?;
+        state.queue = share_queue(self.alloc, block)?;
+        let _chain = state.take_chain(self.alloc);
+        state.taken = 0;
+        Ok(())
+    }
+}
