@@ -7,9 +7,13 @@ use circ_theory::Goal;
 #[derive(Drop)]
 pub enum Found {
     /// A proof.
-    Proved { proof: Proof },
+    Proved {
+        proof: Proof,
+    },
     /// Every goal is done, and the proof's table would have this many terms, which are too many.
-    LongTable { terms: u64 },
+    LongTable {
+        terms: u64,
+    },
     /// A case of a goal cannot be split further. Blocks and goals are counted from 1.
     Stuck {
         block: u32,
@@ -25,7 +29,11 @@ pub enum Found {
         steps: u64,
     },
     /// A term would have this many nodes.
-    TooBig { nodes: u64 },
+    TooBig {
+        nodes: u64,
+    },
     /// A term would have this depth.
-    TooDeep { depth: u64 },
+    TooDeep {
+        depth: u64,
+    },
 }

@@ -1,17 +1,16 @@
 //! The search for a proof.
-ghost use Rattle.std.specs.Prelude.{◌≡◌, ◌×◌, Some, map, IfOk};
+ghost use Rattle.std.specs.Prelude.{◌≡◌, Some, [], map, IfOk};
 ghost use Rattle.circ_rewrite.specs.Links.{link_of};
 ghost use Rattle.circ_contexts.specs.Candidates.{plain_lists};
+ghost use Rattle.circ_contexts.specs.Greatest.{GreatestSpecialSet};
 ghost use Rattle.circ_rules.specs.Plain.{plain_proof};
 ghost use Rattle.circ_plain_search.specs.Numbering.{Special, found_of, needed, proof_with};
-ghost use Rattle.circ_plain_search.specs.Numbering.{proved_or_long};
 ghost use Rattle.circ_plain_search.specs.PlainSearch.{AreSearchable, PlainSearch, IsProofOf};
 ghost use Rattle.circ_plain_search.specs.Search.{All_done, Ending};
-ghost use Rattle.circ_rules.specs.Proof.{Proof as TheProof};
 ghost use Rattle.circ_numbering.specs.Asking.{GivesProof};
 ghost use Rattle.circ_numbering.specs.Plain.{plain_term_blocks, plain_term_certificates};
-ghost use Rattle.circ_turn.specs.Standing.{plain_limits};
-ghost use Rattle.circ_search.specs.Finding.{plain_found, ending_of, special_with, IfProved};
+ghost use Rattle.circ_search.specs.Plain.{plain_found, plain_limits, ending_of, special_with};
+ghost use Rattle.circ_search.specs.Plain.{IfProved};
 
 use crate::found::Found;
 use circ_contexts::special_contexts;
@@ -25,8 +24,8 @@ use circ_theory::{Goal, Theory};
 use circ_turn::{End, Limits, Search, State};
 use std::alloc::{AllocError, Global};
 
-/// Searches a proof of the blocks of goals, each with the goals of those before it as lemmas, within
-/// the limits.
+/// Searches a proof of the blocks of goals, each with the goals of those before it as lemmas,
+/// within the limits.
 pub fn prove(
     alloc: Global,
     theory: &Theory,
@@ -42,7 +41,7 @@ pub fn prove(
     theory.known();
     proved_is_accepted();
     let (gamma, traces) = special_contexts(alloc, theory, limits.steps)?;
-    search_with(alloc, theory, blocks, limits, gamma, traces.as_slice())
+    search_with(alloc, theory, blocks, limits, gamma, traces)
 }
 
 // The search with the special set and the traces of its start terms.
@@ -52,11 +51,11 @@ fn search_with(
     blocks: &[Vec<Goal>],
     limits: &Limits,
     gamma: Gamma,
-    traces: &[Vec<Trace>],
+    traces: Vec<Vec<Trace>>,
 ) -> Result<Found, AllocError>
     requires searchable { AreSearchable theory.now (map (λ b. b.items) blocks.now) }
     requires greatest { GreatestSpecialSet theory.now limits.now.steps gamma
-        (plain_lists traces.now) }
+        (plain_lists traces.items) }
     ensures exact { IfOk result (λ f. PlainSearch theory.now (map (λ b. b.items) blocks.now)
         (plain_limits limits.now) (plain_found f)) }
 {
@@ -112,11 +111,11 @@ fn found(
     alloc: Global,
     theory: &Theory,
     gamma: Gamma,
-    traces: &[Vec<Trace>],
+    traces: Vec<Vec<Trace>>,
     state: &State<'_>,
 ) -> Result<Found, AllocError>
     ensures { IfOk result (λ f. plain_found f
-        ≡ found_of (special_with gamma (plain_lists traces.now))
+        ≡ found_of (special_with gamma (plain_lists traces.items))
         (All_done (plain_term_blocks state.now.finished.items) state.now.derives state.now.made
         state.now.deep)) }
 {
@@ -133,29 +132,39 @@ fn needed_proof(
     alloc: Global,
     theory: &Theory,
     gamma: Gamma,
-    traces: &[Vec<Trace>],
+    traces: Vec<Vec<Trace>>,
     state: &State<'_>,
 ) -> Result<Proof, NumberFault>
     ensures { GivesProof plain_proof (proof_with
-        (needed state.now.deep (special_with gamma (plain_lists traces.now))).places
-        (needed state.now.deep (special_with gamma (plain_lists traces.now))).certificates
+        (needed state.now.deep (special_with gamma (plain_lists traces.items))).places
+        (needed state.now.deep (special_with gamma (plain_lists traces.items))).certificates
         (plain_term_blocks state.now.finished.items)) result }
 {
     if state.deep {
         let certificates = certificates(alloc, traces)?;
-        numbered(alloc, gamma, certificates.as_slice(), state.finished.as_slice())
+        numbered(
+            alloc,
+            gamma,
+            certificates.as_slice(),
+            state.finished.as_slice(),
+        )
     } else {
-        numbered(alloc, no_places(alloc, theory), &[], state.finished.as_slice())
+        numbered(
+            alloc,
+            no_places(alloc, theory),
+            &[],
+            state.finished.as_slice(),
+        )
     }
 }
 
-fn certificates(alloc: Global, traces: &[Vec<Trace>]) -> Result<Vec<Vec<TermLink>>, AllocError>
+fn certificates(alloc: Global, traces: Vec<Vec<Trace>>) -> Result<Vec<Vec<TermLink>>, AllocError>
     ensures { IfOk result (λ v. plain_term_certificates v.items
-        ≡ map (map link_of) (plain_lists traces.now)) }
+        ≡ map (map link_of) (plain_lists traces.items)) }
 {
     let mut certificates = Vec::with_capacity(alloc, traces.len())?;
     for links in traces {
-        certificates.push(shared_links(alloc, links.as_slice())?)?;
+        certificates.push(term_links(alloc, links)?)?;
     }
     Ok(certificates)
 }

@@ -95,7 +95,8 @@ impl Search<'_> {
         requires small { IsSmall (standing state.old) }
         ensures { GoesTo (join_turn self.now.theory.now self.now.gamma.now
             (plain_limits self.now.limits) (standing state.old) goal.now
-            (drop 1 state.old.queue.items) (Some (plain_uses uses.items))) (standing state.new) result }
+            (drop 1 state.old.queue.items) (Some (plain_uses uses.items)))
+            (standing state.new) result }
     {
         match put_all(self.alloc, &goal.left, uses.as_slice()) {
             Err(stop) => return Err(self.end(state, stop)),

@@ -1,5 +1,5 @@
 -- What contracts see of what a search finds.
-use Rattle.std.specs.Prelude.{ℕ, List, map, Option, Some, None}
+use Rattle.std.specs.Prelude.{List, map, Option, Some, None}
 use Rattle.circ_rewrite.specs.Links.{link_of}
 use Rattle.circ_rewrite.specs.Replacement.{Traced}
 use Rattle.circ_rules.specs.Plain.{plain_proof}
@@ -9,6 +9,7 @@ use Rattle.circ_plain_search.specs.Search.{Ending, Is_stuck, Is_spent, Is_too_bi
 use Rattle.circ_plain_search.specs.Numbering.{Found, Proved, LongTable, Stuck, Spent, TooBig, TooDeep, Special, special}
 use Rattle.circ_turn.specs.declared.end.End.{End}
 use Rattle.circ_turn.specs.declared.end.End.TheVariants as end
+pub use Rattle.circ_turn.specs.Standing.{plain_limits}
 use Rattle.circ_search.specs.declared.found.Found.{Found as TheFound}
 use Rattle.circ_search.specs.declared.found.Found.TheVariants as found
 
