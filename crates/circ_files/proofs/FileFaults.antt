@@ -1,5 +1,5 @@
 -- The files that a run takes, one after the other.
-use Rattle.std.proofs.Common.{◌≡◌, ◌≤◌, ℕ, List, [], length, Some, None, true, sym, ◌∙◌, subst, inl, inr, refl, ap, arith, Result, Ok, Err}
+use Rattle.std.proofs.Common.{◌≡◌, ◌≤◌, ℕ, List, length, Some, None, true, sym, ◌∙◌, subst, inl, inr, ap, arith, Result, Ok, Err}
 use Rattle.std.specs.Prelude.{IfOk, IfErr}
 use Rattle.std.proofs.lemmas.Option.{same_Some}
 use Rattle.circ_outer.specs.Count.{Rose}

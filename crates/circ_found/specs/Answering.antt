@@ -76,4 +76,3 @@ pub record SearchEnds (th : Theory) (limits : Limits) (name : List ℕ) (blocks 
   pub found : Found
   pub search : PlainSearch th blocks limits found
   pub is : found_ending th.signature name found ≡ e
-

@@ -1,5 +1,5 @@
 -- What a search's ending says of the summary.
-use Rattle.std.proofs.Common.{◌≡◌, ℕ, Bool, List, [], length, refl, sym, ◌∙◌, ap, subst, true, false, Option, Some, None, Result, nat_lt, if◌then◌else◌}
+use Rattle.std.proofs.Common.{◌≡◌, ℕ, Bool, List, [], length, refl, sym, ◌∙◌, ap, subst, true, false, Some, None, Result, nat_lt, if◌then◌else◌}
 use Rattle.std.specs.Prelude.{IfOk}
 use Rattle.circ_theory.specs.Signature.{Signature}
 use Rattle.circ_theory.specs.Theory.{Theory}

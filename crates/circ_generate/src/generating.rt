@@ -32,14 +32,22 @@ use std::alloc::{AllocError, Global};
 pub fn generate<'a>(alloc: Global, number: u16) -> Result<Ending<'a>, AllocError>
     ensures { IfOk result (λ e. Generates number (plain_ending e)) }
 {
-    let number = u64::from(number);
+    chain(alloc, u64::from(number))
+}
+
+fn chain<'a>(alloc: Global, number: u64) -> Result<Ending<'a>, AllocError>
+    requires { number ≤ 65535 }
+    ensures { IfOk result (λ e. Generates number (plain_ending e)) }
+{
     let text = chain_theory(alloc, number)?;
     match read_theory(alloc, text.as_slice()) {
         Ok(mut theory) => with_theory(alloc, number, &mut theory),
-        Err(ReadFault::Statement {
-            number: place,
-            cause,
-        }) => unread(alloc, 1, place, cause),
+        Err(
+            ReadFault::Statement {
+                number: place,
+                cause,
+            },
+        ) => unread(alloc, 1, place, cause),
         Err(ReadFault::Memory) => Err(AllocError),
     }
 }
@@ -56,10 +64,12 @@ fn with_theory<'a>(
     let text = chain_script(alloc, number)?;
     match read_script(alloc, theory, text.as_slice(), Job::Prove) {
         Ok(script) => with_script(alloc, number, theory, &script),
-        Err(ReadFault::Statement {
-            number: place,
-            cause,
-        }) => unread(alloc, 2, place, cause),
+        Err(
+            ReadFault::Statement {
+                number: place,
+                cause,
+            },
+        ) => unread(alloc, 2, place, cause),
         Err(ReadFault::Memory) => Err(AllocError),
     }
 }
@@ -140,12 +150,7 @@ fn reported<'a>(alloc: Global, number: u64, proof: &Proof) -> Result<Ending<'a>,
     })
 }
 
-fn unread<'a>(
-    alloc: Global,
-    file: u8,
-    place: u64,
-    cause: Cause,
-) -> Result<Ending<'a>, AllocError>
+fn unread<'a>(alloc: Global, file: u8, place: u64, cause: Cause) -> Result<Ending<'a>, AllocError>
     ensures { IfOk result (λ e. plain_ending e ≡ unread_ending file place cause) }
 {
     let mut text = Vec::new(alloc);

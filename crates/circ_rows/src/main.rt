@@ -25,6 +25,8 @@ const TABLES: [&str; 20] = [
     "rows-show",
     "rows-reduce",
     "rows-contexts",
+    "rows-prove",
+    "rows-search",
     "rows-check",
     "rows-chains",
     "rows-proofs",
@@ -34,8 +36,6 @@ const TABLES: [&str; 20] = [
     "rows-content",
     "rows-changed-contexts",
     "rows-changed-proofs",
-    "rows-prove",
-    "rows-search",
 ];
 
 /// What ends a row and begins the next.

@@ -1,5 +1,5 @@
 -- What words ask for.
-use Rattle.std.proofs.Common.{◌≡◌, ◌<◌, ◌≤◌, ◌^◌, ℕ, List, [], ◌∷◌, length, decimal, codes, refl, ap, ap₂, sym, ◌∙◌, arith, Option, Some, None}
+use Rattle.std.proofs.Common.{◌≡◌, ◌<◌, ◌≤◌, ◌^◌, ℕ, List, [], ◌∷◌, length, decimal, codes, refl, ap, ap₂, sym, ◌∙◌, subst, arith, Option, Some, None}
 use Rattle.std.specs.Prelude.{MatchOption}
 use Rattle.std.proofs.lemmas.Fmt.{decimal_injective}
 use Rattle.std.proofs.lemmas.Option.{same_Some}
@@ -38,8 +38,13 @@ no_generate_show n e f = let never : 8 ≡ 4 = ap length (sym e ∙ f) in omega 
 no_generate_library : (n : List ℕ) → n ≡ codes "generate" → n ≡ codes "library" → ⊥
 no_generate_library n e f = let never : 8 ≡ 7 = ap length (sym e ∙ f) in omega (arith, never)
 
+-- the first byte of a name
+abbrev first_byte : List ℕ → ℕ
+first_byte [] = 0
+first_byte (x ∷ xs) = x
+
 no_generate_contexts : (n : List ℕ) → n ≡ codes "generate" → n ≡ codes "contexts" → ⊥
-no_generate_contexts n e f = let never : codes "generate" ≡ codes "contexts" = sym e ∙ f in cc
+no_generate_contexts n e f = let never : 103 ≡ 99 = ap first_byte (sym e ∙ f) in omega (arith, never)
 
 no_report : (r : Report) (n : List ℕ) → n ≡ report_name r → n ≡ codes "reduce" → ⊥
 no_report Goals n e f = let never : 5 ≡ 6 = ap length (sym e ∙ f) in omega (arith, never)
@@ -115,6 +120,25 @@ same_of_table k n given _ _ (library t w e i h) (library u x f j m) =
     let a = sym i ∙ j in
     let same : t ≡ u = cc in
     ap Library (same_Some w x (sym h ∙ ap library_text same ∙ m))
+
+-- the chain of a number, by the word that writes it
+module _ (k : Limits) (name word : List ℕ) (named : name ≡ codes "generate") where
+  no_chain : ((n : ℕ) → 2 ≤ n → n ≤ 1000 → word ≡ decimal n → ⊥) → IsNoneOfTable k name (word ∷ [])
+  no_chain h _ (check r t p e i) = other_length (word ∷ []) t p word i refl
+  no_chain h _ (prove t p q e i) = three_not_one (word ∷ []) t p q word i refl
+  no_chain h _ (show t e i) = no_generate_show name named e
+  no_chain h _ (contexts t e i) = no_generate_contexts name named e
+  no_chain h _ (reduce t p e i) = other_length (word ∷ []) t p word i refl
+  no_chain h _ (library t x e i m) = no_generate_library name named e
+  no_chain h _ (generate n few most e i) = let same : word ≡ decimal n = cc in h n few most same
+
+  pub chain_in_table : (o : Option Request)
+      → MatchOption o ((n : ℕ) → 2 ≤ n → n ≤ 1000 → word ≡ decimal n → ⊥)
+      (λ r. (n : ℕ) × (plain_request r ≡ Generate n) × (2 ≤ n) × (n ≤ 1000) × (word ≡ decimal n))
+      → MatchOption o (IsNoneOfTable k name (word ∷ [])) (λ r. IsCommand k name (word ∷ []) (plain_request r))
+  chain_in_table None h = no_chain h
+  chain_in_table (Some r) (n, is, few, most, w) =
+      let P : Command → Type 0 = IsCommand k name (word ∷ []) in subst P (sym is) (generate n few most named (ap (λ x. x ∷ []) w))
 
 -- `clap` finds one thing in the words
 same_budget : (usual most : ℕ) (value : Option (List ℕ)) (m n : ℕ) → most < 2 ^ 64 → IsBudget usual most value m → IsBudget usual most value n → m ≡ n

@@ -15,7 +15,7 @@ unreachable-requires-in-Refused c =
     let p = c.requires.0 in
     let D : List ℕ → Type 0 = λ b. Decodes th b (Ok c.in-Ok.proof) in
     let same : plain_proof c.in-Ok.proof ≡ p =
-        c.texts_decode.ensures.back th p (Ok c.in-Ok.proof) c.known.ensures c.requires.1.fits (subst D c.requires.1.text c.in-Ok.ensures) in
+    c.texts_decode.ensures.back th p (Ok c.in-Ok.proof) c.known.ensures c.requires.1.fits (subst D c.requires.1.text c.in-Ok.ensures) in
     let P : Proof → Type 0 = λ x. FirstFail th x c.in-Refused.step in
     c.one_verdict.ensures.not_both th p c.in-Refused.step c.requires.1.accepted (subst P same (rw c.in-Refused.is at c.in_ok-check.ensures.exact))
 
@@ -25,7 +25,7 @@ returns c = λ p a.
     let n = c.args.number in
     let D : List ℕ → Type 0 = λ b. Decodes th b (Ok c.in-Ok.proof) in
     let same : plain_proof c.in-Ok.proof ≡ p =
-        c.texts_decode.ensures.back th p (Ok c.in-Ok.proof) c.known.ensures a.fits (subst D a.text c.in-Ok.ensures) in
+    c.texts_decode.ensures.back th p (Ok c.in-Ok.proof) c.known.ensures a.fits (subst D a.text c.in-Ok.ensures) in
     if_ok (λ e. plain_ending e ≡ ending status.Ok (summary_text n (plain_proof c.in-Ok.proof)) None)
     (λ e. plain_ending e ≡ ending status.Ok (summary_text n p) None) c.reported.result c.reported.ensures
     (λ e is. subst (λ x. plain_ending e ≡ ending status.Ok (summary_text n x) None) same is)

@@ -2,7 +2,7 @@ use Rattle.circ_files.proofs.FileFaults.{if_ok}
 use Rattle.circ_found.specs.Ending.{plain_ending}
 use Rattle.circ_generate.specs.Generating.{Generates, unread_ending, no_theory}
 use Rattle.std.proofs.Common.{◌≡◌}
-use Rattle.circ_generate.proofs.generating.generate.Goals as goal
+use Rattle.circ_generate.proofs.generating.chain.Goals as goal
 
 pub returns-in-Err-Statement : goal.returns-in-Err-Statement
 returns-in-Err-Statement c =
