@@ -25,8 +25,8 @@ use circ_term::{Term, TermFault};
 use circ_theory::{OpDecl, Theory};
 use std::alloc::{AllocError, Global};
 
-/// A place, with its operator on variables: variable 0 at the place, and variables 1, 2 and so on at
-/// the other arguments from the left.
+/// A place, with its operator on variables: variable 0 at the place, and variables 1, 2 and so on
+/// at the other arguments from the left.
 #[derive(Drop)]
 pub struct Start<'a> {
     /// The place.

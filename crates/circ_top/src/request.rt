@@ -29,8 +29,8 @@ pub enum Request<'a> {
     Show {
         theory: &'a str,
     },
-    /// The places of a theory file's greatest special set are printed, for which each start term has
-    /// so many replacements at most.
+    /// The places of a theory file's greatest special set are printed, for which each start term
+    /// has so many replacements at most.
     Contexts {
         budget: u64,
         theory: &'a str,
