@@ -117,7 +117,6 @@ module _ (once : ReadsOnce) (proofs : ProofsOnce) (scripts : ScriptsOnce) (searc
       let Q : Status → Type 0 = λ x. Agrees before after x text status.Ok given in
       ok_agrees s r text given stored other a.0 a.1.1 c.1
       (subst Q (sym c.0.0) (alike status.Ok given (subst P (c.0.1 ∙ sym a.1.0) (itself status.Ok text))))
-
   work_agrees (Generate n) s r text given stored other c a =
       let same = generates_alike once scripts searches n (ending s text stored) (ending r given other) c a in agreed r given other same.0 (sym same.1)
 

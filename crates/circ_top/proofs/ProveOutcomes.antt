@@ -110,8 +110,8 @@ module _ (once : ReadsOnce) (scripts : ScriptsOnce) (searches : SearchesOnce) (l
       go s text stored (search_ends _ _ _ q rq x) =
           let P : Script → Type 0 = λ v. SearchEnds a.th (search_limits limits) name (blocks_of v) (ending s text stored) in
           let same : ending s text stored ≡ ending r given other =
-              one_ending a.th (search_limits limits) name (blocks_of a.sc) searches (ending s text stored) (ending r given other)
-              (subst P ((a.takes_script.reads t).1 q rq) x) a.ends in
+          one_ending a.th (search_limits limits) name (blocks_of a.sc) searches (ending s text stored) (ending r given other)
+          (subst P ((a.takes_script.reads t).1 q rq) x) a.ends in
           let Q : Status → Type 0 = λ y. IsLike s text y text in
           let R : List ℕ → Type 0 = λ y. IsLike s text r y in
           agreed r given other (subst R (ap (λ y. y.text) same) (subst Q (ap (λ y. y.status) same) (itself s text))) (sym (ap (λ y. y.stored) same))

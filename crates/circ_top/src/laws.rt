@@ -26,12 +26,12 @@ ghost use Rattle.circ_top.specs.PlainWords.{IsPlainWord, usual_limits};
 ghost use Rattle.circ_files.specs.declared.files.TheConstants.{MOST_BYTES, PIECE};
 
 use circ_plain_search::laws::some_answer;
-use circ_proof_text::laws::nothing_left_out as nothing_left_out_of_texts;
-use circ_proof_text::laws::{one_answer, text_reads_back};
+use circ_proof_text::laws::{
+    nothing_left_out as nothing_left_out_of_texts, one_answer, text_reads_back,
+};
 use circ_read::laws::{read_in_one_way, read_or_refused};
 use circ_script::laws::read_or_refused as scripts_read_or_refused;
-use circ_soundness::nothing_left_out as nothing_left_out_of_proofs;
-use circ_soundness::one_verdict;
+use circ_soundness::{nothing_left_out as nothing_left_out_of_proofs, one_verdict};
 
 /// The limits in numbers: bytes of a file and of a piece, nodes, levels and arguments of a term,
 /// sorts, variables, operators, their arguments, equations and derivatives of a theory, parameters
