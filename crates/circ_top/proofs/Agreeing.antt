@@ -4,25 +4,19 @@ use Rattle.circ_outer.specs.Count.{Rose}
 use Rattle.circ_outer.specs.Shelf.{ShelfState}
 use Rattle.circ_outer.specs.Sink.{SinkState}
 use Rattle.circ_theory.specs.Theory.{Theory}
-use Rattle.circ_read.specs.Causes.{AreAlike, same, ambiguous}
-use Rattle.circ_read.specs.Includes.{Scope}
-use Rattle.circ_read.specs.ReadsAs.{ReadsAs, FirstCause}
 use Rattle.circ_show.specs.TheoryText.{IsTheoryText}
-use Rattle.circ_read.specs.declared.cause.Cause.{Cause}
-use Rattle.circ_read.specs.declared.cause.Cause.TheVariants as cause
 use Rattle.circ_top.specs.Causes.{PrintsPartOf, AnswersOutcome, printed, not_read, not_written, not_put, no_memory}
 use Rattle.circ_top.specs.Command.{Command, Asks}
 use Rattle.circ_top.specs.Delivery.{Prints, PrintsPart, PrintsFront, Delivers, whole, write_failed, memory_wanted, text_wanted}
 use Rattle.circ_files.specs.Files.{Refusal, RefusesFile, IsFileFault}
-use Rattle.circ_files.specs.Like.{IsLikeCause, same_cause, other_readings, IsLike, itself}
+use Rattle.circ_files.specs.Like.{IsLike, itself}
 use Rattle.circ_found.specs.Ending.{Stored}
 use Rattle.circ_top.specs.Outcome.{OutcomeOf, Outcome, command}
 use Rattle.circ_top.specs.Storing.{HoldsAfter, IsUnstored, FailsToStore, Ends, stored_first, not_stored}
 use Rattle.circ_top.specs.Refusals.{refusal_text}
-use Rattle.circ_files.specs.TheoryFile.{TheoryRefusal}
 use Rattle.circ_files.specs.declared.status.Status.{Status}
 use Rattle.circ_files.specs.declared.status.Status.TheVariants as status
-use Rattle.circ_files.proofs.FileFaults.{IsOneWay, FaultOf, fault_of, refuses, unread, out_of_memory}
+use Rattle.circ_files.proofs.FileFaults.{FaultOf, fault_of, refuses, unread, out_of_memory}
 
 -- the answer that is due is an outcome, or there is no text, since a file was not read or memory ran out
 pub data DueIs (words : List (List ℕ)) (before after : ShelfState) : Status → List ℕ → Option Stored → Type 0 where

@@ -1,12 +1,12 @@
 -- What one answer says: a success, a step that fails, a file that was not read or is past the limit, a text that was not written.
-use Rattle.std.proofs.Common.{◌≡◌, ◌≢◌, ℕ, List, [], map, refl, ap, sym, ◌∙◌, subst, inl, inr, Option, Some, None}
+use Rattle.std.proofs.Common.{◌≡◌, ◌≢◌, ℕ, List, [], refl, ap, sym, ◌∙◌, subst, inl, inr, Option, Some, None}
 use Rattle.circ_outer.specs.Shelf.{ShelfState, IsQuiet}
 use Rattle.circ_outer.specs.Sink.{SinkState}
 use Rattle.circ_theory.specs.Theory.{Theory}
 use Rattle.circ_theory.specs.declared.parts.Goal.{Goal}
 use Rattle.circ_theory.specs.WellFormed.{IsWellFormed}
-use Rattle.circ_rules.specs.Proof.{Proof, ProofFor}
-use Rattle.circ_rules.specs.Accepted.{Accepted, Derives, FirstFail}
+use Rattle.circ_rules.specs.Proof.{Proof}
+use Rattle.circ_rules.specs.Accepted.{Derives, FirstFail}
 use Rattle.circ_plain_search.specs.Numbering.{Proved}
 use Rattle.circ_plain_search.specs.PlainSearch.{PlainSearch, AreSearchable, IsProofOf}
 use Rattle.circ_plain_search.specs.Search.{Limits as SearchLimits}

@@ -1,7 +1,6 @@
 -- What `check` answers, and its outcome.
-use Rattle.std.proofs.Common.{◌≡◌, ℕ, List, refl, ap, sym, ◌∙◌, subst, inl, inr, true, None, Result, Ok, Err}
-use Rattle.std.specs.Prelude.{IfErr}
-use Rattle.circ_outer.specs.Shelf.{ShelfState, IsQuiet}
+use Rattle.std.proofs.Common.{◌≡◌, ℕ, List, refl, ap, sym, ◌∙◌, subst, inl, inr, true, None}
+use Rattle.circ_outer.specs.Shelf.{ShelfState}
 use Rattle.circ_theory.specs.Theory.{Theory}
 use Rattle.circ_theory.specs.WellFormed.{IsWellFormed}
 use Rattle.circ_theory.specs.declared.parts.Goal.{Goal}

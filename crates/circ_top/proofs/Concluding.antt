@@ -1,5 +1,5 @@
 -- A file that is stored after others were taken.
-use Rattle.std.proofs.Common.{◌≡◌, ℕ, List, [], ◌∙◌, refl, sym, subst, arith, inl, inr, true, Option, Some, None}
+use Rattle.std.proofs.Common.{◌≡◌, ℕ, List, ◌∙◌, refl, sym, subst, arith, inl, inr, true, Option, Some, None}
 use Rattle.circ_outer.specs.Count.{Rose}
 use Rattle.circ_outer.specs.Shelf.{ShelfState, ShelfFrame, Struck, IsQuiet}
 use Rattle.circ_outer.specs.Sink.{SinkState}

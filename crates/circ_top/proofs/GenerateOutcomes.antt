@@ -1,5 +1,5 @@
 -- What `generate` comes to, in one way.
-use Rattle.std.proofs.Common.{◌≡◌, ℕ, Bool, List, [], length, refl, sym, ◌∙◌, ap, subst, true, false, None, nat_lt, if◌then◌else◌}
+use Rattle.std.proofs.Common.{◌≡◌, ℕ, Bool, length, refl, sym, ◌∙◌, ap, subst, true, false, None, nat_lt, if◌then◌else◌}
 use Rattle.circ_theory.specs.Signature.{Signature}
 use Rattle.circ_theory.specs.Theory.{Theory}
 use Rattle.circ_rules.specs.Proof.{Proof}
@@ -20,7 +20,7 @@ use Rattle.circ_files.proofs.Scripts.{ScriptsOnce}
 use Rattle.circ_found.specs.Answering.{blocks_of}
 use Rattle.circ_found.specs.Ending.{Ending, ending}
 use Rattle.circ_generate.specs.Chain.{chain_theory, chain_script}
-use Rattle.circ_generate.specs.Generating.{greatest_limits, summary_text, summary_ending, chain_ending, unread_ending, Generates, no_theory, no_script, searched}
+use Rattle.circ_generate.specs.Generating.{greatest_limits, summary_text, chain_ending, unread_ending, Generates, no_theory, no_script, searched}
 use Rattle.circ_top.specs.Command.{Generate}
 use Rattle.circ_top.proofs.Refused.{unreadable_like}
 use Rattle.circ_top.proofs.Searches.{IsSearchEnd, SearchesOnce}

@@ -8,7 +8,6 @@ use Rattle.circ_proof_text.specs.ProofText.{ReadsAsProof}
 use Rattle.circ_top.specs.Check.{IsAccepted, RefusesCheck, proof_fault}
 use Rattle.circ_top.specs.Check as check
 use Rattle.circ_top.specs.CheckProof.{AcceptsProof, RefusesProof, file_fault, step_fails}
-use Rattle.circ_files.specs.Files.{Refusal, IsUntaken, IsFileFault}
 use Rattle.circ_top.specs.Incoming.{Judges, RefusesBytes}
 use Rattle.circ_files.specs.ProofFile.{TakesProof, ProofRefusal}
 use Rattle.circ_files.specs.Quiet.{IsQuietBut, IsQuietCall}
@@ -16,7 +15,7 @@ use Rattle.circ_files.specs.TheoryFile.{TakesTheory}
 use Rattle.circ_top.specs.declared.request.Report.{Report}
 use Rattle.circ_files.specs.declared.status.Status.{Status}
 use Rattle.circ_files.specs.declared.status.Status.TheVariants as status
-use Rattle.circ_files.proofs.FileFaults.{only_read, taken_before, quiet_after, quiet_but_after, quiet_fault}
+use Rattle.circ_files.proofs.FileFaults.{only_read, taken_before, quiet_fault}
 
 -- the bytes read as one proof at most
 abbrev pub OneProof : Theory → Type 0

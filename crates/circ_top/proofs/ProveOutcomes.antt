@@ -1,5 +1,5 @@
 -- What `prove` answers, and its outcome.
-use Rattle.std.proofs.Common.{◌≡◌, ℕ, List, refl, ap, sym, ◌∙◌, subst, inl, inr, true, Option, Some, None}
+use Rattle.std.proofs.Common.{◌≡◌, ℕ, List, refl, ap, sym, subst, inl, inr, true, Option, None}
 use Rattle.circ_outer.specs.Shelf.{ShelfState}
 use Rattle.circ_theory.specs.Theory.{Theory}
 use Rattle.circ_read.specs.ReadsAs.{ReadsAs}
@@ -7,8 +7,8 @@ use Rattle.circ_script.specs.Script.{Script}
 use Rattle.circ_script.specs.ReadsAsScript.{ReadsAsScript}
 use Rattle.circ_script.specs.declared.job.Job.TheVariants as job
 use Rattle.circ_files.specs.Files.{IsOnly, RefusesFile, IsUnread, IsTooLong, IsFileFault}
-use Rattle.circ_files.specs.ScriptFile.{ReadsScript, TakesScript, ScriptRefusal}
-use Rattle.circ_files.specs.TheoryFile.{ReadsTheory, TakesTheory, TheoryRefusal}
+use Rattle.circ_files.specs.ScriptFile.{ReadsScript, ScriptRefusal}
+use Rattle.circ_files.specs.TheoryFile.{ReadsTheory, TheoryRefusal}
 use Rattle.circ_files.specs.Like.{IsLike, itself}
 use Rattle.circ_files.specs.declared.status.Status.{Status}
 use Rattle.circ_files.specs.declared.status.Status.TheVariants as status
@@ -20,11 +20,10 @@ use Rattle.circ_found.specs.Ending.{Stored, ending}
 use Rattle.circ_found.specs.Answering.{blocks_of, SearchEnds}
 use Rattle.circ_top.specs.Causes.{AtEither}
 use Rattle.circ_top.specs.Command.{Prove, Asks}
-use Rattle.circ_top.specs.Outcome.{command}
 use Rattle.circ_top.specs.Prove.{search_limits, ProveOutcome, no_theory, no_script, searched, IsSearched, RefusesProve, theory_fault, script_fault}
 use Rattle.circ_top.specs.Refusals.{refusal_text}
 use Rattle.circ_top.specs.declared.words.Limits.{Limits}
-use Rattle.circ_top.proofs.Agreeing.{DueIs, outcome, file_due, AgreesWith, agreed, unread_file_with, memory_with}
+use Rattle.circ_top.proofs.Agreeing.{DueIs, file_due, AgreesWith, agreed, unread_file_with, memory_with}
 use Rattle.circ_top.proofs.Refused.{refused_alike}
 use Rattle.circ_top.proofs.Searches.{SearchesOnce, one_ending}
 

@@ -1,11 +1,11 @@
 -- What `check` comes to on a proof that was stored.
-use Rattle.std.proofs.Common.{◌≡◌, ◌≤◌, ℕ, List, length, refl, sym, ◌∙◌, subst, Option, Some}
+use Rattle.std.proofs.Common.{◌≡◌, ℕ, List, refl, sym, ◌∙◌, subst, Option}
 use Rattle.std.proofs.lemmas.Option.{same_Some}
 use Rattle.circ_theory.specs.Theory.{Theory}
 use Rattle.circ_theory.specs.WellFormed.{IsWellFormed}
 use Rattle.circ_rules.specs.Accepted.{Accepted, FirstFail}
-use Rattle.circ_rules.specs.Proof.{Proof, ProofFor}
-use Rattle.circ_proof_text.specs.ProofText.{proof_text, ReadsAsProof}
+use Rattle.circ_rules.specs.Proof.{Proof}
+use Rattle.circ_proof_text.specs.ProofText.{ReadsAsProof}
 use Rattle.circ_read.specs.ReadsAs.{ReadsAs}
 use Rattle.circ_files.specs.Files.{Held, Holds, RefusesFile}
 use Rattle.circ_files.specs.ProofFile.{ReadsProof, ProofRefusal}

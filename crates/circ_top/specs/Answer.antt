@@ -9,7 +9,7 @@ use Rattle.circ_top.specs.Command.{Command, Check, Prove, Show, Contexts, Reduce
 use Rattle.circ_top.specs.Delivery.{Prints}
 use Rattle.circ_found.specs.Ending.{ending}
 use Rattle.circ_top.specs.Library.{RefusesLibrary}
-use Rattle.circ_top.specs.Prove.{IsSearched, RefusesProve, StoresProof}
+use Rattle.circ_top.specs.Prove.{IsSearched, RefusesProve}
 use Rattle.circ_top.specs.Reduce.{IsReduced, RefusesReduce}
 use Rattle.circ_top.specs.Show.{IsShown}
 use Rattle.circ_found.specs.Ending.{Stored}
