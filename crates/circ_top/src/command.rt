@@ -48,9 +48,10 @@ use std::alloc::Global;
 
 /// The program: `words` are its name and then a command with what it takes, which is
 /// `check THEORY PROOF`, `relation THEORY PROOF`, `prove THEORY SCRIPT PROOF`, `show THEORY`,
-/// `contexts THEORY`, `reduce THEORY SCRIPT`, `library NAME` or `generate NUMBER`. The options `--steps N` and `--derives N` may stand
-/// before, behind or between them. The files are taken from the shelf, to which `prove` stores the
-/// proof, and the text of the answer is written to the sink, whole.
+/// `contexts THEORY`, `reduce THEORY SCRIPT`, `library NAME` or `generate NUMBER`. The options
+/// `--steps N` and `--derives N` may stand before, behind or between them. The files are taken
+/// from the shelf, to which `prove` stores the proof, and the text of the answer is written to the
+/// sink, whole.
 pub fn circ<S: Shelf, K: Sink>(
     alloc: Global,
     words: &Vec<String>,

@@ -65,8 +65,8 @@ pub fn nothing_left_out()
     some_answer();
 }
 
-/// What `check` comes to on a proof that was stored: over the theory and the proof's text no outcome
-/// is another than 0.
+/// What `check` comes to on a proof that was stored: over the theory and the proof's text no
+/// outcome is another than 0.
 pub fn stored_proofs_are_accepted()
     ensures { (words : List (List ℕ)) (held : Held) (report : Report) (theory proof : List ℕ) →
         Asks words (Check report theory proof) → (th : Theory) (p : Proof) →

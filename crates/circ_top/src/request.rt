@@ -1,5 +1,6 @@
 //! What the words of a run ask for.
-ghost use Rattle.std.specs.Prelude.{◌≡◌, ◌≤◌, ℕ, [], ◌∷◌, IfOk, MatchOption, map, string_bytes, decimal};
+ghost use Rattle.std.specs.Prelude.{◌≡◌, ◌≤◌, ℕ, [], ◌∷◌, IfOk, MatchOption, map};
+ghost use Rattle.std.specs.Prelude.{string_bytes, decimal};
 ghost use Rattle.circ_top.specs.Command.{Generate, Asks, IsCommand, IsNoCommand, IsNoneOfTable};
 ghost use Rattle.circ_top.specs.Command.{report_name, IsNoReport, plain_request};
 
@@ -43,7 +44,8 @@ pub enum Request<'a> {
         budget: u64,
         theory: &'a str,
     },
-    /// The terms of a script file are reduced over a theory file, with so many replacements at most.
+    /// The terms of a script file are reduced over a theory file, with so many replacements at
+    /// most.
     Reduce {
         budget: u64,
         theory: &'a str,
