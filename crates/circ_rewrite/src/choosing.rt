@@ -1,5 +1,6 @@
 //! Which replacement is due at the root of a term, and the term that it puts there.
-ghost use Rattle.std.specs.Prelude.{◌≡◌, ◌<◌, ◌^◌, length, Option, IfOk, IfSome, None};
+ghost use Rattle.std.specs.Prelude.{◌≡◌, ◌<◌, ◌^◌, length};
+ghost use Rattle.std.specs.Prelude.{Option, IfOk, IfSome, None};
 ghost use Rattle.std.specs.List.{AllByRecursion};
 ghost use Rattle.std.specs.Option.{option_copied};
 ghost use Rattle.circ_term.specs.Limits.{Builds};
@@ -78,7 +79,8 @@ pub(crate) fn choose<'a>(
     ensures chooses { IfOk result
         (Chooses means.now.theory.now.signature here.now (due_by means.now here.now)) }
     ensures known { (sig : Signature) (due : Tree → Option Replacement)
-        → HasSettledBelow due here.now → IfOk result (λ o. IfSome o (IsKnownOf due sig here.now)) }
+        → HasSettledBelow due here.now
+        → IfOk result (λ o. IfSome o (IsKnownOf due sig here.now)) }
 {
     match assumed(means.assumptions, here) {
         Some(choice) => Ok(Some(choice)),
@@ -97,7 +99,8 @@ fn choose_besides<'a>(
     ensures chooses { IfOk result
         (Chooses means.now.theory.now.signature here.now (due_by means.now here.now)) }
     ensures known { (sig : Signature) (due : Tree → Option Replacement)
-        → HasSettledBelow due here.now → IfOk result (λ o. IfSome o (IsKnownOf due sig here.now)) }
+        → HasSettledBelow due here.now
+        → IfOk result (λ o. IfSome o (IsKnownOf due sig here.now)) }
 {
     let Some(op) = here.op_number() else {
         return Ok(None);
@@ -139,7 +142,8 @@ fn ruled<'a>(
     ensures chooses { (sig : Signature)
         → IfOk result (Chooses sig here.now (ruled rules.now here.now)) }
     ensures known { (sig : Signature) (due : Tree → Option Replacement)
-        → HasSettledBelow due here.now → IfOk result (λ o. IfSome o (IsKnownOf due sig here.now)) }
+        → HasSettledBelow due here.now
+        → IfOk result (λ o. IfSome o (IsKnownOf due sig here.now)) }
 {
     let mut number = rows.first(here);
     while number < rules.len() {
@@ -160,7 +164,8 @@ fn try_rule<'a>(
     ensures chooses { (sig : Signature)
         → IfOk result (Chooses sig here.now (rule_due rule.now here.now)) }
     ensures known { (sig : Signature) (due : Tree → Option Replacement)
-        → HasSettledBelow due here.now → IfOk result (λ o. IfSome o (IsKnownOf due sig here.now)) }
+        → HasSettledBelow due here.now
+        → IfOk result (λ o. IfSome o (IsKnownOf due sig here.now)) }
 {
     if !fits(&rule.left, here) {
         return Ok(None);
