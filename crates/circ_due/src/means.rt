@@ -1,0 +1,100 @@
+//! What is used to rewrite interned terms.
+ghost use Rattle.std.specs.Prelude.{◌≡◌, ◌<◌, ◌^◌, ℕ, List, [], length, IfOk, OnErr};
+ghost use Rattle.std.specs.List.{AllByRecursion};
+ghost use Rattle.circ_term.specs.Tree.{Tree};
+ghost use Rattle.circ_nodes.specs.Named.{IsNamed, Grows, Interns};
+ghost use Rattle.circ_rewrite.specs.Due.{IsRewriteRule};
+ghost use Rattle.circ_rewrite.specs.Plain.{plain_trace};
+ghost use Rattle.circ_rewrite.specs.Replacement.{Replacement, placed, traced};
+ghost use Rattle.circ_due.specs.Chosen.{IsReady, IsChoice, Chooses, due_by};
+
+use crate::choice::Choice;
+use circ_nodes::Nodes;
+use circ_rewrite::{Rule, Trace};
+use circ_term::TermFault;
+use circ_theory::{Goal, Theory};
+use std::alloc::{AllocError, Global};
+
+/// A theory's marked operators, rules and assumptions, by which terms of one table are rewritten.
+#[derive(Drop)]
+pub struct Means<'a> {
+    /// Where memory comes from.
+    pub alloc: Global,
+    /// The theory.
+    pub theory: &'a Theory,
+    /// The rules, in the order in which they are tried.
+    pub rules: Vec<Rule>,
+    /// The assumptions, which are tried first.
+    pub assumptions: Vec<Goal>,
+}
+
+impl<'a> Means<'a> {
+    /// These rules, and no assumptions.
+    pub fn new(
+        alloc: Global,
+        theory: &'a Theory,
+        rules: Vec<Rule>,
+    ) -> Result<Means<'a>, AllocError>
+        requires rewrite { AllByRecursion IsRewriteRule rules.items }
+        requires few { length rules.items < 2 ^ 32 }
+        ensures ready { (nodes : List Tree) → IfOk result (IsReady nodes) }
+        ensures theory { IfOk result (λ m. m.theory.now ≡ theory.now) }
+        ensures rules { IfOk result (λ m. m.rules.items ≡ rules.items) }
+        ensures assumptions { IfOk result (λ m. m.assumptions.items ≡ []) }
+    {
+        Err(AllocError)
+    }
+
+    /// Puts these assumptions in place of those before. After want of memory there are none.
+    pub fn assume(&mut self, nodes: &mut Nodes, assumptions: &[Goal]) -> Result<(), AllocError>
+        requires ready { IsReady nodes.old self.old }
+        requires few { length assumptions.now < 2 ^ 32 }
+        ensures ready { IsReady nodes.new self.new }
+        ensures grows { Grows nodes.old nodes.new }
+        ensures theory { self.new.theory.now ≡ self.old.theory.now }
+        ensures rules { self.new.rules.items ≡ self.old.rules.items }
+        ensures assumptions { IfOk result (λ _. self.new.assumptions.items ≡ assumptions.now) }
+        ensures forgotten { OnErr result (self.new.assumptions.items ≡ []) }
+    {
+        self.assumptions.truncate(0);
+        Err(AllocError)
+    }
+
+    /// What is due at the root of the term of this number.
+    pub fn choose(&self, nodes: &Nodes, number: u32) -> Result<Option<Choice>, AllocError>
+        requires ready { IsReady nodes.now self.now }
+        requires there { number < length nodes.now }
+        ensures { (t : Tree) → IsNamed nodes.now number t
+            → IfOk result (Chooses nodes.now self.now t (due_by self.now t)) }
+    {
+        Err(AllocError)
+    }
+
+    /// The number of the term that replaces the term of this number.
+    pub fn build(&self, nodes: &mut Nodes, number: u32, choice: &Choice) -> Result<u32, TermFault>
+        requires ready { IsReady nodes.old self.now }
+        requires there { number < length nodes.old }
+        ensures grows { Grows nodes.old nodes.new }
+        ensures interns { (t : Tree) (r : Replacement) → IsNamed nodes.old number t
+            → IsChoice nodes.old self.now t choice.now r → Interns nodes.new result r.new }
+    {
+        Err(TermFault::Memory)
+    }
+
+    /// The trace of a replacement at a path in the whole term, by the new term's number.
+    pub fn trace(
+        &self,
+        nodes: &Nodes,
+        choice: &Choice,
+        path: &[u16],
+        new: u32,
+    ) -> Result<Trace, AllocError>
+        requires ready { IsReady nodes.now self.now }
+        requires there { new < length nodes.now }
+        ensures { (t : Tree) (r : Replacement) → IsNamed nodes.now new r.new
+            → IsChoice nodes.now self.now t choice.now r
+            → IfOk result (λ x. plain_trace x ≡ traced (placed path.now r)) }
+    {
+        Err(AllocError)
+    }
+}

@@ -1,0 +1,2 @@
+//! Normal forms that are kept: a term is rewritten once, however often it occurs.
+#![tactic(auto)]

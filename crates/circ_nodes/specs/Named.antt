@@ -1,0 +1,37 @@
+-- Terms and their numbers.
+use Rattle.std.specs.Prelude.{◌≡◌, ℕ, List, [], ◌∷◌, ◌++◌, Some, Result, Ok, Err}
+use Rattle.std.specs.List.{slice_get}
+use Rattle.circ_term.specs.Tree.{Tree, Trees, Var, App, none, more}
+use Rattle.circ_term.specs.Limits.{first_limit, IsWithinLimits, Names}
+use Rattle.circ_term.specs.declared.fault.TermFault.{TermFault}
+use Rattle.circ_nodes.specs.declared.nodes.Shape.{Shape}
+use Rattle.circ_nodes.specs.declared.nodes.Shape.TheVariants.{Variable, Application}
+
+-- the term of number n is t
+abbrev pub IsNamed : (nodes : List Tree) (n : ℕ) → Tree → Type 0
+IsNamed nodes n t = slice_get nodes n ≡ Some t
+
+-- the terms of these numbers are these
+abbrev pub AreNamed : (nodes : List Tree) (ns : List ℕ) → Trees → Type 0
+AreNamed nodes [] none = Unit {0}
+AreNamed nodes [] (more t ts) = ⊥
+AreNamed nodes (n ∷ ns) none = ⊥
+AreNamed nodes (n ∷ ns) (more t ts) = IsNamed nodes n t × AreNamed nodes ns ts
+
+-- terms were added, and the numbers of the others stay
+abbrev pub Grows : (old new : List Tree) → Type 0
+Grows old new = (rest : List Tree) × (new ≡ old ++ rest)
+
+-- no term has two numbers
+abbrev pub IsOnce : List Tree → Type 0
+IsOnce nodes = (n m : ℕ) (t : Tree) → IsNamed nodes n t → IsNamed nodes m t → n ≡ m
+
+-- the term taken apart by one node
+abbrev pub HasShape : (nodes : List Tree) → Shape → Tree → Type 0
+HasShape nodes (Variable number sort) t = t ≡ Var number sort
+HasShape nodes (Application op sort args) t = (ts : Trees) × (t ≡ App op sort ts) × AreNamed nodes args.now ts
+
+-- What a call that builds and interns the tree u answers: its number exactly where it is within the limits.
+abbrev pub Interns : (nodes : List Tree) → Result ℕ TermFault → Tree → Type 0
+Interns nodes (Ok n) u = IsNamed nodes n u × IsWithinLimits u
+Interns nodes (Err e) u = Names e (first_limit u)
