@@ -38,15 +38,12 @@ module _ (due : Tree → Option Replacement) where
   }
 
   pub readies_self : (u : Tree) → HasSettledBelow due u → Readies due zero zero u [] u
-  readies_self u h = record { chain = refl; settled = h }
+  readies_self u h = record { chain = refl; below = tt; settled = h }
 
   pub readies_weaken : (big deep most deepest : ℕ) (t : Tree) (traces : List Traced) (u : Tree) → Readies due big deep t traces u → big ≤ most → deep ≤ deepest
       → Readies due most deepest t traces u
   readies_weaken big deep most deepest t traces u h wide deeper =
-      record { chain = chain_weaken due big deep most deepest traces t u wide deeper h.chain; settled = h.settled }
-
-  pub readies_on : (big deep : ℕ) (t x u : Tree) (before traces : List Traced) → Chain due big deep t before x → Readies due big deep x traces u → Readies due big deep t (before ++ traces) u
-  readies_on big deep t x u before traces c h = record { chain = chain_on due big deep before traces t x u c h.chain; settled = h.settled }
+      record { chain = chain_weaken due big deep most deepest traces t u wide deeper h.chain; below = h.below; settled = h.settled }
 
   -- nothing is due: this is the normal form
   pub readies_settled : (big deep : ℕ) (t : Tree) (traces : List Traced) (u : Tree) → Readies due big deep t traces u → due u ≡ None → Reduces due big deep t traces u

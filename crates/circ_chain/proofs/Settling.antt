@@ -7,12 +7,21 @@ use Rattle.circ_rewrite.specs.Replacement.{Replacement, Traced}
 use Rattle.circ_rewrite.specs.Standing.{IsSettled, AreSettled, Stands}
 use Rattle.circ_rewrite.proofs.Standings.{settled_set, settled_next, get_set_list}
 use Rattle.circ_chain.specs.Chain.{under, Chain, Reduces, RunsOut, Breaks, Outgrows}
-use Rattle.circ_chain.specs.Through.{Through, Readies}
+use Rattle.circ_chain.specs.Through.{AreBelow, Through, Readies}
 use Rattle.circ_chain.proofs.Chains.{chain_on, chain_weaken, chain_up, out_on, breaks_on, outgrows_on, out_up, breaks_up, outgrows_up, outgrows_breaks}
+
+pub below_on : (ts us : List Traced) → AreBelow ts → AreBelow us → AreBelow (ts ++ us)
+below_on [] us h g = g
+below_on (tr ∷ ts) us h g = (h.0, below_on ts us h.1 g)
+
+-- what is made in an argument is made below the root
+pub below_arg : (i : ℕ) (ts : List Traced) → AreBelow (map (under (i ∷ [])) ts)
+below_arg i [] = tt
+below_arg i (tr ∷ ts) = (λ e. absurd (cc), below_arg i ts)
 
 module _ (due : Tree → Option Replacement) where
   pub through_start : (f s : ℕ) (ts : Trees) → Through due zero zero (App f s ts) [] f s zero ts
-  through_start f s ts = record { chain = refl; settled = tt }
+  through_start f s ts = record { chain = refl; below = tt; settled = tt }
 
   -- argument i stands there, with all before it settled
   through_stands : (big deep : ℕ) (t : Tree) (traces : List Traced) (f s i : ℕ) (us : Trees) (a : Tree) → Through due big deep t traces f s i us → slice_get (list_of us) i ≡ Some a
@@ -33,13 +42,14 @@ module _ (due : Tree → Option Replacement) where
       let rest = chain_up due b d new_big new_deep ts (i ∷ []) (App f s us) a v (App f s (put_at us i v)) stands r.0 small depth shallow (put_arg f s i us a v g) in
       record {
         chain = chain_on due new_big new_deep traces (map (under (i ∷ [])) ts) t (App f s us) (App f s (put_at us i v)) here rest;
+        below = below_on traces (map (under (i ∷ [])) ts) h.below (below_arg i ts);
         settled = settled_next due i (put_at us i v) v (settled_set due i us v h.settled) (get_set_list us i a v g) r.1;
       }
 
   -- argument i is settled as it stands
   pub through_still : (big deep : ℕ) (t : Tree) (traces : List Traced) (f s i : ℕ) (us : Trees) (a : Tree) → Through due big deep t traces f s i us → slice_get (list_of us) i ≡ Some a
       → IsSettled due a → Through due big deep t traces f s (i + 1) us
-  through_still big deep t traces f s i us a h g e = record { chain = h.chain; settled = settled_next due i us a h.settled g e }
+  through_still big deep t traces f s i us a h g e = record { chain = h.chain; below = h.below; settled = settled_next due i us a h.settled g e }
 
   through_chain : (big deep most deepest : ℕ) (t : Tree) (traces : List Traced) (f s i : ℕ) (us : Trees) → Through due big deep t traces f s i us → big ≤ most → deep ≤ deepest
       → Chain due most deepest t traces (App f s us)
@@ -82,8 +92,8 @@ module _ (due : Tree → Option Replacement) where
   -- all arguments are settled
   pub through_end : (big deep : ℕ) (t : Tree) (traces : List Traced) (f s i : ℕ) (us : Trees) → Through due big deep t traces f s i us → i ≡ length (list_of us)
       → Readies due big deep t traces (App f s us)
-  through_end big deep t traces f s i us h e = record { chain = h.chain; settled = subst (λ n. AreSettled due n us) e h.settled }
+  through_end big deep t traces f s i us h e = record { chain = h.chain; below = h.below; settled = subst (λ n. AreSettled due n us) e h.settled }
 
   -- there are none
   pub readies_variable : (n s : ℕ) → Readies due zero zero (Var n s) [] (Var n s)
-  readies_variable n s = record { chain = refl; settled = tt }
+  readies_variable n s = record { chain = refl; below = tt; settled = tt }
