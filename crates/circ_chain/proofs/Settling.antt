@@ -1,5 +1,5 @@
 -- Arguments normalised one after the other, each by what is known of it by itself.
-use Rattle.std.proofs.Common.{◌≡◌, ℕ, ◌+◌, ◌≤◌, suc, zero, List, [], ◌∷◌, ◌++◌, map, length, Option, Some, None, refl, ap, sym, subst, ◌∙◌, arith}
+use Rattle.std.proofs.Common.{◌≡◌, ℕ, ◌+◌, ◌≤◌, zero, List, [], ◌∷◌, ◌++◌, map, length, Option, Some, refl, subst}
 use Rattle.std.specs.List.{slice_get}
 use Rattle.circ_term.specs.Tree.{Tree, Trees, Var, App, list_of, put_at, replaced, size_of, depth_of}
 use Rattle.circ_term.specs.Limits.{Limit, first_limit, IsWithinLimits}
