@@ -29,3 +29,11 @@ pub fn chains_stand_in_terms()
         → size_of w + big ≤ most + size_of t → depth_of w ≤ deepest → length p + deep ≤ deepest
         → replaced w p v ≡ Some x → Chain due most deepest w (map (under p) ts) x }
 {}
+
+/// The traces and the normal form of a term are determined by the term: however they are found,
+/// they are those.
+pub fn normal_forms_are_unique()
+    ensures { (due : Tree → Option Replacement) (big deep most deepest : ℕ) (ts us : List Traced)
+        (t v x : Tree)
+        → Reduces due big deep t ts v → Reduces due most deepest t us x → (ts ≡ us) × (v ≡ x) }
+{}
