@@ -1,1 +1,4 @@
+pub mod Places
 pub mod Numbers
+mod Same
+mod Rooted

@@ -230,13 +230,9 @@ impl Nodes {
         if number >= MOST_TERMS {
             return Err(AllocError);
         }
-        self.terms.push(term)?;
-        match self.roots.insert(root) {
-            Ok(_) => Ok(number as u32),
-            Err(_) => {
-                self.terms.truncate(number);
-                Err(AllocError)
-            }
-        }
+        self.terms.reserve(1)?;
+        self.roots.insert(root)?;
+        self.terms.push_reserved(term);
+        Ok(number as u32)
     }
 }
