@@ -2,3 +2,4 @@ pub mod Places
 pub mod Numbers
 mod Same
 mod Rooted
+mod Adding

@@ -1,14 +1,15 @@
 -- Terms are found by their roots.
 use Rattle.std.specs.Prelude.{◌≡◌, ℕ, ◌^◌, ◌+◌, ◌<◌, ◌≤◌, Bool, true, false, if◌then◌else◌, List, [], ◌∷◌, ◌++◌, length, Some, None, Option, refl}
 use Rattle.std.specs.List.{slice_get, list_any, position, position_or_len}
-use Rattle.std.proofs.Common.{ap, sym, subst, ◌∙◌, arith, length-append, ◌⊎◌, inl, inr}
-use Rattle.std.proofs.lemmas.Option.{slice_get_within}
-use Rattle.circ_term.specs.Tree.{Tree, Trees, Var, App, none, more}
+use Rattle.std.proofs.Common.{ap, sym, subst, ◌∙◌, arith, get_or, length-append, ◌⊎◌, inl, inr}
+use Rattle.std.proofs.lemmas.Option.{slice_get_within, slice_get_read}
+use Rattle.circ_term.specs.Tree.{Tree, Trees, Var, App, none, more, args_of}
+use Rattle.circ_term.specs.Limits.{argument_limit}
 use Rattle.circ_nodes.specs.declared.nodes.Root.{Root}
 use Rattle.circ_nodes.specs.contracts.nodes.RootPartialEq.TheImpl.{eq-value}
 use Rattle.circ_nodes.specs.Named.{IsNamed, AreNamed, Grows, IsOnce}
 use Rattle.circ_nodes.specs.Roots.{PlainRoot, variable, application, plain_root, HasRoot, Finds, IsKept}
-use Rattle.circ_nodes.proofs.Numbers.{named_below, there_named, named_one, are_named_one, named_later, are_named_later}
+use Rattle.circ_nodes.proofs.Numbers.{named_below, there_named, named_one, are_named_one, are_named_length, named_later, are_named_later}
 use Rattle.circ_nodes.proofs.Places.{get_there, any_at, any_place, position_place, get_last}
 use Rattle.circ_nodes.proofs.Same.{test_right, test_whole}
 
@@ -40,6 +41,10 @@ pub root_of_one : (nodes : List Tree) (p : PlainRoot) (t u : Tree) → HasRoot n
 root_of_one nodes (variable n s) t u g h = g ∙ sym h
 root_of_one nodes (application f s ns) t u g h = g.1 ∙ ap (App f s) (are_named_one nodes ns g.0 h.0 g.2 h.2) ∙ sym h.1
 
+pub root_few : (nodes : List Tree) (p : PlainRoot) (t : Tree) → HasRoot nodes p t → length (args_of t) ≤ argument_limit
+root_few nodes (variable n s) t h = rw h (omega arith)
+root_few nodes (application f s ns) t h = let l = are_named_length nodes ns h.0 h.2 in rw h.1 (omega (arith, l, h.3))
+
 root_later : (old new : List Tree) (p : PlainRoot) (t : Tree) → Grows old new → HasRoot old p t → HasRoot new p t
 root_later old new (variable n s) t g h = h
 root_later old new (application f s ns) t g h = (h.0, h.1, are_named_later old new ns h.0 g h.2, h.3)
@@ -52,6 +57,12 @@ module _ {nodes : List Tree} {roots : List Root} (k : IsKept nodes roots) where
       let b = named_below nodes n t h in
       let r = get_there roots n (omega (arith, b, k.long)) in
       (r.0, r.1, k.rooted n r.0 t r.1 h)
+
+  -- the root that is read beside a term
+  pub root_read : (n : ℕ) (t : Tree) (r : Root) → IsNamed nodes n t → r ≡ get_or roots n r → HasRoot nodes (plain_root r) t
+  root_read n t r h e =
+      let b = named_below nodes n t h in
+      k.rooted n r t (slice_get_read roots (length roots) n r refl (omega (arith, b, k.long)) e) h
 
   module _ (r : Root) (t : Tree) (root : HasRoot nodes (plain_root r) t) where
     -- an equal root stands beside the term

@@ -226,7 +226,7 @@ impl Nodes {
         ensures grows { Grows self.old self.new }
         ensures named { IfOk result (λ n. IsNamed self.new n term) }
     {
-        let number = self.terms.len();
+        let number = self.len();
         if number >= MOST_TERMS {
             return Err(AllocError);
         }
