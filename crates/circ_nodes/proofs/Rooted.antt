@@ -1,5 +1,5 @@
 -- Terms are found by their roots.
-use Rattle.std.specs.Prelude.{◌≡◌, ℕ, ◌^◌, ◌+◌, ◌<◌, ◌≤◌, Bool, true, false, if◌then◌else◌, List, [], ◌∷◌, ◌++◌, length, Some, None, Option, refl}
+use Rattle.std.specs.Prelude.{◌≡◌, ℕ, ◌<◌, ◌≤◌, Bool, true, false, if◌then◌else◌, List, [], ◌∷◌, ◌++◌, length, Some, None, refl}
 use Rattle.std.specs.List.{slice_get, list_any, position, position_or_len}
 use Rattle.std.proofs.Common.{ap, sym, subst, ◌∙◌, arith, get_or, length-append, ◌⊎◌, inl, inr}
 use Rattle.std.proofs.lemmas.Option.{slice_get_within, slice_get_read}
@@ -9,7 +9,7 @@ use Rattle.circ_nodes.specs.declared.nodes.Root.{Root}
 use Rattle.circ_nodes.specs.contracts.nodes.RootPartialEq.TheImpl.{eq-value}
 use Rattle.circ_nodes.specs.Named.{IsNamed, AreNamed, Grows, IsOnce}
 use Rattle.circ_nodes.specs.Roots.{PlainRoot, variable, application, plain_root, HasRoot, Finds, IsKept}
-use Rattle.circ_nodes.proofs.Numbers.{named_below, there_named, named_one, are_named_one, are_named_length, named_later, are_named_later}
+use Rattle.circ_nodes.proofs.Numbers.{named_below, there_named, are_named_one, are_named_length, are_named_later}
 use Rattle.circ_nodes.proofs.Places.{get_there, any_at, any_place, position_place, get_last}
 use Rattle.circ_nodes.proofs.Same.{test_right, test_whole}
 

@@ -52,16 +52,9 @@ impl Model for Nodes {
 #[derive(Clone, Copy)]
 pub enum Shape<'a> {
     /// A variable, by its number and its sort.
-    Variable {
-        number: u32,
-        sort: u32,
-    },
+    Variable { number: u32, sort: u32 },
     /// An operator's number, the sort of its result, and the numbers of its arguments.
-    Application {
-        op: u32,
-        sort: u32,
-        args: &'a [u32],
-    },
+    Application { op: u32, sort: u32, args: &'a [u32] },
 }
 
 impl Nodes {

@@ -1,6 +1,5 @@
-use Rattle.std.proofs.Common.{◌∙◌, arith, sym, ap}
+use Rattle.std.proofs.Common.{arith}
 use Rattle.std.proofs.lemmas.List.{drop_all}
-use Rattle.circ_term.specs.Tree.{trees_of}
 use Rattle.circ_term.proofs.Within.{depth_at}
 use Rattle.circ_nodes.proofs.Adding.{numbered_more, numbered_all, application_root}
 use Rattle.circ_nodes.proofs.Numbers.{grows_more}

@@ -1,8 +1,8 @@
-use Rattle.std.proofs.Common.{◌∙◌, refl, sym, subst}
+use Rattle.std.proofs.Common.{refl, sym, subst}
 use Rattle.circ_term.specs.Tree.{Tree, App}
 use Rattle.circ_term.specs.Limits.{IsWithinLimits}
 use Rattle.circ_nodes.specs.Named.{IsNamed}
-use Rattle.circ_nodes.specs.Roots.{HasRoot, Finds, application}
+use Rattle.circ_nodes.specs.Roots.{HasRoot, application}
 use Rattle.circ_nodes.proofs.Adding.{application_there}
 use Rattle.circ_nodes.proofs.Numbers.{named_below, named_one}
 use Rattle.circ_nodes.proofs.nodes.Nodes.app.Goals as goal

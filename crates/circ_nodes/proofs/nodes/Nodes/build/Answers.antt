@@ -1,5 +1,5 @@
 use Rattle.std.proofs.Common.{◌∙◌, List, ℕ, arith, ap, sym, subst, length}
-use Rattle.circ_term.specs.Tree.{Tree, Trees, App, trees_of, list_of-trees_of}
+use Rattle.circ_term.specs.Tree.{Tree, App, trees_of, list_of-trees_of}
 use Rattle.circ_term.specs.Limits.{Builds}
 use Rattle.circ_nodes.specs.Named.{AreNamed}
 use Rattle.circ_nodes.proofs.Numbers.{all_below, are_named_length, are_named_one}

@@ -1,5 +1,4 @@
 use Rattle.std.proofs.Common.{◌∙◌, ap, subst, sym, get_or, List, ℕ}
-use Rattle.circ_term.specs.Tree.{Trees}
 use Rattle.circ_nodes.specs.Named.{AreNamed}
 use Rattle.circ_nodes.proofs.Rooted.{root_few, root_read}
 use Rattle.circ_nodes.proofs.nodes.Nodes.shape.Goals as goal
