@@ -7,6 +7,7 @@ use Rattle.circ_nodes.specs.Named.{IsNamed, AreNamed, IsOnce}
 use Rattle.circ_nodes.specs.declared.nodes.Root.{Root}
 use Rattle.circ_nodes.specs.declared.nodes.Root.TheVariants as root
 
+-- a root as plain data
 pub data PlainRoot : Type 0 where
   variable : (number sort : ℕ) → PlainRoot
   application : (op sort : ℕ) (args : List ℕ) → PlainRoot
