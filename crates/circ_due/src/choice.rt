@@ -9,6 +9,9 @@ pub struct Bound {
     pub to: u32,
 }
 
+/// What the variables of a rule are given. Few need no memory of their own.
+pub type Bounds = SmallVec<Bound, 6>;
+
 /// A replacement that is due at the root of a term, before its new term is built.
 #[derive(Drop)]
 pub enum Choice {
@@ -22,6 +25,6 @@ pub enum Choice {
     /// By the rule of this number, whose variables are given these terms.
     Ruled {
         rule: u32,
-        given: SmallVec<Bound, 6>,
+        given: Bounds,
     },
 }
