@@ -1,7 +1,7 @@
 -- What is chosen is what is due.
 use Rattle.std.proofs.Common.{◌≡◌, ℕ, ◌%◌, List, [], ◌∷◌, map, get_or, Option, Some, None, is_some, unwrap_or, refl, ap, sym, subst, ◌∙◌}
 use Rattle.std.specs.Prelude.{nat_eq}
-use Rattle.std.specs.List.{slice_get}
+use Rattle.std.specs.List.{slice_get, AllByRecursion}
 use Rattle.std.specs.Map.{lookup}
 use Rattle.std.proofs.lemmas.Option.{same_Some, get_or_from_slice_get}
 use Rattle.circ_term.specs.Tree.{Tree, Var, App, sort_of, operator_number}
@@ -9,10 +9,11 @@ use Rattle.circ_term.specs.Substitution.{instance}
 use Rattle.circ_term.specs.Subst.{found, substitution_of}
 use Rattle.circ_term.specs.Subst as terms
 use Rattle.circ_term.proofs.Instances.{instance-same}
+use Rattle.circ_theory.proofs.Lists.{all_at}
 use Rattle.circ_match.specs.Matcher.{IsMatcher, Makes, has_variable}
 use Rattle.circ_match.proofs.Variables.{instance-variable}
 use Rattle.circ_nodes.specs.Named.{IsNamed, IsOnce}
-use Rattle.circ_rewrite.specs.Replacement.{By_rule, By_assumption}
+use Rattle.circ_rewrite.specs.Replacement.{Replacement, By_rule, By_assumption}
 use Rattle.circ_rewrite.specs.Index.{row_of}
 use Rattle.circ_rewrite.specs.Matching.{matching}
 use Rattle.circ_rewrite.specs.Due.{assumed, rule_due, rule_variables, terms_by, IsRewriteRule}
@@ -20,9 +21,10 @@ use Rattle.circ_rewrite.specs.declared.parts.Rule.{Rule}
 use Rattle.circ_rewrite.proofs.Finding.{due_assumed}
 use Rattle.circ_rewrite.proofs.MatchingFacts.{matches-instance, matcher_agrees}
 use Rattle.circ_rewrite.proofs.RuleTerms.{terms_of_rule}
-use Rattle.circ_due.specs.Bounds.{AreOrdered}
+use Rattle.circ_due.specs.Bounds.{bounds_in, AreOrdered}
 use Rattle.circ_due.specs.Assuming.{choice_of}
-use Rattle.circ_due.specs.Chosen.{IsReady, Chooses, due_by}
+use Rattle.circ_due.specs.Chosen.{IsReady, IsRuled, Chooses, by_rule, due_by}
+use Rattle.circ_due.specs.declared.choice.Bound.{Bound}
 use Rattle.circ_due.specs.declared.assuming.Assumed.{Assumed}
 use Rattle.circ_due.specs.declared.choice.Choice.{Choice}
 use Rattle.circ_due.specs.declared.choice.Choice.TheVariants as choice
@@ -76,8 +78,12 @@ rule_given r t σ m =
     rw (matches-instance (substitution_of σ) m.sorts r.left t m.makes, new, terms) refl
 
 -- the rule that is read is the one of its number
-pub rule_read : (rs : List Rule) (n : ℕ) (r q : Rule) → slice_get rs n ≡ Some r → q ≡ get_or rs n q → q ≡ r
-rule_read rs n r q g e = e ∙ get_or_from_slice_get rs n r q g
+rule_read : (rs : List Rule) (n : ℕ) (r q : Rule) → slice_get rs n ≡ Some r → q ≡ get_or rs n q → r ≡ q
+rule_read rs n r q g e = sym (e ∙ get_or_from_slice_get rs n r q g)
+
+pub ruled_is : (nodes : List Tree) (rs : List Rule) (t : Tree) (n : ℕ) (given : List Bound) (r : Replacement) (rule : Rule) → IsRuled nodes rs t n given r → rule ≡ get_or rs n rule
+    → r ≡ by_rule nodes rule given
+ruled_is nodes rs t n given r rule h e = h.3 ∙ ap (λ q. by_rule nodes q given) (rule_read rs n h.0 rule h.1 e)
 
 -- ---- the terms of a rule's variables in their order
 
@@ -96,3 +102,13 @@ terms_in_order r t σ ts ok m o =
     o.terms ∙ terms_of_rule r t o.ordered ok (matcher_same r.left t σ o.ordered o.same m) o.sorted
     ∙ map_same (λ v. substitution_of o.ordered v.number v.sort) (λ v. substitution_of σ v.number v.sort) (rule_variables r)
     (λ v. ap (λ x. unwrap_or x (Var v.number v.sort)) (o.same v.number v.sort))
+
+pub ruled_reason : (nodes : List Tree) (rs : List Rule) (t : Tree) (n : ℕ) (given : List Bound) (r : Replacement) (rule : Rule) (ts : List Tree) → AllByRecursion IsRewriteRule rs
+    → IsRuled nodes rs t n given r → rule ≡ get_or rs n rule → AreOrdered (bounds_in nodes given) ts → By_rule rule.name ts ≡ r.reason
+ruled_reason nodes rs t n given r rule ts ok h e o =
+    let same = rule_read rs n h.0 rule h.1 e in
+    let matches : IsMatcher (Makes rule.left t) (has_variable rule.left) (bounds_in nodes given) =
+    subst (λ (q : Rule). IsMatcher (Makes q.left t) (has_variable q.left) (bounds_in nodes given)) same h.2.matches in
+    let rewrite : IsRewriteRule rule = subst IsRewriteRule same (all_at IsRewriteRule rs n h.0 ok h.1) in
+    ap (By_rule rule.name) (terms_in_order rule t (bounds_in nodes given) ts rewrite matches o)
+    ∙ sym (ap (λ (x : Replacement). x.reason) (ruled_is nodes rs t n given r rule h e))

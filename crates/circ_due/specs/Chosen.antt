@@ -46,13 +46,17 @@ by_rule nodes rule given = record {
   new = instance (substitution_of (bounds_in nodes given)) rule.right;
 }
 
+-- the replacement of t is by the rule of this number, whose left side matches so
+abbrev pub IsRuled : (nodes : List Tree) → List Rule → (t : Tree) → (number : ℕ) → List Bound → Replacement → Type 0
+IsRuled nodes rules t number given r =
+    (rule : Rule) × (slice_get rules number ≡ Some rule) × IsFit nodes rule t given × (r ≡ by_rule nodes rule given)
+
 -- the choice is this replacement of t
 abbrev pub IsChoice : (nodes : List Tree) → Means → (t : Tree) → Choice → Replacement → Type 0
 IsChoice nodes m t (Assumed number right) r = (r.reason ≡ By_assumption number) × IsNamed nodes right r.new
 IsChoice nodes m t (Content op) r =
     r ≡ record { reason = By_content op (canonical_under m.theory.now.signature op t); new = canonical_under m.theory.now.signature op t }
-IsChoice nodes m t (Ruled number given) r =
-    (rule : Rule) × (slice_get m.rules.items number ≡ Some rule) × IsFit nodes rule t given.items × (r ≡ by_rule nodes rule given.items)
+IsChoice nodes m t (Ruled number given) r = IsRuled nodes m.rules.items t number given.items r
 
 -- the choice is some replacement
 abbrev pub IsChosen : (nodes : List Tree) → Means → Choice → Type 0

@@ -28,3 +28,39 @@ pub after-rule-requires : goal.after-rule-requires
 after-rule-requires c =
     let x = c.args.means.now.rows in
     omega (arith, ap length c.requires.ready.rows.next, length-next_in (length x.heads.items) 0 c.args.means.now.rules.items, c.loop-rule-test.true)
+
+pub returns-then-branch : goal.returns-then-branch
+returns-then-branch c =
+    let n = c.loop-rule.rule in
+    let nodes = c.args.nodes.now in
+    let rs = c.args.means.now.rules.items in
+    let t = tree_at nodes c.args.number in
+    let rule = c.index.result.now in
+    let given = c.fits.new.given.items in
+    let fit = rw c.if-branch.true at c.in_ok-fits.ensures in
+    let below : n < length rs = omega (arith, c.loop-rule-test.true) in
+    let due = rule_given rule t (bounds_in nodes given) fit.matches in
+    (
+      by_rule nodes rule given,
+      tried_here (length c.args.means.now.rows.heads.items) rs t n rule (by_rule nodes rule given) c.loop-rule.invariant.tried below c.index.ensures due,
+      (rule, get_read rs n rule below c.index.ensures, fit, refl),
+    )
+
+went : (c : goal.After-after-rule)
+    → IsTried (length c.args.means.now.rows.heads.items) c.args.means.now.rules.items (tree_at c.args.nodes.now c.args.number) c.after-rule.result × (c.loop-rule.rule < c.after-rule.result)
+went c =
+    let x = c.args.means.now.rows in
+    let rs = c.args.means.now.rules.items in
+    let t = tree_at c.args.nodes.now c.args.number in
+    let rule = c.index.result.now in
+    let n = c.loop-rule.rule in
+    let below : n < length rs = omega (arith, c.loop-rule-test.true) in
+    let fit = rw c.if-branch.false at c.in_ok-fits.ensures in
+    tried_next (length x.heads.items) rs x.next.items t n c.after-rule.result rule
+    c.requires.ready.rewrite c.requires.ready.rows.next c.loop-rule.invariant.tried below c.index.ensures (rule_does_not rule t fit.1) c.after-rule.ensures
+
+pub loop-rule-smaller : goal.loop-rule-smaller
+loop-rule-smaller c = omega (arith, (went c).1, c.loop-rule-test.true)
+
+pub loop-rule-preserved : goal.loop-rule-preserved
+loop-rule-preserved c = record { tried = (went c).0; nothing = (rw c.if-branch.false at c.in_ok-fits.ensures).0 }
