@@ -1,5 +1,6 @@
 //! Terms that are kept by number.
-ghost use Rattle.std.specs.Prelude.{◌≡◌, ◌<◌, ◌≤◌, ◌^◌, ℕ, [], length, None, IfOk};
+ghost use Rattle.std.specs.Prelude.{◌≡◌, ◌<◌, ◌≤◌, ◌^◌, ℕ, [], length};
+ghost use Rattle.std.specs.Prelude.{None, IfOk};
 ghost use Rattle.std.specs.List.{AllByRecursion};
 ghost use Rattle.circ_term.specs.Tree.{Tree, Trees, Var, App, args_of, trees_of};
 ghost use Rattle.circ_term.specs.Limits.{Builds};
@@ -22,7 +23,8 @@ enum Root {
     Application { op: u32, sort: u32, args: Numbers },
 }
 
-/// Terms by number. Each is there once, and its arguments are there too.
+/// Terms by number. Each is there once, and its arguments are there too. A call that would add one
+/// more than 4,294,967,295 answers want of memory.
 #[derive(Drop)]
 pub struct Nodes {
     alloc: Global,
@@ -52,16 +54,9 @@ impl Model for Nodes {
 #[derive(Clone, Copy)]
 pub enum Shape<'a> {
     /// A variable, by its number and its sort.
-    Variable {
-        number: u32,
-        sort: u32,
-    },
+    Variable { number: u32, sort: u32 },
     /// An operator's number, the sort of its result, and the numbers of its arguments.
-    Application {
-        op: u32,
-        sort: u32,
-        args: &'a [u32],
-    },
+    Application { op: u32, sort: u32, args: &'a [u32] },
 }
 
 impl Nodes {
@@ -103,7 +98,8 @@ impl Nodes {
     pub fn shape(&self, number: u32) -> Shape<'_>
         requires { number < length self.now }
         ensures shape { (t : Tree) → IsNamed self.now number t → HasShape self.now result t }
-        ensures few { (t : Tree) → IsNamed self.now number t → length (args_of t) ≤ MOST_ARGS }
+        ensures few { (t : Tree) → IsNamed self.now number t
+            → length (args_of t) ≤ MOST_ARGS }
     {
         match &self.roots.as_slice()[number as usize] {
             Root::Variable { number, sort } => Shape::Variable {
@@ -166,7 +162,7 @@ impl Nodes {
         ensures grows { Grows self.old self.new }
         ensures named { IfOk result (λ ns. AreNamed self.new ns.items (trees_of terms.now)) }
     {
-        let mut numbers = Numbers::new(self.alloc);
+        let mut numbers = Numbers::with_capacity(self.alloc, terms.len())?;
         for term in terms {
             numbers.push(self.intern(term)?)?;
         }
@@ -187,7 +183,8 @@ impl Nodes {
 
     // The number of the term with this root.
     fn find(&self, root: &Root) -> Option<u32>
-        ensures { (t : Tree) → HasRoot self.now (plain_root root.now) t → Finds self.now t result }
+        ensures { (t : Tree) → HasRoot self.now (plain_root root.now) t
+            → Finds self.now t result }
     {
         let place = self.roots.get_index_of(root)?;
         Some(place as u32)
@@ -226,17 +223,13 @@ impl Nodes {
         ensures grows { Grows self.old self.new }
         ensures named { IfOk result (λ n. IsNamed self.new n term) }
     {
-        let number = self.terms.len();
+        let number = self.len();
         if number >= MOST_TERMS {
             return Err(AllocError);
         }
-        self.terms.push(term)?;
-        match self.roots.insert(root) {
-            Ok(_) => Ok(number as u32),
-            Err(_) => {
-                self.terms.truncate(number);
-                Err(AllocError)
-            }
-        }
+        self.terms.reserve(1)?;
+        self.roots.insert(root)?;
+        self.terms.push_reserved(term);
+        Ok(number as u32)
     }
 }
