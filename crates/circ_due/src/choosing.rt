@@ -1,6 +1,5 @@
 //! Which replacement is due at the root of an interned term.
-ghost use Rattle.std.specs.Prelude.{◌≡◌, ◌<◌, length, IfOk, Some, None, []};
-ghost use Rattle.circ_term.specs.Tree.{operator_number};
+ghost use Rattle.std.specs.Prelude.{◌≡◌, ◌<◌, length, IfOk, None, []};
 ghost use Rattle.circ_rewrite.specs.Due.{assumed, ruled};
 ghost use Rattle.circ_due.specs.Bounds.{tree_at};
 ghost use Rattle.circ_due.specs.Chosen.{IsReady, Chooses, Fits, due_by};
@@ -31,32 +30,29 @@ pub(crate) fn choose_besides(
     if !is_canonical(means.theory, op, nodes.term(number)) {
         return Ok(Some(Choice::Content { op }));
     }
-    ruled(means, nodes, op, number)
+    ruled(means, nodes, number)
 }
 
-// The rules in the operator's row are tried in the order of their numbers.
-fn ruled(
-    means: &Means<'_>,
-    nodes: &Nodes,
-    op: u32,
-    number: u32,
-) -> Result<Option<Choice>, AllocError>
+// The rules in the term's two rows are tried in the order of their numbers.
+fn ruled(means: &Means<'_>, nodes: &Nodes, number: u32) -> Result<Option<Choice>, AllocError>
     requires ready { IsReady nodes.now means.now }
     requires there { number < length nodes.now }
-    requires root { operator_number (tree_at nodes.now number) ≡ Some op }
     ensures { IfOk result (Chooses nodes.now means.now (tree_at nodes.now number)
         (ruled means.now.rules.items (tree_at nodes.now number))) }
 {
     let mut given = Bounds::new(means.alloc);
-    let mut rule = means.rows.first(op);
-    while rule < means.rules.len() {
+    let mut near = means.rows.first_near(nodes.term(number));
+    let mut wide = means.rows.first_wide(nodes.term(number));
+    while near.min(wide) < means.rules.len() {
+        let rule = near.min(wide);
         if fits(nodes, &means.rules[rule], number, &mut given)? {
             return Ok(Some(Choice::Ruled {
                 rule: rule as u32,
                 given,
             }));
         }
-        rule = means.rows.after(rule);
+        near = means.rows.behind(near, rule);
+        wide = means.rows.behind(wide, rule);
     }
     Ok(None)
 }

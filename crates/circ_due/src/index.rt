@@ -1,16 +1,19 @@
-//! Rules in rows, by the operators at the roots of their left sides.
-ghost use Rattle.std.specs.Prelude.{◌≡◌, ◌<◌, ◌^◌, ◌%◌, length, IfOk, ℕ, Some, replicate, slice_set};
+//! Rules in rows, by the operators at the roots of their left sides and of the first arguments
+//! there.
+ghost use Rattle.std.specs.Prelude.{◌≡◌, ◌≤◌, ◌<◌, ◌^◌, length, IfOk, ℕ, Some, replicate, slice_set};
 ghost use Rattle.std.specs.List.{slice_get};
-ghost use Rattle.circ_rewrite.specs.Index.{row_of};
-ghost use Rattle.circ_due.specs.Rows.{IsIndex};
+ghost use Rattle.circ_term.specs.Tree.{trees_of};
+ghost use Rattle.circ_due.specs.Rows.{first_mark, row_at, row_of, wide_row, IsIndex};
 
 use circ_rewrite::Rule;
-use circ_term::Term;
+use circ_term::{Kind, Term};
 use std::alloc::{AllocError, Global};
 
-// Rules in rows. All rules with one operator at the root stand in one row, in the order of their
-// numbers: `heads` has the first of each row, and `next` has for each rule the next one. Past the
-// last stands the number of all rules. That a row has rules of several operators does no harm.
+// Rules in rows, each in the order of their numbers: `heads` has the first of each row, and `next`
+// has for each rule the next one. Past the last stands the number of all rules. A row is that of
+// an operator at the root and one at the root of the first argument, or of any first argument where
+// the left side has a variable or nothing there. So the rules for a term stand in two rows. That a
+// row has rules of several operators does no harm.
 #[derive(Drop)]
 pub(crate) struct Rows {
     heads: Vec<u32>,
@@ -34,22 +37,38 @@ impl Rows {
         Ok(Rows { heads, next })
     }
 
-    // The number of the first rule in the row of terms with this operator at the root, past all
-    // rules where there is none.
-    pub(crate) fn first(&self, op: u32) -> usize
+    // The number of the first rule in the term's row, past all rules where there is none.
+    pub(crate) fn first_near(&self, term: &Term) -> usize
         requires { 0 < length self.now.heads.items }
-        ensures { slice_get self.now.heads.items
-            (op % length self.now.heads.items) ≡ Some result }
+        ensures row { slice_get self.now.heads.items
+            (row_of (length self.now.heads.items) term.now) ≡ Some result }
+        ensures within { row_of (length self.now.heads.items) term.now
+            < length self.now.heads.items }
     {
-        number_at(self.heads.as_slice(), op as usize % self.heads.len())
+        number_at(self.heads.as_slice(), row_of(self.heads.len(), term))
     }
 
-    // The number of the next rule in the row of a rule.
-    pub(crate) fn after(&self, number: usize) -> usize
-        requires { number < length self.now.next.items }
-        ensures { slice_get self.now.next.items number ≡ Some result }
+    // The same in the row of the term's operator with any first argument.
+    pub(crate) fn first_wide(&self, term: &Term) -> usize
+        requires { 0 < length self.now.heads.items }
+        ensures row { slice_get self.now.heads.items
+            (wide_row (length self.now.heads.items) term.now) ≡ Some result }
+        ensures within { wide_row (length self.now.heads.items) term.now
+            < length self.now.heads.items }
     {
-        number_at(self.next.as_slice(), number)
+        number_at(self.heads.as_slice(), wide_row(self.heads.len(), term))
+    }
+
+    // A place in a row, where a rule was tried: behind that rule if it stands there.
+    pub(crate) fn behind(&self, place: usize, rule: usize) -> usize
+        requires { rule < length self.now.next.items }
+        ensures behind { place ≡ rule → slice_get self.now.next.items rule ≡ Some result }
+        ensures stays { (place ≡ rule → ⊥) → result ≡ place }
+    {
+        if place != rule {
+            return place;
+        }
+        number_at(self.next.as_slice(), rule)
     }
 }
 
@@ -58,9 +77,43 @@ fn row_of(width: usize, term: &Term) -> usize
     ensures value { result ≡ row_of width term.now }
     ensures within { result < width }
 {
+    match term.kind() {
+        Kind::Variable { .. } => 0,
+        Kind::Application { op, args, .. } => row_at(width, op, first_mark(args)),
+    }
+}
+
+fn wide_row(width: usize, term: &Term) -> usize
+    requires { 0 < width }
+    ensures value { result ≡ wide_row width term.now }
+    ensures within { result < width }
+{
     match term.op_number() {
-        Some(op) => op as usize % width,
         None => 0,
+        Some(op) => row_at(width, op, 0),
+    }
+}
+
+fn row_at(width: usize, op: u32, mark: usize) -> usize
+    requires wide { 0 < width }
+    requires small { mark ≤ 2 ^ 32 }
+    ensures value { result ≡ row_at width op mark }
+    ensures within { result < width }
+{
+    (op as usize * 1_000_003 + mark) % width
+}
+
+// 0 where the first argument is a variable or absent, and else one more than its operator.
+fn first_mark(args: &[Term]) -> usize
+    ensures value { result ≡ first_mark (trees_of args.now) }
+    ensures small { result ≤ 2 ^ 32 }
+{
+    let Some(first) = args.first() else {
+        return 0;
+    };
+    match first.op_number() {
+        None => 0,
+        Some(op) => op as usize + 1,
     }
 }
 

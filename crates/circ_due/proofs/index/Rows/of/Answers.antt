@@ -1,14 +1,16 @@
 use Rattle.std.proofs.Common.{◌≡◌, ◌-◌, length, ap, sym, ◌∙◌, subst, arith}
-use Rattle.circ_rewrite.specs.Index.{row_of, IsMade}
-use Rattle.circ_rewrite.proofs.Indexing.{made_start, made_next}
+use Rattle.std.proofs.lemmas.List.{length-map}
+use Rattle.circ_due.specs.Rows.{row_of, rows_of, IsMade}
+use Rattle.circ_due.proofs.Walking.{made_start, made_next}
 use Rattle.circ_due.proofs.index.Rows.of.Goals as goal
 
 pub loop-done-init : goal.loop-done-init
 loop-done-init c =
     let rules = c.args.rules.now in
+    let width = c.max-width.result in
     let all : length rules ≡ length rules - 0 = omega arith in
-    subst (λ n. IsMade c.max-width.result n rules c.in_ok-heads.heads.items c.in_ok-next.next.items) all
-    (rw (c.in_ok-heads.ensures, c.in_ok-next.ensures) (made_start c.max-width.result rules))
+    subst (λ n. IsMade width n (rows_of width rules) c.in_ok-heads.heads.items c.in_ok-next.next.items) all
+    (rw (c.in_ok-heads.ensures, c.in_ok-next.ensures) (made_start width (length rules) (rows_of width rules) (sym (length-map rules (λ r. row_of width r.left)))))
 
 pub loop-done-preserved : goal.loop-done-preserved
 loop-done-preserved c =
