@@ -6,7 +6,6 @@ use Rattle.circ_nodes.specs.Named.{Grows}
 use Rattle.circ_nodes.proofs.Numbers.{named_later}
 use Rattle.circ_rewrite.specs.Replacement.{Replacement}
 use Rattle.circ_rewrite.specs.declared.parts.Rule.{Rule}
-use Rattle.circ_due.specs.Bounds.{bounds_in}
 use Rattle.circ_due.specs.Chosen.{IsReady, IsFit, IsChoice, by_rule}
 use Rattle.circ_due.specs.declared.choice.Bound.{Bound}
 use Rattle.circ_due.specs.declared.choice.Choice.{Choice}
