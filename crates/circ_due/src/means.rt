@@ -1,18 +1,25 @@
 //! What is used to rewrite interned terms.
-ghost use Rattle.std.specs.Prelude.{◌≡◌, ◌<◌, ◌^◌, ℕ, List, [], length, IfOk, OnErr};
+ghost use Rattle.std.specs.Prelude.{◌≡◌, ◌<◌, ◌^◌, ℕ, List, [], length};
+ghost use Rattle.std.specs.Prelude.{IfOk, OnErr};
 ghost use Rattle.std.specs.List.{AllByRecursion};
 ghost use Rattle.circ_term.specs.Tree.{Tree};
 ghost use Rattle.circ_nodes.specs.Named.{IsNamed, Grows, Interns};
 ghost use Rattle.circ_rewrite.specs.Due.{IsRewriteRule};
 ghost use Rattle.circ_rewrite.specs.Plain.{plain_trace};
 ghost use Rattle.circ_rewrite.specs.Replacement.{Replacement, placed, traced};
-ghost use Rattle.circ_due.specs.Chosen.{IsReady, IsChoice, Chooses, due_by};
+ghost use Rattle.circ_due.specs.Chosen.{IsReady, IsChoice, IsChosen, Chooses, due_by};
 
+use crate::assuming::{Assumed, assumed_at, kept, share_goals};
+use crate::building::{canonical_form, instance};
 use crate::choice::Choice;
+use crate::choosing::choose_besides;
+use crate::index::Rows;
+use crate::tracing::terms_given;
 use circ_nodes::Nodes;
 use circ_rewrite::{Rule, Trace};
-use circ_term::TermFault;
+use circ_term::{Path, TermFault};
 use circ_theory::{Goal, Theory};
+use indexmap::IndexMap;
 use std::alloc::{AllocError, Global};
 
 /// A theory's marked operators, rules and assumptions, by which terms of one table are rewritten.
@@ -26,15 +33,14 @@ pub struct Means<'a> {
     pub rules: Vec<Rule>,
     /// The assumptions, which are tried first.
     pub assumptions: Vec<Goal>,
+    // The rules by their roots, and the assumptions by the numbers of their left sides.
+    pub(crate) rows: Rows,
+    pub(crate) assumed: IndexMap<u32, Assumed>,
 }
 
 impl<'a> Means<'a> {
     /// These rules, and no assumptions.
-    pub fn new(
-        alloc: Global,
-        theory: &'a Theory,
-        rules: Vec<Rule>,
-    ) -> Result<Means<'a>, AllocError>
+    pub fn new(alloc: Global, theory: &'a Theory, rules: Vec<Rule>) -> Result<Means<'a>, AllocError>
         requires rewrite { AllByRecursion IsRewriteRule rules.items }
         requires few { length rules.items < 2 ^ 32 }
         ensures ready { (nodes : List Tree) → IfOk result (IsReady nodes) }
@@ -42,7 +48,15 @@ impl<'a> Means<'a> {
         ensures rules { IfOk result (λ m. m.rules.items ≡ rules.items) }
         ensures assumptions { IfOk result (λ m. m.assumptions.items ≡ []) }
     {
-        Err(AllocError)
+        let rows = Rows::of(alloc, rules.as_slice())?;
+        Ok(Means {
+            alloc,
+            theory,
+            rules,
+            assumptions: Vec::new(alloc),
+            rows,
+            assumed: IndexMap::new(alloc),
+        })
     }
 
     /// Puts these assumptions in place of those before. After want of memory there are none.
@@ -56,8 +70,13 @@ impl<'a> Means<'a> {
         ensures assumptions { IfOk result (λ _. self.new.assumptions.items ≡ assumptions.now) }
         ensures forgotten { OnErr result (self.new.assumptions.items ≡ []) }
     {
-        self.assumptions.truncate(0);
-        Err(AllocError)
+        self.assumptions = Vec::new(self.alloc);
+        self.assumed = IndexMap::new(self.alloc);
+        let goals = share_goals(self.alloc, assumptions)?;
+        let assumed = kept(self.alloc, nodes, assumptions)?;
+        self.assumptions = goals;
+        self.assumed = assumed;
+        Ok(())
     }
 
     /// What is due at the root of the term of this number.
@@ -67,18 +86,33 @@ impl<'a> Means<'a> {
         ensures { (t : Tree) → IsNamed nodes.now number t
             → IfOk result (Chooses nodes.now self.now t (due_by self.now t)) }
     {
-        Err(AllocError)
+        nodes.known();
+        match assumed_at(&self.assumed, number) {
+            Some(choice) => Ok(Some(choice)),
+            None => choose_besides(self, nodes, number),
+        }
     }
 
     /// The number of the term that replaces the term of this number.
     pub fn build(&self, nodes: &mut Nodes, number: u32, choice: &Choice) -> Result<u32, TermFault>
         requires ready { IsReady nodes.old self.now }
         requires there { number < length nodes.old }
+        requires chosen { IsChosen nodes.old self.now choice.now }
         ensures grows { Grows nodes.old nodes.new }
         ensures interns { (t : Tree) (r : Replacement) → IsNamed nodes.old number t
             → IsChoice nodes.old self.now t choice.now r → Interns nodes.new result r.new }
     {
-        Err(TermFault::Memory)
+        match choice {
+            Choice::Assumed { right, .. } => {
+                nodes.term(*right).known();
+                Ok(*right)
+            }
+            Choice::Content { op } => canonical_form(self.alloc, self.theory, nodes, *op, number),
+            Choice::Ruled { rule, given } => {
+                let rule = &self.rules[*rule as usize];
+                instance(self.alloc, nodes, given.as_slice(), &rule.right)
+            }
+        }
     }
 
     /// The trace of a replacement at a path in the whole term, by the new term's number.
@@ -91,10 +125,27 @@ impl<'a> Means<'a> {
     ) -> Result<Trace, AllocError>
         requires ready { IsReady nodes.now self.now }
         requires there { new < length nodes.now }
+        requires chosen { IsChosen nodes.now self.now choice.now }
         ensures { (t : Tree) (r : Replacement) → IsNamed nodes.now new r.new
             → IsChoice nodes.now self.now t choice.now r
             → IfOk result (λ x. plain_trace x ≡ traced (placed path.now r)) }
     {
-        Err(AllocError)
+        let path = Path::from_slice(self.alloc, path)?;
+        match choice {
+            Choice::Assumed { number, .. } => Ok(Trace::Assumed {
+                number: *number,
+                path,
+            }),
+            Choice::Content { op } => Ok(Trace::Content {
+                op: *op,
+                path,
+                term: nodes.term(new).share()?,
+            }),
+            Choice::Ruled { rule, given } => Ok(Trace::Rewrite {
+                name: self.rules[*rule as usize].name,
+                path,
+                terms: terms_given(self.alloc, nodes, given.as_slice())?,
+            }),
+        }
     }
 }
