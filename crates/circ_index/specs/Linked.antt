@@ -1,5 +1,5 @@
 -- Places in rows: each row leads through its places in increasing order.
-use Rattle.std.specs.Prelude.{◌≡◌, ℕ, ◌+◌, ◌%◌, ◌≤◌, ◌<◌, ◌^◌, List, length, Some, refl}
+use Rattle.std.specs.Prelude.{◌≡◌, ℕ, ◌+◌, ◌%◌, ◌≤◌, ◌<◌, ◌^◌, List, length, slice_index, Some, refl}
 use Rattle.std.proofs.Common.{◌⊎◌}
 use Rattle.std.specs.List.{slice_get}
 use Rattle.std.specs.Coded.{Coded, code_by, coded×, coded_ℕ, coded_list}
@@ -14,17 +14,17 @@ pub record Keyed : Type 0 where
 abbrev pub keyed_code : Coded Keyed
 keyed_code = code_by (ℕ × List ℕ) (coded× coded_ℕ (coded_list coded_ℕ)) (λ x. (x.width, x.keys)) (λ p. record { width = p.0; keys = p.1 }) (λ _. refl)
 
--- a place with this key stands in the row that the key leaves when divided by the number of rows
+-- of the first `count` places, n is one whose key belongs to the row
 abbrev pub StandsIn : (keys : List ℕ) (width count row n : ℕ) → Type 0
-StandsIn keys width count row n = (n < count) × ((k : ℕ) × (slice_get keys n ≡ Some k) × (k % width ≡ row))
+StandsIn keys width count row n = (n < count) × (slice_index keys n % width ≡ row)
 
--- Of the first `count` places, n is the least in the row at or above `from`, or the end where there is none.
+-- Of the first `count` places, n is the least in the row at or above `from`; the end where there is none.
 pub record IsNext (keys : List ℕ) (width count row from n : ℕ) : Type 0 where
   pub ahead : from ≤ n
   pub skips : (m : ℕ) → from ≤ m → m < n → StandsIn keys width count row m → ⊥
   pub stands : (n ≡ END) ⊎ StandsIn keys width count row n
 
--- Of the first `count` places, n is the last in the row, or the end where there is none.
+-- Of the first `count` places, n is the last in the row; the end where there is none.
 pub record IsLast (keys : List ℕ) (width count row n : ℕ) : Type 0 where
   pub above : (m : ℕ) → StandsIn keys width count row m → (m ≤ n) × (n < END)
   pub stands : (n ≡ END) ⊎ StandsIn keys width count row n
@@ -33,8 +33,7 @@ pub record IsLast (keys : List ℕ) (width count row n : ℕ) : Type 0 where
 pub record IsLinked (keys next : List ℕ) (rows : List Row) (count : ℕ) : Type 0 where
   pub firsts : (row : ℕ) (x : Row) → slice_get rows row ≡ Some x → IsNext keys (length rows) count row 0 x.first
   pub lasts : (row : ℕ) (x : Row) → slice_get rows row ≡ Some x → IsLast keys (length rows) count row x.last
-  pub nexts : (m k n : ℕ) → m < count → slice_get keys m ≡ Some k → slice_get next m ≡ Some n
-      → IsNext keys (length rows) count (k % length rows) (m + 1) n
+  pub nexts : (m : ℕ) → m < count → IsNext keys (length rows) count (slice_index keys m % length rows) (m + 1) (slice_index next m)
 
 -- What rows keep: they lead through all places, of which there are few.
 pub record AreRows (keys next : List ℕ) (rows : List Row) : Type 0 where
@@ -43,7 +42,12 @@ pub record AreRows (keys next : List ℕ) (rows : List Row) : Type 0 where
   pub wide : length keys ≤ length rows
   pub few : length keys < 2 ^ 32
 
--- Each number is the next place at or above `from` of the row of the key beside it.
-abbrev pub AreAhead : Keyed → (keys : List ℕ) (from : ℕ) (ahead : List ℕ) → Type 0
-AreAhead x keys from ahead =
-    (i k n : ℕ) → slice_get keys i ≡ Some k → slice_get ahead i ≡ Some n → IsNext x.keys x.width (length x.keys) (k % x.width) from n
+-- The numbers are the next places at or above `from` in the rows of the keys beside them.
+pub record AreAhead (x : Keyed) (keys : List ℕ) (from : ℕ) (ahead : List ℕ) : Type 0 where
+  pub long : length ahead ≡ length keys
+  pub next : (i : ℕ) → i < length keys → IsNext x.keys x.width (length x.keys) (slice_index keys i % x.width) from (slice_index ahead i)
+
+-- Of the first `count` places, none of the row stands at or above `from` and before n, and n is in it or the end.
+pub record IsNear (keys : List ℕ) (width count row from n : ℕ) : Type 0 where
+  pub skips : (m : ℕ) → from ≤ m → m < n → StandsIn keys width count row m → ⊥
+  pub stands : (n ≡ END) ⊎ StandsIn keys width count row n

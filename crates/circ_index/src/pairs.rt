@@ -1,5 +1,8 @@
 //! The first of many pairs that has two terms as an instance, one way or the other.
-ghost use Rattle.std.specs.Prelude.{◌≡◌, ◌+◌, ◌<◌, ◌^◌, [], ◌∷◌, ◌++◌, length, IfOk, OnOk, OnErr};
+ghost use Rattle.std.specs.Prelude.{◌≡◌, ◌+◌, ◌<◌, ◌^◌, [], ◌∷◌, ◌++◌, length, Some, IfOk};
+ghost use Rattle.std.specs.Prelude.{OnOk, OnErr};
+ghost use Rattle.std.specs.List.{slice_get};
+ghost use Rattle.circ_term.specs.Tree.{Tree};
 ghost use Rattle.circ_index.specs.Finding.{FindsFirstPair, PairMatches, both_ways};
 
 use crate::keys::{pair_key, pair_keys};

@@ -1,7 +1,6 @@
 //! Places in rows by their keys.
 ghost use Rattle.std.specs.Prelude.{◌≡◌, ◌+◌, ◌%◌, ◌≤◌, ◌<◌, ◌*◌, ◌^◌};
-ghost use Rattle.std.specs.Prelude.{ℕ, List, ◌++◌, length, OnOk, OnErr};
-ghost use Rattle.std.specs.List.{slice_get};
+ghost use Rattle.std.specs.Prelude.{ℕ, List, ◌++◌, length, slice_index, OnOk, OnErr};
 ghost use Rattle.circ_index.specs.Linked.{IsLinked, IsNext, AreAhead};
 
 use std::alloc::{AllocError, Global};
@@ -103,7 +102,7 @@ impl Rows {
     pub(crate) fn pass(&self, place: u32, ahead: &mut [u32])
         requires { place < length self.now.keys }
         ensures { (keys : List ℕ) (from : ℕ) → AreAhead self.now keys from ahead.old
-            → ((i n : ℕ) → slice_get ahead.old i ≡ Some n → place ≤ n)
+            → ((i : ℕ) → i < length ahead.old → place ≤ slice_index ahead.old i)
             → AreAhead self.now keys (place + 1) ahead.new }
     {
         for here in ahead {
@@ -131,7 +130,7 @@ impl Rows {
 
 // The least of these places, past all where there is none.
 pub(crate) fn least(ahead: &[u32]) -> u32
-    ensures below { (i n : ℕ) → slice_get ahead.now i ≡ Some n → result ≤ n }
+    ensures { (i : ℕ) → i < length ahead.now → result ≤ slice_index ahead.now i }
 {
     let mut least = END;
     for here in ahead {
