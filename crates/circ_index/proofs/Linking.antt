@@ -2,21 +2,14 @@
 use Rattle.std.proofs.Common.{◌≡◌, ℕ, ◌+◌, ◌%◌, ◌≤◌, ◌<◌, ◌^◌, min, zero, suc, Bool, true, false, ◌==◌, List, [], ◌∷◌, ◌++◌, take, length, get_or, Some, None, refl, ap, sym, subst, ◌∙◌, arith, ◌⊎◌, inl, inr}
 use Rattle.std.specs.Prelude.{slice_set, slice_index, replicate}
 use Rattle.std.specs.List.{slice_get}
-use Rattle.std.proofs.lemmas.Bool.{eqb-true, eq-eqb}
+use Rattle.std.proofs.lemmas.Bool.{cases_eq}
 use Rattle.std.proofs.lemmas.List.{length-set, get_or-set_same, get_or-set_other}
 use Rattle.std.proofs.lemmas.Option.{same_Some}
 use Rattle.circ_index.specs.Linked.{StandsIn, IsNext, IsLast, IsLinked}
 use Rattle.circ_index.specs.declared.rows.Row.{Row}
 use Rattle.circ_index.specs.declared.rows.TheConstants.{END}
 
--- ---- which of two cases
-
-same_or_not : (m n : ℕ) → (m ≡ n) ⊎ (m ≡ n → ⊥)
-same_or_not m n = go (m == n) refl
-  where
-    go : (b : Bool) → (m == n) ≡ b → (m ≡ n) ⊎ (m ≡ n → ⊥)
-    go true e = inl (eqb-true m n e)
-    go false e = inr (λ s. absurd (let y = sym e ∙ eq-eqb m n s in cc))
+-- ---- what is read where a row was written
 
 get_put : (xs : List Row) (i : ℕ) (x y : Row) → slice_get (slice_set xs i x) i ≡ Some y → x ≡ y
 get_put [] i x y g = absurd (cc)
@@ -34,7 +27,7 @@ get_other (z ∷ xs) (suc i) (suc j) x y h g = get_other xs i j x y (λ e. h (ap
 
 -- in its own row it is there, in another it is not
 stands_before : (keys : List ℕ) (w count row m : ℕ) → (slice_index keys count % w ≡ row → ⊥) → StandsIn keys w (count + 1) row m → StandsIn keys w count row m
-stands_before keys w count row m apart s = go (same_or_not m count)
+stands_before keys w count row m apart s = go (cases_eq m count)
   where
     go : (m ≡ count) ⊎ (m ≡ count → ⊥) → StandsIn keys w count row m
     go (inl e) = absurd (apart (ap (λ n. slice_index keys n % w) (sym e) ∙ s.1))
@@ -103,7 +96,7 @@ behind_last keys w count row last is below h =
 -- the places behind the others
 behind : (keys : List ℕ) (w count row last m n : ℕ) → slice_index keys count % w ≡ row → IsLast keys w count row last → m < count → (m ≡ last → ⊥)
     → IsNext keys w count (slice_index keys m % w) (m + 1) n → IsNext keys w (count + 1) (slice_index keys m % w) (m + 1) n
-behind keys w count row last m n is h below other old = go (same_or_not row (slice_index keys m % w))
+behind keys w count row last m n is h below other old = go (cases_eq row (slice_index keys m % w))
   where
     go : (row ≡ slice_index keys m % w) ⊎ (row ≡ slice_index keys m % w → ⊥) → IsNext keys w (count + 1) (slice_index keys m % w) (m + 1) n
     go (inr apart) = next_apart keys w count (slice_index keys m % w) (m + 1) n (λ e. apart (sym is ∙ e)) old
@@ -119,7 +112,7 @@ behind keys w count row last m n is h below other old = go (same_or_not row (sli
         there (inl z) (inr l) = absurd (old.skips last (strictly top.0) (omega (arith, top.1)) (l.0, l.1 ∙ e))
           where
             strictly : m ≤ last → m + 1 ≤ last
-            strictly le = go_on (same_or_not m last)
+            strictly le = go_on (cases_eq m last)
               where
                 go_on : (m ≡ last) ⊎ (m ≡ last → ⊥) → m + 1 ≤ last
                 go_on (inl s) = absurd (other s)
@@ -138,9 +131,9 @@ linked_more : (keys next new_next : List ℕ) (rows : List Row) (count row : ℕ
     → slice_index keys count % length rows ≡ row → slice_get rows row ≡ Some x
     → IsLinked keys (slice_set new_next count END) (slice_set rows row (record { first = min x.first count; last = count })) (count + 1)
 linked_more keys next new_next rows count row x h few on is there = record {
-  firsts = λ r y g. subst (λ n. IsNext keys n (count + 1) r 0 y.first) (sym wide) (firsts r y g (same_or_not row r));
-  lasts = λ r y g. subst (λ n. IsLast keys n (count + 1) r y.last) (sym wide) (lasts r y g (same_or_not row r));
-  nexts = λ m below. subst (λ n. IsNext keys n (count + 1) (slice_index keys m % n) (m + 1) (slice_index (slice_set new_next count END) m)) (sym wide) (nexts m below (same_or_not m count));
+  firsts = λ r y g. subst (λ n. IsNext keys n (count + 1) r 0 y.first) (sym wide) (firsts r y g (cases_eq row r));
+  lasts = λ r y g. subst (λ n. IsLast keys n (count + 1) r y.last) (sym wide) (lasts r y g (cases_eq row r));
+  nexts = λ m below. subst (λ n. IsNext keys n (count + 1) (slice_index keys m % n) (m + 1) (slice_index (slice_set new_next count END) m)) (sym wide) (nexts m below (cases_eq m count));
 }
   where
     w : ℕ
@@ -184,7 +177,7 @@ linked_more keys next new_next rows count row x h few on is there = record {
 
     nexts : (m : ℕ) → m < count + 1 → (m ≡ count) ⊎ (m ≡ count → ⊥)
         → IsNext keys (length rows) (count + 1) (slice_index keys m % length rows) (m + 1) (slice_index (slice_set new_next count END) m)
-    nexts m below (inr other) = let under : m < count = omega arith in old m under (same_or_not m x.last)
+    nexts m below (inr other) = let under : m < count = omega arith in old m under (cases_eq m x.last)
     nexts m below (inl e) =
         subst (λ n. IsNext keys (length rows) (count + 1) (slice_index keys n % length rows) (n + 1) (slice_index (slice_set new_next count END) n)) (sym e)
         (subst (IsNext keys (length rows) (count + 1) (slice_index keys count % length rows) (count + 1)) (sym (get_or-set_same new_next count END 0 on.long))
@@ -217,11 +210,41 @@ linked_alone keys next rows count row x h few long is there past =
     linked_more keys next next rows count row x h few
     (record { long = long; at_last = λ below. absurd (omega arith); at_other = λ m other below. refl }) is there
 
--- ---- none, and lists that are longer
+-- ---- lists that are longer
 
-pub linked_none : (keys next : List ℕ) (rows : List Row) → ((row : ℕ) (x : Row) → slice_get rows row ≡ Some x → (x.first ≡ END) × (x.last ≡ END)) → IsLinked keys next rows 0
-linked_none keys next rows empty = record {
-  firsts = λ row x g. record { ahead = omega arith; skips = λ m a b s. absurd (omega (arith, s.0)); stands = inl (empty row x g).0 };
-  lasts = λ row x g. record { above = λ m s. absurd (omega (arith, s.0)); stands = inl (empty row x g).1 };
-  nexts = λ m below. absurd (omega arith);
+stands_alike : (keys new_keys : List ℕ) (w count row n : ℕ) → ((m : ℕ) → m < count → slice_index new_keys m ≡ slice_index keys m) → StandsIn new_keys w count row n → StandsIn keys w count row n
+stands_alike keys new_keys w count row n same s = (s.0, ap (λ k. k % w) (sym (same n s.0)) ∙ s.1)
+
+next_alike : (keys new_keys : List ℕ) (w count row from n : ℕ) → ((m : ℕ) → m < count → slice_index new_keys m ≡ slice_index keys m)
+    → IsNext keys w count row from n → IsNext new_keys w count row from n
+next_alike keys new_keys w count row from n same h = record {
+  ahead = h.ahead;
+  skips = λ m a b s. h.skips m a b (stands_alike keys new_keys w count row m same s);
+  stands = there h.stands;
+}
+  where
+    there : (n ≡ END) ⊎ StandsIn keys w count row n → (n ≡ END) ⊎ StandsIn new_keys w count row n
+    there (inl e) = inl e
+    there (inr s) = inr (s.0, ap (λ k. k % w) (same n s.0) ∙ s.1)
+
+last_alike : (keys new_keys : List ℕ) (w count row n : ℕ) → ((m : ℕ) → m < count → slice_index new_keys m ≡ slice_index keys m)
+    → IsLast keys w count row n → IsLast new_keys w count row n
+last_alike keys new_keys w count row n same h = record {
+  above = λ m s. h.above m (stands_alike keys new_keys w count row m same s);
+  stands = there h.stands;
+}
+  where
+    there : (n ≡ END) ⊎ StandsIn keys w count row n → (n ≡ END) ⊎ StandsIn new_keys w count row n
+    there (inl e) = inl e
+    there (inr s) = inr (s.0, ap (λ k. k % w) (same n s.0) ∙ s.1)
+
+pub linked_alike : (keys new_keys next new_next : List ℕ) (rows : List Row) (count : ℕ) → ((m : ℕ) → m < count → slice_index new_keys m ≡ slice_index keys m)
+    → ((m : ℕ) → m < count → slice_index new_next m ≡ slice_index next m) → IsLinked keys next rows count → IsLinked new_keys new_next rows count
+linked_alike keys new_keys next new_next rows count same alike h = record {
+  firsts = λ row x g. next_alike keys new_keys (length rows) count row 0 x.first same (h.firsts row x g);
+  lasts = λ row x g. last_alike keys new_keys (length rows) count row x.last same (h.lasts row x g);
+  nexts = λ m below.
+      subst (λ k. IsNext new_keys (length rows) count (k % length rows) (m + 1) (slice_index new_next m)) (sym (same m below))
+      (subst (IsNext new_keys (length rows) count (slice_index keys m % length rows) (m + 1)) (sym (alike m below))
+      (next_alike keys new_keys (length rows) count (slice_index keys m % length rows) (m + 1) (slice_index next m) same (h.nexts m below)));
 }

@@ -51,3 +51,8 @@ pub record AreAhead (x : Keyed) (keys : List ℕ) (from : ℕ) (ahead : List ℕ
 pub record IsNear (keys : List ℕ) (width count row from n : ℕ) : Type 0 where
   pub skips : (m : ℕ) → from ≤ m → m < n → StandsIn keys width count row m → ⊥
   pub stands : (n ≡ END) ⊎ StandsIn keys width count row n
+
+-- The least of these places, or the end where that is less.
+pub record IsLeast (ahead : List ℕ) (n : ℕ) : Type 0 where
+  pub below : (i : ℕ) → i < length ahead → n ≤ slice_index ahead i
+  pub greatest : (m : ℕ) → m ≤ END → ((i : ℕ) → i < length ahead → m ≤ slice_index ahead i) → m ≤ n

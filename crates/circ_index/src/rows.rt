@@ -1,7 +1,7 @@
 //! Places in rows by their keys.
 ghost use Rattle.std.specs.Prelude.{◌≡◌, ◌+◌, ◌%◌, ◌≤◌, ◌<◌, ◌*◌, ◌^◌};
-ghost use Rattle.std.specs.Prelude.{ℕ, List, ◌++◌, length, slice_index, OnOk, OnErr};
-ghost use Rattle.circ_index.specs.Linked.{IsLinked, IsNext, AreAhead};
+ghost use Rattle.std.specs.Prelude.{ℕ, List, ◌++◌, length, OnOk, OnErr};
+ghost use Rattle.circ_index.specs.Linked.{IsLinked, IsNext, AreAhead, IsLeast};
 
 use std::alloc::{AllocError, Global};
 use std::marker::Model;
@@ -101,8 +101,7 @@ impl Rows {
     // The places behind one of them.
     pub(crate) fn pass(&self, place: u32, ahead: &mut [u32])
         requires { place < length self.now.keys }
-        ensures { (keys : List ℕ) (from : ℕ) → AreAhead self.now keys from ahead.old
-            → ((i : ℕ) → i < length ahead.old → place ≤ slice_index ahead.old i)
+        ensures { (keys : List ℕ) → AreAhead self.now keys place ahead.old
             → AreAhead self.now keys (place + 1) ahead.new }
     {
         for here in ahead {
@@ -128,9 +127,9 @@ impl Rows {
     }
 }
 
-// The least of these places, past all where there is none.
+// The least of these places, past all places where there is none.
 pub(crate) fn least(ahead: &[u32]) -> u32
-    ensures { (i : ℕ) → i < length ahead.now → result ≤ slice_index ahead.now i }
+    ensures { IsLeast ahead.now result }
 {
     let mut least = END;
     for here in ahead {

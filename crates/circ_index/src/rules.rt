@@ -1,6 +1,7 @@
 //! The first of many left sides that has a term as an instance.
-ghost use Rattle.std.specs.Prelude.{◌≡◌, ◌<◌, ◌^◌, length, IfOk};
+ghost use Rattle.std.specs.Prelude.{◌≡◌, ◌<◌, ◌^◌, length, map, IfOk};
 ghost use Rattle.circ_index.specs.Finding.{FindsFirst};
+ghost use Rattle.circ_index.specs.Keys.{left_key};
 
 use crate::keys::{left_key, term_keys};
 use crate::rows::{Rows, least};
@@ -40,10 +41,7 @@ impl RuleIndex {
         requires { length lefts.items < 2 ^ 32 }
         ensures { IfOk result (λ x. x ≡ lefts.items) }
     {
-        let mut keys = Vec::with_capacity(alloc, lefts.len())?;
-        for left in &lefts {
-            keys.push(left_key(left))?;
-        }
+        let keys = left_keys(alloc, lefts.as_slice())?;
         let mut rows = Rows::new(alloc);
         rows.add(keys.as_slice())?;
         Ok(RuleIndex { alloc, lefts, rows })
@@ -65,4 +63,14 @@ impl RuleIndex {
         }
         Ok(None)
     }
+}
+
+fn left_keys(alloc: Global, lefts: &[Term]) -> Result<Vec<u64>, AllocError>
+    ensures { IfOk result (λ v. v.items ≡ map left_key lefts.now) }
+{
+    let mut keys = Vec::with_capacity(alloc, lefts.len())?;
+    for left in lefts {
+        keys.push(left_key(left))?;
+    }
+    Ok(keys)
 }
