@@ -74,7 +74,7 @@ impl PairIndex {
         let mut ahead = [0; 4];
         self.rows.start(&pair_keys(a, b), from, &mut ahead);
         let mut place = least(&ahead);
-        while (place as usize) / 2 < self.pairs.len() {
+        while place as usize / 2 < self.pairs.len() {
             match self.try_at(place, a, b)? {
                 Some(subst) => return Ok(Some((place, subst))),
                 None => self.rows.pass(place, &mut ahead),
