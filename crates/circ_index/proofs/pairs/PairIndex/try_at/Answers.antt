@@ -13,7 +13,21 @@ index-requires c =
     omega (arith, c.requires, ap (λ ps. length (both_ways ps)) c.self.view_is, length-both_ways x.pairs.items, x.pairs.ok.0)
 
 pub returns-then-place-eq0 : goal.returns-then-place-eq0
-returns-then-place-eq0 c = λ p g. let u = c.match_pair.ensures in let v = c.index.ensures in ?
+returns-then-place-eq0 c = λ p g.
+    let x = c.self.inside in
+    let q = c.index.result.now in
+    let here : slice_get (both_ways c.args.self.now) c.args.place ≡ Some q =
+    ap (λ ps. slice_get (both_ways ps) c.args.place) (sym c.self.view_is) ∙ pair_there c.self.inside.pairs.items c.args.place q 
+    (slice_get_read x.pairs.items (length x.pairs.items) (c.args.place / 2) q refl
+    (omega (arith, c.requires, ap (λ ps. length (both_ways ps)) c.self.view_is, length-both_ways x.pairs.items)) c.index.ensures) c.if-place-eq0.true in
+    subst (λ r. IfOk c.match_pair.result (PairMatches c.args.a.now c.args.b.now r)) (same_Some q p (sym here ∙ g)) c.match_pair.ensures
 
 pub returns-else-place-eq0 : goal.returns-else-place-eq0
-returns-else-place-eq0 c = λ p g. let u = c.match_pair-else-place-eq0.ensures in ?
+returns-else-place-eq0 c = λ p g.
+    let x = c.self.inside in
+    let q = c.index.result.now in
+    let here : slice_get (both_ways c.args.self.now) c.args.place ≡ Some (q.1, q.0) =
+    ap (λ ps. slice_get (both_ways ps) c.args.place) (sym c.self.view_is) ∙ pair_turned c.self.inside.pairs.items c.args.place q 
+    (slice_get_read x.pairs.items (length x.pairs.items) (c.args.place / 2) q refl
+    (omega (arith, c.requires, ap (λ ps. length (both_ways ps)) c.self.view_is, length-both_ways x.pairs.items)) c.index.ensures) c.if-place-eq0.false in
+    subst (λ r. IfOk c.match_pair-else-place-eq0.result (PairMatches c.args.a.now c.args.b.now r)) (same_Some (q.1, q.0) p (sym here ∙ g)) c.match_pair-else-place-eq0.ensures
