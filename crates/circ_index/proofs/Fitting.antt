@@ -1,10 +1,10 @@
 -- A pattern that matches has one of the keys that are looked for.
-use Rattle.std.proofs.Common.{◌≡◌, ℕ, ◌<◌, List, [], ◌∷◌, refl, ap, sym, ◌∙◌, arith, ◌⊎◌, inl, inr}
+use Rattle.std.proofs.Common.{◌≡◌, ℕ, ◌<◌, refl, ap, ◌∙◌, arith, ◌⊎◌, inl, inr}
 use Rattle.std.specs.Prelude.{slice_index}
-use Rattle.circ_term.specs.Tree.{Tree, Trees, Var, App, none, more}
+use Rattle.circ_term.specs.Tree.{Tree, Var, App, none, more}
 use Rattle.circ_term.specs.Substitution.{Substitution, instance}
 use Rattle.circ_index.specs.Finding.{LeftMatches, PairMatches}
-use Rattle.circ_index.specs.Keys.{root, first_root, key, left_key, term_keys, pair_key, pair_keys}
+use Rattle.circ_index.specs.Keys.{root, key, left_key, term_keys, pair_key, pair_keys}
 use Rattle.circ_index.specs.declared.keys.TheConstants.{ANY}
 use Rattle.circ_index.proofs.Seeking.{Fits}
 

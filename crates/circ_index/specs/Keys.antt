@@ -1,6 +1,6 @@
 -- Keys: what is seen of a pattern or a term at its root.
 use Rattle.std.specs.Prelude.{ℕ, ◌+◌, ◌*◌, List, [], ◌∷◌}
-use Rattle.circ_term.specs.Tree.{Tree, Trees, Var, App, none, more}
+use Rattle.circ_term.specs.Tree.{Tree, Var, App, none, more}
 use Rattle.circ_index.specs.declared.keys.TheConstants.{ANY}
 
 -- the operator at the root; a variable can become any term

@@ -47,11 +47,6 @@ pub record AreAhead (x : Keyed) (keys : List ℕ) (from : ℕ) (ahead : List ℕ
   pub long : length ahead ≡ length keys
   pub next : (i : ℕ) → i < length keys → IsNext x.keys x.width (length x.keys) (slice_index keys i % x.width) from (slice_index ahead i)
 
--- Of the first `count` places, none of the row stands at or above `from` and before n, and n is in it or the end.
-pub record IsNear (keys : List ℕ) (width count row from n : ℕ) : Type 0 where
-  pub skips : (m : ℕ) → from ≤ m → m < n → StandsIn keys width count row m → ⊥
-  pub stands : (n ≡ END) ⊎ StandsIn keys width count row n
-
 -- The least of these places, or the end where that is less.
 pub record IsLeast (ahead : List ℕ) (n : ℕ) : Type 0 where
   pub below : (i : ℕ) → i < length ahead → n ≤ slice_index ahead i

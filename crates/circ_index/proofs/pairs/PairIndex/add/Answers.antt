@@ -1,4 +1,4 @@
-use Rattle.std.proofs.Common.{◌≡◌, ◌<◌, ◌+◌, ◌*◌, ◌++◌, ◌∷◌, [], length, arith, refl, sym, subst, ap, ◌∙◌}
+use Rattle.std.proofs.Common.{◌∷◌, [], length, arith, ap}
 use Rattle.std.proofs.lemmas.List.{length-map, length-append}
 use Rattle.circ_term.specs.Tree.{Tree}
 use Rattle.circ_index.specs.Finding.{both_ways}

@@ -1,7 +1,6 @@
-use Rattle.std.proofs.Common.{◌≡◌, ◌<◌, ◌≤◌, ◌+◌, ◌*◌, ◌/◌, length, Some, None, arith, refl, sym, subst, ap, ◌∙◌}
+use Rattle.std.proofs.Common.{◌≡◌, ◌<◌, length, Some, None, arith, sym, subst, ap, ◌∙◌}
 use Rattle.std.specs.List.{slice_get}
 use Rattle.std.proofs.lemmas.List.{length-map}
-use Rattle.circ_term.specs.Tree.{Tree}
 use Rattle.circ_index.specs.Finding.{PairMatches, FindsFirstPair, both_ways}
 use Rattle.circ_index.specs.Keys.{pair_key, pair_keys}
 use Rattle.circ_index.specs.Linked.{AreAhead}
@@ -38,7 +37,7 @@ pass-requires c = omega (arith, place_within c.self.inside.pairs.items c.len.res
 
 went : (c : goal.After-least-place-in-loop-place)
     → IsSought (PairMatches c.args.a.now c.args.b.now) (both_ways c.self.inside.pairs.items) c.self.inside.rows (pair_keys c.args.a.now c.args.b.now) c.args.from
-        c.least-place-in-loop-place.result c.pass.new.ahead
+    c.least-place-in-loop-place.result c.pass.new.ahead
     × (c.loop-place.place < c.least-place-in-loop-place.result)
 went c =
     let x = c.self.inside in

@@ -1,12 +1,11 @@
-use Rattle.std.proofs.Common.{◌≡◌, ◌<◌, ◌≤◌, ◌+◌, length, Some, None, arith, refl, sym, subst, ◌∙◌}
+use Rattle.std.proofs.Common.{◌≡◌, ◌<◌, length, Some, None, arith, refl, sym, subst, ◌∙◌}
 use Rattle.std.specs.List.{slice_get}
 use Rattle.std.proofs.lemmas.Option.{same_Some, slice_get_read}
-use Rattle.circ_term.specs.Tree.{Tree}
 use Rattle.circ_index.specs.Finding.{LeftMatches, FindsFirst}
 use Rattle.circ_index.specs.Keys.{left_key, term_keys}
 use Rattle.circ_index.specs.Linked.{AreAhead}
 use Rattle.circ_index.proofs.Fitting.{left_fits}
-use Rattle.circ_index.proofs.Seeking.{IsSought, sought_first, sought_next, sought_found, sought_none}
+use Rattle.circ_index.proofs.Seeking.{IsSought, sought_first, sought_next, sought_found}
 use Rattle.circ_index.proofs.rules.RuleIndex.first.Goals as goal
 
 pub loop-place-init : goal.loop-place-init
