@@ -1,0 +1,4 @@
+pub mod Finding
+pub mod Keys
+pub mod Linked
+pub mod Keyed
