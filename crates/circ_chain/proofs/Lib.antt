@@ -1,0 +1,5 @@
+pub mod Standings
+pub mod Chains
+pub mod Tops
+pub mod Settling
+pub mod Roots

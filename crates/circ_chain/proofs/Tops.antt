@@ -1,0 +1,81 @@
+-- At the top: what is known of a whole term by itself says what comes of normalising it.
+use Rattle.std.proofs.Common.{◌≡◌, ℕ, ◌+◌, ◌-◌, ◌≤◌, ◌<◌, zero, suc, List, [], ◌∷◌, ◌++◌, length, Option, Some, None, refl, ap, sym, subst, ◌∙◌, arith, append_assoc, append-nil, ◌⊎◌, inl, inr}
+use Rattle.std.proofs.lemmas.Option.{same_Some}
+use Rattle.circ_term.specs.Tree.{Tree, replaced, size_of, depth_of}
+use Rattle.circ_term.specs.Limits.{node_limit, depth_limit, Limit}
+use Rattle.circ_term.proofs.Limits.{first_limit_none, within_limits}
+use Rattle.circ_rewrite.specs.Replacement.{Replacement, Placed, Traced, placed, traced}
+use Rattle.circ_rewrite.specs.Norm.{Normal_form, Budget_spent, Limit_passed, run}
+use Rattle.circ_rewrite.specs.Standing.{IsSettled}
+use Rattle.circ_rewrite.proofs.Standings.{run_done, run_out, run_made, run_past}
+use Rattle.circ_chain.specs.Chain.{IsStep, Chain, Reduces, RunsOut, Breaks, Outgrows}
+use Rattle.circ_chain.specs.Kept.{IsKeptForm}
+use Rattle.circ_chain.proofs.Chains.{reduces_weaken}
+
+module _ (due : Tree → Option Replacement) where
+  pub chain_run : (ts : List Traced) (k : ℕ) (t u : Tree) (before : List Traced) → Chain due node_limit depth_limit t ts u → length ts ≤ k
+      → run due k t before ≡ run due (k - length ts) u (before ++ ts)
+  chain_run [] k t u before c h =
+      let z : k ≡ k - 0 = omega arith in
+      ap (λ y. run due k y before) c ∙ ap (λ n. run due n u before) z ∙ ap (run due (k - 0) u) (sym (append-nil before))
+  chain_run (tr ∷ ts) k t u before c h =
+      let x : Tree = c.0 in
+      let s : IsStep due node_limit depth_limit t tr x = c.1 in
+      let one : Traced = traced (placed tr.path s.replacement) in
+      let counts : length ts + 1 ≤ k = omega arith in
+      let step = run_made due k t x before tr.path s.replacement (omega arith) s.is_first.first s.is_first.made (first_limit_none x s.small s.shallow) in
+      let rest = chain_run ts (k - 1) x u (before ++ one ∷ []) c.2 (omega arith) in
+      let z : k - 1 - length ts ≡ k - suc (length ts) = omega arith in
+      step ∙ rest ∙ ap (λ n. run due n u ((before ++ one ∷ []) ++ ts)) z
+      ∙ ap (run due (k - suc (length ts)) u) (append_assoc before (one ∷ []) ts ∙ ap (λ y. before ++ y ∷ ts) (sym s.is_trace))
+
+  -- a normal form within the limits, with as many traces as the budget has
+  pub reduces_run : (ts : List Traced) (k : ℕ) (t v : Tree) → Reduces due node_limit depth_limit t ts v → length ts ≤ k → run due k t [] ≡ Normal_form v ts (k - length ts)
+  reduces_run ts k t v r h = chain_run ts k t v [] r.0 h ∙ run_done due (k - length ts) v ts r.1
+
+  pub out_run : (k : ℕ) (t : Tree) → RunsOut due node_limit depth_limit k t → run due k t [] ≡ Budget_spent
+  out_run k t r =
+      chain_run r.traces k t r.here [] r.chain (omega (arith, r.count)) ∙ run_out due (k - length r.traces) r.here r.traces r.place (omega (arith, r.count)) r.is_due
+
+  pub breaks_run : (k left : ℕ) (t : Tree) (l : Limit) → Breaks due node_limit depth_limit k left t l → run due k t [] ≡ Limit_passed l left
+  breaks_run k left t l b =
+      let n = b.next in
+      let q : Placed = n.place in
+      let z : k - length b.traces ≡ left = omega (arith, b.count) in
+      chain_run b.traces k t n.here [] n.chain (omega (arith, n.fewer))
+      ∙ run_past due (k - length b.traces) n.here b.new b.traces q.path q.replacement l (omega (arith, n.fewer)) n.is_first.first n.is_first.made b.past ∙ ap (Limit_passed l) z
+
+  -- at the top nothing that is within the limits outgrows the bounds
+  pub outgrows_not : (k left : ℕ) (t x : Tree) → Outgrows due node_limit depth_limit k left t x → ⊥
+  outgrows_not k left t x o = go o.past
+    where
+      go : (node_limit < size_of x) ⊎ (depth_limit < depth_of x) → ⊥
+      go (inl b) = omega (arith, (within_limits x o.within).0)
+      go (inr b) = omega (arith, (within_limits x o.within).1)
+
+  -- what is kept answers, where the budget and the limits allow it
+  pub kept_answers : (t v : Tree) (ts : List Traced) (count big deep k : ℕ) → IsKeptForm due t v ts count big deep → count ≤ k → big ≤ node_limit → deep ≤ depth_limit
+      → run due k t [] ≡ Normal_form v ts (k - count)
+  kept_answers t v ts count big deep k h covers small shallow =
+      let all = reduces_weaken due big deep node_limit depth_limit ts t v small shallow h.reduces in
+      reduces_run ts k t v all (omega (arith, h.count_is)) ∙ ap (λ c. Normal_form v ts (k - c)) h.count_is
+
+  -- a settled term takes no step
+  no_step : (b d : ℕ) (t u : Tree) (tr : Traced) → IsSettled due t → IsStep due b d t tr u → ⊥
+  no_step b d t u tr h s = let z : None ≡ Some (placed tr.path s.replacement) = sym h ∙ s.is_first.first in cc
+
+  -- traces and normal form are determined by the term
+  pub reduces_unique : (b d c e : ℕ) (ts us : List Traced) (t v x : Tree) → Reduces due b d t ts v → Reduces due c e t us x → (ts ≡ us) × (v ≡ x)
+  reduces_unique b d c e [] [] t v x r s = (refl, sym r.0 ∙ s.0)
+  reduces_unique b d c e [] (sr ∷ us) t v x r s = absurd (no_step c e t s.0.0 sr (subst (IsSettled due) (sym r.0) r.1) s.0.1)
+  reduces_unique b d c e (tr ∷ ts) [] t v x r s = absurd (no_step b d t r.0.0 tr (subst (IsSettled due) (sym s.0) s.1) r.0.1)
+  reduces_unique b d c e (tr ∷ ts) (sr ∷ us) t v x r s =
+      let one : IsStep due b d t tr r.0.0 = r.0.1 in
+      let two : IsStep due c e t sr s.0.0 = s.0.1 in
+      let same : placed tr.path one.replacement ≡ placed sr.path two.replacement =
+      same_Some (placed tr.path one.replacement) (placed sr.path two.replacement) (sym one.is_first.first ∙ two.is_first.first) in
+      let head : tr ≡ sr = one.is_trace ∙ ap traced same ∙ sym two.is_trace in
+      let next : r.0.0 ≡ s.0.0 =
+      same_Some r.0.0 s.0.0 (sym one.is_first.made ∙ ap (λ q. replaced t q.path q.replacement.new) same ∙ two.is_first.made) in
+      let rest = reduces_unique b d c e ts us s.0.0 v x (subst (λ y. Reduces due b d y ts v) next (r.0.2, r.1)) (s.0.2, s.1) in
+      (ap (λ y. y ∷ ts) head ∙ ap (λ ys. sr ∷ ys) rest.0, rest.1)
