@@ -3,3 +3,5 @@ pub mod Chains
 pub mod Tops
 pub mod Settling
 pub mod Roots
+pub mod Unique
+pub mod Listing

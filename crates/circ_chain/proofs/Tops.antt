@@ -1,12 +1,10 @@
 -- At the top: what is known of a whole term by itself says what comes of normalising it.
-use Rattle.std.proofs.Common.{◌≡◌, ℕ, ◌+◌, ◌-◌, ◌≤◌, ◌<◌, zero, suc, List, [], ◌∷◌, ◌++◌, length, Option, Some, None, refl, ap, sym, subst, ◌∙◌, arith, append_assoc, append-nil, ◌⊎◌, inl, inr}
-use Rattle.std.proofs.lemmas.Option.{same_Some}
-use Rattle.circ_term.specs.Tree.{Tree, replaced, size_of, depth_of}
+use Rattle.std.proofs.Common.{◌≡◌, ℕ, ◌+◌, ◌-◌, ◌≤◌, ◌<◌, zero, suc, List, [], ◌∷◌, ◌++◌, length, Option, refl, ap, sym, ◌∙◌, arith, append_assoc, append-nil, ◌⊎◌, inl, inr}
+use Rattle.circ_term.specs.Tree.{Tree, size_of, depth_of}
 use Rattle.circ_term.specs.Limits.{node_limit, depth_limit, Limit}
 use Rattle.circ_term.proofs.Limits.{first_limit_none, within_limits}
 use Rattle.circ_rewrite.specs.Replacement.{Replacement, Placed, Traced, placed, traced}
 use Rattle.circ_rewrite.specs.Norm.{Normal_form, Budget_spent, Limit_passed, run}
-use Rattle.circ_rewrite.specs.Standing.{IsSettled}
 use Rattle.circ_rewrite.proofs.Standings.{run_done, run_out, run_made, run_past}
 use Rattle.circ_chain.specs.Chain.{IsStep, Chain, Reduces, RunsOut, Breaks, Outgrows}
 use Rattle.circ_chain.specs.Kept.{IsKeptForm}
@@ -59,23 +57,3 @@ module _ (due : Tree → Option Replacement) where
   kept_answers t v ts count big deep k h covers small shallow =
       let all = reduces_weaken due big deep node_limit depth_limit ts t v small shallow h.reduces in
       reduces_run ts k t v all (omega (arith, h.count_is)) ∙ ap (λ c. Normal_form v ts (k - c)) h.count_is
-
-  -- a settled term takes no step
-  no_step : (b d : ℕ) (t u : Tree) (tr : Traced) → IsSettled due t → IsStep due b d t tr u → ⊥
-  no_step b d t u tr h s = let z : None ≡ Some (placed tr.path s.replacement) = sym h ∙ s.is_first.first in cc
-
-  -- traces and normal form are determined by the term
-  pub reduces_unique : (b d c e : ℕ) (ts us : List Traced) (t v x : Tree) → Reduces due b d t ts v → Reduces due c e t us x → (ts ≡ us) × (v ≡ x)
-  reduces_unique b d c e [] [] t v x r s = (refl, sym r.0 ∙ s.0)
-  reduces_unique b d c e [] (sr ∷ us) t v x r s = absurd (no_step c e t s.0.0 sr (subst (IsSettled due) (sym r.0) r.1) s.0.1)
-  reduces_unique b d c e (tr ∷ ts) [] t v x r s = absurd (no_step b d t r.0.0 tr (subst (IsSettled due) (sym s.0) s.1) r.0.1)
-  reduces_unique b d c e (tr ∷ ts) (sr ∷ us) t v x r s =
-      let one : IsStep due b d t tr r.0.0 = r.0.1 in
-      let two : IsStep due c e t sr s.0.0 = s.0.1 in
-      let same : placed tr.path one.replacement ≡ placed sr.path two.replacement =
-      same_Some (placed tr.path one.replacement) (placed sr.path two.replacement) (sym one.is_first.first ∙ two.is_first.first) in
-      let head : tr ≡ sr = one.is_trace ∙ ap traced same ∙ sym two.is_trace in
-      let next : r.0.0 ≡ s.0.0 =
-      same_Some r.0.0 s.0.0 (sym one.is_first.made ∙ ap (λ q. replaced t q.path q.replacement.new) same ∙ two.is_first.made) in
-      let rest = reduces_unique b d c e ts us s.0.0 v x (subst (λ y. Reduces due b d y ts v) next (r.0.2, r.1)) (s.0.2, s.1) in
-      (ap (λ y. y ∷ ts) head ∙ ap (λ ys. sr ∷ ys) rest.0, rest.1)

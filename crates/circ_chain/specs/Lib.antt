@@ -1,3 +1,4 @@
 pub mod Chain
 pub mod Through
 pub mod Kept
+pub mod Listed
