@@ -19,6 +19,10 @@ due_by m = due_under m.theory.now.signature m.rules.items m.assumptions.items
 abbrev pub IsChoice : (nodes : List Tree) → Means → (t : Tree) → Choice → Replacement → Type 0
 IsChoice nodes m t c r = Unit {0}
 
+-- the choice is some replacement
+abbrev pub IsChosen : (nodes : List Tree) → Means → Choice → Type 0
+IsChosen nodes m c = (t : Tree) × (r : Replacement) × IsChoice nodes m t c r
+
 -- the choice is what is due
 abbrev pub Chooses : (nodes : List Tree) → Means → (t : Tree) → (due : Option Replacement) → Option Choice → Type 0
 Chooses nodes m t due None = due ≡ None

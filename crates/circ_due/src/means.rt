@@ -6,7 +6,7 @@ ghost use Rattle.circ_nodes.specs.Named.{IsNamed, Grows, Interns};
 ghost use Rattle.circ_rewrite.specs.Due.{IsRewriteRule};
 ghost use Rattle.circ_rewrite.specs.Plain.{plain_trace};
 ghost use Rattle.circ_rewrite.specs.Replacement.{Replacement, placed, traced};
-ghost use Rattle.circ_due.specs.Chosen.{IsReady, IsChoice, Chooses, due_by};
+ghost use Rattle.circ_due.specs.Chosen.{IsReady, IsChoice, IsChosen, Chooses, due_by};
 
 use crate::choice::Choice;
 use circ_nodes::Nodes;
@@ -74,6 +74,7 @@ impl<'a> Means<'a> {
     pub fn build(&self, nodes: &mut Nodes, number: u32, choice: &Choice) -> Result<u32, TermFault>
         requires ready { IsReady nodes.old self.now }
         requires there { number < length nodes.old }
+        requires chosen { IsChosen nodes.old self.now choice.now }
         ensures grows { Grows nodes.old nodes.new }
         ensures interns { (t : Tree) (r : Replacement) → IsNamed nodes.old number t
             → IsChoice nodes.old self.now t choice.now r → Interns nodes.new result r.new }
@@ -91,6 +92,7 @@ impl<'a> Means<'a> {
     ) -> Result<Trace, AllocError>
         requires ready { IsReady nodes.now self.now }
         requires there { new < length nodes.now }
+        requires chosen { IsChosen nodes.now self.now choice.now }
         ensures { (t : Tree) (r : Replacement) → IsNamed nodes.now new r.new
             → IsChoice nodes.now self.now t choice.now r
             → IfOk result (λ x. plain_trace x ≡ traced (placed path.now r)) }
