@@ -37,28 +37,35 @@ drop_cons [] ys (suc i) x e = absurd (cc)
 drop_cons (z ∷ xs) ys zero x e = cc
 drop_cons (z ∷ xs) ys (suc i) x e = drop_cons xs ys i x e
 
-get_drop : {X : Type 0} (xs : List X) (i : ℕ) (x : X) → slice_get xs i ≡ Some x → drop i xs ≡ x ∷ drop (i + 1) xs
+get_drop : {X : Type 0} (xs : List X) (i : ℕ) (x : X) → slice_get xs i ≡ Some x → drop i xs ≡ x ∷ drop (suc i) xs
 get_drop [] i x g = absurd (cc)
 get_drop (z ∷ xs) zero x g = ap (λ y. y ∷ xs) (same_Some z x g)
 get_drop (z ∷ xs) (suc i) x g = get_drop xs i x g
 
 -- what was not touched is as it was
 get_kept : {X : Type 0} (xs ys : List X) (i : ℕ) (x : X) → drop i xs ≡ drop i ys → slice_get ys i ≡ Some x → slice_get xs i ≡ Some x
-get_kept xs ys i x e g = drop_cons xs (drop (i + 1) ys) i x (e ∙ get_drop ys i x g)
+get_kept xs ys i x e g = drop_cons xs (drop (suc i) ys) i x (e ∙ get_drop ys i x g)
 
-drop_more : {X : Type 0} (xs : List X) (i : ℕ) → drop (i + 1) xs ≡ drop 1 (drop i xs)
+drop_more : {X : Type 0} (xs : List X) (i : ℕ) → drop (suc i) xs ≡ drop 1 (drop i xs)
 drop_more [] zero = refl
 drop_more [] (suc i) = refl
 drop_more (x ∷ xs) zero = refl
 drop_more (x ∷ xs) (suc i) = drop_more xs i
 
 drop_next : {X : Type 0} (xs ys : List X) (i : ℕ) → drop i xs ≡ drop i ys → drop (i + 1) xs ≡ drop (i + 1) ys
-drop_next xs ys i e = drop_more xs i ∙ ap (drop 1) e ∙ sym (drop_more ys i)
+drop_next xs ys i e =
+    let z : suc i ≡ i + 1 = omega arith in
+    subst (λ n. drop n xs ≡ drop n ys) z (drop_more xs i ∙ ap (drop 1) e ∙ sym (drop_more ys i))
 
 drop_set : {X : Type 0} (xs : List X) (i : ℕ) (x : X) → drop (i + 1) (slice_set xs i x) ≡ drop (i + 1) xs
-drop_set [] i x = refl
-drop_set (z ∷ xs) zero x = refl
-drop_set (z ∷ xs) (suc i) x = drop_set xs i x
+drop_set xs i x =
+    let z : suc i ≡ i + 1 = omega arith in
+    subst (λ n. drop n (slice_set xs i x) ≡ drop n xs) z (go xs i x)
+  where
+    go : {X : Type 0} (xs : List X) (i : ℕ) (x : X) → drop (suc i) (slice_set xs i x) ≡ drop (suc i) xs
+    go [] i x = refl
+    go (y ∷ xs) zero x = refl
+    go (y ∷ xs) (suc i) x = go xs i x
 
 module _ (due : Tree → Option Replacement) where
   pub lists_start : (p : List ℕ) (t : Tree) (old : List Traced) → Lists due p t t old old
