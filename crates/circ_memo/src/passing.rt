@@ -96,19 +96,28 @@ impl Passing {
             → left + self.entry.count ≡ k
             → FindsWay due nodes.new b k left t result }
     {
-        let ready = if self.count == 0 {
+        let Passing {
+            op,
+            sort,
+            args,
+            count,
+            big,
+            deep,
+            ..
+        } = self;
+        let ready = if count == 0 {
             number
         } else {
-            match nodes.app(self.op, self.sort, self.args) {
+            match nodes.app(op, sort, args) {
                 Ok(ready) => ready,
                 Err(fault) => return Err(Stop::Fault(rewrite_fault(fault))),
             }
         };
         Ok(Way {
             ready,
-            count: self.count,
-            big: self.big,
-            deep: self.deep,
+            count,
+            big,
+            deep,
         })
     }
 
