@@ -1,5 +1,5 @@
 -- What is kept of terms, and when it may be used.
-use Rattle.std.specs.Prelude.{◌≡◌, ◌≤◌, ◌==◌, ℕ, zero, suc, List, [], ◌∷◌, Option, Some, None, if◌then◌else◌}
+use Rattle.std.specs.Prelude.{◌≡◌, ◌≤◌, ◌⊎◌, ℕ, zero, suc, List, [], ◌∷◌, Option, Some, None}
 use Rattle.circ_term.specs.Tree.{Tree}
 use Rattle.circ_rewrite.specs.Replacement.{Replacement, Traced}
 use Rattle.circ_nodes.specs.Named.{IsNamed}
@@ -18,8 +18,9 @@ abbrev pub HasSame : (old new : List (Option Entry)) → Type 0
 HasSame old new = (n : ℕ) → kept_at new n ≡ kept_at old n
 
 -- the entry is kept of this term, and of the others what was kept
-abbrev pub Puts : (number : ℕ) → Entry → (old new : List (Option Entry)) → Type 0
-Puts number e old new = (n : ℕ) → kept_at new n ≡ (if n == number then Some e else kept_at old n)
+pub record Puts (number : ℕ) (e : Entry) (old new : List (Option Entry)) : Type 0 where
+  pub there : kept_at new number ≡ Some e
+  pub others : (n : ℕ) → (n ≡ number) ⊎ (kept_at new n ≡ kept_at old n)
 
 -- the bounds allow the use of what is kept
 pub record IsInBounds (b : Bounds) (e : Entry) : Type 0 where

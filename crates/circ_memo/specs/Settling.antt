@@ -43,9 +43,13 @@ module _ (due : Tree → Option Replacement) (nodes : List Tree) (b : Bounds) wh
   Stops k left t (stop.Fault e) = Faulted k left t e
   Stops k left t (stop.Outgrows m) = (x : Tree) × IsNamed nodes m x × Outgrows due b.big b.deep k left t x
 
+  -- the entry may be kept of t, and no term on the way is past the bounds
+  abbrev pub IsToKeep : Tree → Entry → Type 0
+  IsToKeep t e = IsForm due nodes t e × IsInBounds b e
+
   -- the answer is what is to be kept of t, or what stops the work
   abbrev pub Settles : (k left : ℕ) → Tree → Result Entry Stop → Type 0
-  Settles k left t (Ok e) = IsForm due nodes t e × IsInBounds b e × (left + e.count ≡ k)
+  Settles k left t (Ok e) = IsToKeep t e × (left + e.count ≡ k)
   Settles k left t (Err s) = Stops k left t s
 
   -- the way leads from t to u, whose arguments are normal
@@ -85,12 +89,8 @@ module _ (due : Tree → Option Replacement) (nodes : List Tree) (b : Bounds) wh
   ArePassed t [] u = t ≡ u
   ArePassed t (s ∷ ss) u = (v : Tree) × IsPassed t s v × ArePassed v ss u
 
-  -- the entry is to be kept of t, with this count
-  abbrev pub IsToKeep : Tree → (count : ℕ) → Entry → Type 0
-  IsToKeep t c e = IsForm due nodes t e × IsInBounds b e × (e.count ≡ c)
-
   abbrev pub Turns : (k left : ℕ) → Tree → Result Turn Stop → Type 0
-  Turns k left t (Ok (Settled e)) = IsForm due nodes t e × IsInBounds b e × (left + e.count ≡ k)
+  Turns k left t (Ok (Settled e)) = IsToKeep t e × (left + e.count ≡ k)
   Turns k left t (Ok (Stepped s)) = (v : Tree) × IsPassed t s v × (left + s.way.count + 1 ≡ k)
   Turns k left t (Err s) = Stops k left t s
 

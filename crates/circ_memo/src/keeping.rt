@@ -19,8 +19,11 @@ pub(crate) fn keep_settled(store: &mut Store, here: u32, way: Way) -> Result<Ent
     ensures kept { (due : Tree → Option Replacement) (b : Bounds) (t u : Tree)
         → AreKept due store.old.nodes store.old.entries.items
         → IsNamed store.old.nodes here t → IsWay due store.old.nodes b t way u → due u ≡ None
-        → AreKept due store.new.nodes store.new.entries.items
-        × IfOk result (IsToKeep due store.new.nodes b t way.count) }
+        → AreKept due store.new.nodes store.new.entries.items }
+    ensures form { (due : Tree → Option Replacement) (b : Bounds) (t u : Tree)
+        → IsWay due store.old.nodes b t way u → due u ≡ None
+        → IfOk result (IsToKeep due store.new.nodes b t) }
+    ensures count { IfOk result (λ e. e.count ≡ way.count) }
 {
     let ready = way.ready;
     let still = Entry {
@@ -54,11 +57,14 @@ pub(crate) fn keep_steps(
     ensures nodes { store.new.nodes ≡ store.old.nodes }
     ensures kept { (due : Tree → Option Replacement) (b : Bounds) (t u : Tree)
         → AreKept due store.old.nodes store.old.entries.items
-        → ArePassed due store.old.nodes b t steps.entry.items u
+        → ArePassed due store.old.nodes b t steps.items u
         → IsForm due store.old.nodes u last → IsInBounds b last
-        → AreKept due store.new.nodes store.new.entries.items
-        × IfOk result (IsToKeep due store.new.nodes b t
-            (passed_count steps.entry.items + last.count)) }
+        → AreKept due store.new.nodes store.new.entries.items }
+    ensures form { (due : Tree → Option Replacement) (b : Bounds) (t u : Tree)
+        → ArePassed due store.old.nodes b t steps.items u
+        → IsForm due store.old.nodes u last → IsInBounds b last
+        → IfOk result (IsToKeep due store.new.nodes b t) }
+    ensures count { IfOk result (λ e. e.count ≡ passed_count steps.items + last.count) }
 {
     let mut steps = steps;
     let mut last = last;
@@ -77,8 +83,12 @@ fn keep_step(store: &mut Store, step: Step, last: Entry) -> Result<Entry, AllocE
         → AreKept due store.old.nodes store.old.entries.items
         → IsPassed due store.old.nodes b t step u
         → IsForm due store.old.nodes u last → IsInBounds b last
-        → AreKept due store.new.nodes store.new.entries.items
-        × IfOk result (IsToKeep due store.new.nodes b t (step.way.count + 1 + last.count)) }
+        → AreKept due store.new.nodes store.new.entries.items }
+    ensures form { (due : Tree → Option Replacement) (b : Bounds) (t u : Tree)
+        → IsPassed due store.old.nodes b t step u
+        → IsForm due store.old.nodes u last → IsInBounds b last
+        → IfOk result (IsToKeep due store.new.nodes b t) }
+    ensures count { IfOk result (λ e. e.count ≡ step.way.count + 1 + last.count) }
 {
     let new = store.nodes.term(step.next);
     let after = Entry {

@@ -92,8 +92,8 @@ impl Passing {
         ensures grows { Grows nodes.old nodes.new }
         ensures finds { (due : Tree → Option Replacement) (b : Bounds) (t : Tree) (k left : ℕ)
             → IsNamed nodes.old number t
-            → IsPassing due nodes.old b t (length self.entry.args.items) self.entry
-            → left + self.entry.count ≡ k
+            → IsPassing due nodes.old b t (length self.args.items) self
+            → left + self.count ≡ k
             → FindsWay due nodes.new b k left t result }
     {
         let Passing {

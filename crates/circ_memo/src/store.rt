@@ -1,5 +1,5 @@
 //! Interned terms, and what is kept of them.
-ghost use Rattle.std.specs.Prelude.{◌≡◌, ◌<◌, ◌^◌, ◌+◌, ℕ, length, Option, IfOk, IfSome, OnOk, IsTrue, Some};
+ghost use Rattle.std.specs.Prelude.{◌≡◌, ◌<◌, ◌≤◌, ℕ, length, Option, IfSome, OnOk, OnErr, IsTrue, Some};
 ghost use Rattle.std.specs.List.{AllByRecursion};
 ghost use Rattle.circ_term.specs.Tree.{Tree};
 ghost use Rattle.circ_rewrite.specs.Replacement.{Replacement};
@@ -32,10 +32,7 @@ impl Store {
     pub(crate) fn entry(&self, number: u32) -> Option<Entry>
         ensures { result ≡ kept_at self.now.entries.items number }
     {
-        match self.entries.get(number as usize) {
-            Some(entry) => *entry,
-            None => None,
-        }
+        entry_at(self.entries.as_slice(), number as usize)
     }
 
     // Whether a term is known to be normal.
@@ -77,6 +74,16 @@ impl Store {
         make_room(&mut self.entries, self.nodes.len())?;
         self.entries[number as usize] = Some(entry);
         Ok(())
+    }
+}
+
+fn entry_at(entries: &[Option<Entry>], place: usize) -> Option<Entry>
+    ensures { result ≡ kept_at entries.now place }
+{
+    if place < entries.len() {
+        entries[place]
+    } else {
+        None
     }
 }
 

@@ -1,0 +1,4 @@
+pub mod Entries
+pub mod Forms
+pub mod Roots
+pub mod Stepping
