@@ -5,9 +5,8 @@ use Rattle.std.proofs.lemmas.Option.{same_Some}
 use Rattle.circ_term.specs.Tree.{Tree, replaced, size_of, depth_of}
 use Rattle.circ_term.specs.Limits.{Limit, first_limit, IsWithinLimits}
 use Rattle.circ_term.proofs.Paths.{replaced_twice}
-use Rattle.circ_rewrite.specs.Replacement.{Replacement, Placed, Traced, placed, traced}
-use Rattle.circ_rewrite.specs.Norm.{first_due}
-use Rattle.circ_rewrite.specs.Standing.{IsSettled, Stands}
+use Rattle.circ_rewrite.specs.Replacement.{Replacement, Placed, Traced, placed}
+use Rattle.circ_rewrite.specs.Standing.{Stands}
 use Rattle.circ_rewrite.proofs.Standings.{stands_put, stands_self, replaced_past}
 use Rattle.circ_chain.specs.Chain.{under, IsFirst, IsStep, Chain, Reduces, Next, RunsOut, Breaks, Outgrows}
 use Rattle.circ_chain.proofs.Standings.{due_first_below, stands_below, size_put, depth_put, depth_under}

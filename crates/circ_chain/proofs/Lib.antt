@@ -5,3 +5,4 @@ pub mod Settling
 pub mod Roots
 pub mod Unique
 pub mod Listing
+pub mod Keeping

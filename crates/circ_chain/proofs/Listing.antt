@@ -1,17 +1,17 @@
 -- Listing the traces of a term: those of its arguments, each by itself, then the replacement at the root and what follows it.
-use Rattle.std.proofs.Common.{◌≡◌, ℕ, ◌+◌, ◌≤◌, max, zero, suc, List, [], ◌∷◌, ◌++◌, map, drop, length, Option, Some, refl, ap, sym, subst, ◌∙◌, arith, append_assoc, append-nil}
+use Rattle.std.proofs.Common.{◌≡◌, ℕ, ◌+◌, max, zero, suc, List, [], ◌∷◌, ◌++◌, map, drop, length, Option, Some, refl, ap, sym, subst, ◌∙◌, arith, append_assoc, append-nil}
 use Rattle.std.proofs.lemmas.List.{map-append, length-set}
 use Rattle.std.proofs.lemmas.Option.{same_Some}
 use Rattle.std.specs.Prelude.{slice_set}
 use Rattle.std.specs.List.{slice_get}
-use Rattle.circ_term.specs.Tree.{Tree, Trees, Var, App, list_of, trees_of, list_of-trees_of, put_at, size_of, depth_of}
+use Rattle.circ_term.specs.Tree.{Tree, Trees, Var, App, list_of, list_of-trees_of, put_at, size_of, depth_of}
 use Rattle.circ_rewrite.specs.Replacement.{Replacement, Traced, placed, traced}
 use Rattle.circ_rewrite.specs.Standing.{IsSettled}
 use Rattle.circ_rewrite.specs.Known.{HasSettledBelow}
 use Rattle.circ_chain.specs.Chain.{under, Chain, Reduces}
-use Rattle.circ_chain.specs.Through.{Through, Readies}
+use Rattle.circ_chain.specs.Through.{Readies}
 use Rattle.circ_chain.specs.Listed.{Lists, ListsThrough}
-use Rattle.circ_chain.proofs.Chains.{chain_on, chain_weaken, reduces_weaken}
+use Rattle.circ_chain.proofs.Chains.{chain_on, chain_weaken}
 use Rattle.circ_chain.proofs.Settling.{through_start, through_next, through_still, through_end, readies_variable}
 use Rattle.circ_chain.proofs.Roots.{root_step}
 use Rattle.circ_chain.proofs.Unique.{reduces_unique, readies_unique}
@@ -78,8 +78,8 @@ module _ (due : Tree → Option Replacement) where
     traces = g.traces ++ h.traces;
     chain =
         chain_on due (max g.big h.big) (max g.deep h.deep) g.traces h.traces t u v
-            (chain_weaken due g.big g.deep (max g.big h.big) (max g.deep h.deep) g.traces t u (omega arith) (omega arith) g.chain)
-            (chain_weaken due h.big h.deep (max g.big h.big) (max g.deep h.deep) h.traces u v (omega arith) (omega arith) h.chain);
+        (chain_weaken due g.big g.deep (max g.big h.big) (max g.deep h.deep) g.traces t u (omega arith) (omega arith) g.chain)
+        (chain_weaken due h.big h.deep (max g.big h.big) (max g.deep h.deep) h.traces u v (omega arith) (omega arith) h.chain);
     listed = listed_on p old mid new g.traces h.traces g.listed h.listed;
   }
 
@@ -116,7 +116,7 @@ module _ (due : Tree → Option Replacement) where
         traces = g.traces ++ map (under (i ∷ [])) h.traces;
         through =
             through_next due g.big g.deep h.big h.deep big deep (App f s ts) g.traces f s i us a v h.traces g.through stands (h.chain, settled) (omega arith) (omega arith)
-                (omega arith) (omega arith) (omega arith);
+            (omega arith) (omega arith) (omega arith);
         listed = listed_on p old mid new g.traces (map (under (i ∷ [])) h.traces) g.listed (h.listed ∙ ap (λ x. mid ++ x) (under_twice p (i ∷ []) h.traces));
         rest = ap (drop (i + 1)) (list_of-trees_of (slice_set (list_of us) i v)) ∙ drop_set (list_of us) i v ∙ drop_next (list_of us) (list_of ts) i g.rest;
         count = ap length (list_of-trees_of (slice_set (list_of us) i v)) ∙ length-set (list_of us) i v ∙ g.count;

@@ -1,5 +1,5 @@
 -- What comes at the root of a term whose arguments are settled.
-use Rattle.std.proofs.Common.{◌≡◌, ℕ, ◌+◌, ◌≤◌, ◌<◌, ◌⊎◌, zero, List, [], ◌∷◌, ◌++◌, length, Option, Some, None, refl, subst, sym, arith}
+use Rattle.std.proofs.Common.{◌≡◌, ℕ, ◌+◌, ◌≤◌, ◌<◌, ◌⊎◌, zero, List, [], ◌∷◌, ◌++◌, length, Option, Some, None, refl, arith}
 use Rattle.circ_term.specs.Tree.{Tree, Var, App, size_of, depth_of}
 use Rattle.circ_term.specs.Limits.{Limit, first_limit, IsWithinLimits}
 use Rattle.circ_rewrite.specs.Replacement.{Replacement, Traced, placed, traced}

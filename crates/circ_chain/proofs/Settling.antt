@@ -1,14 +1,15 @@
 -- Arguments normalised one after the other, each by what is known of it by itself.
-use Rattle.std.proofs.Common.{◌≡◌, ℕ, ◌+◌, ◌≤◌, suc, zero, List, [], ◌∷◌, ◌++◌, map, length, Option, Some, None, refl, ap, sym, subst, ◌∙◌, arith}
+use Rattle.std.proofs.Common.{◌≡◌, ℕ, ◌+◌, ◌≤◌, max, zero, List, [], ◌∷◌, ◌++◌, map, length, Option, Some, refl, subst, arith}
 use Rattle.std.specs.List.{slice_get}
 use Rattle.circ_term.specs.Tree.{Tree, Trees, Var, App, list_of, put_at, replaced, size_of, depth_of}
-use Rattle.circ_term.specs.Limits.{Limit, first_limit, IsWithinLimits}
+use Rattle.circ_term.specs.Limits.{node_limit, depth_limit, Limit, first_limit, IsWithinLimits}
+use Rattle.circ_term.proofs.Limits.{first_limit_none, within_limits}
 use Rattle.circ_rewrite.specs.Replacement.{Replacement, Traced}
 use Rattle.circ_rewrite.specs.Standing.{IsSettled, AreSettled, Stands}
 use Rattle.circ_rewrite.proofs.Standings.{settled_set, settled_next, get_set_list}
 use Rattle.circ_chain.specs.Chain.{under, Chain, Reduces, RunsOut, Breaks, Outgrows}
 use Rattle.circ_chain.specs.Through.{AreBelow, Through, Readies}
-use Rattle.circ_chain.proofs.Chains.{chain_on, chain_weaken, chain_up, out_on, breaks_on, outgrows_on, out_up, breaks_up, outgrows_up, outgrows_breaks}
+use Rattle.circ_chain.proofs.Chains.{chain_on, chain_weaken, chain_within, chain_up, out_on, breaks_on, outgrows_on, out_up, breaks_up, outgrows_up, outgrows_breaks}
 
 pub below_on : (ts us : List Traced) → AreBelow ts → AreBelow us → AreBelow (ts ++ us)
 below_on [] us h g = g
@@ -54,6 +55,20 @@ module _ (due : Tree → Option Replacement) where
   through_chain : (big deep most deepest : ℕ) (t : Tree) (traces : List Traced) (f s i : ℕ) (us : Trees) → Through due big deep t traces f s i us → big ≤ most → deep ≤ deepest
       → Chain due most deepest t traces (App f s us)
   through_chain big deep most deepest t traces f s i us h wide deeper = chain_weaken due big deep most deepest traces t (App f s us) wide deeper h.chain
+
+  -- what stands on the way is no larger and no deeper than the term and the bounds, and within the limits where they are
+  pub through_within : (big deep : ℕ) (t : Tree) (traces : List Traced) (f s i : ℕ) (us : Trees) → Through due big deep t traces f s i us
+      → (size_of (App f s us) ≤ max big (size_of t)) × (depth_of (App f s us) ≤ max deep (depth_of t))
+  through_within big deep t traces f s i us h =
+      chain_within due (max big (size_of t)) (max deep (depth_of t)) traces t (App f s us) (omega arith) (omega arith)
+      (chain_weaken due big deep (max big (size_of t)) (max deep (depth_of t)) traces t (App f s us) (omega arith) (omega arith) h.chain)
+
+  pub through_limits : (big deep : ℕ) (t : Tree) (traces : List Traced) (f s i : ℕ) (us : Trees) → Through due big deep t traces f s i us → IsWithinLimits t
+      → big ≤ node_limit → deep ≤ depth_limit → IsWithinLimits (App f s us)
+  through_limits big deep t traces f s i us h within small shallow =
+      let now = through_within big deep t traces f s i us h in
+      let first = within_limits t within in
+      first_limit_none (App f s us) (omega (arith, now.0, first.0)) (omega (arith, now.1, first.1))
 
   -- argument i stops, where its bounds are what those of the term leave; n is the budget of the whole
   pub through_out : (big deep b d most deepest k n : ℕ) (t : Tree) (traces : List Traced) (f s i : ℕ) (us : Trees) (a : Tree)

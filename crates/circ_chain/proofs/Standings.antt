@@ -30,6 +30,21 @@ depth_put_in none i a b g = absurd (cc)
 depth_put_in (more t ts) zero a b g = omega arith
 depth_put_in (more t ts) (suc i) a b g = omega (arith, depth_put_in ts i a b g)
 
+-- the size of an application with another argument i, and the size and the depth of an argument
+pub size_arg : (f s i : ℕ) (ts : Trees) (a b : Tree) → slice_get (list_of ts) i ≡ Some a → size_of (App f s (put_at ts i b)) + size_of a ≡ size_of (App f s ts) + size_of b
+size_arg f s i ts a b g = omega (arith, sizes_put ts i a b g)
+
+pub arg_smaller : (f s i : ℕ) (ts : Trees) (a : Tree) → slice_get (list_of ts) i ≡ Some a → size_of a + 1 ≤ size_of (App f s ts)
+arg_smaller f s i ts a g = omega (arith, size_in ts i a g)
+  where
+    size_in : (ts : Trees) (i : ℕ) (a : Tree) → slice_get (list_of ts) i ≡ Some a → size_of a ≤ sizes_of ts
+    size_in none i a g = absurd (cc)
+    size_in (more t ts) zero a g = omega (arith, ap size_of (same_Some t a g))
+    size_in (more t ts) (suc i) a g = omega (arith, size_in ts i a g)
+
+pub arg_less_deep : (f s i : ℕ) (ts : Trees) (a : Tree) → slice_get (list_of ts) i ≡ Some a → depth_of a + 1 ≤ depth_of (App f s ts)
+arg_less_deep f s i ts a g = omega (arith, depth_in ts i a g)
+
 module _ (due : Tree → Option Replacement) where
   -- what is due first in a term that stands is due first
   pub due_first_below : (p : List ℕ) (w t : Tree) (q : List ℕ) (d : Replacement) → Stands due w p t → first_due due t ≡ Some (placed q d) → first_due due w ≡ Some (placed (p ++ q) d)

@@ -1,5 +1,5 @@
 -- At the top: what is known of a whole term by itself says what comes of normalising it.
-use Rattle.std.proofs.Common.{◌≡◌, ℕ, ◌+◌, ◌-◌, ◌≤◌, ◌<◌, zero, suc, List, [], ◌∷◌, ◌++◌, length, Option, refl, ap, sym, ◌∙◌, arith, append_assoc, append-nil, ◌⊎◌, inl, inr}
+use Rattle.std.proofs.Common.{◌≡◌, ℕ, ◌+◌, ◌-◌, ◌≤◌, ◌<◌, suc, List, [], ◌∷◌, ◌++◌, length, Option, ap, sym, ◌∙◌, arith, append_assoc, append-nil, ◌⊎◌, inl, inr}
 use Rattle.circ_term.specs.Tree.{Tree, size_of, depth_of}
 use Rattle.circ_term.specs.Limits.{node_limit, depth_limit, Limit}
 use Rattle.circ_term.proofs.Limits.{first_limit_none, within_limits}
@@ -7,8 +7,6 @@ use Rattle.circ_rewrite.specs.Replacement.{Replacement, Placed, Traced, placed, 
 use Rattle.circ_rewrite.specs.Norm.{Normal_form, Budget_spent, Limit_passed, run}
 use Rattle.circ_rewrite.proofs.Standings.{run_done, run_out, run_made, run_past}
 use Rattle.circ_chain.specs.Chain.{IsStep, Chain, Reduces, RunsOut, Breaks, Outgrows}
-use Rattle.circ_chain.specs.Kept.{IsKeptForm}
-use Rattle.circ_chain.proofs.Chains.{reduces_weaken}
 
 module _ (due : Tree → Option Replacement) where
   pub chain_run : (ts : List Traced) (k : ℕ) (t u : Tree) (before : List Traced) → Chain due node_limit depth_limit t ts u → length ts ≤ k
@@ -50,10 +48,3 @@ module _ (due : Tree → Option Replacement) where
       go : (node_limit < size_of x) ⊎ (depth_limit < depth_of x) → ⊥
       go (inl b) = omega (arith, (within_limits x o.within).0)
       go (inr b) = omega (arith, (within_limits x o.within).1)
-
-  -- what is kept answers, where the budget and the limits allow it
-  pub kept_answers : (t v : Tree) (ts : List Traced) (count big deep k : ℕ) → IsKeptForm due t v ts count big deep → count ≤ k → big ≤ node_limit → deep ≤ depth_limit
-      → run due k t [] ≡ Normal_form v ts (k - count)
-  kept_answers t v ts count big deep k h covers small shallow =
-      let all = reduces_weaken due big deep node_limit depth_limit ts t v small shallow h.reduces in
-      reduces_run ts k t v all (omega (arith, h.count_is)) ∙ ap (λ c. Normal_form v ts (k - c)) h.count_is

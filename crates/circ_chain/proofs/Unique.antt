@@ -1,8 +1,8 @@
 -- What is known of a term is determined by the term.
 use Rattle.std.proofs.Common.{◌≡◌, ℕ, List, [], ◌∷◌, Option, Some, None, refl, ap, sym, subst, ◌∙◌}
 use Rattle.std.proofs.lemmas.Option.{same_Some}
-use Rattle.circ_term.specs.Tree.{Tree, Var, App, replaced}
-use Rattle.circ_rewrite.specs.Replacement.{Replacement, Placed, Traced, placed, traced}
+use Rattle.circ_term.specs.Tree.{Tree, replaced}
+use Rattle.circ_rewrite.specs.Replacement.{Replacement, Traced, placed, traced}
 use Rattle.circ_rewrite.specs.Norm.{first_due}
 use Rattle.circ_rewrite.specs.Standing.{IsSettled}
 use Rattle.circ_rewrite.specs.Known.{HasSettledBelow}

@@ -1,5 +1,5 @@
 -- Traces that are listed, of a term that stands in another one.
-use Rattle.std.specs.Prelude.{◌≡◌, ℕ, List, [], ◌++◌, map, length, drop, Option}
+use Rattle.std.specs.Prelude.{◌≡◌, ℕ, List, ◌++◌, map, length, drop, Option}
 use Rattle.circ_term.specs.Tree.{Tree, Trees, App, list_of}
 use Rattle.circ_rewrite.specs.Replacement.{Replacement, Traced}
 use Rattle.circ_chain.specs.Chain.{under, Chain}
