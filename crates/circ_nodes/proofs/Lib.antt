@@ -1,1 +1,5 @@
+pub mod Places
 pub mod Numbers
+mod Same
+mod Rooted
+mod Adding

@@ -1,10 +1,11 @@
 -- Numbers of terms: they stay when terms are added, and each names one term.
-use Rattle.std.specs.Prelude.{◌≡◌, ℕ, zero, suc, ◌+◌, ◌<◌, ◌≤◌, List, [], ◌∷◌, ◌++◌, length, Some, slice_set, refl}
+use Rattle.std.specs.Prelude.{◌≡◌, ℕ, zero, suc, ◌<◌, ◌≤◌, List, [], ◌∷◌, ◌++◌, length, Some, slice_set, refl}
 use Rattle.std.specs.List.{slice_get, AllByRecursion}
 use Rattle.std.proofs.Common.{ap, sym, subst, ◌∙◌, arith, append_assoc, append-nil, length-append}
-use Rattle.std.proofs.lemmas.Option.{same_Some}
+use Rattle.std.proofs.lemmas.Option.{same_Some, slice_get_within}
 use Rattle.circ_term.specs.Tree.{Tree, Trees, none, more, list_of, trees_of, trees_of-list_of}
 use Rattle.circ_nodes.specs.Named.{IsNamed, AreNamed, Grows}
+use Rattle.circ_nodes.proofs.Places.{get_there}
 
 -- how terms are added
 
@@ -34,14 +35,10 @@ are_named_later old new (n ∷ ns) (more t ts) g h = (named_later old new n t g 
 -- which numbers there are
 
 pub named_below : (nodes : List Tree) (n : ℕ) (t : Tree) → IsNamed nodes n t → n < length nodes
-named_below [] n t h = absurd (cc)
-named_below (u ∷ nodes) zero t h = omega arith
-named_below (u ∷ nodes) (suc n) t h = let b = named_below nodes n t h in omega (arith, b)
+named_below nodes n t h = slice_get_within nodes n t h
 
 pub there_named : (nodes : List Tree) (n : ℕ) → n < length nodes → (t : Tree) × IsNamed nodes n t
-there_named [] n h = absurd (omega arith)
-there_named (u ∷ nodes) zero h = (u, refl)
-there_named (u ∷ nodes) (suc n) h = there_named nodes n (omega arith)
+there_named nodes n h = get_there nodes n h
 
 pub all_below : (nodes : List Tree) (ns : List ℕ) (ts : Trees) → AreNamed nodes ns ts → AllByRecursion (λ n. n < length nodes) ns
 all_below nodes [] ts h = tt

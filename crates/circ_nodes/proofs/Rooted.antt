@@ -1,0 +1,130 @@
+-- Terms are found by their roots.
+use Rattle.std.specs.Prelude.{◌≡◌, ℕ, ◌<◌, ◌≤◌, Bool, true, false, if◌then◌else◌, List, [], ◌∷◌, ◌++◌, length, Some, None, refl}
+use Rattle.std.specs.List.{slice_get, list_any, position, position_or_len}
+use Rattle.std.proofs.Common.{ap, sym, subst, ◌∙◌, arith, get_or, length-append, ◌⊎◌, inl, inr}
+use Rattle.std.proofs.lemmas.Option.{slice_get_within, slice_get_read}
+use Rattle.circ_term.specs.Tree.{Tree, Trees, Var, App, none, more, args_of}
+use Rattle.circ_term.specs.Limits.{argument_limit}
+use Rattle.circ_nodes.specs.declared.nodes.Root.{Root}
+use Rattle.circ_nodes.specs.contracts.nodes.RootPartialEq.TheImpl.{eq-value}
+use Rattle.circ_nodes.specs.Named.{IsNamed, AreNamed, Grows, IsOnce}
+use Rattle.circ_nodes.specs.Roots.{PlainRoot, variable, application, plain_root, HasRoot, Finds, IsKept}
+use Rattle.circ_nodes.proofs.Numbers.{named_below, there_named, are_named_one, are_named_length, are_named_later}
+use Rattle.circ_nodes.proofs.Places.{get_there, any_at, any_place, position_place, get_last}
+use Rattle.circ_nodes.proofs.Same.{test_right, test_whole}
+
+-- a term has one root, and a root is that of one term
+
+numbers_once : (nodes : List Tree) → IsOnce nodes → (ns ms : List ℕ) (ts : Trees) → AreNamed nodes ns ts → AreNamed nodes ms ts → ns ≡ ms
+numbers_once nodes once [] [] none g h = refl
+numbers_once nodes once [] (m ∷ ms) none g h = absurd h
+numbers_once nodes once (n ∷ ns) ms none g h = absurd g
+numbers_once nodes once [] ms (more t ts) g h = absurd g
+numbers_once nodes once (n ∷ ns) [] (more t ts) g h = absurd h
+numbers_once nodes once (n ∷ ns) (m ∷ ms) (more t ts) g h =
+    ap (λ x. x ∷ ns) (once n m t g.0 h.0) ∙ ap (λ xs. m ∷ xs) (numbers_once nodes once ns ms ts g.1 h.1)
+
+same_parts : (f g s k : ℕ) (ts us : Trees) → App f s ts ≡ App g k us → (f ≡ g) × (s ≡ k) × (ts ≡ us)
+same_parts f g s k ts us e = (cc, cc, cc)
+
+pub root_once : (nodes : List Tree) → IsOnce nodes → (p q : PlainRoot) (t : Tree) → HasRoot nodes p t → HasRoot nodes q t → p ≡ q
+root_once nodes once (variable n s) (variable m k) t g h = let e : Var n s ≡ Var m k = sym g ∙ h in cc
+root_once nodes once (variable n s) (application f k ms) t g h = absurd (let e : Var n s ≡ App f k h.0 = sym g ∙ h.1 in cc)
+root_once nodes once (application f s ns) (variable m k) t g h = absurd (let e : Var m k ≡ App f s g.0 = sym h ∙ g.1 in cc)
+root_once nodes once (application f s ns) (application g k ms) t a b =
+    let same = same_parts f g s k a.0 b.0 (sym a.1 ∙ b.1) in
+    let P : Trees → Type 0 = AreNamed nodes ns in
+    let numbers = numbers_once nodes once ns ms b.0 (subst P same.2 a.2) b.2 in
+    ap (λ x. application x s ns) same.0 ∙ ap (λ x. application g x ns) same.1 ∙ ap (application g k) numbers
+
+pub root_of_one : (nodes : List Tree) (p : PlainRoot) (t u : Tree) → HasRoot nodes p t → HasRoot nodes p u → t ≡ u
+root_of_one nodes (variable n s) t u g h = g ∙ sym h
+root_of_one nodes (application f s ns) t u g h = g.1 ∙ ap (App f s) (are_named_one nodes ns g.0 h.0 g.2 h.2) ∙ sym h.1
+
+pub root_few : (nodes : List Tree) (p : PlainRoot) (t : Tree) → HasRoot nodes p t → length (args_of t) ≤ argument_limit
+root_few nodes (variable n s) t h = rw h (omega arith)
+root_few nodes (application f s ns) t h = let l = are_named_length nodes ns h.0 h.2 in rw h.1 (omega (arith, l, h.3))
+
+root_later : (old new : List Tree) (p : PlainRoot) (t : Tree) → Grows old new → HasRoot old p t → HasRoot new p t
+root_later old new (variable n s) t g h = h
+root_later old new (application f s ns) t g h = (h.0, h.1, are_named_later old new ns h.0 g h.2, h.3)
+
+-- what the look-up of a root answers
+
+module _ {nodes : List Tree} {roots : List Root} (k : IsKept nodes roots) where
+  pub root_at : (n : ℕ) (t : Tree) → IsNamed nodes n t → (r : Root) × (slice_get roots n ≡ Some r) × HasRoot nodes (plain_root r) t
+  root_at n t h =
+      let b = named_below nodes n t h in
+      let r = get_there roots n (omega (arith, b, k.long)) in
+      (r.0, r.1, k.rooted n r.0 t r.1 h)
+
+  -- the root that is read beside a term
+  pub root_read : (n : ℕ) (t : Tree) (r : Root) → IsNamed nodes n t → r ≡ get_or roots n r → HasRoot nodes (plain_root r) t
+  root_read n t r h e =
+      let b = named_below nodes n t h in
+      k.rooted n r t (slice_get_read roots (length roots) n r refl (omega (arith, b, k.long)) e) h
+
+  module _ (r : Root) (t : Tree) (root : HasRoot nodes (plain_root r) t) where
+    -- an equal root stands beside the term
+    same_root : (n : ℕ) (s : Root) → slice_get roots n ≡ Some s → eq-value.it r s ≡ true → IsNamed nodes n t
+    same_root n s e h =
+        let b = slice_get_within roots n s e in
+        let there = there_named nodes n (omega (arith, b, k.long)) in
+        let P : PlainRoot → Type 0 = λ p. HasRoot nodes p t in
+        let Q : Tree → Type 0 = IsNamed nodes n in
+        let one = root_of_one nodes (plain_root s) there.0 t (k.rooted n s there.0 e there.1) (subst P (test_right r s h) root) in
+        subst Q one there.1
+
+    pub found : (n : ℕ) → position (eq-value.it r) roots ≡ Some n → list_any (eq-value.it r) roots ≡ true → Finds nodes t (Some n)
+    found n e h =
+        let p = any_place (eq-value.it r) roots h in
+        same_root n p.0 (ap (slice_get roots) (position_place (eq-value.it r) roots n e) ∙ p.1) p.2
+
+    pub not_found : list_any (eq-value.it r) roots ≡ false → Finds nodes t None
+    not_found h n e =
+        let s = root_at n t e in
+        let same = root_once nodes k.once (plain_root r) (plain_root s.0) t root s.2 in
+        let any = any_at (eq-value.it r) roots n s.0 s.1 (test_whole r s.0 same) in
+        absurd (cc)
+
+    not_any : Finds nodes t None → list_any (eq-value.it r) roots ≡ false
+    not_any h = go (list_any (eq-value.it r) roots) refl
+      where
+        go : (b : Bool) → list_any (eq-value.it r) roots ≡ b → b ≡ false
+        go true e = let p = any_place (eq-value.it r) roots e in absurd (h (position_or_len (eq-value.it r) roots) (same_root _ p.0 p.1 p.2))
+        go false e = refl
+
+    pub root_put : {new : List Root} → Finds nodes t None → new ≡ (if list_any (eq-value.it r) roots then roots else roots ++ r ∷ [])
+        → new ≡ roots ++ r ∷ []
+    root_put h e = e ∙ ap (λ b. if b then roots else roots ++ r ∷ []) (not_any h)
+
+    -- the new term goes last
+    pub kept_push : Finds nodes t None → length nodes < 4294967295 → IsKept (nodes ++ t ∷ []) (roots ++ r ∷ [])
+    kept_push fresh room = record {
+      few = let l = length-append nodes (t ∷ []) in omega (arith, l, room);
+      long = let l = length-append nodes (t ∷ []) in let m = length-append roots (r ∷ []) in omega (arith, l, m, k.long);
+      rooted = λ n s u g h. rooted n s u (get_last roots r s n g) (get_last nodes t u n h);
+      once = λ n m u g h. once n m u (get_last nodes t u n g) (get_last nodes t u m h);
+    }
+      where
+        later : (p : PlainRoot) (u : Tree) → HasRoot nodes p u → HasRoot (nodes ++ t ∷ []) p u
+        later p u h = root_later nodes (nodes ++ t ∷ []) p u (t ∷ [], refl) h
+
+        rooted : (n : ℕ) (s : Root) (u : Tree) → (slice_get roots n ≡ Some s) ⊎ ((n ≡ length roots) × (r ≡ s))
+            → IsNamed nodes n u ⊎ ((n ≡ length nodes) × (t ≡ u)) → HasRoot (nodes ++ t ∷ []) (plain_root s) u
+        rooted n s u (inl g) (inl h) = later (plain_root s) u (k.rooted n s u g h)
+        rooted n s u (inl g) (inr h) = let b = slice_get_within roots n s g in absurd (omega (arith, b, k.long, h.0))
+        rooted n s u (inr g) (inl h) = let b = named_below nodes n u h in absurd (omega (arith, b, k.long, g.0))
+        rooted n s u (inr g) (inr h) =
+            let P : Root → Type 0 = λ x. HasRoot (nodes ++ t ∷ []) (plain_root x) u in
+            let Q : Tree → Type 0 = λ x. HasRoot (nodes ++ t ∷ []) (plain_root r) x in
+            subst P g.1 (subst Q h.1 (later (plain_root r) t root))
+
+        absent : (n : ℕ) (u : Tree) → IsNamed nodes n u → t ≡ u → ⊥
+        absent n u h same = fresh n (h ∙ ap Some (sym same))
+
+        once : (n m : ℕ) (u : Tree) → IsNamed nodes n u ⊎ ((n ≡ length nodes) × (t ≡ u)) → IsNamed nodes m u ⊎ ((m ≡ length nodes) × (t ≡ u)) → n ≡ m
+        once n m u (inl g) (inl h) = k.once n m u g h
+        once n m u (inl g) (inr h) = absurd (absent n u g h.1)
+        once n m u (inr g) (inl h) = absurd (absent m u h g.1)
+        once n m u (inr g) (inr h) = g.0 ∙ sym h.0
