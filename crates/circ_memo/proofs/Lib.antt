@@ -2,3 +2,5 @@ pub mod Entries
 pub mod Forms
 pub mod Roots
 pub mod Stepping
+pub mod Arguments
+pub mod Stores

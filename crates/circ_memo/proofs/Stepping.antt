@@ -4,18 +4,22 @@ use Rattle.std.specs.List.{AllByRecursion}
 use Rattle.circ_term.specs.Tree.{Tree, size_of, depth_of}
 use Rattle.circ_rewrite.specs.Replacement.{Replacement, Traced, placed, traced}
 use Rattle.circ_rewrite.specs.Known.{HasSettledBelow}
+use Rattle.circ_term.specs.Limits.{Big, Deep}
+use Rattle.circ_rewrite.specs.declared.fault.RewriteFault.TheVariants.{Spent, TooBig, TooDeep, Memory}
 use Rattle.circ_nodes.specs.Named.{IsNamed}
 use Rattle.circ_nodes.proofs.Numbers.{named_below, named_one}
 use Rattle.circ_chain.specs.Chain.{Chain}
 use Rattle.circ_chain.specs.Through.{Readies}
-use Rattle.circ_chain.proofs.Chains.{chain_on, chain_weaken}
+use Rattle.circ_chain.proofs.Chains.{chain_on, chain_weaken, out_on, breaks_on, outgrows_on}
 use Rattle.circ_chain.proofs.Roots.{readies_self, readies_weaken, readies_settled, readies_step, root_settled, kept_step}
 use Rattle.circ_memo.specs.Keeping.{IsForm, IsKept, AreKept, IsInBounds}
-use Rattle.circ_memo.specs.Settling.{IsWay, IsPassed, ArePassed, IsStepIn, passed_count}
+use Rattle.circ_memo.specs.Settling.{IsWay, IsPassed, ArePassed, IsStepIn, Stops, passed_count}
 use Rattle.circ_memo.specs.declared.parts.Bounds.{Bounds}
 use Rattle.circ_memo.specs.declared.parts.Entry.{Entry}
 use Rattle.circ_memo.specs.declared.parts.Way.{Way}
 use Rattle.circ_memo.specs.declared.parts.Step.{Step}
+use Rattle.circ_memo.specs.declared.parts.Stop.{Stop}
+use Rattle.circ_memo.specs.declared.parts.Stop.TheVariants as stop
 
 module _ (due : Tree → Option Replacement) (nodes : List Tree) where
   -- nothing is due in it
@@ -115,3 +119,12 @@ count_on (r ∷ ss) s = omega (arith, count_on ss s)
 pub all_back : {X : Type 0} (P : X → Type 0) (xs : List X) (x : X) → AllByRecursion P (xs ++ x ∷ []) → AllByRecursion P xs × P x
 all_back P [] x h = (tt, h.0)
 all_back P (y ∷ xs) x h = let rest = all_back P xs x h.1 in ((h.0, rest.0), rest.1)
+
+-- what stops the work after some steps stops it at the first term
+pub stops_on : (due : Tree → Option Replacement) (nodes : List Tree) (b : Bounds) (k n left : ℕ) (ts : List Traced) (t u : Tree) (s : Stop)
+    → Chain due b.big b.deep t ts u → Stops due nodes b k left u s → length ts + k ≡ n → Stops due nodes b n left t s
+stops_on due nodes b k n left ts t u (stop.Fault Spent) c h e = (out_on due b.big b.deep k n ts t u c h.0 e, h.1)
+stops_on due nodes b k n left ts t u (stop.Fault (TooBig m)) c h e = breaks_on due b.big b.deep k n left ts t u (Big m) c h e
+stops_on due nodes b k n left ts t u (stop.Fault (TooDeep m)) c h e = breaks_on due b.big b.deep k n left ts t u (Deep m) c h e
+stops_on due nodes b k n left ts t u (stop.Fault Memory) c h e = tt
+stops_on due nodes b k n left ts t u (stop.Outgrows m) c h e = (h.0, h.1, outgrows_on due b.big b.deep k n left ts t u h.0 c h.2 e)

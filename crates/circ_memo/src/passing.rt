@@ -1,7 +1,7 @@
 //! An application whose arguments are normalised from the left.
 ghost use Rattle.std.specs.Prelude.{◌≡◌, ◌≤◌, ◌<◌, ◌^◌, ◌+◌, ℕ, length, Option, IfOk};
 ghost use Rattle.std.specs.List.{AllByRecursion, slice_get};
-ghost use Rattle.std.specs.Prelude.{Some};
+ghost use Rattle.std.specs.Prelude.{Some, slice_set};
 ghost use Rattle.circ_term.specs.Tree.{Tree, size_of};
 ghost use Rattle.circ_rewrite.specs.Replacement.{Replacement};
 ghost use Rattle.circ_nodes.specs.Named.{IsNamed, Grows};
@@ -79,7 +79,7 @@ impl Passing {
         }
         let rest = self.size - own;
         self.size = rest + nodes.term(entry.value).size();
-        self.args[place] = entry.value;
+        put(&mut self.args, place, entry.value);
         self.count += entry.count;
         self.big = self.big.max(rest + entry.big);
         self.deep = self.deep.max(self.depth).max(entry.deep + 1);
@@ -138,10 +138,17 @@ impl Passing {
             Ok(args) => args,
             Err(fault) => return Stop::from(fault),
         };
-        args[place] = new;
+        put(&mut args, place, new);
         match nodes.app(self.op, self.sort, args) {
             Ok(term) => Stop::Outgrows(term),
             Err(fault) => Stop::Fault(rewrite_fault(fault)),
         }
     }
+}
+
+fn put(args: &mut Numbers, place: usize, new: u32)
+    requires { place < length args.old.items }
+    ensures { args.new.items ≡ slice_set args.old.items place new }
+{
+    args[place] = new;
 }
