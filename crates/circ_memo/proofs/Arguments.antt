@@ -1,10 +1,10 @@
 -- An application whose arguments are normalised from the left.
-use Rattle.std.proofs.Common.{◌≡◌, ℕ, ◌+◌, ◌-◌, ◌≤◌, ◌<◌, max, zero, suc, List, [], ◌∷◌, ◌++◌, map, length, Option, Some, None, refl, ap, sym, subst, ◌∙◌, arith, length-append}
+use Rattle.std.proofs.Common.{◌≡◌, ℕ, ◌+◌, ◌-◌, ◌*◌, ◌≤◌, ◌<◌, max, zero, suc, List, [], ◌∷◌, ◌++◌, map, length, Option, Some, None, refl, ap, sym, subst, ◌∙◌, arith, length-append}
 use Rattle.std.specs.Prelude.{slice_set}
 use Rattle.std.specs.List.{slice_get}
 use Rattle.std.proofs.lemmas.List.{length-map, length-set}
-use Rattle.circ_term.specs.Tree.{Tree, Trees, Var, App, args_of, list_of, put_at, size_of, depth_of}
-use Rattle.circ_term.specs.Limits.{Big, Deep, IsWithinLimits, Names, first_limit}
+use Rattle.circ_term.specs.Tree.{Tree, Trees, Var, App, none, more, args_of, list_of, put_at, size_of, depth_of}
+use Rattle.circ_term.specs.Limits.{Big, Deep, IsWithinLimits, Names, first_limit, node_limit}
 use Rattle.circ_term.proofs.Limits.{first_limit_none}
 use Rattle.circ_term.specs.declared.fault.TermFault.{TermFault}
 use Rattle.circ_term.specs.declared.fault.TermFault.TheVariants.{TooBig, TooDeep, Memory}
@@ -19,8 +19,11 @@ use Rattle.circ_chain.specs.Chain.{under, Chain, Outgrows}
 use Rattle.circ_chain.proofs.Standings.{size_arg, arg_smaller, arg_less_deep}
 use Rattle.circ_chain.proofs.Settling.{through_start, through_next, through_still, through_end, through_within, through_out, through_breaks, through_past, through_outgrows}
 use Rattle.circ_chain.proofs.Keeping.{kept_none}
+use Rattle.circ_chain.proofs.Roots.{readies_self}
+use Rattle.circ_rewrite.specs.Known.{HasSettledBelow}
+use Rattle.circ_memo.proofs.Stores.{depth_named, depth_named_is}
 use Rattle.circ_memo.specs.Keeping.{IsForm, IsInBounds}
-use Rattle.circ_memo.specs.Settling.{IsWithin, IsWay, IsPassing, Faulted, Stops, room}
+use Rattle.circ_memo.specs.Settling.{IsWithin, IsInside, IsWay, IsPassing, Faulted, room}
 use Rattle.circ_memo.specs.declared.parts.Bounds.{Bounds}
 use Rattle.circ_memo.specs.declared.parts.Entry.{Entry}
 use Rattle.circ_memo.specs.declared.parts.Passing.{Passing}
@@ -60,10 +63,35 @@ module _ (due : Tree → Option Replacement) (nodes : List Tree) (b : Bounds) (t
     deep = omega (arith, h.within.deep);
   }
 
+  -- the bounds that are left to argument i suit it
+  pub arg_inside : (n own : ℕ) (x : Tree) (r : Bounds) → slice_get p.args.items i ≡ Some n → IsNamed nodes n x → own ≡ size_of x → r ≡ room p b own → IsInside nodes r n
+  arg_inside n own x r e k o q = (x, k, rw (q, o) (arg_room x (arg_is n x e k)))
+
+  -- it takes less work
+  pub arg_measure : (n k : ℕ) (x : Tree) → slice_get p.args.items i ≡ Some n → IsNamed nodes n x
+      → k * 4004 + 4 * depth_named nodes n + 3 < (k + p.count) * 4004 + 4 * p.depth
+  arg_measure n k x e q = go p.count refl
+    where
+      less : depth_of x + 1 ≤ depth_of (App p.op p.sort h.args)
+      less = arg_less_deep p.op p.sort i h.args x (arg_is n x e q)
+
+      go : (c : ℕ) → p.count ≡ c → k * 4004 + 4 * depth_named nodes n + 3 < (k + p.count) * 4004 + 4 * p.depth
+      go zero z = omega (arith, less, depth_named_is nodes n x q, h.depth, ap depth_of (unmoved z), z)
+      go (suc c) z = omega (arith, less, depth_named_is nodes n x q, now_within.1, h.within.deep, z)
+
+  -- what goes into the new size and bounds is small
+  pub arg_small : (n own : ℕ) (x : Tree) → slice_get p.args.items i ≡ Some n → IsNamed nodes n x → own ≡ size_of x → (own ≤ p.size) × (p.size ≤ b.big) × (b.big ≤ node_limit) × (0 < b.deep)
+  arg_small n own x e k o = (
+    omega (arith, o, h.size, arg_smaller p.op p.sort i h.args x (arg_is n x e k)),
+    omega (arith, h.size, now_within.0),
+    h.within.big,
+    omega (arith, now_within.1),
+  )
+
   -- all arguments are normal
-  pub passing_way : (more : List Tree) (n : ℕ) → i ≡ length p.args.items → IsNamed more n (App p.op p.sort h.args)
-      → IsWay due more b t (record { ready = n; count = p.count; big = p.big; deep = p.deep }) (App p.op p.sort h.args)
-  passing_way more n e k = record {
+  pub passing_way : (later : List Tree) (n : ℕ) → i ≡ length p.args.items → IsNamed later n (App p.op p.sort h.args)
+      → IsWay due later b t (record { ready = n; count = p.count; big = p.big; deep = p.deep }) (App p.op p.sort h.args)
+  passing_way later n e k = record {
     traces = h.traces;
     there = k;
     count = h.count;
@@ -165,3 +193,23 @@ pub no_fault : (due : Tree → Option Replacement) (nodes : List Tree) (b : Boun
 no_fault due nodes b k left t u (TooBig n) w h = absurd (let z : None ≡ Some (Big n) = sym w ∙ h in cc)
 no_fault due nodes b k left t u (TooDeep n) w h = absurd (let z : None ≡ Some (Deep n) = sym w ∙ h in cc)
 no_fault due nodes b k left t u Memory w h = tt
+
+-- a variable has no arguments
+pub variable_way : (due : Tree → Option Replacement) (nodes : List Tree) (b : Bounds) (t : Tree) (n : ℕ) → IsNamed nodes n t → args_of t ≡ []
+    → IsWay due nodes b t (record { ready = n; count = 0; big = 0; deep = 0 }) t
+variable_way due nodes b t n k e = record {
+  traces = [];
+  there = k;
+  count = refl;
+  readies = readies_self due t (no_args t e);
+  small = omega arith;
+  shallow = omega arith;
+}
+  where
+    no_args : (t : Tree) → args_of t ≡ [] → HasSettledBelow due t
+    no_args (Var m s) e = tt
+    no_args (App f s none) e = tt
+    no_args (App f s (more x xs)) e = absurd (omega (arith, ap length e))
+
+pub within_of : (nodes : List Tree) (b : Bounds) (n : ℕ) (t : Tree) → IsInside nodes b n → IsNamed nodes n t → IsWithin b t
+within_of nodes b n t h k = subst (λ x. IsWithin b x) (named_one nodes n h.0 t h.1 k) h.2

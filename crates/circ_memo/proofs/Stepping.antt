@@ -128,3 +128,9 @@ stops_on due nodes b k n left ts t u (stop.Fault (TooBig m)) c h e = breaks_on d
 stops_on due nodes b k n left ts t u (stop.Fault (TooDeep m)) c h e = breaks_on due b.big b.deep k n left ts t u (Deep m) c h e
 stops_on due nodes b k n left ts t u (stop.Fault Memory) c h e = tt
 stops_on due nodes b k n left ts t u (stop.Outgrows m) c h e = (h.0, h.1, outgrows_on due b.big b.deep k n left ts t u h.0 c h.2 e)
+
+-- the same after a way
+pub way_stops : (due : Tree → Option Replacement) (nodes later : List Tree) (b : Bounds) (k n left : ℕ) (t : Tree) (w : Way) (u : Tree) (s : Stop)
+    → IsWay due nodes b t w u → Stops due later b k left u s → k + w.count ≡ n → Stops due later b n left t s
+way_stops due nodes later b k n left t w u s h stops e =
+    stops_on due later b k n left h.traces t u s (chain_weaken due w.big w.deep b.big b.deep h.traces t u h.small h.shallow h.readies.chain) stops (omega (arith, h.count, e))

@@ -110,7 +110,10 @@ fn settle_whole(
         big: MOST_NODES,
         deep: MOST_DEPTH,
     };
-    match settle(means, store, number, bounds, budget) {
+    let mut left = *budget;
+    let answer = settle(means, store, number, bounds, &mut left);
+    *budget = left;
+    match answer {
         Ok(entry) => Ok(entry),
         Err(Stop::Fault(fault)) => Err(fault),
         Err(Stop::Outgrows(_)) => unreachable!(),

@@ -43,6 +43,14 @@ impl Passing {
         }))
     }
 
+    // The argument that stands at a place.
+    pub(crate) fn arg(&self, place: usize) -> u32
+        requires { place < length self.now.args.items }
+        ensures { slice_get self.now.args.items place ≡ Some result }
+    {
+        self.args[place]
+    }
+
     // The bounds that the others leave to an argument of this size.
     pub(crate) fn room(&self, bounds: Bounds, own: u64) -> Bounds
         requires big { self.now.size ≤ bounds.big }
@@ -132,7 +140,7 @@ impl Passing {
             → IsPassing due nodes.old b t place self.now
             → slice_get self.now.args.items place ≡ Some n → IsNamed nodes.old n a
             → Stops due nodes.old (room self.now b (size_of a)) k left a (Outgrows new)
-            → Stops due nodes.new b (self.now.count + k) left t result }
+            → Stops due nodes.new b (k + self.now.count) left t result }
     {
         let mut args = match Numbers::from_slice(alloc, self.args.as_slice()) {
             Ok(args) => args,

@@ -25,6 +25,7 @@ pub(crate) fn settle(
 ) -> Result<Entry, Stop>
     requires store { IsStore means.now store.old }
     requires inside { IsInside store.old.nodes bounds number }
+    requires fits { budget.old < 2 ^ 64 }
     ensures store { IsStore means.now store.new }
     ensures extends { Extends store.old store.new }
     ensures less { budget.new ≤ budget.old }
@@ -56,6 +57,7 @@ fn turn(
 ) -> Result<Turn, Stop>
     requires store { IsStore means.now store.old }
     requires inside { IsInside store.old.nodes bounds here }
+    requires fits { budget.old < 2 ^ 64 }
     ensures store { IsStore means.now store.new }
     ensures extends { Extends store.old store.new }
     ensures less { budget.new ≤ budget.old }
@@ -88,6 +90,7 @@ fn settle_args(
 ) -> Result<Way, Stop>
     requires store { IsStore means.now store.old }
     requires inside { IsInside store.old.nodes bounds here }
+    requires fits { budget.old < 2 ^ 64 }
     ensures store { IsStore means.now store.new }
     ensures extends { Extends store.old store.new }
     ensures less { budget.new ≤ budget.old }
@@ -136,7 +139,7 @@ fn settle_arg(
             budget.new t (place + 1) passing.new result }
     ensures len { length passing.new.args.items ≡ length passing.old.args.items }
 {
-    let arg = passing.args[place];
+    let arg = passing.arg(place);
     if store.is_still(arg) {
         return Ok(());
     }
@@ -150,6 +153,6 @@ fn settle_arg(
         Err(Stop::Outgrows(new)) => {
             Err(passing.outgrow(store.alloc, &mut store.nodes, place, new))
         }
-        Err(stop) => Err(stop),
+        Err(Stop::Fault(fault)) => Err(Stop::Fault(fault)),
     }
 }

@@ -1,4 +1,4 @@
-use Rattle.std.proofs.Common.{refl, ap, sym, subst, ◌∙◌}
+use Rattle.std.proofs.Common.{arith}
 use Rattle.std.specs.Prelude.{slice_set}
 use Rattle.circ_term.specs.Tree.{App, put_at}
 use Rattle.circ_nodes.specs.Named.{IsNamed, AreNamed}
@@ -12,7 +12,7 @@ returns-in-Ok-app-clause-stops c = λ due b t a n k left p at named s.
     let self = c.args.self.now in
     let set = are_named_set nodes self.args.items p.args c.args.place c.args.new s.0 p.named s.1 in
     let made = c.in-Ok-app.ensures.interns (put_at p.args c.args.place s.0) (rw (c.put.ensures, c.in-Ok.ensures.ok, c.as_slice.ensures) set) in
-    (App self.op self.sort (put_at p.args c.args.place s.0), made.0, passing_outgrows due nodes b t c.args.place self p k left _ a s.0 (arg_is due nodes b t c.args.place self p n a at named) refl s.2 made.1)
+    (App self.op self.sort (put_at p.args c.args.place s.0), made.0, passing_outgrows due nodes b t c.args.place self p k left _ a s.0 (arg_is due nodes b t c.args.place self p n a at named) (omega arith) s.2 made.1)
 
 pub returns-in-Err-app-clause-stops : goal.returns-in-Err-app-clause-stops
 returns-in-Err-app-clause-stops c = λ due b t a n k left p at named s.
@@ -21,4 +21,4 @@ returns-in-Err-app-clause-stops c = λ due b t a n k left p at named s.
     let set = are_named_set nodes self.args.items p.args c.args.place c.args.new s.0 p.named s.1 in
     let made = c.in-Err-app.ensures.interns (put_at p.args c.args.place s.0) (rw (c.put.ensures, c.in-Ok.ensures.ok, c.as_slice.ensures) set) in
     rw c.rewrite_fault.ensures
-    (passing_past due nodes b t c.args.place self p k left _ a s.0 c.in-Err-app.fault (arg_is due nodes b t c.args.place self p n a at named) refl s.2 made)
+    (passing_past due nodes b t c.args.place self p k left _ a s.0 c.in-Err-app.fault (arg_is due nodes b t c.args.place self p n a at named) (omega arith) s.2 made)
