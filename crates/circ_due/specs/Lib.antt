@@ -1,1 +1,4 @@
+pub mod Bounds
+pub mod Rows
+pub mod Assuming
 pub mod Chosen

@@ -4,8 +4,14 @@
 //! replacement is chosen, then built, and a trace of it is made only where one is wanted.
 #![tactic(auto)]
 
+mod assuming;
+mod building;
 mod choice;
+mod choosing;
+mod index;
+mod matching;
 mod means;
+mod tracing;
 
-pub use choice::{Bound, Choice};
+pub use choice::{Bound, Bounds, Choice};
 pub use means::Means;

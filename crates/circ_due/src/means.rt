@@ -8,11 +8,17 @@ ghost use Rattle.circ_rewrite.specs.Plain.{plain_trace};
 ghost use Rattle.circ_rewrite.specs.Replacement.{Replacement, placed, traced};
 ghost use Rattle.circ_due.specs.Chosen.{IsReady, IsChoice, IsChosen, Chooses, due_by};
 
+use crate::assuming::{Assumed, assumed_at, kept, share_goals};
+use crate::building::{canonical_form, instance};
 use crate::choice::Choice;
+use crate::choosing::choose_besides;
+use crate::index::Rows;
+use crate::tracing::terms_given;
 use circ_nodes::Nodes;
 use circ_rewrite::{Rule, Trace};
-use circ_term::TermFault;
+use circ_term::{Path, TermFault};
 use circ_theory::{Goal, Theory};
+use indexmap::IndexMap;
 use std::alloc::{AllocError, Global};
 
 /// A theory's marked operators, rules and assumptions, by which terms of one table are rewritten.
@@ -26,6 +32,9 @@ pub struct Means<'a> {
     pub rules: Vec<Rule>,
     /// The assumptions, which are tried first.
     pub assumptions: Vec<Goal>,
+    // The rules by their roots, and the assumptions by the numbers of their left sides.
+    pub(crate) rows: Rows,
+    pub(crate) assumed: IndexMap<u32, Assumed>,
 }
 
 impl<'a> Means<'a> {
@@ -42,7 +51,15 @@ impl<'a> Means<'a> {
         ensures rules { IfOk result (λ m. m.rules.items ≡ rules.items) }
         ensures assumptions { IfOk result (λ m. m.assumptions.items ≡ []) }
     {
-        Err(AllocError)
+        let rows = Rows::of(alloc, rules.as_slice())?;
+        Ok(Means {
+            alloc,
+            theory,
+            rules,
+            assumptions: Vec::new(alloc),
+            rows,
+            assumed: IndexMap::new(alloc),
+        })
     }
 
     /// Puts these assumptions in place of those before. After want of memory there are none.
@@ -56,8 +73,13 @@ impl<'a> Means<'a> {
         ensures assumptions { IfOk result (λ _. self.new.assumptions.items ≡ assumptions.now) }
         ensures forgotten { OnErr result (self.new.assumptions.items ≡ []) }
     {
-        self.assumptions.truncate(0);
-        Err(AllocError)
+        self.assumptions = Vec::new(self.alloc);
+        self.assumed = IndexMap::new(self.alloc);
+        let goals = share_goals(self.alloc, assumptions)?;
+        let assumed = kept(self.alloc, nodes, assumptions)?;
+        self.assumptions = goals;
+        self.assumed = assumed;
+        Ok(())
     }
 
     /// What is due at the root of the term of this number.
@@ -67,7 +89,11 @@ impl<'a> Means<'a> {
         ensures { (t : Tree) → IsNamed nodes.now number t
             → IfOk result (Chooses nodes.now self.now t (due_by self.now t)) }
     {
-        Err(AllocError)
+        nodes.known();
+        match assumed_at(&self.assumed, number) {
+            Some(choice) => Ok(Some(choice)),
+            None => choose_besides(self, nodes, number),
+        }
     }
 
     /// The number of the term that replaces the term of this number.
@@ -79,7 +105,17 @@ impl<'a> Means<'a> {
         ensures interns { (t : Tree) (r : Replacement) → IsNamed nodes.old number t
             → IsChoice nodes.old self.now t choice.now r → Interns nodes.new result r.new }
     {
-        Err(TermFault::Memory)
+        match choice {
+            Choice::Assumed { right, .. } => {
+                nodes.term(*right).known();
+                Ok(*right)
+            }
+            Choice::Content { op } => canonical_form(self.alloc, self.theory, nodes, *op, number),
+            Choice::Ruled { rule, given } => {
+                let rule = &self.rules[*rule as usize];
+                instance(self.alloc, nodes, given.as_slice(), &rule.right)
+            }
+        }
     }
 
     /// The trace of a replacement at a path in the whole term, by the new term's number.
@@ -97,6 +133,22 @@ impl<'a> Means<'a> {
             → IsChoice nodes.now self.now t choice.now r
             → IfOk result (λ x. plain_trace x ≡ traced (placed path.now r)) }
     {
-        Err(AllocError)
+        let path = Path::from_slice(self.alloc, path)?;
+        match choice {
+            Choice::Assumed { number, .. } => Ok(Trace::Assumed {
+                number: *number,
+                path,
+            }),
+            Choice::Content { op } => Ok(Trace::Content {
+                op: *op,
+                path,
+                term: nodes.term(new).share()?,
+            }),
+            Choice::Ruled { rule, given } => Ok(Trace::Rewrite {
+                name: self.rules[*rule as usize].name,
+                path,
+                terms: terms_given(self.alloc, nodes, given.as_slice())?,
+            }),
+        }
     }
 }

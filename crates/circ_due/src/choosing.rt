@@ -1,0 +1,77 @@
+//! Which replacement is due at the root of an interned term.
+ghost use Rattle.std.specs.Prelude.{◌≡◌, ◌<◌, length, IfOk, None, []};
+ghost use Rattle.circ_rewrite.specs.Due.{assumed, ruled};
+ghost use Rattle.circ_due.specs.Bounds.{tree_at};
+ghost use Rattle.circ_due.specs.Chosen.{IsReady, Chooses, Fits, due_by};
+
+use crate::choice::{Bounds, Choice};
+use crate::matching::extend;
+use crate::means::Means;
+use circ_aci::is_canonical;
+use circ_nodes::{Nodes, Shape};
+use circ_rewrite::Rule;
+use std::alloc::AllocError;
+
+// What is due at the root of a term that no assumption has as its left side.
+pub(crate) fn choose_besides(
+    means: &Means<'_>,
+    nodes: &Nodes,
+    number: u32,
+) -> Result<Option<Choice>, AllocError>
+    requires ready { IsReady nodes.now means.now }
+    requires there { number < length nodes.now }
+    requires none { assumed 0 means.now.assumptions.items (tree_at nodes.now number) ≡ None }
+    ensures { IfOk result (Chooses nodes.now means.now (tree_at nodes.now number)
+        (due_by means.now (tree_at nodes.now number))) }
+{
+    let Shape::Application { op, .. } = nodes.shape(number) else {
+        return Ok(None);
+    };
+    if !is_canonical(means.theory, op, nodes.term(number)) {
+        return Ok(Some(Choice::Content { op }));
+    }
+    ruled(means, nodes, number)
+}
+
+// The rules in the term's two rows are tried in the order of their numbers.
+fn ruled(means: &Means<'_>, nodes: &Nodes, number: u32) -> Result<Option<Choice>, AllocError>
+    requires ready { IsReady nodes.now means.now }
+    requires there { number < length nodes.now }
+    ensures { IfOk result (Chooses nodes.now means.now (tree_at nodes.now number)
+        (ruled means.now.rules.items (tree_at nodes.now number))) }
+{
+    let mut given = Bounds::new(means.alloc);
+    let mut near = means.rows.first_near(nodes.term(number));
+    let mut wide = means.rows.first_wide(nodes.term(number));
+    while near.min(wide) < means.rules.len() {
+        let rule = near.min(wide);
+        if fits(nodes, &means.rules[rule], number, &mut given)? {
+            return Ok(Some(Choice::Ruled {
+                rule: rule as u32,
+                given,
+            }));
+        }
+        near = means.rows.behind(near, rule);
+        wide = means.rows.behind(wide, rule);
+    }
+    Ok(None)
+}
+
+// Whether a rule's left side matches, and what its variables are given then.
+fn fits(
+    nodes: &Nodes,
+    rule: &Rule,
+    number: u32,
+    given: &mut Bounds,
+) -> Result<bool, AllocError>
+    requires there { number < length nodes.now }
+    requires nothing { given.old.items ≡ [] }
+    ensures { IfOk result
+        (Fits nodes.now rule.now (tree_at nodes.now number) given.new.items) }
+{
+    if extend(nodes, given, &rule.left, number)? {
+        return Ok(true);
+    }
+    given.clear();
+    Ok(false)
+}
