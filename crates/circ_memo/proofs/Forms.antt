@@ -92,3 +92,6 @@ module _ (due : Tree → Option Replacement) where
             let is : e ≡ d = same_Some e d (sym (subst (λ x. kept_at b x ≡ Some e) (sym z) p.there) ∙ k) in
             subst (λ x. IsKept due nodes m x) is (subst (λ x. IsKept due nodes x e) (sym z) q)
         go (inr z) = h m d (sym z ∙ k)
+
+    pub kept_nothing : (es : List (Option Entry)) → es ≡ [] → AreKept due nodes es
+    kept_nothing es z n e k = absurd (let f : None ≡ Some e = rw z at k in cc)

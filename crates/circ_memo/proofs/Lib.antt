@@ -4,3 +4,4 @@ pub mod Roots
 pub mod Stepping
 pub mod Arguments
 pub mod Stores
+pub mod Wholes

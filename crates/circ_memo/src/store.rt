@@ -1,5 +1,5 @@
 //! Interned terms, and what is kept of them.
-ghost use Rattle.std.specs.Prelude.{◌≡◌, ◌<◌, ◌≤◌, ℕ, length, Option, IfSome, OnOk, OnErr, IsTrue, Some};
+ghost use Rattle.std.specs.Prelude.{◌≡◌, ◌<◌, ◌≤◌, ℕ, [], length, Option, IfSome, OnOk, OnErr, IsTrue, Some};
 ghost use Rattle.std.specs.List.{AllByRecursion};
 ghost use Rattle.circ_term.specs.Tree.{Tree};
 ghost use Rattle.circ_rewrite.specs.Replacement.{Replacement};
@@ -20,7 +20,9 @@ pub(crate) struct Store {
 }
 
 impl Store {
-    pub(crate) fn new(alloc: Global) -> Store {
+    pub(crate) fn new(alloc: Global) -> Store
+        ensures { result.entries.items ≡ [] }
+    {
         Store {
             alloc,
             nodes: Nodes::new(alloc),
