@@ -82,7 +82,10 @@ impl<'a> Memo<'a> {
         ensures same { self.new ≡ self.old }
     {
         let number = self.store.nodes.intern(term)?;
-        match settle_whole(&self.means, &mut self.store, number, budget) {
+        let mut left = *budget;
+        let kept = settle_whole(&self.means, &mut self.store, number, &mut left);
+        *budget = left;
+        match kept {
             Ok(entry) => Ok(self.store.nodes.term(entry.value).share()?),
             Err(fault) => Err(fault),
         }
@@ -98,6 +101,7 @@ fn settle_whole(
 ) -> Result<Entry, RewriteFault>
     requires store { IsStore means.now store.old }
     requires there { number < length store.old.nodes }
+    requires fits { budget.old < 2 ^ 64 }
     ensures store { IsStore means.now store.new }
     ensures extends { Extends store.old store.new }
     ensures less { budget.new ≤ budget.old }
@@ -110,10 +114,7 @@ fn settle_whole(
         big: MOST_NODES,
         deep: MOST_DEPTH,
     };
-    let mut left = *budget;
-    let answer = settle(means, store, number, bounds, &mut left);
-    *budget = left;
-    match answer {
+    match settle(means, store, number, bounds, budget) {
         Ok(entry) => Ok(entry),
         Err(Stop::Fault(fault)) => Err(fault),
         Err(Stop::Outgrows(_)) => unreachable!(),
