@@ -1,0 +1,50 @@
+-- What is kept, by number.
+use Rattle.std.proofs.Common.{◌≡◌, ℕ, ◌+◌, ◌<◌, ◌≤◌, zero, suc, ◌⊎◌, inl, inr, List, [], ◌∷◌, ◌++◌, length, get_or, Option, Some, None, refl, ap, ◌∙◌, arith}
+use Rattle.std.specs.Prelude.{slice_set}
+use Rattle.circ_memo.specs.Keeping.{kept_at, HasSame, Puts}
+use Rattle.circ_memo.specs.declared.parts.Entry.{Entry}
+
+pub kept_read : (os : List (Option Entry)) (n : ℕ) → get_or os n None ≡ kept_at os n
+kept_read [] n = refl
+kept_read (p ∷ os) zero = refl
+kept_read (p ∷ os) (suc n) = kept_read os n
+
+pub kept_past : (os : List (Option Entry)) (n : ℕ) → length os ≤ n → kept_at os n ≡ None
+kept_past [] n h = refl
+kept_past (p ∷ os) zero h = absurd (omega arith)
+kept_past (p ∷ os) (suc n) h = kept_past os n (omega arith)
+
+pub same_push : (os : List (Option Entry)) → HasSame os (os ++ None ∷ [])
+same_push [] zero = refl
+same_push [] (suc n) = refl
+same_push (p ∷ os) zero = refl
+same_push (p ∷ os) (suc n) = same_push os n
+
+pub same_on : (a b c : List (Option Entry)) → HasSame a b → HasSame b c → HasSame a c
+same_on a b c g h n = h n ∙ g n
+
+set_there : (os : List (Option Entry)) (n : ℕ) (e : Entry) → n < length os → kept_at (slice_set os n (Some e)) n ≡ Some e
+set_there [] n e h = absurd (omega arith)
+set_there (p ∷ os) zero e h = refl
+set_there (p ∷ os) (suc n) e h = set_there os n e (omega arith)
+
+set_others : (os : List (Option Entry)) (n : ℕ) (e : Entry) (m : ℕ) → (m ≡ n) ⊎ (kept_at (slice_set os n (Some e)) m ≡ kept_at os m)
+set_others [] n e m = inr refl
+set_others (p ∷ os) zero e zero = inl refl
+set_others (p ∷ os) zero e (suc m) = inr refl
+set_others (p ∷ os) (suc n) e zero = inr refl
+set_others (p ∷ os) (suc n) e (suc m) = go (set_others os n e m)
+  where
+    go : (m ≡ n) ⊎ (kept_at (slice_set os n (Some e)) m ≡ kept_at os m) → (suc m ≡ suc n) ⊎ (kept_at (slice_set os n (Some e)) m ≡ kept_at os m)
+    go (inl a) = inl (ap suc a)
+    go (inr a) = inr a
+
+pub puts_set : (os : List (Option Entry)) (n : ℕ) (e : Entry) → n < length os → Puts n e os (slice_set os n (Some e))
+puts_set os n e h = record { there = set_there os n e h; others = set_others os n e }
+
+pub puts_on : (n : ℕ) (e : Entry) (a b c : List (Option Entry)) → HasSame a b → Puts n e b c → Puts n e a c
+puts_on n e a b c g h = record { there = h.there; others = λ m. go m (h.others m) }
+  where
+    go : (m : ℕ) → (m ≡ n) ⊎ (kept_at c m ≡ kept_at b m) → (m ≡ n) ⊎ (kept_at c m ≡ kept_at a m)
+    go m (inl x) = inl x
+    go m (inr x) = inr (x ∙ g m)

@@ -1,0 +1,37 @@
+-- A store stays right when terms are added.
+use Rattle.std.proofs.Common.{◌≡◌, ℕ, ◌+◌, ◌≤◌, List, Option, Some, refl, ap, sym, subst, ◌∙◌}
+use Rattle.std.specs.List.{slice_get}
+use Rattle.std.specs.Option.{option_map_or}
+use Rattle.circ_term.specs.Tree.{Tree, depth_of}
+use Rattle.circ_nodes.specs.Named.{IsNamed, Grows}
+use Rattle.circ_nodes.proofs.Numbers.{grows_self, grows_more}
+use Rattle.circ_due.specs.Chosen.{due_by}
+use Rattle.circ_due.specs.declared.means.Means.{Means}
+use Rattle.circ_due.proofs.Later.{ready_later}
+use Rattle.circ_memo.specs.Keeping.{AreKept}
+use Rattle.circ_memo.specs.Working.{IsStore, Extends}
+use Rattle.circ_memo.specs.declared.store.Store.{Store}
+use Rattle.circ_memo.proofs.Forms.{kept_later}
+
+pub store_later : (m : Means) (a b : Store) → Grows a.nodes b.nodes → b.entries.items ≡ a.entries.items → IsStore m a → IsStore m b
+store_later m a b g e h = record { ready = ready_later a.nodes b.nodes m g h.ready; kept = rw e (kept_later (due_by m) a.nodes b.nodes g a.entries.items h.kept) }
+
+-- more is kept, and no terms were added
+pub store_kept : (m : Means) (a b : Store) → b.nodes ≡ a.nodes → AreKept (due_by m) b.nodes b.entries.items → IsStore m a → IsStore m b
+store_kept m a b e k h = record { ready = rw e h.ready; kept = k }
+
+pub extends_self : (a : Store) → Extends a a
+extends_self a = record { grows = grows_self a.nodes }
+
+pub extends_on : (a b c : Store) → Extends a b → Extends b c → Extends a c
+extends_on a b c g h = record { grows = grows_more a.nodes b.nodes c.nodes g.grows h.grows }
+
+pub extends_same : (a b : Store) → b.nodes ≡ a.nodes → Extends a b
+extends_same a b e = record { grows = rw e (grows_self a.nodes) }
+
+-- the depth of the term of a number, for measures
+abbrev pub depth_named : List Tree → ℕ → ℕ
+depth_named nodes n = option_map_or depth_of (slice_get nodes n) 0
+
+pub depth_named_is : (nodes : List Tree) (n : ℕ) (t : Tree) → IsNamed nodes n t → depth_named nodes n ≡ depth_of t
+depth_named_is nodes n t h = rw h refl

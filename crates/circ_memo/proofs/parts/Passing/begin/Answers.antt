@@ -1,0 +1,28 @@
+use Rattle.std.proofs.Common.{refl, ap, sym, subst, ◌∙◌, arith, [], length}
+use Rattle.circ_term.specs.Tree.{args_of, size_of, depth_of}
+use Rattle.circ_nodes.proofs.Numbers.{named_one, are_named_length}
+use Rattle.circ_chain.specs.Through.{Through}
+use Rattle.circ_chain.proofs.Settling.{through_start}
+use Rattle.circ_memo.proofs.parts.Passing.begin.Goals as goal
+
+pub returns : goal.returns
+returns c = λ due b t n w.
+    let shape = c.in-Application.ensures.shape t n in
+    let is = named_one c.args.nodes.now c.args.number c.term-term.result.now t c.term-term.ensures n in
+    let items = c.in_ok-from_slice.ensures.ok in
+    (
+      record {
+        args = shape.0;
+        traces = [];
+        named = rw items shape.2;
+        few = omega (arith, c.in-Application.ensures.few t n, ap length items, ap (λ x. length (args_of x)) shape.1, are_named_length c.args.nodes.now c.in-Application.args.now shape.0 shape.2);
+        within = w;
+        size = c.size.ensures.exact ∙ ap size_of (is ∙ shape.1);
+        depth = c.depth.ensures.exact ∙ ap depth_of is;
+        count = refl;
+        through = subst (λ x. Through due 0 0 x [] c.in-Application.op c.in-Application.sort 0 shape.0) (sym shape.1) (through_start due c.in-Application.op c.in-Application.sort shape.0);
+        small = omega arith;
+        shallow = omega arith;
+      },
+      refl,
+    )

@@ -1,0 +1,352 @@
+use Rattle.std.proofs.Common.{◌≡◌, ◌+◌, length, refl, ap, sym, subst, ◌∙◌, arith}
+use Rattle.circ_nodes.proofs.Numbers.{named_below, named_one, named_later, all_below, are_named_later}
+use Rattle.circ_due.specs.Chosen.{due_by}
+use Rattle.circ_memo.specs.Settling.{IsPassing, IsToKeep, Stops, passed_count}
+use Rattle.circ_memo.specs.declared.store.Store.{Store}
+use Rattle.circ_memo.proofs.Arguments.{arg_at, arg_is, arg_inside, arg_measure, arg_small, passing_still, passing_stops, variable_way, within_of}
+use Rattle.circ_memo.proofs.Forms.{kept_later, passing_later, way_later, are_passed_later}
+use Rattle.circ_memo.proofs.Stepping.{are_passed_in, passed_on, passed_chain, count_on, stops_on, way_stops}
+use Rattle.circ_memo.proofs.Stores.{store_later, store_kept, extends_self, extends_on, depth_named_is}
+use Rattle.circ_memo.proofs.settling.+settle.Goals as goal
+
+pub settle_arg-returns-then-is_still-clause-passes : goal.settle_arg-returns-then-is_still-clause-passes
+settle_arg-returns-then-is_still-clause-passes t c = λ u p.
+    let m = c.args.means.now in
+    let nodes = c.args.store.now.nodes in
+    let still = c.is_still.ensures c.if-is_still.true in
+    let kept = c.requires.store.kept c.arg-arg.result still.0 still.1 in
+    let at = arg_is (due_by m) nodes c.args.bounds u c.args.place c.args.passing.now p c.arg-arg.result kept.term c.arg-arg.ensures kept.here in
+    (passing_still (due_by m) nodes c.args.bounds u c.args.place c.args.passing.now p kept.term still.0 at kept.form still.2, refl)
+
+pub settle_arg-term-requires : goal.settle_arg-term-requires
+settle_arg-term-requires t c =
+    let a = arg_at (due_by c.args.means.now) c.args.store.now.nodes c.args.bounds c.requires.passing.0 c.args.place c.args.passing.now c.requires.passing.1 c.arg-arg.result c.arg-arg.ensures in
+    named_below c.args.store.now.nodes c.arg-arg.result a.0 a.2
+
+pub settle_arg-room-room-requires-clause-big : goal.settle_arg-room-room-requires-clause-big
+settle_arg-room-room-requires-clause-big t c =
+    (arg_small (due_by c.args.means.now) c.args.store.now.nodes c.args.bounds c.requires.passing.0 c.args.place c.args.passing.now c.requires.passing.1 c.arg-arg.result c.size-own.result
+    c.term.result.now c.arg-arg.ensures c.term.ensures c.size-own.ensures.exact).1
+
+pub settle_arg-room-room-requires-clause-deep : goal.settle_arg-room-room-requires-clause-deep
+settle_arg-room-room-requires-clause-deep t c =
+    (arg_small (due_by c.args.means.now) c.args.store.now.nodes c.args.bounds c.requires.passing.0 c.args.place c.args.passing.now c.requires.passing.1 c.arg-arg.result c.size-own.result
+    c.term.result.now c.arg-arg.ensures c.term.ensures c.size-own.ensures.exact).3
+
+pub settle_arg-room-room-requires-clause-small : goal.settle_arg-room-room-requires-clause-small
+settle_arg-room-room-requires-clause-small t c =
+    omega (arith, (arg_small (due_by c.args.means.now) c.args.store.now.nodes c.args.bounds c.requires.passing.0 c.args.place c.args.passing.now c.requires.passing.1 c.arg-arg.result c.size-own.result
+    c.term.result.now c.arg-arg.ensures c.term.ensures c.size-own.ensures.exact).2, c.size-own.ensures.small)
+
+pub settle_arg-settle-requires : goal.settle_arg-settle-requires
+settle_arg-settle-requires t c = (
+  omega (arith, arg_measure (due_by c.args.means.now) c.args.store.now.nodes c.args.bounds c.requires.passing.0 c.args.place c.args.passing.now c.requires.passing.1 c.arg-arg.result c.args.budget.now
+      c.term.result.now c.arg-arg.ensures c.term.ensures),
+  (
+    c.requires.store,
+    (
+      arg_inside (due_by c.args.means.now) c.args.store.now.nodes c.args.bounds c.requires.passing.0 c.args.place c.args.passing.now c.requires.passing.1 c.arg-arg.result c.size-own.result
+          c.term.result.now c.room-room.result c.arg-arg.ensures c.term.ensures c.size-own.ensures.exact c.room-room.ensures,
+      omega (arith, c.requires.count),
+    ),
+  ),
+)
+
+pub settle_arg-pass-requires-clause-value : goal.settle_arg-pass-requires-clause-value
+settle_arg-pass-requires-clause-value t c =
+    let kept = c.in-Ok.ensures.settles c.term.result.now c.term.ensures in
+    named_below c.settle.new.store.nodes c.in-Ok.entry.value kept.0.0.value kept.0.0.there
+
+pub settle_arg-pass-requires-clause-own : goal.settle_arg-pass-requires-clause-own
+settle_arg-pass-requires-clause-own t c =
+    (arg_small (due_by c.args.means.now) c.args.store.now.nodes c.args.bounds c.requires.passing.0 c.args.place c.args.passing.now c.requires.passing.1 c.arg-arg.result c.size-own.result
+    c.term.result.now c.arg-arg.ensures c.term.ensures c.size-own.ensures.exact).0
+
+pub settle_arg-pass-requires-clause-size : goal.settle_arg-pass-requires-clause-size
+settle_arg-pass-requires-clause-size t c =
+    let small = arg_small (due_by c.args.means.now) c.args.store.now.nodes c.args.bounds c.requires.passing.0 c.args.place c.args.passing.now c.requires.passing.1 c.arg-arg.result c.size-own.result
+    c.term.result.now c.arg-arg.ensures c.term.ensures c.size-own.ensures.exact in
+    omega (arith, small.1, small.2)
+
+pub settle_arg-pass-requires-clause-big : goal.settle_arg-pass-requires-clause-big
+settle_arg-pass-requires-clause-big t c =
+    let kept = c.in-Ok.ensures.settles c.term.result.now c.term.ensures in
+    let inside = arg_inside (due_by c.args.means.now) c.args.store.now.nodes c.args.bounds c.requires.passing.0 c.args.place c.args.passing.now c.requires.passing.1 c.arg-arg.result c.size-own.result
+    c.term.result.now c.room-room.result c.arg-arg.ensures c.term.ensures c.size-own.ensures.exact c.room-room.ensures in
+    omega (arith, kept.0.1.small, inside.2.big)
+
+pub settle_arg-outgrow-requires-clause-there : goal.settle_arg-outgrow-requires-clause-there
+settle_arg-outgrow-requires-clause-there t c =
+    let p = c.requires.passing.1 in
+    all_below c.settle.new.store.nodes c.args.passing.now.args.items p.args
+    (are_named_later c.args.store.now.nodes c.settle.new.store.nodes c.args.passing.now.args.items p.args c.settle.ensures.extends.grows p.named)
+
+pub settle_arg-outgrow-requires-clause-new : goal.settle_arg-outgrow-requires-clause-new
+settle_arg-outgrow-requires-clause-new t c =
+    let s = rw c.in-Err-Outgrows.field-0-is at (c.in-Err-Outgrows.ensures.settles c.term.result.now c.term.ensures) in
+    named_below c.settle.new.store.nodes c.in-Err-Outgrows.new s.0 s.1
+
+pub settle_arg-returns-in-Ok-clause-passes : goal.settle_arg-returns-in-Ok-clause-passes
+settle_arg-returns-in-Ok-clause-passes t c = λ u p.
+    let due = due_by c.args.means.now in
+    let old = c.args.store.now.nodes in
+    let new = c.settle.new.store.nodes in
+    let a = c.term.result.now in
+    let kept = c.in-Ok.ensures.settles a c.term.ensures in
+    let later = passing_later due old new c.settle.ensures.extends.grows c.args.bounds u c.args.place c.args.passing.now p in
+    let named = named_later old new c.arg-arg.result a c.settle.ensures.extends.grows c.term.ensures in
+    (
+      c.pass.ensures.passes due c.args.bounds u a c.arg-arg.result later c.arg-arg.ensures named c.size-own.ensures.exact kept.0.0 (rw c.room-room.ensures at kept.0.1),
+      omega (arith, c.pass.ensures.count, kept.1),
+    )
+
+pub settle_arg-returns-in-Err-Outgrows-clause-store : goal.settle_arg-returns-in-Err-Outgrows-clause-store
+settle_arg-returns-in-Err-Outgrows-clause-store t c = store_later c.args.means.now c.settle.new.store _ c.outgrow.ensures.grows refl c.settle.ensures.store
+
+pub settle_arg-returns-in-Err-Outgrows-clause-passes : goal.settle_arg-returns-in-Err-Outgrows-clause-passes
+settle_arg-returns-in-Err-Outgrows-clause-passes t c = λ u p.
+    let due = due_by c.args.means.now in
+    let old = c.args.store.now.nodes in
+    let new = c.settle.new.store.nodes in
+    let a = c.term.result.now in
+    let s = rw c.in-Err-Outgrows.field-0-is at (c.in-Err-Outgrows.ensures.settles a c.term.ensures) in
+    let later = passing_later due old new c.settle.ensures.extends.grows c.args.bounds u c.args.place c.args.passing.now p in
+    let named = named_later old new c.arg-arg.result a c.settle.ensures.extends.grows c.term.ensures in
+    c.outgrow.ensures.stops due c.args.bounds u a c.arg-arg.result c.args.budget.now c.settle.new.budget later c.arg-arg.ensures named
+    (rw c.size-own.ensures.exact at (rw c.room-room.ensures at s))
+
+pub settle_arg-returns-in-Err-Fault-clause-passes : goal.settle_arg-returns-in-Err-Fault-clause-passes
+settle_arg-returns-in-Err-Fault-clause-passes t c = λ u p.
+    let due = due_by c.args.means.now in
+    let old = c.args.store.now.nodes in
+    let new = c.settle.new.store.nodes in
+    let a = c.term.result.now in
+    let s = rw c.in-Err-Fault.field-0-is at (c.in-Err-Fault.ensures.settles a c.term.ensures) in
+    let later = passing_later due old new c.settle.ensures.extends.grows c.args.bounds u c.args.place c.args.passing.now p in
+    let named = named_later old new c.arg-arg.result a c.settle.ensures.extends.grows c.term.ensures in
+    passing_stops due new c.args.bounds u c.args.place c.args.passing.now later c.args.budget.now c.settle.new.budget _ a c.in-Err-Fault.fault
+    (arg_is due new c.args.bounds u c.args.place c.args.passing.now later c.arg-arg.result a c.arg-arg.ensures named) (omega arith)
+    (rw c.size-own.ensures.exact at (rw c.room-room.ensures at s))
+
+pub settle_args-returns-in_default-clause-finds : goal.settle_args-returns-in_default-clause-finds
+settle_args-returns-in_default-clause-finds t c = λ u n.
+    let due = due_by c.args.means.now in
+    let nodes = c.args.store.now.nodes in
+    let begins = c.in_ok-passing.ensures due c.args.bounds u n (within_of nodes c.args.bounds c.args.here u c.requires.inside n) in
+    (u, variable_way due nodes c.args.bounds u c.args.here n (rw c.in_default.is at begins), omega arith)
+
+pub settle_args-loop-place-init : goal.settle_args-loop-place-init
+settle_args-loop-place-init t c =
+    let i = c.requires.inside in
+    let begins = rw c.in-Some.is at (c.in_ok-passing.ensures (due_by c.args.means.now) c.args.bounds i.0 i.1 i.2) in
+    record {
+      store = c.requires.store;
+      extends = extends_self c.args.store.now;
+      passing = (i.0, i.1, begins.0);
+      len = sym c.len-len.ensures.value;
+      count = omega (arith, begins.1);
+    }
+
+pub settle_args-settle_arg-requires : goal.settle_args-settle_arg-requires
+settle_args-settle_arg-requires t c =
+    let i = c.loop-place.invariant in
+    (
+      omega (arith, i.count, i.passing.2.depth, depth_named_is c.args.store.now.nodes c.args.here i.passing.0 i.passing.1),
+      (i.store, ((i.passing.0, i.passing.2), (omega (arith, i.len, c.loop-place-test.true), omega (arith, i.count, c.requires.fits)))),
+    )
+
+pub settle_args-returns-in-Err-clause-finds : goal.settle_args-returns-in-Err-clause-finds
+settle_args-returns-in-Err-clause-finds t c = λ u n.
+    let i = c.loop-place.invariant in
+    let due = due_by c.args.means.now in
+    let same = named_one c.args.store.now.nodes c.args.here i.passing.0 u i.passing.1 n in
+    let stops = c.in-Err.ensures.passes i.passing.0 i.passing.2 in
+    subst (λ k. Stops due c.settle_arg.new.store.nodes c.args.bounds k c.settle_arg.new.budget u c.in-Err.stop) i.count
+    (subst (λ x. Stops due c.settle_arg.new.store.nodes c.args.bounds (c.loop-place.budget + c.loop-place.passing.count) c.settle_arg.new.budget x c.in-Err.stop) same stops)
+
+pub settle_args-loop-place-preserved : goal.settle_args-loop-place-preserved
+settle_args-loop-place-preserved t c =
+    let i = c.loop-place.invariant in
+    let passes = c.in-Ok.ensures.passes i.passing.0 i.passing.2 in
+    record {
+      store = c.settle_arg.ensures.store;
+      extends = extends_on c.args.store.now c.loop-place.store c.settle_arg.new.store i.extends c.settle_arg.ensures.extends;
+      passing = (i.passing.0, i.passing.1, passes.0);
+      len = c.settle_arg.ensures.len ∙ i.len;
+      count = omega (arith, passes.1, i.count);
+    }
+
+pub settle_args-finish-requires-clause-there : goal.settle_args-finish-requires-clause-there
+settle_args-finish-requires-clause-there t c =
+    let p = c.loop-place.invariant.passing.2 in
+    all_below c.loop-place.store.nodes c.loop-place.passing.args.items p.args p.named
+
+pub settle_args-returns-clause-store : goal.settle_args-returns-clause-store
+settle_args-returns-clause-store t c = store_later c.args.means.now c.loop-place.store _ c.finish.ensures.grows refl c.loop-place.invariant.store
+
+pub settle_args-returns-clause-finds : goal.settle_args-returns-clause-finds
+settle_args-returns-clause-finds t c = λ u n.
+    let i = c.loop-place.invariant in
+    let due = due_by c.args.means.now in
+    let same = named_one c.args.store.now.nodes c.args.here i.passing.0 u i.passing.1 n in
+    let all : c.loop-place.place ≡ length c.loop-place.passing.args.items = omega (arith, i.len, c.loop-place.auto.place-end, c.loop-place-test.false) in
+    c.finish.ensures.finds due c.args.bounds u c.args.budget.now c.loop-place.budget (named_later c.args.store.now.nodes c.loop-place.store.nodes c.args.here u i.extends.grows n)
+    (subst (λ k. IsPassing due c.loop-place.store.nodes c.args.bounds u k c.loop-place.passing) all
+    (subst (λ x. IsPassing due c.loop-place.store.nodes c.args.bounds x c.loop-place.place c.loop-place.passing) same i.passing.2))
+    i.count
+
+pub turn-returns-in_err-keep_settled-in-Ok-None-clause-store : goal.turn-returns-in_err-keep_settled-in-Ok-None-clause-store
+turn-returns-in_err-keep_settled-in-Ok-None-clause-store t c =
+    let due = due_by c.args.means.now in
+    let i = c.requires.inside in
+    let a = c.settle_args.new.store in
+    let g = c.advance.ensures.grows in
+    let way = c.in-Ok.ensures.finds i.0 i.1 in
+    let none = rw c.in-Ok-None.field-0-is at (c.in-Ok-None.ensures.advances way.0 way.1.there way.1.readies.settled) in
+    let before : Store = record { alloc = a.alloc; nodes = c.advance.new.nodes; entries = a.entries } in
+    store_kept c.args.means.now before c.keep_settled.new.store c.keep_settled.ensures.nodes
+    (c.keep_settled.ensures.kept due c.args.bounds i.0 way.0 (kept_later due a.nodes c.advance.new.nodes g a.entries.items c.settle_args.ensures.store.kept)
+    (named_later a.nodes c.advance.new.nodes c.args.here i.0 g (named_later c.args.store.now.nodes a.nodes c.args.here i.0 c.settle_args.ensures.extends.grows i.1))
+    (way_later due a.nodes c.advance.new.nodes g c.args.bounds i.0 c.in-Ok.way way.0 way.1) none.0)
+    (store_later c.args.means.now a before g refl c.settle_args.ensures.store)
+
+pub turn-returns-in_ok-keep_settled-in-Ok-None-clause-store : goal.turn-returns-in_ok-keep_settled-in-Ok-None-clause-store
+turn-returns-in_ok-keep_settled-in-Ok-None-clause-store t c =
+    let due = due_by c.args.means.now in
+    let i = c.requires.inside in
+    let a = c.settle_args.new.store in
+    let g = c.advance.ensures.grows in
+    let way = c.in-Ok.ensures.finds i.0 i.1 in
+    let none = rw c.in-Ok-None.field-0-is at (c.in-Ok-None.ensures.advances way.0 way.1.there way.1.readies.settled) in
+    let before : Store = record { alloc = a.alloc; nodes = c.advance.new.nodes; entries = a.entries } in
+    store_kept c.args.means.now before c.keep_settled.new.store c.keep_settled.ensures.nodes
+    (c.keep_settled.ensures.kept due c.args.bounds i.0 way.0 (kept_later due a.nodes c.advance.new.nodes g a.entries.items c.settle_args.ensures.store.kept)
+    (named_later a.nodes c.advance.new.nodes c.args.here i.0 g (named_later c.args.store.now.nodes a.nodes c.args.here i.0 c.settle_args.ensures.extends.grows i.1))
+    (way_later due a.nodes c.advance.new.nodes g c.args.bounds i.0 c.in-Ok.way way.0 way.1) none.0)
+    (store_later c.args.means.now a before g refl c.settle_args.ensures.store)
+
+pub turn-returns-in-Err-advance-clause-store : goal.turn-returns-in-Err-advance-clause-store
+turn-returns-in-Err-advance-clause-store t c = store_later c.args.means.now c.settle_args.new.store _ c.advance.ensures.grows refl c.settle_args.ensures.store
+
+pub turn-returns-in-Err-advance-clause-turns : goal.turn-returns-in-Err-advance-clause-turns
+turn-returns-in-Err-advance-clause-turns t c = λ u n.
+    let way = c.in-Ok.ensures.finds u n in
+    let stops = c.in-Err-advance.ensures.advances way.0 way.1.there way.1.readies.settled in
+    way_stops (due_by c.args.means.now) c.settle_args.new.store.nodes c.advance.new.nodes c.args.bounds c.settle_args.new.budget c.args.budget.now c.advance.new.budget u c.in-Ok.way way.0 c.in-Err-advance.stop
+    way.1 stops way.2
+
+pub turn-returns-in_ok-keep_settled-in-Ok-None-clause-turns : goal.turn-returns-in_ok-keep_settled-in-Ok-None-clause-turns
+turn-returns-in_ok-keep_settled-in-Ok-None-clause-turns t c = λ u n.
+    let due = due_by c.args.means.now in
+    let way = c.in-Ok.ensures.finds u n in
+    let none = rw c.in-Ok-None.field-0-is at (c.in-Ok-None.ensures.advances way.0 way.1.there way.1.readies.settled) in
+    (
+      c.in_ok-keep_settled-in-Ok-None.ensures.form due c.args.bounds u way.0
+          (way_later due c.settle_args.new.store.nodes c.advance.new.nodes c.advance.ensures.grows c.args.bounds u c.in-Ok.way way.0 way.1) none.0,
+      omega (arith, c.in_ok-keep_settled-in-Ok-None.ensures.count, none.1, way.2),
+    )
+
+pub turn-returns-in-Ok-Some-clause-store : goal.turn-returns-in-Ok-Some-clause-store
+turn-returns-in-Ok-Some-clause-store t c = store_later c.args.means.now c.settle_args.new.store _ c.advance.ensures.grows refl c.settle_args.ensures.store
+
+pub turn-returns-in-Ok-Some-clause-turns : goal.turn-returns-in-Ok-Some-clause-turns
+turn-returns-in-Ok-Some-clause-turns t c = λ u n.
+    let due = due_by c.args.means.now in
+    let a = c.settle_args.new.store.nodes in
+    let g = c.advance.ensures.grows in
+    let way = c.in-Ok.ensures.finds u n in
+    let made = rw c.in-Ok-Some.field-0-is at (c.in-Ok-Some.ensures.advances way.0 way.1.there way.1.readies.settled) in
+    (
+      made.0.new,
+      record {
+        ready = way.0;
+        replacement = made.0;
+        here = named_later a c.advance.new.nodes c.args.here u g (named_later c.args.store.now.nodes a c.args.here u c.settle_args.ensures.extends.grows n);
+        way = way_later due a c.advance.new.nodes g c.args.bounds u c.in-Ok.way way.0 way.1;
+        is_due = made.1;
+        next = made.2;
+        new = refl;
+        small = made.3;
+        shallow = made.4;
+      },
+      omega (arith, made.5, way.2),
+    )
+
+pub settle-returns-in-Err-clause-settles : goal.settle-returns-in-Err-clause-settles
+settle-returns-in-Err-clause-settles t c = λ u n.
+    let due = due_by c.args.means.now in
+    let w = c.loop-stop.invariant.way in
+    let same = named_one c.args.store.now.nodes c.args.number w.0 u w.2 n in
+    let chain = passed_chain due c.loop-stop.store.nodes c.args.bounds w.0 c.loop-stop.steps.items w.1 w.4 in
+    subst (λ x. Stops due c.turn.new.store.nodes c.args.bounds c.args.budget.now c.turn.new.budget x c.in-Err.stop) same
+    (stops_on due c.turn.new.store.nodes c.args.bounds c.loop-stop.budget c.args.budget.now c.turn.new.budget chain.0 w.0 w.1 c.in-Err.stop chain.1 (c.in-Err.ensures.turns w.1 w.3)
+    (omega (arith, chain.2, c.loop-stop.invariant.count)))
+
+pub settle-keep_steps-requires-clause-there : goal.settle-keep_steps-requires-clause-there
+settle-keep_steps-requires-clause-there t c =
+    let due = due_by c.args.means.now in
+    let w = c.loop-stop.invariant.way in
+    are_passed_in due c.turn.new.store.nodes c.args.bounds w.0 c.loop-stop.steps.items w.1
+    (are_passed_later due c.loop-stop.store.nodes c.turn.new.store.nodes c.turn.ensures.extends.grows c.args.bounds w.0 c.loop-stop.steps.items w.1 w.4)
+
+pub settle-keep_steps-requires-clause-count : goal.settle-keep_steps-requires-clause-count
+settle-keep_steps-requires-clause-count t c =
+    let w = c.loop-stop.invariant.way in
+    let settled = rw c.in-Ok-Settled.field-0-is at (c.in-Ok-Settled.ensures.turns w.1 w.3) in
+    omega (arith, settled.1, c.loop-stop.invariant.count, c.requires.fits)
+
+pub settle-returns-in_err-keep_steps-in-Ok-Settled-clause-store : goal.settle-returns-in_err-keep_steps-in-Ok-Settled-clause-store
+settle-returns-in_err-keep_steps-in-Ok-Settled-clause-store t c =
+    let due = due_by c.args.means.now in
+    let w = c.loop-stop.invariant.way in
+    let settled = rw c.in-Ok-Settled.field-0-is at (c.in-Ok-Settled.ensures.turns w.1 w.3) in
+    store_kept c.args.means.now c.turn.new.store c.keep_steps.new.store c.keep_steps.ensures.nodes
+    (c.keep_steps.ensures.kept due c.args.bounds w.0 w.1 c.turn.ensures.store.kept
+    (are_passed_later due c.loop-stop.store.nodes c.turn.new.store.nodes c.turn.ensures.extends.grows c.args.bounds w.0 c.loop-stop.steps.items w.1 w.4) settled.0.0 settled.0.1)
+    c.turn.ensures.store
+
+pub settle-returns-in-Ok-Settled-clause-store : goal.settle-returns-in-Ok-Settled-clause-store
+settle-returns-in-Ok-Settled-clause-store t c =
+    let due = due_by c.args.means.now in
+    let w = c.loop-stop.invariant.way in
+    let settled = rw c.in-Ok-Settled.field-0-is at (c.in-Ok-Settled.ensures.turns w.1 w.3) in
+    store_kept c.args.means.now c.turn.new.store c.keep_steps.new.store c.keep_steps.ensures.nodes
+    (c.keep_steps.ensures.kept due c.args.bounds w.0 w.1 c.turn.ensures.store.kept
+    (are_passed_later due c.loop-stop.store.nodes c.turn.new.store.nodes c.turn.ensures.extends.grows c.args.bounds w.0 c.loop-stop.steps.items w.1 w.4) settled.0.0 settled.0.1)
+    c.turn.ensures.store
+
+pub settle-returns-in-Ok-Settled-clause-settles : goal.settle-returns-in-Ok-Settled-clause-settles
+settle-returns-in-Ok-Settled-clause-settles t c = λ u n.
+    let due = due_by c.args.means.now in
+    let w = c.loop-stop.invariant.way in
+    let same = named_one c.args.store.now.nodes c.args.number w.0 u w.2 n in
+    let settled = rw c.in-Ok-Settled.field-0-is at (c.in-Ok-Settled.ensures.turns w.1 w.3) in
+    (
+      subst (λ x. IsToKeep due c.keep_steps.new.store.nodes c.args.bounds x c.in_ok-keep_steps-in-Ok-Settled.field-0) same
+          (c.in_ok-keep_steps-in-Ok-Settled.ensures.form due c.args.bounds w.0 w.1
+          (are_passed_later due c.loop-stop.store.nodes c.turn.new.store.nodes c.turn.ensures.extends.grows c.args.bounds w.0 c.loop-stop.steps.items w.1 w.4) settled.0.0 settled.0.1),
+      omega (arith, c.in_ok-keep_steps-in-Ok-Settled.ensures.count, settled.1, c.loop-stop.invariant.count),
+    )
+
+pub settle-loop-stop-preserved : goal.settle-loop-stop-preserved
+settle-loop-stop-preserved t c =
+    let due = due_by c.args.means.now in
+    let i = c.loop-stop.invariant in
+    let w = i.way in
+    let items = c.in_ok-push-in-Ok-Stepped.ensures.items in
+    let stepped = rw c.in-Ok-Stepped.field-0-is at (c.in-Ok-Stepped.ensures.turns w.1 w.3) in
+    let before = are_passed_later due c.loop-stop.store.nodes c.turn.new.store.nodes c.turn.ensures.extends.grows c.args.bounds w.0 c.loop-stop.steps.items w.1 w.4 in
+    record {
+      store = c.turn.ensures.store;
+      extends = extends_on c.args.store.now c.loop-stop.store c.turn.new.store i.extends c.turn.ensures.extends;
+      way = (
+        w.0,
+        stepped.0,
+        w.2,
+        stepped.1.next,
+        rw items (passed_on due c.turn.new.store.nodes c.args.bounds w.0 c.loop-stop.steps.items w.1 c.in-Ok-Stepped.step stepped.0 before stepped.1),
+        record { small = stepped.1.small; shallow = stepped.1.shallow; big = w.5.big; deep = w.5.deep },
+      );
+      count = omega (arith, ap passed_count items, count_on c.loop-stop.steps.items c.in-Ok-Stepped.step, stepped.2, i.count);
+      below = omega (arith, depth_named_is c.turn.new.store.nodes c.in-Ok-Stepped.step.next stepped.0 stepped.1.next, stepped.1.shallow, w.5.deep, stepped.2, i.count);
+    }

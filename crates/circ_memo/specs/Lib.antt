@@ -1,0 +1,4 @@
+pub mod Keeping
+pub mod Settling
+pub mod Value
+pub mod Working

@@ -1,0 +1,132 @@
+-- What the calls answer that normalise a term by itself, within bounds.
+use Rattle.std.specs.Prelude.{◌≡◌, ◌≤◌, ◌<◌, ℕ, ◌+◌, ◌-◌, List, [], ◌∷◌, length, Option, Some, None, Result, Ok, Err}
+use Rattle.circ_term.specs.Tree.{Tree, Trees, App, args_of, size_of, depth_of}
+use Rattle.circ_term.specs.Limits.{Big, Deep, node_limit, depth_limit, argument_limit}
+use Rattle.circ_rewrite.specs.Replacement.{Replacement, Traced}
+use Rattle.circ_rewrite.specs.declared.fault.RewriteFault.{RewriteFault}
+use Rattle.circ_rewrite.specs.declared.fault.RewriteFault.TheVariants.{Spent, TooBig, TooDeep, Memory}
+use Rattle.circ_nodes.specs.Named.{IsNamed, AreNamed}
+use Rattle.circ_chain.specs.Chain.{RunsOut, Breaks, Outgrows}
+use Rattle.circ_chain.specs.Through.{Through, Readies}
+use Rattle.circ_memo.specs.Keeping.{IsInBounds, IsForm}
+use Rattle.circ_memo.specs.declared.parts.Bounds.{Bounds}
+use Rattle.circ_memo.specs.declared.parts.Entry.{Entry}
+use Rattle.circ_memo.specs.declared.parts.Way.{Way}
+use Rattle.circ_memo.specs.declared.parts.Step.{Step}
+use Rattle.circ_memo.specs.declared.parts.Passing.{Passing}
+use Rattle.circ_memo.specs.declared.parts.Turn.{Turn}
+use Rattle.circ_memo.specs.declared.parts.Turn.TheVariants.{Settled, Stepped}
+use Rattle.circ_memo.specs.declared.parts.Stop.{Stop}
+use Rattle.circ_memo.specs.declared.parts.Stop.TheVariants as stop
+
+-- the term is within the bounds, and these are within the limits
+pub record IsWithin (b : Bounds) (t : Tree) : Type 0 where
+  pub small : size_of t ≤ b.big
+  pub shallow : depth_of t ≤ b.deep
+  pub big : b.big ≤ node_limit
+  pub deep : b.deep ≤ depth_limit
+
+-- so is the term of a number
+abbrev pub IsInside : List Tree → Bounds → (number : ℕ) → Type 0
+IsInside nodes b n = (t : Tree) × IsNamed nodes n t × IsWithin b t
+
+module _ (due : Tree → Option Replacement) (nodes : List Tree) (b : Bounds) where
+  -- The fault says why t has no normal form within the bounds, with this left of the budget k; or memory ran out.
+  abbrev pub Faulted : (k left : ℕ) → Tree → RewriteFault → Type 0
+  Faulted k left t Spent = RunsOut due b.big b.deep k t × (left ≡ 0)
+  Faulted k left t (TooBig n) = Breaks due b.big b.deep k left t (Big n)
+  Faulted k left t (TooDeep n) = Breaks due b.big b.deep k left t (Deep n)
+  Faulted k left t Memory = Unit {0}
+
+  -- so does what stops the work
+  abbrev pub Stops : (k left : ℕ) → Tree → Stop → Type 0
+  Stops k left t (stop.Fault e) = Faulted k left t e
+  Stops k left t (stop.Outgrows m) = (x : Tree) × IsNamed nodes m x × Outgrows due b.big b.deep k left t x
+
+  -- the entry may be kept of t, and no term on the way is past the bounds
+  abbrev pub IsToKeep : Tree → Entry → Type 0
+  IsToKeep t e = IsForm due nodes t e × IsInBounds b e
+
+  -- the answer is what is to be kept of t, or what stops the work
+  abbrev pub Settles : (k left : ℕ) → Tree → Result Entry Stop → Type 0
+  Settles k left t (Ok e) = IsToKeep t e × (left + e.count ≡ k)
+  Settles k left t (Err s) = Stops k left t s
+
+  -- the way leads from t to u, whose arguments are normal
+  pub record IsWay (t : Tree) (w : Way) (u : Tree) : Type 0 where
+    pub traces : List Traced
+    pub there : IsNamed nodes w.ready u
+    pub count : length traces ≡ w.count
+    pub readies : Readies due w.big w.deep t traces u
+    pub small : w.big ≤ b.big
+    pub shallow : w.deep ≤ b.deep
+
+  abbrev pub FindsWay : (k left : ℕ) → Tree → Result Way Stop → Type 0
+  FindsWay k left t (Ok w) = (u : Tree) × IsWay t w u × (left + w.count ≡ k)
+  FindsWay k left t (Err s) = Stops k left t s
+
+  -- one replacement at the root of u makes the term of number m; or none is due
+  abbrev pub Advances : (k left : ℕ) → Tree → Result (Option ℕ) Stop → Type 0
+  Advances k left u (Ok None) = (due u ≡ None) × (left ≡ k)
+  Advances k left u (Ok (Some m)) =
+      (r : Replacement) × (due u ≡ Some r) × IsNamed nodes m r.new × (size_of r.new ≤ b.big) × (depth_of r.new ≤ b.deep) × (left + 1 ≡ k)
+  Advances k left u (Err s) = Stops k left u s
+
+  -- the step leads from t to v: normal arguments, then a replacement at the root
+  pub record IsPassed (t : Tree) (s : Step) (v : Tree) : Type 0 where
+    pub ready : Tree
+    pub replacement : Replacement
+    pub here : IsNamed nodes s.here t
+    pub way : IsWay t s.way ready
+    pub is_due : due ready ≡ Some replacement
+    pub next : IsNamed nodes s.next v
+    pub new : replacement.new ≡ v
+    pub small : size_of v ≤ b.big
+    pub shallow : depth_of v ≤ b.deep
+
+  -- the steps lead from t to u
+  abbrev pub ArePassed : Tree → List Step → Tree → Type 0
+  ArePassed t [] u = t ≡ u
+  ArePassed t (s ∷ ss) u = (v : Tree) × IsPassed t s v × ArePassed v ss u
+
+  abbrev pub Turns : (k left : ℕ) → Tree → Result Turn Stop → Type 0
+  Turns k left t (Ok (Settled e)) = IsToKeep t e × (left + e.count ≡ k)
+  Turns k left t (Ok (Stepped s)) = (v : Tree) × IsPassed t s v × (left + s.way.count + 1 ≡ k)
+  Turns k left t (Err s) = Stops k left t s
+
+  -- the first i arguments of t are normal, by so many replacements, and the others are as they were
+  pub record IsPassing (t : Tree) (i : ℕ) (p : Passing) : Type 0 where
+    pub args : Trees
+    pub traces : List Traced
+    pub named : AreNamed nodes p.args.items args
+    pub few : length p.args.items ≤ argument_limit
+    pub within : IsWithin b t
+    pub size : p.size ≡ size_of (App p.op p.sort args)
+    pub depth : p.depth ≡ depth_of t
+    pub count : length traces ≡ p.count
+    pub through : Through due p.big p.deep t traces p.op p.sort i args
+    pub small : p.big ≤ b.big
+    pub shallow : p.deep ≤ b.deep
+
+  -- no argument was passed yet; a variable has none
+  abbrev pub Begins : Tree → Option Passing → Type 0
+  Begins t None = args_of t ≡ []
+  Begins t (Some p) = IsPassing t 0 p × (p.count ≡ 0)
+
+  -- the first i arguments were passed
+  abbrev pub Passes : (k left : ℕ) → Tree → (i : ℕ) → Passing → Result (Unit {0}) Stop → Type 0
+  Passes k left t i p (Ok _) = IsPassing t i p × (left + p.count ≡ k)
+  Passes k left t i p (Err s) = Stops k left t s
+
+-- the bounds that the others leave to an argument of this size
+abbrev pub room : Passing → Bounds → (own : ℕ) → Bounds
+room p b own = record { big = b.big - p.size + own; deep = b.deep - 1 }
+
+-- how many replacements the steps made
+abbrev pub passed_count : List Step → ℕ
+passed_count [] = 0
+passed_count (s ∷ ss) = s.way.count + 1 + passed_count ss
+
+-- the terms of a step are there
+abbrev pub IsStepIn : (nodes : List Tree) → Step → Type 0
+IsStepIn nodes s = (s.here < length nodes) × (s.way.ready < length nodes) × (s.next < length nodes)

@@ -1,0 +1,21 @@
+-- The state of a memo at work.
+use Rattle.std.specs.Prelude.{List, Option}
+use Rattle.circ_nodes.specs.Named.{Grows}
+use Rattle.circ_due.specs.Chosen.{IsReady, due_by}
+use Rattle.circ_due.specs.declared.means.Means.{Means}
+use Rattle.circ_memo.specs.Keeping.{AreKept}
+use Rattle.circ_memo.specs.Value.{Rewriting}
+use Rattle.circ_memo.specs.declared.store.Store.{Store}
+
+-- what contracts see
+abbrev pub rewriting : Means → Rewriting
+rewriting m = record { theory = m.theory.now; rules = m.rules.items; assumptions = m.assumptions.items }
+
+-- the means are right for the terms, and so is all that is kept
+pub record IsStore (m : Means) (s : Store) : Type 0 where
+  pub ready : IsReady s.nodes m
+  pub kept : AreKept (due_by m) s.nodes s.entries.items
+
+-- terms may have been added
+pub record Extends (old new : Store) : Type 0 where
+  pub grows : Grows old.nodes new.nodes

@@ -1,0 +1,122 @@
+//! A memo of normal forms.
+ghost use Rattle.std.specs.Prelude.{◌≡◌, ◌≤◌, ◌<◌, ◌^◌, [], length, IfOk, OnOk, OnErr};
+ghost use Rattle.std.specs.List.{AllByRecursion};
+ghost use Rattle.circ_term.specs.Tree.{Tree};
+ghost use Rattle.circ_rewrite.specs.Due.{IsRewriteRule};
+ghost use Rattle.circ_rewrite.specs.Norm.{norm, run};
+ghost use Rattle.circ_nodes.specs.Named.{IsNamed};
+ghost use Rattle.circ_due.specs.Chosen.{due_by};
+ghost use Rattle.circ_memo.specs.Value.{AnswersValue, AnswersForm};
+ghost use Rattle.circ_memo.specs.Working.{IsStore, Extends};
+
+use crate::parts::{Bounds, Entry, Stop};
+use crate::settling::settle;
+use crate::store::Store;
+use circ_due::Means;
+use circ_rewrite::{RewriteFault, Rule};
+use circ_term::{MOST_DEPTH, MOST_NODES, Term};
+use circ_theory::{Goal, Theory};
+use std::alloc::{AllocError, Global};
+use std::marker::Model;
+
+/// What terms are rewritten by, and the normal forms that were found. Contracts see a theory, rules
+/// and assumptions.
+#[derive(Drop)]
+pub struct Memo<'a> {
+    means: Means<'a>,
+    store: Store,
+}
+
+impl<'a> Model for Memo<'a> {
+    ghost use Rattle.circ_memo.specs.Value.{Rewriting, rewriting_code};
+
+    ghost Value = { Rewriting };
+
+    ghost coded = { rewriting_code };
+
+    ghost use Rattle.circ_memo.specs.Working.{rewriting, IsStore};
+
+    ghost view = { λ a. rewriting a.means };
+
+    ghost invariant = { λ a. IsStore a.means a.store };
+}
+
+impl<'a> Memo<'a> {
+    /// A memo of nothing, by a theory's marked operators and these rules, with no assumptions.
+    pub fn new(
+        alloc: Global,
+        theory: &'a Theory,
+        rules: Vec<Rule>,
+    ) -> Result<Memo<'a>, AllocError>
+        requires rules { AllByRecursion IsRewriteRule rules.items }
+        requires few { length rules.items < 2 ^ 32 }
+        ensures { IfOk result (λ m. m ≡ record {
+            theory = theory.now; rules = rules.items; assumptions = [] }) }
+    {
+        let means = Means::new(alloc, theory, rules)?;
+        Ok(Memo {
+            means,
+            store: Store::new(alloc),
+        })
+    }
+
+    /// Puts these assumptions in place of those before, and forgets all normal forms. After want of
+    /// memory there are no assumptions.
+    pub fn assume(&mut self, assumptions: &[Goal]) -> Result<(), AllocError>
+        requires { length assumptions.now < 2 ^ 32 }
+        ensures theory { self.new.theory ≡ self.old.theory }
+        ensures rules { self.new.rules ≡ self.old.rules }
+        ensures assumptions { OnOk result (self.new.assumptions ≡ assumptions.now) }
+        ensures forgotten { OnErr result (self.new.assumptions ≡ []) }
+    {
+        self.store.entries.truncate(0);
+        self.means.assume(&mut self.store.nodes, assumptions)
+    }
+
+    /// The normal form of a term, without its traces. The budget falls by one for each replacement,
+    /// whether it is made or known. After a fault it holds what was left.
+    pub fn value(&mut self, term: &Term, budget: &mut u64) -> Result<Term, RewriteFault>
+        ensures exact { AnswersValue result budget.new (norm self.old.theory.signature
+            self.old.rules self.old.assumptions budget.old term.now) }
+        ensures less { budget.new ≤ budget.old }
+        ensures same { self.new ≡ self.old }
+    {
+        let number = self.store.nodes.intern(term)?;
+        let mut left = *budget;
+        let kept = settle_whole(&self.means, &mut self.store, number, &mut left);
+        *budget = left;
+        match kept {
+            Ok(entry) => Ok(self.store.nodes.term(entry.value).share()?),
+            Err(fault) => Err(fault),
+        }
+    }
+}
+
+// What is kept of a whole term.
+fn settle_whole(
+    means: &Means<'_>,
+    store: &mut Store,
+    number: u32,
+    budget: &mut u64,
+) -> Result<Entry, RewriteFault>
+    requires store { IsStore means.now store.old }
+    requires there { number < length store.old.nodes }
+    requires fits { budget.old < 2 ^ 64 }
+    ensures store { IsStore means.now store.new }
+    ensures extends { Extends store.old store.new }
+    ensures less { budget.new ≤ budget.old }
+    ensures exact { (t : Tree) → IsNamed store.old.nodes number t
+        → AnswersForm (due_by means.now) store.new.nodes t result budget.new
+            (run (due_by means.now) budget.old t []) }
+{
+    store.nodes.term(number).known();
+    let bounds = Bounds {
+        big: MOST_NODES,
+        deep: MOST_DEPTH,
+    };
+    match settle(means, store, number, bounds, budget) {
+        Ok(entry) => Ok(entry),
+        Err(Stop::Fault(fault)) => Err(fault),
+        Err(Stop::Outgrows(_)) => unreachable!(),
+    }
+}

@@ -1,0 +1,158 @@
+//! Normalising interned terms, each by itself: its arguments from the left, then the term.
+ghost use Rattle.std.specs.Prelude.{◌≡◌, ◌≤◌, ◌<◌, ◌^◌, ◌+◌, ℕ, length, Option, IfOk, OnOk, OnErr};
+ghost use Rattle.std.specs.List.{AllByRecursion};
+ghost use Rattle.circ_term.specs.Tree.{Tree};
+ghost use Rattle.circ_rewrite.specs.Replacement.{Replacement};
+ghost use Rattle.circ_nodes.specs.Named.{IsNamed, Grows};
+ghost use Rattle.circ_due.specs.Chosen.{due_by};
+ghost use Rattle.circ_memo.specs.Settling.{IsInside, IsPassing, Settles, Turns, FindsWay, Passes};
+ghost use Rattle.circ_memo.specs.Working.{IsStore, Extends};
+
+use crate::advancing::advance;
+use crate::keeping::{keep_settled, keep_steps};
+use crate::parts::{Bounds, Entry, Passing, Step, Stop, Turn, Way};
+use crate::store::Store;
+use circ_due::Means;
+
+// What is to be kept of a term, by replacements that make no term past the bounds.
+#[cycle(settle)]
+pub(crate) fn settle(
+    means: &Means<'_>,
+    store: &mut Store,
+    number: u32,
+    bounds: Bounds,
+    budget: &mut u64,
+) -> Result<Entry, Stop>
+    requires store { IsStore means.now store.old }
+    requires inside { IsInside store.old.nodes bounds number }
+    requires fits { budget.old < 2 ^ 64 }
+    ensures store { IsStore means.now store.new }
+    ensures extends { Extends store.old store.new }
+    ensures less { budget.new ≤ budget.old }
+    ensures settles { (t : Tree) → IsNamed store.old.nodes number t
+        → Settles (due_by means.now) store.new.nodes bounds budget.old budget.new t result }
+{
+    let mut steps = Vec::new(store.alloc);
+    let mut here = number;
+    loop {
+        match turn(means, store, here, bounds, budget) {
+            Err(stop) => return Err(stop),
+            Ok(Turn::Settled(last)) => return Ok(keep_steps(store, steps, last)?),
+            Ok(Turn::Stepped(step)) => {
+                steps.push(step)?;
+                here = step.next;
+            }
+        }
+    }
+}
+
+// The normal form of a term, where it is kept, or one replacement at the root.
+#[cycle(settle)]
+fn turn(
+    means: &Means<'_>,
+    store: &mut Store,
+    here: u32,
+    bounds: Bounds,
+    budget: &mut u64,
+) -> Result<Turn, Stop>
+    requires store { IsStore means.now store.old }
+    requires inside { IsInside store.old.nodes bounds here }
+    requires fits { budget.old < 2 ^ 64 }
+    ensures store { IsStore means.now store.new }
+    ensures extends { Extends store.old store.new }
+    ensures less { budget.new ≤ budget.old }
+    ensures turns { (t : Tree) → IsNamed store.old.nodes here t
+        → Turns (due_by means.now) store.new.nodes bounds budget.old budget.new t result }
+{
+    if let Some(entry) = store.fitting(here, bounds, *budget) {
+        *budget -= entry.count;
+        return Ok(Turn::Settled(entry));
+    }
+    let way = match settle_args(means, store, here, bounds, budget) {
+        Ok(way) => way,
+        Err(stop) => return Err(stop),
+    };
+    match advance(means, &mut store.nodes, way.ready, bounds, budget) {
+        Err(stop) => Err(stop),
+        Ok(None) => Ok(Turn::Settled(keep_settled(store, here, way)?)),
+        Ok(Some(next)) => Ok(Turn::Stepped(Step { here, way, next })),
+    }
+}
+
+// The way of a term to normal arguments.
+#[cycle(settle)]
+fn settle_args(
+    means: &Means<'_>,
+    store: &mut Store,
+    here: u32,
+    bounds: Bounds,
+    budget: &mut u64,
+) -> Result<Way, Stop>
+    requires store { IsStore means.now store.old }
+    requires inside { IsInside store.old.nodes bounds here }
+    requires fits { budget.old < 2 ^ 64 }
+    ensures store { IsStore means.now store.new }
+    ensures extends { Extends store.old store.new }
+    ensures less { budget.new ≤ budget.old }
+    ensures finds { (t : Tree) → IsNamed store.old.nodes here t
+        → FindsWay (due_by means.now) store.new.nodes bounds budget.old budget.new t result }
+{
+    let Some(mut passing) = Passing::begin(store.alloc, &store.nodes, here)? else {
+        return Ok(Way {
+            ready: here,
+            count: 0,
+            big: 0,
+            deep: 0,
+        });
+    };
+    let len = passing.args.len();
+    for place in 0..len {
+        match settle_arg(means, store, &mut passing, place, bounds, budget) {
+            Ok(()) => {}
+            Err(stop) => return Err(stop),
+        }
+    }
+    passing.finish(&mut store.nodes, here)
+}
+
+// Normalises the argument at a place, when those before it are normal.
+#[cycle(settle)]
+fn settle_arg(
+    means: &Means<'_>,
+    store: &mut Store,
+    passing: &mut Passing,
+    place: usize,
+    bounds: Bounds,
+    budget: &mut u64,
+) -> Result<(), Stop>
+    requires store { IsStore means.now store.old }
+    requires passing { (t : Tree)
+        × IsPassing (due_by means.now) store.old.nodes bounds t place passing.old }
+    requires place { place < length passing.old.args.items }
+    requires count { budget.old + passing.old.count < 2 ^ 64 }
+    ensures store { IsStore means.now store.new }
+    ensures extends { Extends store.old store.new }
+    ensures less { budget.new ≤ budget.old }
+    ensures passes { (t : Tree)
+        → IsPassing (due_by means.now) store.old.nodes bounds t place passing.old
+        → Passes (due_by means.now) store.new.nodes bounds (budget.old + passing.old.count)
+            budget.new t (place + 1) passing.new result }
+    ensures len { length passing.new.args.items ≡ length passing.old.args.items }
+{
+    let arg = passing.arg(place);
+    if store.is_still(arg) {
+        return Ok(());
+    }
+    let own = store.nodes.term(arg).size();
+    let room = passing.room(bounds, own);
+    match settle(means, store, arg, room, budget) {
+        Ok(entry) => {
+            passing.pass(&store.nodes, place, own, entry);
+            Ok(())
+        }
+        Err(Stop::Outgrows(new)) => {
+            Err(passing.outgrow(store.alloc, &mut store.nodes, place, new))
+        }
+        Err(Stop::Fault(fault)) => Err(Stop::Fault(fault)),
+    }
+}
