@@ -1,5 +1,5 @@
 //! The command `reduce`: the terms of a script are brought to their normal forms.
-ghost use Rattle.std.specs.Prelude.{◌≡◌, ◌++◌, ◌≤◌, flat_map, IfOk, IfErr, OnOk};
+ghost use Rattle.std.specs.Prelude.{◌≡◌, ◌++◌, ◌≤◌, [], flat_map, IfOk, IfErr, OnOk};
 ghost use Rattle.circ_outer.specs.Shelf.{ShelfFrame};
 ghost use Rattle.circ_rewrite.specs.TheoryRules.{theory_rules};
 ghost use Rattle.circ_files.specs.Quiet.{IsQuietCall};
@@ -10,7 +10,8 @@ ghost use Rattle.circ_top.specs.Reduce.{fault_status};
 use circ_files::{Status, push_numbered, take_script, take_theory};
 use circ_mixfix::print;
 use circ_outer::Shelf;
-use circ_rewrite::{RewriteFault, RuleIndex, normalise_by, theory_rules};
+use circ_memo::Memo;
+use circ_rewrite::{RewriteFault, theory_rules};
 use circ_script::Job;
 use circ_term::Term;
 use circ_theory::Theory;
@@ -93,30 +94,30 @@ fn normal_forms(
     ensures fault { IfErr result (FaultEnds (reduced theory.now budget.old terms.now)) }
     ensures less { budget.new ≤ budget.old }
 {
-    let index = RuleIndex::of(alloc, theory_rules(alloc, theory)?)?;
-    normal_forms_by(alloc, theory, &index, terms, budget)
+    let mut memo = Memo::new(alloc, theory, theory_rules(alloc, theory)?)?;
+    normal_forms_by(alloc, &mut memo, terms, budget)
 }
 
 fn normal_forms_by(
     alloc: Global,
-    theory: &Theory,
-    index: &RuleIndex,
+    memo: &mut Memo<'_>,
     terms: &[Term],
     budget: &mut u64,
 ) -> Result<Vec<Term>, RewriteFault>
-    requires { index.now ≡ theory_rules theory.now }
+    requires rules { memo.old.rules ≡ theory_rules memo.old.theory }
+    requires none { memo.old.assumptions ≡ [] }
     ensures results { IfOk result (λ v.
-        reduced theory.now budget.old terms.now ≡ Results v.items budget.new) }
-    ensures fault { IfErr result (FaultEnds (reduced theory.now budget.old terms.now)) }
+        reduced memo.old.theory budget.old terms.now ≡ Results v.items budget.new) }
+    ensures fault { IfErr result (FaultEnds (reduced memo.old.theory budget.old terms.now)) }
     ensures less { budget.new ≤ budget.old }
 {
     let mut results = Vec::new(alloc);
     for term in terms {
-        let normal = match normalise_by(alloc, theory, index, &[], term, budget) {
-            Ok(normal) => normal,
+        let value = match memo.value(term, budget) {
+            Ok(value) => value,
             Err(fault) => return Err(fault),
         };
-        results.push(normal.term)?;
+        results.push(value)?;
     }
     Ok(results)
 }
