@@ -6,8 +6,7 @@ use Rattle.std.specs.Prelude.{slice_set}
 use Rattle.std.specs.List.{slice_get}
 use Rattle.circ_term.specs.Tree.{Tree, Trees, Var, App, list_of, list_of-trees_of, put_at, size_of, depth_of}
 use Rattle.circ_rewrite.specs.Replacement.{Replacement, Traced, placed, traced}
-use Rattle.circ_rewrite.specs.Standing.{IsSettled}
-use Rattle.circ_rewrite.specs.Known.{HasSettledBelow}
+use Rattle.circ_rewrite.specs.Standing.{IsSettled, HasSettledBelow}
 use Rattle.circ_chain.specs.Chain.{under, Chain, Reduces}
 use Rattle.circ_chain.specs.Through.{Readies}
 use Rattle.circ_chain.specs.Listed.{Lists, ListsThrough}

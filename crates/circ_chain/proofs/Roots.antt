@@ -4,10 +4,8 @@ use Rattle.circ_term.specs.Tree.{Tree, Var, App, size_of, depth_of}
 use Rattle.circ_term.specs.Limits.{Limit, first_limit, IsWithinLimits}
 use Rattle.circ_rewrite.specs.Replacement.{Replacement, Traced, placed, traced}
 use Rattle.circ_rewrite.specs.Norm.{first_due}
-use Rattle.circ_rewrite.specs.Standing.{IsSettled}
-use Rattle.circ_rewrite.specs.Known.{HasSettledBelow}
-use Rattle.circ_rewrite.proofs.Standings.{due_term, settled_term}
-use Rattle.circ_rewrite.proofs.Known.{settled_below}
+use Rattle.circ_rewrite.specs.Standing.{IsSettled, HasSettledBelow}
+use Rattle.circ_rewrite.proofs.Standings.{due_term, settled_term, settled_below}
 use Rattle.circ_chain.specs.Chain.{IsStep, Chain, Reduces, Next, RunsOut, Breaks, Outgrows}
 use Rattle.circ_chain.specs.Through.{Readies}
 use Rattle.circ_chain.proofs.Chains.{chain_on, chain_weaken}

@@ -4,8 +4,7 @@ use Rattle.std.proofs.lemmas.Option.{same_Some}
 use Rattle.circ_term.specs.Tree.{Tree, replaced}
 use Rattle.circ_rewrite.specs.Replacement.{Replacement, Traced, placed, traced}
 use Rattle.circ_rewrite.specs.Norm.{first_due}
-use Rattle.circ_rewrite.specs.Standing.{IsSettled}
-use Rattle.circ_rewrite.specs.Known.{HasSettledBelow}
+use Rattle.circ_rewrite.specs.Standing.{IsSettled, HasSettledBelow}
 use Rattle.circ_chain.specs.Chain.{IsStep, Chain, Reduces}
 use Rattle.circ_chain.specs.Through.{AreBelow, Readies}
 use Rattle.circ_chain.proofs.Roots.{root_first, root_settled}

@@ -2,8 +2,7 @@
 use Rattle.std.specs.Prelude.{◌≡◌, ℕ, List, [], ◌∷◌, Option}
 use Rattle.circ_term.specs.Tree.{Tree, Trees, App}
 use Rattle.circ_rewrite.specs.Replacement.{Replacement, Traced}
-use Rattle.circ_rewrite.specs.Standing.{AreSettled}
-use Rattle.circ_rewrite.specs.Known.{HasSettledBelow}
+use Rattle.circ_rewrite.specs.Standing.{AreSettled, HasSettledBelow}
 use Rattle.circ_chain.specs.Chain.{Chain}
 
 -- the replacements are made below the root

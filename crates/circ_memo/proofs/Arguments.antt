@@ -9,8 +9,8 @@ use Rattle.circ_term.proofs.Limits.{first_limit_none}
 use Rattle.circ_term.specs.declared.fault.TermFault.{TermFault}
 use Rattle.circ_term.specs.declared.fault.TermFault.TheVariants.{TooBig, TooDeep, Memory}
 use Rattle.circ_rewrite.specs.Replacement.{Replacement, Traced}
-use Rattle.circ_rewrite.specs.Standing.{IsSettled}
-use Rattle.circ_rewrite.specs.Working.{rewrite_fault}
+use Rattle.circ_rewrite.specs.Standing.{IsSettled, HasSettledBelow}
+use Rattle.circ_rewrite.specs.Plain.{rewrite_fault}
 use Rattle.circ_rewrite.specs.declared.fault.RewriteFault.{RewriteFault}
 use Rattle.circ_rewrite.specs.declared.fault.RewriteFault.TheVariants as fault
 use Rattle.circ_nodes.specs.Named.{IsNamed, AreNamed, Grows, Interns}
@@ -20,7 +20,6 @@ use Rattle.circ_chain.proofs.Standings.{size_arg, arg_smaller, arg_less_deep}
 use Rattle.circ_chain.proofs.Settling.{through_start, through_next, through_still, through_end, through_within, through_out, through_breaks, through_past, through_outgrows}
 use Rattle.circ_chain.proofs.Keeping.{kept_none}
 use Rattle.circ_chain.proofs.Roots.{readies_self}
-use Rattle.circ_rewrite.specs.Known.{HasSettledBelow}
 use Rattle.circ_memo.proofs.Stores.{depth_named, depth_named_is}
 use Rattle.circ_memo.specs.Keeping.{IsForm, IsInBounds}
 use Rattle.circ_memo.specs.Settling.{IsWithin, IsInside, IsWay, IsPassing, Faulted, room}

@@ -5,8 +5,8 @@ use Rattle.circ_term.specs.Limits.{IsWithinLimits, first_limit, Names}
 use Rattle.circ_term.specs.declared.fault.TermFault.{TermFault}
 use Rattle.circ_term.specs.declared.fault.TermFault.TheVariants.{TooBig, TooDeep, Memory}
 use Rattle.circ_rewrite.specs.Replacement.{Replacement}
-use Rattle.circ_rewrite.specs.Known.{HasSettledBelow}
-use Rattle.circ_rewrite.specs.Working.{rewrite_fault}
+use Rattle.circ_rewrite.specs.Standing.{HasSettledBelow}
+use Rattle.circ_rewrite.specs.Plain.{rewrite_fault}
 use Rattle.circ_rewrite.specs.declared.fault.RewriteFault.TheVariants as fault
 use Rattle.circ_nodes.specs.Named.{IsNamed}
 use Rattle.circ_chain.specs.Chain.{RunsOut, Breaks, Outgrows}

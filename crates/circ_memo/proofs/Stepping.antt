@@ -3,7 +3,7 @@ use Rattle.std.proofs.Common.{◌≡◌, ℕ, ◌+◌, ◌≤◌, ◌<◌, List,
 use Rattle.std.specs.List.{AllByRecursion}
 use Rattle.circ_term.specs.Tree.{Tree, size_of, depth_of}
 use Rattle.circ_rewrite.specs.Replacement.{Replacement, Traced, placed, traced}
-use Rattle.circ_rewrite.specs.Known.{HasSettledBelow}
+use Rattle.circ_rewrite.specs.Standing.{HasSettledBelow}
 use Rattle.circ_term.specs.Limits.{Big, Deep}
 use Rattle.circ_rewrite.specs.declared.fault.RewriteFault.TheVariants.{Spent, TooBig, TooDeep, Memory}
 use Rattle.circ_nodes.specs.Named.{IsNamed}

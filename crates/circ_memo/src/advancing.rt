@@ -1,8 +1,8 @@
 //! One replacement at the root of a term.
 ghost use Rattle.std.specs.Prelude.{◌≡◌, ◌≤◌, ◌<◌, length};
 ghost use Rattle.circ_term.specs.Tree.{Tree};
-ghost use Rattle.circ_rewrite.specs.Known.{HasSettledBelow};
-ghost use Rattle.circ_rewrite.specs.Working.{rewrite_fault};
+ghost use Rattle.circ_rewrite.specs.Standing.{HasSettledBelow};
+ghost use Rattle.circ_rewrite.specs.Plain.{rewrite_fault};
 ghost use Rattle.circ_nodes.specs.Named.{IsNamed, Grows};
 ghost use Rattle.circ_due.specs.Chosen.{IsReady, due_by};
 ghost use Rattle.circ_memo.specs.Settling.{Advances};

@@ -20,11 +20,6 @@ use Rattle.circ_rewrite.specs.declared.parts.Rule.{Rule}
 use Rattle.circ_rewrite.proofs.MatchingFacts.{is_same_term, matches-instance, no_match, matcher_agrees}
 use Rattle.circ_rewrite.proofs.RuleTerms.{terms_of_rule}
 
--- ---- assumptions, one after another
-
-assumption_applies : (n : ℕ) (g : Goal) (t : Tree) → g.left ≡ t → assumption_due n g t ≡ Some (record { reason = By_assumption n; new = g.right })
-assumption_applies n g t e = rw (is_same_term g.left t e) refl
-
 differs : (s t : Tree) → (s ≡ t → ⊥) → is_same s t ≡ false
 differs s t h = go (is_same s t) refl
   where
@@ -32,23 +27,11 @@ differs s t h = go (is_same s t) refl
     go true e = absurd (h (same_here s t e))
     go false e = refl
 
-pub assumed_here : (gs : List Goal) (i : ℕ) (t : Tree) (g : Goal) → i < length gs → g ≡ get_or gs i g → g.left ≡ t
-    → assumed i (drop i gs) t ≡ Some (record { reason = By_assumption i; new = g.right })
-assumed_here gs i t g h e s = rw (drop_read gs i g h e, assumption_applies i g t s) refl
-
-pub assumed_next : (gs : List Goal) (i : ℕ) (t : Tree) (g : Goal) → i < length gs → g ≡ get_or gs i g → (g.left ≡ t → ⊥)
-    → assumed (i + 1) (drop (i + 1) gs) t ≡ assumed i (drop i gs) t
-assumed_next gs i t g h e s = sym (rw (drop_read gs i g h e, differs g.left t s) refl)
-
 -- ---- the order of the choices
 
 pub due_assumed : (sig : Signature) (rs : List Rule) (gs : List Goal) (t : Tree) (r : Replacement) → assumed 0 gs t ≡ Some r → due_under sig rs gs t ≡ Some r
 due_assumed sig rs gs (Var n s) r e = e
 due_assumed sig rs gs (App f s ts) r e = rw e refl
-
-pub due_nothing : (sig : Signature) (rs : List Rule) (gs : List Goal) (t : Tree) → assumed 0 gs t ≡ None → operator_number t ≡ None → due_under sig rs gs t ≡ None
-due_nothing sig rs gs (Var n s) e o = e
-due_nothing sig rs gs (App f s ts) e o = absurd (cc)
 
 pub due_content : (sig : Signature) (rs : List Rule) (gs : List Goal) (t : Tree) (f : ℕ) → assumed 0 gs t ≡ None → operator_number t ≡ Some f
     → (canonical_under sig f t ≡ t → ⊥) → due_under sig rs gs t ≡ Some (record { reason = By_content f (canonical_under sig f t); new = canonical_under sig f t })
@@ -70,22 +53,6 @@ due_ruled sig rs gs (App g s ts) f e o h =
     rw (e, is_same_term (canonical_under sig g (App g s ts)) (App g s ts) (ap (λ k. canonical_under sig k (App g s ts)) same ∙ h)) refl
 
 -- ---- one rule
-
-map_same : {X Y : Type 0} (f g : X → Y) (xs : List X) → ((x : X) → f x ≡ g x) → map f xs ≡ map g xs
-map_same f g [] h = refl
-map_same f g (x ∷ xs) h = ap (λ y. y ∷ map f xs) (h x) ∙ ap (λ ys. g x ∷ ys) (map_same f g xs h)
-
-pub rule_applies : (r : Rule) (t : Tree) (σ : List Bound) (ts : List Tree) → IsRewriteRule r → IsMatcher (Makes r.left t) (has_variable r.left) σ
-    → IsStrictlySortedBy bound_cmp σ → ts ≡ map (λ b. b.term) σ
-    → rule_due r t ≡ Some (record { reason = By_rule r.name ts; new = instance (substitution_of σ) r.right })
-rule_applies r t σ ts ok m o e =
-    let agrees = matcher_agrees r.left t σ m in
-    let new : instance (matching r.left t) r.right ≡ instance (substitution_of σ) r.right =
-    instance-variable (matching r.left t) (substitution_of σ) r.right (λ n s _. sym (agrees n s)) in
-    let same : terms_by (matching r.left t) (rule_variables r) ≡ terms_by (substitution_of σ) (rule_variables r) =
-    map_same (λ v. matching r.left t v.number v.sort) (λ v. substitution_of σ v.number v.sort) (rule_variables r) (λ v. sym (agrees v.number v.sort)) in
-    let terms : terms_by (matching r.left t) (rule_variables r) ≡ ts = same ∙ sym (terms_of_rule r t σ ok m o) ∙ sym e in
-    rw (matches-instance (substitution_of σ) m.sorts r.left t m.makes, new, terms) refl
 
 pub rule_does_not : (r : Rule) (t : Tree) → ((τ : Substitution) → KeepsSorts τ → Makes r.left t τ → ⊥) → rule_due r t ≡ None
 rule_does_not r t h = rw (no_match r.left t h) refl

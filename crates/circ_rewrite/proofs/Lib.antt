@@ -1,11 +1,7 @@
-pub mod Fit
 pub mod MatchingFacts
 pub mod RuleTerms
 pub mod Finding
-pub mod Indexing
 pub mod Standings
-pub mod Advancing
 pub mod Runs
 pub mod Linked
 pub mod RuleLists
-pub mod Known

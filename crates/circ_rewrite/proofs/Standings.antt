@@ -2,6 +2,7 @@
 use Rattle.std.proofs.Common.{◌≡◌, ℕ, ◌+◌, ◌-◌, ◌<◌, zero, suc, List, [], ◌∷◌, ◌++◌, length, Option, Some, None, refl, ap, sym, subst, ◌∙◌, arith}
 use Rattle.std.specs.Prelude.{slice_set}
 use Rattle.std.specs.List.{slice_get}
+use Rattle.std.specs.Option.{option_map, option_or}
 use Rattle.std.proofs.lemmas.Option.{same_Some}
 use Rattle.circ_term.specs.Tree.{Tree, Trees, Var, App, none, more, list_of, trees_of, at, walk, replaced, list_of-trees_of}
 use Rattle.circ_term.specs.Limits.{Limit, or_else, first_limit, first_limits, IsWithinLimits}
@@ -154,3 +155,24 @@ replaced_past due (i ∷ p) (App f k ts) t u v l s h r e =
     let within = or_else_parts (first_limits ts) _ h in
     let ih = replaced_past due p s.0 t u deeper.0 l s.3 (arg_within (App f k ts) i s.0 s.1 h) deeper.1 e in
     ap first_limit (sym is) ∙ rw (limits_set ts i s.0 deeper.0 l s.1 within.0 ih) refl
+
+-- ---- what is settled in a settled term
+
+none_of_two : {X : Type 0} (a b : Option X) → option_or a b ≡ None → (a ≡ None) × (b ≡ None)
+none_of_two None b e = (refl, e)
+none_of_two (Some x) b e = absurd (cc)
+
+none_mapped : {X Y : Type 0} (f : X → Y) (o : Option X) → option_map f o ≡ None → o ≡ None
+none_mapped f None e = refl
+none_mapped f (Some x) e = absurd (cc)
+
+module _ (due : Tree → Option Replacement) where
+  -- the parts of a settled term are settled
+  settled_args : (j : ℕ) (ts : Trees) → first_dues due j ts ≡ None → AreSettled due (length (list_of ts)) ts
+  settled_args j none e = tt
+  settled_args j (more t ts) e =
+      let parts = none_of_two _ _ e in
+      (none_mapped _ (first_due due t) parts.0, settled_args (j + 1) ts parts.1)
+
+  pub settled_below : (f s : ℕ) (ts : Trees) → IsSettled due (App f s ts) → AreSettled due (length (list_of ts)) ts
+  settled_below f s ts e = settled_args 0 ts (none_of_two _ _ e).0

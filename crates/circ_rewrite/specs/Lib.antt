@@ -4,12 +4,7 @@ pub mod Due
 pub mod Norm
 pub mod Plain
 pub mod Standing
-pub mod Fitting
-pub mod Choosing
 pub mod Code
-pub mod Index
-pub mod Working
-pub mod Known
 pub mod Reductions
 pub mod Links
 pub mod TheoryRules

@@ -1,6 +1,8 @@
 -- What contracts see of traces, normal forms and faults.
 use Rattle.std.specs.Prelude.{◌≡◌, ℕ, List, map, Result, Ok, Err}
 use Rattle.circ_term.specs.Limits.{Big, Deep}
+use Rattle.circ_term.specs.declared.fault.TermFault.{TermFault}
+use Rattle.circ_term.specs.declared.fault.TermFault.TheVariants as term
 use Rattle.circ_rewrite.specs.Replacement.{Traced, By_rule, By_assumption, By_content}
 use Rattle.circ_rewrite.specs.Norm.{Normalised, Normal_form, Budget_spent, Limit_passed}
 use Rattle.circ_rewrite.specs.declared.fault.RewriteFault.{RewriteFault}
@@ -28,3 +30,9 @@ Faults Memory left o = Unit {0}
 abbrev pub Answers : Result Normal RewriteFault → (left : ℕ) → Normalised → Type 0
 Answers (Ok n) left o = o ≡ Normal_form n.term (plain_traces n.traces.items) left
 Answers (Err e) left o = Faults e left o
+
+-- a fault of a term that is built
+abbrev pub rewrite_fault : TermFault → RewriteFault
+rewrite_fault (term.TooBig nodes) = TooBig nodes
+rewrite_fault (term.TooDeep depth) = TooDeep depth
+rewrite_fault term.Memory = Memory

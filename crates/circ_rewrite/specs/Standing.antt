@@ -1,5 +1,5 @@
 -- Where the work stands in a term: at a path, with all that comes before it in post-order settled.
-use Rattle.std.specs.Prelude.{◌≡◌, ℕ, zero, suc, List, [], ◌∷◌, Option, Some, None}
+use Rattle.std.specs.Prelude.{◌≡◌, ℕ, zero, suc, List, [], ◌∷◌, length, Option, Some, None}
 use Rattle.std.specs.List.{slice_get}
 use Rattle.circ_term.specs.Tree.{Tree, Trees, Var, App, none, more, list_of}
 use Rattle.circ_rewrite.specs.Replacement.{Replacement}
@@ -21,3 +21,8 @@ module _ (due : Tree → Option Replacement) where
   Stands w [] t = w ≡ t
   Stands (Var n s) (i ∷ p) t = ⊥
   Stands (App f s ts) (i ∷ p) t = (a : Tree) × (slice_get (list_of ts) i ≡ Some a) × AreSettled i ts × Stands a p t
+
+  -- the arguments are settled
+  abbrev pub HasSettledBelow : Tree → Type 0
+  HasSettledBelow (Var n s) = Unit {0}
+  HasSettledBelow (App f s ts) = AreSettled (length (list_of ts)) ts

@@ -1,6 +1,6 @@
 use Rattle.std.proofs.Common.{◌<◌, min, length, refl, ap, sym, ◌∙◌, arith}
+use Rattle.std.proofs.lemmas.Option.{slice_get_read}
 use Rattle.circ_rewrite.proofs.Finding.{rule_does_not}
-use Rattle.circ_rewrite.proofs.Indexing.{get_read}
 use Rattle.circ_due.specs.Bounds.{tree_at, bounds_in}
 use Rattle.circ_due.specs.Rows.{row_of, wide_row, rows_of, first_in}
 use Rattle.circ_due.specs.Chosen.{by_rule}
@@ -52,7 +52,7 @@ returns-then-branch c =
       by_rule nodes rule given,
       tried_here (length c.args.means.now.rows.heads.items) rs t c.loop-rule.near c.loop-rule.wide n rule (by_rule nodes rule given) c.loop-rule.invariant.tried (omega arith) below
           c.index.ensures due,
-      (rule, get_read rs n rule below c.index.ensures, fit, refl),
+      (rule, slice_get_read rs (length rs) n rule refl below c.index.ensures, fit, refl),
     )
 
 pub returns : goal.returns

@@ -1,7 +1,7 @@
 use Rattle.std.proofs.Common.{inl, inr, ◌⊎◌, ◌<◌, subst, ap, arith, length}
 use Rattle.circ_term.specs.Tree.{Tree, size_of, depth_of}
 use Rattle.circ_nodes.proofs.Numbers.{there_named, named_below, named_one}
-use Rattle.circ_rewrite.specs.Known.{HasSettledBelow}
+use Rattle.circ_rewrite.specs.Standing.{HasSettledBelow}
 use Rattle.circ_rewrite.specs.Replacement.{Replacement}
 use Rattle.circ_due.specs.Chosen.{Chooses, IsChoice, due_by}
 use Rattle.circ_nodes.specs.Named.{IsNamed, Interns}
