@@ -18,7 +18,7 @@ pub ready_later : (old new : List Tree) (m : Means) → Grows old new → IsRead
 ready_later old new m g r = record {
   rewrite = r.rewrite;
   few_rules = r.few_rules;
-  few = r.few;
+  few_assumptions = r.few_assumptions;
   rows = r.rows;
   kept = kept_later old new 0 m.assumptions.items m.assumed.entries g r.kept;
 }

@@ -10,6 +10,10 @@ use circ_rewrite::Rule;
 use circ_term::{Kind, Term};
 use std::alloc::{AllocError, Global};
 
+// What an operator's number is multiplied by, so that operators with different first arguments
+// mostly stand in different rows.
+const SPREAD: usize = 1_000_003;
+
 // Rules in rows, each in the order of their numbers: `heads` has the first of each row, and `next`
 // has for each rule the next one. Past the last stands the number of all rules. A row is that of
 // an operator at the root and one at the root of the first argument, or of any first argument where
@@ -101,7 +105,7 @@ fn row_at(width: usize, op: u32, mark: usize) -> usize
     ensures value { result ≡ row_at width op mark }
     ensures within { result < width }
 {
-    (op as usize * 1_000_003 + mark) % width
+    (op as usize * SPREAD + mark) % width
 }
 
 // 0 where the first argument is a variable or absent, and else one more than its operator.
