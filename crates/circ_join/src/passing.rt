@@ -1,5 +1,6 @@
 //! Where a lemma pass uses lemmas.
-ghost use Rattle.std.specs.Prelude.{◌≡◌, ◌≤◌, [], ◌∷◌, ◌++◌, length, map, IsTrue, IfOk, OnOk};
+ghost use Rattle.std.specs.Prelude.{◌≡◌, ◌≤◌, [], ◌∷◌, ◌++◌, length};
+ghost use Rattle.std.specs.Prelude.{map, IsTrue, IfOk, OnOk};
 ghost use Rattle.std.specs.List.{AllByRecursion};
 ghost use Rattle.std.specs.Option.{option_map};
 ghost use Rattle.circ_term.specs.Tree.{trees_of};
@@ -82,8 +83,8 @@ impl Passing<'_> {
         requires rules { AllByRecursion IsRewriteRule self.now.lemmas.now }
         requires narrow { length args.now ≤ 65536 }
         ensures exact { OnOk result (plain_lemma_uses uses.new.items
-            ≡ plain_lemma_uses uses.old.items ++ all_swept self.now.gamma.now self.now.lemmas.now op
-            path.old.items 0 (trees_of args.now)) }
+            ≡ plain_lemma_uses uses.old.items ++ all_swept self.now.gamma.now
+            self.now.lemmas.now op path.old.items 0 (trees_of args.now)) }
         ensures path { OnOk result (path.new.items ≡ path.old.items) }
     {
         for i in 0..args.len() {

@@ -1,5 +1,6 @@
 //! Steps that are recorded.
-ghost use Rattle.std.specs.Prelude.{◌≡◌, ◌<◌, ◌≤◌, ◌+◌, ◌++◌, ◌∷◌, [], length, drop, Ok, OnOk};
+ghost use Rattle.std.specs.Prelude.{◌≡◌, ◌<◌, ◌≤◌, ◌+◌, ◌++◌, ◌∷◌, []};
+ghost use Rattle.std.specs.Prelude.{length, drop, Ok, OnOk};
 ghost use Rattle.circ_plain_search.specs.Coming.{IsReady, IsSmall};
 ghost use Rattle.circ_plain_search.specs.Search.{record_step, reduced, simplified, derive_turn};
 ghost use Rattle.circ_plain_search.specs.Search.{hidden_turn, done_turn, next_goal, with_this};
