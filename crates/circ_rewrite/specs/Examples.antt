@@ -52,6 +52,10 @@ g_is = record { name = Equation 1; left = g x; right = g x }
 abbrev pub sum_is : Rule
 sum_is = record { name = Lemma 0; left = plus x x; right = b }
 
+-- x + y = x
+abbrev pub first_is : Rule
+first_is = record { name = Equation 2; left = plus x (Var 1 0); right = x }
+
 abbrev pub b_is : Goal
 b_is = record { left = b; right = f a }
 

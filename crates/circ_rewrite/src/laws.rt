@@ -18,7 +18,8 @@ ghost use Rattle.circ_rewrite.specs.Norm.{Normal_form, Budget_spent, norm};
 ghost use Rattle.circ_rewrite.specs.Reductions.{IsReduction};
 ghost use Rattle.circ_rewrite.specs.Links.{IsRuleOf, AreLinks};
 ghost use Rattle.circ_rewrite.specs.TheoryRules.{theory_rules};
-ghost use Rattle.circ_rewrite.specs.Examples.{sums, a, b, plus, f, g, h, f_is, g_is, sum_is, b_is};
+ghost use Rattle.circ_rewrite.specs.Examples.{sums, a, b, plus, f, g, h, f_is, g_is, sum_is};
+ghost use Rattle.circ_rewrite.specs.Examples.{first_is, b_is};
 ghost use Rattle.circ_rewrite.specs.Examples.{languages, acc, union, letter_a, letter_b, no, yes};
 ghost use Rattle.circ_rewrite.specs.Examples.{empty_words, b_has};
 
@@ -57,6 +58,14 @@ pub fn sums_are_sorted()
         ≡ Normal_form (plus a b) (
         record { path = 1 ∷ []; reason = By_content 2 (plus a b) } ∷
         record { path = []; reason = By_content 2 (plus a b) } ∷ []) 8 }
+{}
+
+/// `b + a` becomes `a + b` before the rule `x + y = x` is tried, so that it comes to `a`.
+pub fn rules_come_after_the_canonical_form()
+    ensures { norm sums (first_is ∷ []) [] 10 (plus b a)
+        ≡ Normal_form a (
+        record { path = []; reason = By_content 2 (plus a b) } ∷
+        record { path = []; reason = By_rule (Equation 2) (a ∷ b ∷ []) } ∷ []) 8 }
 {}
 
 /// With an operator that is idempotent alone, `h(h(a, b), h(a, b))` becomes `h(a, b)` at once.
