@@ -1,2 +1,6 @@
-//! Normal forms that are kept: a term is rewritten once, however often it occurs.
+//! Normal forms that are kept: a stub.
 #![tactic(auto)]
+
+mod memo;
+
+pub use memo::Memo;

@@ -1,0 +1,33 @@
+-- What contracts see of a memo, and what it answers without its traces.
+use Rattle.std.specs.Prelude.{◌≡◌, ℕ, List, Option, Result, Ok, Err, refl}
+use Rattle.std.specs.Coded.{Coded, code_by, coded×, coded_list}
+use Rattle.circ_term.specs.Tree.{Tree}
+use Rattle.circ_term.specs.Code.{tree_code}
+use Rattle.circ_theory.specs.Theory.{Theory}
+use Rattle.circ_theory.specs.Code.{theory_code}
+use Rattle.circ_theory.specs.declared.parts.Goal.{Goal}
+use Rattle.circ_rewrite.specs.Replacement.{Replacement, Traced}
+use Rattle.circ_rewrite.specs.Norm.{Normalised, Normal_form}
+use Rattle.circ_rewrite.specs.Plain.{Faults}
+use Rattle.circ_rewrite.specs.Code.{rule_code}
+use Rattle.circ_rewrite.specs.declared.fault.RewriteFault.{RewriteFault}
+use Rattle.circ_rewrite.specs.declared.parts.Rule.{Rule}
+
+-- what terms are rewritten by
+pub record Rewriting : Type 0 where
+  pub theory : Theory
+  pub rules : List Rule
+  pub assumptions : List Goal
+
+abbrev pub goal_code : Coded Goal
+goal_code = code_by (Tree × Tree) (coded× tree_code tree_code) (λ g. (g.left, g.right)) (λ p. record { left = p.0; right = p.1 }) (λ _. refl)
+
+abbrev pub rewriting_code : Coded Rewriting
+rewriting_code =
+    code_by (Theory × (List Rule × List Goal)) (coded× theory_code (coded× (coded_list rule_code) (coded_list goal_code)))
+    (λ r. (r.theory, (r.rules, r.assumptions))) (λ p. record { theory = p.0; rules = p.1.0; assumptions = p.1.1 }) (λ _. refl)
+
+-- the answer is the normal form, or the fault says what it comes to, with what is left of the budget
+abbrev pub AnswersValue : Result Tree RewriteFault → (left : ℕ) → Normalised → Type 0
+AnswersValue (Ok t) left o = (ts : List Traced) × (o ≡ Normal_form t ts left)
+AnswersValue (Err e) left o = Faults e left o
