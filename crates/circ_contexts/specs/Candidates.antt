@@ -8,11 +8,9 @@ use Rattle.circ_theory.specs.Theory.{Theory, Derivative}
 use Rattle.circ_special.specs.declared.place.Place.{Place}
 use Rattle.circ_special.specs.Special.{IsPlace, IsIncreasing, IsWithin, place}
 use Rattle.circ_special.specs.Guarded.{Guarded}
-use Rattle.circ_memo.specs.Value.{Rewriting}
 use Rattle.circ_rewrite.specs.Norm.{Normalised, Normal_form}
 use Rattle.circ_rewrite.specs.Plain.{plain_traces}
 use Rattle.circ_rewrite.specs.Replacement.{Traced}
-use Rattle.circ_rewrite.specs.TheoryRules.{theory_rules}
 use Rattle.circ_rewrite.specs.declared.parts.Normal.{Normal}
 use Rattle.circ_rewrite.specs.declared.parts.Trace.{Trace}
 use Rattle.circ_rules.specs.Certified.{derivatives_at}
@@ -48,10 +46,6 @@ pub record Adds {X : Type 0} (P : X → Type 0) (whole rest old new : List X) : 
   pub kept : (ys : List X) → Keeps P rest ys → Keeps P whole (added ++ ys)
 
 -- ---- normal forms of start terms
-
--- what they are rewritten by: the theory's rules, without assumptions
-abbrev pub by_theory : Theory → Rewriting
-by_theory th = record { theory = th; rules = theory_rules th; assumptions = [] }
 
 -- the normal form that the term comes to, or that it comes to none
 abbrev pub ComesTo : Normalised → Option Normal → Type 0

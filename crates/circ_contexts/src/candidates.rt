@@ -6,7 +6,8 @@ ghost use Rattle.circ_special.specs.Special.{IsPlace};
 ghost use Rattle.circ_rewrite.specs.Norm.{norm};
 ghost use Rattle.circ_rules.specs.Admitting.{IsStart};
 ghost use Rattle.circ_contexts.specs.Candidates.{ComesTo, GivesNormal, GivesNormals};
-ghost use Rattle.circ_contexts.specs.Candidates.{GivesCandidate, AreCandidates, by_theory};
+ghost use Rattle.circ_contexts.specs.Candidates.{GivesCandidate, AreCandidates};
+ghost use Rattle.circ_contexts.specs.ByTheory.{by_theory};
 
 use circ_memo::Memo;
 use circ_rewrite::{Normal, RewriteFault, theory_rules};

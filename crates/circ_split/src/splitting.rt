@@ -1,6 +1,6 @@
 //! The splits of a goal into cases.
-ghost use Rattle.std.specs.Prelude.{◌≡◌, ◌≤◌, ◌<◌, ◌+◌, ◌^◌, ℕ, [], ◌∷◌, ◌++◌};
-ghost use Rattle.std.specs.Prelude.{length, Err, IfOk, OnOk};
+ghost use Rattle.std.specs.Prelude.{◌≡◌, ◌≤◌, ◌<◌, ◌+◌, ◌^◌, ℕ, []};
+ghost use Rattle.std.specs.Prelude.{◌∷◌, ◌++◌, length, Err, IfOk, OnOk};
 ghost use Rattle.circ_term.specs.Tree.{App, none, sort_of};
 ghost use Rattle.circ_rules.specs.Proof.{split_limit};
 ghost use Rattle.circ_plain_search.specs.Joining.{Not_split};
