@@ -1,29 +1,40 @@
 //! The rules and the lemmas of a block.
-ghost use Rattle.std.specs.Prelude.{◌≡◌, ◌≤◌, ◌++◌, ◌∷◌, [], length, IfOk, OnOk};
+ghost use Rattle.std.specs.Prelude.{◌≡◌, ◌≤◌, ◌<◌, ◌^◌, ◌++◌};
+ghost use Rattle.std.specs.Prelude.{◌∷◌, [], length, IfOk, OnOk};
+ghost use Rattle.std.specs.List.{AllByRecursion};
 ghost use Rattle.circ_theory.specs.Rule.{is_bound};
 ghost use Rattle.circ_theory.specs.Theory.{pair_with};
+ghost use Rattle.circ_rewrite.specs.Due.{IsRewriteRule};
 ghost use Rattle.circ_plain_search.specs.BlockRules.{lemma_rules, hidden_lemmas};
 ghost use Rattle.circ_plain_search.specs.BlockRules.{can_rewrite, lemma_rule};
 ghost use Rattle.circ_block.specs.Rules.{IsRulesOf};
 
-use circ_rewrite::{Rule, RuleIndex, RuleName, theory_rules};
+use circ_memo::Memo;
+use circ_rewrite::{Rule, RuleName, theory_rules};
 use circ_term::Term;
 use circ_theory::{Goal, Theory, gather};
 use indexmap::IndexSet;
 use std::alloc::{AllocError, Global};
 
-/// The rules of a block, and the lemmas of its lemma passes.
+/// The rules of a block, with the normal forms by them, and the lemmas of its lemma passes. The
+/// rules are those of the theory, and the visible goals of earlier blocks that rewrite.
 #[derive(Drop)]
-pub struct BlockRules {
-    /// The theory's rules, and the visible goals of earlier blocks that rewrite.
-    pub rules: RuleIndex,
+pub struct BlockRules<'a> {
+    /// Normal forms without assumptions, which are kept over the whole block.
+    pub plain: Memo<'a>,
+    /// Normal forms under the assumptions of a case.
+    pub cases: Memo<'a>,
     /// The hidden goals of earlier blocks that rewrite.
     pub lemmas: Vec<Rule>,
 }
 
-impl BlockRules {
+impl<'a> BlockRules<'a> {
     /// The rules after these goals of earlier blocks.
-    pub fn of(alloc: Global, theory: &Theory, earlier: &[Goal]) -> Result<BlockRules, AllocError>
+    pub fn of(
+        alloc: Global,
+        theory: &'a Theory,
+        earlier: &[Goal],
+    ) -> Result<BlockRules<'a>, AllocError>
         requires few { length earlier.now ≤ 100000 }
         ensures { IfOk result (λ r. IsRulesOf theory.now earlier.now r) }
     {
@@ -40,9 +51,57 @@ impl BlockRules {
                 &mut lemmas,
             )?;
         }
-        let rules = RuleIndex::of(alloc, rules)?;
-        Ok(BlockRules { rules, lemmas })
+        let (plain, cases) = memos(alloc, theory, rules)?;
+        Ok(BlockRules {
+            plain,
+            cases,
+            lemmas,
+        })
     }
+}
+
+// Two memos of these rules, without assumptions.
+fn memos<'a>(
+    alloc: Global,
+    theory: &'a Theory,
+    rules: Vec<Rule>,
+) -> Result<(Memo<'a>, Memo<'a>), AllocError>
+    requires rewrite { AllByRecursion IsRewriteRule rules.items }
+    requires few { length rules.items < 2 ^ 32 }
+    ensures plain { IfOk result (λ m. m.0 ≡ record {
+      theory = theory.now;
+      rules = rules.items;
+      assumptions = [];
+    }) }
+    ensures cases { IfOk result (λ m. m.1 ≡ m.0) }
+{
+    let copy = share_rules(alloc, rules.as_slice())?;
+    let plain = Memo::new(alloc, theory, rules)?;
+    let cases = Memo::new(alloc, theory, copy)?;
+    Ok((plain, cases))
+}
+
+// The same rules once more.
+fn share_rules(alloc: Global, rules: &[Rule]) -> Result<Vec<Rule>, AllocError>
+    ensures { IfOk result (λ v. v.items ≡ rules.now) }
+{
+    let mut copy = Vec::with_capacity(alloc, rules.len())?;
+    for rule in rules {
+        copy.push(share_rule(rule)?)?;
+    }
+    Ok(copy)
+}
+
+fn share_rule(rule: &Rule) -> Result<Rule, AllocError>
+    ensures { IfOk result (λ r. r ≡ rule.now) }
+{
+    let left = rule.left.share()?;
+    let right = rule.right.share()?;
+    Ok(Rule {
+        name: rule.name,
+        left,
+        right,
+    })
 }
 
 // A goal that rewrites goes behind the rules where it is visible, and behind the lemmas where it is

@@ -17,7 +17,6 @@ use Rattle.circ_special.specs.Special.{IsPlace}
 use Rattle.circ_rewrite.specs.Norm.{norm}
 use Rattle.circ_rewrite.specs.TheoryRules.{theory_rules}
 use Rattle.circ_rewrite.specs.declared.parts.Normal.{Normal}
-use Rattle.circ_rewrite.specs.declared.parts.Rule.{Rule}
 use Rattle.circ_rules.specs.Admitting.{IsStart}
 use Rattle.circ_rules.specs.Answers.{Gives}
 use Rattle.circ_rules.specs.Certified.{start_term, derivatives_at}
@@ -44,19 +43,19 @@ module _ (th : Theory) (budget : ℕ) where
         none (start_term o s.place d) (record { within = subst P (its h.place) h.within; same = refl })
 
     -- what it comes to
-    pub start_comes : (t : Tree) → IsWithin (start_term o s.place d) t → (rules : List Rule) → rules ≡ theory_rules th → (x : Option Normal)
-        → ComesTo (norm th.signature rules [] budget t) x → GivesNormal th budget s.place d x
-    start_comes t w rules e None c = λ normal traces h.
-        let same : norm th.signature rules [] budget t ≡ norm th.signature (theory_rules th) [] budget (start_term h.place.operator s.place d)
-        = ap (λ rs. norm th.signature rs [] budget t) e ∙ ap (norm th.signature (theory_rules th) [] budget) w.same
+    pub start_comes : (t : Tree) → IsWithin (start_term o s.place d) t → (x : Option Normal)
+        → ComesTo (norm th.signature (theory_rules th) [] budget t) x → GivesNormal th budget s.place d x
+    start_comes t w None c = λ normal traces h.
+        let same : norm th.signature (theory_rules th) [] budget t ≡ norm th.signature (theory_rules th) [] budget (start_term h.place.operator s.place d)
+        = ap (norm th.signature (theory_rules th) [] budget) w.same
         ∙ ap (λ o. norm th.signature (theory_rules th) [] budget (start_term o s.place d)) (sym (its h.place)) in
         c normal traces h.left (same ∙ h.form)
-    start_comes t w rules e (Some n) c =
+    start_comes t w (Some n) c =
         let p = start.place in
         let P : Operator → Type 0 = λ o. IsWithinLimits (start_term o s.place d) in
-        let same : norm th.signature (theory_rules th) [] budget (start_term p.operator s.place d) ≡ norm th.signature rules [] budget t
+        let same : norm th.signature (theory_rules th) [] budget (start_term p.operator s.place d) ≡ norm th.signature (theory_rules th) [] budget t
         = ap (λ o. norm th.signature (theory_rules th) [] budget (start_term o s.place d)) (its p)
-        ∙ ap (norm th.signature (theory_rules th) [] budget) (sym w.same) ∙ ap (λ rs. norm th.signature rs [] budget t) (sym e) in
+        ∙ ap (norm th.signature (theory_rules th) [] budget) (sym w.same) in
         record { place = p; within = subst P (sym (its p)) w.within; left = c.0; form = same ∙ c.1 }
 
   -- the same for the derivative of a number
@@ -68,15 +67,15 @@ module _ (th : Theory) (budget : ℕ) where
         (no_start s start d (some_if_at (λ d. Gives (IsWithin (start_term (operator_of s.decl.now) s.place d)) None) (slice_get th.derivatives i) d there x))
 
     pub comes_at : (t : Tree) → IfSome (slice_get th.derivatives i) (λ d. Gives (IsWithin (start_term (operator_of s.decl.now) s.place d)) (Some t))
-        → (rules : List Rule) → rules ≡ theory_rules th → {E : Type 0} (r : Result (Option Normal) E)
-        → IfOk r (ComesTo (norm th.signature rules [] budget t)) → IfSome (slice_get th.derivatives i) (λ d. IfOk r (GivesNormal th budget s.place d))
-    comes_at t x rules e r y =
+        → {E : Type 0} (r : Result (Option Normal) E)
+        → IfOk r (ComesTo (norm th.signature (theory_rules th) [] budget t)) → IfSome (slice_get th.derivatives i) (λ d. IfOk r (GivesNormal th budget s.place d))
+    comes_at t x r y =
         let w = some_if_at (λ d. Gives (IsWithin (start_term (operator_of s.decl.now) s.place d)) (Some t)) (slice_get th.derivatives i) d there x in
         if_some_at (λ d. IfOk r (GivesNormal th budget s.place d)) (slice_get th.derivatives i) d there (go r y w)
       where
-        go : {E : Type 0} (r : Result (Option Normal) E) → IfOk r (ComesTo (norm th.signature rules [] budget t))
+        go : {E : Type 0} (r : Result (Option Normal) E) → IfOk r (ComesTo (norm th.signature (theory_rules th) [] budget t))
             → IsWithin (start_term (operator_of s.decl.now) s.place d) t → IfOk r (GivesNormal th budget s.place d)
-        go (Ok x) y w = start_comes s start d t w rules e x y
+        go (Ok x) y w = start_comes s start d t w x y
         go (Err x) y w = tt
 
   -- ---- those of a place, one after another

@@ -1,3 +1,4 @@
 pub mod Greatest
 pub mod Keeps
 pub mod Candidates
+pub mod ByTheory

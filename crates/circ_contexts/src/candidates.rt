@@ -1,15 +1,16 @@
 //! The candidates of the greatest special set.
-ghost use Rattle.std.specs.Prelude.{◌≡◌, ◌==◌, false, [], IfOk, Some};
+ghost use Rattle.std.specs.Prelude.{◌≡◌, ◌==◌, false, IfOk, Some};
 ghost use Rattle.std.specs.List.{AllByRecursion, slice_get};
 ghost use Rattle.std.specs.Option.{IfSome, option_map, option_map_or};
 ghost use Rattle.circ_special.specs.Special.{IsPlace};
 ghost use Rattle.circ_rewrite.specs.Norm.{norm};
-ghost use Rattle.circ_rewrite.specs.TheoryRules.{theory_rules};
 ghost use Rattle.circ_rules.specs.Admitting.{IsStart};
 ghost use Rattle.circ_contexts.specs.Candidates.{ComesTo, GivesNormal, GivesNormals};
 ghost use Rattle.circ_contexts.specs.Candidates.{GivesCandidate, AreCandidates};
+ghost use Rattle.circ_contexts.specs.ByTheory.{by_theory};
 
-use circ_rewrite::{Normal, RewriteFault, RuleIndex, normalise_by};
+use circ_memo::Memo;
+use circ_rewrite::{Normal, RewriteFault, theory_rules};
 use circ_rules::{Start, start_at, start_term};
 use circ_special::Place;
 use circ_term::Term;
@@ -24,26 +25,40 @@ pub(crate) struct Candidate {
     pub(crate) normals: Vec<Normal>,
 }
 
-// What start terms are normalised by: the rules of the theory, and a budget for each of them.
+// The theory, and the budget for each start term.
 #[derive(Clone, Copy)]
 pub(crate) struct Means<'a> {
     pub(crate) alloc: Global,
     pub(crate) theory: &'a Theory,
-    pub(crate) rules: &'a RuleIndex,
     pub(crate) budget: u64,
 }
 
 impl Means<'_> {
-    // The candidates among the places, in order.
+    // The candidates among the places, in order. Normal forms are kept from one place to the next.
     pub(crate) fn candidates(&self, places: &[Place]) -> Result<Vec<Candidate>, AllocError>
-        requires rules { self.now.rules.now ≡ theory_rules self.now.theory.now }
+        requires { AllByRecursion (IsPlace self.now.theory.now) places.now }
+        ensures { IfOk result (λ v. AreCandidates self.now.theory.now self.now.budget
+            places.now v.items) }
+    {
+        let rules = theory_rules(self.alloc, self.theory)?;
+        let mut memo = Memo::new(self.alloc, self.theory, rules)?;
+        self.candidates_by(&mut memo, places)
+    }
+
+    // The same by a memo of the theory's rules.
+    fn candidates_by(
+        &self,
+        memo: &mut Memo<'_>,
+        places: &[Place],
+    ) -> Result<Vec<Candidate>, AllocError>
+        requires memo { memo.old ≡ by_theory self.now.theory.now }
         requires places { AllByRecursion (IsPlace self.now.theory.now) places.now }
         ensures { IfOk result (λ v. AreCandidates self.now.theory.now self.now.budget
             places.now v.items) }
     {
         let mut found = Vec::new(self.alloc);
         for place in places {
-            match self.candidate(*place)? {
+            match self.candidate(memo, *place)? {
                 Some(candidate) => found.push(candidate)?,
                 None => {}
             }
@@ -52,13 +67,14 @@ impl Means<'_> {
     }
 
     // The candidate of a place. None where it is none.
-    fn candidate(&self, place: Place) -> Result<Option<Candidate>, AllocError>
-        requires rules { self.now.rules.now ≡ theory_rules self.now.theory.now }
+    fn candidate(&self, memo: &mut Memo<'_>, place: Place) -> Result<Option<Candidate>, AllocError>
+        requires memo { memo.old ≡ by_theory self.now.theory.now }
         requires place { IsPlace self.now.theory.now place }
-        ensures { IfOk result (GivesCandidate self.now.theory.now self.now.budget place) }
+        ensures exact { IfOk result (GivesCandidate self.now.theory.now self.now.budget place) }
+        ensures same { memo.new ≡ memo.old }
     {
         let start = start_at(self.alloc, self.theory, place)?;
-        match self.normals(&start)? {
+        match self.normals(memo, &start)? {
             Some(normals) => Ok(Some(Candidate {
                 place,
                 sort: start.sort,
@@ -70,16 +86,21 @@ impl Means<'_> {
 
     // The normal forms of a place's start terms, in the order of the derivatives. None where one of
     // them has none.
-    fn normals(&self, start: &Start<'_>) -> Result<Option<Vec<Normal>>, AllocError>
-        requires rules { self.now.rules.now ≡ theory_rules self.now.theory.now }
+    fn normals(
+        &self,
+        memo: &mut Memo<'_>,
+        start: &Start<'_>,
+    ) -> Result<Option<Vec<Normal>>, AllocError>
+        requires memo { memo.old ≡ by_theory self.now.theory.now }
         requires start { IsStart self.now.theory.now start.now }
-        ensures { IfOk result
+        ensures exact { IfOk result
             (GivesNormals self.now.theory.now self.now.budget start.now.place) }
+        ensures same { memo.new ≡ memo.old }
     {
         let mut normals = Vec::new(self.alloc);
         for derivative in 0..self.theory.derivative_count() {
             if self.takes(derivative, start.decl.result) {
-                match self.normal(start, derivative)? {
+                match self.normal(memo, start, derivative)? {
                     Some(normal) => normals.push(normal)?,
                     None => return Ok(None),
                 }
@@ -100,28 +121,35 @@ impl Means<'_> {
     }
 
     // The normal form of the start term of a derivative. None where it has none.
-    fn normal(&self, start: &Start<'_>, derivative: u32) -> Result<Option<Normal>, AllocError>
-        requires rules { self.now.rules.now ≡ theory_rules self.now.theory.now }
+    fn normal(
+        &self,
+        memo: &mut Memo<'_>,
+        start: &Start<'_>,
+        derivative: u32,
+    ) -> Result<Option<Normal>, AllocError>
+        requires memo { memo.old ≡ by_theory self.now.theory.now }
         requires start { IsStart self.now.theory.now start.now }
         requires hole { option_map (λ d. d.hole)
             (slice_get self.now.theory.now.derivatives derivative) ≡
             Some start.now.decl.now.result }
-        ensures { IfSome (slice_get self.now.theory.now.derivatives derivative) (λ d.
+        ensures exact { IfSome (slice_get self.now.theory.now.derivatives derivative) (λ d.
             IfOk result (GivesNormal self.now.theory.now self.now.budget start.now.place d)) }
+        ensures same { memo.new ≡ memo.old }
     {
         match start_term(self.alloc, self.theory, start, derivative)? {
-            Some(term) => self.normal_form(&term),
+            Some(term) => self.normal_form(memo, &term),
             None => Ok(None),
         }
     }
 
     // The normal form of a term. None where it has none within the budget and the limits.
-    fn normal_form(&self, term: &Term) -> Result<Option<Normal>, AllocError>
-        ensures { IfOk result (ComesTo (norm self.now.theory.now.signature self.now.rules.now []
-            self.now.budget term.now)) }
+    fn normal_form(&self, memo: &mut Memo<'_>, term: &Term) -> Result<Option<Normal>, AllocError>
+        ensures exact { IfOk result (ComesTo (norm memo.old.theory.signature memo.old.rules
+            memo.old.assumptions self.now.budget term.now)) }
+        ensures same { memo.new ≡ memo.old }
     {
         let mut budget = self.budget;
-        match normalise_by(self.alloc, self.theory, self.rules, &[], term, &mut budget) {
+        match memo.normal(term, &mut budget) {
             Ok(normal) => Ok(Some(normal)),
             Err(RewriteFault::Memory) => Err(AllocError),
             Err(RewriteFault::Spent) => Ok(None),

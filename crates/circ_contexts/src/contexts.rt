@@ -9,7 +9,7 @@ ghost use Rattle.circ_contexts.specs.Candidates.{places_of, plain_lists, traces_
 
 use crate::candidates::{Candidate, Means};
 use crate::places::hidden_places;
-use circ_rewrite::{Normal, RuleIndex, Trace, theory_rules};
+use circ_rewrite::{Normal, Trace};
 use circ_special::{Gamma, Place, guarded};
 use circ_theory::Theory;
 use std::alloc::{AllocError, Global};
@@ -24,11 +24,9 @@ pub fn special_contexts(
     ensures greatest { IfOk result (λ r.
         GreatestSpecialSet theory.now budget r.0 (plain_lists r.1.items)) }
 {
-    let rules = RuleIndex::of(alloc, theory_rules(alloc, theory)?)?;
     let means = Means {
         alloc,
         theory,
-        rules: &rules,
         budget,
     };
     let places = hidden_places(alloc, theory)?;

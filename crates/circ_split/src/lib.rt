@@ -1,7 +1,7 @@
 //! Both sides of a goal in normal form, and the splits of a goal into cases.
 //!
-//! [`Splitting::normal_sides`] normalises two sides. [`Splitting::split_cases`] splits them on the
-//! first open subterm, and each case again, with eight splits inside one another at most.
+//! [`normal_sides`] normalises two sides. [`Splitting::split_cases`] splits them on the first open
+//! subterm, and each case again, with eight splits inside one another at most.
 #![tactic(auto)]
 
 mod opening;
@@ -9,5 +9,5 @@ mod sides;
 mod splitting;
 
 pub use opening::first_open;
-pub use sides::{Sides, Splitting};
-pub use splitting::Cases;
+pub use sides::{Sides, normal_sides};
+pub use splitting::{Cases, Splitting};

@@ -1,18 +1,31 @@
 //! The splits of a goal into cases.
-ghost use Rattle.std.specs.Prelude.{◌≡◌, ◌≤◌, ◌+◌, ℕ, [], ◌∷◌, ◌++◌, length, Err, IfOk, OnOk};
+ghost use Rattle.std.specs.Prelude.{◌≡◌, ◌≤◌, ◌<◌, ◌+◌, ◌^◌, ℕ, []};
+ghost use Rattle.std.specs.Prelude.{◌∷◌, ◌++◌, length, Err, IfOk, OnOk};
 ghost use Rattle.circ_term.specs.Tree.{App, none, sort_of};
 ghost use Rattle.circ_rules.specs.Proof.{split_limit};
 ghost use Rattle.circ_plain_search.specs.Joining.{Not_split};
-ghost use Rattle.circ_plain_search.specs.Search.{split_cases, each_case, case_of, constants_of};
-ghost use Rattle.circ_split.specs.Answers.{GivesReason, GivesWhys, GivesCases, case_answer};
+ghost use Rattle.circ_plain_search.specs.Search.{normal_sides, split_cases, each_case};
+ghost use Rattle.circ_plain_search.specs.Search.{case_of, constants_of};
+ghost use Rattle.circ_split.specs.Answers.{GivesSides, GivesReason, GivesWhys, GivesCases};
+ghost use Rattle.circ_split.specs.Answers.{case_answer};
 
 use crate::opening::{constants_of, open_of};
-use crate::sides::Splitting;
+use crate::sides::{Sides, normal_sides};
 use circ_join::Stop;
+use circ_memo::Memo;
 use circ_record::TermWhy;
 use circ_term::{Term, TermFault};
-use circ_theory::Goal;
+use circ_theory::{Goal, Theory};
 use std::alloc::{AllocError, Global};
+
+/// What goals are split by.
+#[derive(Clone, Copy)]
+pub struct Splitting<'a> {
+    /// Where memory comes from.
+    pub alloc: Global,
+    /// The theory.
+    pub theory: &'a Theory,
+}
 
 /// A term that is split on, with a reason for each constant of its sort's case list.
 #[derive(Drop)]
@@ -26,12 +39,22 @@ pub struct Cases {
 impl Splitting<'_> {
     /// The cases of the first open subterm of the left side, or else of the right side. A case
     /// whose sides are not equal is split again, with eight splits inside one another at most.
-    pub fn split_cases(&self, left: &Term, right: &Term, budget: &mut u64) -> Result<Cases, Stop>
-        ensures { GivesCases (split_cases self.now.theory.now self.now.rules.now split_limit []
+    /// The memo's assumptions are those of the cases, whatever they were before.
+    pub fn split_cases(
+        &self,
+        memo: &mut Memo<'_>,
+        left: &Term,
+        right: &Term,
+        budget: &mut u64,
+    ) -> Result<Cases, Stop>
+        requires theory { memo.old.theory ≡ self.now.theory.now }
+        ensures exact { GivesCases (split_cases self.now.theory.now memo.old.rules split_limit []
             left.now right.now budget.old) budget.new result }
+        ensures theory { memo.new.theory ≡ memo.old.theory }
+        ensures rules { memo.new.rules ≡ memo.old.rules }
     {
         let mut assumptions = Vec::new(self.alloc);
-        self.split_with(8, &mut assumptions, left, right, budget)
+        self.split_with(8, memo, &mut assumptions, left, right, budget)
     }
 
     // The same under assumptions, with room for so many splits.
@@ -39,14 +62,18 @@ impl Splitting<'_> {
     fn split_with(
         &self,
         room: u32,
+        memo: &mut Memo<'_>,
         assumptions: &mut Vec<Goal>,
         left: &Term,
         right: &Term,
         budget: &mut u64,
     ) -> Result<Cases, Stop>
+        requires theory { memo.old.theory ≡ self.now.theory.now }
         requires few { length assumptions.old.items + room ≤ split_limit }
-        ensures exact { GivesCases (split_cases self.now.theory.now self.now.rules.now room
+        ensures exact { GivesCases (split_cases self.now.theory.now memo.old.rules room
             assumptions.old.items left.now right.now budget.old) budget.new result }
+        ensures theory { memo.new.theory ≡ memo.old.theory }
+        ensures rules { memo.new.rules ≡ memo.old.rules }
         ensures same { OnOk result (assumptions.new.items ≡ assumptions.old.items) }
     {
         if room == 0 {
@@ -55,7 +82,7 @@ impl Splitting<'_> {
         match open_of(self.theory, left, right) {
             None => stuck(self.alloc, left, right, assumptions.as_slice()),
             Some(term) => {
-                match self.each_case(room - 1, assumptions, term, left, right, budget) {
+                match self.each_case(room - 1, memo, assumptions, term, left, right, budget) {
                     Err(stop) => Err(stop),
                     Ok(whys) => Ok(Cases {
                         term: term.share()?,
@@ -71,23 +98,36 @@ impl Splitting<'_> {
     fn each_case(
         &self,
         room: u32,
+        memo: &mut Memo<'_>,
         assumptions: &mut Vec<Goal>,
         term: &Term,
         left: &Term,
         right: &Term,
         budget: &mut u64,
     ) -> Result<Vec<TermWhy>, Stop>
+        requires theory { memo.old.theory ≡ self.now.theory.now }
         requires few { length assumptions.old.items + room + 1 ≤ split_limit }
-        ensures exact { GivesWhys (each_case self.now.theory.now self.now.rules.now
-            (split_cases self.now.theory.now self.now.rules.now room) assumptions.old.items
+        ensures exact { GivesWhys (each_case self.now.theory.now memo.old.rules
+            (split_cases self.now.theory.now memo.old.rules room) assumptions.old.items
             term.now left.now right.now (constants_of self.now.theory.now (sort_of term.now))
             budget.old) term.now budget.new result }
+        ensures theory { memo.new.theory ≡ memo.old.theory }
+        ensures rules { memo.new.rules ≡ memo.old.rules }
         ensures same { OnOk result (assumptions.new.items ≡ assumptions.old.items) }
     {
         let mut whys = Vec::new(self.alloc);
         let constants = constants_of(self.theory, term.sort());
         for i in 0..constants.len() {
-            match self.one_case(room, assumptions, term, constants[i], left, right, budget) {
+            match self.one_case(
+                room,
+                memo,
+                assumptions,
+                term,
+                constants[i],
+                left,
+                right,
+                budget,
+            ) {
                 Err(stop) => return Err(stop),
                 Ok(why) => whys.push(why)?,
             }
@@ -100,6 +140,7 @@ impl Splitting<'_> {
     fn one_case(
         &self,
         room: u32,
+        memo: &mut Memo<'_>,
         assumptions: &mut Vec<Goal>,
         term: &Term,
         constant: u32,
@@ -107,15 +148,18 @@ impl Splitting<'_> {
         right: &Term,
         budget: &mut u64,
     ) -> Result<TermWhy, Stop>
+        requires theory { memo.old.theory ≡ self.now.theory.now }
         requires few { length assumptions.old.items + room + 1 ≤ split_limit }
-        ensures exact { GivesReason (case_answer self.now.theory.now self.now.rules.now room
+        ensures exact { GivesReason (case_answer self.now.theory.now memo.old.rules room
             (assumptions.old.items ++ case_of term.now constant ∷ []) left.now right.now
             budget.old) budget.new result }
+        ensures theory { memo.new.theory ≡ memo.old.theory }
+        ensures rules { memo.new.rules ≡ memo.old.rules }
         ensures same { OnOk result (assumptions.new.items ≡ assumptions.old.items) }
     {
         let case = case_of(self.alloc, term, constant)?;
         assumptions.push(case)?;
-        match self.case_reason(room, assumptions, left, right, budget) {
+        match self.case_reason(room, memo, assumptions, left, right, budget) {
             Err(stop) => Err(stop),
             Ok(why) => {
                 let _case = assumptions.pop();
@@ -129,28 +173,52 @@ impl Splitting<'_> {
     fn case_reason(
         &self,
         room: u32,
+        memo: &mut Memo<'_>,
         assumptions: &mut Vec<Goal>,
         left: &Term,
         right: &Term,
         budget: &mut u64,
     ) -> Result<TermWhy, Stop>
+        requires theory { memo.old.theory ≡ self.now.theory.now }
         requires few { length assumptions.old.items + room ≤ split_limit }
-        ensures exact { GivesReason (case_answer self.now.theory.now self.now.rules.now room
+        ensures exact { GivesReason (case_answer self.now.theory.now memo.old.rules room
             assumptions.old.items left.now right.now budget.old) budget.new result }
+        ensures theory { memo.new.theory ≡ memo.old.theory }
+        ensures rules { memo.new.rules ≡ memo.old.rules }
         ensures same { OnOk result (assumptions.new.items ≡ assumptions.old.items) }
     {
-        match self.normal_sides(assumptions.as_slice(), left, right, budget) {
+        match self.case_sides(memo, assumptions.as_slice(), left, right, budget) {
             Err(stop) => Err(stop),
             Ok(sides) => {
                 if sides.left.same(&sides.right) {
                     return Ok(TermWhy::same(sides.chain));
                 }
-                match self.split_with(room, assumptions, &sides.left, &sides.right, budget) {
+                match self.split_with(room, memo, assumptions, &sides.left, &sides.right, budget) {
                     Err(stop) => Err(stop),
                     Ok(cases) => Ok(TermWhy::split(sides.chain, cases.term, cases.whys)),
                 }
             }
         }
+    }
+
+    // Both sides in normal form under these assumptions.
+    fn case_sides(
+        &self,
+        memo: &mut Memo<'_>,
+        assumptions: &[Goal],
+        left: &Term,
+        right: &Term,
+        budget: &mut u64,
+    ) -> Result<Sides, Stop>
+        requires theory { memo.old.theory ≡ self.now.theory.now }
+        requires few { length assumptions.now < 2 ^ 32 }
+        ensures exact { GivesSides (normal_sides self.now.theory.now memo.old.rules
+            assumptions.now left.now right.now budget.old) budget.new result }
+        ensures theory { memo.new.theory ≡ memo.old.theory }
+        ensures rules { memo.new.rules ≡ memo.old.rules }
+    {
+        memo.assume(assumptions)?;
+        normal_sides(self.alloc, memo, left, right, budget)
     }
 }
 

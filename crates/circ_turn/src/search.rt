@@ -42,7 +42,7 @@ pub struct Search<'a> {
     pub limits: Limits,
 }
 
-impl Search<'_> {
+impl<'a> Search<'a> {
     /// Goes on until every goal is done: then the finished blocks prove them.
     pub fn run(&self, state: &mut State<'_>) -> Result<(), End>
         requires start { IsStart self.now.theory.now (plain_limits self.now.limits)
@@ -67,7 +67,7 @@ impl Search<'_> {
 
     // One turn: the first goal of the queue is looked at, or, where there is none, the block is
     // finished. False where every goal is done.
-    fn turn(&self, rules: &mut BlockRules, state: &mut State<'_>) -> Result<bool, End>
+    fn turn(&self, rules: &mut BlockRules<'a>, state: &mut State<'_>) -> Result<bool, End>
         requires rules { IsRulesOf self.now.theory.now state.old.earlier.items rules.old }
         requires small { IsSmall (standing state.old) }
         requires ready { (g : TheGoal) (rest : List TheGoal) (n : Sides)

@@ -23,13 +23,17 @@ use circ_block::{BlockRules, share_goal};
 use circ_join::{HypothesisUse, Joining, Passing, Stop, lemma_links, put_all, use_all, use_links};
 use circ_record::{TermChain, TermWhy};
 use circ_rewrite::Rule;
-use circ_split::{Sides, Splitting};
+use circ_split::{Sides, Splitting, normal_sides};
 use circ_theory::Goal;
 
 impl Search<'_> {
     // One goal: both sides are normalised, and then it is looked at.
-    pub(crate) fn goal_turn(&self, rules: &BlockRules, state: &mut State<'_>) -> Result<(), End>
-        requires rules { IsRulesOf self.now.theory.now state.old.earlier.items rules.now }
+    pub(crate) fn goal_turn(
+        &self,
+        rules: &mut BlockRules<'_>,
+        state: &mut State<'_>,
+    ) -> Result<(), End>
+        requires rules { IsRulesOf self.now.theory.now state.old.earlier.items rules.old }
         requires small { IsSmall (standing state.old) }
         requires ready { (g : TheGoal) (rest : List TheGoal) (n : TheSides)
             → state.old.queue.items ≡ g ∷ rest
@@ -37,21 +41,23 @@ impl Search<'_> {
             (block_rules self.now.theory.now state.old.earlier.items) []
             g.left g.right state.old.budget ≡ Ok n
             → IsReady self.now.theory.now (goal n.left n.right) }
-        ensures { (g : TheGoal) (rest : List TheGoal) → state.old.queue.items ≡ g ∷ rest
+        ensures exact { (g : TheGoal) (rest : List TheGoal) → state.old.queue.items ≡ g ∷ rest
             → GoesTo (goal_turn self.now.theory.now self.now.gamma.now
             (plain_limits self.now.limits) (standing state.old) g rest)
             (standing state.new) result }
+        ensures rules { IsRulesOf self.now.theory.now state.old.earlier.items rules.new }
     {
         let Some(hand) = state.queue.front() else {
             return Ok(());
         };
-        let splitting = Splitting {
-            alloc: self.alloc,
-            theory: self.theory,
-            rules: &rules.rules,
-        };
         let mut budget = state.budget;
-        match splitting.normal_sides(&[], &hand.left, &hand.right, &mut budget) {
+        match normal_sides(
+            self.alloc,
+            &mut rules.plain,
+            &hand.left,
+            &hand.right,
+            &mut budget,
+        ) {
             Err(stop) => Err(self.end(state, stop)),
             Ok(sides) => {
                 let goal = Goal {
@@ -65,14 +71,20 @@ impl Search<'_> {
     }
 
     // A goal whose sides are in normal form.
-    fn sides_turn(&self, rules: &BlockRules, state: &mut State<'_>, goal: &Goal) -> Result<(), End>
-        requires rules { IsRulesOf self.now.theory.now state.old.earlier.items rules.now }
+    fn sides_turn(
+        &self,
+        rules: &mut BlockRules<'_>,
+        state: &mut State<'_>,
+        goal: &Goal,
+    ) -> Result<(), End>
+        requires rules { IsRulesOf self.now.theory.now state.old.earlier.items rules.old }
         requires some { 0 < length state.old.queue.items }
         requires small { IsSmall (standing state.old) }
         requires ready { IsReady self.now.theory.now goal.now }
-        ensures { GoesTo (sides_turn self.now.theory.now self.now.gamma.now
+        ensures exact { GoesTo (sides_turn self.now.theory.now self.now.gamma.now
             (plain_limits self.now.limits) (standing state.old) goal.now
             (drop 1 state.old.queue.items)) (standing state.new) result }
+        ensures rules { IsRulesOf self.now.theory.now state.old.earlier.items rules.new }
     {
         let joining = Joining {
             alloc: self.alloc,
@@ -109,14 +121,20 @@ impl Search<'_> {
     }
 
     // A lemma pass over both sides. Where a replacement was made, the goal goes on.
-    fn pass_turn(&self, rules: &BlockRules, state: &mut State<'_>, goal: &Goal) -> Result<(), End>
-        requires rules { IsRulesOf self.now.theory.now state.old.earlier.items rules.now }
+    fn pass_turn(
+        &self,
+        rules: &mut BlockRules<'_>,
+        state: &mut State<'_>,
+        goal: &Goal,
+    ) -> Result<(), End>
+        requires rules { IsRulesOf self.now.theory.now state.old.earlier.items rules.old }
         requires some { 0 < length state.old.queue.items }
         requires small { IsSmall (standing state.old) }
         requires ready { IsReady self.now.theory.now goal.now }
-        ensures { GoesTo (pass_turn self.now.theory.now self.now.gamma.now
+        ensures exact { GoesTo (pass_turn self.now.theory.now self.now.gamma.now
             (plain_limits self.now.limits) (standing state.old) goal.now
             (drop 1 state.old.queue.items)) (standing state.new) result }
+        ensures rules { IsRulesOf self.now.theory.now state.old.earlier.items rules.new }
     {
         let mut budget = state.budget;
         match self.swept_sides(rules.lemmas.as_slice(), goal, &mut budget) {
@@ -160,13 +178,19 @@ impl Search<'_> {
     }
 
     // A goal on which neither Join nor a lemma pass does anything.
-    fn open_turn(&self, rules: &BlockRules, state: &mut State<'_>, goal: &Goal) -> Result<(), End>
-        requires rules { IsRulesOf self.now.theory.now state.old.earlier.items rules.now }
+    fn open_turn(
+        &self,
+        rules: &mut BlockRules<'_>,
+        state: &mut State<'_>,
+        goal: &Goal,
+    ) -> Result<(), End>
+        requires rules { IsRulesOf self.now.theory.now state.old.earlier.items rules.old }
         requires small { IsSmall (standing state.old) }
         requires ready { IsReady self.now.theory.now goal.now }
-        ensures { GoesTo (open_turn self.now.theory.now
+        ensures exact { GoesTo (open_turn self.now.theory.now
             (plain_limits self.now.limits) (standing state.old) goal.now
             (drop 1 state.old.queue.items)) (standing state.new) result }
+        ensures rules { IsRulesOf self.now.theory.now state.old.earlier.items rules.new }
     {
         if self.theory.is_hidden(goal.left.sort()) {
             self.hidden_turn(state, goal)
@@ -178,23 +202,23 @@ impl Search<'_> {
     // A visible goal is split.
     fn visible_turn(
         &self,
-        rules: &BlockRules,
+        rules: &mut BlockRules<'_>,
         state: &mut State<'_>,
         goal: &Goal,
     ) -> Result<(), End>
-        requires rules { IsRulesOf self.now.theory.now state.old.earlier.items rules.now }
+        requires rules { IsRulesOf self.now.theory.now state.old.earlier.items rules.old }
         requires small { IsSmall (standing state.old) }
-        ensures { GoesTo (visible_turn self.now.theory.now
+        ensures exact { GoesTo (visible_turn self.now.theory.now
             (plain_limits self.now.limits) (standing state.old) goal.now
             (drop 1 state.old.queue.items)) (standing state.new) result }
+        ensures rules { IsRulesOf self.now.theory.now state.old.earlier.items rules.new }
     {
         let splitting = Splitting {
             alloc: self.alloc,
             theory: self.theory,
-            rules: &rules.rules,
         };
         let mut budget = state.budget;
-        match splitting.split_cases(&goal.left, &goal.right, &mut budget) {
+        match splitting.split_cases(&mut rules.cases, &goal.left, &goal.right, &mut budget) {
             Err(stop) => Err(self.end(state, stop)),
             Ok(cases) => {
                 state.budget = budget;

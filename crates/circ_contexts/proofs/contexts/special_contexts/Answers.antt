@@ -4,8 +4,8 @@ use Rattle.circ_contexts.specs.Candidates.{AreCandidates}
 use Rattle.circ_contexts.proofs.Dropping.{all_placed, stands_first, is_set, is_greatest}
 use Rattle.circ_contexts.proofs.contexts.special_contexts.Goals as goal
 
-pub candidates-requires-clause-places : goal.candidates-requires-clause-places
-candidates-requires-clause-places c = rw c.as_slice.ensures.value (all_placed c.args.theory.now c.args.budget c.in_ok-places.ensures)
+pub candidates-requires : goal.candidates-requires
+candidates-requires c = rw c.as_slice.ensures.value (all_placed c.args.theory.now c.args.budget c.in_ok-places.ensures)
 
 pub greatest-requires : goal.greatest-requires
 greatest-requires c =

@@ -3,10 +3,10 @@ use Rattle.circ_rules.proofs.Deriving.{the_derivative}
 use Rattle.std.specs.List.{slice_get}
 use Rattle.circ_contexts.proofs.candidates.Means.normal.Goals as goal
 
-pub returns-in-Some : goal.returns-in-Some
-returns-in-Some c =
+pub returns-in-Some-clause-exact : goal.returns-in-Some-clause-exact
+returns-in-Some-clause-exact c =
     let th = c.args.self.now.theory.now in
     let s = c.args.start.now in
     let d = the_derivative (slice_get th.derivatives c.args.derivative) s.decl.now.result c.requires.hole in
-    comes_at th c.args.self.now.budget s c.requires.start c.args.derivative d.0 d.1 c.in-Some.term (rw c.in-Some.is at c.in_ok-term.ensures.exact)
-    c.args.self.now.rules.now c.requires.rules _ c.normal_form.ensures
+    let form = rw c.requires.memo at c.normal_form.ensures.exact in
+    comes_at th c.args.self.now.budget s c.requires.start c.args.derivative d.0 d.1 c.in-Some.term (rw c.in-Some.is at c.in_ok-term.ensures.exact) _ form

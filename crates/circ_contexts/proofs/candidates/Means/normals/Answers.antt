@@ -3,13 +3,13 @@ use Rattle.circ_contexts.proofs.Starting.{normals_taken, normals_passed, normals
 use Rattle.circ_contexts.proofs.candidates.Means.normals.Goals as goal
 use Rattle.circ_contexts.proofs.candidates.Means.normals.Goals.{then-takes+in_ok-normal+in-Some+in_ok-push-in-Some, else-takes}
 
-pub returns-in-None : goal.returns-in-None
-returns-in-None c =
+pub returns-in-None-clause-exact : goal.returns-in-None-clause-exact
+returns-in-None-clause-exact c =
     let th = c.args.self.now.theory.now in
     let i = c.loop-derivative.derivative in
     let within : i < length th.derivatives = omega (arith, c.loop-derivative-test.true, c.derivative_count-derivative-end.ensures.count) in
     normals_missing th c.args.self.now.budget c.args.start.now.place c.args.start.now.decl.now.result i c.loop-derivative.normals.items within
-    c.loop-derivative.invariant (sym c.takes.ensures ∙ c.if-takes.true) (rw c.in-None.is at c.in_ok-normal.ensures)
+    c.loop-derivative.invariant.normals (sym c.takes.ensures ∙ c.if-takes.true) (rw c.in-None.is at c.in_ok-normal.ensures.exact)
 
 pub loop-derivative-preserved : goal.loop-derivative-preserved
 loop-derivative-preserved c =
@@ -21,18 +21,24 @@ loop-derivative-preserved c =
     let within : i < length th.derivatives = omega (arith, c.loop-derivative-test.true, c.derivative_count-derivative-end.ensures.count) in
     elim c.if-takes.branch [
       | then-takes+in_ok-normal+in-Some+in_ok-push-in-Some w ↦
-          rw (w.normals-is, w.in_ok-push-in-Some.ensures.items)
-          (normals_taken th c.args.self.now.budget g k i ns within c.loop-derivative.invariant (sym c.takes.ensures ∙ w.if-takes.true) w.in-Some.normal
-          (rw w.in-Some.is at w.in_ok-normal.ensures))
+          record {
+            memo = w.memo-is ∙ w.normal.ensures.same ∙ c.loop-derivative.invariant.memo;
+            normals = rw (w.normals-is, w.in_ok-push-in-Some.ensures.items)
+                (normals_taken th c.args.self.now.budget g k i ns within c.loop-derivative.invariant.normals (sym c.takes.ensures ∙ w.if-takes.true) w.in-Some.normal
+                (rw w.in-Some.is at w.in_ok-normal.ensures.exact));
+          }
       | else-takes w ↦
-          rw w.normals-is
-          (normals_passed th c.args.self.now.budget g k i ns within c.loop-derivative.invariant (sym c.takes.ensures ∙ w.if-takes.false))
+          record {
+            memo = w.memo-is ∙ c.loop-derivative.invariant.memo;
+            normals = rw w.normals-is
+                (normals_passed th c.args.self.now.budget g k i ns within c.loop-derivative.invariant.normals (sym c.takes.ensures ∙ w.if-takes.false));
+          }
     ]
 
-pub returns : goal.returns
-returns c =
+pub returns-clause-exact : goal.returns-clause-exact
+returns-clause-exact c =
     let th = c.args.self.now.theory.now in
     let i = c.loop-derivative.derivative in
     let past : length th.derivatives ≤ i = omega (arith, c.loop-derivative-test.false, c.derivative_count-derivative-end.ensures.count) in
     normals_last th c.args.self.now.budget c.args.start.now.place c.args.start.now.decl.now.result i c.loop-derivative.normals.items past
-    c.loop-derivative.invariant
+    c.loop-derivative.invariant.normals

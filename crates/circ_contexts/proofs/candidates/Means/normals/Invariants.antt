@@ -1,5 +1,9 @@
+use Rattle.std.proofs.Common.{◌≡◌}
 use Rattle.circ_contexts.proofs.Starting.{NormalsTo}
 use Rattle.circ_contexts.proofs.candidates.Means.normals.Given as goal
 
 abbrev pub invariant-loop-derivative : goal.invariant-loop-derivative
-invariant-loop-derivative l = NormalsTo l.self.theory.now l.self.budget l.start.place l.start.decl.now.result l.derivative l.normals.items
+invariant-loop-derivative l = record {
+  memo : l.memo ≡ l.fn.memo;
+  normals : NormalsTo l.self.theory.now l.self.budget l.start.place l.start.decl.now.result l.derivative l.normals.items;
+}

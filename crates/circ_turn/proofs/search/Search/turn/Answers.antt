@@ -24,7 +24,7 @@ returns-in-Ok-clause-rules c =
     let st = standing c.args.state.now in
     let Q : List Goal = c.args.state.now.queue.items in
     let front : Q ≡ c.in-Some.field-0.now ∷ drop 1 Q = drop_read Q 0 c.in-Some.field-0.now c.in-Some.ensures.item.3.0 c.in-Some.ensures.lookup in
-    let g = rw c.in-Ok.is at (c.goal_turn.ensures c.in-Some.field-0.now (drop 1 Q) front) in
+    let g = rw c.in-Ok.is at (c.goal_turn.ensures.exact c.in-Some.field-0.now (drop 1 Q) front) in
     let same = goal_keeps c.args.self.now.theory.now (plain_limits c.args.self.now.limits) c.args.self.now.gamma.now st (standing c.goal_turn.new.state) c.in-Some.field-0.now (drop 1 Q) g in
-    let P : List Goal → Type 0 = λ E. IsRulesOf c.args.self.now.theory.now E c.args.rules.now in
-    subst P (sym same) c.requires.rules
+    let P : List Goal → Type 0 = λ E. IsRulesOf c.args.self.now.theory.now E c.goal_turn.new.rules in
+    subst P (sym same) c.goal_turn.ensures.rules

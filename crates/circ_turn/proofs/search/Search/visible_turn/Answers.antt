@@ -8,15 +8,15 @@ use Rattle.circ_turn.specs.Standing.{standing, plain_limits}
 use Rattle.circ_turn.proofs.Turning.{visible_goes, goes_same, part_ends}
 use Rattle.circ_turn.proofs.search.Search.visible_turn.Goals as goal
 
-pub returns-in-Err : goal.returns-in-Err
-returns-in-Err c =
-    let h = rw (c.in-Err.is, c.requires.rules.rules) at c.split_cases.ensures in
+pub returns-in-Err-clause-exact : goal.returns-in-Err-clause-exact
+returns-in-Err-clause-exact c =
+    let h = rw (c.in-Err.is, c.requires.rules.rules) at c.split_cases.ensures.exact in
     rw c.end.ensures (part_ends (plain_limits c.args.self.now.limits) (standing c.args.state.now) c.in-Err.stop _ _ h)
 
-pub returns-in-Ok : goal.returns-in-Ok
-returns-in-Ok c =
+pub returns-in-Ok-clause-exact : goal.returns-in-Ok-clause-exact
+returns-in-Ok-clause-exact c =
     let st = standing c.args.state.now in
-    let h = rw (c.in-Ok.is, c.requires.rules.rules) at c.split_cases.ensures in
+    let h = rw (c.in-Ok.is, c.requires.rules.rules) at c.split_cases.ensures.exact in
     let why = c.split.ensures ∙ ap (λ x. Split_why x c.in-Ok.cases.term (plain_term_whys c.in-Ok.cases.whys.items)) c.take_chain-chain.ensures.taken in
     let P : List Goal → Type 0 = λ q. GoesTo (reduced c.args.self.now.theory.now (plain_limits c.args.self.now.limits) (standing c.take_chain-chain.new.self) (drop 1 q) (plain_term_why c.split.result))
     (standing c.reduced.new.state) c.reduced.result in

@@ -1,7 +1,7 @@
 use Rattle.std.proofs.Common.{◌≡◌, ◌+◌, ◌*◌, drop}
 use Rattle.circ_plain_search.specs.Search.{each_case, split_cases}
 use Rattle.circ_split.proofs.Splits.{Rest}
-use Rattle.circ_split.proofs.sides.Splitting.+split.Given as goal
+use Rattle.circ_split.proofs.splitting.Splitting.+split.Given as goal
 
 abbrev pub decreases-split_with : goal.decreases-split_with
 decreases-split_with l = 4 * l.room
@@ -17,9 +17,11 @@ decreases-case_reason l = 4 * l.room + 1
 
 abbrev pub invariant-each_case-loop-i : goal.invariant-each_case-loop-i
 invariant-each_case-loop-i l = record {
+  theory : l.memo.theory ≡ l.fn.memo.theory;
+  rules : l.memo.rules ≡ l.fn.memo.rules;
   same : l.assumptions.items ≡ l.fn.assumptions.items;
   rest : Rest
-      (each_case l.self.theory.now l.self.rules.now (split_cases l.self.theory.now l.self.rules.now l.room) l.fn.assumptions.items l.term l.left l.right l.constants l.fn.budget)
-      (each_case l.self.theory.now l.self.rules.now (split_cases l.self.theory.now l.self.rules.now l.room) l.fn.assumptions.items l.term l.left l.right (drop l.i l.constants) l.budget)
+      (each_case l.self.theory.now l.fn.memo.rules (split_cases l.self.theory.now l.fn.memo.rules l.room) l.fn.assumptions.items l.term l.left l.right l.constants l.fn.budget)
+      (each_case l.self.theory.now l.fn.memo.rules (split_cases l.self.theory.now l.fn.memo.rules l.room) l.fn.assumptions.items l.term l.left l.right (drop l.i l.constants) l.budget)
       l.whys.items;
 }

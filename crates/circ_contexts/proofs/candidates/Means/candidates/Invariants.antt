@@ -1,5 +1,0 @@
-use Rattle.circ_contexts.proofs.Gathering.{Gathered}
-use Rattle.circ_contexts.proofs.candidates.Means.candidates.Given as goal
-
-abbrev pub invariant-loop-place : goal.invariant-loop-place
-invariant-loop-place l = Gathered l.self.theory.now l.self.budget l.places l.place-index l.found.items
