@@ -1,7 +1,7 @@
 //! Rules in rows, by the operators at the roots of their left sides and of the first arguments
 //! there.
-ghost use Rattle.std.specs.Prelude.{◌≡◌, ◌≤◌, ◌<◌, ◌^◌, ℕ, length, replicate, slice_set};
-ghost use Rattle.std.specs.Prelude.{IfOk, Some};
+ghost use Rattle.std.specs.Prelude.{◌≡◌, ◌≤◌, ◌<◌, ◌^◌, ℕ, length};
+ghost use Rattle.std.specs.Prelude.{IfOk, Some, replicate, slice_set};
 ghost use Rattle.std.specs.List.{slice_get};
 ghost use Rattle.circ_term.specs.Tree.{trees_of};
 ghost use Rattle.circ_due.specs.Rows.{first_mark, row_at, row_of, wide_row, IsIndex};
