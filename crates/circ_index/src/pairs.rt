@@ -1,5 +1,6 @@
 //! The first of many pairs that has two terms as an instance, one way or the other.
-ghost use Rattle.std.specs.Prelude.{◌≡◌, ◌+◌, ◌<◌, ◌^◌, [], ◌∷◌, ◌++◌, length, Some, IfOk};
+ghost use Rattle.std.specs.Prelude.{◌≡◌, ◌+◌, ◌<◌, ◌^◌};
+ghost use Rattle.std.specs.Prelude.{[], ◌∷◌, ◌++◌, length, Some, IfOk};
 ghost use Rattle.std.specs.Prelude.{OnOk, OnErr};
 ghost use Rattle.std.specs.List.{slice_get};
 ghost use Rattle.circ_term.specs.Tree.{Tree};
@@ -26,7 +27,7 @@ impl Model for PairIndex {
     ghost use Rattle.std.specs.Coded.{coded_list, coded×};
     ghost use Rattle.circ_term.specs.Tree.{Tree};
     ghost use Rattle.circ_term.specs.Code.{tree_code};
-    ghost use Rattle.circ_index.specs.Keyed.{ArePairs};
+    ghost use Rattle.circ_index.specs.Indexed.{ArePairs};
 
     ghost Value = { List (Tree × Tree) };
 
