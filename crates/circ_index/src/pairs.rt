@@ -13,7 +13,8 @@ use circ_term::{Subst, Term};
 use std::alloc::{AllocError, Global};
 use std::marker::Model;
 
-/// Pairs of patterns, found by the operators at both roots. Contracts see the list of the pairs.
+/// Pairs of patterns, found by the operators at both roots, and by their sizes where they have no
+/// variables. Contracts see the list of the pairs.
 /// Place 2n is pair n as it stands, and place 2n + 1 is pair n turned.
 #[derive(Drop)]
 pub struct PairIndex {
@@ -72,7 +73,7 @@ impl PairIndex {
     pub fn first(&self, from: u32, a: &Term, b: &Term) -> Result<Option<(u32, Subst)>, AllocError>
         ensures { IfOk result (FindsFirstPair self.now from a.now b.now) }
     {
-        let mut ahead = [0; 4];
+        let mut ahead = [0; 5];
         self.rows.start(&pair_keys(a, b), from, &mut ahead);
         let mut place = least(&ahead);
         while place as usize / 2 < self.pairs.len() {
