@@ -1,4 +1,4 @@
 pub mod Finding
+pub mod Indexed
 pub mod Keys
 pub mod Linked
-pub mod Keyed

@@ -1,5 +1,6 @@
 //! The first of many pairs that has two terms as an instance, one way or the other.
-ghost use Rattle.std.specs.Prelude.{◌≡◌, ◌+◌, ◌<◌, ◌^◌, [], ◌∷◌, ◌++◌, length, Some, IfOk};
+ghost use Rattle.std.specs.Prelude.{◌≡◌, ◌+◌, ◌<◌, ◌^◌};
+ghost use Rattle.std.specs.Prelude.{[], ◌∷◌, ◌++◌, length, Some, IfOk};
 ghost use Rattle.std.specs.Prelude.{OnOk, OnErr};
 ghost use Rattle.std.specs.List.{slice_get};
 ghost use Rattle.circ_term.specs.Tree.{Tree};
@@ -12,7 +13,8 @@ use circ_term::{Subst, Term};
 use std::alloc::{AllocError, Global};
 use std::marker::Model;
 
-/// Pairs of patterns, found by the operators at both roots. Contracts see the list of the pairs.
+/// Pairs of patterns, found by the operators at both roots, and by their sizes where they have no
+/// variables. Contracts see the list of the pairs.
 /// Place 2n is pair n as it stands, and place 2n + 1 is pair n turned.
 #[derive(Drop)]
 pub struct PairIndex {
@@ -26,7 +28,7 @@ impl Model for PairIndex {
     ghost use Rattle.std.specs.Coded.{coded_list, coded×};
     ghost use Rattle.circ_term.specs.Tree.{Tree};
     ghost use Rattle.circ_term.specs.Code.{tree_code};
-    ghost use Rattle.circ_index.specs.Keyed.{ArePairs};
+    ghost use Rattle.circ_index.specs.Indexed.{ArePairs};
 
     ghost Value = { List (Tree × Tree) };
 
@@ -71,7 +73,7 @@ impl PairIndex {
     pub fn first(&self, from: u32, a: &Term, b: &Term) -> Result<Option<(u32, Subst)>, AllocError>
         ensures { IfOk result (FindsFirstPair self.now from a.now b.now) }
     {
-        let mut ahead = [0; 4];
+        let mut ahead = [0; 5];
         self.rows.start(&pair_keys(a, b), from, &mut ahead);
         let mut place = least(&ahead);
         while place as usize / 2 < self.pairs.len() {

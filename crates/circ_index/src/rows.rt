@@ -1,5 +1,5 @@
 //! Places in rows by their keys.
-ghost use Rattle.std.specs.Prelude.{◌≡◌, ◌+◌, ◌%◌, ◌≤◌, ◌<◌, ◌*◌, ◌^◌};
+ghost use Rattle.std.specs.Prelude.{◌≡◌, ◌+◌, ◌%◌, ◌≤◌, ◌<◌, ◌^◌};
 ghost use Rattle.std.specs.Prelude.{ℕ, List, ◌++◌, length, OnOk, OnErr};
 ghost use Rattle.circ_index.specs.Linked.{IsLinked, IsNext, AreAhead, IsLeast};
 

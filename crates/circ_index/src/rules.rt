@@ -24,7 +24,7 @@ impl Model for RuleIndex {
     ghost use Rattle.std.specs.Coded.{coded_list};
     ghost use Rattle.circ_term.specs.Tree.{Tree};
     ghost use Rattle.circ_term.specs.Code.{tree_code};
-    ghost use Rattle.circ_index.specs.Keyed.{AreLefts};
+    ghost use Rattle.circ_index.specs.Indexed.{AreLefts};
 
     ghost Value = { List Tree };
 
