@@ -1,0 +1,113 @@
+//! What no clause says: that an index and a memo are used, and that there is memory.
+ghost use Rattle.std.specs.Prelude.{IfOk};
+ghost use Rattle.std.specs.List.{AllByRecursion};
+ghost use Rattle.circ_rewrite.specs.Due.{IsRewriteRule};
+
+use circ_index::{PairIndex, RuleIndex};
+use circ_memo::Memo;
+use circ_rewrite::{RewriteFault, Rule, RuleName};
+use circ_term::{Term, TermFault};
+use circ_theory::{Form, OpDecl, Side, Theory, TheoryFault};
+use itoa::Buffer;
+use std::alloc::{AllocError, Global};
+
+const CONSTANTS: u32 = 60_000;
+
+// Whether the second of two left sides, of another sort than the first, is found for a variable.
+fn second_left_is_found(alloc: Global) -> Result<bool, AllocError> {
+    let mut lefts = Vec::new(alloc);
+    lefts.push(Term::var(0, 1))?;
+    lefts.push(Term::var(0, 0))?;
+    let index = RuleIndex::of(alloc, lefts)?;
+    match index.first(0, &Term::var(5, 0))? {
+        Some((number, _)) => Ok(number == 1),
+        None => Ok(false),
+    }
+}
+
+// Whether a pair is found turned.
+fn turned_pair_is_found(alloc: Global) -> Result<bool, AllocError> {
+    let mut index = PairIndex::new(alloc);
+    index.add(&Term::var(0, 0), &Term::var(0, 1))?;
+    match index.first(0, &Term::var(7, 1), &Term::var(7, 0))? {
+        Some((place, _)) => Ok(place == 1),
+        None => Ok(false),
+    }
+}
+
+#[test]
+fn indexes(rt: HostRuntime) {
+    assert!(rt; second_left_is_found(rt.alloc()) == Ok(true));
+    assert!(rt; turned_pair_is_found(rt.alloc()) == Ok(true));
+}
+
+fn declared(alloc: Global, number: u32) -> Result<OpDecl, TheoryFault> {
+    let mut digits = Buffer::new();
+    let Ok(form) = Form::read(alloc, digits.format(number).as_bytes()) else {
+        return Err(TheoryFault::Memory);
+    };
+    Ok(OpDecl {
+        form,
+        args: Vec::new(alloc),
+        result: 0,
+        prec: 0,
+        side: Side::Neither,
+        assoc: false,
+        comm: false,
+        idem: false,
+    })
+}
+
+// A theory of one sort and constants.
+fn constants(alloc: Global) -> Result<Theory, TheoryFault> {
+    let mut theory = Theory::new(alloc)?;
+    theory.add_sort(b"A")?;
+    for number in 0..CONSTANTS {
+        theory.add_op(declared(alloc, number)?)?;
+    }
+    Ok(theory)
+}
+
+fn constant(alloc: Global, number: u32) -> Result<Term, TermFault> {
+    Term::app(alloc, number, 0, Vec::new(alloc))
+}
+
+// Constant `from` becomes constant `to`.
+fn step(alloc: Global, from: u32, to: u32) -> Result<Rule, TermFault>
+    ensures { IfOk result IsRewriteRule }
+{
+    Ok(Rule {
+        name: RuleName::Equation { number: from },
+        left: constant(alloc, from)?,
+        right: constant(alloc, to)?,
+    })
+}
+
+// Each constant becomes the next, and the last becomes itself.
+fn steps(alloc: Global) -> Result<Vec<Rule>, TermFault>
+    ensures { IfOk result (λ v. AllByRecursion IsRewriteRule v.items) }
+{
+    let mut rules = Vec::new(alloc);
+    for number in 0..CONSTANTS {
+        rules.push(step(alloc, number, (number + 1).min(CONSTANTS - 1))?)?;
+    }
+    Ok(rules)
+}
+
+// Whether the budget is spent, to its end, on the first constant.
+fn is_spent(alloc: Global, theory: &Theory) -> Result<bool, TermFault> {
+    let rules = steps(alloc)?;
+    if rules.len() != CONSTANTS as usize {
+        return Ok(false);
+    }
+    let mut memo = Memo::new(alloc, theory, rules)?;
+    let mut budget = 1_000_000;
+    let normal = memo.normal(&constant(alloc, 0)?, &mut budget);
+    Ok(matches!(normal, Err(RewriteFault::Spent)) && budget == 0)
+}
+
+#[test]
+fn a_rule_is_found_among_60000(rt: HostRuntime) {
+    let theory = constants(rt.alloc());
+    assert!(rt; theory.is_ok_and(|theory| is_spent(rt.alloc(), &theory) == Ok(true)));
+}
