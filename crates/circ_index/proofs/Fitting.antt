@@ -1,9 +1,9 @@
 -- A pattern that matches has one of the keys that are looked for.
-use Rattle.std.proofs.Common.{Bool, true, false, ◌&&◌, ◌≡◌, ℕ, ◌<◌, refl, ap, sym, ◌∙◌, arith, ◌⊎◌, inl, inr}
+use Rattle.std.proofs.Common.{Bool, true, false, ◌&&◌, ◌≡◌, ℕ, ◌≤◌, ◌<◌, refl, ap, sym, subst, ◌∙◌, arith, ◌⊎◌, inl, inr}
 use Rattle.std.specs.Prelude.{slice_index}
 use Rattle.std.proofs.lemmas.Bool.{and_parts}
-use Rattle.circ_term.specs.Tree.{Tree, Var, App, none, more, is_ground}
-use Rattle.circ_term.specs.Substitution.{Substitution, instance}
+use Rattle.circ_term.specs.Tree.{Tree, Trees, Var, App, none, more, size_of, sizes_of, is_ground}
+use Rattle.circ_term.specs.Substitution.{Substitution, instance, instances}
 use Rattle.circ_term.proofs.Instances.{instance-is_ground}
 use Rattle.circ_match.specs.Matcher.{Makes}
 use Rattle.circ_index.specs.Finding.{LeftMatches, PairMatches}
@@ -45,3 +45,21 @@ pair_fits a b p apart = λ τ k made. by_ground (is_ground p.0 && is_ground p.1)
     by_ground false e τ made =
         let key_is : pair_key p ≡ key (root p.0) (root p.1) = rw e refl in
         by_roots (root_fits τ p.0 a made.0) (root_fits τ p.1 b made.1) key_is
+
+-- ---- a pattern is no larger than what it becomes
+
+some_size : (t : Tree) → 1 ≤ size_of t
+some_size (Var n s) = omega arith
+some_size (App f s ts) = omega arith
+
+mutual
+  size_of-instance : (τ : Substitution) (t : Tree) → size_of t ≤ size_of (instance τ t)
+  size_of-instance τ (Var n s) = some_size (τ n s)
+  size_of-instance τ (App f s ts) = omega (arith, sizes_of-instances τ ts)
+
+  sizes_of-instances : (τ : Substitution) (ts : Trees) → sizes_of ts ≤ sizes_of (instances τ ts)
+  sizes_of-instances τ none = omega arith
+  sizes_of-instances τ (more t ts) = omega (arith, size_of-instance τ t, sizes_of-instances τ ts)
+
+pub not_larger : (τ : Substitution) (pattern term : Tree) → Makes pattern term τ → size_of pattern ≤ size_of term
+not_larger τ pattern term made = subst (λ t. size_of pattern ≤ size_of t) made (size_of-instance τ pattern)

@@ -94,9 +94,28 @@ impl PairIndex {
     {
         let (left, right) = &self.pairs[place as usize / 2];
         if place % 2 == 0 {
-            match_pair(self.alloc, left, right, a, b)
+            match_both(self.alloc, left, right, a, b)
         } else {
-            match_pair(self.alloc, right, left, a, b)
+            match_both(self.alloc, right, left, a, b)
         }
     }
+}
+
+// Matches one pair. Where a side is larger than its term, no memory is taken.
+fn match_both(
+    alloc: Global,
+    left: &Term,
+    right: &Term,
+    a: &Term,
+    b: &Term,
+) -> Result<Option<Subst>, AllocError>
+    ensures { IfOk result (PairMatches a.now b.now (left.now, right.now)) }
+{
+    if left.size() > a.size() {
+        return Ok(None);
+    }
+    if right.size() > b.size() {
+        return Ok(None);
+    }
+    match_pair(alloc, left, right, a, b)
 }

@@ -19,7 +19,7 @@ returns-then-place-eq0 c = λ p g.
     ap (λ ps. slice_get (both_ways ps) c.args.place) (sym c.self.view_is) ∙ pair_there c.self.inside.pairs.items c.args.place q
     (slice_get_read x.pairs.items (length x.pairs.items) (c.args.place / 2) q refl
     (omega (arith, c.requires, ap (λ ps. length (both_ways ps)) c.self.view_is, length-both_ways x.pairs.items)) c.index.ensures) c.if-place-eq0.true in
-    subst (λ r. IfOk c.match_pair.result (PairMatches c.args.a.now c.args.b.now r)) (same_Some q p (sym here ∙ g)) c.match_pair.ensures
+    subst (λ r. IfOk c.match_both.result (PairMatches c.args.a.now c.args.b.now r)) (same_Some q p (sym here ∙ g)) c.match_both.ensures
 
 pub returns-else-place-eq0 : goal.returns-else-place-eq0
 returns-else-place-eq0 c = λ p g.
@@ -29,4 +29,4 @@ returns-else-place-eq0 c = λ p g.
     ap (λ ps. slice_get (both_ways ps) c.args.place) (sym c.self.view_is) ∙ pair_turned c.self.inside.pairs.items c.args.place q
     (slice_get_read x.pairs.items (length x.pairs.items) (c.args.place / 2) q refl
     (omega (arith, c.requires, ap (λ ps. length (both_ways ps)) c.self.view_is, length-both_ways x.pairs.items)) c.index.ensures) c.if-place-eq0.false in
-    subst (λ r. IfOk c.match_pair-else-place-eq0.result (PairMatches c.args.a.now c.args.b.now r)) (same_Some (q.1, q.0) p (sym here ∙ g)) c.match_pair-else-place-eq0.ensures
+    subst (λ r. IfOk c.match_both-else-place-eq0.result (PairMatches c.args.a.now c.args.b.now r)) (same_Some (q.1, q.0) p (sym here ∙ g)) c.match_both-else-place-eq0.ensures
