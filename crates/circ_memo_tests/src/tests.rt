@@ -60,7 +60,7 @@ fn declared(alloc: Global, number: u32) -> Result<OpDecl, TheoryFault> {
 
 // A theory of one sort and constants.
 fn constants(alloc: Global) -> Result<Theory, TheoryFault> {
-    let mut theory = Theory::new(alloc)?;
+    let mut theory = Theory::new(alloc, b"T")?;
     theory.add_sort(b"A")?;
     for number in 0..CONSTANTS {
         theory.add_op(declared(alloc, number)?)?;

@@ -15,7 +15,7 @@ use std::alloc::{AllocError, Global};
 use std::{fs, io};
 
 /// The tables, in the order in which they are run.
-const TABLES: [&str; 20] = [
+const TABLES: [&str; 21] = [
     "rows-words",
     "rows-faults",
     "rows-causes",
@@ -24,6 +24,7 @@ const TABLES: [&str; 20] = [
     "rows-terms",
     "rows-show",
     "rows-reduce",
+    "rows-memo",
     "rows-contexts",
     "rows-prove",
     "rows-search",
