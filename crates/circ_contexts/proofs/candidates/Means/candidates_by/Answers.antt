@@ -17,13 +17,13 @@ loop-place-preserved c =
     record {
       memo = c.candidate.ensures.same ∙ c.loop-place.invariant.memo;
       gathered = elim c.match-branch-2.branch [
-          | in-Some+in_ok-push-in-Some w ↦
-              rw (w.found-is, w.in_ok-push-in-Some.ensures.items)
-              (gather_one th b gs i cs c.loop-place-test.true c.loop-place.invariant.gathered w.in-Some.candidate
-              (rw w.in-Some.is at c.in_ok-candidate.ensures.exact))
-          | in-None w ↦
-              rw w.found-is
-              (gather_none th b gs i cs c.loop-place-test.true c.loop-place.invariant.gathered (rw w.in-None.is at c.in_ok-candidate.ensures.exact))
+        | in-Some+in_ok-push-in-Some w ↦
+            rw (w.found-is, w.in_ok-push-in-Some.ensures.items)
+            (gather_one th b gs i cs c.loop-place-test.true c.loop-place.invariant.gathered w.in-Some.candidate
+            (rw w.in-Some.is at c.in_ok-candidate.ensures.exact))
+        | in-None w ↦
+            rw w.found-is
+            (gather_none th b gs i cs c.loop-place-test.true c.loop-place.invariant.gathered (rw w.in-None.is at c.in_ok-candidate.ensures.exact))
       ];
     }
 
