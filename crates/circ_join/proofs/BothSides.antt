@@ -12,6 +12,7 @@ use Rattle.circ_term.proofs.Order.{same_here}
 use Rattle.circ_theory.specs.Theory.{Pair}
 use Rattle.circ_theory.specs.Variables.{Variable, is_variable, variables_of, seen_in, occurrences}
 use Rattle.circ_theory.specs.declared.parts.Goal.{Goal}
+use Rattle.circ_theory.specs.declared.way.Way.{Way}
 use Rattle.circ_theory.proofs.BoundTerms.{bound_terms, variables_apart}
 use Rattle.circ_match.specs.Matcher.{IsMatcher, Makes, has_variable}
 use Rattle.circ_match.proofs.Variables.{instance-variable}
@@ -20,8 +21,7 @@ use Rattle.circ_rewrite.specs.Matching.{image}
 use Rattle.circ_rewrite.specs.Due.{terms_by}
 use Rattle.circ_rewrite.proofs.MatchingFacts.{is_same_term, image-instance, matching-sorts}
 use Rattle.circ_rewrite.proofs.RuleTerms.{has_variable-occurrences, any_seen_in}
-use Rattle.circ_plain_search.specs.Joining.{pair_matching, pair_matches, pair_variables}
-use Rattle.circ_join.specs.Uses.{pair_terms}
+use Rattle.circ_plain_search.specs.Joining.{pair_matching, pair_matches, pair_variables, pair_use, use_with}
 
 -- what is given keeps sorts
 pair_sorts : (p : Pair) (a b : Tree) → KeepsSorts (pair_matching p a b)
@@ -31,10 +31,11 @@ pair_sorts p a b n s = go (image p.left a n s) refl
     go None f = rw f (matching-sorts p.right b n s)
     go (Some x) f = let k = matching-sorts p.left a n s in let h = rw f at k in rw f h
 
-pub no_pair_match : (g : Goal) (a b : Tree) → ((τ : Substitution) → KeepsSorts τ → (Makes g.left a τ × Makes g.right b τ) → ⊥) → pair_terms g a b ≡ None
-no_pair_match g a b h = go (pair_matches (sides g) a b) refl
+pub no_pair_match : (n : ℕ) (way : Way) (g : Goal) (q : List ℕ) (new a b : Tree) → ((τ : Substitution) → KeepsSorts τ → (Makes g.left a τ × Makes g.right b τ) → ⊥)
+    → pair_use n way g q new a b ≡ None
+no_pair_match n way g q new a b h = go (pair_matches (sides g) a b) refl
   where
-    go : (r : Bool) → pair_matches (sides g) a b ≡ r → pair_terms g a b ≡ None
+    go : (r : Bool) → pair_matches (sides g) a b ≡ r → pair_use n way g q new a b ≡ None
     go false e = rw e refl
     go true e =
         let m = pair_matching (sides g) a b in
@@ -85,10 +86,10 @@ map_same : {X Y : Type 0} (f g : X → Y) (xs : List X) → ((x : X) → f x ≡
 map_same f g [] h = refl
 map_same f g (x ∷ xs) h = ap (λ y. y ∷ map f xs) (h x) ∙ ap (λ ys. g x ∷ ys) (map_same f g xs h)
 
-pub pair_match : (g : Goal) (a b : Tree) (σ : List Bound) (ts : List Tree)
+pub pair_match : (n : ℕ) (way : Way) (g : Goal) (q : List ℕ) (new a b : Tree) (σ : List Bound) (ts : List Tree)
     → IsMatcher (λ τ. Makes g.left a τ × Makes g.right b τ) (λ n s. has_variable g.left n s || has_variable g.right n s) σ
-    → IsStrictlySortedBy bound_cmp σ → ts ≡ map (λ x. x.term) σ → pair_terms g a b ≡ Some ts
-pair_match g a b σ ts m o e =
+    → IsStrictlySortedBy bound_cmp σ → ts ≡ map (λ x. x.term) σ → pair_use n way g q new a b ≡ Some (use_with n way q ts new)
+pair_match n way g q new a b σ ts m o e =
     let agrees = pair_agrees g a b σ m in
     let f = pair_matching (sides g) a b in
     let left : is_same (instance f g.left) a ≡ true =

@@ -1,4 +1,5 @@
 pub mod Joins
 pub mod BothSides
+pub mod FirstUse
 pub mod Passes
 pub mod Places

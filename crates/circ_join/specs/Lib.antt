@@ -1,2 +1,3 @@
+pub mod Hypotheses
 pub mod Stopping
 pub mod Uses

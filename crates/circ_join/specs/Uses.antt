@@ -1,13 +1,9 @@
 -- What contracts see of uses of hypotheses and lemmas, and what Join answers.
-use Rattle.std.specs.Prelude.{◌≡◌, Bool, true, false, List, ◌++◌, map, if◌then◌else◌, Option, Some, None, Result, Ok, Err}
-use Rattle.circ_term.specs.Tree.{Tree}
+use Rattle.std.specs.Prelude.{◌≡◌, Bool, true, false, List, ◌++◌, map, Option, Some, None, Result, Ok, Err}
 use Rattle.circ_term.specs.Substitution.{instance}
 use Rattle.circ_term.specs.Subst.{substitution_of}
-use Rattle.circ_theory.specs.declared.parts.Goal.{Goal}
 use Rattle.circ_theory.specs.declared.way.Way.TheVariants.{Forth}
-use Rattle.circ_replay.specs.Goals.{sides}
-use Rattle.circ_rewrite.specs.Due.{terms_by}
-use Rattle.circ_plain_search.specs.Joining.{HypothesisUse, use_with, pair_matches, pair_matching, pair_variables}
+use Rattle.circ_plain_search.specs.Joining.{HypothesisUse, use_with}
 use Rattle.circ_join.specs.declared.uses.HypothesisUse.{HypothesisUse as TheUse}
 use Rattle.circ_join.specs.declared.uses.LemmaUse.{LemmaUse}
 
@@ -23,10 +19,6 @@ plain_lemma_use u = use_with u.number Forth u.path.items u.terms.items (instance
 
 abbrev pub plain_lemma_uses : List LemmaUse → List HypothesisUse
 plain_lemma_uses us = map plain_lemma_use us
-
--- the terms of a goal's variables with which its sides are the two terms
-abbrev pub pair_terms : Goal → (a b : Tree) → Option (List Tree)
-pair_terms g a b = if pair_matches (sides g) a b then Some (terms_by (pair_matching (sides g) a b) (pair_variables (sides g))) else None
 
 -- The uses of a Join are appended; or it is no Join.
 abbrev pub Joins : {E : Type 0} → Option (List HypothesisUse) → (old new : List HypothesisUse) → Result Bool E → Type 0

@@ -1,16 +1,17 @@
 //! Whether two terms join by hypotheses at special paths.
-ghost use Rattle.std.specs.Prelude.{◌≡◌, ◌<◌, ◌≤◌, ◌^◌, [], ◌∷◌, ◌++◌, length, map, IfOk, OnOk};
+ghost use Rattle.std.specs.Prelude.{◌≡◌, ◌≤◌, [], ◌∷◌, ◌++◌, length};
+ghost use Rattle.std.specs.Prelude.{map, IfOk, OnOk};
 ghost use Rattle.std.specs.Option.{option_map};
 ghost use Rattle.circ_term.specs.Tree.{trees_of};
-ghost use Rattle.circ_plain_search.specs.Joining.{one_use, first_use, joined, all_joined, use_with};
-ghost use Rattle.circ_plain_search.specs.Joining.{pair_use, is_place};
+ghost use Rattle.circ_plain_search.specs.Joining.{first_use, joined, all_joined, is_place};
+ghost use Rattle.circ_join.specs.Hypotheses.{way_at};
 ghost use Rattle.circ_join.specs.Uses.{plain_use, plain_uses, Joins};
 
-use crate::pairs::pair_terms;
+use crate::hypotheses::Hypotheses;
 use crate::uses::HypothesisUse;
 use circ_special::Gamma;
 use circ_term::{Kind, Path, Term};
-use circ_theory::{Goal, Way};
+use circ_theory::Way;
 use std::alloc::{AllocError, Global};
 
 /// What two terms may join by.
@@ -21,14 +22,13 @@ pub struct Joining<'a> {
     /// The special set.
     pub gamma: &'a Gamma,
     /// The hypotheses.
-    pub hyps: &'a [Goal],
+    pub hyps: &'a Hypotheses,
 }
 
 impl Joining<'_> {
     /// The uses of hypotheses that make the first term equal to the second. None where they do not
     /// join.
     pub fn join(&self, a: &Term, b: &Term) -> Result<Option<Vec<HypothesisUse>>, AllocError>
-        requires few { length self.now.hyps.now < 2 ^ 32 }
         ensures { IfOk result (λ o. option_map (λ v. plain_uses v.items) o
             ≡ joined self.now.gamma.now self.now.hyps.now [] a.now b.now) }
     {
@@ -51,7 +51,6 @@ impl Joining<'_> {
         path: &mut Path,
         uses: &mut Vec<HypothesisUse>,
     ) -> Result<bool, AllocError>
-        requires few { length self.now.hyps.now < 2 ^ 32 }
         ensures exact { Joins (joined self.now.gamma.now self.now.hyps.now path.old.items
             a.now b.now) (plain_uses uses.old.items) (plain_uses uses.new.items) result }
         ensures path { OnOk result (path.new.items ≡ path.old.items) }
@@ -92,7 +91,6 @@ impl Joining<'_> {
         path: &mut Path,
         uses: &mut Vec<HypothesisUse>,
     ) -> Result<bool, AllocError>
-        requires few { length self.now.hyps.now < 2 ^ 32 }
         requires narrow { length args.now ≤ 65536 }
         ensures exact { Joins (all_joined self.now.gamma.now self.now.hyps.now op path.old.items 0
             (trees_of args.now) (trees_of others.now))
@@ -128,7 +126,6 @@ impl Joining<'_> {
         path: &mut Path,
         uses: &mut Vec<HypothesisUse>,
     ) -> Result<bool, AllocError>
-        requires few { length self.now.hyps.now < 2 ^ 32 }
         ensures exact { Joins (joined self.now.gamma.now self.now.hyps.now
             (path.old.items ++ i ∷ []) arg.now other.now)
             (plain_uses uses.old.items) (plain_uses uses.new.items) result }
@@ -140,24 +137,41 @@ impl Joining<'_> {
         Ok(joins)
     }
 
-    // The first use of a hypothesis on both terms. They are tried in order.
+    // The first use of a hypothesis on both terms. They are tried in order, each from left to right
+    // before the other way about.
     fn first_use(
         &self,
         path: &[u16],
         a: &Term,
         b: &Term,
     ) -> Result<Option<HypothesisUse>, AllocError>
-        requires few { length self.now.hyps.now < 2 ^ 32 }
         ensures { IfOk result (λ o. option_map plain_use o
             ≡ first_use 0 self.now.hyps.now path.now a.now b.now) }
     {
-        for n in 0..self.hyps.len() {
-            let found = one_use(self.alloc, n as u32, &self.hyps[n], path, a, b)?;
-            if let Some(one) = found {
-                return Ok(Some(one));
-            }
-        }
-        Ok(None)
+        let Some((place, subst)) = self.hyps.first(a, b)? else {
+            return Ok(None);
+        };
+        let path = Path::from_slice(self.alloc, path)?;
+        let terms = subst.terms()?;
+        let new = b.share()?;
+        Ok(Some(HypothesisUse {
+            number: place / 2,
+            way: way_at(place),
+            path,
+            terms,
+            new,
+        }))
+    }
+}
+
+// Which side of a hypothesis is found at a place.
+fn way_at(place: u32) -> Way
+    ensures { result ≡ way_at place }
+{
+    if place % 2 == 0 {
+        Way::Forth
+    } else {
+        Way::Back
     }
 }
 
@@ -166,50 +180,4 @@ pub(crate) fn has_place(gamma: &Gamma, op: u32, arg: u16) -> bool
     ensures { result ≡ is_place gamma.now op arg }
 {
     gamma.has(op, arg)
-}
-
-// One hypothesis, with its left side on a, or else the other way about.
-fn one_use(
-    alloc: Global,
-    number: u32,
-    hyp: &Goal,
-    path: &[u16],
-    a: &Term,
-    b: &Term,
-) -> Result<Option<HypothesisUse>, AllocError>
-    ensures { IfOk result (λ o. option_map plain_use o
-        ≡ one_use number hyp.now path.now a.now b.now) }
-{
-    if let Some(one) = pair_use(alloc, number, Way::Forth, hyp, path, b, a, b)? {
-        return Ok(Some(one));
-    }
-    pair_use(alloc, number, Way::Back, hyp, path, b, b, a)
-}
-
-// A hypothesis with its left side on a and its right side on b.
-fn pair_use(
-    alloc: Global,
-    number: u32,
-    way: Way,
-    hyp: &Goal,
-    path: &[u16],
-    new: &Term,
-    a: &Term,
-    b: &Term,
-) -> Result<Option<HypothesisUse>, AllocError>
-    ensures { IfOk result (λ o. option_map plain_use o
-        ≡ pair_use number way hyp.now path.now new.now a.now b.now) }
-{
-    let Some(terms) = pair_terms(alloc, hyp, a, b)? else {
-        return Ok(None);
-    };
-    let path = Path::from_slice(alloc, path)?;
-    let new = new.share()?;
-    Ok(Some(HypothesisUse {
-        number,
-        way,
-        path,
-        terms,
-        new,
-    }))
 }

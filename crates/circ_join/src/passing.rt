@@ -1,15 +1,17 @@
 //! Where a lemma pass uses lemmas.
-ghost use Rattle.std.specs.Prelude.{◌≡◌, ◌≤◌, [], ◌∷◌, ◌++◌, length, map, IfOk, OnOk};
+ghost use Rattle.std.specs.Prelude.{◌≡◌, ◌≤◌, [], ◌∷◌, ◌++◌, length};
+ghost use Rattle.std.specs.Prelude.{map, IsTrue, IfOk, OnOk};
 ghost use Rattle.std.specs.List.{AllByRecursion};
 ghost use Rattle.std.specs.Option.{option_map};
 ghost use Rattle.circ_term.specs.Tree.{trees_of};
+ghost use Rattle.circ_term.specs.Substitution.{Substitution};
+ghost use Rattle.circ_match.specs.Matcher.{Makes};
 ghost use Rattle.circ_rewrite.specs.Due.{IsRewriteRule};
 ghost use Rattle.circ_plain_search.specs.Joining.{first_lemma, lemma_use, swept, all_swept};
 ghost use Rattle.circ_plain_search.specs.Joining.{rule_number};
 ghost use Rattle.circ_join.specs.Uses.{plain_lemma_use, plain_lemma_uses};
 
 use crate::joining::has_place;
-use crate::pairs::may_be;
 use crate::uses::LemmaUse;
 use circ_match::match_term;
 use circ_rewrite::{Rule, RuleName};
@@ -81,8 +83,8 @@ impl Passing<'_> {
         requires rules { AllByRecursion IsRewriteRule self.now.lemmas.now }
         requires narrow { length args.now ≤ 65536 }
         ensures exact { OnOk result (plain_lemma_uses uses.new.items
-            ≡ plain_lemma_uses uses.old.items ++ all_swept self.now.gamma.now self.now.lemmas.now op
-            path.old.items 0 (trees_of args.now)) }
+            ≡ plain_lemma_uses uses.old.items ++ all_swept self.now.gamma.now
+            self.now.lemmas.now op path.old.items 0 (trees_of args.now)) }
         ensures path { OnOk result (path.new.items ≡ path.old.items) }
     {
         for i in 0..args.len() {
@@ -165,5 +167,18 @@ fn rule_number(name: RuleName) -> u32
     match name {
         RuleName::Equation { number } => number,
         RuleName::Lemma { number } => number,
+    }
+}
+
+// False only where the operators at the roots tell that no substitution makes the pattern the term.
+fn may_be(pattern: &Term, term: &Term) -> bool
+    ensures { (τ : Substitution) → Makes pattern.now term.now τ → IsTrue result }
+{
+    match pattern.op_number() {
+        None => true,
+        Some(op) => match term.op_number() {
+            None => false,
+            Some(other) => op == other,
+        },
     }
 }

@@ -1,5 +1,5 @@
 -- Turns in steps.
-use Rattle.std.proofs.Common.{◌≡◌, ◌+◌, length, Bool, true, false, not, ◌||◌, ◌==◌, if◌then◌else◌, List, [], ◌∷◌, ◌++◌, map, drop, Option, Some, None, Result, Ok, Err, refl, ap, sym, subst, ◌∙◌}
+use Rattle.std.proofs.Common.{◌≡◌, ◌≤◌, ◌+◌, length, Bool, true, false, not, ◌||◌, ◌==◌, if◌then◌else◌, List, [], ◌∷◌, ◌++◌, map, drop, Option, Some, None, Result, Ok, Err, refl, ap, sym, subst, ◌∙◌}
 use Rattle.std.specs.Prelude.{nat_le}
 use Rattle.circ_term.specs.Tree.{Tree, sort_of}
 use Rattle.circ_term.specs.Limits.{Limit}
@@ -13,7 +13,8 @@ use Rattle.circ_rules.specs.Rules.{Simplify, Done, derivatives_on}
 use Rattle.circ_rules.specs.Proof.{step_limit, split_limit}
 use Rattle.circ_plain_search.specs.BlockRules.{block_rules}
 use Rattle.circ_plain_search.specs.Joining.{Stop, HypothesisUse, use_link, and_then, put_all}
-use Rattle.circ_plain_search.specs.Search.{Limits, Standing, Ending, Sides, SplitReason, chain_with, chained, no_links, has_links, is_nil, normal_sides, split_cases, or_end, record_step, reduced, goals_limit, derive_turn, simplified, hidden_turn, visible_turn, open_turn, swept_sides, pass_turn, join_turn, sides_turn, goal_turn, with_sides, next_block, done_turn, is_deep_step}
+use Rattle.circ_plain_search.specs.Search.{Limits, Standing, Ending, Sides, SplitReason, chain_with, chained, no_links, has_links, is_nil, normal_sides, split_cases, or_end, record_step, reduced, goals_limit, derive_turn, simplified, hidden_turn, visible_turn, open_turn, swept_sides, pass_turn, join_turn, sides_turn, goal_turn, with_sides, with_this, begun, next_block, done_turn, is_deep_step}
+use Rattle.circ_plain_search.specs.Coming.{IsSmall}
 use Rattle.circ_join.specs.Stopping.{Stops}
 use Rattle.circ_join.specs.declared.stop.Stop.{Stop as TheStop}
 use Rattle.circ_join.specs.declared.stop.Stop.TheVariants as stop
@@ -157,6 +158,14 @@ open_hidden th l st g rest b e = ap (λ x. if x then hidden_turn th l st g rest 
 
 pub done_goes : (th : Theory) (l : Limits) (st x : Standing) → record_step th l st Done ≡ Ok x → done_turn th l st ≡ next_block x x.later
 done_goes th l st x e = ap (λ r. and_then r (λ x. next_block x x.later)) e
+
+-- where a block begins, the goals of those before it are few
+pub few_earlier : (th : Theory) (l : Limits) (st x : Standing) (b : List Goal) (bs : List (List Goal)) → record_step th l st Done ≡ Ok x → x.later ≡ b ∷ bs
+    → ((y : Standing) → done_turn th l st ≡ Ok y → IsSmall y) → length (x.earlier ++ x.goals) ≤ step_limit
+few_earlier th l st x b bs e later next =
+    let y : Standing = begun (with_this x) (x.earlier ++ x.goals) b bs x.budget x.derives x.made x.deep in
+    let small : IsSmall y = next y (done_goes th l st x e ∙ ap (next_block x) later) in
+    small.earlier
 
 -- the chain that Join leaves
 pub joined_why : (c : ChainOf Tree) (ls rs more us new : List (LinkOf Tree)) → chain_with ls rs ≡ c → more ≡ us → new ≡ ls ++ more

@@ -18,7 +18,7 @@ standing s = record {
   earlier = s.earlier.items;
   goals = s.goals.items;
   later = map (λ v. v.items) s.later.now;
-  hypotheses = s.hyps.items;
+  hypotheses = s.hyps;
   queue = s.queue.items;
   chain = plain_term_chain s.chain;
   steps = plain_term_steps s.steps.items;
@@ -48,3 +48,4 @@ pub record Keeps (old new : State) : Type 0 where
   pub taken : new.taken ≡ old.taken
   pub derives : new.derives ≡ old.derives
   pub queue : new.queue.items ≡ old.queue.items
+  pub hyps : new.hyps ≡ old.hyps

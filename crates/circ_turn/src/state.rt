@@ -7,6 +7,7 @@ ghost use Rattle.circ_record.specs.Plain.{plain_term_chain};
 ghost use Rattle.circ_turn.specs.Standing.{standing, unlinked, limits_with, Keeps};
 
 use circ_block::{share_goal, share_goals};
+use circ_join::Hypotheses;
 use circ_numbering::TermBlock;
 use circ_record::{TermChain, TermStep};
 use circ_split::Sides;
@@ -28,7 +29,7 @@ pub struct State<'a> {
     /// Those of the blocks to come.
     pub later: &'a [Vec<Goal>],
     /// The hypotheses.
-    pub hyps: Vec<Goal>,
+    pub hyps: Hypotheses,
     /// The goals that are left.
     pub queue: VecDeque<Goal>,
     /// The links that have led to the goal in hand.
@@ -62,7 +63,7 @@ impl<'a> State<'a> {
             earlier: Vec::new(alloc),
             goals: Vec::new(alloc),
             later: &[],
-            hyps: Vec::new(alloc),
+            hyps: Hypotheses::new(alloc),
             queue: VecDeque::new(alloc),
             chain: no_links(alloc),
             steps: Vec::new(alloc),
@@ -115,7 +116,7 @@ impl<'a> State<'a> {
     pub(crate) fn next_goal(&mut self, alloc: Global)
         requires { self.old.taken ≤ 100000 }
         ensures { standing self.new
-            ≡ next_goal self.old.hyps.items (drop 1 self.old.queue.items) (standing self.old) }
+            ≡ next_goal self.old.hyps (drop 1 self.old.queue.items) (standing self.old) }
     {
         let _hand = self.queue.pop_front();
         self.chain = no_links(alloc);

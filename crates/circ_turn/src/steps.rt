@@ -1,9 +1,10 @@
 //! Steps that are recorded.
-ghost use Rattle.std.specs.Prelude.{◌≡◌, ◌<◌, ◌≤◌, ◌+◌, ◌++◌, ◌∷◌, [], length, drop, OnOk};
-ghost use Rattle.circ_plain_search.specs.Coming.{IsReady};
+ghost use Rattle.std.specs.Prelude.{◌≡◌, ◌<◌, ◌≤◌, ◌+◌, ◌++◌, ◌∷◌, []};
+ghost use Rattle.std.specs.Prelude.{length, drop, Ok, OnOk};
+ghost use Rattle.circ_plain_search.specs.Coming.{IsReady, IsSmall};
 ghost use Rattle.circ_plain_search.specs.Search.{record_step, reduced, simplified, derive_turn};
 ghost use Rattle.circ_plain_search.specs.Search.{hidden_turn, done_turn, next_goal, with_this};
-ghost use Rattle.circ_plain_search.specs.Search.{no_links, has_links};
+ghost use Rattle.circ_plain_search.specs.Search.{no_links, has_links, Standing};
 ghost use Rattle.circ_record.specs.Plain.{plain_term_chain, plain_term_step, plain_term_why};
 ghost use Rattle.circ_turn.specs.Standing.{standing, plain_limits, Keeps};
 ghost use Rattle.circ_turn.specs.Ending.{GoesTo, GoesUnlinked, GoesOrDone, end_by, end_spent};
@@ -12,8 +13,8 @@ use crate::MOST_STEPS;
 use crate::end::End;
 use crate::search::Search;
 use crate::state::{State, share_queue};
-use circ_block::{derivatives_on, is_deep_step, share_goal, share_goals, share_to};
-use circ_join::Stop;
+use circ_block::{derivatives_on, is_deep_step, share_goals, share_to};
+use circ_join::{Hypotheses, Stop};
 use circ_numbering::TermBlock;
 use circ_record::{TermChain, TermStep, TermWhy};
 use circ_theory::Goal;
@@ -81,7 +82,7 @@ impl Search<'_> {
         if state.made >= MOST_STEPS {
             return Err(self.spent(state));
         }
-        let deep = is_deep_step(self.theory, state.hyps.as_slice(), &step);
+        let deep = is_deep_step(self.theory, state.hyps.goals(), &step);
         state.steps.push(step)?;
         state.made += 1;
         state.deep = state.deep || deep;
@@ -109,6 +110,7 @@ impl Search<'_> {
         requires finished { length state.old.finished.items ≤ 100000 }
         requires taken { state.old.taken ≤ 100000 }
         requires derives { state.old.derives ≤ 100000 }
+        requires hyps { length state.old.hyps ≤ 100000 }
         ensures { GoesTo (hidden_turn self.now.theory.now (plain_limits self.now.limits)
             (standing state.old) goal.now (drop 1 state.old.queue.items))
             (standing state.new) result }
@@ -141,6 +143,7 @@ impl Search<'_> {
         requires finished { length state.old.finished.items ≤ 100000 }
         requires taken { state.old.taken ≤ 100000 }
         requires derives { state.old.derives ≤ 100000 }
+        requires hyps { length state.old.hyps ≤ 100000 }
         ensures { GoesTo (derive_turn self.now.theory.now (plain_limits self.now.limits)
             (standing state.old) goal.now (drop 1 state.old.queue.items))
             (standing state.new) result }
@@ -169,15 +172,16 @@ impl Search<'_> {
     ) -> Result<(), AllocError>
         requires taken { state.old.taken ≤ 100000 }
         requires derives { state.old.derives ≤ 100000 }
+        requires hyps { length state.old.hyps ≤ 100000 }
         ensures { OnOk result (standing state.new
-            ≡ next_goal (state.old.hyps.items ++ goal.now ∷ [])
+            ≡ next_goal (state.old.hyps ++ goal.now ∷ [])
             (drop 1 state.old.queue.items ++ derived.items)
             (record (standing state.old) { derives = state.old.derives + 1 })) }
     {
         let mut derived = derived;
         state.derives += 1;
         state.next_goal(self.alloc);
-        state.hyps.push(share_goal(goal)?)?;
+        state.hyps.push(goal)?;
         state.queue.append(&mut derived)?;
         Ok(())
     }
@@ -185,6 +189,8 @@ impl Search<'_> {
     // After a block's last goal a Done step is made, and the next block begins. False where there
     // is none.
     pub(crate) fn done_turn(&self, state: &mut State<'_>) -> Result<bool, End>
+        requires next { (y : Standing) → done_turn self.now.theory.now
+            (plain_limits self.now.limits) (standing state.old) ≡ Ok y → IsSmall y }
         ensures { GoesOrDone (done_turn self.now.theory.now (plain_limits self.now.limits)
             (standing state.old)) (standing state.new) result }
     {
@@ -221,6 +227,7 @@ impl Search<'_> {
 
     // A block with these goals begins.
     fn begin(&self, state: &mut State<'_>, block: &[Goal]) -> Result<(), AllocError>
+        requires few { length state.old.earlier.items ≤ 100000 }
         ensures { OnOk result (standing state.new ≡ record (standing state.old) {
           hypotheses = state.old.earlier.items;
           goals = block.now;
@@ -229,7 +236,7 @@ impl Search<'_> {
           taken = 0;
         }) }
     {
-        state.hyps = share_goals(self.alloc, state.earlier.as_slice())?;
+        state.hyps = Hypotheses::of(self.alloc, state.earlier.as_slice())?;
         state.goals = share_goals(self.alloc, block)?;
         state.queue = share_queue(self.alloc, block)?;
         let _chain = state.take_chain(self.alloc);

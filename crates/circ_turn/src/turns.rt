@@ -89,7 +89,7 @@ impl Search<'_> {
         let joining = Joining {
             alloc: self.alloc,
             gamma: self.gamma,
-            hyps: state.hyps.as_slice(),
+            hyps: &state.hyps,
         };
         match joining.join(&goal.left, &goal.right)? {
             Some(uses) => self.join_turn(state, goal, uses),

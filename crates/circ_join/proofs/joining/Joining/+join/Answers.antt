@@ -33,7 +33,7 @@ joins-all_join-requires t c =
     let depth = ap depth_of value in
     let there = ap (λ u. length (args_of u)) value in
     let same = ap length (list_of-trees_of c.in-Application-Application.args.now) in
-    (omega (arith, depth), (c.requires.few, omega (arith, there, same, c.kind.ensures.few)))
+    (omega (arith, depth), omega (arith, there, same, c.kind.ensures.few))
 
 pub joins-returns-else-sort-other_sort-clause-exact : goal.joins-returns-else-sort-other_sort-clause-exact
 joins-returns-else-sort-other_sort-clause-exact t c =
@@ -65,7 +65,7 @@ all_join-returns-then-not-has_place-clause-exact t c =
 
 pub all_join-joins_at-requires : goal.all_join-joins_at-requires
 all_join-joins_at-requires t c =
-    (omega (arith, depth_at c.args.args.now c.loop-i.i c.index-args-i.result c.loop-i-test.true c.index-args-i.is), c.requires.few)
+    omega (arith, depth_at c.args.args.now c.loop-i.i c.index-args-i.result c.loop-i-test.true c.index-args-i.is)
 
 pub all_join-returns-then-not-branch-clause-exact : goal.all_join-returns-then-not-branch-clause-exact
 all_join-returns-then-not-branch-clause-exact t c =
