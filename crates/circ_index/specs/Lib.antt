@@ -1,1 +1,4 @@
 pub mod Finding
+pub mod Indexed
+pub mod Keys
+pub mod Linked

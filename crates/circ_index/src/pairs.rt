@@ -1,25 +1,34 @@
-//! Pairs: a stub that answers want of memory.
-ghost use Rattle.std.specs.Prelude.{◌≡◌, ◌+◌, ◌<◌, ◌^◌, [], ◌∷◌, ◌++◌, length, IfOk, OnOk, OnErr};
-ghost use Rattle.circ_index.specs.Finding.{FindsFirstPair};
+//! The first of many pairs that has two terms as an instance, one way or the other.
+ghost use Rattle.std.specs.Prelude.{◌≡◌, ◌+◌, ◌<◌, ◌^◌};
+ghost use Rattle.std.specs.Prelude.{[], ◌∷◌, ◌++◌, length, Some, IfOk};
+ghost use Rattle.std.specs.Prelude.{OnOk, OnErr};
+ghost use Rattle.std.specs.List.{slice_get};
+ghost use Rattle.circ_term.specs.Tree.{Tree};
+ghost use Rattle.circ_index.specs.Finding.{FindsFirstPair, PairMatches, both_ways};
 
+use crate::keys::{pair_key, pair_keys};
+use crate::rows::{Rows, least};
 use circ_match::match_pair;
 use circ_term::{Subst, Term};
 use std::alloc::{AllocError, Global};
 use std::marker::Model;
 
-/// Pairs of patterns in their order, each taken as it stands and turned. Contracts see the list of
-/// the pairs.
+/// Pairs of patterns, found by the operators at both roots, and by their sizes where they have no
+/// variables. Contracts see the list of the pairs.
+/// Place 2n is pair n as it stands, and place 2n + 1 is pair n turned.
 #[derive(Drop)]
 pub struct PairIndex {
     alloc: Global,
     pairs: Vec<(Term, Term)>,
+    rows: Rows,
 }
 
 impl Model for PairIndex {
-    ghost use Rattle.std.specs.Prelude.{◌<◌, ◌^◌, List, length};
+    ghost use Rattle.std.specs.Prelude.{List};
     ghost use Rattle.std.specs.Coded.{coded_list, coded×};
     ghost use Rattle.circ_term.specs.Tree.{Tree};
     ghost use Rattle.circ_term.specs.Code.{tree_code};
+    ghost use Rattle.circ_index.specs.Indexed.{ArePairs};
 
     ghost Value = { List (Tree × Tree) };
 
@@ -27,7 +36,7 @@ impl Model for PairIndex {
 
     ghost view = { λ a. a.pairs.items };
 
-    ghost invariant = { λ a. length a.pairs.items < 2 ^ 31 };
+    ghost invariant = { λ a. ArePairs a.pairs.items a.rows };
 }
 
 impl PairIndex {
@@ -38,6 +47,7 @@ impl PairIndex {
         PairIndex {
             alloc,
             pairs: Vec::new(alloc),
+            rows: Rows::new(alloc),
         }
     }
 
@@ -47,14 +57,46 @@ impl PairIndex {
         ensures added { OnOk result (self.new ≡ self.old ++ (left.now, right.now) ∷ []) }
         ensures err { OnErr result (self.new ≡ self.old) }
     {
-        Err(AllocError)
+        self.pairs.push((left.share()?, right.share()?))?;
+        let keys = [pair_key(left, right), pair_key(right, left)];
+        match self.rows.add(&keys) {
+            Ok(()) => Ok(()),
+            Err(fault) => {
+                let _last = self.pairs.pop();
+                Err(fault)
+            }
+        }
     }
 
-    /// The least place at or above `from` that has the two terms as an instance, with the
-    /// substitution. Place 2n is pair n as it stands, and place 2n + 1 is pair n turned.
+    /// The least place at or above `from` whose pair has the two terms as an instance, with the
+    /// substitution.
     pub fn first(&self, from: u32, a: &Term, b: &Term) -> Result<Option<(u32, Subst)>, AllocError>
         ensures { IfOk result (FindsFirstPair self.now from a.now b.now) }
     {
-        Err(AllocError)
+        let mut ahead = [0; 5];
+        self.rows.start(&pair_keys(a, b), from, &mut ahead);
+        let mut place = least(&ahead);
+        while place as usize / 2 < self.pairs.len() {
+            match self.try_at(place, a, b)? {
+                Some(subst) => return Ok(Some((place, subst))),
+                None => self.rows.pass(place, &mut ahead),
+            }
+            place = least(&ahead);
+        }
+        Ok(None)
+    }
+
+    // Matches the pair at a place.
+    fn try_at(&self, place: u32, a: &Term, b: &Term) -> Result<Option<Subst>, AllocError>
+        requires { place < length (both_ways self.now) }
+        ensures { (p : Tree × Tree) → slice_get (both_ways self.now) place ≡ Some p
+            → IfOk result (PairMatches a.now b.now p) }
+    {
+        let (left, right) = &self.pairs[place as usize / 2];
+        if place % 2 == 0 {
+            match_pair(self.alloc, left, right, a, b)
+        } else {
+            match_pair(self.alloc, right, left, a, b)
+        }
     }
 }

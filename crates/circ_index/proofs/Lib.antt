@@ -1,0 +1,4 @@
+pub mod Fitting
+pub mod Linking
+pub mod Pairing
+pub mod Seeking

@@ -1,0 +1,76 @@
+//! The first of many left sides that has a term as an instance.
+ghost use Rattle.std.specs.Prelude.{◌≡◌, ◌<◌, ◌^◌, length, map, IfOk};
+ghost use Rattle.circ_index.specs.Finding.{FindsFirst};
+ghost use Rattle.circ_index.specs.Keys.{left_key};
+
+use crate::keys::{left_key, term_keys};
+use crate::rows::{Rows, least};
+use circ_match::match_term;
+use circ_term::{Subst, Term};
+use std::alloc::{AllocError, Global};
+use std::marker::Model;
+
+/// Left sides of rules, found by the operators at the root and at the root of the first argument.
+/// Contracts see the list of the left sides.
+#[derive(Drop)]
+pub struct RuleIndex {
+    alloc: Global,
+    lefts: Vec<Term>,
+    rows: Rows,
+}
+
+impl Model for RuleIndex {
+    ghost use Rattle.std.specs.Prelude.{List};
+    ghost use Rattle.std.specs.Coded.{coded_list};
+    ghost use Rattle.circ_term.specs.Tree.{Tree};
+    ghost use Rattle.circ_term.specs.Code.{tree_code};
+    ghost use Rattle.circ_index.specs.Indexed.{AreLefts};
+
+    ghost Value = { List Tree };
+
+    ghost coded = { coded_list tree_code };
+
+    ghost view = { λ a. a.lefts.items };
+
+    ghost invariant = { λ a. AreLefts a.lefts.items a.rows };
+}
+
+impl RuleIndex {
+    /// The index of these left sides.
+    pub fn of(alloc: Global, lefts: Vec<Term>) -> Result<RuleIndex, AllocError>
+        requires { length lefts.items < 2 ^ 32 }
+        ensures { IfOk result (λ x. x ≡ lefts.items) }
+    {
+        let keys = left_keys(alloc, lefts.as_slice())?;
+        let mut rows = Rows::new(alloc);
+        rows.add(keys.as_slice())?;
+        Ok(RuleIndex { alloc, lefts, rows })
+    }
+
+    /// The least number at or above `from` whose left side matches the term, with the substitution.
+    pub fn first(&self, from: u32, term: &Term) -> Result<Option<(u32, Subst)>, AllocError>
+        ensures { IfOk result (FindsFirst self.now from term.now) }
+    {
+        let mut ahead = [0; 3];
+        self.rows.start(&term_keys(term), from, &mut ahead);
+        let mut place = least(&ahead);
+        while (place as usize) < self.lefts.len() {
+            match match_term(self.alloc, &self.lefts[place as usize], term)? {
+                Some(subst) => return Ok(Some((place, subst))),
+                None => self.rows.pass(place, &mut ahead),
+            }
+            place = least(&ahead);
+        }
+        Ok(None)
+    }
+}
+
+fn left_keys(alloc: Global, lefts: &[Term]) -> Result<Vec<u64>, AllocError>
+    ensures { IfOk result (λ v. v.items ≡ map left_key lefts.now) }
+{
+    let mut keys = Vec::with_capacity(alloc, lefts.len())?;
+    for left in lefts {
+        keys.push(left_key(left))?;
+    }
+    Ok(keys)
+}
