@@ -1,5 +1,5 @@
 -- The lemma that the index finds is the first that can be used.
-use Rattle.std.proofs.Common.{◌≡◌, ◌≤◌, ◌<◌, ℕ, zero, suc, List, [], ◌∷◌, map, length, get_or, Some, None, refl, ap, sym, subst, ◌∙◌, arith}
+use Rattle.std.proofs.Common.{◌≡◌, ◌≤◌, ◌<◌, ℕ, zero, suc, List, [], ◌∷◌, map, length, get_or, Some, None, refl, ap, sym, subst, arith}
 use Rattle.std.specs.List.{AllByRecursion}
 use Rattle.std.specs.List.Sorted.{IsStrictlySortedBy}
 use Rattle.std.proofs.lemmas.Option.{same_Some, slice_get_within}
@@ -10,7 +10,7 @@ use Rattle.circ_theory.specs.declared.way.Way.TheVariants.{Forth}
 use Rattle.circ_index.specs.Finding.{LeftMatches, NoneMatches, FindsFirst}
 use Rattle.circ_rewrite.specs.Due.{IsRewriteRule}
 use Rattle.circ_rewrite.specs.declared.parts.Rule.{Rule}
-use Rattle.circ_plain_search.specs.Joining.{HypothesisUse, use_with, rule_number, first_lemma}
+use Rattle.circ_plain_search.specs.Joining.{use_with, rule_number, first_lemma}
 use Rattle.circ_join.specs.Lemmas.{left_of}
 use Rattle.circ_join.proofs.Passes.{lemma_applies, lemma_does_not}
 

@@ -2,6 +2,7 @@
 ghost use Rattle.std.specs.Prelude.{◌≡◌, ◌<◌, ◌==◌, ◌^◌, length, map, IfOk};
 ghost use Rattle.std.specs.List.{AllByRecursion};
 ghost use Rattle.std.specs.Option.{option_map};
+ghost use Rattle.circ_index.specs.Finding.{FindsFirst};
 ghost use Rattle.circ_rewrite.specs.Due.{IsRewriteRule};
 ghost use Rattle.circ_plain_search.specs.Joining.{first_lemma, rule_number};
 ghost use Rattle.circ_join.specs.Lemmas.{left_of};
@@ -10,7 +11,7 @@ ghost use Rattle.circ_join.specs.Uses.{plain_lemma_use};
 use crate::uses::LemmaUse;
 use circ_index::RuleIndex;
 use circ_rewrite::{Rule, RuleName};
-use circ_term::{Path, Term};
+use circ_term::{Path, Subst, Term};
 use std::alloc::{AllocError, Global};
 use std::marker::Model;
 
@@ -56,7 +57,14 @@ impl Lemmas {
         self.rules.is_empty()
     }
 
-    // The use of the first whose left side the term is an instance of, at the path.
+    // The first that has the term as an instance of its left side, with the substitution.
+    fn first(&self, term: &Term) -> Result<Option<(u32, Subst)>, AllocError>
+        ensures { IfOk result (FindsFirst (map left_of self.now) 0 term.now) }
+    {
+        self.index.first(0, term)
+    }
+
+    // The use of that lemma at a path.
     pub(crate) fn first_use(
         &self,
         alloc: Global,
@@ -66,7 +74,7 @@ impl Lemmas {
         ensures { IfOk result (λ o. option_map plain_lemma_use o
             ≡ first_lemma self.now path.now term.now) }
     {
-        let Some((place, subst)) = self.index.first(0, term)? else {
+        let Some((place, subst)) = self.first(term)? else {
             return Ok(None);
         };
         let lemma = &self.rules[place as usize];

@@ -1,8 +1,8 @@
 //! Where hypotheses are used by a search, and what their uses make of a term.
 //!
 //! [`Joining::join`] makes two terms equal by [`Hypotheses`], [`Passing::pass`] looks where
-//! [`Lemmas`] rewrite a term. Both go to special paths only. [`put_all`] puts the uses of a Join into a term,
-//! [`use_all`] those of a lemma pass.
+//! [`Lemmas`] rewrite a term. Both go to special paths only. [`put_all`] puts the uses of a Join
+//! into a term, [`use_all`] those of a lemma pass.
 #![tactic(auto)]
 
 mod hypotheses;
