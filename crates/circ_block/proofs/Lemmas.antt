@@ -82,6 +82,9 @@ pub block_few : (th : Theory) → IsWellFormed th → (E : List Goal) → length
 block_few th ok E few =
     omega (arith, length-append (theory_rules th) (lemma_rules th 0 E), rules_fewer 0 th.equations, ok.few_equations, passing_few (is_visible_lemma th) 0 E, few)
 
+pub lemmas_few : (th : Theory) (E : List Goal) → length E ≤ 100000 → length (hidden_lemmas th 0 E) < 2 ^ 32
+lemmas_few th E few = omega (arith, passing_few (is_hidden_lemma th) 0 E, few)
+
 pub nil_right : {X : Type 0} (xs : List X) → xs ++ [] ≡ xs
 nil_right [] = refl
 nil_right (x ∷ xs) = ap (λ r. x ∷ r) (nil_right xs)

@@ -1,9 +1,7 @@
 -- What the rules of a block are.
 use Rattle.std.specs.Prelude.{◌≡◌, List, []}
-use Rattle.std.specs.List.{AllByRecursion}
 use Rattle.circ_theory.specs.Theory.{Theory}
 use Rattle.circ_theory.specs.declared.parts.Goal.{Goal}
-use Rattle.circ_rewrite.specs.Due.{IsRewriteRule}
 use Rattle.circ_plain_search.specs.BlockRules.{block_rules, hidden_lemmas}
 use Rattle.circ_block.specs.declared.block.BlockRules.{BlockRules}
 
@@ -12,5 +10,4 @@ pub record IsRulesOf (th : Theory) (earlier : List Goal) (r : BlockRules) : Type
   pub plain : r.plain ≡ record { theory = th; rules = block_rules th earlier; assumptions = [] }
   pub theory : r.cases.theory ≡ th
   pub rules : r.cases.rules ≡ block_rules th earlier
-  pub lemmas : r.lemmas.items ≡ hidden_lemmas th 0 earlier
-  pub rewrite : AllByRecursion IsRewriteRule r.lemmas.items
+  pub lemmas : r.lemmas ≡ hidden_lemmas th 0 earlier

@@ -9,6 +9,7 @@ ghost use Rattle.circ_plain_search.specs.BlockRules.{lemma_rules, hidden_lemmas}
 ghost use Rattle.circ_plain_search.specs.BlockRules.{can_rewrite, lemma_rule};
 ghost use Rattle.circ_block.specs.Rules.{IsRulesOf};
 
+use circ_join::Lemmas;
 use circ_memo::Memo;
 use circ_rewrite::{Rule, RuleName, theory_rules};
 use circ_term::Term;
@@ -25,7 +26,7 @@ pub struct BlockRules<'a> {
     /// Normal forms under the assumptions of a case.
     pub cases: Memo<'a>,
     /// The hidden goals of earlier blocks that rewrite.
-    pub lemmas: Vec<Rule>,
+    pub lemmas: Lemmas,
 }
 
 impl<'a> BlockRules<'a> {
@@ -51,6 +52,7 @@ impl<'a> BlockRules<'a> {
                 &mut lemmas,
             )?;
         }
+        let lemmas = Lemmas::of(alloc, lemmas)?;
         let (plain, cases) = memos(alloc, theory, rules)?;
         Ok(BlockRules {
             plain,

@@ -3,3 +3,4 @@ pub mod BothSides
 pub mod FirstUse
 pub mod Passes
 pub mod Places
+pub mod FirstLemma

@@ -1,3 +1,4 @@
 pub mod Hypotheses
 pub mod Stopping
 pub mod Uses
+pub mod Lemmas

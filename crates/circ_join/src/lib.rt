@@ -1,12 +1,13 @@
 //! Where hypotheses are used by a search, and what their uses make of a term.
 //!
-//! [`Joining::join`] makes two terms equal by [`Hypotheses`], [`Passing::pass`] looks where lemmas
-//! rewrite a term. Both go to special paths only. [`put_all`] puts the uses of a Join into a term,
-//! [`use_all`] those of a lemma pass.
+//! [`Joining::join`] makes two terms equal by [`Hypotheses`], [`Passing::pass`] looks where
+//! [`Lemmas`] rewrite a term. Both go to special paths only. [`put_all`] puts the uses of a Join
+//! into a term, [`use_all`] those of a lemma pass.
 #![tactic(auto)]
 
 mod hypotheses;
 mod joining;
+mod lemmas;
 mod passing;
 mod putting;
 mod stop;
@@ -14,6 +15,7 @@ mod uses;
 
 pub use hypotheses::Hypotheses;
 pub use joining::Joining;
+pub use lemmas::Lemmas;
 pub use passing::Passing;
 pub use putting::{put_all, use_all};
 pub use stop::Stop;

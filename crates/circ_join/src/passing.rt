@@ -1,20 +1,13 @@
 //! Where a lemma pass uses lemmas.
 ghost use Rattle.std.specs.Prelude.{◌≡◌, ◌≤◌, [], ◌∷◌, ◌++◌, length};
-ghost use Rattle.std.specs.Prelude.{map, IsTrue, IfOk, OnOk};
-ghost use Rattle.std.specs.List.{AllByRecursion};
-ghost use Rattle.std.specs.Option.{option_map};
+ghost use Rattle.std.specs.Prelude.{IfOk, OnOk};
 ghost use Rattle.circ_term.specs.Tree.{trees_of};
-ghost use Rattle.circ_term.specs.Substitution.{Substitution};
-ghost use Rattle.circ_match.specs.Matcher.{Makes};
-ghost use Rattle.circ_rewrite.specs.Due.{IsRewriteRule};
-ghost use Rattle.circ_plain_search.specs.Joining.{first_lemma, lemma_use, swept, all_swept};
-ghost use Rattle.circ_plain_search.specs.Joining.{rule_number};
-ghost use Rattle.circ_join.specs.Uses.{plain_lemma_use, plain_lemma_uses};
+ghost use Rattle.circ_plain_search.specs.Joining.{swept, all_swept};
+ghost use Rattle.circ_join.specs.Uses.{plain_lemma_uses};
 
 use crate::joining::has_place;
+use crate::lemmas::Lemmas;
 use crate::uses::LemmaUse;
-use circ_match::match_term;
-use circ_rewrite::{Rule, RuleName};
 use circ_special::Gamma;
 use circ_term::{Kind, Path, Term};
 use std::alloc::{AllocError, Global};
@@ -27,14 +20,13 @@ pub struct Passing<'a> {
     /// The special set.
     pub gamma: &'a Gamma,
     /// The lemmas.
-    pub lemmas: &'a [Rule],
+    pub lemmas: &'a Lemmas,
 }
 
 impl Passing<'_> {
     /// The uses of lemmas that a pass over the term makes: at special paths, a term before its
     /// arguments, arguments from the left, and none inside a use.
     pub fn pass(&self, term: &Term) -> Result<Vec<LemmaUse>, AllocError>
-        requires rules { AllByRecursion IsRewriteRule self.now.lemmas.now }
         ensures { IfOk result (λ v. plain_lemma_uses v.items
             ≡ swept self.now.gamma.now self.now.lemmas.now [] term.now) }
     {
@@ -55,13 +47,12 @@ impl Passing<'_> {
         path: &mut Path,
         uses: &mut Vec<LemmaUse>,
     ) -> Result<(), AllocError>
-        requires rules { AllByRecursion IsRewriteRule self.now.lemmas.now }
         ensures exact { OnOk result (plain_lemma_uses uses.new.items
             ≡ plain_lemma_uses uses.old.items
             ++ swept self.now.gamma.now self.now.lemmas.now path.old.items term.now) }
         ensures path { OnOk result (path.new.items ≡ path.old.items) }
     {
-        if let Some(one) = self.first_lemma(path.as_slice(), term)? {
+        if let Some(one) = self.lemmas.first_use(self.alloc, path.as_slice(), term)? {
             uses.push(one)?;
             return Ok(());
         }
@@ -80,7 +71,6 @@ impl Passing<'_> {
         path: &mut Path,
         uses: &mut Vec<LemmaUse>,
     ) -> Result<(), AllocError>
-        requires rules { AllByRecursion IsRewriteRule self.now.lemmas.now }
         requires narrow { length args.now ≤ 65536 }
         ensures exact { OnOk result (plain_lemma_uses uses.new.items
             ≡ plain_lemma_uses uses.old.items ++ all_swept self.now.gamma.now
@@ -105,7 +95,6 @@ impl Passing<'_> {
         path: &mut Path,
         uses: &mut Vec<LemmaUse>,
     ) -> Result<(), AllocError>
-        requires rules { AllByRecursion IsRewriteRule self.now.lemmas.now }
         ensures exact { OnOk result (plain_lemma_uses uses.new.items
             ≡ plain_lemma_uses uses.old.items
             ++ swept self.now.gamma.now self.now.lemmas.now (path.old.items ++ i ∷ []) arg.now) }
@@ -115,70 +104,5 @@ impl Passing<'_> {
         self.sweep(arg, path, uses)?;
         let _last = path.pop();
         Ok(())
-    }
-
-    // The first lemma whose left side is found.
-    fn first_lemma(&self, path: &[u16], term: &Term) -> Result<Option<LemmaUse>, AllocError>
-        requires rules { AllByRecursion IsRewriteRule self.now.lemmas.now }
-        ensures { IfOk result (λ o. option_map plain_lemma_use o
-            ≡ first_lemma self.now.lemmas.now path.now term.now) }
-    {
-        for n in 0..self.lemmas.len() {
-            let found = lemma_use(self.alloc, &self.lemmas[n], path, term)?;
-            if let Some(one) = found {
-                return Ok(Some(one));
-            }
-        }
-        Ok(None)
-    }
-}
-
-fn lemma_use(
-    alloc: Global,
-    lemma: &Rule,
-    path: &[u16],
-    term: &Term,
-) -> Result<Option<LemmaUse>, AllocError>
-    requires rule { IsRewriteRule lemma.now }
-    ensures { IfOk result (λ o. option_map plain_lemma_use o
-        ≡ lemma_use lemma.now path.now term.now) }
-{
-    if !may_be(&lemma.left, term) {
-        return Ok(None);
-    }
-    let Some(subst) = match_term(alloc, &lemma.left, term)? else {
-        return Ok(None);
-    };
-    let terms = subst.terms()?;
-    let path = Path::from_slice(alloc, path)?;
-    let right = lemma.right.share()?;
-    Ok(Some(LemmaUse {
-        number: rule_number(lemma.name),
-        path,
-        terms,
-        subst,
-        right,
-    }))
-}
-
-fn rule_number(name: RuleName) -> u32
-    ensures { result ≡ rule_number name }
-{
-    match name {
-        RuleName::Equation { number } => number,
-        RuleName::Lemma { number } => number,
-    }
-}
-
-// False only where the operators at the roots tell that no substitution makes the pattern the term.
-fn may_be(pattern: &Term, term: &Term) -> bool
-    ensures { (τ : Substitution) → Makes pattern.now term.now τ → IsTrue result }
-{
-    match pattern.op_number() {
-        None => true,
-        Some(op) => match term.op_number() {
-            None => false,
-            Some(other) => op == other,
-        },
     }
 }

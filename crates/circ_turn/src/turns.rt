@@ -1,9 +1,7 @@
 //! The turns of a search.
 ghost use Rattle.std.specs.Prelude.{◌≡◌, ◌<◌, ◌∷◌, [], List, length, drop, Some, Ok};
-ghost use Rattle.std.specs.List.{AllByRecursion};
 ghost use Rattle.circ_theory.specs.declared.parts.Goal.{Goal as TheGoal};
 ghost use Rattle.circ_replay.specs.Goals.{goal};
-ghost use Rattle.circ_rewrite.specs.Due.{IsRewriteRule};
 ghost use Rattle.circ_plain_search.specs.BlockRules.{block_rules, hidden_lemmas};
 ghost use Rattle.circ_plain_search.specs.Coming.{IsReady, IsSmall};
 ghost use Rattle.circ_plain_search.specs.Search.{goal_turn, sides_turn, join_turn, pass_turn};
@@ -20,9 +18,9 @@ use crate::search::Search;
 use crate::state::State;
 use crate::steps::has_links;
 use circ_block::{BlockRules, share_goal};
-use circ_join::{HypothesisUse, Joining, Passing, Stop, lemma_links, put_all, use_all, use_links};
+use circ_join::{HypothesisUse, Joining, Lemmas, Passing, Stop};
+use circ_join::{lemma_links, put_all, use_all, use_links};
 use circ_record::{TermChain, TermWhy};
-use circ_rewrite::Rule;
 use circ_split::{Sides, Splitting, normal_sides};
 use circ_theory::Goal;
 
@@ -137,7 +135,7 @@ impl Search<'_> {
         ensures rules { IsRulesOf self.now.theory.now state.old.earlier.items rules.new }
     {
         let mut budget = state.budget;
-        match self.swept_sides(rules.lemmas.as_slice(), goal, &mut budget) {
+        match self.swept_sides(&rules.lemmas, goal, &mut budget) {
             Err(stop) => Err(self.end(state, stop)),
             Ok(sides) => {
                 if !has_links(&sides.chain) {
@@ -149,8 +147,7 @@ impl Search<'_> {
         }
     }
 
-    fn swept_sides(&self, lemmas: &[Rule], goal: &Goal, budget: &mut u64) -> Result<Sides, Stop>
-        requires rewrite { AllByRecursion IsRewriteRule lemmas.now }
+    fn swept_sides(&self, lemmas: &Lemmas, goal: &Goal, budget: &mut u64) -> Result<Sides, Stop>
         ensures { (E : List TheGoal) → lemmas.now ≡ hidden_lemmas self.now.theory.now 0 E
             → GivesSides (swept_sides self.now.theory.now self.now.gamma.now E
             goal.now.left goal.now.right budget.old) budget.new result }

@@ -21,7 +21,7 @@ sweep-sweep_all-requires t c =
     let depth = ap depth_of value in
     let there = ap (λ u. length (args_of u)) value in
     let same = ap length (list_of-trees_of c.in-Application.args.now) in
-    (omega (arith, depth), (c.requires.rules, omega (arith, there, same, c.kind.ensures.few)))
+    (omega (arith, depth), omega (arith, there, same, c.kind.ensures.few))
 
 pub sweep_all-sweep_at-requires : goal.sweep_all-sweep_at-requires
-sweep_all-sweep_at-requires t c = (omega (arith, depth_at c.args.args.now c.loop-i.i c.index-args-i.result c.loop-i-test.true c.index-args-i.is), c.requires.rules)
+sweep_all-sweep_at-requires t c = omega (arith, depth_at c.args.args.now c.loop-i.i c.index-args-i.result c.loop-i-test.true c.index-args-i.is)

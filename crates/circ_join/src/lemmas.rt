@@ -1,0 +1,111 @@
+//! Lemmas, found by their left sides.
+ghost use Rattle.std.specs.Prelude.{◌≡◌, ◌<◌, ◌==◌, ◌^◌, length, map, IfOk};
+ghost use Rattle.std.specs.List.{AllByRecursion};
+ghost use Rattle.std.specs.Option.{option_map};
+ghost use Rattle.circ_index.specs.Finding.{FindsFirst};
+ghost use Rattle.circ_rewrite.specs.Due.{IsRewriteRule};
+ghost use Rattle.circ_plain_search.specs.Joining.{first_lemma, rule_number};
+ghost use Rattle.circ_join.specs.Lemmas.{left_of};
+ghost use Rattle.circ_join.specs.Uses.{plain_lemma_use};
+
+use crate::uses::LemmaUse;
+use circ_index::RuleIndex;
+use circ_rewrite::{Rule, RuleName};
+use circ_term::{Path, Subst, Term};
+use std::alloc::{AllocError, Global};
+use std::marker::Model;
+
+/// Lemmas in their order, found by their left sides. Contracts see the list of the rules.
+#[derive(Drop)]
+pub struct Lemmas {
+    rules: Vec<Rule>,
+    index: RuleIndex,
+}
+
+impl Model for Lemmas {
+    ghost use Rattle.std.specs.Prelude.{List};
+    ghost use Rattle.std.specs.Coded.{coded_list};
+    ghost use Rattle.circ_rewrite.specs.Code.{rule_code};
+    ghost use Rattle.circ_rewrite.specs.declared.parts.Rule.{Rule as TheRule};
+    ghost use Rattle.circ_join.specs.Lemmas.{AreLemmas};
+
+    ghost Value = { List TheRule };
+
+    ghost coded = { coded_list rule_code };
+
+    ghost view = { λ a. a.rules.items };
+
+    ghost invariant = { λ a. AreLemmas a.rules.items a.index };
+}
+
+impl Lemmas {
+    /// The rules as lemmas.
+    pub fn of(alloc: Global, rules: Vec<Rule>) -> Result<Lemmas, AllocError>
+        requires rewrite { AllByRecursion IsRewriteRule rules.items }
+        requires few { length rules.items < 2 ^ 32 }
+        ensures { IfOk result (λ l. l ≡ rules.items) }
+    {
+        let lefts = left_sides(alloc, rules.as_slice())?;
+        let index = RuleIndex::of(alloc, lefts)?;
+        Ok(Lemmas { rules, index })
+    }
+
+    /// Whether there are none.
+    pub fn is_empty(&self) -> bool
+        ensures { result ≡ (length self.now == 0) }
+    {
+        self.rules.is_empty()
+    }
+
+    // The first that has the term as an instance of its left side, with the substitution.
+    fn first(&self, term: &Term) -> Result<Option<(u32, Subst)>, AllocError>
+        ensures { IfOk result (FindsFirst (map left_of self.now) 0 term.now) }
+    {
+        self.index.first(0, term)
+    }
+
+    // The use of that lemma at a path.
+    pub(crate) fn first_use(
+        &self,
+        alloc: Global,
+        path: &[u16],
+        term: &Term,
+    ) -> Result<Option<LemmaUse>, AllocError>
+        ensures { IfOk result (λ o. option_map plain_lemma_use o
+            ≡ first_lemma self.now path.now term.now) }
+    {
+        let Some((place, subst)) = self.first(term)? else {
+            return Ok(None);
+        };
+        let lemma = &self.rules[place as usize];
+        let terms = subst.terms()?;
+        let path = Path::from_slice(alloc, path)?;
+        let right = lemma.right.share()?;
+        Ok(Some(LemmaUse {
+            number: rule_number(lemma.name),
+            path,
+            terms,
+            subst,
+            right,
+        }))
+    }
+}
+
+fn left_sides(alloc: Global, rules: &[Rule]) -> Result<Vec<Term>, AllocError>
+    ensures { IfOk result (λ v. v.items ≡ map left_of rules.now) }
+{
+    let mut lefts = Vec::with_capacity(alloc, rules.len())?;
+    for rule in rules {
+        lefts.push(rule.left.share()?)?;
+    }
+    Ok(lefts)
+}
+
+fn rule_number(name: RuleName) -> u32
+    ensures { result ≡ rule_number name }
+{
+    match name {
+        RuleName::Equation { number } => number,
+        RuleName::Lemma { number } => number,
+    }
+}
