@@ -11,7 +11,7 @@ ghost use Rattle.circ_block.specs.Rules.{IsRulesOf};
 
 use circ_join::Lemmas;
 use circ_memo::Memo;
-use circ_rewrite::{Rule, RuleName, theory_rules};
+use circ_rewrite::{Rule, RuleName, share_rules, theory_rules};
 use circ_term::Term;
 use circ_theory::{Goal, Theory, gather};
 use indexmap::IndexSet;
@@ -81,29 +81,6 @@ fn memos<'a>(
     let plain = Memo::new(alloc, theory, rules)?;
     let cases = Memo::new(alloc, theory, copy)?;
     Ok((plain, cases))
-}
-
-// The same rules once more.
-fn share_rules(alloc: Global, rules: &[Rule]) -> Result<Vec<Rule>, AllocError>
-    ensures { IfOk result (λ v. v.items ≡ rules.now) }
-{
-    let mut copy = Vec::with_capacity(alloc, rules.len())?;
-    for rule in rules {
-        copy.push(share_rule(rule)?)?;
-    }
-    Ok(copy)
-}
-
-fn share_rule(rule: &Rule) -> Result<Rule, AllocError>
-    ensures { IfOk result (λ r. r ≡ rule.now) }
-{
-    let left = rule.left.share()?;
-    let right = rule.right.share()?;
-    Ok(Rule {
-        name: rule.name,
-        left,
-        right,
-    })
 }
 
 // A goal that rewrites goes behind the rules where it is visible, and behind the lemmas where it is

@@ -13,4 +13,4 @@ mod parts;
 
 pub use fault::RewriteFault;
 pub use listing::theory_rules;
-pub use parts::{Normal, Rule, RuleName, Trace};
+pub use parts::{Normal, Rule, RuleName, Trace, share_rules};

@@ -1,5 +1,8 @@
 //! Rules, traces and normal forms.
+ghost use Rattle.std.specs.Prelude.{◌≡◌, IfOk};
+
 use circ_term::{Path, Term};
+use std::alloc::{AllocError, Global};
 
 /// Where a rule comes from.
 #[derive(Clone, Copy, PartialEq, Eq, Debug)]
@@ -19,6 +22,32 @@ pub struct Rule {
     pub left: Term,
     /// What replaces it.
     pub right: Term,
+}
+
+impl Rule {
+    /// The same rule once more. Its terms are shared.
+    pub fn share(&self) -> Result<Rule, AllocError>
+        ensures { IfOk result (λ r. r ≡ self.now) }
+    {
+        let left = self.left.share()?;
+        let right = self.right.share()?;
+        Ok(Rule {
+            name: self.name,
+            left,
+            right,
+        })
+    }
+}
+
+/// The same rules once more. Their terms are shared.
+pub fn share_rules(alloc: Global, rules: &[Rule]) -> Result<Vec<Rule>, AllocError>
+    ensures { IfOk result (λ v. v.items ≡ rules.now) }
+{
+    let mut copy = Vec::with_capacity(alloc, rules.len())?;
+    for rule in rules {
+        copy.push(rule.share()?)?;
+    }
+    Ok(copy)
 }
 
 /// One replacement that was made, at a path in the whole term.
