@@ -5,3 +5,4 @@ pub mod Stepping
 pub mod Arguments
 pub mod Stores
 pub mod Wholes
+pub mod Telling
