@@ -1,7 +1,8 @@
 -- What is kept still tells the traces when terms are added, and when more is kept.
 use Rattle.std.proofs.Common.{◌≡◌, ℕ, ◌+◌, ◌≤◌, ◌<◌, ◌⊎◌, inl, inr, zero, suc, List, [], ◌∷◌, ◌++◌, length, Option, Some, None, refl, ap, sym, subst, ◌∙◌, arith}
 use Rattle.std.specs.List.{slice_get}
-use Rattle.std.proofs.lemmas.Option.{same_Some}
+use Rattle.std.proofs.lemmas.Option.{same_Some, slice_get_within}
+use Rattle.std.proofs.lemmas.Bool.{cases_lt}
 use Rattle.circ_term.specs.Tree.{Tree}
 use Rattle.circ_rewrite.specs.Replacement.{Replacement}
 use Rattle.circ_nodes.specs.Named.{IsNamed, Grows}
@@ -211,3 +212,38 @@ module _ (due : Tree → Option Replacement) (nodes : List Tree) where
 
   pub kept_nothing : (es : List (Option Entry)) → es ≡ [] → AreKept due nodes es
   kept_nothing es z n e k = absurd (let f : None ≡ Some e = rw z at k in cc)
+
+-- one argument more
+pub passed_next : (nodes : List Tree) (es : List (Option Entry)) (t : Tree) (i : ℕ) (p q : Passing) (n : ℕ) → HasPassed nodes es t i p → slice_get p.args.items i ≡ Some n
+    → IsNumberKept es n q.count → p.count ≤ q.count → length q.args.items ≡ length p.args.items
+    → ((j : ℕ) → i < j → slice_get q.args.items j ≡ slice_get p.args.items j) → HasPassed nodes es t (i + 1) q
+passed_next nodes es t i p q n h at k more long others = record {
+  op = h.op;
+  sort = h.sort;
+  args = h.args;
+  numbers = h.numbers;
+  is = h.is;
+  named = h.named;
+  long = h.long ∙ sym long;
+  kept = λ j m l g. go j m l g (cases_lt j i);
+  rest = λ j l. others j (omega (arith, l)) ∙ h.rest j (omega (arith, l));
+}
+  where
+    go : (j m : ℕ) → j < i + 1 → slice_get h.numbers j ≡ Some m → (j < i) ⊎ (i ≤ j) → IsNumberKept es m q.count
+    go j m b g (inl l) = number_more es m p.count q.count more (h.kept j m l g)
+    go j m b g (inr l) =
+        let z : i ≡ j = omega (arith, b, l) in
+        let is : n ≡ m = same_Some n m (sym at ∙ h.rest i (omega arith) ∙ ap (slice_get h.numbers) z ∙ g) in
+        subst (λ x. IsNumberKept es x q.count) is k
+
+-- all of them
+pub passed_all : (nodes : List Tree) (es : List (Option Entry)) (t : Tree) (i : ℕ) (p : Passing) → HasPassed nodes es t i p → length p.args.items ≤ i → HasKeptArgs nodes es t p.count
+passed_all nodes es t i p h all = record {
+  op = h.op;
+  sort = h.sort;
+  args = h.args;
+  numbers = h.numbers;
+  is = h.is;
+  named = h.named;
+  kept = λ j n g. h.kept j n (omega (arith, all, h.long, slice_get_within h.numbers j n g)) g;
+}
