@@ -6,3 +6,4 @@ pub mod Arguments
 pub mod Stores
 pub mod Wholes
 pub mod Telling
+pub mod Lists
