@@ -8,8 +8,8 @@ ghost use Rattle.circ_rewrite.specs.Plain.{Answers, plain_traces};
 ghost use Rattle.circ_nodes.specs.Named.{IsNamed};
 ghost use Rattle.circ_due.specs.Chosen.{due_by};
 ghost use Rattle.circ_memo.specs.Keeping.{IsForm, IsNumberKept};
-ghost use Rattle.circ_memo.specs.Value.{AnswersValue, AnswersForm};
-ghost use Rattle.circ_memo.specs.Working.{IsStore, Extends};
+ghost use Rattle.circ_memo.specs.Value.{AnswersValue, AnswersKept};
+ghost use Rattle.circ_memo.specs.Working.{IsStore};
 
 use crate::listing::list;
 use crate::parts::{Bounds, Entry, Stop};
@@ -85,12 +85,8 @@ impl<'a> Memo<'a> {
         ensures less { budget.new ≤ budget.old }
         ensures same { self.new ≡ self.old }
     {
-        let number = self.store.nodes.intern(term)?;
-        let mut left = *budget;
-        let kept = settle_whole(&self.means, &mut self.store, number, &mut left);
-        *budget = left;
-        match kept {
-            Ok(entry) => Ok(self.store.nodes.term(entry.value).share()?),
+        match settle_term(&self.means, &mut self.store, term, budget) {
+            Ok((_, entry)) => Ok(self.store.nodes.term(entry.value).share()?),
             Err(fault) => Err(fault),
         }
     }
@@ -104,14 +100,58 @@ impl<'a> Memo<'a> {
         ensures less { budget.new ≤ budget.old }
         ensures same { self.new ≡ self.old }
     {
-        let number = self.store.nodes.intern(term)?;
-        let mut left = *budget;
-        let kept = settle_whole(&self.means, &mut self.store, number, &mut left);
-        *budget = left;
-        match kept {
-            Ok(entry) => Ok(listed(&self.means, &self.store, number, entry)?),
+        match settle_term(&self.means, &mut self.store, term, budget) {
+            Ok((number, entry)) => Ok(listed(&self.means, &self.store, number, entry)?),
             Err(fault) => Err(fault),
         }
+    }
+}
+
+// The number of a whole term, and what is kept of it.
+fn settle_term(
+    means: &Means<'_>,
+    store: &mut Store,
+    term: &Term,
+    budget: &mut u64,
+) -> Result<(u32, Entry), RewriteFault>
+    requires { IsStore means.now store.old }
+    ensures store { IsStore means.now store.new }
+    ensures less { budget.new ≤ budget.old }
+    ensures exact { AnswersKept (due_by means.now) store.new.nodes store.new.entries.items term.now
+        result budget.new (run (due_by means.now) budget.old term.now []) }
+{
+    let number = store.nodes.intern(term)?;
+    let mut left = *budget;
+    let kept = settle_number(means, store, number, &mut left);
+    *budget = left;
+    kept
+}
+
+// The same for a term that has a number.
+fn settle_number(
+    means: &Means<'_>,
+    store: &mut Store,
+    number: u32,
+    budget: &mut u64,
+) -> Result<(u32, Entry), RewriteFault>
+    requires store { IsStore means.now store.old }
+    requires there { number < length store.old.nodes }
+    requires fits { budget.old < 2 ^ 64 }
+    ensures store { IsStore means.now store.new }
+    ensures less { budget.new ≤ budget.old }
+    ensures exact { (t : Tree) → IsNamed store.old.nodes number t
+        → AnswersKept (due_by means.now) store.new.nodes store.new.entries.items t
+            result budget.new (run (due_by means.now) budget.old t []) }
+{
+    store.nodes.term(number).known();
+    let bounds = Bounds {
+        big: MOST_NODES,
+        deep: MOST_DEPTH,
+    };
+    match settle(means, store, number, bounds, budget) {
+        Ok(entry) => Ok((number, entry)),
+        Err(Stop::Fault(fault)) => Err(fault),
+        Err(Stop::Outgrows(_)) => unreachable!(),
     }
 }
 
@@ -136,34 +176,4 @@ fn listed(
         term: store.nodes.term(entry.value).share()?,
         traces,
     })
-}
-
-// What is kept of a whole term.
-fn settle_whole(
-    means: &Means<'_>,
-    store: &mut Store,
-    number: u32,
-    budget: &mut u64,
-) -> Result<Entry, RewriteFault>
-    requires store { IsStore means.now store.old }
-    requires there { number < length store.old.nodes }
-    requires fits { budget.old < 2 ^ 64 }
-    ensures store { IsStore means.now store.new }
-    ensures extends { Extends store.old store.new }
-    ensures less { budget.new ≤ budget.old }
-    ensures exact { (t : Tree) → IsNamed store.old.nodes number t
-        → AnswersForm (due_by means.now) store.new.nodes t result budget.new
-            (run (due_by means.now) budget.old t []) }
-    ensures there { IfOk result (λ e. IsNumberKept store.new.entries.items number e.count) }
-{
-    store.nodes.term(number).known();
-    let bounds = Bounds {
-        big: MOST_NODES,
-        deep: MOST_DEPTH,
-    };
-    match settle(means, store, number, bounds, budget) {
-        Ok(entry) => Ok(entry),
-        Err(Stop::Fault(fault)) => Err(fault),
-        Err(Stop::Outgrows(_)) => unreachable!(),
-    }
 }
