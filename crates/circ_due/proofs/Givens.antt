@@ -1,7 +1,7 @@
 -- What variables are given, by number and as terms.
 use Rattle.std.proofs.Common.{◌≡◌, ℕ, ◌<◌, ◌==◌, ◌&&◌, Bool, true, false, if◌then◌else◌, List, [], ◌∷◌, ◌++◌, length, Option, Some, None, unwrap_or, refl, ap, sym, ◌∙◌, arith}
 use Rattle.std.specs.Option.{option_map, option_or}
-use Rattle.std.proofs.lemmas.Bool.{eqb-true, eq-eqb, and_parts}
+use Rattle.std.proofs.lemmas.Bool.{eqb-true, and_parts}
 use Rattle.std.proofs.lemmas.Option.{same_Some}
 use Rattle.circ_term.specs.Tree.{Tree, Var, sort_of}
 use Rattle.circ_term.specs.Substitution.{KeepsSorts}
@@ -64,8 +64,7 @@ pub are_bound_later : (old new : List Tree) (bs : List Bound) → Grows old new 
 are_bound_later old new [] g a = tt
 are_bound_later old new (b ∷ bs) g a =
     let one : b.to < length old = a.0.there in
-    let of_sort = a.0.of_sort in
-    (
+    let of_sort = a.0.of_sort in (
       record { there = let more = grows_length old new g in omega (arith, one, more); of_sort = ap sort_of (tree_later old new b.to g one) ∙ of_sort },
       are_bound_later old new bs g a.1,
     )

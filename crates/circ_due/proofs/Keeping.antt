@@ -1,5 +1,5 @@
 -- Assumptions that are kept by the numbers of their left sides.
-use Rattle.std.proofs.Common.{◌≡◌, ℕ, ◌+◌, ◌-◌, ◌≤◌, ◌<◌, Bool, true, false, cond, List, [], ◌∷◌, length, drop, get_or, Option, Some, None, refl, ap, sym, subst, ◌∙◌, arith}
+use Rattle.std.proofs.Common.{◌≡◌, ℕ, ◌+◌, ◌-◌, ◌≤◌, ◌<◌, Bool, true, false, cond, List, [], ◌∷◌, length, drop, get_or, Some, None, refl, ap, sym, subst, ◌∙◌, arith}
 use Rattle.std.specs.Prelude.{nat_eq, IsSome}
 use Rattle.std.specs.List.{AllByRecursion}
 use Rattle.std.specs.Map.{lookup}
@@ -18,7 +18,6 @@ use Rattle.circ_rewrite.specs.Due.{assumed}
 use Rattle.circ_rewrite.proofs.MatchingFacts.{is_same_term}
 use Rattle.circ_due.specs.Assuming.{IsFirst, HasKept, AreKept}
 use Rattle.circ_due.specs.declared.assuming.Assumed.{Assumed}
-
 
 -- ---- when terms are added
 

@@ -6,7 +6,6 @@ use Rattle.circ_nodes.specs.Named.{Grows}
 use Rattle.circ_nodes.proofs.Numbers.{named_later}
 use Rattle.circ_rewrite.specs.Replacement.{Replacement}
 use Rattle.circ_rewrite.specs.declared.parts.Rule.{Rule}
-use Rattle.circ_due.specs.Bounds.{bounds_in}
 use Rattle.circ_due.specs.Chosen.{IsReady, IsFit, IsChoice, by_rule}
 use Rattle.circ_due.specs.declared.choice.Bound.{Bound}
 use Rattle.circ_due.specs.declared.choice.Choice.{Choice}
@@ -19,7 +18,7 @@ pub ready_later : (old new : List Tree) (m : Means) → Grows old new → IsRead
 ready_later old new m g r = record {
   rewrite = r.rewrite;
   few_rules = r.few_rules;
-  few = r.few;
+  few_assumptions = r.few_assumptions;
   rows = r.rows;
   kept = kept_later old new 0 m.assumptions.items m.assumed.entries g r.kept;
 }

@@ -22,7 +22,7 @@ use Rattle.circ_due.specs.declared.means.Means.{Means}
 pub record IsReady (nodes : List Tree) (m : Means) : Type 0 where
   pub rewrite : AllByRecursion IsRewriteRule m.rules.items
   pub few_rules : length m.rules.items < 2 ^ 32
-  pub few : length m.assumptions.items < 2 ^ 32
+  pub few_assumptions : length m.assumptions.items < 2 ^ 32
   pub rows : IsIndex m.rules.items m.rows
   pub kept : AreKept nodes 0 m.assumptions.items m.assumed.entries
 

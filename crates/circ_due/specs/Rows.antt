@@ -4,6 +4,7 @@ use Rattle.std.specs.List.{slice_get}
 use Rattle.circ_term.specs.Tree.{Tree, Trees, Var, App, none, more}
 use Rattle.circ_rewrite.specs.declared.parts.Rule.{Rule}
 use Rattle.circ_due.specs.declared.index.Rows.{Rows}
+use Rattle.circ_due.specs.declared.index.TheConstants.{SPREAD}
 
 -- 0 for a variable, and for an application one more than its operator
 abbrev pub mark_of : Tree → ℕ
@@ -17,7 +18,7 @@ first_mark (more t ts) = mark_of t
 
 -- the row, of so many, of an operator whose first argument has this mark
 abbrev pub row_at : (width op mark : ℕ) → ℕ
-row_at width op mark = (op * 1000003 + mark) % width
+row_at width op mark = (op * SPREAD + mark) % width
 
 -- the row of a term
 abbrev pub row_of : (width : ℕ) → Tree → ℕ

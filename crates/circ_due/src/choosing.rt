@@ -58,12 +58,7 @@ fn ruled(means: &Means<'_>, nodes: &Nodes, number: u32) -> Result<Option<Choice>
 }
 
 // Whether a rule's left side matches, and what its variables are given then.
-fn fits(
-    nodes: &Nodes,
-    rule: &Rule,
-    number: u32,
-    given: &mut Bounds,
-) -> Result<bool, AllocError>
+fn fits(nodes: &Nodes, rule: &Rule, number: u32, given: &mut Bounds) -> Result<bool, AllocError>
     requires there { number < length nodes.now }
     requires nothing { given.old.items ≡ [] }
     ensures { IfOk result

@@ -1,6 +1,7 @@
 //! Rules in rows, by the operators at the roots of their left sides and of the first arguments
 //! there.
-ghost use Rattle.std.specs.Prelude.{◌≡◌, ◌≤◌, ◌<◌, ◌^◌, length, IfOk, ℕ, Some, replicate, slice_set};
+ghost use Rattle.std.specs.Prelude.{◌≡◌, ◌≤◌, ◌<◌, ◌^◌, ℕ, length};
+ghost use Rattle.std.specs.Prelude.{IfOk, Some, replicate, slice_set};
 ghost use Rattle.std.specs.List.{slice_get};
 ghost use Rattle.circ_term.specs.Tree.{trees_of};
 ghost use Rattle.circ_due.specs.Rows.{first_mark, row_at, row_of, wide_row, IsIndex};
@@ -8,6 +9,10 @@ ghost use Rattle.circ_due.specs.Rows.{first_mark, row_at, row_of, wide_row, IsIn
 use circ_rewrite::Rule;
 use circ_term::{Kind, Term};
 use std::alloc::{AllocError, Global};
+
+// What an operator's number is multiplied by, so that operators with different first arguments
+// mostly stand in different rows.
+const SPREAD: usize = 1_000_003;
 
 // Rules in rows, each in the order of their numbers: `heads` has the first of each row, and `next`
 // has for each rule the next one. Past the last stands the number of all rules. A row is that of
@@ -100,7 +105,7 @@ fn row_at(width: usize, op: u32, mark: usize) -> usize
     ensures value { result ≡ row_at width op mark }
     ensures within { result < width }
 {
-    (op as usize * 1_000_003 + mark) % width
+    (op as usize * SPREAD + mark) % width
 }
 
 // 0 where the first argument is a variable or absent, and else one more than its operator.

@@ -1,5 +1,6 @@
 //! What is used to rewrite interned terms.
-ghost use Rattle.std.specs.Prelude.{◌≡◌, ◌<◌, ◌^◌, ℕ, List, [], length, IfOk, OnErr};
+ghost use Rattle.std.specs.Prelude.{◌≡◌, ◌<◌, ◌^◌, ℕ, List, [], length};
+ghost use Rattle.std.specs.Prelude.{IfOk, OnErr};
 ghost use Rattle.std.specs.List.{AllByRecursion};
 ghost use Rattle.circ_term.specs.Tree.{Tree};
 ghost use Rattle.circ_nodes.specs.Named.{IsNamed, Grows, Interns};
@@ -39,11 +40,7 @@ pub struct Means<'a> {
 
 impl<'a> Means<'a> {
     /// These rules, and no assumptions.
-    pub fn new(
-        alloc: Global,
-        theory: &'a Theory,
-        rules: Vec<Rule>,
-    ) -> Result<Means<'a>, AllocError>
+    pub fn new(alloc: Global, theory: &'a Theory, rules: Vec<Rule>) -> Result<Means<'a>, AllocError>
         requires rewrite { AllByRecursion IsRewriteRule rules.items }
         requires few { length rules.items < 2 ^ 32 }
         ensures ready { (nodes : List Tree) → IfOk result (IsReady nodes) }

@@ -1,4 +1,4 @@
-use Rattle.std.proofs.Common.{◌≡◌, ◌<◌, min, length, refl, ap, sym, ◌∙◌, subst, arith}
+use Rattle.std.proofs.Common.{◌<◌, min, length, refl, ap, sym, ◌∙◌, arith}
 use Rattle.circ_rewrite.proofs.Finding.{rule_does_not}
 use Rattle.circ_rewrite.proofs.Indexing.{get_read}
 use Rattle.circ_due.specs.Bounds.{tree_at, bounds_in}
@@ -48,8 +48,7 @@ returns-then-branch c =
     let given = c.fits.new.given.items in
     let fit = rw c.if-branch.true at c.in_ok-fits.ensures in
     let below : n < length rs = omega (arith, c.loop-rule-test.true) in
-    let due = rule_given rule t (bounds_in nodes given) fit.matches in
-    (
+    let due = rule_given rule t (bounds_in nodes given) fit.matches in (
       by_rule nodes rule given,
       tried_here (length c.args.means.now.rows.heads.items) rs t c.loop-rule.near c.loop-rule.wide n rule (by_rule nodes rule given) c.loop-rule.invariant.tried (omega arith) below
           c.index.ensures due,
