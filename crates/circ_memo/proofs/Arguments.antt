@@ -212,3 +212,9 @@ variable_way due nodes b t n k e = record {
 
 pub within_of : (nodes : List Tree) (b : Bounds) (n : ℕ) (t : Tree) → IsInside nodes b n → IsNamed nodes n t → IsWithin b t
 within_of nodes b n t h k = subst (λ x. IsWithin b x) (named_one nodes n h.0 t h.1 k) h.2
+
+pub get_set_other : (ns : List ℕ) (i j m : ℕ) → i < j → slice_get (slice_set ns i m) j ≡ slice_get ns j
+get_set_other [] i j m h = refl
+get_set_other (n ∷ ns) i zero m h = absurd (omega (arith, h))
+get_set_other (n ∷ ns) zero (suc j) m h = refl
+get_set_other (n ∷ ns) (suc i) (suc j) m h = get_set_other ns i j m (omega (arith, h))

@@ -8,7 +8,8 @@ use Rattle.circ_rewrite.specs.declared.fault.RewriteFault.TheVariants.{Spent, To
 use Rattle.circ_nodes.specs.Named.{IsNamed, Grows}
 use Rattle.circ_nodes.proofs.Numbers.{named_later, are_named_later, named_below}
 use Rattle.circ_chain.specs.Kept.{IsKeptForm}
-use Rattle.circ_memo.specs.Keeping.{kept_at, HasSame, Puts, IsForm, IsKept, AreKept, IsInBounds}
+use Rattle.circ_memo.proofs.Telling.{told_later}
+use Rattle.circ_memo.specs.Keeping.{kept_at, IsForm, AreKept}
 use Rattle.circ_memo.specs.Settling.{Stops, IsWay, IsPassed, ArePassed, IsPassing, IsToKeep}
 use Rattle.circ_memo.specs.declared.parts.Bounds.{Bounds}
 use Rattle.circ_memo.specs.declared.parts.Entry.{Entry}
@@ -26,7 +27,12 @@ module _ (due : Tree → Option Replacement) where
     pub kept_later : (es : List (Option Entry)) → AreKept due old es → AreKept due new es
     kept_later es h n e k =
         let a = h n e k in
-        record { term = a.term; here = named_later old new n a.term g a.here; form = form_later a.term e a.form }
+        record {
+          term = a.term;
+          here = named_later old new n a.term g a.here;
+          form = form_later a.term e a.form;
+          told = told_later es old new g due n a.term e a.told;
+        }
 
     pub way_later : (b : Bounds) (t : Tree) (w : Way) (u : Tree) → IsWay due old b t w u → IsWay due new b t w u
     way_later b t w u h = record {
@@ -79,19 +85,3 @@ module _ (due : Tree → Option Replacement) where
         faulted (TooDeep n) h = h
         faulted Memory h = h
     stops_later b k left t (stop.Outgrows m) h = (h.0, named_later old new m h.0 g h.1, h.2)
-
-  module _ (nodes : List Tree) where
-    pub kept_same : (a b : List (Option Entry)) → HasSame a b → AreKept due nodes a → AreKept due nodes b
-    kept_same a b g h n e k = h n e (sym (g n) ∙ k)
-
-    pub kept_put : (n : ℕ) (e : Entry) (a b : List (Option Entry)) → Puts n e a b → IsKept due nodes n e → AreKept due nodes a → AreKept due nodes b
-    kept_put n e a b p q h m d k = go (p.others m)
-      where
-        go : (m ≡ n) ⊎ (kept_at b m ≡ kept_at a m) → IsKept due nodes m d
-        go (inl z) =
-            let is : e ≡ d = same_Some e d (sym (subst (λ x. kept_at b x ≡ Some e) (sym z) p.there) ∙ k) in
-            subst (λ x. IsKept due nodes m x) is (subst (λ x. IsKept due nodes x e) (sym z) q)
-        go (inr z) = h m d (sym z ∙ k)
-
-    pub kept_nothing : (es : List (Option Entry)) → es ≡ [] → AreKept due nodes es
-    kept_nothing es z n e k = absurd (let f : None ≡ Some e = rw z at k in cc)

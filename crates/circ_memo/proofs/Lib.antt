@@ -5,3 +5,5 @@ pub mod Stepping
 pub mod Arguments
 pub mod Stores
 pub mod Wholes
+pub mod Telling
+pub mod Lists

@@ -8,10 +8,13 @@ use Rattle.circ_nodes.proofs.Numbers.{grows_self, grows_more}
 use Rattle.circ_due.specs.Chosen.{due_by}
 use Rattle.circ_due.specs.declared.means.Means.{Means}
 use Rattle.circ_due.proofs.Later.{ready_later}
-use Rattle.circ_memo.specs.Keeping.{AreKept}
+use Rattle.circ_memo.specs.Keeping.{AreKept, Stays}
+use Rattle.circ_memo.specs.Settling.{AreLinked}
+use Rattle.circ_memo.specs.declared.parts.Step.{Step}
 use Rattle.circ_memo.specs.Working.{IsStore, Extends}
 use Rattle.circ_memo.specs.declared.store.Store.{Store}
 use Rattle.circ_memo.proofs.Forms.{kept_later}
+use Rattle.circ_memo.proofs.Telling.{stays_self, stays_on, are_linked_later, are_linked_stays}
 
 pub store_later : (m : Means) (a b : Store) → Grows a.nodes b.nodes → b.entries.items ≡ a.entries.items → IsStore m a → IsStore m b
 store_later m a b g e h = record { ready = ready_later a.nodes b.nodes m g h.ready; kept = rw e (kept_later (due_by m) a.nodes b.nodes g a.entries.items h.kept) }
@@ -21,13 +24,22 @@ pub store_kept : (m : Means) (a b : Store) → b.nodes ≡ a.nodes → AreKept (
 store_kept m a b e k h = record { ready = rw e h.ready; kept = k }
 
 pub extends_self : (a : Store) → Extends a a
-extends_self a = record { grows = grows_self a.nodes }
+extends_self a = record { grows = grows_self a.nodes; stays = stays_self a.entries.items }
 
 pub extends_on : (a b c : Store) → Extends a b → Extends b c → Extends a c
-extends_on a b c g h = record { grows = grows_more a.nodes b.nodes c.nodes g.grows h.grows }
+extends_on a b c g h = record {
+  grows = grows_more a.nodes b.nodes c.nodes g.grows h.grows;
+  stays = stays_on a.entries.items b.entries.items c.entries.items g.stays h.stays;
+}
 
-pub extends_same : (a b : Store) → b.nodes ≡ a.nodes → Extends a b
-extends_same a b e = record { grows = rw e (grows_self a.nodes) }
+-- terms are added, or more is kept
+pub extends_by : (a b : Store) → Grows a.nodes b.nodes → Stays a.entries.items b.entries.items → Extends a b
+extends_by a b g h = record { grows = g; stays = h }
+
+-- steps stay linked
+pub are_linked_extends : (a b : Store) → Extends a b → (n : ℕ) (ps : List Step) (m : ℕ) → AreLinked a.nodes a.entries.items n ps m → AreLinked b.nodes b.entries.items n ps m
+are_linked_extends a b e n ps m h =
+    are_linked_stays a.entries.items b.entries.items e.stays b.nodes n ps m (are_linked_later a.entries.items a.nodes b.nodes e.grows n ps m h)
 
 -- the depth of the term of a number, for measures
 abbrev pub depth_named : List Tree → ℕ → ℕ

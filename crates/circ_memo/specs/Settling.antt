@@ -1,5 +1,6 @@
 -- What the calls answer that normalise a term by itself, within bounds.
 use Rattle.std.specs.Prelude.{◌≡◌, ◌≤◌, ◌<◌, ℕ, ◌+◌, ◌-◌, List, [], ◌∷◌, length, Option, Some, None, Result, Ok, Err}
+use Rattle.std.specs.List.{slice_get}
 use Rattle.circ_term.specs.Tree.{Tree, Trees, App, args_of, size_of, depth_of}
 use Rattle.circ_term.specs.Limits.{Big, Deep, node_limit, depth_limit, argument_limit}
 use Rattle.circ_rewrite.specs.Replacement.{Replacement, Traced}
@@ -8,7 +9,7 @@ use Rattle.circ_rewrite.specs.declared.fault.RewriteFault.TheVariants.{Spent, To
 use Rattle.circ_nodes.specs.Named.{IsNamed, AreNamed}
 use Rattle.circ_chain.specs.Chain.{RunsOut, Breaks, Outgrows}
 use Rattle.circ_chain.specs.Through.{Through, Readies}
-use Rattle.circ_memo.specs.Keeping.{IsInBounds, IsForm}
+use Rattle.circ_memo.specs.Keeping.{IsInBounds, IsForm, IsNumberKept, IsWayKept}
 use Rattle.circ_memo.specs.declared.parts.Bounds.{Bounds}
 use Rattle.circ_memo.specs.declared.parts.Entry.{Entry}
 use Rattle.circ_memo.specs.declared.parts.Way.{Way}
@@ -130,3 +131,32 @@ passed_count (s ∷ ss) = s.way.count + 1 + passed_count ss
 -- the terms of a step are there
 abbrev pub IsStepIn : (nodes : List Tree) → Step → Type 0
 IsStepIn nodes s = (s.here < length nodes) × (s.way.ready < length nodes) × (s.next < length nodes)
+
+-- The step begins at number n, and its way is kept.
+pub record IsLinked (nodes : List Tree) (es : List (Option Entry)) (n : ℕ) (s : Step) : Type 0 where
+  pub here : s.here ≡ n
+  pub term : Tree
+  pub named : IsNamed nodes n term
+  pub way : IsWayKept nodes es n term s.way.ready s.way.count
+
+-- the steps lead from number n to number m
+abbrev pub AreLinked : (nodes : List Tree) → List (Option Entry) → (n : ℕ) → List Step → (m : ℕ) → Type 0
+AreLinked nodes es n [] m = n ≡ m
+AreLinked nodes es n (s ∷ ss) m = IsLinked nodes es n s × AreLinked nodes es s.next ss m
+
+-- what comes of a turn at number n is kept, or begins there
+abbrev pub IsTurnKept : (nodes : List Tree) → List (Option Entry) → (n : ℕ) → Turn → Type 0
+IsTurnKept nodes es n (Settled e) = IsNumberKept es n e.count
+IsTurnKept nodes es n (Stepped s) = IsLinked nodes es n s
+
+-- Something is kept of the first i arguments of t, and the others are as they were.
+pub record HasPassed (nodes : List Tree) (es : List (Option Entry)) (t : Tree) (i : ℕ) (p : Passing) : Type 0 where
+  pub op : ℕ
+  pub sort : ℕ
+  pub args : Trees
+  pub numbers : List ℕ
+  pub is : t ≡ App op sort args
+  pub named : AreNamed nodes numbers args
+  pub long : length numbers ≡ length p.args.items
+  pub kept : (j n : ℕ) → j < i → slice_get numbers j ≡ Some n → IsNumberKept es n p.count
+  pub rest : (j : ℕ) → i ≤ j → slice_get p.args.items j ≡ slice_get numbers j

@@ -10,7 +10,8 @@ use Rattle.circ_rewrite.specs.Replacement.{Replacement, Traced}
 use Rattle.circ_rewrite.specs.Norm.{Normalised, Normal_form}
 use Rattle.circ_rewrite.specs.Plain.{Faults}
 use Rattle.circ_rewrite.specs.Code.{rule_code}
-use Rattle.circ_memo.specs.Keeping.{IsForm}
+use Rattle.circ_nodes.specs.Named.{IsNamed}
+use Rattle.circ_memo.specs.Keeping.{IsForm, IsNumberKept}
 use Rattle.circ_memo.specs.declared.parts.Entry.{Entry}
 use Rattle.circ_rewrite.specs.declared.fault.RewriteFault.{RewriteFault}
 use Rattle.circ_rewrite.specs.declared.parts.Rule.{Rule}
@@ -34,7 +35,14 @@ abbrev pub AnswersValue : Result Tree RewriteFault → (left : ℕ) → Normalis
 AnswersValue (Ok t) left o = (ts : List Traced) × (o ≡ Normal_form t ts left)
 AnswersValue (Err e) left o = Faults e left o
 
--- the same by what is to be kept of the term t
-abbrev pub AnswersForm : (due : Tree → Option Replacement) (nodes : List Tree) (t : Tree) → Result Entry RewriteFault → (left : ℕ) → Normalised → Type 0
-AnswersForm due nodes t (Ok e) left o = (f : IsForm due nodes t e) × (o ≡ Normal_form f.value f.traces left)
-AnswersForm due nodes t (Err e) left o = Faults e left o
+-- Entry e is kept of t, whose number is n, and is what normalising comes to.
+pub record IsAnswer (due : Tree → Option Replacement) (nodes : List Tree) (es : List (Option Entry)) (t : Tree) (n : ℕ) (e : Entry) (left : ℕ) (o : Normalised) : Type 0 where
+  pub named : IsNamed nodes n t
+  pub there : IsNumberKept es n e.count
+  pub form : IsForm due nodes t e
+  pub is : o ≡ Normal_form form.value form.traces left
+
+-- the answer is a number with what is kept of it, or the fault says what it comes to
+abbrev pub AnswersKept : (due : Tree → Option Replacement) (nodes : List Tree) (es : List (Option Entry)) (t : Tree) → Result (ℕ × Entry) RewriteFault → (left : ℕ) → Normalised → Type 0
+AnswersKept due nodes es t (Ok x) left o = IsAnswer due nodes es t x.0 x.1 left o
+AnswersKept due nodes es t (Err e) left o = Faults e left o

@@ -3,7 +3,7 @@ use Rattle.std.specs.Prelude.{List, Option}
 use Rattle.circ_nodes.specs.Named.{Grows}
 use Rattle.circ_due.specs.Chosen.{IsReady, due_by}
 use Rattle.circ_due.specs.declared.means.Means.{Means}
-use Rattle.circ_memo.specs.Keeping.{AreKept}
+use Rattle.circ_memo.specs.Keeping.{AreKept, Stays}
 use Rattle.circ_memo.specs.Value.{Rewriting}
 use Rattle.circ_memo.specs.declared.store.Store.{Store}
 
@@ -16,6 +16,7 @@ pub record IsStore (m : Means) (s : Store) : Type 0 where
   pub ready : IsReady s.nodes m
   pub kept : AreKept (due_by m) s.nodes s.entries.items
 
--- terms may have been added
+-- terms may have been added, and more may be kept
 pub record Extends (old new : Store) : Type 0 where
   pub grows : Grows old.nodes new.nodes
+  pub stays : Stays old.entries.items new.entries.items

@@ -4,8 +4,9 @@ ghost use Rattle.std.specs.List.{AllByRecursion};
 ghost use Rattle.circ_term.specs.Tree.{Tree};
 ghost use Rattle.circ_rewrite.specs.Replacement.{Replacement};
 ghost use Rattle.circ_nodes.specs.Named.{IsNamed};
-ghost use Rattle.circ_memo.specs.Keeping.{AreKept, IsForm, IsInBounds};
+ghost use Rattle.circ_memo.specs.Keeping.{AreKept, IsForm, IsInBounds, IsNumberKept, IsWayKept, Stays};
 ghost use Rattle.circ_memo.specs.Settling.{IsWay, IsPassed, ArePassed, IsStepIn, IsToKeep, passed_count};
+ghost use Rattle.circ_memo.specs.Settling.{IsLinked, AreLinked};
 
 use crate::parts::{Bounds, Entry, Step, Way};
 use crate::store::Store;
@@ -19,7 +20,10 @@ pub(crate) fn keep_settled(store: &mut Store, here: u32, way: Way) -> Result<Ent
     ensures kept { (due : Tree → Option Replacement) (b : Bounds) (t u : Tree)
         → AreKept due store.old.nodes store.old.entries.items
         → IsNamed store.old.nodes here t → IsWay due store.old.nodes b t way u → due u ≡ None
-        → AreKept due store.new.nodes store.new.entries.items }
+        → IsWayKept store.old.nodes store.old.entries.items here t way.ready way.count
+        → AreKept due store.new.nodes store.new.entries.items
+        × Stays store.old.entries.items store.new.entries.items }
+    ensures there { IfOk result (λ e. IsNumberKept store.new.entries.items here e.count) }
     ensures form { (due : Tree → Option Replacement) (b : Bounds) (t u : Tree)
         → IsWay due store.old.nodes b t way u → due u ≡ None
         → IfOk result (IsToKeep due store.new.nodes b t) }
@@ -55,11 +59,21 @@ pub(crate) fn keep_steps(
     requires there { AllByRecursion (IsStepIn store.old.nodes) steps.items }
     requires count { passed_count steps.items + last.count < 2 ^ 64 }
     ensures nodes { store.new.nodes ≡ store.old.nodes }
-    ensures kept { (due : Tree → Option Replacement) (b : Bounds) (t u : Tree)
+    ensures kept { (due : Tree → Option Replacement) (b : Bounds) (t u : Tree) (n m : ℕ)
         → AreKept due store.old.nodes store.old.entries.items
         → ArePassed due store.old.nodes b t steps.items u
         → IsForm due store.old.nodes u last → IsInBounds b last
-        → AreKept due store.new.nodes store.new.entries.items }
+        → AreLinked store.old.nodes store.old.entries.items n steps.items m
+        → IsNumberKept store.old.entries.items m last.count
+        → AreKept due store.new.nodes store.new.entries.items
+        × Stays store.old.entries.items store.new.entries.items }
+    ensures there { (due : Tree → Option Replacement) (b : Bounds) (t u : Tree) (n m : ℕ)
+        → AreKept due store.old.nodes store.old.entries.items
+        → ArePassed due store.old.nodes b t steps.items u
+        → IsForm due store.old.nodes u last → IsInBounds b last
+        → AreLinked store.old.nodes store.old.entries.items n steps.items m
+        → IsNumberKept store.old.entries.items m last.count
+        → IfOk result (λ e. IsNumberKept store.new.entries.items n e.count) }
     ensures form { (due : Tree → Option Replacement) (b : Bounds) (t u : Tree)
         → ArePassed due store.old.nodes b t steps.items u
         → IsForm due store.old.nodes u last → IsInBounds b last
@@ -82,8 +96,12 @@ fn keep_step(store: &mut Store, step: Step, last: Entry) -> Result<Entry, AllocE
     ensures kept { (due : Tree → Option Replacement) (b : Bounds) (t u : Tree)
         → AreKept due store.old.nodes store.old.entries.items
         → IsPassed due store.old.nodes b t step u
-        → IsForm due store.old.nodes u last → IsInBounds b last
-        → AreKept due store.new.nodes store.new.entries.items }
+        → IsForm due store.old.nodes u last
+        → IsLinked store.old.nodes store.old.entries.items step.here step
+        → IsNumberKept store.old.entries.items step.next last.count
+        → AreKept due store.new.nodes store.new.entries.items
+        × Stays store.old.entries.items store.new.entries.items }
+    ensures there { IfOk result (λ e. IsNumberKept store.new.entries.items step.here e.count) }
     ensures form { (due : Tree → Option Replacement) (b : Bounds) (t u : Tree)
         → IsPassed due store.old.nodes b t step u
         → IsForm due store.old.nodes u last → IsInBounds b last

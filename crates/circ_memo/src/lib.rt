@@ -7,6 +7,7 @@
 
 mod advancing;
 mod keeping;
+mod listing;
 mod memo;
 mod parts;
 mod passing;

@@ -4,17 +4,20 @@ ghost use Rattle.std.specs.List.{AllByRecursion};
 ghost use Rattle.circ_term.specs.Tree.{Tree};
 ghost use Rattle.circ_rewrite.specs.Due.{IsRewriteRule};
 ghost use Rattle.circ_rewrite.specs.Norm.{norm, run};
+ghost use Rattle.circ_rewrite.specs.Plain.{Answers, plain_traces};
 ghost use Rattle.circ_nodes.specs.Named.{IsNamed};
 ghost use Rattle.circ_due.specs.Chosen.{due_by};
-ghost use Rattle.circ_memo.specs.Value.{AnswersValue, AnswersForm};
-ghost use Rattle.circ_memo.specs.Working.{IsStore, Extends};
+ghost use Rattle.circ_memo.specs.Keeping.{IsForm, IsNumberKept};
+ghost use Rattle.circ_memo.specs.Value.{AnswersValue, AnswersKept};
+ghost use Rattle.circ_memo.specs.Working.{IsStore};
 
+use crate::listing::list;
 use crate::parts::{Bounds, Entry, Stop};
 use crate::settling::settle;
 use crate::store::Store;
 use circ_due::Means;
-use circ_rewrite::{RewriteFault, Rule};
-use circ_term::{MOST_DEPTH, MOST_NODES, Term};
+use circ_rewrite::{Normal, RewriteFault, Rule};
+use circ_term::{MOST_DEPTH, MOST_NODES, Path, Term};
 use circ_theory::{Goal, Theory};
 use std::alloc::{AllocError, Global};
 use std::marker::Model;
@@ -28,7 +31,8 @@ pub struct Memo<'a> {
 }
 
 impl<'a> Model for Memo<'a> {
-    ghost use Rattle.circ_memo.specs.Value.{Rewriting, rewriting_code};
+    ghost use Rattle.circ_memo.specs.Keeping.{IsForm, IsNumberKept};
+ghost use Rattle.circ_memo.specs.Value.{Rewriting, rewriting_code};
 
     ghost Value = { Rewriting };
 
@@ -81,33 +85,63 @@ impl<'a> Memo<'a> {
         ensures less { budget.new ≤ budget.old }
         ensures same { self.new ≡ self.old }
     {
-        let number = self.store.nodes.intern(term)?;
-        let mut left = *budget;
-        let kept = settle_whole(&self.means, &mut self.store, number, &mut left);
-        *budget = left;
-        match kept {
-            Ok(entry) => Ok(self.store.nodes.term(entry.value).share()?),
+        match settle_term(&self.means, &mut self.store, term, budget) {
+            Ok((_, entry)) => Ok(self.store.nodes.term(entry.value).share()?),
+            Err(fault) => Err(fault),
+        }
+    }
+
+    /// The normal form of a term with its traces, as `circ_rewrite::normalise` gives it. The budget
+    /// falls by one for each replacement, whether it is made or known. After a fault it holds what
+    /// was left.
+    pub fn normal(&mut self, term: &Term, budget: &mut u64) -> Result<Normal, RewriteFault>
+        ensures exact { Answers result budget.new (norm self.old.theory.signature
+            self.old.rules self.old.assumptions budget.old term.now) }
+        ensures less { budget.new ≤ budget.old }
+        ensures same { self.new ≡ self.old }
+    {
+        match settle_term(&self.means, &mut self.store, term, budget) {
+            Ok((number, entry)) => Ok(listed(&self.means, &self.store, number, entry)?),
             Err(fault) => Err(fault),
         }
     }
 }
 
-// What is kept of a whole term.
-fn settle_whole(
+// The number of a whole term, and what is kept of it.
+fn settle_term(
+    means: &Means<'_>,
+    store: &mut Store,
+    term: &Term,
+    budget: &mut u64,
+) -> Result<(u32, Entry), RewriteFault>
+    requires { IsStore means.now store.old }
+    ensures store { IsStore means.now store.new }
+    ensures less { budget.new ≤ budget.old }
+    ensures exact { AnswersKept (due_by means.now) store.new.nodes store.new.entries.items term.now
+        result budget.new (run (due_by means.now) budget.old term.now []) }
+{
+    let number = store.nodes.intern(term)?;
+    let mut left = *budget;
+    let kept = settle_number(means, store, number, &mut left);
+    *budget = left;
+    kept
+}
+
+// The same for a term that has a number.
+fn settle_number(
     means: &Means<'_>,
     store: &mut Store,
     number: u32,
     budget: &mut u64,
-) -> Result<Entry, RewriteFault>
+) -> Result<(u32, Entry), RewriteFault>
     requires store { IsStore means.now store.old }
     requires there { number < length store.old.nodes }
     requires fits { budget.old < 2 ^ 64 }
     ensures store { IsStore means.now store.new }
-    ensures extends { Extends store.old store.new }
     ensures less { budget.new ≤ budget.old }
     ensures exact { (t : Tree) → IsNamed store.old.nodes number t
-        → AnswersForm (due_by means.now) store.new.nodes t result budget.new
-            (run (due_by means.now) budget.old t []) }
+        → AnswersKept (due_by means.now) store.new.nodes store.new.entries.items t
+            result budget.new (run (due_by means.now) budget.old t []) }
 {
     store.nodes.term(number).known();
     let bounds = Bounds {
@@ -115,8 +149,31 @@ fn settle_whole(
         deep: MOST_DEPTH,
     };
     match settle(means, store, number, bounds, budget) {
-        Ok(entry) => Ok(entry),
+        Ok(entry) => Ok((number, entry)),
         Err(Stop::Fault(fault)) => Err(fault),
         Err(Stop::Outgrows(_)) => unreachable!(),
     }
+}
+
+// What is kept of a whole term, with its traces.
+fn listed(
+    means: &Means<'_>,
+    store: &Store,
+    number: u32,
+    entry: Entry,
+) -> Result<Normal, AllocError>
+    requires store { IsStore means.now store.now }
+    requires kept { IsNumberKept store.now.entries.items number entry.count }
+    requires value { entry.value < length store.now.nodes }
+    ensures { (t : Tree) → IsNamed store.now.nodes number t
+        → (f : IsForm (due_by means.now) store.now.nodes t entry)
+        → IfOk result (λ n. (n.term ≡ f.value) × (plain_traces n.traces.items ≡ f.traces)) }
+{
+    let mut path = Path::new(store.alloc);
+    let mut traces = Vec::new(store.alloc);
+    list(means, store, number, &mut path, &mut traces)?;
+    Ok(Normal {
+        term: store.nodes.term(entry.value).share()?,
+        traces,
+    })
 }

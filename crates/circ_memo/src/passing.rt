@@ -1,12 +1,13 @@
 //! An application whose arguments are normalised from the left.
-ghost use Rattle.std.specs.Prelude.{◌≡◌, ◌≤◌, ◌<◌, ◌^◌, ◌+◌, ℕ, length, Option, IfOk};
+ghost use Rattle.std.specs.Prelude.{◌≡◌, ◌≤◌, ◌<◌, ◌^◌, ◌+◌, ℕ, List, length, Option, IfOk, IfSome};
 ghost use Rattle.std.specs.List.{AllByRecursion, slice_get};
 ghost use Rattle.std.specs.Prelude.{Some, slice_set};
 ghost use Rattle.circ_term.specs.Tree.{Tree, size_of};
 ghost use Rattle.circ_rewrite.specs.Replacement.{Replacement};
 ghost use Rattle.circ_nodes.specs.Named.{IsNamed, Grows};
-ghost use Rattle.circ_memo.specs.Keeping.{IsForm, IsInBounds};
-ghost use Rattle.circ_memo.specs.Settling.{IsWithin, IsPassing, Begins, FindsWay, Settles, Stops, room};
+ghost use Rattle.circ_memo.specs.declared.parts.Entry.{Entry as TheEntry};
+ghost use Rattle.circ_memo.specs.Keeping.{IsForm, IsInBounds, HasKeptArgs, IsWayKept};
+ghost use Rattle.circ_memo.specs.Settling.{IsWithin, IsPassing, HasPassed, Begins, FindsWay, Stops, room};
 ghost use Rattle.circ_memo.specs.declared.parts.Stop.TheVariants.{Outgrows};
 
 use crate::advancing::rewrite_fault;
@@ -23,9 +24,11 @@ impl Passing {
         number: u32,
     ) -> Result<Option<Passing>, AllocError>
         requires { number < length nodes.now }
-        ensures { (due : Tree → Option Replacement) (b : Bounds) (t : Tree)
+        ensures begins { (due : Tree → Option Replacement) (b : Bounds) (t : Tree)
             → IsNamed nodes.now number t → IsWithin b t
             → IfOk result (Begins due nodes.now b t) }
+        ensures kept { (es : List (Option TheEntry)) (t : Tree) → IsNamed nodes.now number t
+            → IfOk result (λ o. IfSome o (HasPassed nodes.now es t 0)) }
     {
         let Shape::Application { op, sort, args } = nodes.shape(number) else {
             return Ok(None);
@@ -81,6 +84,8 @@ impl Passing {
             → IsPassing due nodes.now b t (place + 1) self.new }
         ensures count { self.new.count ≡ self.old.count + entry.count }
         ensures len { length self.new.args.items ≡ length self.old.args.items }
+        ensures rest { (j : ℕ) → place < j
+            → slice_get self.new.args.items j ≡ slice_get self.old.args.items j }
     {
         if entry.count == 0 {
             return;
@@ -103,6 +108,9 @@ impl Passing {
             → IsPassing due nodes.old b t (length self.args.items) self
             → left + self.count ≡ k
             → FindsWay due nodes.new b k left t result }
+        ensures kept { (es : List (Option TheEntry)) (t : Tree)
+            → HasKeptArgs nodes.old es t self.count
+            → IfOk result (λ w. IsWayKept nodes.new es number t w.ready w.count) }
     {
         let Passing {
             op,

@@ -6,6 +6,8 @@ ghost use Rattle.circ_rewrite.specs.Replacement.{Replacement};
 ghost use Rattle.circ_nodes.specs.Named.{IsNamed, Grows};
 ghost use Rattle.circ_due.specs.Chosen.{due_by};
 ghost use Rattle.circ_memo.specs.Settling.{IsInside, IsPassing, Settles, Turns, FindsWay, Passes};
+ghost use Rattle.circ_memo.specs.Settling.{HasPassed, IsTurnKept};
+ghost use Rattle.circ_memo.specs.Keeping.{IsNumberKept, IsWayKept};
 ghost use Rattle.circ_memo.specs.Working.{IsStore, Extends};
 
 use crate::advancing::advance;
@@ -31,6 +33,7 @@ pub(crate) fn settle(
     ensures less { budget.new ≤ budget.old }
     ensures settles { (t : Tree) → IsNamed store.old.nodes number t
         → Settles (due_by means.now) store.new.nodes bounds budget.old budget.new t result }
+    ensures there { IfOk result (λ e. IsNumberKept store.new.entries.items number e.count) }
 {
     let mut steps = Vec::new(store.alloc);
     let mut here = number;
@@ -63,6 +66,7 @@ fn turn(
     ensures less { budget.new ≤ budget.old }
     ensures turns { (t : Tree) → IsNamed store.old.nodes here t
         → Turns (due_by means.now) store.new.nodes bounds budget.old budget.new t result }
+    ensures kept { IfOk result (IsTurnKept store.new.nodes store.new.entries.items here) }
 {
     if let Some(entry) = store.fitting(here, bounds, *budget) {
         *budget -= entry.count;
@@ -96,6 +100,8 @@ fn settle_args(
     ensures less { budget.new ≤ budget.old }
     ensures finds { (t : Tree) → IsNamed store.old.nodes here t
         → FindsWay (due_by means.now) store.new.nodes bounds budget.old budget.new t result }
+    ensures kept { (t : Tree) → IsNamed store.old.nodes here t → IfOk result
+        (λ w. IsWayKept store.new.nodes store.new.entries.items here t w.ready w.count) }
 {
     let Some(mut passing) = Passing::begin(store.alloc, &store.nodes, here)? else {
         return Ok(Way {
@@ -137,6 +143,10 @@ fn settle_arg(
         → IsPassing (due_by means.now) store.old.nodes bounds t place passing.old
         → Passes (due_by means.now) store.new.nodes bounds (budget.old + passing.old.count)
             budget.new t (place + 1) passing.new result }
+    ensures kept { (t : Tree)
+        → HasPassed store.old.nodes store.old.entries.items t place passing.old
+        → OnOk result
+            (HasPassed store.new.nodes store.new.entries.items t (place + 1) passing.new) }
     ensures len { length passing.new.args.items ≡ length passing.old.args.items }
 {
     let arg = passing.arg(place);

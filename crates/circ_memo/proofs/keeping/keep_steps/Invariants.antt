@@ -1,9 +1,9 @@
-use Rattle.std.proofs.Common.{◌≡◌, ◌<◌, ◌≤◌, ◌+◌, ◌^◌, length, Option}
+use Rattle.std.proofs.Common.{◌≡◌, ℕ, ◌<◌, ◌≤◌, ◌+◌, ◌^◌, length, Option}
 use Rattle.std.specs.List.{AllByRecursion}
 use Rattle.circ_term.specs.Tree.{Tree}
 use Rattle.circ_rewrite.specs.Replacement.{Replacement}
-use Rattle.circ_memo.specs.Keeping.{AreKept, IsForm, IsInBounds}
-use Rattle.circ_memo.specs.Settling.{ArePassed, IsStepIn, passed_count}
+use Rattle.circ_memo.specs.Keeping.{AreKept, IsForm, IsInBounds, IsNumberKept, Stays}
+use Rattle.circ_memo.specs.Settling.{ArePassed, AreLinked, IsStepIn, passed_count}
 use Rattle.circ_memo.specs.declared.parts.Bounds.{Bounds}
 use Rattle.circ_memo.proofs.keeping.keep_steps.Given as goal
 
@@ -13,9 +13,11 @@ invariant-loop-step l = record {
   there : AllByRecursion (IsStepIn l.store.nodes) l.steps.items;
   count : passed_count l.steps.items + l.last.count ≡ passed_count l.initial.steps.items + l.initial.last.count;
   kept :
-      (due : Tree → Option Replacement) (b : Bounds) (t u : Tree) → AreKept due l.initial.store.nodes l.initial.store.entries.items
+      (due : Tree → Option Replacement) (b : Bounds) (t u : Tree) (n m : ℕ) → AreKept due l.initial.store.nodes l.initial.store.entries.items
       → ArePassed due l.initial.store.nodes b t l.initial.steps.items u → IsForm due l.initial.store.nodes u l.initial.last → IsInBounds b l.initial.last
-      → AreKept due l.store.nodes l.store.entries.items;
+      → AreLinked l.initial.store.nodes l.initial.store.entries.items n l.initial.steps.items m → IsNumberKept l.initial.store.entries.items m l.initial.last.count
+      → (k : ℕ) × AreKept due l.store.nodes l.store.entries.items × Stays l.initial.store.entries.items l.store.entries.items
+      × AreLinked l.store.nodes l.store.entries.items n l.steps.items k × IsNumberKept l.store.entries.items k l.last.count;
   form :
       (due : Tree → Option Replacement) (b : Bounds) (t u : Tree)
       → ArePassed due l.initial.store.nodes b t l.initial.steps.items u → IsForm due l.initial.store.nodes u l.initial.last → IsInBounds b l.initial.last

@@ -1,12 +1,15 @@
-use Rattle.std.proofs.Common.{◌≡◌, ◌+◌, length, refl, ap, sym, subst, ◌∙◌, arith}
-use Rattle.circ_nodes.proofs.Numbers.{named_below, named_one, named_later, all_below, are_named_later}
+use Rattle.std.proofs.Common.{◌≡◌, ℕ, ◌+◌, length, refl, ap, sym, subst, ◌∙◌, arith}
+use Rattle.circ_nodes.proofs.Numbers.{named_below, named_one, named_later, all_below, are_named_later, grows_self}
 use Rattle.circ_due.specs.Chosen.{due_by}
-use Rattle.circ_memo.specs.Settling.{IsPassing, IsToKeep, Stops, passed_count}
+use Rattle.circ_memo.specs.Settling.{IsPassing, HasPassed, IsToKeep, Stops, passed_count}
+use Rattle.circ_memo.specs.Working.{IsStore, Extends}
 use Rattle.circ_memo.specs.declared.store.Store.{Store}
 use Rattle.circ_memo.proofs.Arguments.{arg_at, arg_is, arg_inside, arg_measure, arg_small, passing_still, passing_stops, variable_way, within_of}
 use Rattle.circ_memo.proofs.Forms.{kept_later, passing_later, way_later, are_passed_later}
+use Rattle.circ_memo.proofs.Telling.{way_kept_later, linked_on, number_more, has_passed_later, passed_stays, passed_next, passed_all}
 use Rattle.circ_memo.proofs.Stepping.{are_passed_in, passed_on, passed_chain, count_on, stops_on, way_stops}
-use Rattle.circ_memo.proofs.Stores.{store_later, store_kept, extends_self, extends_on, depth_named_is}
+use Rattle.circ_memo.proofs.Stores.{store_later, store_kept, extends_self, extends_on, extends_by, are_linked_extends, depth_named_is}
+use Rattle.circ_memo.proofs.settling.+settle.Goals.{turn-After-keep_settled, settle-After-keep_steps}
 use Rattle.circ_memo.proofs.settling.+settle.Goals as goal
 
 pub settle_arg-returns-then-is_still-clause-passes : goal.settle_arg-returns-then-is_still-clause-passes
@@ -132,17 +135,17 @@ pub settle_args-returns-in_default-clause-finds : goal.settle_args-returns-in_de
 settle_args-returns-in_default-clause-finds t c = λ u n.
     let due = due_by c.args.means.now in
     let nodes = c.args.store.now.nodes in
-    let begins = c.in_ok-passing.ensures due c.args.bounds u n (within_of nodes c.args.bounds c.args.here u c.requires.inside n) in
+    let begins = c.in_ok-passing.ensures.begins due c.args.bounds u n (within_of nodes c.args.bounds c.args.here u c.requires.inside n) in
     (u, variable_way due nodes c.args.bounds u c.args.here n (rw c.in_default.is at begins), omega arith)
 
 pub settle_args-loop-place-init : goal.settle_args-loop-place-init
 settle_args-loop-place-init t c =
     let i = c.requires.inside in
-    let begins = rw c.in-Some.is at (c.in_ok-passing.ensures (due_by c.args.means.now) c.args.bounds i.0 i.1 i.2) in
+    let begins = rw c.in-Some.is at (c.in_ok-passing.ensures.begins (due_by c.args.means.now) c.args.bounds i.0 i.1 i.2) in
     record {
       store = c.requires.store;
       extends = extends_self c.args.store.now;
-      passing = (i.0, i.1, begins.0);
+      passing = (i.0, i.1, begins.0, rw c.in-Some.is at (c.in_ok-passing.ensures.kept c.args.store.now.entries.items i.0 i.1));
       len = sym c.len-len.ensures.value;
       count = omega (arith, begins.1);
     }
@@ -171,7 +174,7 @@ settle_args-loop-place-preserved t c =
     record {
       store = c.settle_arg.ensures.store;
       extends = extends_on c.args.store.now c.loop-place.store c.settle_arg.new.store i.extends c.settle_arg.ensures.extends;
-      passing = (i.passing.0, i.passing.1, passes.0);
+      passing = (i.passing.0, i.passing.1, passes.0, c.in-Ok.ensures.kept i.passing.0 i.passing.3);
       len = c.settle_arg.ensures.len ∙ i.len;
       count = omega (arith, passes.1, i.count);
     }
@@ -195,35 +198,38 @@ settle_args-returns-clause-finds t c = λ u n.
     (subst (λ x. IsPassing due c.loop-place.store.nodes c.args.bounds x c.loop-place.place c.loop-place.passing) same i.passing.2))
     i.count
 
-pub turn-returns-in_err-keep_settled-in-Ok-None-clause-store : goal.turn-returns-in_err-keep_settled-in-Ok-None-clause-store
-turn-returns-in_err-keep_settled-in-Ok-None-clause-store t c =
+-- what is kept once nothing more is due
+settled : (t : ℕ) (c : turn-After-keep_settled t) → IsStore c.args.means.now c.keep_settled.new.store × Extends c.args.store.now c.keep_settled.new.store
+settled t c =
     let due = due_by c.args.means.now in
     let i = c.requires.inside in
+    let old = c.args.store.now in
     let a = c.settle_args.new.store in
     let g = c.advance.ensures.grows in
     let way = c.in-Ok.ensures.finds i.0 i.1 in
     let none = rw c.in-Ok-None.field-0-is at (c.in-Ok-None.ensures.advances way.0 way.1.there way.1.readies.settled) in
     let before : Store = record { alloc = a.alloc; nodes = c.advance.new.nodes; entries = a.entries } in
-    store_kept c.args.means.now before c.keep_settled.new.store c.keep_settled.ensures.nodes
-    (c.keep_settled.ensures.kept due c.args.bounds i.0 way.0 (kept_later due a.nodes c.advance.new.nodes g a.entries.items c.settle_args.ensures.store.kept)
-    (named_later a.nodes c.advance.new.nodes c.args.here i.0 g (named_later c.args.store.now.nodes a.nodes c.args.here i.0 c.settle_args.ensures.extends.grows i.1))
-    (way_later due a.nodes c.advance.new.nodes g c.args.bounds i.0 c.in-Ok.way way.0 way.1) none.0)
-    (store_later c.args.means.now a before g refl c.settle_args.ensures.store)
+    let kept =
+    c.keep_settled.ensures.kept due c.args.bounds i.0 way.0 (kept_later due a.nodes c.advance.new.nodes g a.entries.items c.settle_args.ensures.store.kept)
+    (named_later a.nodes c.advance.new.nodes c.args.here i.0 g (named_later old.nodes a.nodes c.args.here i.0 c.settle_args.ensures.extends.grows i.1))
+    (way_later due a.nodes c.advance.new.nodes g c.args.bounds i.0 c.in-Ok.way way.0 way.1) none.0
+    (way_kept_later a.entries.items a.nodes c.advance.new.nodes g c.args.here i.0 c.in-Ok.way.ready c.in-Ok.way.count (c.in-Ok.ensures.kept i.0 i.1)) in
+    (
+      store_kept c.args.means.now before c.keep_settled.new.store c.keep_settled.ensures.nodes kept.0 (store_later c.args.means.now a before g refl c.settle_args.ensures.store),
+      extends_on old a c.keep_settled.new.store c.settle_args.ensures.extends (extends_by a c.keep_settled.new.store (rw c.keep_settled.ensures.nodes g) kept.1),
+    )
+
+pub turn-returns-in_err-keep_settled-in-Ok-None-clause-store : goal.turn-returns-in_err-keep_settled-in-Ok-None-clause-store
+turn-returns-in_err-keep_settled-in-Ok-None-clause-store t c = (settled t (goal.at.turn-returns-in_err-keep_settled-in-Ok-None-clause-store t c).After-keep_settled).0
+
+pub turn-returns-in_err-keep_settled-in-Ok-None-clause-extends : goal.turn-returns-in_err-keep_settled-in-Ok-None-clause-extends
+turn-returns-in_err-keep_settled-in-Ok-None-clause-extends t c = (settled t (goal.at.turn-returns-in_err-keep_settled-in-Ok-None-clause-extends t c).After-keep_settled).1
 
 pub turn-returns-in_ok-keep_settled-in-Ok-None-clause-store : goal.turn-returns-in_ok-keep_settled-in-Ok-None-clause-store
-turn-returns-in_ok-keep_settled-in-Ok-None-clause-store t c =
-    let due = due_by c.args.means.now in
-    let i = c.requires.inside in
-    let a = c.settle_args.new.store in
-    let g = c.advance.ensures.grows in
-    let way = c.in-Ok.ensures.finds i.0 i.1 in
-    let none = rw c.in-Ok-None.field-0-is at (c.in-Ok-None.ensures.advances way.0 way.1.there way.1.readies.settled) in
-    let before : Store = record { alloc = a.alloc; nodes = c.advance.new.nodes; entries = a.entries } in
-    store_kept c.args.means.now before c.keep_settled.new.store c.keep_settled.ensures.nodes
-    (c.keep_settled.ensures.kept due c.args.bounds i.0 way.0 (kept_later due a.nodes c.advance.new.nodes g a.entries.items c.settle_args.ensures.store.kept)
-    (named_later a.nodes c.advance.new.nodes c.args.here i.0 g (named_later c.args.store.now.nodes a.nodes c.args.here i.0 c.settle_args.ensures.extends.grows i.1))
-    (way_later due a.nodes c.advance.new.nodes g c.args.bounds i.0 c.in-Ok.way way.0 way.1) none.0)
-    (store_later c.args.means.now a before g refl c.settle_args.ensures.store)
+turn-returns-in_ok-keep_settled-in-Ok-None-clause-store t c = (settled t (goal.at.turn-returns-in_ok-keep_settled-in-Ok-None-clause-store t c).After-keep_settled).0
+
+pub turn-returns-in_ok-keep_settled-in-Ok-None-clause-extends : goal.turn-returns-in_ok-keep_settled-in-Ok-None-clause-extends
+turn-returns-in_ok-keep_settled-in-Ok-None-clause-extends t c = (settled t (goal.at.turn-returns-in_ok-keep_settled-in-Ok-None-clause-extends t c).After-keep_settled).1
 
 pub turn-returns-in-Err-advance-clause-store : goal.turn-returns-in-Err-advance-clause-store
 turn-returns-in-Err-advance-clause-store t c = store_later c.args.means.now c.settle_args.new.store _ c.advance.ensures.grows refl c.settle_args.ensures.store
@@ -295,25 +301,48 @@ settle-keep_steps-requires-clause-count t c =
     let settled = rw c.in-Ok-Settled.field-0-is at (c.in-Ok-Settled.ensures.turns w.1 w.3) in
     omega (arith, settled.1, c.loop-stop.invariant.count, c.requires.fits)
 
-pub settle-returns-in_err-keep_steps-in-Ok-Settled-clause-store : goal.settle-returns-in_err-keep_steps-in-Ok-Settled-clause-store
-settle-returns-in_err-keep_steps-in-Ok-Settled-clause-store t c =
+-- what is kept once the entries of all steps are
+stepped : (t : ℕ) (c : settle-After-keep_steps t) → IsStore c.args.means.now c.keep_steps.new.store × Extends c.args.store.now c.keep_steps.new.store
+stepped t c =
     let due = due_by c.args.means.now in
-    let w = c.loop-stop.invariant.way in
-    let settled = rw c.in-Ok-Settled.field-0-is at (c.in-Ok-Settled.ensures.turns w.1 w.3) in
-    store_kept c.args.means.now c.turn.new.store c.keep_steps.new.store c.keep_steps.ensures.nodes
-    (c.keep_steps.ensures.kept due c.args.bounds w.0 w.1 c.turn.ensures.store.kept
-    (are_passed_later due c.loop-stop.store.nodes c.turn.new.store.nodes c.turn.ensures.extends.grows c.args.bounds w.0 c.loop-stop.steps.items w.1 w.4) settled.0.0 settled.0.1)
-    c.turn.ensures.store
+    let i = c.loop-stop.invariant in
+    let w = i.way in
+    let mid = c.turn.new.store in
+    let e = c.turn.ensures.extends in
+    let last = rw c.in-Ok-Settled.field-0-is at (c.in-Ok-Settled.ensures.turns w.1 w.3) in
+    let kept =
+    c.keep_steps.ensures.kept due c.args.bounds w.0 w.1 c.args.number c.loop-stop.here c.turn.ensures.store.kept
+    (are_passed_later due c.loop-stop.store.nodes mid.nodes e.grows c.args.bounds w.0 c.loop-stop.steps.items w.1 w.4) last.0.0 last.0.1
+    (are_linked_extends c.loop-stop.store mid e c.args.number c.loop-stop.steps.items c.loop-stop.here i.linked) (rw c.in-Ok-Settled.field-0-is at c.in-Ok-Settled.ensures.kept) in
+    (
+      store_kept c.args.means.now mid c.keep_steps.new.store c.keep_steps.ensures.nodes kept.0 c.turn.ensures.store,
+      extends_on c.args.store.now c.loop-stop.store c.keep_steps.new.store i.extends
+          (extends_on c.loop-stop.store mid c.keep_steps.new.store e (extends_by mid c.keep_steps.new.store (rw c.keep_steps.ensures.nodes (grows_self mid.nodes)) kept.1)),
+    )
+
+pub settle-returns-in_err-keep_steps-in-Ok-Settled-clause-store : goal.settle-returns-in_err-keep_steps-in-Ok-Settled-clause-store
+settle-returns-in_err-keep_steps-in-Ok-Settled-clause-store t c = (stepped t (goal.at.settle-returns-in_err-keep_steps-in-Ok-Settled-clause-store t c).After-keep_steps).0
+
+pub settle-returns-in_err-keep_steps-in-Ok-Settled-clause-extends : goal.settle-returns-in_err-keep_steps-in-Ok-Settled-clause-extends
+settle-returns-in_err-keep_steps-in-Ok-Settled-clause-extends t c = (stepped t (goal.at.settle-returns-in_err-keep_steps-in-Ok-Settled-clause-extends t c).After-keep_steps).1
 
 pub settle-returns-in-Ok-Settled-clause-store : goal.settle-returns-in-Ok-Settled-clause-store
-settle-returns-in-Ok-Settled-clause-store t c =
+settle-returns-in-Ok-Settled-clause-store t c = (stepped t (goal.at.settle-returns-in-Ok-Settled-clause-store t c).After-keep_steps).0
+
+pub settle-returns-in-Ok-Settled-clause-extends : goal.settle-returns-in-Ok-Settled-clause-extends
+settle-returns-in-Ok-Settled-clause-extends t c = (stepped t (goal.at.settle-returns-in-Ok-Settled-clause-extends t c).After-keep_steps).1
+
+pub settle-returns-in-Ok-Settled-clause-there : goal.settle-returns-in-Ok-Settled-clause-there
+settle-returns-in-Ok-Settled-clause-there t c =
     let due = due_by c.args.means.now in
-    let w = c.loop-stop.invariant.way in
-    let settled = rw c.in-Ok-Settled.field-0-is at (c.in-Ok-Settled.ensures.turns w.1 w.3) in
-    store_kept c.args.means.now c.turn.new.store c.keep_steps.new.store c.keep_steps.ensures.nodes
-    (c.keep_steps.ensures.kept due c.args.bounds w.0 w.1 c.turn.ensures.store.kept
-    (are_passed_later due c.loop-stop.store.nodes c.turn.new.store.nodes c.turn.ensures.extends.grows c.args.bounds w.0 c.loop-stop.steps.items w.1 w.4) settled.0.0 settled.0.1)
-    c.turn.ensures.store
+    let i = c.loop-stop.invariant in
+    let w = i.way in
+    let mid = c.turn.new.store in
+    let e = c.turn.ensures.extends in
+    let last = rw c.in-Ok-Settled.field-0-is at (c.in-Ok-Settled.ensures.turns w.1 w.3) in
+    c.in_ok-keep_steps-in-Ok-Settled.ensures.there due c.args.bounds w.0 w.1 c.args.number c.loop-stop.here c.turn.ensures.store.kept
+    (are_passed_later due c.loop-stop.store.nodes mid.nodes e.grows c.args.bounds w.0 c.loop-stop.steps.items w.1 w.4) last.0.0 last.0.1
+    (are_linked_extends c.loop-stop.store mid e c.args.number c.loop-stop.steps.items c.loop-stop.here i.linked) (rw c.in-Ok-Settled.field-0-is at c.in-Ok-Settled.ensures.kept)
 
 pub settle-returns-in-Ok-Settled-clause-settles : goal.settle-returns-in-Ok-Settled-clause-settles
 settle-returns-in-Ok-Settled-clause-settles t c = λ u n.
@@ -347,6 +376,48 @@ settle-loop-stop-preserved t c =
         rw items (passed_on due c.turn.new.store.nodes c.args.bounds w.0 c.loop-stop.steps.items w.1 c.in-Ok-Stepped.step stepped.0 before stepped.1),
         record { small = stepped.1.small; shallow = stepped.1.shallow; big = w.5.big; deep = w.5.deep },
       );
+      linked =
+          rw items
+              (linked_on c.turn.new.store.nodes c.turn.new.store.entries.items c.args.number c.loop-stop.steps.items c.loop-stop.here c.in-Ok-Stepped.step
+              (are_linked_extends c.loop-stop.store c.turn.new.store c.turn.ensures.extends c.args.number c.loop-stop.steps.items c.loop-stop.here i.linked) (rw c.in-Ok-Stepped.field-0-is at c.in-Ok-Stepped.ensures.kept));
       count = omega (arith, ap passed_count items, count_on c.loop-stop.steps.items c.in-Ok-Stepped.step, stepped.2, i.count);
       below = omega (arith, depth_named_is c.turn.new.store.nodes c.in-Ok-Stepped.step.next stepped.0 stepped.1.next, stepped.1.shallow, w.5.deep, stepped.2, i.count);
+    }
+
+pub settle_arg-returns-then-is_still-clause-kept : goal.settle_arg-returns-then-is_still-clause-kept
+settle_arg-returns-then-is_still-clause-kept t c = λ u h.
+    let still = c.is_still.ensures c.if-is_still.true in
+    passed_next c.args.store.now.nodes c.args.store.now.entries.items u c.args.place c.args.passing.now _ c.arg-arg.result h c.arg-arg.ensures (still.0, still.1, omega (arith, still.2))
+    (omega arith) refl (λ j l. refl)
+
+pub settle_arg-returns-in-Ok-clause-kept : goal.settle_arg-returns-in-Ok-clause-kept
+settle_arg-returns-in-Ok-clause-kept t c = λ u h.
+    let old = c.args.store.now in
+    let new = c.settle.new.store in
+    let e = c.settle.ensures.extends in
+    passed_next new.nodes new.entries.items u c.args.place c.args.passing.now c.pass.new.self c.arg-arg.result
+    (passed_stays old.entries.items new.entries.items e.stays new.nodes u c.args.place c.args.passing.now (has_passed_later old.entries.items old.nodes new.nodes e.grows u c.args.place c.args.passing.now h))
+    c.arg-arg.ensures
+    (number_more new.entries.items c.arg-arg.result c.in-Ok.entry.count c.pass.new.self.count (omega (arith, c.pass.ensures.count)) c.in-Ok.ensures.there)
+    (omega (arith, c.pass.ensures.count)) c.pass.ensures.len c.pass.ensures.rest
+
+pub settle_args-returns-clause-kept : goal.settle_args-returns-clause-kept
+settle_args-returns-clause-kept t c = λ u n.
+    let i = c.loop-place.invariant in
+    let same = named_one c.args.store.now.nodes c.args.here i.passing.0 u i.passing.1 n in
+    c.finish.ensures.kept c.loop-place.store.entries.items u
+    (passed_all c.loop-place.store.nodes c.loop-place.store.entries.items u c.loop-place.place c.loop-place.passing
+    (subst (λ x. HasPassed c.loop-place.store.nodes c.loop-place.store.entries.items x c.loop-place.place c.loop-place.passing) same i.passing.3)
+    (omega (arith, i.len, c.loop-place-test.false)))
+
+pub turn-returns-in-Ok-Some-clause-kept : goal.turn-returns-in-Ok-Some-clause-kept
+turn-returns-in-Ok-Some-clause-kept t c =
+    let i = c.requires.inside in
+    let a = c.settle_args.new.store in
+    let g = c.advance.ensures.grows in
+    record {
+      here = refl;
+      term = i.0;
+      named = named_later a.nodes c.advance.new.nodes c.args.here i.0 g (named_later c.args.store.now.nodes a.nodes c.args.here i.0 c.settle_args.ensures.extends.grows i.1);
+      way = way_kept_later a.entries.items a.nodes c.advance.new.nodes g c.args.here i.0 c.in-Ok.way.ready c.in-Ok.way.count (c.in-Ok.ensures.kept i.0 i.1);
     }

@@ -2,7 +2,7 @@ use Rattle.std.proofs.Common.{◌≡◌, ◌≤◌, ◌+◌, ◌*◌, length}
 use Rattle.circ_term.specs.Tree.{Tree}
 use Rattle.circ_nodes.specs.Named.{IsNamed}
 use Rattle.circ_due.specs.Chosen.{due_by}
-use Rattle.circ_memo.specs.Settling.{IsWithin, ArePassed, IsPassing, passed_count}
+use Rattle.circ_memo.specs.Settling.{IsWithin, ArePassed, AreLinked, IsPassing, HasPassed, passed_count}
 use Rattle.circ_memo.specs.Working.{IsStore, Extends}
 use Rattle.circ_memo.proofs.Stores.{depth_named}
 use Rattle.circ_memo.proofs.settling.+settle.Given as goal
@@ -27,6 +27,7 @@ invariant-settle-loop-stop l = record {
   way :
       (t u : Tree) × IsNamed l.initial.store.nodes l.number t × IsNamed l.store.nodes l.here u × ArePassed (due_by l.means) l.store.nodes l.bounds t l.steps.items u
       × IsWithin l.bounds u;
+  linked : AreLinked l.store.nodes l.store.entries.items l.number l.steps.items l.here;
   count : passed_count l.steps.items + l.budget ≡ l.initial.budget;
   below : l.budget * 4004 + 4 * depth_named l.store.nodes l.here ≤ l.initial.budget * 4004 + 4 * depth_named l.initial.store.nodes l.number;
 }
@@ -38,7 +39,9 @@ abbrev pub invariant-settle_args-loop-place : goal.invariant-settle_args-loop-pl
 invariant-settle_args-loop-place l = record {
   store : IsStore l.means l.store;
   extends : Extends l.initial.store l.store;
-  passing : (t : Tree) × IsNamed l.initial.store.nodes l.here t × IsPassing (due_by l.means) l.store.nodes l.bounds t l.place l.passing;
+  passing :
+      (t : Tree) × IsNamed l.initial.store.nodes l.here t × IsPassing (due_by l.means) l.store.nodes l.bounds t l.place l.passing
+      × HasPassed l.store.nodes l.store.entries.items t l.place l.passing;
   len : length l.passing.args.items ≡ l.len;
   count : l.budget + l.passing.count ≡ l.initial.budget;
 }

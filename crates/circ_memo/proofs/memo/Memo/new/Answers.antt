@@ -1,5 +1,5 @@
 use Rattle.circ_due.specs.Chosen.{due_by}
-use Rattle.circ_memo.proofs.Forms.{kept_nothing}
+use Rattle.circ_memo.proofs.Telling.{kept_nothing}
 use Rattle.circ_memo.proofs.memo.Memo.new.Goals as goal
 
 pub invariant_of-result : goal.invariant_of-result

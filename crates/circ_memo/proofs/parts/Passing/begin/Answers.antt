@@ -1,12 +1,13 @@
 use Rattle.std.proofs.Common.{refl, ap, sym, subst, ◌∙◌, arith, [], length}
+use Rattle.std.specs.List.{slice_get}
 use Rattle.circ_term.specs.Tree.{args_of, size_of, depth_of}
 use Rattle.circ_nodes.proofs.Numbers.{named_one, are_named_length}
 use Rattle.circ_chain.specs.Through.{Through}
 use Rattle.circ_chain.proofs.Settling.{through_start}
 use Rattle.circ_memo.proofs.parts.Passing.begin.Goals as goal
 
-pub returns : goal.returns
-returns c = λ due b t n w.
+pub returns-clause-begins : goal.returns-clause-begins
+returns-clause-begins c = λ due b t n w.
     let shape = c.in-Application.ensures.shape t n in
     let is = named_one c.args.nodes.now c.args.number c.term-term.result.now t c.term-term.ensures n in
     let items = c.in_ok-from_slice.ensures.ok in
@@ -26,3 +27,19 @@ returns c = λ due b t n w.
       },
       refl,
     )
+
+pub returns-clause-kept : goal.returns-clause-kept
+returns-clause-kept c = λ es t n.
+    let shape = c.in-Application.ensures.shape t n in
+    let items = c.in_ok-from_slice.ensures.ok in
+    record {
+      op = c.in-Application.op;
+      sort = c.in-Application.sort;
+      args = shape.0;
+      numbers = c.in-Application.args.now;
+      is = shape.1;
+      named = shape.2;
+      long = sym (ap length items);
+      kept = λ j m l g. absurd (omega (arith, l));
+      rest = λ j l. ap (λ ns. slice_get ns j) items;
+    }

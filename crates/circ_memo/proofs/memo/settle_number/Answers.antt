@@ -1,8 +1,9 @@
 use Rattle.std.proofs.Common.{arith}
 use Rattle.circ_term.proofs.Limits.{within_limits}
+use Rattle.circ_nodes.proofs.Numbers.{named_later}
 use Rattle.circ_due.specs.Chosen.{due_by}
 use Rattle.circ_memo.proofs.Wholes.{answers_form, answers_fault, no_outgrowth}
-use Rattle.circ_memo.proofs.memo.settle_whole.Goals as goal
+use Rattle.circ_memo.proofs.memo.settle_number.Goals as goal
 
 pub settle-requires-clause-inside : goal.settle-requires-clause-inside
 settle-requires-clause-inside c =
@@ -17,7 +18,12 @@ unreachable-requires c =
 pub returns-in-Ok-clause-exact : goal.returns-in-Ok-clause-exact
 returns-in-Ok-clause-exact c = λ t n.
     let kept = c.in-Ok.ensures.settles t n in
-    (kept.0.0, answers_form (due_by c.args.means.now) c.settle.new.store.nodes c.args.budget.now c.settle.new.budget t c.in-Ok.entry kept.0.0 kept.0.1 kept.1)
+    record {
+      named = named_later c.args.store.now.nodes c.settle.new.store.nodes c.args.number t c.settle.ensures.extends.grows n;
+      there = c.in-Ok.ensures.there;
+      form = kept.0.0;
+      is = answers_form (due_by c.args.means.now) c.settle.new.store.nodes c.args.budget.now c.settle.new.budget t c.in-Ok.entry kept.0.0 kept.0.1 kept.1;
+    }
 
 pub returns-in-Err-Fault-clause-exact : goal.returns-in-Err-Fault-clause-exact
 returns-in-Err-Fault-clause-exact c = λ t n.
