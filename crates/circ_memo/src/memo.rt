@@ -26,6 +26,11 @@ use std::marker::Model;
 /// and assumptions.
 #[derive(Drop)]
 pub struct Memo<'a> {
+    work: Box<Work<'a>>,
+}
+
+#[derive(Drop)]
+struct Work<'a> {
     means: Means<'a>,
     store: Store,
 }
@@ -40,9 +45,9 @@ ghost use Rattle.circ_memo.specs.Value.{Rewriting, rewriting_code};
 
     ghost use Rattle.circ_memo.specs.Working.{rewriting, IsStore};
 
-    ghost view = { λ a. rewriting a.means };
+    ghost view = { λ a. rewriting a.work.value.means };
 
-    ghost invariant = { λ a. IsStore a.means a.store };
+    ghost invariant = { λ a. IsStore a.work.value.means a.work.value.store };
 }
 
 impl<'a> Memo<'a> {
@@ -58,9 +63,9 @@ impl<'a> Memo<'a> {
             theory = theory.now; rules = rules.items; assumptions = [] }) }
     {
         let means = Means::new(alloc, theory, rules)?;
+        let store = Store::new(alloc);
         Ok(Memo {
-            means,
-            store: Store::new(alloc),
+            work: Box::new(alloc, Work { means, store })?,
         })
     }
 
@@ -73,8 +78,9 @@ impl<'a> Memo<'a> {
         ensures assumptions { OnOk result (self.new.assumptions ≡ assumptions.now) }
         ensures forgotten { OnErr result (self.new.assumptions ≡ []) }
     {
-        self.store.entries.truncate(0);
-        self.means.assume(&mut self.store.nodes, assumptions)
+        let work = &mut *self.work;
+        work.store.entries.truncate(0);
+        work.means.assume(&mut work.store.nodes, assumptions)
     }
 
     /// The normal form of a term, without its traces. The budget falls by one for each replacement,
@@ -85,8 +91,9 @@ impl<'a> Memo<'a> {
         ensures less { budget.new ≤ budget.old }
         ensures same { self.new ≡ self.old }
     {
-        match settle_term(&self.means, &mut self.store, term, budget) {
-            Ok((_, entry)) => Ok(self.store.nodes.term(entry.value).share()?),
+        let work = &mut *self.work;
+        match settle_term(&work.means, &mut work.store, term, budget) {
+            Ok((_, entry)) => Ok(work.store.nodes.term(entry.value).share()?),
             Err(fault) => Err(fault),
         }
     }
@@ -100,8 +107,9 @@ impl<'a> Memo<'a> {
         ensures less { budget.new ≤ budget.old }
         ensures same { self.new ≡ self.old }
     {
-        match settle_term(&self.means, &mut self.store, term, budget) {
-            Ok((number, entry)) => Ok(listed(&self.means, &self.store, number, entry)?),
+        let work = &mut *self.work;
+        match settle_term(&work.means, &mut work.store, term, budget) {
+            Ok((number, entry)) => Ok(listed(&work.means, &work.store, number, entry)?),
             Err(fault) => Err(fault),
         }
     }

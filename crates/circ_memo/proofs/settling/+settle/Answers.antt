@@ -19,7 +19,7 @@ settle_arg-returns-then-is_still-clause-passes t c = λ u p.
     let still = c.is_still.ensures c.if-is_still.true in
     let kept = c.requires.store.kept c.arg-arg.result still.0 still.1 in
     let at = arg_is (due_by m) nodes c.args.bounds u c.args.place c.args.passing.now p c.arg-arg.result kept.term c.arg-arg.ensures kept.here in
-    (passing_still (due_by m) nodes c.args.bounds u c.args.place c.args.passing.now p kept.term still.0 at kept.form still.2, refl)
+    (passing_still (due_by m) nodes c.args.bounds u c.args.place c.args.passing.now p kept.term still.0 at kept.form still.2, refl {a = c.args.budget.now + c.args.passing.now.count})
 
 pub settle_arg-term-requires : goal.settle_arg-term-requires
 settle_arg-term-requires t c =

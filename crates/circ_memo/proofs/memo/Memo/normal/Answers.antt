@@ -10,7 +10,7 @@ returns-clause-exact c =
         let exact = w.in-Ok.ensures.exact in
         let form = exact.form in
         let listed = w.in_ok-listed-in-Ok.ensures c.args.term.now exact.named form in
-        rw (w.result-is, ← c.self.view_is)
+        rw (w.result-is, ← c.self.view_is, ← c.deref_mut-work.ensures.value)
         (exact.is ∙ ap (λ v. Normal_form v form.traces c.settle_term.new.budget) (sym listed.0) ∙ ap (λ ts. Normal_form w.in_ok-listed-in-Ok.field-0.term ts c.settle_term.new.budget) (sym listed.1)))
-    | in-Err w ↦ rw (w.result-is, ← c.self.view_is) w.in-Err.ensures.exact
+    | in-Err w ↦ rw (w.result-is, ← c.self.view_is, ← c.deref_mut-work.ensures.value) w.in-Err.ensures.exact
     ]
