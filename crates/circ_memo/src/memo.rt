@@ -1,5 +1,6 @@
 //! A memo of normal forms.
-ghost use Rattle.std.specs.Prelude.{◌≡◌, ◌≤◌, ◌<◌, ◌^◌, [], length, IfOk, OnOk, OnErr};
+ghost use Rattle.std.specs.Prelude.{◌≡◌, ◌≤◌, ◌<◌, ◌^◌, [], length};
+ghost use Rattle.std.specs.Prelude.{IfOk, OnOk, OnErr};
 ghost use Rattle.std.specs.List.{AllByRecursion};
 ghost use Rattle.circ_term.specs.Tree.{Tree};
 ghost use Rattle.circ_rewrite.specs.Due.{IsRewriteRule};
@@ -37,7 +38,7 @@ struct Work<'a> {
 
 impl<'a> Model for Memo<'a> {
     ghost use Rattle.circ_memo.specs.Keeping.{IsForm, IsNumberKept};
-ghost use Rattle.circ_memo.specs.Value.{Rewriting, rewriting_code};
+    ghost use Rattle.circ_memo.specs.Value.{Rewriting, rewriting_code};
 
     ghost Value = { Rewriting };
 
@@ -52,15 +53,14 @@ ghost use Rattle.circ_memo.specs.Value.{Rewriting, rewriting_code};
 
 impl<'a> Memo<'a> {
     /// A memo of nothing, by a theory's marked operators and these rules, with no assumptions.
-    pub fn new(
-        alloc: Global,
-        theory: &'a Theory,
-        rules: Vec<Rule>,
-    ) -> Result<Memo<'a>, AllocError>
+    pub fn new(alloc: Global, theory: &'a Theory, rules: Vec<Rule>) -> Result<Memo<'a>, AllocError>
         requires rules { AllByRecursion IsRewriteRule rules.items }
         requires few { length rules.items < 2 ^ 32 }
         ensures { IfOk result (λ m. m ≡ record {
-            theory = theory.now; rules = rules.items; assumptions = [] }) }
+          theory = theory.now;
+          rules = rules.items;
+          assumptions = [];
+        }) }
     {
         let means = Means::new(alloc, theory, rules)?;
         let store = Store::new(alloc);
@@ -149,7 +149,7 @@ fn settle_number(
     ensures less { budget.new ≤ budget.old }
     ensures exact { (t : Tree) → IsNamed store.old.nodes number t
         → AnswersKept (due_by means.now) store.new.nodes store.new.entries.items t
-            result budget.new (run (due_by means.now) budget.old t []) }
+        result budget.new (run (due_by means.now) budget.old t []) }
 {
     store.nodes.term(number).known();
     let bounds = Bounds {
@@ -164,12 +164,7 @@ fn settle_number(
 }
 
 // What is kept of a whole term, with its traces.
-fn listed(
-    means: &Means<'_>,
-    store: &Store,
-    number: u32,
-    entry: Entry,
-) -> Result<Normal, AllocError>
+fn listed(means: &Means<'_>, store: &Store, number: u32, entry: Entry) -> Result<Normal, AllocError>
     requires store { IsStore means.now store.now }
     requires kept { IsNumberKept store.now.entries.items number entry.count }
     requires value { entry.value < length store.now.nodes }
