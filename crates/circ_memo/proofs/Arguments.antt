@@ -3,31 +3,29 @@ use Rattle.std.proofs.Common.{◌≡◌, ℕ, ◌+◌, ◌-◌, ◌*◌, ◌≤�
 use Rattle.std.specs.Prelude.{slice_set}
 use Rattle.std.specs.List.{slice_get}
 use Rattle.std.proofs.lemmas.List.{length-map, length-set}
-use Rattle.circ_term.specs.Tree.{Tree, Trees, Var, App, none, more, args_of, list_of, put_at, size_of, depth_of}
+use Rattle.circ_term.specs.Tree.{Tree, Var, App, none, more, args_of, list_of, put_at, size_of, depth_of}
 use Rattle.circ_term.specs.Limits.{Big, Deep, IsWithinLimits, Names, first_limit, node_limit}
 use Rattle.circ_term.proofs.Limits.{first_limit_none}
 use Rattle.circ_term.specs.declared.fault.TermFault.{TermFault}
 use Rattle.circ_term.specs.declared.fault.TermFault.TheVariants.{TooBig, TooDeep, Memory}
 use Rattle.circ_rewrite.specs.Replacement.{Replacement, Traced}
-use Rattle.circ_rewrite.specs.Standing.{IsSettled, HasSettledBelow}
 use Rattle.circ_rewrite.specs.Plain.{rewrite_fault}
 use Rattle.circ_rewrite.specs.declared.fault.RewriteFault.{RewriteFault}
 use Rattle.circ_rewrite.specs.declared.fault.RewriteFault.TheVariants as fault
-use Rattle.circ_nodes.specs.Named.{IsNamed, AreNamed, Grows, Interns}
-use Rattle.circ_nodes.proofs.Numbers.{are_named_at, are_named_set, are_named_length, are_named_later, named_one}
+use Rattle.circ_nodes.specs.Named.{IsNamed}
+use Rattle.circ_nodes.proofs.Numbers.{are_named_at, are_named_set, are_named_length, named_one}
 use Rattle.circ_chain.specs.Chain.{under, Chain, Outgrows}
 use Rattle.circ_chain.proofs.Standings.{size_arg, arg_smaller, arg_less_deep}
-use Rattle.circ_chain.proofs.Settling.{through_start, through_next, through_still, through_end, through_within, through_out, through_breaks, through_past, through_outgrows}
+use Rattle.circ_chain.proofs.Settling.{through_next, through_still, through_end, through_within, through_out, through_breaks, through_past, through_outgrows}
 use Rattle.circ_chain.proofs.Keeping.{kept_none}
 use Rattle.circ_chain.proofs.Roots.{readies_self}
+use Rattle.circ_rewrite.specs.Standing.{HasSettledBelow}
 use Rattle.circ_memo.proofs.Stores.{depth_named, depth_named_is}
 use Rattle.circ_memo.specs.Keeping.{IsForm, IsInBounds}
 use Rattle.circ_memo.specs.Settling.{IsWithin, IsInside, IsWay, IsPassing, Faulted, room}
 use Rattle.circ_memo.specs.declared.parts.Bounds.{Bounds}
 use Rattle.circ_memo.specs.declared.parts.Entry.{Entry}
 use Rattle.circ_memo.specs.declared.parts.Passing.{Passing}
-use Rattle.circ_memo.specs.declared.parts.Way.{Way}
-use Rattle.circ_memo.specs.declared.parts.Stop.TheVariants as stop
 
 -- no replacement was made
 no_move : (due : Tree → Option Replacement) (big deep : ℕ) (t u : Tree) (ts : List Traced) → Chain due big deep t ts u → length ts ≡ 0 → t ≡ u
@@ -177,8 +175,8 @@ module _ (due : Tree → Option Replacement) (nodes : List Tree) (b : Bounds) (t
     count = omega (arith, length-append h.traces (map (under (i ∷ [])) f.traces), length-map f.traces (under (i ∷ [])), h.count, f.form.count_is, count);
     through =
         rw (op, sort)
-            (through_next due p.big p.deep e.big e.deep q.big q.deep t h.traces p.op p.sort i h.args a f.value f.traces h.through g f.form.reduces (omega (arith, big)) (omega (arith, deep))
-            (omega (arith, big, h.size)) (omega (arith, deep, within_now.1, h.depth)) (omega (arith, deep)));
+        (through_next due p.big p.deep e.big e.deep q.big q.deep t h.traces p.op p.sort i h.args a f.value f.traces h.through g f.form.reduces (omega (arith, big)) (omega (arith, deep))
+        (omega (arith, big, h.size)) (omega (arith, deep, within_now.1, h.depth)) (omega (arith, deep)));
     small = omega (arith, big, h.small, w.small, h.size, now_within.0, arg_smaller p.op p.sort i h.args a g);
     shallow = omega (arith, deep, h.shallow, w.shallow, h.depth, h.within.shallow, now_within.1);
   }

@@ -1,16 +1,14 @@
 -- What is kept stays right when terms are added, and when more is kept.
-use Rattle.std.proofs.Common.{◌≡◌, ℕ, ◌+◌, ◌≤◌, ◌⊎◌, inl, inr, List, [], ◌∷◌, ◌++◌, length, Option, Some, None, refl, ap, sym, subst, ◌∙◌, arith}
-use Rattle.std.proofs.lemmas.Option.{same_Some}
+use Rattle.std.proofs.Common.{ℕ, List, [], ◌∷◌, Option}
 use Rattle.circ_term.specs.Tree.{Tree}
 use Rattle.circ_rewrite.specs.Replacement.{Replacement}
 use Rattle.circ_rewrite.specs.declared.fault.RewriteFault.{RewriteFault}
 use Rattle.circ_rewrite.specs.declared.fault.RewriteFault.TheVariants.{Spent, TooBig, TooDeep, Memory}
-use Rattle.circ_nodes.specs.Named.{IsNamed, Grows}
-use Rattle.circ_nodes.proofs.Numbers.{named_later, are_named_later, named_below}
-use Rattle.circ_chain.specs.Kept.{IsKeptForm}
+use Rattle.circ_nodes.specs.Named.{Grows}
+use Rattle.circ_nodes.proofs.Numbers.{named_later, are_named_later}
 use Rattle.circ_memo.proofs.Telling.{told_later}
-use Rattle.circ_memo.specs.Keeping.{kept_at, IsForm, AreKept}
-use Rattle.circ_memo.specs.Settling.{Stops, IsWay, IsPassed, ArePassed, IsPassing, IsToKeep}
+use Rattle.circ_memo.specs.Keeping.{IsForm, AreKept}
+use Rattle.circ_memo.specs.Settling.{Stops, IsWay, IsPassed, ArePassed, IsPassing}
 use Rattle.circ_memo.specs.declared.parts.Bounds.{Bounds}
 use Rattle.circ_memo.specs.declared.parts.Entry.{Entry}
 use Rattle.circ_memo.specs.declared.parts.Way.{Way}

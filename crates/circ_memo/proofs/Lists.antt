@@ -1,15 +1,15 @@
 -- Listing the traces that are kept.
-use Rattle.std.proofs.Common.{◌≡◌, ℕ, ◌+◌, ◌*◌, ◌≤◌, ◌<◌, ◌⊎◌, inl, inr, zero, suc, List, [], ◌∷◌, ◌++◌, length, Option, Some, None, refl, ap, sym, subst, ◌∙◌, arith}
+use Rattle.std.proofs.Common.{◌≡◌, ℕ, ◌+◌, ◌*◌, ◌≤◌, ◌<◌, ◌⊎◌, inl, inr, List, [], ◌∷◌, length, Option, Some, refl, ap, sym, subst, ◌∙◌, arith}
 use Rattle.std.specs.List.{slice_get}
 use Rattle.circ_term.specs.Tree.{Tree, Trees, App, none, more, list_of, depth_of}
 use Rattle.circ_rewrite.specs.Replacement.{Replacement, Traced}
 use Rattle.circ_nodes.specs.Named.{IsNamed, AreNamed, IsOnce}
-use Rattle.circ_nodes.proofs.Numbers.{are_named_at, named_one}
+use Rattle.circ_nodes.proofs.Numbers.{are_named_at}
 use Rattle.circ_chain.specs.Through.{Readies}
 use Rattle.circ_chain.specs.Listed.{Lists}
 use Rattle.circ_chain.proofs.Standings.{arg_less_deep}
 use Rattle.circ_chain.proofs.Listing.{lists_args_end}
-use Rattle.circ_memo.specs.Keeping.{kept_at, IsNumberKept, HasKeptArgs}
+use Rattle.circ_memo.specs.Keeping.{IsNumberKept, HasKeptArgs}
 use Rattle.circ_memo.specs.Listing.{count_at, ListsArgs}
 use Rattle.circ_memo.specs.declared.parts.Entry.{Entry}
 use Rattle.circ_memo.proofs.Stores.{depth_named, depth_named_is}

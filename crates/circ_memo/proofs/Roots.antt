@@ -1,5 +1,5 @@
 -- What comes of a replacement at the root of a term with normal arguments.
-use Rattle.std.proofs.Common.{◌≡◌, ℕ, ◌+◌, ◌-◌, ◌≤◌, ◌<◌, ◌⊎◌, zero, suc, List, [], ◌∷◌, length, Option, Some, None, Result, Ok, Err, refl, ap, sym, subst, ◌∙◌, inl, inr, arith}
+use Rattle.std.proofs.Common.{◌≡◌, ℕ, ◌<◌, ◌⊎◌, List, [], Option, Some, arith}
 use Rattle.circ_term.specs.Tree.{Tree, size_of, depth_of}
 use Rattle.circ_term.specs.Limits.{IsWithinLimits, first_limit, Names}
 use Rattle.circ_term.specs.declared.fault.TermFault.{TermFault}
@@ -8,8 +8,7 @@ use Rattle.circ_rewrite.specs.Replacement.{Replacement}
 use Rattle.circ_rewrite.specs.Standing.{HasSettledBelow}
 use Rattle.circ_rewrite.specs.Plain.{rewrite_fault}
 use Rattle.circ_rewrite.specs.declared.fault.RewriteFault.TheVariants as fault
-use Rattle.circ_nodes.specs.Named.{IsNamed}
-use Rattle.circ_chain.specs.Chain.{RunsOut, Breaks, Outgrows}
+use Rattle.circ_chain.specs.Chain.{Outgrows}
 use Rattle.circ_chain.specs.Through.{Readies}
 use Rattle.circ_chain.proofs.Roots.{readies_self, readies_weaken, root_out, root_breaks, root_outgrows}
 use Rattle.circ_memo.specs.Settling.{Faulted, Stops}

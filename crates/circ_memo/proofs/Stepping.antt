@@ -1,5 +1,5 @@
 -- What is to be kept of terms on the way to a normal form.
-use Rattle.std.proofs.Common.{◌≡◌, ℕ, ◌+◌, ◌≤◌, ◌<◌, List, [], ◌∷◌, ◌++◌, length, Option, Some, None, refl, ap, sym, subst, ◌∙◌, arith, length-append}
+use Rattle.std.proofs.Common.{◌≡◌, ℕ, ◌+◌, ◌≤◌, List, [], ◌∷◌, ◌++◌, length, Option, Some, None, refl, ap, sym, subst, ◌∙◌, arith, length-append}
 use Rattle.std.specs.List.{AllByRecursion}
 use Rattle.circ_term.specs.Tree.{Tree, size_of, depth_of}
 use Rattle.circ_rewrite.specs.Replacement.{Replacement, Traced, placed, traced}
@@ -7,12 +7,12 @@ use Rattle.circ_rewrite.specs.Standing.{HasSettledBelow}
 use Rattle.circ_term.specs.Limits.{Big, Deep}
 use Rattle.circ_rewrite.specs.declared.fault.RewriteFault.TheVariants.{Spent, TooBig, TooDeep, Memory}
 use Rattle.circ_nodes.specs.Named.{IsNamed}
-use Rattle.circ_nodes.proofs.Numbers.{named_below, named_one}
+use Rattle.circ_nodes.proofs.Numbers.{named_below}
 use Rattle.circ_chain.specs.Chain.{Chain}
 use Rattle.circ_chain.specs.Through.{Readies}
 use Rattle.circ_chain.proofs.Chains.{chain_on, chain_weaken, out_on, breaks_on, outgrows_on}
 use Rattle.circ_chain.proofs.Roots.{readies_self, readies_weaken, readies_settled, readies_step, root_settled, kept_step}
-use Rattle.circ_memo.specs.Keeping.{IsForm, IsKept, AreKept, IsInBounds}
+use Rattle.circ_memo.specs.Keeping.{IsForm}
 use Rattle.circ_memo.specs.Settling.{IsWay, IsPassed, ArePassed, IsStepIn, Stops, passed_count}
 use Rattle.circ_memo.specs.declared.parts.Bounds.{Bounds}
 use Rattle.circ_memo.specs.declared.parts.Entry.{Entry}
@@ -105,8 +105,7 @@ module _ (due : Tree → Option Replacement) (nodes : List Tree) where
         subst (λ x. Chain due b.big b.deep t (p.way.traces ++ traced (placed [] p.replacement) ∷ []) x) p.new
         (readies_step due b.big b.deep t p.way.traces p.ready p.replacement wide p.is_due
         (omega (arith, p.small, ap size_of p.new)) (omega (arith, p.shallow, ap depth_of p.new))) in
-        let front : List Traced = p.way.traces ++ traced (placed [] p.replacement) ∷ [] in
-        (
+        let front : List Traced = p.way.traces ++ traced (placed [] p.replacement) ∷ [] in (
           front ++ rest.0,
           chain_on due b.big b.deep front rest.0 t h.0 u first rest.1,
           omega (arith, length-append front rest.0, length-append p.way.traces (traced (placed [] p.replacement) ∷ []), p.way.count, rest.2),

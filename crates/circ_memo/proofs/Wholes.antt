@@ -1,9 +1,9 @@
 -- What is known of a whole term by itself answers for it.
-use Rattle.std.proofs.Common.{◌≡◌, ℕ, ◌+◌, ◌-◌, List, [], Option, Ok, Err, refl, ap, sym, subst, ◌∙◌, arith}
+use Rattle.std.proofs.Common.{◌≡◌, ℕ, ◌+◌, ◌-◌, List, [], Option, ap, ◌∙◌, arith}
 use Rattle.circ_term.specs.Tree.{Tree}
 use Rattle.circ_term.specs.Limits.{Big, Deep, node_limit, depth_limit}
 use Rattle.circ_rewrite.specs.Replacement.{Replacement}
-use Rattle.circ_rewrite.specs.Norm.{Normalised, Normal_form, run}
+use Rattle.circ_rewrite.specs.Norm.{Normal_form, run}
 use Rattle.circ_rewrite.specs.Plain.{Faults}
 use Rattle.circ_rewrite.specs.declared.fault.RewriteFault.{RewriteFault}
 use Rattle.circ_rewrite.specs.declared.fault.RewriteFault.TheVariants.{Spent, TooBig, TooDeep, Memory}

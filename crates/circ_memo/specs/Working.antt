@@ -1,5 +1,4 @@
 -- The state of a memo at work.
-use Rattle.std.specs.Prelude.{List, Option}
 use Rattle.circ_nodes.specs.Named.{Grows}
 use Rattle.circ_due.specs.Chosen.{IsReady, due_by}
 use Rattle.circ_due.specs.declared.means.Means.{Means}

@@ -1,12 +1,14 @@
 //! What is kept of the terms on the way to a normal form.
-ghost use Rattle.std.specs.Prelude.{◌≡◌, ◌<◌, ◌^◌, ◌+◌, ℕ, length, Option, IfOk};
+ghost use Rattle.std.specs.Prelude.{◌≡◌, ◌<◌, ◌^◌, ◌+◌, ℕ, length};
+ghost use Rattle.std.specs.Prelude.{Option, IfOk};
 ghost use Rattle.std.specs.List.{AllByRecursion};
 ghost use Rattle.circ_term.specs.Tree.{Tree};
 ghost use Rattle.circ_rewrite.specs.Replacement.{Replacement};
 ghost use Rattle.circ_nodes.specs.Named.{IsNamed};
-ghost use Rattle.circ_memo.specs.Keeping.{AreKept, IsForm, IsInBounds, IsNumberKept, IsWayKept, Stays};
-ghost use Rattle.circ_memo.specs.Settling.{IsWay, IsPassed, ArePassed, IsStepIn, IsToKeep, passed_count};
-ghost use Rattle.circ_memo.specs.Settling.{IsLinked, AreLinked};
+ghost use Rattle.circ_memo.specs.Keeping.{AreKept, IsForm, IsInBounds};
+ghost use Rattle.circ_memo.specs.Keeping.{IsNumberKept, IsWayKept, Stays};
+ghost use Rattle.circ_memo.specs.Settling.{IsWay, IsPassed, ArePassed, IsToKeep};
+ghost use Rattle.circ_memo.specs.Settling.{IsStepIn, IsLinked, AreLinked, passed_count};
 
 use crate::parts::{Bounds, Entry, Step, Way};
 use crate::store::Store;
@@ -19,7 +21,8 @@ pub(crate) fn keep_settled(store: &mut Store, here: u32, way: Way) -> Result<Ent
     ensures nodes { store.new.nodes ≡ store.old.nodes }
     ensures kept { (due : Tree → Option Replacement) (b : Bounds) (t u : Tree)
         → AreKept due store.old.nodes store.old.entries.items
-        → IsNamed store.old.nodes here t → IsWay due store.old.nodes b t way u → due u ≡ None
+        → IsNamed store.old.nodes here t → IsWay due store.old.nodes b t way u
+        → due u ≡ None
         → IsWayKept store.old.nodes store.old.entries.items here t way.ready way.count
         → AreKept due store.new.nodes store.new.entries.items
         × Stays store.old.entries.items store.new.entries.items }

@@ -1,5 +1,6 @@
 //! Listing the replacements that lead to a normal form that is kept.
-ghost use Rattle.std.specs.Prelude.{◌≡◌, ◌<◌, ◌++◌, ◌∷◌, [], ℕ, length, Option, IfOk, IfSome, OnOk, Some};
+ghost use Rattle.std.specs.Prelude.{◌≡◌, ◌<◌, ◌++◌, ◌∷◌, [], ℕ, length};
+ghost use Rattle.std.specs.Prelude.{Option, IfOk, IfSome, OnOk, Some};
 ghost use Rattle.circ_term.specs.Tree.{Tree};
 ghost use Rattle.circ_rewrite.specs.Plain.{plain_traces};
 ghost use Rattle.circ_rewrite.specs.Replacement.{Replacement, placed, traced};
@@ -60,7 +61,8 @@ fn list_step(
         (ListsStep (due_by means.now) store.now.nodes path.old.items t
         (plain_traces traces.old.items) (plain_traces traces.new.items)) }
     ensures next { IfOk result (λ o. IfSome o (λ m. (c : ℕ)
-        × IsNumberKept store.now.entries.items m c × (c < count_at store.now.entries.items here))) }
+        × IsNumberKept store.now.entries.items m c
+        × (c < count_at store.now.entries.items here))) }
 {
     let Some(entry) = store.entry(here) else {
         unreachable!();
@@ -74,7 +76,14 @@ fn list_step(
     let Some(next) = entry.next else {
         return Ok(None);
     };
-    list_root(means, &store.nodes, entry.ready, next, path.as_slice(), traces)?;
+    list_root(
+        means,
+        &store.nodes,
+        entry.ready,
+        next,
+        path.as_slice(),
+        traces,
+    )?;
     Ok(Some(next))
 }
 
@@ -90,7 +99,7 @@ fn list_args(
     requires store { IsStore means.now store.now }
     requires kept { (t : Tree) × IsNamed store.now.nodes here t
         × HasKeptArgs store.now.nodes store.now.entries.items t
-            (count_at store.now.entries.items here) }
+        (count_at store.now.entries.items here) }
     ensures path { OnOk result (path.new.items ≡ path.old.items) }
     ensures lists { (t : Tree) → IsNamed store.now.nodes here t → OnOk result
         (ListsArgs (due_by means.now) path.old.items t

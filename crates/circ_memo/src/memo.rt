@@ -1,5 +1,6 @@
 //! A memo of normal forms.
-ghost use Rattle.std.specs.Prelude.{◌≡◌, ◌≤◌, ◌<◌, ◌^◌, [], length, IfOk, OnOk, OnErr};
+ghost use Rattle.std.specs.Prelude.{◌≡◌, ◌≤◌, ◌<◌, ◌^◌, [], length};
+ghost use Rattle.std.specs.Prelude.{IfOk, OnOk, OnErr};
 ghost use Rattle.std.specs.List.{AllByRecursion};
 ghost use Rattle.circ_term.specs.Tree.{Tree};
 ghost use Rattle.circ_rewrite.specs.Due.{IsRewriteRule};
@@ -26,13 +27,18 @@ use std::marker::Model;
 /// and assumptions.
 #[derive(Drop)]
 pub struct Memo<'a> {
+    work: Box<Work<'a>>,
+}
+
+#[derive(Drop)]
+struct Work<'a> {
     means: Means<'a>,
     store: Store,
 }
 
 impl<'a> Model for Memo<'a> {
     ghost use Rattle.circ_memo.specs.Keeping.{IsForm, IsNumberKept};
-ghost use Rattle.circ_memo.specs.Value.{Rewriting, rewriting_code};
+    ghost use Rattle.circ_memo.specs.Value.{Rewriting, rewriting_code};
 
     ghost Value = { Rewriting };
 
@@ -40,27 +46,26 @@ ghost use Rattle.circ_memo.specs.Value.{Rewriting, rewriting_code};
 
     ghost use Rattle.circ_memo.specs.Working.{rewriting, IsStore};
 
-    ghost view = { λ a. rewriting a.means };
+    ghost view = { λ a. rewriting a.work.value.means };
 
-    ghost invariant = { λ a. IsStore a.means a.store };
+    ghost invariant = { λ a. IsStore a.work.value.means a.work.value.store };
 }
 
 impl<'a> Memo<'a> {
     /// A memo of nothing, by a theory's marked operators and these rules, with no assumptions.
-    pub fn new(
-        alloc: Global,
-        theory: &'a Theory,
-        rules: Vec<Rule>,
-    ) -> Result<Memo<'a>, AllocError>
+    pub fn new(alloc: Global, theory: &'a Theory, rules: Vec<Rule>) -> Result<Memo<'a>, AllocError>
         requires rules { AllByRecursion IsRewriteRule rules.items }
         requires few { length rules.items < 2 ^ 32 }
         ensures { IfOk result (λ m. m ≡ record {
-            theory = theory.now; rules = rules.items; assumptions = [] }) }
+          theory = theory.now;
+          rules = rules.items;
+          assumptions = [];
+        }) }
     {
         let means = Means::new(alloc, theory, rules)?;
+        let store = Store::new(alloc);
         Ok(Memo {
-            means,
-            store: Store::new(alloc),
+            work: Box::new(alloc, Work { means, store })?,
         })
     }
 
@@ -73,8 +78,9 @@ impl<'a> Memo<'a> {
         ensures assumptions { OnOk result (self.new.assumptions ≡ assumptions.now) }
         ensures forgotten { OnErr result (self.new.assumptions ≡ []) }
     {
-        self.store.entries.truncate(0);
-        self.means.assume(&mut self.store.nodes, assumptions)
+        let work = &mut *self.work;
+        work.store.entries.truncate(0);
+        work.means.assume(&mut work.store.nodes, assumptions)
     }
 
     /// The normal form of a term, without its traces. The budget falls by one for each replacement,
@@ -85,8 +91,9 @@ impl<'a> Memo<'a> {
         ensures less { budget.new ≤ budget.old }
         ensures same { self.new ≡ self.old }
     {
-        match settle_term(&self.means, &mut self.store, term, budget) {
-            Ok((_, entry)) => Ok(self.store.nodes.term(entry.value).share()?),
+        let work = &mut *self.work;
+        match settle_term(&work.means, &mut work.store, term, budget) {
+            Ok((_, entry)) => Ok(work.store.nodes.term(entry.value).share()?),
             Err(fault) => Err(fault),
         }
     }
@@ -100,8 +107,9 @@ impl<'a> Memo<'a> {
         ensures less { budget.new ≤ budget.old }
         ensures same { self.new ≡ self.old }
     {
-        match settle_term(&self.means, &mut self.store, term, budget) {
-            Ok((number, entry)) => Ok(listed(&self.means, &self.store, number, entry)?),
+        let work = &mut *self.work;
+        match settle_term(&work.means, &mut work.store, term, budget) {
+            Ok((number, entry)) => Ok(listed(&work.means, &work.store, number, entry)?),
             Err(fault) => Err(fault),
         }
     }
@@ -141,7 +149,7 @@ fn settle_number(
     ensures less { budget.new ≤ budget.old }
     ensures exact { (t : Tree) → IsNamed store.old.nodes number t
         → AnswersKept (due_by means.now) store.new.nodes store.new.entries.items t
-            result budget.new (run (due_by means.now) budget.old t []) }
+        result budget.new (run (due_by means.now) budget.old t []) }
 {
     store.nodes.term(number).known();
     let bounds = Bounds {
@@ -156,12 +164,7 @@ fn settle_number(
 }
 
 // What is kept of a whole term, with its traces.
-fn listed(
-    means: &Means<'_>,
-    store: &Store,
-    number: u32,
-    entry: Entry,
-) -> Result<Normal, AllocError>
+fn listed(means: &Means<'_>, store: &Store, number: u32, entry: Entry) -> Result<Normal, AllocError>
     requires store { IsStore means.now store.now }
     requires kept { IsNumberKept store.now.entries.items number entry.count }
     requires value { entry.value < length store.now.nodes }

@@ -1,13 +1,14 @@
 //! An application whose arguments are normalised from the left.
-ghost use Rattle.std.specs.Prelude.{◌≡◌, ◌≤◌, ◌<◌, ◌^◌, ◌+◌, ℕ, List, length, Option, IfOk, IfSome};
+ghost use Rattle.std.specs.Prelude.{◌≡◌, ◌≤◌, ◌<◌, ◌^◌, ◌+◌, ℕ, List, length};
+ghost use Rattle.std.specs.Prelude.{Option, IfOk, IfSome, Some, slice_set};
 ghost use Rattle.std.specs.List.{AllByRecursion, slice_get};
-ghost use Rattle.std.specs.Prelude.{Some, slice_set};
 ghost use Rattle.circ_term.specs.Tree.{Tree, size_of};
 ghost use Rattle.circ_rewrite.specs.Replacement.{Replacement};
 ghost use Rattle.circ_nodes.specs.Named.{IsNamed, Grows};
 ghost use Rattle.circ_memo.specs.declared.parts.Entry.{Entry as TheEntry};
 ghost use Rattle.circ_memo.specs.Keeping.{IsForm, IsInBounds, HasKeptArgs, IsWayKept};
-ghost use Rattle.circ_memo.specs.Settling.{IsWithin, IsPassing, HasPassed, Begins, FindsWay, Stops, room};
+ghost use Rattle.circ_memo.specs.Settling.{IsWithin, IsPassing, HasPassed, Begins};
+ghost use Rattle.circ_memo.specs.Settling.{FindsWay, Stops, room};
 ghost use Rattle.circ_memo.specs.declared.parts.Stop.TheVariants.{Outgrows};
 
 use crate::advancing::rewrite_fault;
@@ -144,7 +145,8 @@ impl Passing {
         requires new { new < length nodes.old }
         requires place { place < length self.now.args.items }
         ensures grows { Grows nodes.old nodes.new }
-        ensures stops { (due : Tree → Option Replacement) (b : Bounds) (t a : Tree) (n k left : ℕ)
+        ensures stops { (due : Tree → Option Replacement) (b : Bounds) (t a : Tree)
+            (n k left : ℕ)
             → IsPassing due nodes.old b t place self.now
             → slice_get self.now.args.items place ≡ Some n → IsNamed nodes.old n a
             → Stops due nodes.old (room self.now b (size_of a)) k left a (Outgrows new)

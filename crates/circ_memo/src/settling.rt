@@ -1,9 +1,8 @@
 //! Normalising interned terms, each by itself: its arguments from the left, then the term.
-ghost use Rattle.std.specs.Prelude.{◌≡◌, ◌≤◌, ◌<◌, ◌^◌, ◌+◌, ℕ, length, Option, IfOk, OnOk, OnErr};
-ghost use Rattle.std.specs.List.{AllByRecursion};
+ghost use Rattle.std.specs.Prelude.{◌≡◌, ◌≤◌, ◌<◌, ◌^◌, ◌+◌, length};
+ghost use Rattle.std.specs.Prelude.{IfOk, OnOk};
 ghost use Rattle.circ_term.specs.Tree.{Tree};
-ghost use Rattle.circ_rewrite.specs.Replacement.{Replacement};
-ghost use Rattle.circ_nodes.specs.Named.{IsNamed, Grows};
+ghost use Rattle.circ_nodes.specs.Named.{IsNamed};
 ghost use Rattle.circ_due.specs.Chosen.{due_by};
 ghost use Rattle.circ_memo.specs.Settling.{IsInside, IsPassing, Settles, Turns, FindsWay, Passes};
 ghost use Rattle.circ_memo.specs.Settling.{HasPassed, IsTurnKept};
@@ -142,11 +141,11 @@ fn settle_arg(
     ensures passes { (t : Tree)
         → IsPassing (due_by means.now) store.old.nodes bounds t place passing.old
         → Passes (due_by means.now) store.new.nodes bounds (budget.old + passing.old.count)
-            budget.new t (place + 1) passing.new result }
+        budget.new t (place + 1) passing.new result }
     ensures kept { (t : Tree)
         → HasPassed store.old.nodes store.old.entries.items t place passing.old
         → OnOk result
-            (HasPassed store.new.nodes store.new.entries.items t (place + 1) passing.new) }
+        (HasPassed store.new.nodes store.new.entries.items t (place + 1) passing.new) }
     ensures len { length passing.new.args.items ≡ length passing.old.args.items }
 {
     let arg = passing.arg(place);

@@ -1,13 +1,10 @@
 //! Interned terms, and what is kept of them.
-ghost use Rattle.std.specs.Prelude.{◌≡◌, ◌<◌, ◌≤◌, ℕ, [], length, Option, IfSome, OnOk, OnErr, IsTrue, Some};
-ghost use Rattle.std.specs.List.{AllByRecursion};
-ghost use Rattle.circ_term.specs.Tree.{Tree};
-ghost use Rattle.circ_rewrite.specs.Replacement.{Replacement};
-ghost use Rattle.circ_nodes.specs.Named.{IsNamed};
+ghost use Rattle.std.specs.Prelude.{◌≡◌, ◌<◌, ◌≤◌, [], length};
+ghost use Rattle.std.specs.Prelude.{IfSome, OnOk, OnErr, IsTrue, Some};
 ghost use Rattle.circ_memo.specs.declared.parts.Entry.{Entry as TheEntry};
 ghost use Rattle.circ_memo.specs.Keeping.{kept_at, Puts, HasSame, Fits};
 
-use crate::parts::{Bounds, Entry, Step, Way};
+use crate::parts::{Bounds, Entry};
 use circ_nodes::Nodes;
 use std::alloc::{AllocError, Global};
 
@@ -39,8 +36,8 @@ impl Store {
 
     // Whether a term is known to be normal.
     pub(crate) fn is_still(&self, number: u32) -> bool
-        ensures { IsTrue result → (e : TheEntry) × (kept_at self.now.entries.items number ≡ Some e)
-            × (e.count ≡ 0) }
+        ensures { IsTrue result → (e : TheEntry)
+            × (kept_at self.now.entries.items number ≡ Some e) × (e.count ≡ 0) }
     {
         match self.entry(number) {
             Some(entry) => entry.count == 0,

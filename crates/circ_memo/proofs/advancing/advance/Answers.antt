@@ -1,10 +1,8 @@
-use Rattle.std.proofs.Common.{inl, inr, ◌⊎◌, ◌<◌, subst, ap, arith, length}
-use Rattle.circ_term.specs.Tree.{Tree, size_of, depth_of}
+use Rattle.std.proofs.Common.{inl, inr, ◌⊎◌, ◌<◌, ap, arith}
+use Rattle.circ_term.specs.Tree.{size_of, depth_of}
 use Rattle.circ_nodes.proofs.Numbers.{there_named, named_below, named_one}
-use Rattle.circ_rewrite.specs.Standing.{HasSettledBelow}
 use Rattle.circ_rewrite.specs.Replacement.{Replacement}
-use Rattle.circ_due.specs.Chosen.{Chooses, IsChoice, due_by}
-use Rattle.circ_nodes.specs.Named.{IsNamed, Interns}
+use Rattle.circ_due.specs.Chosen.{due_by}
 use Rattle.circ_memo.proofs.Roots.{stops_spent, stops_broken, stops_past}
 use Rattle.circ_memo.proofs.advancing.advance.Goals.{then-size-bounds-via-then-size-bounds, then-size-bounds-via-else-size-bounds+then-depth-bounds}
 use Rattle.circ_memo.proofs.advancing.advance.Goals as goal
@@ -41,8 +39,8 @@ returns-then-size-bounds-clause-advances c = λ t n h.
     let is = named_one c.build.new.nodes c.in-Ok.new c.term-term.result.now r.new c.term-term.ensures made.0 in
     let past : (c.args.bounds.big < size_of r.new) ⊎ (c.args.bounds.deep < depth_of r.new) =
     elim c.then-size-bounds.branch [
-      then-size-bounds-via-then-size-bounds w ↦ inl (omega (arith, w.if-size-bounds.true, c.size.ensures.exact, ap size_of is))
-    | then-size-bounds-via-else-size-bounds+then-depth-bounds w ↦ inr (omega (arith, w.if-depth-bounds.true, w.depth.ensures.exact, ap depth_of is))
+      | then-size-bounds-via-then-size-bounds w ↦ inl (omega (arith, w.if-size-bounds.true, c.size.ensures.exact, ap size_of is))
+      | then-size-bounds-via-else-size-bounds+then-depth-bounds w ↦ inr (omega (arith, w.if-depth-bounds.true, w.depth.ensures.exact, ap depth_of is))
     ] in
     (r.new, made.0, stops_past (due_by c.args.means.now) c.build.new.nodes c.args.bounds t r h chosen.1 c.args.budget.now (omega (arith, c.if-budget-eq0.false)) made.1 past)
 
@@ -51,8 +49,7 @@ returns-clause-advances c = λ t n h.
     let chosen = rw c.in-Some.is at (c.in_ok-choice.ensures t n) in
     let r : Replacement = chosen.0 in
     let made = c.in-Ok.ensures.interns t r n chosen.2 in
-    let is = named_one c.build.new.nodes c.in-Ok.new c.term-term.result.now r.new c.term-term.ensures made.0 in
-    (
+    let is = named_one c.build.new.nodes c.in-Ok.new c.term-term.result.now r.new c.term-term.ensures made.0 in (
       r,
       chosen.1,
       made.0,

@@ -117,8 +117,7 @@ returns-clause-there c = (whole (goal.at.returns-clause-there c).After-max-4, c.
 pub returns-clause-form : goal.returns-clause-form
 returns-clause-form c = λ due b t u p f within.
     let is = named_one c.args.store.now.nodes c.args.step.next c.term-new.result.now u c.term-new.ensures p.next in
-    rw (c.keep-2.ensures.nodes, c.keep.ensures.nodes)
-    (
+    rw (c.keep-2.ensures.nodes, c.keep.ensures.nodes) (
       is_whole (goal.at.returns-clause-form c).After-max-4 due b t u p f,
       record {
         small = omega (arith, c.max-3.ensures, c.max.ensures, c.size.ensures.exact, ap size_of is, p.way.small, within.small, p.small);

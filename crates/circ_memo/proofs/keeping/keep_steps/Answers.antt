@@ -66,8 +66,7 @@ loop-step-preserved c =
       kept = λ due b t u n m kept p f w l next.
           let z = before here due b t u p f w in
           let y = linked here due b t u n m kept p f w l next in
-          let now = c.keep_step.ensures.kept due b z.0 z.1 y.0 z.3 z.4 y.3 y.4 in
-          (
+          let now = c.keep_step.ensures.kept due b z.0 z.1 y.0 z.3 z.4 y.3 y.4 in (
             c.in-Some.step.here,
             now.0,
             stays_on _ _ _ y.1 now.1,

@@ -21,8 +21,7 @@ list-returns-in-None-clause-lists t c = λ u n.
     let i = c.loop-next.invariant in
     let w = i.lists in
     let same = named_one c.args.store.now.nodes c.args.number w.0 u w.2 n in
-    let done = rw (c.in-None.is, i.path) at (c.in_ok-list_step.ensures.lists w.1 w.3) in
-    (
+    let done = rw (c.in-None.is, i.path) at (c.in_ok-list_step.ensures.lists w.1 w.3) in (
       done.0,
       done.1,
       subst (λ x. Lists due c.args.path.now.items x done.0 (plain_traces c.args.traces.now.items) (plain_traces c.list_step.new.traces.items)) same
@@ -70,8 +69,7 @@ list_args-list_arg-requires t c =
     let es = c.args.store.now.entries.items in
     let k = c.requires.kept in
     let shape = c.in-Application.ensures.shape k.0 k.1 in
-    let at = slice_get-get_or c.in-Application.args.now c.loop-place.place 0 c.loop-place-test.true in
-    (
+    let at = slice_get-get_or c.in-Application.args.now c.loop-place.place 0 c.loop-place-test.true in (
       omega (
         arith,
         arg_less nodes es c.known.ensures.once k.0 (count_at es c.args.here) k.2 c.in-Application.op c.in-Application.sort shape.0 c.in-Application.args.now shape.1 shape.2 c.loop-place.place
@@ -114,8 +112,7 @@ list_args-returns-clause-lists t c = λ u n.
     let l = c.loop-place.invariant.lists in
     let same = named_one c.args.store.now.nodes c.args.here u (App l.0 l.1 l.2) n l.4 in
     let all : c.loop-place.place ≡ length (list_of l.2) =
-    omega (arith, are_named_length c.args.store.now.nodes c.in-Application.args.now l.2 l.5, c.loop-place.auto.place-end, c.loop-place-test.false) in
-    (
+    omega (arith, are_named_length c.args.store.now.nodes c.in-Application.args.now l.2 l.5, c.loop-place.auto.place-end, c.loop-place-test.false) in (
       l.0,
       l.1,
       l.2,
@@ -134,17 +131,16 @@ list_step-returns-in_default-next-clause-lists t c = λ u n.
     let none = subst (λ o. IsNextKept due nodes es told.ready c.in-Some.entry.count o) c.in_default-next.is told.next in
     let before : Lists due c.args.path.now.items kept.term told.ready (plain_traces c.args.traces.now.items) (plain_traces c.if-entry-here.traces.items) =
     elim c.if-entry-here.branch [
-      list_step-then-entry-here+in_ok-list_args w ↦
-      subst (λ ts. Lists due c.args.path.now.items kept.term told.ready (plain_traces c.args.traces.now.items) (plain_traces ts.items)) (sym w.traces-is)
-      (lists_ready due told.big told.deep c.args.path.now.items kept.term told.ready told.known (plain_traces c.args.traces.now.items) (plain_traces w.list_args.new.traces.items)
-      (w.in_ok-list_args.ensures.lists kept.term kept.here) told.readies)
-    | list_step-else-entry-here w ↦
-      subst (λ ts. Lists due c.args.path.now.items kept.term told.ready (plain_traces c.args.traces.now.items) (plain_traces ts.items)) (sym w.traces-is)
-      (subst (λ x. Lists due c.args.path.now.items kept.term x (plain_traces c.args.traces.now.items) (plain_traces c.args.traces.now.items))
-      (named_one nodes c.args.here kept.term told.ready kept.here (subst (λ k. IsNamed nodes k told.ready) w.if-entry-here.false told.there))
-      (lists_start due c.args.path.now.items kept.term (plain_traces c.args.traces.now.items)))
-    ] in
-    (
+      | list_step-then-entry-here+in_ok-list_args w ↦
+          subst (λ ts. Lists due c.args.path.now.items kept.term told.ready (plain_traces c.args.traces.now.items) (plain_traces ts.items)) (sym w.traces-is)
+          (lists_ready due told.big told.deep c.args.path.now.items kept.term told.ready told.known (plain_traces c.args.traces.now.items) (plain_traces w.list_args.new.traces.items)
+          (w.in_ok-list_args.ensures.lists kept.term kept.here) told.readies)
+      | list_step-else-entry-here w ↦
+          subst (λ ts. Lists due c.args.path.now.items kept.term told.ready (plain_traces c.args.traces.now.items) (plain_traces ts.items)) (sym w.traces-is)
+          (subst (λ x. Lists due c.args.path.now.items kept.term x (plain_traces c.args.traces.now.items) (plain_traces c.args.traces.now.items))
+          (named_one nodes c.args.here kept.term told.ready kept.here (subst (λ k. IsNamed nodes k told.ready) w.if-entry-here.false told.there))
+          (lists_start due c.args.path.now.items kept.term (plain_traces c.args.traces.now.items)))
+    ] in (
       told.ready,
       root_settled due told.ready told.readies.settled none,
       subst (λ x. Lists due c.args.path.now.items x told.ready (plain_traces c.args.traces.now.items) (plain_traces c.if-entry-here.traces.items)) (named_one nodes c.args.here kept.term u kept.here n)
@@ -168,26 +164,25 @@ list_step-returns-clause-lists t c = λ u n.
     let next = subst (λ o. IsNextKept due nodes es told.ready c.in-Some.entry.count o) c.in-Some-next.is told.next in
     let before : Lists due c.args.path.now.items kept.term told.ready (plain_traces c.args.traces.now.items) (plain_traces c.if-entry-here.traces.items) =
     elim c.if-entry-here.branch [
-      list_step-then-entry-here+in_ok-list_args w ↦
-      subst (λ ts. Lists due c.args.path.now.items kept.term told.ready (plain_traces c.args.traces.now.items) (plain_traces ts.items)) (sym w.traces-is)
-      (lists_ready due told.big told.deep c.args.path.now.items kept.term told.ready told.known (plain_traces c.args.traces.now.items) (plain_traces w.list_args.new.traces.items)
-      (w.in_ok-list_args.ensures.lists kept.term kept.here) told.readies)
-    | list_step-else-entry-here w ↦
-      subst (λ ts. Lists due c.args.path.now.items kept.term told.ready (plain_traces c.args.traces.now.items) (plain_traces ts.items)) (sym w.traces-is)
-      (subst (λ x. Lists due c.args.path.now.items kept.term x (plain_traces c.args.traces.now.items) (plain_traces c.args.traces.now.items))
-      (named_one nodes c.args.here kept.term told.ready kept.here (subst (λ k. IsNamed nodes k told.ready) w.if-entry-here.false told.there))
-      (lists_start due c.args.path.now.items kept.term (plain_traces c.args.traces.now.items)))
+      | list_step-then-entry-here+in_ok-list_args w ↦
+          subst (λ ts. Lists due c.args.path.now.items kept.term told.ready (plain_traces c.args.traces.now.items) (plain_traces ts.items)) (sym w.traces-is)
+          (lists_ready due told.big told.deep c.args.path.now.items kept.term told.ready told.known (plain_traces c.args.traces.now.items) (plain_traces w.list_args.new.traces.items)
+          (w.in_ok-list_args.ensures.lists kept.term kept.here) told.readies)
+      | list_step-else-entry-here w ↦
+          subst (λ ts. Lists due c.args.path.now.items kept.term told.ready (plain_traces c.args.traces.now.items) (plain_traces ts.items)) (sym w.traces-is)
+          (subst (λ x. Lists due c.args.path.now.items kept.term x (plain_traces c.args.traces.now.items) (plain_traces c.args.traces.now.items))
+          (named_one nodes c.args.here kept.term told.ready kept.here (subst (λ k. IsNamed nodes k told.ready) w.if-entry-here.false told.there))
+          (lists_start due c.args.path.now.items kept.term (plain_traces c.args.traces.now.items)))
     ] in
     let path : c.as_slice.result.now ≡ c.args.path.now.items =
     elim c.if-entry-here.branch [
-      list_step-then-entry-here+in_ok-list_args w ↦ c.as_slice.ensures ∙ ap (λ p. p.items) w.path-is ∙ w.in_ok-list_args.ensures.path
-    | list_step-else-entry-here w ↦ c.as_slice.ensures ∙ ap (λ p. p.items) w.path-is
+      | list_step-then-entry-here+in_ok-list_args w ↦ c.as_slice.ensures ∙ ap (λ p. p.items) w.path-is ∙ w.in_ok-list_args.ensures.path
+      | list_step-else-entry-here w ↦ c.as_slice.ensures ∙ ap (λ p. p.items) w.path-is
     ] in
     let mid = plain_traces c.if-entry-here.traces.items in
     let root = c.in_ok-list_root.ensures told.ready next.0 told.there next.1 next.2 ∙ ap (λ q. mid ++ traced (placed q next.0) ∷ []) path in
     let after : Lists due c.args.path.now.items told.ready next.0.new mid (plain_traces c.list_root.new.traces.items) =
-    subst (λ ts. Lists due c.args.path.now.items told.ready next.0.new mid ts) (sym root) (lists_root due c.args.path.now.items told.ready next.0 mid told.readies.settled next.1) in
-    (
+    subst (λ ts. Lists due c.args.path.now.items told.ready next.0.new mid ts) (sym root) (lists_root due c.args.path.now.items told.ready next.0 mid told.readies.settled next.1) in (
       next.0.new,
       next.2,
       subst (λ x. Lists due c.args.path.now.items x next.0.new (plain_traces c.args.traces.now.items) (plain_traces c.list_root.new.traces.items)) (named_one nodes c.args.here kept.term u kept.here n)

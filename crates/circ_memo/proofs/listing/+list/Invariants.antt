@@ -1,5 +1,5 @@
-use Rattle.std.proofs.Common.{◌≡◌, ◌<◌, ◌+◌, ◌*◌, ◌⊎◌, ℕ, length, List}
-use Rattle.circ_term.specs.Tree.{Tree, Trees, App, list_of}
+use Rattle.std.proofs.Common.{◌≡◌, ◌<◌, ◌+◌, ◌*◌, ◌⊎◌, ℕ}
+use Rattle.circ_term.specs.Tree.{Tree, Trees, App}
 use Rattle.circ_rewrite.specs.Plain.{plain_traces}
 use Rattle.circ_nodes.specs.Named.{IsNamed, AreNamed}
 use Rattle.circ_due.specs.Chosen.{due_by}

@@ -1,4 +1,4 @@
-use Rattle.std.proofs.Common.{[], ap, sym, ◌∙◌}
+use Rattle.std.proofs.Common.{◌∙◌}
 use Rattle.circ_rewrite.specs.Plain.{plain_traces}
 use Rattle.circ_nodes.proofs.Numbers.{named_one}
 use Rattle.circ_due.specs.Chosen.{due_by}
@@ -7,8 +7,7 @@ use Rattle.circ_memo.proofs.memo.listed.Goals as goal
 
 pub returns : goal.returns
 returns c = λ t n f.
-    let done = rw (c.new-path.ensures.items, c.new-traces.ensures.items) at (c.in_ok-list.ensures.lists t n) in
-    (
+    let done = rw (c.new-path.ensures.items, c.new-traces.ensures.items) at (c.in_ok-list.ensures.lists t n) in (
       c.in_ok-share.ensures.same ∙ named_one c.args.store.now.nodes c.args.entry.value c.term.result.now f.value c.term.ensures f.there,
       lists_all (due_by c.args.means.now) c.args.entry.big c.args.entry.deep t done.0 f.value f.traces (plain_traces c.list.new.traces.items) done.2 done.1 f.form.reduces,
     )

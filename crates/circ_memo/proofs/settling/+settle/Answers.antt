@@ -19,7 +19,7 @@ settle_arg-returns-then-is_still-clause-passes t c = λ u p.
     let still = c.is_still.ensures c.if-is_still.true in
     let kept = c.requires.store.kept c.arg-arg.result still.0 still.1 in
     let at = arg_is (due_by m) nodes c.args.bounds u c.args.place c.args.passing.now p c.arg-arg.result kept.term c.arg-arg.ensures kept.here in
-    (passing_still (due_by m) nodes c.args.bounds u c.args.place c.args.passing.now p kept.term still.0 at kept.form still.2, refl)
+    (passing_still (due_by m) nodes c.args.bounds u c.args.place c.args.passing.now p kept.term still.0 at kept.form still.2, refl {a = c.args.budget.now + c.args.passing.now.count})
 
 pub settle_arg-term-requires : goal.settle_arg-term-requires
 settle_arg-term-requires t c =
@@ -38,13 +38,20 @@ settle_arg-room-room-requires-clause-deep t c =
 
 pub settle_arg-room-room-requires-clause-small : goal.settle_arg-room-room-requires-clause-small
 settle_arg-room-room-requires-clause-small t c =
-    omega (arith, (arg_small (due_by c.args.means.now) c.args.store.now.nodes c.args.bounds c.requires.passing.0 c.args.place c.args.passing.now c.requires.passing.1 c.arg-arg.result c.size-own.result
-    c.term.result.now c.arg-arg.ensures c.term.ensures c.size-own.ensures.exact).2, c.size-own.ensures.small)
+    omega (
+      arith,
+      (arg_small (due_by c.args.means.now) c.args.store.now.nodes c.args.bounds c.requires.passing.0 c.args.place c.args.passing.now c.requires.passing.1 c.arg-arg.result c.size-own.result
+          c.term.result.now c.arg-arg.ensures c.term.ensures c.size-own.ensures.exact).2,
+      c.size-own.ensures.small,
+    )
 
 pub settle_arg-settle-requires : goal.settle_arg-settle-requires
 settle_arg-settle-requires t c = (
-  omega (arith, arg_measure (due_by c.args.means.now) c.args.store.now.nodes c.args.bounds c.requires.passing.0 c.args.place c.args.passing.now c.requires.passing.1 c.arg-arg.result c.args.budget.now
-      c.term.result.now c.arg-arg.ensures c.term.ensures),
+  omega (
+    arith,
+    arg_measure (due_by c.args.means.now) c.args.store.now.nodes c.args.bounds c.requires.passing.0 c.args.place c.args.passing.now c.requires.passing.1 c.arg-arg.result c.args.budget.now
+        c.term.result.now c.arg-arg.ensures c.term.ensures,
+  ),
   (
     c.requires.store,
     (
@@ -97,8 +104,7 @@ settle_arg-returns-in-Ok-clause-passes t c = λ u p.
     let a = c.term.result.now in
     let kept = c.in-Ok.ensures.settles a c.term.ensures in
     let later = passing_later due old new c.settle.ensures.extends.grows c.args.bounds u c.args.place c.args.passing.now p in
-    let named = named_later old new c.arg-arg.result a c.settle.ensures.extends.grows c.term.ensures in
-    (
+    let named = named_later old new c.arg-arg.result a c.settle.ensures.extends.grows c.term.ensures in (
       c.pass.ensures.passes due c.args.bounds u a c.arg-arg.result later c.arg-arg.ensures named c.size-own.ensures.exact kept.0.0 (rw c.room-room.ensures at kept.0.1),
       omega (arith, c.pass.ensures.count, kept.1),
     )
@@ -152,8 +158,7 @@ settle_args-loop-place-init t c =
 
 pub settle_args-settle_arg-requires : goal.settle_args-settle_arg-requires
 settle_args-settle_arg-requires t c =
-    let i = c.loop-place.invariant in
-    (
+    let i = c.loop-place.invariant in (
       omega (arith, i.count, i.passing.2.depth, depth_named_is c.args.store.now.nodes c.args.here i.passing.0 i.passing.1),
       (i.store, ((i.passing.0, i.passing.2), (omega (arith, i.len, c.loop-place-test.true), omega (arith, i.count, c.requires.fits)))),
     )
@@ -213,8 +218,7 @@ settled t c =
     c.keep_settled.ensures.kept due c.args.bounds i.0 way.0 (kept_later due a.nodes c.advance.new.nodes g a.entries.items c.settle_args.ensures.store.kept)
     (named_later a.nodes c.advance.new.nodes c.args.here i.0 g (named_later old.nodes a.nodes c.args.here i.0 c.settle_args.ensures.extends.grows i.1))
     (way_later due a.nodes c.advance.new.nodes g c.args.bounds i.0 c.in-Ok.way way.0 way.1) none.0
-    (way_kept_later a.entries.items a.nodes c.advance.new.nodes g c.args.here i.0 c.in-Ok.way.ready c.in-Ok.way.count (c.in-Ok.ensures.kept i.0 i.1)) in
-    (
+    (way_kept_later a.entries.items a.nodes c.advance.new.nodes g c.args.here i.0 c.in-Ok.way.ready c.in-Ok.way.count (c.in-Ok.ensures.kept i.0 i.1)) in (
       store_kept c.args.means.now before c.keep_settled.new.store c.keep_settled.ensures.nodes kept.0 (store_later c.args.means.now a before g refl c.settle_args.ensures.store),
       extends_on old a c.keep_settled.new.store c.settle_args.ensures.extends (extends_by a c.keep_settled.new.store (rw c.keep_settled.ensures.nodes g) kept.1),
     )
@@ -245,8 +249,7 @@ pub turn-returns-in_ok-keep_settled-in-Ok-None-clause-turns : goal.turn-returns-
 turn-returns-in_ok-keep_settled-in-Ok-None-clause-turns t c = λ u n.
     let due = due_by c.args.means.now in
     let way = c.in-Ok.ensures.finds u n in
-    let none = rw c.in-Ok-None.field-0-is at (c.in-Ok-None.ensures.advances way.0 way.1.there way.1.readies.settled) in
-    (
+    let none = rw c.in-Ok-None.field-0-is at (c.in-Ok-None.ensures.advances way.0 way.1.there way.1.readies.settled) in (
       c.in_ok-keep_settled-in-Ok-None.ensures.form due c.args.bounds u way.0
           (way_later due c.settle_args.new.store.nodes c.advance.new.nodes c.advance.ensures.grows c.args.bounds u c.in-Ok.way way.0 way.1) none.0,
       omega (arith, c.in_ok-keep_settled-in-Ok-None.ensures.count, none.1, way.2),
@@ -261,8 +264,7 @@ turn-returns-in-Ok-Some-clause-turns t c = λ u n.
     let a = c.settle_args.new.store.nodes in
     let g = c.advance.ensures.grows in
     let way = c.in-Ok.ensures.finds u n in
-    let made = rw c.in-Ok-Some.field-0-is at (c.in-Ok-Some.ensures.advances way.0 way.1.there way.1.readies.settled) in
-    (
+    let made = rw c.in-Ok-Some.field-0-is at (c.in-Ok-Some.ensures.advances way.0 way.1.there way.1.readies.settled) in (
       made.0.new,
       record {
         ready = way.0;
@@ -313,8 +315,7 @@ stepped t c =
     let kept =
     c.keep_steps.ensures.kept due c.args.bounds w.0 w.1 c.args.number c.loop-stop.here c.turn.ensures.store.kept
     (are_passed_later due c.loop-stop.store.nodes mid.nodes e.grows c.args.bounds w.0 c.loop-stop.steps.items w.1 w.4) last.0.0 last.0.1
-    (are_linked_extends c.loop-stop.store mid e c.args.number c.loop-stop.steps.items c.loop-stop.here i.linked) (rw c.in-Ok-Settled.field-0-is at c.in-Ok-Settled.ensures.kept) in
-    (
+    (are_linked_extends c.loop-stop.store mid e c.args.number c.loop-stop.steps.items c.loop-stop.here i.linked) (rw c.in-Ok-Settled.field-0-is at c.in-Ok-Settled.ensures.kept) in (
       store_kept c.args.means.now mid c.keep_steps.new.store c.keep_steps.ensures.nodes kept.0 c.turn.ensures.store,
       extends_on c.args.store.now c.loop-stop.store c.keep_steps.new.store i.extends
           (extends_on c.loop-stop.store mid c.keep_steps.new.store e (extends_by mid c.keep_steps.new.store (rw c.keep_steps.ensures.nodes (grows_self mid.nodes)) kept.1)),
@@ -349,8 +350,7 @@ settle-returns-in-Ok-Settled-clause-settles t c = λ u n.
     let due = due_by c.args.means.now in
     let w = c.loop-stop.invariant.way in
     let same = named_one c.args.store.now.nodes c.args.number w.0 u w.2 n in
-    let settled = rw c.in-Ok-Settled.field-0-is at (c.in-Ok-Settled.ensures.turns w.1 w.3) in
-    (
+    let settled = rw c.in-Ok-Settled.field-0-is at (c.in-Ok-Settled.ensures.turns w.1 w.3) in (
       subst (λ x. IsToKeep due c.keep_steps.new.store.nodes c.args.bounds x c.in_ok-keep_steps-in-Ok-Settled.field-0) same
           (c.in_ok-keep_steps-in-Ok-Settled.ensures.form due c.args.bounds w.0 w.1
           (are_passed_later due c.loop-stop.store.nodes c.turn.new.store.nodes c.turn.ensures.extends.grows c.args.bounds w.0 c.loop-stop.steps.items w.1 w.4) settled.0.0 settled.0.1),
@@ -378,8 +378,8 @@ settle-loop-stop-preserved t c =
       );
       linked =
           rw items
-              (linked_on c.turn.new.store.nodes c.turn.new.store.entries.items c.args.number c.loop-stop.steps.items c.loop-stop.here c.in-Ok-Stepped.step
-              (are_linked_extends c.loop-stop.store c.turn.new.store c.turn.ensures.extends c.args.number c.loop-stop.steps.items c.loop-stop.here i.linked) (rw c.in-Ok-Stepped.field-0-is at c.in-Ok-Stepped.ensures.kept));
+          (linked_on c.turn.new.store.nodes c.turn.new.store.entries.items c.args.number c.loop-stop.steps.items c.loop-stop.here c.in-Ok-Stepped.step
+          (are_linked_extends c.loop-stop.store c.turn.new.store c.turn.ensures.extends c.args.number c.loop-stop.steps.items c.loop-stop.here i.linked) (rw c.in-Ok-Stepped.field-0-is at c.in-Ok-Stepped.ensures.kept));
       count = omega (arith, ap passed_count items, count_on c.loop-stop.steps.items c.in-Ok-Stepped.step, stepped.2, i.count);
       below = omega (arith, depth_named_is c.turn.new.store.nodes c.in-Ok-Stepped.step.next stepped.0 stepped.1.next, stepped.1.shallow, w.5.deep, stepped.2, i.count);
     }

@@ -1,4 +1,4 @@
-use Rattle.std.proofs.Common.{arith, length-append, ap}
+use Rattle.std.proofs.Common.{arith}
 use Rattle.circ_memo.proofs.Entries.{same_push, same_on}
 use Rattle.circ_memo.proofs.store.make_room.Goals as goal
 

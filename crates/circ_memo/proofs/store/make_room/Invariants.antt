@@ -1,4 +1,4 @@
-use Rattle.std.proofs.Common.{◌≡◌, ◌≤◌, ◌+◌, length}
+use Rattle.std.proofs.Common.{◌≤◌, length}
 use Rattle.circ_memo.specs.Keeping.{HasSame}
 use Rattle.circ_memo.proofs.store.make_room.Given as goal
 

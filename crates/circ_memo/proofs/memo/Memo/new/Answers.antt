@@ -3,7 +3,9 @@ use Rattle.circ_memo.proofs.Telling.{kept_nothing}
 use Rattle.circ_memo.proofs.memo.Memo.new.Goals as goal
 
 pub invariant_of-result : goal.invariant_of-result
-invariant_of-result c = record {
-  ready = c.in_ok-means.ensures.ready c.new-2.result.nodes;
-  kept = kept_nothing (due_by c.in_ok-means.means) c.new-2.result.nodes c.new-2.result.entries.items c.new-2.ensures;
-}
+invariant_of-result c =
+    rw c.in_ok-new.ensures.ok
+    (record {
+      ready = c.in_ok-means.ensures.ready c.new-store.result.nodes;
+      kept = kept_nothing (due_by c.in_ok-means.means) c.new-store.result.nodes c.new-store.result.entries.items c.new-store.ensures;
+    })

@@ -6,11 +6,11 @@ use Rattle.circ_memo.proofs.memo.Memo.normal.Goals as goal
 pub returns-clause-exact : goal.returns-clause-exact
 returns-clause-exact c =
     elim c.match-settle_term.branch [
-      in-Ok+in_ok-listed-in-Ok w ↦ (
-        let exact = w.in-Ok.ensures.exact in
-        let form = exact.form in
-        let listed = w.in_ok-listed-in-Ok.ensures c.args.term.now exact.named form in
-        rw (w.result-is, ← c.self.view_is)
-        (exact.is ∙ ap (λ v. Normal_form v form.traces c.settle_term.new.budget) (sym listed.0) ∙ ap (λ ts. Normal_form w.in_ok-listed-in-Ok.field-0.term ts c.settle_term.new.budget) (sym listed.1)))
-    | in-Err w ↦ rw (w.result-is, ← c.self.view_is) w.in-Err.ensures.exact
+      | in-Ok+in_ok-listed-in-Ok w ↦ (
+          let exact = w.in-Ok.ensures.exact in
+          let form = exact.form in
+          let listed = w.in_ok-listed-in-Ok.ensures c.args.term.now exact.named form in
+          rw (w.result-is, ← c.self.view_is, ← c.deref_mut-work.ensures.value)
+          (exact.is ∙ ap (λ v. Normal_form v form.traces c.settle_term.new.budget) (sym listed.0) ∙ ap (λ ts. Normal_form w.in_ok-listed-in-Ok.field-0.term ts c.settle_term.new.budget) (sym listed.1)))
+      | in-Err w ↦ rw (w.result-is, ← c.self.view_is, ← c.deref_mut-work.ensures.value) w.in-Err.ensures.exact
     ]

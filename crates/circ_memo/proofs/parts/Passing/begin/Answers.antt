@@ -10,8 +10,7 @@ pub returns-clause-begins : goal.returns-clause-begins
 returns-clause-begins c = λ due b t n w.
     let shape = c.in-Application.ensures.shape t n in
     let is = named_one c.args.nodes.now c.args.number c.term-term.result.now t c.term-term.ensures n in
-    let items = c.in_ok-from_slice.ensures.ok in
-    (
+    let items = c.in_ok-from_slice.ensures.ok in (
       record {
         args = shape.0;
         traces = [];

@@ -1,7 +1,5 @@
 use Rattle.std.proofs.Common.{arith}
-use Rattle.std.specs.Prelude.{slice_set}
 use Rattle.circ_term.specs.Tree.{App, put_at}
-use Rattle.circ_nodes.specs.Named.{IsNamed, AreNamed}
 use Rattle.circ_nodes.proofs.Numbers.{are_named_set}
 use Rattle.circ_memo.proofs.Arguments.{arg_is, passing_outgrows, passing_past}
 use Rattle.circ_memo.proofs.parts.Passing.outgrow.Goals as goal

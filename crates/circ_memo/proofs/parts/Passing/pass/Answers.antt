@@ -1,4 +1,4 @@
-use Rattle.std.proofs.Common.{refl, ap, sym, subst, ◌∙◌, arith}
+use Rattle.std.proofs.Common.{refl, ap, sym, arith}
 use Rattle.circ_term.specs.Tree.{size_of}
 use Rattle.circ_nodes.proofs.Numbers.{named_one}
 use Rattle.circ_memo.proofs.Arguments.{arg_is, passing_still, passing_next, get_set_other}
