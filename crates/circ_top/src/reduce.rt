@@ -8,9 +8,9 @@ ghost use Rattle.circ_top.specs.Reduce.{result_line, results_text, IsReduced, Re
 ghost use Rattle.circ_top.specs.Reduce.{fault_status};
 
 use circ_files::{Status, push_numbered, take_script, take_theory};
+use circ_memo::Memo;
 use circ_mixfix::print;
 use circ_outer::Shelf;
-use circ_memo::Memo;
 use circ_rewrite::{RewriteFault, theory_rules};
 use circ_script::Job;
 use circ_term::Term;
