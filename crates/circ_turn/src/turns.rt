@@ -18,8 +18,9 @@ use crate::search::Search;
 use crate::state::State;
 use crate::steps::has_links;
 use circ_block::{BlockRules, share_goal};
-use circ_join::{HypothesisUse, Joining, Lemmas, Passing, Stop};
-use circ_join::{lemma_links, put_all, use_all, use_links};
+use circ_join::{
+    HypothesisUse, Joining, Lemmas, Passing, Stop, lemma_links, put_all, use_all, use_links,
+};
 use circ_record::{TermChain, TermWhy};
 use circ_split::{Sides, Splitting, normal_sides};
 use circ_theory::Goal;
