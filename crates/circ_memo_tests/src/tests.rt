@@ -1,6 +1,7 @@
 //! What no clause says: that an index and a memo are used, and that there is memory.
-ghost use Rattle.std.specs.Prelude.{IfOk};
+ghost use Rattle.std.specs.Prelude.{◌≡◌, IfOk};
 ghost use Rattle.std.specs.List.{AllByRecursion};
+ghost use Rattle.circ_term.specs.Tree.{App, none};
 ghost use Rattle.circ_rewrite.specs.Due.{IsRewriteRule};
 
 use circ_index::{PairIndex, RuleIndex};
@@ -68,7 +69,9 @@ fn constants(alloc: Global) -> Result<Theory, TheoryFault> {
     Ok(theory)
 }
 
-fn constant(alloc: Global, number: u32) -> Result<Term, TermFault> {
+fn constant(alloc: Global, number: u32) -> Result<Term, TermFault>
+    ensures { IfOk result (λ t. t ≡ App number 0 none) }
+{
     Term::app(alloc, number, 0, Vec::new(alloc))
 }
 

@@ -1,0 +1,5 @@
+use Rattle.std.specs.Prelude.{refl}
+use Rattle.circ_memo_tests.proofs.tests.step.Goals as goal
+
+pub returns : goal.returns
+returns c = rw (c.in_ok-constant.ensures, c.in_ok-constant-2.ensures) (record { application = refl; bound = refl })
