@@ -51,7 +51,8 @@ abbrev pub IsRuled : (nodes : List Tree) → List Rule → (t : Tree) → (numbe
 IsRuled nodes rules t number given r =
     (rule : Rule) × (slice_get rules number ≡ Some rule) × IsFit nodes rule t given × (r ≡ by_rule nodes rule given)
 
--- the choice is this replacement of t
+-- The choice stands for the replacement r of t: by the assumption of a number, with the number of the new term; by the canonical form under
+-- an operator; or by the rule of a number, whose left side is t with these terms for its variables. That r is due is not said here.
 abbrev pub IsChoice : (nodes : List Tree) → Means → (t : Tree) → Choice → Replacement → Type 0
 IsChoice nodes m t (Assumed number right) r = (r.reason ≡ By_assumption number) × IsNamed nodes right r.new
 IsChoice nodes m t (Content op) r =

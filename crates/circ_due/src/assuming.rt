@@ -69,23 +69,3 @@ pub(crate) fn assumed_at(assumed: &IndexMap<u32, Assumed>, number: u32) -> Optio
         None => None,
     }
 }
-
-// The same goals once more.
-pub(crate) fn share_goals(alloc: Global, goals: &[Goal]) -> Result<Vec<Goal>, AllocError>
-    ensures { IfOk result (λ v. v.items ≡ goals.now) }
-{
-    let mut copy = Vec::with_capacity(alloc, goals.len())?;
-    for goal in goals {
-        copy.push(share_goal(goal)?)?;
-    }
-    Ok(copy)
-}
-
-fn share_goal(goal: &Goal) -> Result<Goal, AllocError>
-    ensures { IfOk result (λ g. g ≡ goal.now) }
-{
-    Ok(Goal {
-        left: goal.left.share()?,
-        right: goal.right.share()?,
-    })
-}

@@ -1,7 +1,8 @@
 //! What is due at the root of an interned term, and the term that replaces it.
 //!
 //! [`Means`] are what is used to rewrite: a theory's marked operators, rules and assumptions. A
-//! replacement is chosen, then built, and a trace of it is made only where one is wanted.
+//! replacement is chosen, then built, and a trace of it is made only where one is wanted. [`laws`]
+//! states what is proved of means.
 #![tactic(auto)]
 
 mod assuming;
@@ -9,6 +10,7 @@ mod building;
 mod choice;
 mod choosing;
 mod index;
+pub mod laws;
 mod matching;
 mod means;
 mod tracing;

@@ -9,14 +9,14 @@ ghost use Rattle.circ_rewrite.specs.Plain.{plain_trace};
 ghost use Rattle.circ_rewrite.specs.Replacement.{Replacement, placed, traced};
 ghost use Rattle.circ_due.specs.Chosen.{IsReady, IsChoice, IsChosen, Chooses, due_by};
 
-use crate::assuming::{Assumed, assumed_at, kept, share_goals};
+use crate::assuming::{Assumed, assumed_at, kept};
 use crate::building::{canonical_form, instance};
 use crate::choice::Choice;
 use crate::choosing::choose_besides;
 use crate::index::Rows;
 use crate::tracing::terms_given;
 use circ_nodes::Nodes;
-use circ_rewrite::{Rule, Trace};
+use circ_rewrite::{Rule, Trace, share_goals};
 use circ_term::{Path, TermFault};
 use circ_theory::{Goal, Theory};
 use indexmap::IndexMap;

@@ -2,14 +2,13 @@
 use Rattle.std.specs.Prelude.{◌≡◌, ℕ, List, Option, Result, Ok, Err, refl}
 use Rattle.std.specs.Coded.{Coded, code_by, coded×, coded_list}
 use Rattle.circ_term.specs.Tree.{Tree}
-use Rattle.circ_term.specs.Code.{tree_code}
 use Rattle.circ_theory.specs.Theory.{Theory}
 use Rattle.circ_theory.specs.Code.{theory_code}
 use Rattle.circ_theory.specs.declared.parts.Goal.{Goal}
 use Rattle.circ_rewrite.specs.Replacement.{Replacement, Traced}
 use Rattle.circ_rewrite.specs.Norm.{Normalised, Normal_form}
 use Rattle.circ_rewrite.specs.Plain.{Faults}
-use Rattle.circ_rewrite.specs.Code.{rule_code}
+use Rattle.circ_rewrite.specs.Code.{rule_code, goal_code}
 use Rattle.circ_nodes.specs.Named.{IsNamed}
 use Rattle.circ_memo.specs.Keeping.{IsForm, IsNumberKept}
 use Rattle.circ_memo.specs.declared.parts.Entry.{Entry}
@@ -21,9 +20,6 @@ pub record Rewriting : Type 0 where
   pub theory : Theory
   pub rules : List Rule
   pub assumptions : List Goal
-
-abbrev pub goal_code : Coded Goal
-goal_code = code_by (Tree × Tree) (coded× tree_code tree_code) (λ g. (g.left, g.right)) (λ p. record { left = p.0; right = p.1 }) (λ _. refl)
 
 abbrev pub rewriting_code : Coded Rewriting
 rewriting_code =

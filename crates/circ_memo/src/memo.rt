@@ -84,7 +84,8 @@ impl<'a> Memo<'a> {
     }
 
     /// The normal form of a term, without its traces. The budget falls by one for each replacement,
-    /// whether it is made or known. After a fault it holds what was left.
+    /// whether it is made or known. After a limit is passed it holds what was left, and after want
+    /// of memory no more than before.
     pub fn value(&mut self, term: &Term, budget: &mut u64) -> Result<Term, RewriteFault>
         ensures exact { AnswersValue result budget.new (norm self.old.theory.signature
             self.old.rules self.old.assumptions budget.old term.now) }
@@ -98,9 +99,9 @@ impl<'a> Memo<'a> {
         }
     }
 
-    /// The normal form of a term with its traces, as `circ_rewrite::normalise` gives it. The budget
-    /// falls by one for each replacement, whether it is made or known. After a fault it holds what
-    /// was left.
+    /// The normal form of a term with its traces, as [`normalise`](crate::normalise) gives it. The
+    /// budget falls by one for each replacement, whether it is made or known. After a limit is
+    /// passed it holds what was left, and after want of memory no more than before.
     pub fn normal(&mut self, term: &Term, budget: &mut u64) -> Result<Normal, RewriteFault>
         ensures exact { Answers result budget.new (norm self.old.theory.signature
             self.old.rules self.old.assumptions budget.old term.now) }

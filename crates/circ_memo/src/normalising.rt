@@ -14,7 +14,8 @@ use std::alloc::Global;
 /// The normal form of a term under a theory's marked operators, with rules and assumptions. The
 /// assumptions are tried first, the outermost of them before the others, and the rules last.
 ///
-/// The budget falls by one for each replacement. After a fault it holds what was left.
+/// The budget falls by one for each replacement. After a limit is passed it holds what was left,
+/// and after want of memory no more than before.
 pub fn normalise(
     alloc: Global,
     theory: &Theory,

@@ -1,7 +1,7 @@
 -- Terms and their numbers.
-use Rattle.std.specs.Prelude.{◌≡◌, ℕ, List, [], ◌∷◌, ◌++◌, Some, Result, Ok, Err}
+use Rattle.std.specs.Prelude.{◌≡◌, ◌⊎◌, ℕ, List, [], ◌∷◌, ◌++◌, Some, Result, Ok, Err}
 use Rattle.std.specs.List.{slice_get}
-use Rattle.circ_term.specs.Tree.{Tree, Trees, Var, App, none, more}
+use Rattle.circ_term.specs.Tree.{Tree, Trees, Var, App, none, more, at}
 use Rattle.circ_term.specs.Limits.{first_limit, IsWithinLimits, Names}
 use Rattle.circ_term.specs.declared.fault.TermFault.{TermFault}
 use Rattle.circ_nodes.specs.declared.nodes.Shape.{Shape}
@@ -21,6 +21,22 @@ AreNamed nodes (n ∷ ns) (more t ts) = IsNamed nodes n t × AreNamed nodes ns t
 -- terms were added, and the numbers of the others stay
 abbrev pub Grows : (old new : List Tree) → Type 0
 Grows old new = (rest : List Tree) × (new ≡ old ++ rest)
+
+-- t was entered and nothing else: the terms are those of before where it has a number there, and else it comes last
+abbrev pub Enters : (old new : List Tree) → Tree → Type 0
+Enters old new t = ((n : ℕ) × IsNamed old n t × (new ≡ old)) ⊎ (((n : ℕ) → IsNamed old n t → ⊥) × (new ≡ old ++ t ∷ []))
+
+-- each term that was added is such
+abbrev pub Adds : (Tree → Type 0) → (old new : List Tree) → Type 0
+Adds P old new = (n : ℕ) (t : Tree) → IsNamed new n t → IsNamed old n t ⊎ P t
+
+-- u stands in t at some path
+abbrev pub IsPart : (t u : Tree) → Type 0
+IsPart t u = (p : List ℕ) × (at t p ≡ Some u)
+
+-- u stands in one of these terms
+abbrev pub IsPartOfSome : List Tree → Tree → Type 0
+IsPartOfSome ts u = (i : ℕ) × (t : Tree) × (slice_get ts i ≡ Some t) × IsPart t u
 
 -- no term has two numbers
 abbrev pub IsOnce : List Tree → Type 0

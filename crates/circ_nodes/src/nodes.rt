@@ -1,10 +1,11 @@
 //! Terms that are kept by number.
 ghost use Rattle.std.specs.Prelude.{◌≡◌, ◌<◌, ◌≤◌, ◌^◌, ℕ, [], length};
-ghost use Rattle.std.specs.Prelude.{None, IfOk};
+ghost use Rattle.std.specs.Prelude.{◌++◌, ◌∷◌, None, IfOk, OnOk, OnErr};
 ghost use Rattle.std.specs.List.{AllByRecursion};
 ghost use Rattle.circ_term.specs.Tree.{Tree, Trees, Var, App, args_of, trees_of};
 ghost use Rattle.circ_term.specs.Limits.{Builds};
 ghost use Rattle.circ_nodes.specs.Named.{IsNamed, AreNamed, Grows, IsOnce, HasShape, Interns};
+ghost use Rattle.circ_nodes.specs.Named.{Enters, Adds, IsPart, IsPartOfSome};
 ghost use Rattle.circ_nodes.specs.Roots.{HasRoot, Finds, plain_root};
 
 use crate::Numbers;
@@ -114,22 +115,27 @@ impl Nodes {
         }
     }
 
-    /// The number of a variable.
+    /// The number of a variable. After want of memory the terms are as before.
     pub fn variable(&mut self, number: u32, sort: u32) -> Result<u32, AllocError>
         ensures grows { Grows self.old self.new }
         ensures named { IfOk result (λ n. IsNamed self.new n (Var number sort)) }
+        ensures enters { OnOk result (Enters self.old self.new (Var number sort)) }
+        ensures err { OnErr result (self.new ≡ self.old) }
     {
         self.enter(Root::Variable { number, sort }, &Term::var(number, sort))
     }
 
     /// The number of an operator on the terms of these numbers. Costs as much as there are
-    /// arguments.
+    /// arguments. After a fault the terms are as before.
     pub fn app(&mut self, op: u32, sort: u32, args: Numbers) -> Result<u32, TermFault>
         requires few { length args.items ≤ MOST_ARGS }
         requires there { AllByRecursion (λ n. n < length self.old) args.items }
         ensures grows { Grows self.old self.new }
         ensures interns { (ts : Trees) → AreNamed self.old args.items ts
             → Interns self.new result (App op sort ts) }
+        ensures enters { (ts : Trees) → AreNamed self.old args.items ts
+            → OnOk result (Enters self.old self.new (App op sort ts)) }
+        ensures err { OnErr result (self.new ≡ self.old) }
     {
         let root = Root::Application { op, sort, args };
         if let Some(number) = self.find(&root) {
@@ -142,10 +148,12 @@ impl Nodes {
         }
     }
 
-    /// The number of a term. Each node is looked up once, counted as a tree.
+    /// The number of a term. Each node is looked up once, counted as a tree. Nothing but parts of
+    /// the term is added, also before want of memory.
     #[cycle(intern)]
     pub fn intern(&mut self, term: &Term) -> Result<u32, AllocError>
         ensures grows { Grows self.old self.new }
+        ensures parts { Adds (IsPart term.now) self.old self.new }
         ensures named { IfOk result (λ n. IsNamed self.new n term.now) }
     {
         match term.kind() {
@@ -160,6 +168,7 @@ impl Nodes {
     #[cycle(intern)]
     fn intern_all(&mut self, terms: &[Term]) -> Result<Numbers, AllocError>
         ensures grows { Grows self.old self.new }
+        ensures parts { Adds (IsPartOfSome terms.now) self.old self.new }
         ensures named { IfOk result (λ ns. AreNamed self.new ns.items (trees_of terms.now)) }
     {
         let mut numbers = Numbers::with_capacity(self.alloc, terms.len())?;
@@ -174,6 +183,8 @@ impl Nodes {
         requires { HasRoot self.old (plain_root root) term.now }
         ensures grows { Grows self.old self.new }
         ensures named { IfOk result (λ n. IsNamed self.new n term.now) }
+        ensures enters { OnOk result (Enters self.old self.new term.now) }
+        ensures err { OnErr result (self.new ≡ self.old) }
     {
         match self.find(&root) {
             Some(number) => Ok(number),
@@ -222,6 +233,8 @@ impl Nodes {
         requires fresh { Finds self.old term None }
         ensures grows { Grows self.old self.new }
         ensures named { IfOk result (λ n. IsNamed self.new n term) }
+        ensures put { OnOk result (self.new ≡ self.old ++ term ∷ []) }
+        ensures err { OnErr result (self.new ≡ self.old) }
     {
         let number = self.len();
         if number >= MOST_TERMS {

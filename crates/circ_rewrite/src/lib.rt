@@ -2,15 +2,18 @@
 //!
 //! What the normal form of a term is under rules and assumptions is defined in `specs`, by the first
 //! place at which a replacement is due, and says nothing of the order of the work. Here are the
-//! types of rules, of the [`Trace`] of each replacement, and of what comes of normalising; and
-//! [`theory_rules`] lists the rules of a theory. [`laws`] states what is proved of normal forms.
+//! types of rules, of the [`Trace`] of each replacement, and of what comes of normalising;
+//! [`theory_rules`] lists the rules of a theory, and [`share_goals`] gives goals once more.
+//! [`laws`] states what is proved of normal forms.
 #![tactic(auto)]
 
 mod fault;
+mod goals;
 pub mod laws;
 mod listing;
 mod parts;
 
 pub use fault::RewriteFault;
+pub use goals::{share_goal, share_goals, share_goals_to};
 pub use listing::theory_rules;
 pub use parts::{Normal, Rule, RuleName, Trace, share_rules};

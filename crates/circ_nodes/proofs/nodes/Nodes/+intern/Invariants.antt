@@ -1,6 +1,6 @@
 use Rattle.std.proofs.Common.{◌+◌, ◌*◌, drop}
 use Rattle.circ_term.specs.Tree.{trees_of, depth_of, depths_of}
-use Rattle.circ_nodes.specs.Named.{Grows}
+use Rattle.circ_nodes.specs.Named.{Grows, Adds, IsPartOfSome}
 use Rattle.circ_nodes.proofs.Adding.{Numbered}
 use Rattle.circ_nodes.proofs.nodes.Nodes.+intern.Given as goal
 
@@ -14,5 +14,6 @@ abbrev pub invariant-intern_all-loop-term : goal.invariant-intern_all-loop-term
 invariant-intern_all-loop-term l =
     record {
       grows : Grows l.fn.self l.self;
+      parts : Adds (IsPartOfSome l.terms) l.fn.self l.self;
       numbered : Numbered l.self l.terms (drop l.term-index l.terms) l.numbers.items;
     }
