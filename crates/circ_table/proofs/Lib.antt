@@ -1,0 +1,4 @@
+pub mod Firsts
+pub mod Placing
+pub mod Chains
+pub mod Measuring

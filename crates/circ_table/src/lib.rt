@@ -2,6 +2,8 @@
 //! term is built where it is asked for.
 #![tactic(auto)]
 
+mod lines;
+mod links;
 mod named;
 mod rows;
 mod table;
