@@ -136,12 +136,12 @@ linked_more keys next heads count key link chain there is read h = record {
         let R : ℕ → Type 0 = λ n. IsNewest keys (length heads) chain count n in
         subst P (sym s) (subst Q (sym is ∙ ap (λ n. n % length heads) same) (subst R put (h.newest chain link read)))
 
--- a key more, and room for a link more
-pub linked_longer : (keys : List (Option ℕ)) (key : Option ℕ) (next : List ℕ) (extra : ℕ) (heads : List ℕ) → length next ≡ length keys
-    → IsLinked keys next heads (length keys) → IsLinked (keys ++ key ∷ []) (next ++ extra ∷ []) heads (length keys)
-linked_longer keys key next extra heads long h = record {
-  newest = λ chain link e. longer chain (length keys) link (omega arith) (h.newest chain link e);
-  older = λ m k link b e f. longer (k % length heads) m link (omega arith) (h.older m k link b (get_back keys (key ∷ []) m (Some k) b e) (get_back next (extra ∷ []) m link (omega arith) f));
+-- a key more
+pub linked_key : (keys : List (Option ℕ)) (key : Option ℕ) (next heads : List ℕ) (count : ℕ) → count ≤ length keys
+    → IsLinked keys next heads count → IsLinked (keys ++ key ∷ []) next heads count
+linked_key keys key next heads count few h = record {
+  newest = λ chain link e. longer chain count link few (h.newest chain link e);
+  older = λ m k link b e f. longer (k % length heads) m link (omega arith) (h.older m k link b (get_back keys (key ∷ []) m (Some k) (omega arith) e) f);
 }
   where
     longer : (chain count link : ℕ) → count ≤ length keys → IsNewest keys (length heads) chain count link → IsNewest (keys ++ key ∷ []) (length heads) chain count link
@@ -154,6 +154,13 @@ linked_longer keys key next extra heads long h = record {
             → (link ≡ END) ⊎ ((END < link) × (link ≤ count) × StandsIn (keys ++ key ∷ []) (length heads) chain (link - 1))
         there (inl e) = inl e
         there (inr s) = inr (s.0, s.1, (s.2.0, get_front keys (key ∷ []) (link - 1) (Some s.2.0) s.2.1, s.2.2))
+
+-- room for a link more
+pub linked_next : (keys : List (Option ℕ)) (next : List ℕ) (extra : ℕ) (heads : List ℕ) → IsLinked keys next heads (length next) → IsLinked keys (next ++ extra ∷ []) heads (length next)
+linked_next keys next extra heads h = record {
+  newest = h.newest;
+  older = λ m k link b e f. h.older m k link b e (get_back next (extra ∷ []) m link b f);
+}
 
 -- ---- how a chain is gone through
 

@@ -6,7 +6,8 @@ use Rattle.std.proofs.Common.{ap, sym, subst, ◌∙◌, arith, get_or}
 use Rattle.std.proofs.lemmas.Bool.{eqb-true, eq-eqb}
 use Rattle.std.proofs.lemmas.List.{get_or-take}
 use Rattle.std.proofs.lemmas.Option.{same_Some, slice_get_within, get_or_from_slice_get}
-use Rattle.circ_term.specs.Tree.{Tree, Var}
+use Rattle.circ_term.specs.Tree.{Tree, Var, trees_of}
+use Rattle.circ_term.specs.Limits.{or_else, first_limit, first_limits, IsWithinLimits}
 use Rattle.circ_term.specs.Order.{is_same}
 use Rattle.circ_term.proofs.Order.{same_itself}
 use Rattle.circ_replay.specs.Table.{has, number_in}
@@ -124,3 +125,12 @@ pub picked_take : (table : List Tree) (m : ℕ) (ns : List ℕ) → AllByRecursi
 picked_take table m [] h = refl
 picked_take table m (n ∷ ns) h =
     ap (λ t. t ∷ picked (take m table) ns) (get_or-take m table n (Var 0 0) h.0) ∙ ap (λ ts. get_or table n (Var 0 0) ∷ ts) (picked_take table m ns h.1)
+
+pub firsts_within : (table : List Tree) (ns : List ℕ) (ts : List Tree) → ((n : ℕ) (t : Tree) → slice_get table n ≡ Some t → IsWithinLimits t) → firsts_at table ns ≡ Some ts
+    → first_limits (trees_of ts) ≡ None
+firsts_within table [] ts h e = ap (λ us. first_limits (trees_of us)) (sym (same_Some [] ts e))
+firsts_within table (n ∷ ns) ts h e =
+    let p = firsts_next table n ns ts e in
+    ap (λ us. first_limits (trees_of us)) p.4
+    ∙ ap (λ o. or_else o (first_limits (trees_of p.1))) (h n p.0 (first_parts table n p.0 p.2).0)
+    ∙ firsts_within table ns p.1 h p.3

@@ -2,3 +2,4 @@ pub mod Firsts
 pub mod Placing
 pub mod Chains
 pub mod Measuring
+pub mod Growing

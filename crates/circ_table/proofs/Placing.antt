@@ -25,7 +25,7 @@ slice_longer : (args extra : List ℕ) (s e : ℕ) → s ≤ e → e ≤ length 
 slice_longer args extra s e a b =
     ap (take (e - s)) (drop-append-le s args extra (omega arith)) ∙ take-append-le (e - s) (drop s args) extra (let d = length-drop s args in omega arith)
 
-abbrev with_args : Row → List ℕ → PlainRoot
+abbrev pub with_args : Row → List ℕ → PlainRoot
 with_args r ns = record { is_variable = r.is_variable; name = r.name; sort = r.sort; args = ns }
 
 pub root_longer : (args extra : List ℕ) (start : ℕ) (r : Row) → start ≤ r.end → r.end ≤ length args → row_root (args ++ extra) start r ≡ row_root args start r
@@ -289,3 +289,11 @@ root_found args rows p h there e =
 
 pub first_past : (table : List Tree) (n : ℕ) → length table ≤ n → first_at table n ≡ None
 first_past table n h = ap (λ o. option_and_then (λ u. if number_in table u == n then Some u else None) o) (slice_get_past table n h)
+
+-- each term is within the limits
+pub trees_within : (args : List ℕ) (rows : List Row) (n : ℕ) (t : Tree) → AreRowsFrom args [] 0 rows → slice_get (trees_from args [] 0 rows) n ≡ Some t → IsWithinLimits t
+trees_within args rows n t h e =
+    let long = length_trees args [] 0 rows in
+    let below = slice_get_within (trees_from args [] 0 rows) n t e in
+    let r = get_there rows n (omega arith) in
+    let k = (rows_at args [] 0 rows n n r.0 h r.1 (omega arith)).0 in let P : Tree → Type 0 = λ x. IsWithinLimits x in subst P (own_is k t e) k.node.within

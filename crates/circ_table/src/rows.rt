@@ -1,9 +1,9 @@
 //! A table to which terms are added.
-ghost use Rattle.std.specs.Prelude.{◌≡◌, ◌+◌, ◌*◌, ◌<◌, ◌≤◌, ◌++◌, ◌∷◌, [], List, length, Some};
+ghost use Rattle.std.specs.Prelude.{◌≡◌, ◌+◌, ◌*◌, ◌<◌, ◌≤◌, ◌++◌, ◌∷◌, [], List, length, Some, None};
 ghost use Rattle.std.specs.Prelude.{IfOk, OnOk, OnErr};
 ghost use Rattle.std.specs.Option.{option_map};
 ghost use Rattle.circ_term.specs.Tree.{Tree, Var, App, trees_of, sort_of, sizes_of, depths_of};
-ghost use Rattle.circ_term.specs.Limits.{node_limit, depth_limit};
+ghost use Rattle.circ_term.specs.Limits.{node_limit, depth_limit, first_limits};
 ghost use Rattle.circ_replay.specs.Table.{term_limit};
 ghost use Rattle.circ_table.specs.Table.{first_at, firsts_at, Adds};
 ghost use Rattle.circ_table.specs.Lines.{plain, tree_at, IsNode};
@@ -137,6 +137,8 @@ impl Rows {
             → result.0 ≡ sizes_of (trees_of ts) }
         ensures depths { (ts : List Tree) → firsts_at self.now args.now ≡ Some ts
             → result.1 ≡ depths_of (trees_of ts) }
+        ensures within { (ts : List Tree) → firsts_at self.now args.now ≡ Some ts
+            → first_limits (trees_of ts) ≡ None }
         ensures few { result.0 ≤ MOST_ARGS * node_limit }
         ensures shallow { result.1 ≤ depth_limit }
     {

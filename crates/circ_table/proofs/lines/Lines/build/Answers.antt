@@ -7,21 +7,21 @@ use Rattle.circ_table.proofs.lines.Lines.build.Goals as goal
 pub returns-then-root : goal.returns-then-root
 returns-then-root c =
     let l = c.args.self.now in
-    let p = c.root.result in
-    let k = (root_known l.args.items l.rows.items c.args.place (plain p) c.requires.lines c.requires.place c.root.ensures).1 in
+    let p = c.root-root.result in
+    let k = (root_known l.args.items l.rows.items c.args.place (plain p) c.requires.lines c.requires.place c.root-root.ensures).1 in
     own_there k ∙ ap Some (own_node k ∙ ap (λ b. node_of b p.name p.sort (args_of (own k))) c.if-root.true ∙ sym c.var.ensures)
 
 pub app-requires : goal.app-requires
 app-requires c =
     let l = c.args.self.now in
-    let k = (root_known l.args.items l.rows.items c.args.place (plain c.root.result) c.requires.lines c.requires.place c.root.ensures).1 in
+    let k = (root_known l.args.items l.rows.items c.args.place (plain c.root-root.result) c.requires.lines c.requires.place c.root-root.ensures).1 in
     omega (arith, own_few k, ap length (c.requires.args (own k) (own_there k)))
 
 pub returns-in-Ok : goal.returns-in-Ok
 returns-in-Ok c =
     let l = c.args.self.now in
-    let p = c.root.result in
-    let k = (root_known l.args.items l.rows.items c.args.place (plain p) c.requires.lines c.requires.place c.root.ensures).1 in
+    let p = c.root-root.result in
+    let k = (root_known l.args.items l.rows.items c.args.place (plain p) c.requires.lines c.requires.place c.root-root.ensures).1 in
     own_there k
     ∙ ap Some
     (own_node k ∙ ap (λ b. node_of b p.name p.sort (args_of (own k))) c.if-root.false
