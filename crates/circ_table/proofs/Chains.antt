@@ -162,6 +162,18 @@ linked_next keys next extra heads h = record {
   older = λ m k link b e f. h.older m k link b e (get_back next (extra ∷ []) m link b f);
 }
 
+-- the chains with a row more
+pub linked_pushed : (args ns new_args : List ℕ) (rows new_rows : List Row) (r : Row) (next heads : List ℕ) (count : ℕ) → AreRowsFrom args [] 0 rows → new_rows ≡ rows ++ r ∷ [] → new_args ≡ args ++ ns
+    → count ≡ length rows → IsLinked (keys_from args 0 rows) next heads (length rows) → IsLinked (keys_from new_args 0 new_rows) next heads count
+linked_pushed args ns new_args rows new_rows r next heads count h same_rows same_args long linked =
+    let k = keys_pushed args ns rows r h in
+    let all = length_keys args 0 rows in
+    let P : List (Option ℕ) → Type 0 = λ ks. IsLinked ks next heads (length rows) in
+    let Q : List Row → Type 0 = λ x. IsLinked (keys_from (args ++ ns) 0 x) next heads (length rows) in
+    let R : List ℕ → Type 0 = λ x. IsLinked (keys_from x 0 new_rows) next heads (length rows) in
+    let S : ℕ → Type 0 = λ n. IsLinked (keys_from new_args 0 new_rows) next heads n in
+    subst S (sym long) (subst R (sym same_args) (subst Q (sym same_rows) (subst P (sym k.1) (linked_key (keys_from args 0 rows) k.0 next heads (length rows) (omega arith) linked))))
+
 -- ---- how a chain is gone through
 
 -- Down to a link no term that is the first of its kind has the root.

@@ -3,3 +3,4 @@ pub mod Placing
 pub mod Chains
 pub mod Measuring
 pub mod Growing
+pub mod Naming

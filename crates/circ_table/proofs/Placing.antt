@@ -297,3 +297,13 @@ trees_within args rows n t h e =
     let below = slice_get_within (trees_from args [] 0 rows) n t e in
     let r = get_there rows n (omega arith) in
     let k = (rows_at args [] 0 rows n n r.0 h r.1 (omega arith)).0 in let P : Tree → Type 0 = λ x. IsWithinLimits x in subst P (own_is k t e) k.node.within
+
+-- all that is known once a term went last
+pub pushed : (args ns new_args : List ℕ) (rows new_rows : List Row) (r : Row) → AreRowsFrom args [] 0 rows → r.end ≡ length args + length ns
+    → IsNode (trees_from args [] 0 rows) (with_args r ns) r.size r.depth
+    → r.is_first ≡ not (has (trees_from args [] 0 rows) (tree_at (trees_from args [] 0 rows) (with_args r ns))) → new_rows ≡ rows ++ r ∷ [] → new_args ≡ args ++ ns
+    → AreRowsFrom new_args [] 0 new_rows × (trees_from new_args [] 0 new_rows ≡ trees_from args [] 0 rows ++ tree_at (trees_from args [] 0 rows) (with_args r ns) ∷ [])
+pushed args ns new_args rows new_rows r h e node first same_rows same_args =
+    let P : List Row → Type 0 = λ x. AreRowsFrom (args ++ ns) [] 0 x × (trees_from (args ++ ns) [] 0 x ≡ trees_from args [] 0 rows ++ tree_at (trees_from args [] 0 rows) (with_args r ns) ∷ []) in
+    let Q : List ℕ → Type 0 = λ x. AreRowsFrom x [] 0 new_rows × (trees_from x [] 0 new_rows ≡ trees_from args [] 0 rows ++ tree_at (trees_from args [] 0 rows) (with_args r ns) ∷ []) in
+    subst Q (sym same_args) (subst P (sym same_rows) (rows_pushed args ns [] 0 rows r h e node first, trees_pushed args ns [] 0 rows r h e))

@@ -1,9 +1,10 @@
 //! The terms of a table that were asked for.
-ghost use Rattle.std.specs.Prelude.{◌≡◌, ◌<◌, ◌≤◌, ◌^◌, [], length, Some, None, IfOk};
+ghost use Rattle.std.specs.Prelude.{◌≡◌, ◌<◌, ◌≤◌, ◌^◌, [], length, Some, IfOk, OnOk, OnErr};
 ghost use Rattle.std.specs.List.{slice_get};
 ghost use Rattle.std.specs.Option.{IfSome};
-ghost use Rattle.circ_term.specs.Tree.{Tree, args_of};
+ghost use Rattle.circ_term.specs.Tree.{Tree};
 ghost use Rattle.circ_table.specs.Table.{Grows, AreIn};
+ghost use Rattle.circ_table.specs.Placed.{HaveLength, ArePlacesOf};
 
 use crate::table::Table;
 use circ_term::Term;
@@ -131,11 +132,22 @@ impl NamedTerms {
         if place >= ABSENT as usize {
             return Err(AllocError);
         }
-        if self.places.is_empty() {
-            self.places.resize(self.table.len(), ABSENT)?;
-        }
+        make_places(self.alloc, &mut self.places, self.table.len())?;
         self.terms.push(term)?;
         self.places[number as usize] = place as u32;
         Ok(place as u32)
     }
+}
+
+// Makes places for so many terms, if there are none.
+fn make_places(alloc: Global, places: &mut Vec<u32>, count: usize) -> Result<(), AllocError>
+    requires { HaveLength places.old.items count }
+    ensures long { OnOk result (length places.new.items ≡ count) }
+    ensures kept { OnOk result (ArePlacesOf places.old.items places.new.items) }
+    ensures err { OnErr result (places.new.items ≡ places.old.items) }
+{
+    if places.is_empty() {
+        *places = vec![in alloc; ABSENT; count]?;
+    }
+    Ok(())
 }

@@ -28,7 +28,7 @@ returns-then-same c =
     let within = sought_within l.args.items l.rows.items (length c.args.self.now.heads.items) p c.loop-link.link c.loop-link.invariant (omega arith) in
     let r = get_there l.rows.items n within in
     let same = same_Some (row_root l.args.items (begin_of 0 l.rows.items n) r.0) (plain c.root.result) (sym (roots_at l.args.items 0 l.rows.items n r.0 r.1) ∙ c.root.ensures) in
-    sym (found_root l.args.items l.rows.items n r.0 p c.requires.lines r.1 (same ∙ c.if-same.ensures.0 c.if-same.true))
+    sym (found_root l.args.items l.rows.items n r.0 p c.requires.lines r.1 (same ∙ c.if-same.ensures.0 refl))
 
 pub loop-link-smaller : goal.loop-link-smaller
 loop-link-smaller c =

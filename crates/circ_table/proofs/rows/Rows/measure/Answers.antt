@@ -1,5 +1,5 @@
-use Rattle.std.proofs.Common.{◌≡◌, ◌+◌, ◌<◌, ◌∙◌, max, List, length, drop, refl, ap, sym, subst, arith, get_or, []}
-use Rattle.std.proofs.lemmas.List.{drop_all}
+use Rattle.std.proofs.Common.{◌≡◌, ◌+◌, ◌<◌, ◌∙◌, Some, max, List, length, drop, refl, ap, sym, subst, arith, get_or, []}
+use Rattle.std.specs.List.{slice_get}
 use Rattle.std.proofs.lemmas.Option.{slice_get_read, slice_get_within, slice_get-get_or, get_or_from_slice_get}
 use Rattle.circ_term.specs.Tree.{Tree}
 use Rattle.circ_table.specs.Lines.{trees}
@@ -39,3 +39,9 @@ loop-arg-preserved c =
       few = omega (arith, own.2, c.loop-arg.invariant.few);
       shallow = omega (arith, own.3, c.loop-arg.invariant.shallow, c.max-depths.ensures);
     }
+
+pub returns-clause-within : goal.returns-clause-within
+returns-clause-within c = λ ts e.
+    let l = c.self.inside.lines in
+    firsts_within c.args.self.now c.args.args.now ts
+    (λ n t g. let P : List Tree → Type 0 = λ x. slice_get x n ≡ Some t in trees_within l.args.items l.rows.items n t c.self.invariant.lines (subst P (sym c.self.view_is) g)) e
