@@ -6,15 +6,8 @@ use Rattle.circ_term.specs.Tree.{Tree, Var, App, list_of}
 use Rattle.circ_theory.specs.Signature.{Signature}
 use Rattle.circ_theory.specs.Adding.{application}
 use Rattle.circ_replay.specs.Table.{number_in}
+pub use Rattle.circ_table.specs.Table.{first_at, firsts_at}
 use Rattle.circ_line.specs.Line.{TableLine, Variable_line, Application_line}
-
--- the term of which this is the least number
-abbrev pub first_at : List Tree → ℕ → Option Tree
-first_at table n = option_and_then (λ t. if number_in table t == n then Some t else None) (slice_get table n)
-
-abbrev pub firsts_at : List Tree → List ℕ → Option (List Tree)
-firsts_at table [] = Some []
-firsts_at table (n ∷ ns) = option_and_then (λ t. option_map (λ ts. t ∷ ts) (firsts_at table ns)) (first_at table n)
 
 -- The term of a line, where the lines before it have the terms of the table. The sort exists, or the operator does and takes the named terms; each
 -- argument is named by its least number.

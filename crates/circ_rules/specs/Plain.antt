@@ -31,7 +31,7 @@ plain_block b = record { goals = b.goals.items; names = b.names.items; steps = p
 
 -- the parts of a proof that a reader hands out
 abbrev pub plain_part : ThePart → Part
-plain_part (part.Head table gamma) = Head table.items gamma
+plain_part (part.Head table gamma) = Head table gamma
 plain_part (part.Certificate links) = Certificate (plain_links links.items)
 plain_part (part.Goals goals names) = Goals goals.items names.items
 plain_part (part.Step step) = parts.Step (plain_step step)

@@ -2,7 +2,7 @@
 use crate::proof::Step;
 use circ_replay::Link;
 use circ_special::Gamma;
-use circ_term::Term;
+use circ_table::Table;
 use circ_theory::Goal;
 
 /// A part of a proof, in the order of its text.
@@ -10,7 +10,7 @@ use circ_theory::Goal;
 pub enum Part {
     /// The table and the special set.
     Head {
-        table: Vec<Term>,
+        table: Table,
         gamma: Gamma,
     },
     /// A certificate of the special set.

@@ -1,0 +1,250 @@
+-- How a term is put into its chain, and how a chain is gone through.
+use Rattle.std.specs.Prelude.{◌≡◌, ℕ, zero, suc, ◌+◌, ◌-◌, ◌%◌, ◌≤◌, ◌<◌, Bool, true, false, if◌then◌else◌, List, [], ◌∷◌, ◌++◌, length, replicate, slice_set, Option, Some, None, refl}
+use Rattle.std.specs.List.{slice_get}
+use Rattle.std.proofs.Common.{ap, sym, subst, ◌∙◌, arith, ◌⊎◌, inl, inr, length-append}
+use Rattle.std.proofs.lemmas.Bool.{cases_eq}
+use Rattle.std.proofs.lemmas.List.{length-set}
+use Rattle.std.proofs.lemmas.Option.{same_Some, slice_get_within}
+use Rattle.circ_term.specs.Tree.{Tree}
+use Rattle.circ_replay.specs.Table.{has}
+use Rattle.circ_table.specs.declared.lines.Row.{Row}
+use Rattle.circ_table.specs.declared.links.TheConstants.{END}
+use Rattle.circ_table.specs.Lines.{PlainRoot, row_root, begin_of, tree_at, trees_from, IsThere, AreRowsFrom}
+use Rattle.circ_table.specs.Links.{hash_of, keys_from, StandsIn, IsNewest, IsLinked}
+use Rattle.circ_table.proofs.Firsts.{get_front, get_back}
+use Rattle.circ_table.proofs.Placing.{last_end, root_longer, rows_ahead, root_found}
+
+-- ---- what is read where a list was written
+
+get_put : (xs : List ℕ) (i x y : ℕ) → slice_get (slice_set xs i x) i ≡ Some y → x ≡ y
+get_put [] i x y g = absurd (cc)
+get_put (z ∷ xs) zero x y g = same_Some x y g
+get_put (z ∷ xs) (suc i) x y g = get_put xs i x y g
+
+get_other : (xs : List ℕ) (i j x y : ℕ) → (i ≡ j → ⊥) → slice_get (slice_set xs i x) j ≡ Some y → slice_get xs j ≡ Some y
+get_other [] i j x y h g = g
+get_other (z ∷ xs) zero zero x y h g = absurd (h refl)
+get_other (z ∷ xs) zero (suc j) x y h g = g
+get_other (z ∷ xs) (suc i) zero x y h g = g
+get_other (z ∷ xs) (suc i) (suc j) x y h g = get_other xs i j x y (λ e. h (ap suc e)) g
+
+get_replicate : (n x i y : ℕ) → slice_get (replicate n x) i ≡ Some y → y ≡ x
+get_replicate zero x i y e = absurd (cc)
+get_replicate (suc n) x zero y e = sym (same_Some x y e)
+get_replicate (suc n) x (suc i) y e = get_replicate n x i y e
+
+-- ---- the hashes of the rows
+
+abbrev pub key_of : (args : List ℕ) (start : ℕ) → Row → Option ℕ
+key_of args start r = if r.is_first then Some (hash_of (row_root args start r)) else None
+
+pub length_keys : (args : List ℕ) (start : ℕ) (rows : List Row) → length (keys_from args start rows) ≡ length rows
+length_keys args start [] = refl
+length_keys args start (r ∷ rs) = ap suc (length_keys args r.end rs)
+
+pub keys_at : (args : List ℕ) (start : ℕ) (rows : List Row) (n : ℕ) (r : Row) → slice_get rows n ≡ Some r
+    → slice_get (keys_from args start rows) n ≡ Some (key_of args (begin_of start rows n) r)
+keys_at args start [] n r e = absurd (cc)
+keys_at args start (q ∷ rows) zero r e = ap (λ x. Some (key_of args start x)) (same_Some q r e)
+keys_at args start (q ∷ rows) (suc n) r e = keys_at args q.end rows n r e
+
+keys_push : (args : List ℕ) (start : ℕ) (rows : List Row) (r : Row) → keys_from args start (rows ++ r ∷ []) ≡ keys_from args start rows ++ key_of args (last_end start rows) r ∷ []
+keys_push args start [] r = refl
+keys_push args start (q ∷ rows) r = ap (λ ks. key_of args start q ∷ ks) (keys_push args q.end rows r)
+
+keys_longer : (args extra : List ℕ) (table : List Tree) (start : ℕ) (rows : List Row) → AreRowsFrom args table start rows → keys_from (args ++ extra) start rows ≡ keys_from args start rows
+keys_longer args extra table start [] h = refl
+keys_longer args extra table start (r ∷ rs) h =
+    let next = table ++ tree_at table (row_root args start r) ∷ [] in
+    ap (λ p. (if r.is_first then Some (hash_of p) else None) ∷ keys_from (args ++ extra) r.end rs)
+    (root_longer args extra start r h.0.ahead (rows_ahead args next r.end rs h.1))
+    ∙ ap (λ ks. key_of args start r ∷ ks) (keys_longer args extra next r.end rs h.1)
+
+-- with a row more the others' are the same
+pub keys_pushed : (args extra : List ℕ) (rows : List Row) (r : Row) → AreRowsFrom args [] 0 rows
+    → (k : Option ℕ) × (keys_from (args ++ extra) 0 (rows ++ r ∷ []) ≡ keys_from args 0 rows ++ k ∷ [])
+keys_pushed args extra rows r h =
+    (key_of (args ++ extra) (last_end 0 rows) r,
+    keys_push (args ++ extra) 0 rows r ∙ ap (λ ks. ks ++ key_of (args ++ extra) (last_end 0 rows) r ∷ []) (keys_longer args extra [] 0 rows h))
+
+-- ---- chains
+
+-- none before the first
+pub linked_none : (keys : List (Option ℕ)) (next : List ℕ) (width : ℕ) → IsLinked keys next (replicate width END) 0
+linked_none keys next width = record {
+  newest = λ chain link e. record { above = λ m b s. absurd (omega arith); stands = inl (get_replicate width END chain link e) };
+  older = λ m k link b e f. absurd (omega arith);
+}
+
+newest_more : (keys : List (Option ℕ)) (w chain count link : ℕ) → (StandsIn keys w chain count → ⊥) → IsNewest keys w chain count link → IsNewest keys w chain (count + 1) link
+newest_more keys w chain count link apart h = record { above = λ m b s. above m b s (cases_eq m count); stands = there h.stands }
+  where
+    above : (m : ℕ) → m < count + 1 → StandsIn keys w chain m → (m ≡ count) ⊎ (m ≡ count → ⊥) → m < link
+    above m b s (inl e) = absurd (apart (let P : ℕ → Type 0 = λ n. StandsIn keys w chain n in subst P e s))
+    above m b s (inr e) = h.above m (omega arith) s
+
+    there : (link ≡ END) ⊎ ((END < link) × (link ≤ count) × StandsIn keys w chain (link - 1)) → (link ≡ END) ⊎ ((END < link) × (link ≤ count + 1) × StandsIn keys w chain (link - 1))
+    there (inl e) = inl e
+    there (inr s) = inr (s.0, omega (arith, s.1), s.2)
+
+-- a term that is not the first of its kind stands in no chain
+pub linked_skip : (keys : List (Option ℕ)) (next heads : List ℕ) (count : ℕ) → slice_get keys count ≡ Some None → IsLinked keys next heads count → IsLinked keys next heads (count + 1)
+linked_skip keys next heads count none h = record {
+  newest = λ chain link e. newest_more keys (length heads) chain count link absent (h.newest chain link e);
+  older = λ m k link b e f. older m k link b e f (cases_eq m count);
+}
+  where
+    absent : {chain : ℕ} → StandsIn keys (length heads) chain count → ⊥
+    absent s = absurd (let z : None ≡ Some s.0 = same_Some None (Some s.0) (sym none ∙ s.1) in cc)
+
+    older : (m k link : ℕ) → m < count + 1 → slice_get keys m ≡ Some (Some k) → slice_get next m ≡ Some link → (m ≡ count) ⊎ (m ≡ count → ⊥) → IsNewest keys (length heads) (k % length heads) m link
+    older m k link b e f (inl s) = absurd (let z : None ≡ Some k = same_Some None (Some k) (sym none ∙ ap (slice_get keys) (sym s) ∙ e) in cc)
+    older m k link b e f (inr s) = h.older m k link (omega arith) e f
+
+-- another becomes the newest of its chain
+pub linked_more : (keys : List (Option ℕ)) (next heads : List ℕ) (count key link chain : ℕ) → slice_get keys count ≡ Some (Some key) → key % length heads ≡ chain
+    → slice_get heads chain ≡ Some link → IsLinked keys next heads count → IsLinked keys (slice_set next count link) (slice_set heads chain (count + 1)) (count + 1)
+linked_more keys next heads count key link chain there is read h = record {
+  newest = λ c l e. subst (λ w. IsNewest keys w c (count + 1) l) (sym wide) (newest c l e (cases_eq chain c));
+  older = λ m k l b e f. subst (λ w. IsNewest keys w (k % w) m l) (sym wide) (older m k l b e f (cases_eq m count));
+}
+  where
+    wide : length (slice_set heads chain (count + 1)) ≡ length heads
+    wide = length-set heads chain (count + 1)
+
+    own : (l : ℕ) → count + 1 ≡ l → IsNewest keys (length heads) chain (count + 1) l
+    own l e = record {
+      above = λ m b s. omega arith;
+      stands = inr (omega arith, omega arith, let P : ℕ → Type 0 = λ n. StandsIn keys (length heads) chain n in subst P (let q : count ≡ l - 1 = omega arith in q) (key, there, is));
+    }
+
+    newest : (c l : ℕ) → slice_get (slice_set heads chain (count + 1)) c ≡ Some l → (chain ≡ c) ⊎ (chain ≡ c → ⊥) → IsNewest keys (length heads) c (count + 1) l
+    newest c l e (inl s) = subst (λ x. IsNewest keys (length heads) x (count + 1) l) s (own l (get_put heads chain (count + 1) l (ap (slice_get (slice_set heads chain (count + 1))) s ∙ e)))
+    newest c l e (inr s) = newest_more keys (length heads) c count l apart (h.newest c l (get_other heads chain c (count + 1) l s e))
+      where
+        apart : StandsIn keys (length heads) c count → ⊥
+        apart t = s (sym is ∙ ap (λ k. k % length heads) (same_Some key t.0 (same_Some (Some key) (Some t.0) (sym there ∙ t.1))) ∙ t.2)
+
+    older : (m k l : ℕ) → m < count + 1 → slice_get keys m ≡ Some (Some k) → slice_get (slice_set next count link) m ≡ Some l → (m ≡ count) ⊎ (m ≡ count → ⊥)
+        → IsNewest keys (length heads) (k % length heads) m l
+    older m k l b e f (inr s) = h.older m k l (omega arith) e (get_other next count m link l (λ z. s (sym z)) f)
+    older m k l b e f (inl s) =
+        let same : key ≡ k = same_Some key k (same_Some (Some key) (Some k) (sym there ∙ ap (slice_get keys) (sym s) ∙ e)) in
+        let put : link ≡ l = get_put next count link l (ap (slice_get (slice_set next count link)) (sym s) ∙ f) in
+        let P : ℕ → Type 0 = λ n. IsNewest keys (length heads) (k % length heads) n l in
+        let Q : ℕ → Type 0 = λ c. IsNewest keys (length heads) c count l in
+        let R : ℕ → Type 0 = λ n. IsNewest keys (length heads) chain count n in
+        subst P (sym s) (subst Q (sym is ∙ ap (λ n. n % length heads) same) (subst R put (h.newest chain link read)))
+
+-- a key more
+pub linked_key : (keys : List (Option ℕ)) (key : Option ℕ) (next heads : List ℕ) (count : ℕ) → count ≤ length keys
+    → IsLinked keys next heads count → IsLinked (keys ++ key ∷ []) next heads count
+linked_key keys key next heads count few h = record {
+  newest = λ chain link e. longer chain count link few (h.newest chain link e);
+  older = λ m k link b e f. longer (k % length heads) m link (omega arith) (h.older m k link b (get_back keys (key ∷ []) m (Some k) (omega arith) e) f);
+}
+  where
+    longer : (chain count link : ℕ) → count ≤ length keys → IsNewest keys (length heads) chain count link → IsNewest (keys ++ key ∷ []) (length heads) chain count link
+    longer chain count link few k = record {
+      above = λ m b s. k.above m b (s.0, get_back keys (key ∷ []) m (Some s.0) (omega arith) s.1, s.2);
+      stands = there k.stands;
+    }
+      where
+        there : (link ≡ END) ⊎ ((END < link) × (link ≤ count) × StandsIn keys (length heads) chain (link - 1))
+            → (link ≡ END) ⊎ ((END < link) × (link ≤ count) × StandsIn (keys ++ key ∷ []) (length heads) chain (link - 1))
+        there (inl e) = inl e
+        there (inr s) = inr (s.0, s.1, (s.2.0, get_front keys (key ∷ []) (link - 1) (Some s.2.0) s.2.1, s.2.2))
+
+-- room for a link more
+pub linked_next : (keys : List (Option ℕ)) (next : List ℕ) (extra : ℕ) (heads : List ℕ) → IsLinked keys next heads (length next) → IsLinked keys (next ++ extra ∷ []) heads (length next)
+linked_next keys next extra heads h = record {
+  newest = h.newest;
+  older = λ m k link b e f. h.older m k link b e (get_back next (extra ∷ []) m link b f);
+}
+
+-- the chains with a row more
+pub linked_pushed : (args ns new_args : List ℕ) (rows new_rows : List Row) (r : Row) (next heads : List ℕ) (count : ℕ) → AreRowsFrom args [] 0 rows → new_rows ≡ rows ++ r ∷ [] → new_args ≡ args ++ ns
+    → count ≡ length rows → IsLinked (keys_from args 0 rows) next heads (length rows) → IsLinked (keys_from new_args 0 new_rows) next heads count
+linked_pushed args ns new_args rows new_rows r next heads count h same_rows same_args long linked =
+    let k = keys_pushed args ns rows r h in
+    let all = length_keys args 0 rows in
+    let P : List (Option ℕ) → Type 0 = λ ks. IsLinked ks next heads (length rows) in
+    let Q : List Row → Type 0 = λ x. IsLinked (keys_from (args ++ ns) 0 x) next heads (length rows) in
+    let R : List ℕ → Type 0 = λ x. IsLinked (keys_from x 0 new_rows) next heads (length rows) in
+    let S : ℕ → Type 0 = λ n. IsLinked (keys_from new_args 0 new_rows) next heads n in
+    subst S (sym long) (subst R (sym same_args) (subst Q (sym same_rows) (subst P (sym k.1) (linked_key (keys_from args 0 rows) k.0 next heads (length rows) (omega arith) linked))))
+
+-- ---- how a chain is gone through
+
+-- Down to a link no term that is the first of its kind has the root.
+pub record IsSought (args : List ℕ) (rows : List Row) (width : ℕ) (p : PlainRoot) (link : ℕ) : Type 0 where
+  pub stands : (link ≡ END) ⊎ ((END < link) × (link ≤ length rows) × StandsIn (keys_from args 0 rows) width (hash_of p % width) (link - 1))
+  pub left : (n : ℕ) (r : Row) → slice_get rows n ≡ Some r → r.is_first ≡ true → row_root args (begin_of 0 rows n) r ≡ p → n < link
+
+row_stands : (args : List ℕ) (rows : List Row) (w : ℕ) (p : PlainRoot) (n : ℕ) (r : Row) → slice_get rows n ≡ Some r → r.is_first ≡ true → row_root args (begin_of 0 rows n) r ≡ p
+    → StandsIn (keys_from args 0 rows) w (hash_of p % w) n
+row_stands args rows w p n r e first same =
+    (hash_of p,
+    keys_at args 0 rows n r e ∙ ap (λ b. Some (if b then Some (hash_of (row_root args (begin_of 0 rows n) r)) else None)) first ∙ ap (λ q. Some (Some (hash_of q))) same,
+    refl)
+
+pub sought_first : (args : List ℕ) (rows : List Row) (next heads : List ℕ) (p : PlainRoot) (link : ℕ) → IsLinked (keys_from args 0 rows) next heads (length rows)
+    → slice_get heads (hash_of p % length heads) ≡ Some link → IsSought args rows (length heads) p link
+sought_first args rows next heads p link h e =
+    let newest = h.newest (hash_of p % length heads) link e in
+    record {
+      stands = newest.stands;
+      left = λ n r g first same. newest.above n (slice_get_within rows n r g) (row_stands args rows (length heads) p n r g first same);
+    }
+
+pub sought_next : (args : List ℕ) (rows : List Row) (next heads : List ℕ) (p : PlainRoot) (link further : ℕ) → IsLinked (keys_from args 0 rows) next heads (length rows)
+    → IsSought args rows (length heads) p link → END < link → slice_get next (link - 1) ≡ Some further
+    → ((r : Row) → slice_get rows (link - 1) ≡ Some r → row_root args (begin_of 0 rows (link - 1)) r ≡ p → ⊥)
+    → IsSought args rows (length heads) p further × (further < link)
+sought_next args rows next heads p link further h k up read apart = go k.stands
+  where
+    behind : StandsIn (keys_from args 0 rows) (length heads) (hash_of p % length heads) (link - 1) → link ≤ length rows
+        → IsNewest (keys_from args 0 rows) (length heads) (hash_of p % length heads) (link - 1) further
+    behind s b = subst (λ c. IsNewest (keys_from args 0 rows) (length heads) c (link - 1) further) s.2 (h.older (link - 1) s.0 further (omega arith) s.1 read)
+
+    left : IsNewest (keys_from args 0 rows) (length heads) (hash_of p % length heads) (link - 1) further
+        → (n : ℕ) (r : Row) → slice_get rows n ≡ Some r → r.is_first ≡ true → row_root args (begin_of 0 rows n) r ≡ p → (n ≡ link - 1) ⊎ (n ≡ link - 1 → ⊥) → n < further
+    left newest n r g first same (inl e) =
+        absurd (apart r (ap (slice_get rows) (sym e) ∙ g) (ap (λ m. row_root args (begin_of 0 rows m) r) (sym e) ∙ same))
+    left newest n r g first same (inr e) =
+        let under = k.left n r g first same in newest.above n (omega arith) (row_stands args rows (length heads) p n r g first same)
+
+    down : (further ≡ END) ⊎ ((END < further) × (further ≤ link - 1) × StandsIn (keys_from args 0 rows) (length heads) (hash_of p % length heads) (further - 1)) → further < link
+    down (inl e) = omega arith
+    down (inr s) = omega (arith, s.1)
+
+    there : link ≤ length rows → (further ≡ END) ⊎ ((END < further) × (further ≤ link - 1) × StandsIn (keys_from args 0 rows) (length heads) (hash_of p % length heads) (further - 1))
+        → (further ≡ END) ⊎ ((END < further) × (further ≤ length rows) × StandsIn (keys_from args 0 rows) (length heads) (hash_of p % length heads) (further - 1))
+    there b (inl e) = inl e
+    there b (inr s) = inr (s.0, omega (arith, s.1), s.2)
+
+    go : (link ≡ END) ⊎ ((END < link) × (link ≤ length rows) × StandsIn (keys_from args 0 rows) (length heads) (hash_of p % length heads) (link - 1))
+        → IsSought args rows (length heads) p further × (further < link)
+    go (inl e) = absurd (omega arith)
+    go (inr s) =
+        let newest = behind s.2 s.1 in (
+          record { stands = there s.1 newest.stands; left = λ n r g first same. left newest n r g first same (cases_eq n (link - 1)) },
+          down newest.stands,
+        )
+
+pub sought_within : (args : List ℕ) (rows : List Row) (w : ℕ) (p : PlainRoot) (link : ℕ) → IsSought args rows w p link → END < link → link - 1 < length rows
+sought_within args rows w p link k up = go k.stands
+  where
+    go : (link ≡ END) ⊎ ((END < link) × (link ≤ length rows) × StandsIn (keys_from args 0 rows) w (hash_of p % w) (link - 1)) → link - 1 < length rows
+    go (inl e) = absurd (omega arith)
+    go (inr s) = omega (arith, s.1)
+
+pub sought_none : (args : List ℕ) (rows : List Row) (w : ℕ) (p : PlainRoot) → AreRowsFrom args [] 0 rows → IsThere (trees_from args [] 0 rows) p → IsSought args rows w p END
+    → has (trees_from args [] 0 rows) (tree_at (trees_from args [] 0 rows) p) ≡ false
+sought_none args rows w p h there k = go (has (trees_from args [] 0 rows) (tree_at (trees_from args [] 0 rows) p)) refl
+  where
+    go : (b : Bool) → has (trees_from args [] 0 rows) (tree_at (trees_from args [] 0 rows) p) ≡ b → has (trees_from args [] 0 rows) (tree_at (trees_from args [] 0 rows) p) ≡ false
+    go true e =
+        let f = root_found args rows p h there e in
+        let under = k.left f.0 f.1 f.2 f.3 f.4 in absurd (omega arith)
+    go false e = e

@@ -1,0 +1,41 @@
+use Rattle.std.proofs.Common.{◌≡◌, ◌<◌, ◌∙◌, [], ℕ, List, Some, length, refl, ap, sym, subst, arith, get_or}
+use Rattle.std.specs.List.{slice_get}
+use Rattle.std.proofs.lemmas.Option.{slice_get_read, slice_get-get_or, get_or_from_slice_get}
+use Rattle.circ_term.specs.Tree.{Tree, args_of}
+use Rattle.circ_table.specs.Table.{firsts_at}
+use Rattle.circ_table.proofs.Naming.{Gathered, gathered_none, gathered_more, grows_self, grows_more}
+use Rattle.circ_table.proofs.named.NamedTerms.+place.Goals as goal
+
+pub loop-arg-init : goal.loop-arg-init
+loop-arg-init m c =
+    let table = c.args.self.now.0 in
+    let ns = c.args-numbers.result.now in
+    let same : c.in_ok-table.table ≡ table = c.in_ok-table.ensures ∙ ap (λ x. x.0) c.self.view_is in
+    let P : List Tree → Type 0 = λ xs. Gathered table c.args.number ns xs in
+    record {
+      table = refl;
+      grows = grows_self c.args.self.now.1;
+      gathered =
+          subst P (sym c.in_ok-args.ensures.items)
+          (gathered_none table c.args.number ns (λ t e. ap (λ ts. firsts_at ts ns) (sym same) ∙ c.args-numbers.ensures.args t (ap (λ ts. slice_get ts c.args.number) same ∙ e)));
+    }
+
+pub loop-arg-preserved : goal.loop-arg-preserved
+loop-arg-preserved m c =
+    let table = c.args.self.now.0 in
+    let ns = c.args-numbers.result.now in
+    let at = c.loop-arg in
+    let i = at.arg-index in
+    let n = get_or ns i 0 in
+    let u = c.index.result.now in
+    let terms = c.self-in-loop-arg.inside.terms.items in
+    let place = c.in_ok-place.place in
+    let view = ap (λ x. x.1) c.self-in-loop-arg.view_is in
+    let read = sym (get_or_from_slice_get ns i n n (slice_get-get_or ns i 0 c.loop-arg-test.true)) in
+    let shown = slice_get_read terms (length terms) place u refl (omega (arith, c.in_ok-place.ensures.there, ap length view)) c.index.ensures in
+    let named = ap (λ ts. slice_get ts n) (sym at.invariant.table) ∙ sym c.in_ok-place.ensures.placed ∙ ap (λ ts. slice_get ts place) (sym view) ∙ shown in
+    record {
+      table = c.in_ok-place.ensures.table ∙ at.invariant.table;
+      grows = grows_more c.args.self.now.1 at.self.1 c.place.new.self.1 at.invariant.grows c.in_ok-place.ensures.grows;
+      gathered = gathered_more table c.args.number ns i n at.args.items c.share_to.new.list.items u c.loop-arg-test.true read named c.in_ok-share_to.ensures.put at.invariant.gathered;
+    }

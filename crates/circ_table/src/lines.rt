@@ -1,0 +1,159 @@
+//! How a table lies in memory.
+ghost use Rattle.std.specs.Prelude.{◌≡◌, ◌-◌, ◌<◌, ◌≤◌, take, drop, ◌++◌, ◌∷◌, [], length, Some, IfOk, OnOk, OnErr};
+ghost use Rattle.std.specs.List.{slice_get, AllByRecursion};
+ghost use Rattle.std.specs.Option.{option_map};
+ghost use Rattle.circ_term.specs.Tree.{Tree, sort_of, args_of};
+ghost use Rattle.circ_table.specs.Table.{firsts_at};
+ghost use Rattle.circ_table.specs.Lines.{AreLines, plain, trees, roots, begin_of, picked};
+
+use circ_term::Term;
+use std::alloc::{AllocError, Global};
+
+// A term's root, with the numbers of its arguments.
+#[derive(Clone, Copy)]
+pub(crate) struct Root<'a> {
+    pub is_variable: bool,
+    // A variable's number, or an operator.
+    pub name: u32,
+    pub sort: u32,
+    pub args: &'a [u32],
+}
+
+// A term of the table. Its arguments begin where those of the term before it end.
+#[derive(Clone, Copy)]
+pub(crate) struct Row {
+    pub name: u32,
+    pub sort: u32,
+    pub end: u32,
+    pub size: u32,
+    pub depth: u16,
+    pub is_variable: bool,
+    // Whether no term before it is the same.
+    pub is_first: bool,
+}
+
+// The terms by number, and the numbers of the arguments of all.
+#[derive(Drop)]
+pub(crate) struct Lines {
+    pub rows: Vec<Row>,
+    pub args: Vec<u32>,
+}
+
+impl Lines {
+    // Where the arguments of a term begin.
+    fn begin(&self, place: usize) -> u32
+        requires { place < length self.now.rows.items }
+        ensures { result ≡ begin_of 0 self.now.rows.items place }
+    {
+        if place == 0 {
+            return 0;
+        }
+        self.rows[place - 1].end
+    }
+
+    pub(crate) fn root(&self, place: usize) -> Root<'_>
+        requires lines { AreLines self.now }
+        requires place { place < length self.now.rows.items }
+        ensures { slice_get (roots self.now) place ≡ Some (plain result) }
+    {
+        let start = self.begin(place);
+        let row = &self.rows[place];
+        Root {
+            is_variable: row.is_variable,
+            name: row.name,
+            sort: row.sort,
+            args: part(self.args.as_slice(), start, row.end),
+        }
+    }
+
+    pub(crate) fn sort(&self, number: u32) -> Option<u32>
+        requires { AreLines self.now }
+        ensures { result ≡ option_map sort_of (slice_get (trees self.now) number) }
+    {
+        let number = number as usize;
+        if number >= self.rows.len() {
+            return None;
+        }
+        Some(self.rows[number].sort)
+    }
+
+    // A term goes last.
+    pub(crate) fn push(&mut self, row: Row, args: &[u32]) -> Result<(), AllocError>
+        ensures rows { OnOk result (self.new.rows.items ≡ self.old.rows.items ++ row ∷ []) }
+        ensures args { OnOk result (self.new.args.items ≡ self.old.args.items ++ args.now) }
+        ensures err_rows { OnErr result (self.new.rows.items ≡ self.old.rows.items) }
+        ensures err_args { OnErr result (self.new.args.items ≡ self.old.args.items) }
+    {
+        self.rows.reserve(1)?;
+        self.args.extend_from_slice(args)?;
+        self.rows.push_reserved(row);
+        Ok(())
+    }
+
+    // The numbers of the arguments of a term.
+    pub(crate) fn args(&self, place: usize) -> &[u32]
+        requires lines { AreLines self.now }
+        requires place { place < length self.now.rows.items }
+        ensures args { (t : Tree) → slice_get (trees self.now) place ≡ Some t
+            → firsts_at (trees self.now) result.now ≡ Some (args_of t) }
+        ensures before { AllByRecursion (λ n. n < place) result.now }
+    {
+        self.root(place).args
+    }
+
+    // The term of a number, from its arguments.
+    pub(crate) fn build(
+        &self,
+        alloc: Global,
+        place: usize,
+        args: Vec<Term>,
+    ) -> Result<Term, AllocError>
+        requires lines { AreLines self.now }
+        requires place { place < length self.now.rows.items }
+        requires args { (t : Tree) → slice_get (trees self.now) place ≡ Some t
+            → args.items ≡ args_of t }
+        ensures { IfOk result (λ t. slice_get (trees self.now) place ≡ Some t) }
+    {
+        let root = self.root(place);
+        if root.is_variable {
+            return Ok(Term::var(root.name, root.sort));
+        }
+        match Term::app(alloc, root.name, root.sort, args) {
+            Ok(term) => Ok(term),
+            Err(_) => Err(AllocError),
+        }
+    }
+
+    // All terms, by number.
+    pub(crate) fn terms(&self, alloc: Global) -> Result<Vec<Term>, AllocError>
+        requires { AreLines self.now }
+        ensures { IfOk result (λ v. v.items ≡ trees self.now) }
+    {
+        let mut terms = Vec::with_capacity(alloc, self.rows.len())?;
+        for place in 0..self.rows.len() {
+            let args = pick(alloc, terms.as_slice(), self.args(place))?;
+            terms.push(self.build(alloc, place, args)?)?;
+        }
+        Ok(terms)
+    }
+}
+
+fn part(numbers: &[u32], start: u32, end: u32) -> &[u32]
+    requires start { start ≤ end }
+    requires end { end ≤ length numbers.now }
+    ensures { result.now ≡ take (end - start) (drop start numbers.now) }
+{
+    &numbers[start as usize..end as usize]
+}
+
+// The terms at these places.
+fn pick(alloc: Global, terms: &[Term], places: &[u32]) -> Result<Vec<Term>, AllocError>
+    requires { AllByRecursion (λ n. n < length terms.now) places.now }
+    ensures { IfOk result (λ v. v.items ≡ picked terms.now places.now) }
+{
+    let mut copy = Vec::with_capacity(alloc, places.len())?;
+    for place in places {
+        terms[*place as usize].share_to(&mut copy)?;
+    }
+    Ok(copy)
+}

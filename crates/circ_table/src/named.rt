@@ -1,0 +1,153 @@
+//! The terms of a table that were asked for.
+ghost use Rattle.std.specs.Prelude.{◌≡◌, ◌<◌, ◌≤◌, ◌^◌, [], length, Some, IfOk, OnOk, OnErr};
+ghost use Rattle.std.specs.List.{slice_get};
+ghost use Rattle.std.specs.Option.{IfSome};
+ghost use Rattle.circ_term.specs.Tree.{Tree};
+ghost use Rattle.circ_table.specs.Table.{Grows, AreIn};
+ghost use Rattle.circ_table.specs.Placed.{HaveLength, ArePlacesOf};
+
+use crate::table::Table;
+use circ_term::Term;
+use std::alloc::{AllocError, Global};
+use std::marker::Model;
+
+// The place of a term that was not asked for. So there are fewer terms than that.
+const ABSENT: u32 = 4_294_967_295;
+
+/// The terms of a table that were asked for, each once and with its subterms. So a table costs only as many built
+/// terms as are named.
+#[derive(Drop)]
+pub struct NamedTerms {
+    alloc: Global,
+    table: Table,
+    terms: Vec<Term>,
+    // For each term of the table its place among them. There are none before a term is asked for.
+    places: Vec<u32>,
+}
+
+impl Model for NamedTerms {
+    ghost use Rattle.std.specs.Prelude.{List};
+    ghost use Rattle.std.specs.Coded.{coded_list, coded×};
+    ghost use Rattle.circ_term.specs.Tree.{Tree};
+    ghost use Rattle.circ_term.specs.Code.{tree_code};
+
+    ghost Value = { List Tree × List Tree };
+
+    ghost coded = { coded× (coded_list tree_code) (coded_list tree_code) };
+
+    ghost use Rattle.circ_table.specs.Placed.{ArePlaced};
+
+    ghost view = { λ a. (a.table, a.terms.items) };
+
+    ghost invariant = { λ a. ArePlaced a.table a.terms.items a.places.items };
+}
+
+impl NamedTerms {
+    /// None was asked for.
+    pub fn of(alloc: Global, table: Table) -> NamedTerms
+        ensures { result ≡ (table, []) }
+    {
+        NamedTerms {
+            alloc,
+            table,
+            terms: Vec::new(alloc),
+            places: Vec::new(alloc),
+        }
+    }
+
+    /// The table.
+    pub fn table(&self) -> &Table
+        ensures { result.now ≡ self.now.0 }
+    {
+        &self.table
+    }
+
+    /// The terms that were asked for. Each is one of the table.
+    pub fn terms(&self) -> &[Term]
+        ensures terms { result.now ≡ self.now.1 }
+        ensures few { length self.now.1 < 2 ^ 32 }
+        ensures in_table { AreIn self.now.0 self.now.1 }
+    {
+        self.terms.as_slice()
+    }
+
+    /// The place of a number's term among those that were asked for. Where it is not there, it joins them, behind its
+    /// subterms.
+    pub fn place(&mut self, number: u32) -> Result<u32, AllocError>
+        requires { number < length self.old.0 }
+        ensures table { self.new.0 ≡ self.old.0 }
+        ensures grows { Grows self.old.1 self.new.1 }
+        ensures placed { IfOk result (λ n.
+            slice_get self.new.1 n ≡ slice_get self.old.0 number) }
+        ensures there { IfOk result (λ n. n < length self.new.1) }
+    {
+        if let Some(place) = self.find(number) {
+            return Ok(place);
+        }
+        let table = self.table.share()?;
+        let numbers = table.args(number);
+        let mut args = Vec::with_capacity(self.alloc, numbers.len())?;
+        for arg in numbers {
+            let place = self.place(*arg)?;
+            self.terms[place as usize].share_to(&mut args)?;
+        }
+        let term = table.build(self.alloc, number, args)?;
+        self.put(number, term)
+    }
+
+    /// The term of a number.
+    pub fn term(&mut self, number: u32) -> Result<Term, AllocError>
+        requires { number < length self.old.0 }
+        ensures table { self.new.0 ≡ self.old.0 }
+        ensures grows { Grows self.old.1 self.new.1 }
+        ensures term { IfOk result (λ t. slice_get self.old.0 number ≡ Some t) }
+    {
+        let place = self.place(number)?;
+        self.terms[place as usize].share()
+    }
+
+    // The place of a number's term, if it was asked for.
+    fn find(&self, number: u32) -> Option<u32>
+        ensures placed { IfSome result (λ n. slice_get self.now.1 n ≡ slice_get self.now.0 number) }
+        ensures there { IfSome result (λ n. n < length self.now.1) }
+    {
+        let number = number as usize;
+        if number >= self.places.len() || self.places[number] == ABSENT {
+            return None;
+        }
+        Some(self.places[number])
+    }
+
+    // A number's term joins those that were asked for.
+    fn put(&mut self, number: u32, term: Term) -> Result<u32, AllocError>
+        requires number { number < length self.old.0 }
+        requires term { slice_get self.old.0 number ≡ Some term }
+        ensures table { self.new.0 ≡ self.old.0 }
+        ensures grows { Grows self.old.1 self.new.1 }
+        ensures placed { IfOk result (λ n.
+            slice_get self.new.1 n ≡ slice_get self.old.0 number) }
+        ensures there { IfOk result (λ n. n < length self.new.1) }
+    {
+        let place = self.terms.len();
+        if place >= ABSENT as usize {
+            return Err(AllocError);
+        }
+        make_places(self.alloc, &mut self.places, self.table.len())?;
+        self.terms.push(term)?;
+        self.places[number as usize] = place as u32;
+        Ok(place as u32)
+    }
+}
+
+// Makes places for so many terms, if there are none.
+fn make_places(alloc: Global, places: &mut Vec<u32>, count: usize) -> Result<(), AllocError>
+    requires { HaveLength places.old.items count }
+    ensures long { OnOk result (length places.new.items ≡ count) }
+    ensures kept { OnOk result (ArePlacesOf places.old.items places.new.items) }
+    ensures err { OnErr result (places.new.items ≡ places.old.items) }
+{
+    if places.is_empty() {
+        *places = vec![in alloc; ABSENT; count]?;
+    }
+    Ok(())
+}
