@@ -1,29 +1,36 @@
 -- What a line gives that passes the checks and the limits.
-use Rattle.std.specs.Prelude.{◌≡◌, ◌⊎◌, ℕ, ◌+◌, ◌≤◌, ◌<◌, ◌==◌, ◌&&◌, ◌||◌, nat_lt, Bool, true, false, List, [], ◌∷◌, ◌++◌, length, map, refl, Option, Some, None, is_some}
-use Rattle.std.specs.List.{AllByRecursion}
+use Rattle.std.specs.Prelude.{◌≡◌, ◌⊎◌, ℕ, ◌+◌, ◌≤◌, ◌<◌, ◌==◌, ◌&&◌, ◌||◌, nat_eq, Bool, true, false, cond, List, [], ◌∷◌, ◌++◌, length, map, refl, Option, Some, None, is_some}
 use Rattle.std.proofs.Common.{sym, ◌∙◌, ap, subst, arith, inl, inr}
 use Rattle.std.proofs.lemmas.Bool.{and_parts, ltb-true, ltb-false}
-use Rattle.std.proofs.lemmas.List.{append-nil}
-use Rattle.circ_term.specs.Tree.{Tree, sort_of}
+use Rattle.std.proofs.lemmas.Option.{same_Some, cond_some}
+use Rattle.circ_term.specs.Tree.{Tree}
 use Rattle.circ_theory.specs.Theory.{Theory}
 use Rattle.circ_theory.specs.WellFormed.{IsWellFormed}
-use Rattle.circ_theory.specs.Rewriting.{named}
 use Rattle.circ_theory.proofs.Lists.{all_push}
 use Rattle.circ_special.specs.declared.place.Place.{Place}
 use Rattle.circ_special.specs.Special.{place, IsPlace, IsSet}
+use Rattle.circ_replay.specs.Plain.{LinkOf, WhyOf, Same_why, Split_why, no_why}
+use Rattle.circ_replay.specs.Table.{term_limit}
 use Rattle.circ_line.specs.Line.{TableLine, Line, head_line, table_line, place_line, certificate_line, block_line, goal_line, simplify_line, reduce_line, derive_line}
 use Rattle.circ_line.specs.Line.{done_line, same_line, split_line, left_line, right_line, end_line}
-use Rattle.circ_grammar.specs.Now.{Now, Tabling, next_now}
-use Rattle.circ_rules.specs.Certified.{derivatives_at, due}
+use Rattle.circ_grammar.specs.Grammar.{why_count}
+use Rattle.circ_grammar.proofs.Spelled.{option_map_some}
+use Rattle.circ_grammar.specs.Machine.{OpenSplit, empty, open_split, push_why, add_left, add_right}
+use Rattle.circ_grammar.specs.Now.{Now, Begin, Tabling, Placing, Certifying, Opened, Stepping, Simplifying, Reducing, Closed, Ended, next_now, give_why_now}
+use Rattle.circ_grammar.specs.Now.{is_front, is_block, is_step, next_head, next_place, next_goal, next_same, next_split, next_left, next_right, next_end}
+use Rattle.circ_rules.specs.Certified.{due}
 use Rattle.circ_rules.specs.Proof.{step_limit}
-use Rattle.circ_proof_text.specs.TableText.{term_for}
-use Rattle.circ_proof_text.specs.Checks.{Seen, after, is_next, is_place, with_term, is_full, is_too_large, passes_at, limit_at}
+use Rattle.circ_rules.proofs.FewPlaces.{place_low}
+use Rattle.circ_proof_text.specs.Checks.{Seen, after, is_next, is_place, is_goal, with_term, is_full, is_too_large, passes_at, limit_at}
 use Rattle.circ_proof_text.proofs.Places.{place_tells, increasing_push}
-use Rattle.circ_file.specs.View.{places_with, IsReady, IsKeptAt, IsKept, now_at, now_of, Takes}
+use Rattle.circ_line.specs.Plain.{plain_line}
+use Rattle.circ_line.specs.declared.line.Line.{Line as CodeLine}
+use Rattle.circ_line.specs.declared.line.Line.TheVariants as line
+use Rattle.circ_file.specs.View.{places_with, IsReady, IsFree, IsKeptAt, IsKept, now_at, now_of, Takes, Moves}
 use Rattle.circ_file.specs.Counting.{certificates_with, steps_with}
-use Rattle.circ_replay.specs.Table.{term_limit}
-use Rattle.circ_file.specs.Lines.{IsOther, IsReader, seen_of, Handles}
-use Rattle.circ_file.specs.Adding.{IsReadBy, Adds}
+use Rattle.circ_file.specs.Lines.{IsInStep, IsOther, IsReader, seen_of, Advances, Handles}
+use Rattle.circ_file.specs.Adding.{terms_in, is_open, Adds}
+use Rattle.circ_file.specs.declared.table.ReadTable.{ReadTable}
 use Rattle.circ_file.specs.declared.taken.Taken.{Taken}
 use Rattle.circ_file.specs.declared.taken.Taken.TheVariants.{Yes, Line as Refused, Limit}
 use Rattle.circ_file.specs.declared.lines.LineReader.{LineReader}
@@ -31,18 +38,13 @@ use Rattle.circ_file.specs.declared.machine.Machine.{Machine}
 use Rattle.circ_file.specs.declared.machine.Mode.{Mode}
 use Rattle.circ_file.specs.declared.machine.Mode.TheVariants as mode
 use Rattle.circ_file.proofs.Counted.{due_more}
-use Rattle.circ_rules.proofs.FewPlaces.{place_low}
 
 -- The numbers of a line that passes are ready to be used.
-pub ready_then : (th : Theory) (c : Seen) (l : Line) → IsWellFormed th → passes_at th c l ≡ true → IsReady (length c.terms) l
+pub ready_then : (th : Theory) (c : Seen) (l : Line) → IsWellFormed th → passes_at th c l ≡ true → IsReady l
 ready_then th c (place_line f i) w p =
     let q = and_parts (is_next c.places (place f i)) (is_place th (place f i)) p in
     let low = place_low th (place f i) w ((place_tells th (place f i)).0 q.1) in
     omega (arith, low.arg)
-ready_then th c (goal_line a b) w p =
-    let q = and_parts (nat_lt a (length c.terms)) (nat_lt b (length c.terms) && (sort_of (named c.terms b) == sort_of (named c.terms a))) p in
-    let r = and_parts (nat_lt b (length c.terms)) (sort_of (named c.terms b) == sort_of (named c.terms a)) q.1 in
-    (ltb-true a (length c.terms) q.0, ltb-true b (length c.terms) r.0)
 ready_then th c _ w p = tt
 
 pub set_then : (th : Theory) (c : Seen) (l : Line) → IsSet th c.places → passes_at th c l ≡ true → IsSet th (places_with c.places l)
@@ -71,7 +73,7 @@ steps_then th c _ h p = h
 abbrev pub seen_with : List Tree → List Place → (certificates steps : ℕ) → (wanted : List ℕ) → Seen
 seen_with ts gs n m w = record { terms = ts; places = gs; certificates = n; steps = m; wanted = w }
 
-same_seen : (c : Seen) (ts : List Tree) (gs : List Place) (n m : ℕ) → ts ≡ c.terms → gs ≡ c.places → n ≡ c.certificates → m ≡ c.steps → seen_with ts gs n m c.wanted ≡ c
+pub same_seen : (c : Seen) (ts : List Tree) (gs : List Place) (n m : ℕ) → ts ≡ c.terms → gs ≡ c.places → n ≡ c.certificates → m ≡ c.steps → seen_with ts gs n m c.wanted ≡ c
 same_seen c ts gs n m a b e f =
     ap (λ x. seen_with x gs n m c.wanted) a ∙ ap (λ x. seen_with c.terms x n m c.wanted) b
     ∙ ap (λ x. seen_with c.terms c.places x m c.wanted) e ∙ ap (λ x. seen_with c.terms c.places c.certificates x c.wanted) f
@@ -102,13 +104,118 @@ after_table _ m l e = absurd (cc)
 pub kept_tabling : (r s : Machine) (l : TableLine) (ts us : List Tree) → next_now (now_of r) (table_line l) ≡ Some (now_of s) → IsKept ts s → IsKept us s
 kept_tabling r s l ts us e k = tabling_at s.mode s ts us (after_table (now_of r) (now_of s) l e) k
 
--- the sets and counts of a reader that took a table line
-pub reader_then : (r s : LineReader) (l : TableLine) → IsReader r → s.theory.now ≡ r.theory.now → s.counts ≡ r.counts → s.machine.places.items ≡ r.machine.places.items
-    → next_now (now_of r.machine) (table_line l) ≡ Some (now_of s.machine) → IsKept r.table.terms.items s.machine → IsReadBy s.theory.now.signature s.table → IsReader s
-reader_then r s l k t n p e a b = record {
-  kept = kept_tabling r.machine s.machine l r.table.terms.items s.table.terms.items e a;
+-- the table keeps step with the line
+
+after_cond : (b : Bool) (x m : Now) (t : ReadTable) → cond b (Some x) None ≡ Some m → IsInStep x t → IsInStep m t
+after_cond b x m t e s = subst (λ n. IsInStep n t) (cond_some b x m e).1 s
+
+after_given : (fs : List OpenSplit) (w : WhyOf ℕ) (t : ReadTable) → IsInStep (give_why_now fs w) t
+after_given [] w t = tt
+after_given (f ∷ fs) w t =
+    go (nat_eq (why_count f.whys + 1) f.count) (after_given fs (Split_why f.chain f.term (push_why f.whys w)) t)
+  where
+    go : (b : Bool) → IsInStep (give_why_now fs (Split_why f.chain f.term (push_why f.whys w))) t
+        → IsInStep (cond b (give_why_now fs (Split_why f.chain f.term (push_why f.whys w)))
+        (Reducing (open_split f.chain f.term f.count (push_why f.whys w) ∷ fs) empty)) t
+    go true s = s
+    go false s = tt
+
+after_head : (n m : Now) (t : ReadTable) → next_head n ≡ Some m → IsInStep n t → IsInStep m t
+after_head Begin m t e s = subst (λ n. IsInStep n t) (same_Some Tabling m e) s
+after_head _ m t e s = absurd (cc)
+
+after_place : (n m : Now) (p : ℕ × ℕ) (t : ReadTable) → next_place n p ≡ Some m → IsInStep m t
+after_place Tabling m p t e = subst (λ n. IsInStep n t) (same_Some (Placing (p ∷ [])) m e) tt
+after_place (Placing ps) m p t e = subst (λ n. IsInStep n t) (same_Some (Placing (ps ++ p ∷ [])) m e) tt
+after_place _ m p t e = absurd (cc)
+
+after_same : (n m : Now) (t : ReadTable) → next_same n ≡ Some m → IsInStep m t
+after_same (Reducing fs c) m t e = subst (λ n. IsInStep n t) (same_Some (give_why_now fs (Same_why c)) m e) (after_given fs (Same_why c) t)
+after_same _ m t e = absurd (cc)
+
+after_split : (n m : Now) (a k : ℕ) (t : ReadTable) → next_split n a k ≡ Some m → IsInStep m t
+after_split (Reducing fs c) m a k t e =
+    subst (λ n. IsInStep n t) (same_Some (cond (nat_eq k 0) (give_why_now fs (Split_why c a no_why)) (Reducing (open_split c a k no_why ∷ fs) empty)) m e)
+    (go (nat_eq k 0) (after_given fs (Split_why c a no_why) t))
+  where
+    go : (b : Bool) → IsInStep (give_why_now fs (Split_why c a no_why)) t
+        → IsInStep (cond b (give_why_now fs (Split_why c a no_why)) (Reducing (open_split c a k no_why ∷ fs) empty)) t
+    go true s = s
+    go false s = tt
+after_split _ m a k t e = absurd (cc)
+
+after_left : (n m : Now) (l : LinkOf ℕ) (t : ReadTable) → next_left n l ≡ Some m → IsInStep m t
+after_left (Certifying ls) m l t e = subst (λ n. IsInStep n t) (same_Some (Certifying (ls ++ l ∷ [])) m e) tt
+after_left (Simplifying c) m l t e = let p = option_map_some Simplifying (add_left c l) m e in subst (λ n. IsInStep n t) p.2 tt
+after_left (Reducing fs c) m l t e = let p = option_map_some (Reducing fs) (add_left c l) m e in subst (λ n. IsInStep n t) p.2 tt
+after_left _ m l t e = absurd (cc)
+
+after_right : (n m : Now) (l : LinkOf ℕ) (t : ReadTable) → next_right n l ≡ Some m → IsInStep m t
+after_right (Simplifying c) m l t e = subst (λ n. IsInStep n t) (same_Some (Simplifying (add_right c l)) m e) tt
+after_right (Reducing fs c) m l t e = subst (λ n. IsInStep n t) (same_Some (Reducing fs (add_right c l)) m e) tt
+after_right _ m l t e = absurd (cc)
+
+after_end : (n m : Now) (t : ReadTable) → next_end n ≡ Some m → IsInStep m t
+after_end Closed m t e = subst (λ n. IsInStep n t) (same_Some Ended m e) tt
+after_end _ m t e = absurd (cc)
+
+after_goal : (n m : Now) (a b : ℕ) (t : ReadTable) → next_goal n a b ≡ Some m → is_open t ≡ false → IsInStep m t
+after_goal (Opened gs) m a b t e s = subst (λ n. IsInStep n t) (same_Some (Opened (gs ++ (a, b) ∷ [])) m e) s
+after_goal _ m a b t e s = absurd (cc)
+
+-- a line that asks nothing of the table
+pub free_step : (n m : Now) (l : Line) (t : ReadTable) → IsFree l → next_now n l ≡ Some m → IsInStep n t → IsInStep m t
+free_step n m head_line t o e s = after_head n m t e s
+free_step n m (table_line x) t o e s = absurd o
+free_step n m (place_line a b) t o e s = after_place n m (a, b) t e
+free_step n m certificate_line t o e s = absurd o
+free_step n m block_line t o e s = absurd o
+free_step n m (goal_line a b) t o e s = absurd o
+free_step n m simplify_line t o e s = after_cond (is_step n) (Simplifying empty) m t e tt
+free_step n m reduce_line t o e s = after_cond (is_step n) (Reducing [] empty) m t e tt
+free_step n m derive_line t o e s = after_cond (is_step n) Stepping m t e tt
+free_step n m done_line t o e s = after_cond (is_step n) Closed m t e tt
+free_step n m same_line t o e s = after_same n m t e
+free_step n m (split_line a k) t o e s = after_split n m a k t e
+free_step n m (left_line l) t o e s = after_left n m l t e
+free_step n m (right_line l) t o e s = after_right n m l t e
+free_step n m end_line t o e s = after_end n m t e
+
+-- such a line is neither of the table nor a goal, and begins no certificate and no block
+pub is_free : (l : CodeLine) → (l ≡ line.Certificate → ⊥) → (l ≡ line.Block → ⊥) → IsOther (plain_line l) → IsFree (plain_line l)
+is_free line.Certificate f g o = absurd (f refl)
+is_free line.Block f g o = absurd (g refl)
+is_free (line.Table l) f g o = o
+is_free (line.Goal a b) f g o = o
+is_free _ f g o = tt
+
+pub advanced : (b : Bool) (r : LineReader) (l : Line) (m : Machine) → IsReader r → IsFree l
+    → ((ts : List Tree) → IsKept ts r.machine → Moves b ts r.machine l m) → Advances b r l (record r { machine = m })
+advanced true r l m k f h =
+    let t = h (terms_in r.table) k.kept in (t, refl, free_step (now_of r.machine) (now_of m) l r.table f t.next k.step)
+advanced false r l m k f h = h (terms_in r.table) k.kept
+
+-- a certificate or a block begins
+pub begun_step : (n m : Now) (t : ReadTable) → is_open t ≡ false
+    → ((next_now n certificate_line ≡ Some m → IsInStep m t) × (next_now n block_line ≡ Some m → IsInStep m t))
+begun_step n m t s = (λ e. after_cond (is_front n) (Certifying []) m t e tt, λ e. after_cond (is_block n) (Opened []) m t e s)
+
+-- a table that may get a line, and one of which goals are made
+pub still_open : (n m : Now) (l : TableLine) (t : ReadTable) → next_now n (table_line l) ≡ Some m → IsInStep n t → is_open t ≡ true
+still_open Tabling m l t e s = s
+still_open _ m l t e s = absurd (cc)
+
+pub closed_at : (k : Mode) (m : Machine) (t : ReadTable) → k ≡ mode.Opened → IsInStep (now_at k m) t → is_open t ≡ false
+closed_at mode.Opened m t e s = s
+closed_at _ m t e s = absurd (cc)
+
+-- a reader that took a line of the table, or a goal
+reader_then : (r s : LineReader) → IsReader r → s.theory.now ≡ r.theory.now → s.counts ≡ r.counts → s.machine.places.items ≡ r.machine.places.items
+    → IsKept (terms_in s.table) s.machine → IsInStep (now_of s.machine) s.table → IsReader s
+reader_then r s k t n p a b = record {
+  kept = a;
   set = subst (λ x. IsSet x s.machine.places.items) (sym t) (subst (λ x. IsSet r.theory.now x) (sym p) k.set);
-  read = b;
+  step = b;
   due = ap (λ x. x.due) n ∙ k.due ∙ ap (λ x. length (due x r.machine.places.items)) (sym t) ∙ ap (λ x. length (due s.theory.now x)) (sym p);
   certificates = subst (λ x. x.certificates ≤ x.due) (sym n) k.certificates;
   steps = subst (λ x. x.steps ≤ step_limit) (sym n) k.steps;
@@ -116,22 +223,63 @@ reader_then r s l k t n p e a b = record {
 
 -- What becomes of a table line is what becomes of it in the table.
 pub table_handled : (w : List ℕ) (r s : LineReader) (l : TableLine) (t : Taken) → IsReader r → s.theory.now ≡ r.theory.now → s.counts ≡ r.counts
-    → Takes r.table.terms.items r.machine (table_line l) s.machine → Adds r.theory.now.signature r.table.terms.items l t s.table.terms.items
-    → IsReadBy s.theory.now.signature s.table → Handles t w r (table_line l) s
+    → Takes (terms_in r.table) r.machine (table_line l) s.machine → Adds r.theory.now.signature (terms_in r.table) l t (terms_in s.table)
+    → is_open s.table ≡ true → Handles t w r (table_line l) s
 table_handled w r s l Yes k t n m (u, f, within, us) b =
     let th : Theory = r.theory.now in
     let c : Seen = seen_of w r in
     let e : after th c (table_line l) ≡ with_term c (Some u) = ap (with_term c) f in
+    let at : now_of s.machine ≡ Tabling = after_table (now_of r.machine) (now_of s.machine) l m.next in
     record {
       next = m.next;
       passes = ap is_some f;
       within = ap (λ o. is_full term_limit (length c.terms) || is_too_large o) f ∙ within;
-      seen = same_seen (after th c (table_line l)) s.table.terms.items s.machine.places.items s.counts.certificates s.counts.steps
+      seen = same_seen (after th c (table_line l)) (terms_in s.table) s.machine.places.items s.counts.certificates s.counts.steps
           (us ∙ sym (ap (λ x. x.terms) e)) (m.places ∙ sym (ap (λ x. x.places) e))
           (ap (λ x. x.certificates) n ∙ sym (ap (λ x. x.certificates) e)) (ap (λ x. x.steps) n ∙ sym (ap (λ x. x.steps) e));
       queue = m.queue;
-      reader = reader_then r s l k t n m.places m.next m.kept b;
+      reader = reader_then r s k t n m.places (kept_tabling r.machine s.machine l (terms_in r.table) (terms_in s.table) m.next m.kept)
+          (subst (λ x. IsInStep x s.table) (sym at) b);
     }
 table_handled w r s l Refused k t n m f b = inr (ap is_some f)
 table_handled w r s l Limit k t n m (u, f, over) b =
-    (now_of s.machine, m.next, ap is_some f, ap (λ o. is_full term_limit (length r.table.terms.items) || is_too_large o) f ∙ over)
+    (now_of s.machine, m.next, ap is_some f, ap (λ o. is_full term_limit (length (terms_in r.table)) || is_too_large o) f ∙ over)
+
+-- A goal is taken whose numbers are in the table, and whose terms have one sort.
+pub goal_handled : (w : List ℕ) (r s : LineReader) (a b : ℕ) → IsReader r → s.theory.now ≡ r.theory.now → s.counts ≡ r.counts
+    → is_goal (terms_in r.table) a b ≡ true → Takes (terms_in r.table) r.machine (goal_line a b) s.machine → terms_in s.table ≡ terms_in r.table
+    → is_open s.table ≡ false → Handles Yes w r (goal_line a b) s
+goal_handled w r s a b k t n p m e o = record {
+  next = m.next;
+  passes = p;
+  within = refl;
+  seen = same_seen (seen_of w r) (terms_in s.table) s.machine.places.items s.counts.certificates s.counts.steps
+      e m.places (ap (λ x. x.certificates) n) (ap (λ x. x.steps) n);
+  queue = m.queue;
+  reader = reader_then r s k t n m.places (subst (λ ts. IsKept ts s.machine) (sym e) m.kept) (after_goal (now_of r.machine) (now_of s.machine) a b s.table m.next o);
+}
+
+-- A line is taken that is not of the table, and no goal.
+pub other_handled : (w : List ℕ) (r s : LineReader) (l : Line) → IsReader r → IsOther l → s.theory.now ≡ r.theory.now
+    → passes_at r.theory.now (seen_of w r) l ≡ true → limit_at r.theory.now (seen_of w r) l ≡ false → Advances true r l s
+    → s.counts.due ≡ length (due r.theory.now (places_with r.machine.places.items l)) → s.counts.certificates ≡ certificates_with r.counts.certificates l
+    → s.counts.steps ≡ steps_with r.counts.steps l → Handles Yes w r l s
+other_handled w r s l k o t p q (m, e, b) due_is certificates_are steps_are =
+    let th : Theory = r.theory.now in
+    let places : s.machine.places.items ≡ places_with r.machine.places.items l = m.places in
+    let few : r.counts.certificates ≤ length (due th r.machine.places.items) = omega (arith, k.certificates, k.due) in
+    record {
+      next = m.next;
+      passes = p;
+      within = q;
+      seen = seen_then th (seen_of w r) l (terms_in s.table) s.machine.places.items s.counts.certificates s.counts.steps o e places certificates_are steps_are;
+      queue = m.queue;
+      reader = record {
+        kept = subst (λ ts. IsKept ts s.machine) (sym e) m.kept;
+        set = subst (λ x. IsSet x s.machine.places.items) (sym t) (subst (λ x. IsSet th x) (sym places) (set_then th (seen_of w r) l k.set p));
+        step = b;
+        due = due_is ∙ ap (λ x. length (due th x)) (sym places) ∙ ap (λ x. length (due x s.machine.places.items)) (sym t);
+        certificates = omega (arith, certificates_then th (seen_of w r) l few p, certificates_are, due_is);
+        steps = omega (arith, steps_then th (seen_of w r) l k.steps q, steps_are);
+      };
+    }

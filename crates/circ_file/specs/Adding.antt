@@ -1,19 +1,37 @@
--- A table that takes a line.
-use Rattle.std.specs.Prelude.{◌≡◌, ◌||◌, true, false, List, [], ◌∷◌, ◌++◌, length, map, Some, None}
-use Rattle.circ_term.specs.Tree.{Tree}
+-- A table that takes lines, and is closed.
+use Rattle.std.specs.Prelude.{◌≡◌, ℕ, ◌||◌, nat_eq, Bool, true, false, if◌then◌else◌, List, [], ◌∷◌, ◌++◌, length, map, Option, Some, None}
+use Rattle.std.specs.Option.{option_map_or}
+use Rattle.std.specs.Cmp.Lexicographic.{pointwise}
+use Rattle.circ_term.specs.Tree.{Tree, sort_of}
 use Rattle.circ_theory.specs.Signature.{Signature}
+use Rattle.circ_theory.specs.declared.parts.Goal.{Goal}
 use Rattle.circ_replay.specs.Table.{term_limit}
+use Rattle.circ_rules.specs.Proof.{goal_of}
 use Rattle.circ_line.specs.Line.{TableLine}
-use Rattle.circ_line.specs.Plain.{plain_table_line}
 use Rattle.circ_proof_text.specs.TableText.{term_for}
-use Rattle.circ_proof_text.specs.ReadTable.{IsReadTable}
-use Rattle.circ_proof_text.specs.Checks.{is_full, is_too_large}
-use Rattle.circ_file.specs.declared.table.Table.{Table}
+use Rattle.circ_proof_text.specs.Checks.{is_full, is_too_large, is_goal}
+use Rattle.circ_file.specs.declared.table.ReadTable.{ReadTable}
+use Rattle.circ_file.specs.declared.table.ReadTable.TheVariants.{Open, Closed}
 use Rattle.circ_file.specs.declared.taken.Taken.{Taken}
 use Rattle.circ_file.specs.declared.taken.Taken.TheVariants.{Yes, Line, Limit}
 
-abbrev pub IsReadBy : Signature → Table → Type 0
-IsReadBy sig t = IsReadTable sig t.terms.items (map plain_table_line t.lines.keys) t.marks.items
+-- the terms of the lines so far
+abbrev pub terms_in : ReadTable → List Tree
+terms_in (Open rows) = rows
+terms_in (Closed terms) = terms.0
+
+-- whether the table still takes lines
+abbrev pub is_open : ReadTable → Bool
+is_open (Open rows) = true
+is_open (Closed terms) = false
+
+-- there are such terms, and they have these sorts
+abbrev pub have_sorts : Option (List Tree) → List ℕ → Bool
+have_sorts o sorts = option_map_or (λ ts. pointwise nat_eq (map sort_of ts) sorts) o false
+
+-- the goal of two numbers, where both are in the table and their terms have one sort
+abbrev pub goal_at : List Tree → (left right : ℕ) → Option Goal
+goal_at table a b = if is_goal table a b then Some (goal_of table (a, b)) else None
 
 -- The line's term goes last; or it has none; or it has one, and passes a limit.
 abbrev pub Adds : Signature → List Tree → TableLine → Taken → List Tree → Type 0

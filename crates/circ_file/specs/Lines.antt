@@ -1,14 +1,15 @@
 -- What contracts see of a reader of whole lines, and what it does with the next one.
-use Rattle.std.specs.Prelude.{◌≡◌, ◌⊎◌, ◌≤◌, ℕ, true, false, List, ◌++◌, length, None, Some}
+use Rattle.std.specs.Prelude.{◌≡◌, ◌⊎◌, ◌≤◌, ℕ, Bool, true, false, List, ◌++◌, length, None, Some}
 use Rattle.circ_special.specs.Special.{IsSet}
-use Rattle.circ_line.specs.Line.{Line, table_line}
+use Rattle.circ_line.specs.Line.{Line, table_line, goal_line}
 use Rattle.circ_line.specs.Text.{line_text, IsInRange}
-use Rattle.circ_grammar.specs.Now.{Now, next_now}
+use Rattle.circ_grammar.specs.Now.{Now, Begin, Tabling, Opened, next_now}
 use Rattle.circ_rules.specs.Certified.{due}
 use Rattle.circ_rules.specs.Proof.{step_limit}
 use Rattle.circ_proof_text.specs.Checks.{Seen, after, passes_at, limit_at}
-use Rattle.circ_file.specs.View.{now_of, queue_of, parts_at, IsKept}
-use Rattle.circ_file.specs.Adding.{IsReadBy}
+use Rattle.circ_file.specs.View.{now_of, queue_of, parts_at, IsKept, Moves}
+use Rattle.circ_file.specs.Adding.{terms_in, is_open}
+use Rattle.circ_file.specs.declared.table.ReadTable.{ReadTable}
 use Rattle.circ_file.specs.declared.taken.Taken.{Taken}
 use Rattle.circ_file.specs.declared.taken.Taken.TheVariants as taken
 use Rattle.circ_file.specs.declared.lines.LineReader.{LineReader}
@@ -16,26 +17,39 @@ use Rattle.circ_file.specs.declared.lines.LineReader.{LineReader}
 -- What the lines so far have given, where the open splits want these numbers of whys.
 abbrev pub seen_of : (wanted : List ℕ) → LineReader → Seen
 seen_of wanted r = record {
-  terms = r.table.terms.items;
+  terms = terms_in r.table;
   places = r.machine.places.items;
   certificates = r.counts.certificates;
   steps = r.counts.steps;
   wanted = wanted;
 }
 
+-- The table takes lines as long as they may come, and is closed where a goal may come.
+abbrev pub IsInStep : Now → ReadTable → Type 0
+IsInStep Begin t = is_open t ≡ true
+IsInStep Tabling t = is_open t ≡ true
+IsInStep (Opened names) t = is_open t ≡ false
+IsInStep _ t = Unit {0}
+
 -- what a reader keeps true
 pub record IsReader (r : LineReader) : Type 0 where
-  pub kept : IsKept r.table.terms.items r.machine
+  pub kept : IsKept (terms_in r.table) r.machine
   pub set : IsSet r.theory.now r.machine.places.items
-  pub read : IsReadBy r.theory.now.signature r.table
+  pub step : IsInStep (now_of r.machine) r.table
   pub due : r.counts.due ≡ length (due r.theory.now r.machine.places.items)
   pub certificates : r.counts.certificates ≤ r.counts.due
   pub steps : r.counts.steps ≤ step_limit
 
--- a line that is not of the table
+-- a line that is not of the table, and no goal
 abbrev pub IsOther : Line → Type 0
 IsOther (table_line l) = ⊥
+IsOther (goal_line a b) = ⊥
 IsOther _ = Unit {0}
+
+-- The line is the next one, and the machine and the table are as after it, with the same terms; or it cannot come here.
+abbrev pub Advances : Bool → LineReader → Line → LineReader → Type 0
+Advances true r l s = Moves true (terms_in r.table) r.machine l s.machine × (terms_in s.table ≡ terms_in r.table) × IsInStep (now_of s.machine) s.table
+Advances false r l s = next_now (now_of r.machine) l ≡ None
 
 -- The line is the next one, passes the checks and no limit, and what it gives is kept.
 pub record Takes (wanted : List ℕ) (r : LineReader) (l : Line) (s : LineReader) : Type 0 where
@@ -43,7 +57,7 @@ pub record Takes (wanted : List ℕ) (r : LineReader) (l : Line) (s : LineReader
   pub passes : passes_at r.theory.now (seen_of wanted r) l ≡ true
   pub within : limit_at r.theory.now (seen_of wanted r) l ≡ false
   pub seen : seen_of (after r.theory.now (seen_of wanted r) l).wanted s ≡ after r.theory.now (seen_of wanted r) l
-  pub queue : queue_of s.machine ≡ queue_of r.machine ++ parts_at r.table.terms.items (now_of r.machine) l
+  pub queue : queue_of s.machine ≡ queue_of r.machine ++ parts_at (terms_in r.table) (now_of r.machine) l
   pub reader : IsReader s
 
 -- The line is taken; or it cannot come next, or fails a check; or it could be taken, and passes a limit.

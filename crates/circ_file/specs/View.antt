@@ -91,18 +91,26 @@ abbrev pub splits_in : Now → ℕ
 splits_in (Reducing ss chain) = length ss
 splits_in _ = 0
 
--- A place's argument is a number that a place can have, and a goal's numbers are in a table of this length.
-abbrev pub IsReady : (count : ℕ) → Line → Type 0
-IsReady count (place_line f i) = i < 2 ^ 16
-IsReady count (goal_line a b) = (a < count) × (b < count)
-IsReady count _ = Unit {0}
+-- a place's argument is a number that a place can have
+abbrev pub IsReady : Line → Type 0
+IsReady (place_line f i) = i < 2 ^ 16
+IsReady _ = Unit {0}
 
--- a line of a block or of a certificate
+-- a line that asks nothing of the table, and does not end it
+abbrev pub IsFree : Line → Type 0
+IsFree (table_line l) = ⊥
+IsFree certificate_line = ⊥
+IsFree block_line = ⊥
+IsFree (goal_line a b) = ⊥
+IsFree _ = Unit {0}
+
+-- a line of a step or of a certificate
 abbrev pub IsInside : Line → Type 0
 IsInside head_line = ⊥
 IsInside (table_line l) = ⊥
 IsInside (place_line f i) = ⊥
 IsInside certificate_line = ⊥
 IsInside block_line = ⊥
+IsInside (goal_line a b) = ⊥
 IsInside end_line = ⊥
 IsInside _ = Unit {0}

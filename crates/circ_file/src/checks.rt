@@ -5,10 +5,10 @@ ghost use Rattle.circ_special.specs.Special.{place, comes_before};
 ghost use Rattle.circ_replay.specs.Plain.{plain_link};
 ghost use Rattle.circ_proof_text.specs.Checks.{is_next, is_place, is_goal, is_in_table, path_of};
 
-use crate::table::term_at;
 use circ_replay::Link;
 use circ_special::Place;
-use circ_term::{Path, Term};
+use circ_table::Table;
+use circ_term::Path;
 use circ_theory::Theory;
 
 /// Whether the place is greater than the last of these.
@@ -44,11 +44,11 @@ pub(crate) fn is_place(theory: &Theory, op: u32, arg: u32) -> bool
 }
 
 /// Whether both numbers are in the table, and their terms have one sort.
-pub(crate) fn is_goal(terms: &[Term], left: u32, right: u32) -> bool
-    ensures { result ≡ is_goal terms.now left right }
+pub(crate) fn is_goal(table: &Table, left: u32, right: u32) -> bool
+    ensures { result ≡ is_goal table.now left right }
 {
-    match (term_at(terms, left), term_at(terms, right)) {
-        (Some(left), Some(right)) => right.sort() == left.sort(),
+    match (table.sort(left), table.sort(right)) {
+        (Some(left), Some(right)) => right == left,
         _ => false,
     }
 }

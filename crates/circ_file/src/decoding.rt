@@ -98,7 +98,7 @@ impl Gathering {
     {
         match part {
             Part::Head { table, gamma } => {
-                self.proof.table = table;
+                self.proof.table = table.terms(self.alloc)?;
                 self.proof.gamma = gamma;
             }
             Part::Certificate { links } => self.proof.certificates.push(links)?,

@@ -1,18 +1,18 @@
 //! Whole lines, read one after the other.
 ghost use Rattle.std.specs.Prelude.{◌≡◌, ◌&&◌, List, ℕ, length, IfOk, []};
-ghost use Rattle.circ_line.specs.Line.{table_line};
+ghost use Rattle.circ_line.specs.Line.{table_line, goal_line, certificate_line, block_line};
 ghost use Rattle.circ_line.specs.Plain.{plain_line, plain_table_line};
-ghost use Rattle.circ_line.specs.Text.{IsInRange};
 ghost use Rattle.circ_grammar.specs.Now.{Begin};
 ghost use Rattle.circ_special.specs.Special.{place};
 ghost use Rattle.circ_proof_text.specs.Checks.{nothing, passes_at, limit_at, is_next, is_place};
-ghost use Rattle.circ_file.specs.View.{now_of, queue_of, splits_in};
-ghost use Rattle.circ_file.specs.Lines.{IsReader, IsOther, seen_of, Handles, ReadsNext};
+ghost use Rattle.circ_file.specs.View.{now_of, queue_of, splits_in, IsReady};
+ghost use Rattle.circ_file.specs.Lines.{IsReader, IsOther, seen_of, Advances, Handles};
+ghost use Rattle.circ_file.specs.Lines.{ReadsNext};
 
-use crate::checks::{is_goal, is_in_table, is_next, is_place, path_of};
+use crate::checks::{is_in_table, is_next, is_place, path_of};
 use crate::counts::Counts;
 use crate::machine::Machine;
-use crate::table::Table;
+use crate::table::ReadTable;
 use crate::taken::Taken;
 use crate::{MOST_ENTRIES, MOST_SPLITS, MOST_STEPS};
 use circ_line::{Line, TableLine, read_line};
@@ -25,7 +25,7 @@ pub(crate) struct LineReader<'a> {
     alloc: Global,
     pub(crate) theory: &'a Theory,
     pub(crate) machine: Machine,
-    table: Table,
+    table: ReadTable,
     counts: Counts,
 }
 
@@ -42,7 +42,7 @@ impl<'a> LineReader<'a> {
             alloc,
             theory,
             machine: Machine::new(alloc),
-            table: Table::new(alloc),
+            table: ReadTable::new(alloc),
             counts: Counts::new(),
         }
     }
@@ -64,24 +64,23 @@ impl<'a> LineReader<'a> {
 
     fn take(&mut self, line: Line) -> Result<Taken, AllocError>
         requires reader { IsReader self.old }
-        requires in_range { IsInRange (plain_line line) }
         ensures theory { self.new.theory.now ≡ self.old.theory.now }
         ensures taken { IfOk result (λ taken. (wanted : List ℕ) →
             length wanted ≡ splits_in (now_of self.old.machine) →
             Handles taken wanted self.old (plain_line line) self.new) }
     {
         match line {
-            Line::Table { line } => self.take_table(line),
+            Line::Table { line } => self.take_table(&line),
+            Line::Goal { left, right } => self.take_goal(left, right),
             line => self.take_other(line),
         }
     }
 
-    fn take_table(&mut self, line: TableLine) -> Result<Taken, AllocError>
+    fn take_table(&mut self, line: &TableLine) -> Result<Taken, AllocError>
         requires reader { IsReader self.old }
-        requires in_range { IsInRange (table_line (plain_table_line line)) }
         ensures theory { self.new.theory.now ≡ self.old.theory.now }
         ensures taken { IfOk result (λ taken. (wanted : List ℕ) →
-            Handles taken wanted self.old (table_line (plain_table_line line)) self.new) }
+            Handles taken wanted self.old (table_line (plain_table_line line.now)) self.new) }
     {
         if !self.machine.on_table() {
             return Ok(Taken::Line);
@@ -90,7 +89,24 @@ impl<'a> LineReader<'a> {
         Ok(taken)
     }
 
-    // A line that is not of the table.
+    // The goal of two terms of the table.
+    fn take_goal(&mut self, left: u32, right: u32) -> Result<Taken, AllocError>
+        requires reader { IsReader self.old }
+        ensures theory { self.new.theory.now ≡ self.old.theory.now }
+        ensures taken { IfOk result (λ taken. (wanted : List ℕ) →
+            Handles taken wanted self.old (goal_line left right) self.new) }
+    {
+        if !self.machine.is_opened() {
+            return Ok(Taken::Line);
+        }
+        let Some(goal) = self.table.goal(left, right)? else {
+            return Ok(Taken::Line);
+        };
+        self.machine.put_goal(goal, left, right)?;
+        Ok(Taken::Yes)
+    }
+
+    // A line that is not of the table, and no goal.
     fn take_other(&mut self, line: Line) -> Result<Taken, AllocError>
         requires reader { IsReader self.old }
         requires other { IsOther (plain_line line) }
@@ -105,8 +121,7 @@ impl<'a> LineReader<'a> {
         }
         let is_over = self.passes_limit(&line);
         let counts = self.counts.with(self.theory, &line);
-        let terms = self.table.terms.as_slice();
-        if !self.machine.take(self.theory, terms, line)? {
+        if !self.advance(line)? {
             return Ok(Taken::Line);
         }
         if is_over {
@@ -116,6 +131,55 @@ impl<'a> LineReader<'a> {
         Ok(Taken::Yes)
     }
 
+    // The machine goes on by the line, where it may come next.
+    fn advance(&mut self, line: Line) -> Result<bool, AllocError>
+        requires reader { IsReader self.old }
+        requires other { IsOther (plain_line line) }
+        requires ready { IsReady (plain_line line) }
+        ensures theory { self.new.theory.now ≡ self.old.theory.now }
+        ensures counts { self.new.counts ≡ self.old.counts }
+        ensures taken { IfOk result (λ taken. Advances taken self.old (plain_line line) self.new) }
+    {
+        match line {
+            Line::Certificate => self.begin_certificate(),
+            Line::Block => self.begin_block(),
+            line => {
+                let taken = self.machine.take(line)?;
+                Ok(taken)
+            }
+        }
+    }
+
+    // A certificate begins, and the table takes no more lines.
+    fn begin_certificate(&mut self) -> Result<bool, AllocError>
+        requires reader { IsReader self.old }
+        ensures theory { self.new.theory.now ≡ self.old.theory.now }
+        ensures counts { self.new.counts ≡ self.old.counts }
+        ensures taken { IfOk result (λ taken. Advances taken self.old certificate_line self.new) }
+    {
+        if !self.machine.is_front() {
+            return Ok(false);
+        }
+        let table = self.table.close(self.alloc)?;
+        self.machine.begin_certificate(self.theory, table)?;
+        Ok(true)
+    }
+
+    // A block begins, and the table takes no more lines.
+    fn begin_block(&mut self) -> Result<bool, AllocError>
+        requires reader { IsReader self.old }
+        ensures theory { self.new.theory.now ≡ self.old.theory.now }
+        ensures counts { self.new.counts ≡ self.old.counts }
+        ensures taken { IfOk result (λ taken. Advances taken self.old block_line self.new) }
+    {
+        if !self.machine.is_block() {
+            return Ok(false);
+        }
+        let table = self.table.close(self.alloc)?;
+        self.machine.begin_block(self.theory, table)?;
+        Ok(true)
+    }
+
     // Whether the line passes the checks.
     fn passes(&self, line: &Line) -> bool
         requires reader { IsReader self.now }
@@ -123,15 +187,13 @@ impl<'a> LineReader<'a> {
         ensures { (wanted : List ℕ) → result ≡
             passes_at self.now.theory.now (seen_of wanted self.now) (plain_line line.now) }
     {
-        let terms = self.table.terms.as_slice();
         match line {
             Line::Place { op, arg } => self.is_next_place(*op, *arg),
             Line::Certificate => self.counts.certificates < self.counts.due,
             Line::Block => self.counts.certificates == self.counts.due,
-            Line::Goal { left, right } => is_goal(terms, *left, *right),
-            Line::Split { term, .. } => (*term as usize) < terms.len(),
-            Line::Left { link } => is_in_table(terms.len(), link),
-            Line::Right { link } => is_in_table(terms.len(), link),
+            Line::Split { term, .. } => (*term as usize) < self.table.len(),
+            Line::Left { link } => is_in_table(self.table.len(), link),
+            Line::Right { link } => is_in_table(self.table.len(), link),
             _ => true,
         }
     }

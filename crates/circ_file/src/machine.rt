@@ -1,21 +1,22 @@
 //! The lines of a proof in their order: the part under way, and the parts that are whole.
-ghost use Rattle.std.specs.Prelude.{◌≡◌, ◌++◌, [], true, false, List, IfOk, OnOk};
+ghost use Rattle.std.specs.Prelude.{◌≡◌, ◌++◌, ℕ, [], true, false, List, None, IfOk, OnOk};
 ghost use Rattle.circ_term.specs.Tree.{Tree};
 ghost use Rattle.circ_special.specs.Special.{IsSet};
 ghost use Rattle.circ_replay.specs.Plain.{plain_chain};
 ghost use Rattle.circ_line.specs.Line.{head_line, table_line, place_line, TableLine};
 ghost use Rattle.circ_line.specs.Line.{certificate_line, block_line, end_line};
 ghost use Rattle.circ_grammar.specs.Machine.{empty};
-ghost use Rattle.circ_grammar.specs.Now.{Begin, Ended, is_front, is_block};
+ghost use Rattle.circ_grammar.specs.Now.{Begin, Ended, is_front, is_block, next_goal};
 ghost use Rattle.circ_proof_text.specs.Parts.{Head};
 ghost use Rattle.circ_file.specs.View.{now_of, queue_of, plain_part, front_parts};
 ghost use Rattle.circ_file.specs.View.{IsKept, Moves, Pops};
+ghost use Rattle.circ_file.specs.declared.machine.Mode.TheVariants.{Opened};
 
 use crate::splits::OpenSplit;
 use circ_replay::{Chain, Link};
 use circ_rules::Part;
 use circ_special::{Gamma, Place};
-use circ_term::Term;
+use circ_table::Table;
 use circ_theory::{Goal, Theory};
 use std::alloc::{AllocError, Global};
 use std::collections::VecDeque;
@@ -111,37 +112,35 @@ impl Machine {
         }
     }
 
-    pub(crate) fn on_certificate(
+    /// A certificate begins.
+    pub(crate) fn begin_certificate(
         &mut self,
         theory: &Theory,
-        terms: &[Term],
-    ) -> Result<bool, AllocError>
-        requires kept { IsKept terms.now self.old }
+        table: Table,
+    ) -> Result<(), AllocError>
+        requires front { is_front (now_of self.old) ≡ true }
+        requires kept { IsKept table self.old }
         requires set { IsSet theory.now self.old.places.items }
-        ensures { IfOk result (λ taken. Moves taken terms.now self.old certificate_line self.new) }
+        ensures { OnOk result (Moves true table self.old certificate_line self.new) }
     {
-        if !self.is_front() {
-            return Ok(false);
-        }
-        self.end_front(theory, terms)?;
+        self.end_front(theory, table)?;
         self.links = Vec::new(self.alloc);
         self.mode = Mode::Certifying;
-        Ok(true)
+        Ok(())
     }
 
-    pub(crate) fn on_block(&mut self, theory: &Theory, terms: &[Term]) -> Result<bool, AllocError>
-        requires kept { IsKept terms.now self.old }
+    /// A block begins.
+    pub(crate) fn begin_block(&mut self, theory: &Theory, table: Table) -> Result<(), AllocError>
+        requires block { is_block (now_of self.old) ≡ true }
+        requires kept { IsKept table self.old }
         requires set { IsSet theory.now self.old.places.items }
-        ensures { IfOk result (λ taken. Moves taken terms.now self.old block_line self.new) }
+        ensures { OnOk result (Moves true table self.old block_line self.new) }
     {
-        if !self.is_block() {
-            return Ok(false);
-        }
-        self.end_front(theory, terms)?;
+        self.end_front(theory, table)?;
         self.goals = Vec::new(self.alloc);
         self.names = Vec::new(self.alloc);
         self.mode = Mode::Opened;
-        Ok(true)
+        Ok(())
     }
 
     pub(crate) fn on_end(&mut self) -> bool
@@ -155,6 +154,14 @@ impl Machine {
             }
             _ => false,
         }
+    }
+
+    /// Whether a block began, and no step of it.
+    pub(crate) fn is_opened(&self) -> bool
+        ensures yes { result ≡ true → self.now.mode ≡ Opened }
+        ensures no { (a b : ℕ) → result ≡ false → next_goal (now_of self.now) a b ≡ None }
+    {
+        matches!(self.mode, Mode::Opened)
     }
 
     /// Whether the last line was the proof's.
@@ -175,15 +182,15 @@ impl Machine {
         self.queue.pop_front()
     }
 
-    // Whether a certificate or the first block may begin.
-    fn is_front(&self) -> bool
+    /// Whether a certificate or the first block may begin.
+    pub(crate) fn is_front(&self) -> bool
         ensures { result ≡ is_front (now_of self.now) }
     {
         matches!(self.mode, Mode::Tabling | Mode::Placing | Mode::Certifying)
     }
 
-    // Whether a block may begin.
-    fn is_block(&self) -> bool
+    /// Whether a block may begin.
+    pub(crate) fn is_block(&self) -> bool
         ensures { result ≡ is_block (now_of self.now) }
     {
         match self.mode {
@@ -193,16 +200,16 @@ impl Machine {
     }
 
     // The part that ends where a certificate or the first block begins goes to the queue.
-    fn end_front(&mut self, theory: &Theory, terms: &[Term]) -> Result<(), AllocError>
-        requires kept { IsKept terms.now self.old }
+    fn end_front(&mut self, theory: &Theory, table: Table) -> Result<(), AllocError>
+        requires kept { IsKept table self.old }
         requires set { IsSet theory.now self.old.places.items }
         ensures queue { OnOk result (queue_of self.new ≡
-            queue_of self.old ++ front_parts terms.now (now_of self.old)) }
+            queue_of self.old ++ front_parts table (now_of self.old)) }
         ensures places { OnOk result (self.new.places.items ≡ self.old.places.items) }
     {
         match self.mode {
             Mode::Tabling | Mode::Placing => {
-                let part = head(self.alloc, theory, terms, self.places.as_slice())?;
+                let part = head(self.alloc, theory, table, self.places.as_slice())?;
                 self.queue.push_back(part)?;
             }
             Mode::Certifying => {
@@ -224,30 +231,19 @@ pub(crate) fn empty_chain(alloc: Global) -> Chain
     }
 }
 
-// The table is shared, and the places are copied: both are still asked for.
+// The places are copied, since they are still asked for.
 fn head(
     alloc: Global,
     theory: &Theory,
-    terms: &[Term],
+    table: Table,
     places: &[Place],
 ) -> Result<Part, AllocError>
     requires { IsSet theory.now places.now }
-    ensures { IfOk result (λ p. plain_part p ≡ Head terms.now places.now) }
+    ensures { IfOk result (λ p. plain_part p ≡ Head table places.now) }
 {
-    let table = share_all(alloc, terms)?;
     let places = Vec::from_slice(alloc, places)?;
     match Gamma::of(theory, places) {
         Some(gamma) => Ok(Part::Head { table, gamma }),
         None => unreachable!(),
     }
-}
-
-fn share_all(alloc: Global, terms: &[Term]) -> Result<Vec<Term>, AllocError>
-    ensures { IfOk result (λ v. v.items ≡ terms.now) }
-{
-    let mut out = Vec::with_capacity(alloc, terms.len())?;
-    for term in terms {
-        out.push(term.share()?)?;
-    }
-    Ok(out)
 }

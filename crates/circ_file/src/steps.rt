@@ -1,7 +1,5 @@
 //! The lines of blocks.
-ghost use Rattle.std.specs.Prelude.{◌≡◌, ◌++◌, ◌<◌, [], List, length, map, IfOk, OnOk};
-ghost use Rattle.std.specs.List.{slice_get};
-ghost use Rattle.std.specs.Option.{option_copied};
+ghost use Rattle.std.specs.Prelude.{◌≡◌, ◌++◌, [], true, List, IfOk, OnOk};
 ghost use Rattle.circ_term.specs.Tree.{Tree};
 ghost use Rattle.circ_replay.specs.Plain.{plain_link, plain_chain, plain_why};
 ghost use Rattle.circ_line.specs.Line.{goal_line, simplify_line, reduce_line, derive_line};
@@ -11,6 +9,7 @@ ghost use Rattle.circ_grammar.specs.Now.{is_step};
 ghost use Rattle.circ_rules.specs.Proof.{goal_of};
 ghost use Rattle.circ_file.specs.Splits.{given, tops, now_given, parts_given};
 ghost use Rattle.circ_file.specs.View.{now_of, queue_of, step_parts, IsKept, Moves, Begins};
+ghost use Rattle.circ_file.specs.declared.machine.Mode.TheVariants.{Opened};
 
 use crate::machine::{Machine, Mode, empty_chain};
 use crate::splits::{OpenSplit, give};
@@ -21,20 +20,16 @@ use std::alloc::AllocError;
 use std::mem;
 
 impl Machine {
-    /// The goal is of the terms that its numbers name.
-    pub(crate) fn on_goal(&mut self, goal: Goal, left: u32, right: u32) -> Result<bool, AllocError>
-        ensures { IfOk result (λ taken. (ts : List Tree) → IsKept ts self.old →
+    /// A block began, and no step of it. The goal is of the terms that its numbers name.
+    pub(crate) fn put_goal(&mut self, goal: Goal, left: u32, right: u32) -> Result<(), AllocError>
+        requires { self.old.mode ≡ Opened }
+        ensures { OnOk result ((ts : List Tree) → IsKept ts self.old →
             goal ≡ goal_of ts (left, right) →
-            Moves taken ts self.old (goal_line left right) self.new) }
+            Moves true ts self.old (goal_line left right) self.new) }
     {
-        match self.mode {
-            Mode::Opened => {
-                self.goals.push(goal)?;
-                self.names.push((left, right))?;
-                Ok(true)
-            }
-            _ => Ok(false),
-        }
+        self.goals.push(goal)?;
+        self.names.push((left, right))?;
+        Ok(())
     }
 
     pub(crate) fn on_simplify(&mut self) -> Result<bool, AllocError>

@@ -1,156 +1,187 @@
 //! The table of a proof, read line by line.
-ghost use Rattle.std.specs.Prelude.{◌≡◌, [], not, map, IfOk};
-ghost use Rattle.std.specs.List.{slice_get};
-ghost use Rattle.std.specs.Option.{option_copied, option_map};
-ghost use Rattle.circ_term.specs.Limits.{BuildsSome};
-ghost use Rattle.circ_theory.specs.Signature.{Signature};
-ghost use Rattle.circ_line.specs.Line.{table_line};
+ghost use Rattle.std.specs.Prelude.{◌≡◌, ◌==◌, [], true, false, length, IfOk, OnOk};
+ghost use Rattle.std.specs.Option.{option_map_or};
+ghost use Rattle.circ_term.specs.Tree.{sort_of};
+ghost use Rattle.circ_line.specs.Line.{Variable_line, Application_line};
 ghost use Rattle.circ_line.specs.Plain.{plain_table_line};
-ghost use Rattle.circ_line.specs.Text.{IsInRange};
-ghost use Rattle.circ_proof_text.specs.TableText.{first_at, firsts_at, term_for};
-ghost use Rattle.circ_proof_text.specs.ReadTable.{is_among, with_line, marked_at};
-ghost use Rattle.circ_file.specs.Adding.{IsReadBy, Adds};
+ghost use Rattle.circ_proof_text.specs.TableText.{first_at, firsts_at};
+ghost use Rattle.circ_file.specs.Adding.{terms_in, is_open, have_sorts, goal_at, Adds};
 
+use crate::checks::is_goal;
 use crate::taken::Taken;
 use circ_line::TableLine;
 use circ_replay::MOST_TERMS;
-use circ_term::{Term, TermFault};
-use circ_theory::Theory;
-use indexmap::IndexSet;
+use circ_table::{NamedTerms, Rows, Table};
+use circ_term::TermFault;
+use circ_theory::{Goal, Theory};
 use std::alloc::{AllocError, Global};
+use std::mem;
 
-/// The terms of the lines so far, the lines without repetition, and which of them are the first with
-/// their terms. So no terms are compared.
+/// The terms of the lines so far. While lines come it knows the least number of each term, so that no
+/// terms are compared; when they have come it builds the terms that are asked for.
 #[derive(Drop)]
-pub(crate) struct Table {
-    alloc: Global,
-    pub(crate) terms: Vec<Term>,
-    lines: IndexSet<TableLine>,
-    marks: Vec<bool>,
+pub(crate) enum ReadTable {
+    Open { rows: Rows },
+    Closed { terms: NamedTerms },
 }
 
-impl Table {
+impl ReadTable {
     /// The table of no lines.
-    pub(crate) fn new(alloc: Global) -> Table
-        ensures terms { result.terms.items ≡ [] }
-        ensures read { (sig : Signature) → IsReadBy sig result }
+    pub(crate) fn new(alloc: Global) -> ReadTable
+        ensures terms { terms_in result ≡ [] }
+        ensures state { is_open result ≡ true }
     {
-        Table {
-            alloc,
-            terms: Vec::new(alloc),
-            lines: IndexSet::new(alloc),
-            marks: Vec::new(alloc),
+        ReadTable::Open {
+            rows: Rows::new(alloc),
+        }
+    }
+
+    /// How many terms there are.
+    pub(crate) fn len(&self) -> usize
+        ensures { result ≡ length (terms_in self.now) }
+    {
+        match self {
+            ReadTable::Open { rows } => rows.len(),
+            ReadTable::Closed { terms } => terms.table().len(),
         }
     }
 
     /// Takes the term of a line, where the line has one that passes no limit.
-    pub(crate) fn add(&mut self, theory: &Theory, line: TableLine) -> Result<Taken, AllocError>
-        requires read { IsReadBy theory.now.signature self.old }
-        requires in_range { IsInRange (table_line (plain_table_line line)) }
-        ensures added { IfOk result (λ taken. Adds theory.now.signature self.old.terms.items
-            (plain_table_line line) taken self.new.terms.items) }
-        ensures read { IfOk result (λ taken. IsReadBy theory.now.signature self.new) }
+    pub(crate) fn add(&mut self, theory: &Theory, line: &TableLine) -> Result<Taken, AllocError>
+        requires { is_open self.old ≡ true }
+        ensures added { IfOk result (λ taken. Adds theory.now.signature (terms_in self.old)
+            (plain_table_line line.now) taken (terms_in self.new)) }
+        ensures state { is_open self.new ≡ true }
     {
-        match self.term_of(theory, &line) {
-            Err(TermFault::TooBig { .. }) => Ok(Taken::Limit),
-            Err(TermFault::TooDeep { .. }) => Ok(Taken::Limit),
-            Err(TermFault::Memory) => Err(AllocError),
-            Ok(None) => Ok(Taken::Line),
-            Ok(Some(term)) => {
-                if self.terms.len() >= MOST_TERMS {
-                    return Ok(Taken::Limit);
-                }
-                let fresh = enter(&mut self.lines, line)?;
-                self.marks.push(fresh)?;
-                self.terms.push(term)?;
-                Ok(Taken::Yes)
+        match self {
+            ReadTable::Open { rows } => add_line(rows, theory, line),
+            ReadTable::Closed { .. } => unreachable!(),
+        }
+    }
+
+    /// The table, which takes no more lines. It is shared.
+    pub(crate) fn close(&mut self, alloc: Global) -> Result<Table, AllocError>
+        ensures table { IfOk result (λ t. t ≡ terms_in self.old) }
+        ensures terms { OnOk result (terms_in self.new ≡ terms_in self.old) }
+        ensures state { OnOk result (is_open self.new ≡ false) }
+    {
+        match self {
+            ReadTable::Open { rows } => {
+                let rows = mem::replace(rows, Rows::new(alloc));
+                let table = rows.close()?;
+                let shared = table.share()?;
+                *self = ReadTable::Closed {
+                    terms: NamedTerms::of(alloc, table),
+                };
+                Ok(shared)
             }
+            ReadTable::Closed { terms } => terms.table().share(),
         }
     }
 
-    /// Gives up what only further lines need.
-    pub(crate) fn close(&mut self)
-        ensures { self.new.terms.items ≡ self.old.terms.items }
+    /// The goal of two numbers, where both are in the table and their terms have one sort.
+    pub(crate) fn goal(&mut self, left: u32, right: u32) -> Result<Option<Goal>, AllocError>
+        requires { is_open self.old ≡ false }
+        ensures goal { IfOk result (λ o. o ≡ goal_at (terms_in self.old) left right) }
+        ensures terms { terms_in self.new ≡ terms_in self.old }
+        ensures state { is_open self.new ≡ false }
     {
-        self.lines = IndexSet::new(self.alloc);
-        self.marks = Vec::new(self.alloc);
-    }
-
-    // The term of the line, where it has one that is within the limits.
-    fn term_of(&self, theory: &Theory, line: &TableLine) -> Result<Option<Term>, TermFault>
-        requires { IsReadBy theory.now.signature self.now }
-        ensures { BuildsSome result (term_for theory.now.signature self.now.terms.items
-            (plain_table_line line.now)) }
-    {
-        match line {
-            TableLine::Variable { number, sort } => {
-                if *sort >= theory.sort_count() {
-                    return Ok(None);
-                }
-                Ok(Some(Term::var(*number, *sort)))
-            }
-            TableLine::Application { op, args } => match self.args_of(args.as_slice()) {
-                Err(_) => Err(TermFault::Memory),
-                Ok(None) => Ok(None),
-                Ok(Some(args)) => theory.app(*op, args),
-            },
+        match self {
+            ReadTable::Open { .. } => unreachable!(),
+            ReadTable::Closed { terms } => goal_at(terms, left, right),
         }
     }
+}
 
-    // The terms that the numbers are the least of.
-    fn args_of(&self, numbers: &[u32]) -> Result<Option<Vec<Term>>, AllocError>
-        requires { (sig : Signature) × IsReadBy sig self.now }
-        ensures { IfOk result (λ o. option_map (λ v. v.items) o ≡
-            firsts_at self.now.terms.items numbers.now) }
-    {
-        let mut args = Vec::with_capacity(self.alloc, numbers.len())?;
-        for number in numbers {
-            let Some(term) = self.arg(*number) else {
-                return Ok(None);
-            };
-            args.push(term.share()?)?;
+fn add_line(rows: &mut Rows, theory: &Theory, line: &TableLine) -> Result<Taken, AllocError>
+    ensures { IfOk result (λ taken. Adds theory.now.signature rows.old
+        (plain_table_line line.now) taken rows.new) }
+{
+    match line {
+        TableLine::Variable { number, sort } => add_variable(rows, theory, *number, *sort),
+        TableLine::Application { op, args } => add_application(rows, theory, *op, args.as_slice()),
+    }
+}
+
+fn add_variable(
+    rows: &mut Rows,
+    theory: &Theory,
+    number: u32,
+    sort: u32,
+) -> Result<Taken, AllocError>
+    ensures { IfOk result (λ taken. Adds theory.now.signature rows.old
+        (Variable_line number sort) taken rows.new) }
+{
+    if sort >= theory.sort_count() {
+        return Ok(Taken::Line);
+    }
+    if rows.len() >= MOST_TERMS {
+        return Ok(Taken::Limit);
+    }
+    rows.add_variable(number, sort)?;
+    Ok(Taken::Yes)
+}
+
+fn add_application(
+    rows: &mut Rows,
+    theory: &Theory,
+    op: u32,
+    args: &[u32],
+) -> Result<Taken, AllocError>
+    ensures { IfOk result (λ taken. Adds theory.now.signature rows.old
+        (Application_line op args.now) taken rows.new) }
+{
+    theory.known();
+    let Some(decl) = theory.op(op) else {
+        return Ok(Taken::Line);
+    };
+    if !are_args(rows, args, decl.args.as_slice()) {
+        return Ok(Taken::Line);
+    }
+    if rows.len() >= MOST_TERMS {
+        return Ok(Taken::Limit);
+    }
+    match rows.add_application(op, decl.result, args) {
+        Ok(()) => Ok(Taken::Yes),
+        Err(TermFault::TooBig { .. }) => Ok(Taken::Limit),
+        Err(TermFault::TooDeep { .. }) => Ok(Taken::Limit),
+        Err(TermFault::Memory) => Err(AllocError),
+    }
+}
+
+// Whether each number is the least of its term, and the terms have these sorts.
+fn are_args(rows: &Rows, numbers: &[u32], sorts: &[u32]) -> bool
+    ensures { result ≡ have_sorts (firsts_at rows.now numbers.now) sorts.now }
+{
+    if numbers.len() != sorts.len() {
+        return false;
+    }
+    for i in 0..numbers.len() {
+        if !is_arg(rows, numbers[i], sorts[i]) {
+            return false;
         }
-        Ok(Some(args))
     }
-
-    // The term that the number is the least of.
-    fn arg(&self, number: u32) -> Option<&Term>
-        requires { (sig : Signature) × IsReadBy sig self.now }
-        ensures { option_copied result ≡ first_at self.now.terms.items number }
-    {
-        marked(self.terms.as_slice(), self.marks.as_slice(), number)
-    }
+    true
 }
 
-fn marked<'a>(terms: &'a [Term], marks: &[bool], number: u32) -> Option<&'a Term>
-    ensures { option_copied result ≡ marked_at marks.now terms.now number }
+// Whether the number is the least of its term, and the term has this sort.
+fn is_arg(rows: &Rows, number: u32, sort: u32) -> bool
+    ensures { result ≡ option_map_or (λ t. sort_of t == sort) (first_at rows.now number) false }
 {
-    match mark_at(marks, number) {
-        Some(true) => term_at(terms, number),
-        _ => None,
+    match rows.first_sort(number) {
+        Some(found) => found == sort,
+        None => false,
     }
 }
 
-fn mark_at(marks: &[bool], number: u32) -> Option<bool>
-    ensures { result ≡ slice_get marks.now number }
+fn goal_at(terms: &mut NamedTerms, left: u32, right: u32) -> Result<Option<Goal>, AllocError>
+    ensures table { terms.new.0 ≡ terms.old.0 }
+    ensures goal { IfOk result (λ o. o ≡ goal_at terms.old.0 left right) }
 {
-    marks.get(number as usize).copied()
-}
-
-/// The term of a number.
-pub(crate) fn term_at(terms: &[Term], number: u32) -> Option<&Term>
-    ensures { option_copied result ≡ slice_get terms.now number }
-{
-    terms.get(number as usize)
-}
-
-// Whether the line is new among the lines, which have it then.
-fn enter(lines: &mut IndexSet<TableLine>, line: TableLine) -> Result<bool, AllocError>
-    ensures fresh { IfOk result (λ fresh. fresh ≡
-        not (is_among (map plain_table_line lines.old.keys) (plain_table_line line))) }
-    ensures lines { IfOk result (λ fresh. map plain_table_line lines.new.keys ≡
-        with_line (map plain_table_line lines.old.keys) (plain_table_line line)) }
-{
-    let (_, fresh) = lines.insert_full(line)?;
-    Ok(fresh)
+    if !is_goal(terms.table(), left, right) {
+        return Ok(None);
+    }
+    let left = terms.term(left)?;
+    let right = terms.term(right)?;
+    Ok(Some(Goal { left, right }))
 }

@@ -1,5 +1,4 @@
 pub mod TableText
-pub mod ReadTable
 pub mod Places
 pub mod Fine
 pub mod FineBlocks

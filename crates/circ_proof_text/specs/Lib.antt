@@ -1,6 +1,5 @@
 pub mod Examples
 pub mod TableText
-pub mod ReadTable
 pub mod Checks
 pub mod ProofText
 pub mod Parts

@@ -1,14 +1,12 @@
 //! What is proved of a reader that is fed a proof's text in pieces. The functions do nothing: a law
 //! is a contract.
-ghost use Rattle.std.specs.Prelude.{◌≡◌, ℕ, ◌+◌, Bool, true, false, List, [], ◌∷◌, ◌++◌};
-ghost use Rattle.std.specs.Prelude.{length, map, not, Some, None};
-ghost use Rattle.circ_term.specs.Tree.{Tree};
-ghost use Rattle.circ_theory.specs.Signature.{Signature};
+ghost use Rattle.std.specs.Prelude.{◌≡◌, ℕ, ◌+◌, true, false, List, [], ◌∷◌, ◌++◌};
+ghost use Rattle.std.specs.Prelude.{length, map, Some, None};
 ghost use Rattle.circ_theory.specs.Theory.{Theory};
 ghost use Rattle.circ_theory.specs.WellFormed.{IsWellFormed};
 ghost use Rattle.circ_replay.specs.Plain.{ChainOf};
 ghost use Rattle.circ_rules.specs.Proof.{Proof, ProofFor};
-ghost use Rattle.circ_line.specs.Line.{TableLine, Line, table_line};
+ghost use Rattle.circ_line.specs.Line.{Line};
 ghost use Rattle.circ_line.specs.Text.{line_text, IsInRange};
 ghost use Rattle.circ_line.specs.Plain.{NoFeed, ReadsLine};
 ghost use Rattle.circ_grammar.specs.FirstBad.{Line_fault, Limit_fault};
@@ -16,8 +14,6 @@ ghost use Rattle.circ_grammar.specs.Machine.{OpenSplit};
 ghost use Rattle.circ_grammar.specs.Parts.{shown_by};
 ghost use Rattle.circ_grammar.specs.Parts as grammar;
 ghost use Rattle.circ_grammar.specs.Now.{Now, Reducing, Ended, next_now};
-ghost use Rattle.circ_proof_text.specs.TableText.{first_at, term_for};
-ghost use Rattle.circ_proof_text.specs.ReadTable.{is_among, with_line, marked_at, IsReadTable};
 ghost use Rattle.circ_proof_text.specs.Checks.{passes_at, limit_at};
 ghost use Rattle.circ_proof_text.specs.ProofText.{numbers_of, ReadsAsProof, FirstCause};
 ghost use Rattle.circ_proof_text.specs.Parts.{Part, part_with, parts_of, gathered};
@@ -25,19 +21,6 @@ ghost use Rattle.circ_proof_text.specs.Parts.{nothing_gathered, gather_all};
 ghost use Rattle.circ_rules.specs.Fitting.{Fit};
 ghost use Rattle.circ_proof_text.specs.Reading.{Reading, kept, nothing_read, StandsFor};
 ghost use Rattle.circ_proof_text.specs.Reading.{after_line};
-
-/// The different lines of a table and a mark for each line tell which numbers are the least of
-/// their terms. A line more is marked where it is a new one.
-pub fn least_numbers()
-    ensures least { (sig : Signature) (table : List Tree) (lines : List TableLine)
-        (marks : List Bool) → IsReadTable sig table lines marks →
-        (n : ℕ) → marked_at marks table n ≡ first_at table n }
-    ensures grows { (sig : Signature) (table : List Tree) (lines : List TableLine)
-        (marks : List Bool) (l : TableLine) (t : Tree) → IsReadTable sig table lines marks →
-        term_for sig table l ≡ Some t → IsInRange (table_line l) →
-        IsReadTable sig (table ++ t ∷ []) (with_line lines l)
-        (marks ++ not (is_among lines l) ∷ []) }
-{}
 
 /// The parts of a proof are those that its lines show, with the terms of its table. They fit, and
 /// give the proof back.

@@ -2,6 +2,8 @@ use Rattle.std.proofs.Common.{◌≡◌, ◌≤◌, ◌∙◌, List, [], length,
 use Rattle.circ_special.specs.declared.place.Place.{Place}
 use Rattle.circ_special.specs.Special.{IsSet}
 use Rattle.circ_rules.specs.Certified.{due}
+use Rattle.circ_file.specs.Adding.{terms_in}
+use Rattle.circ_file.specs.Lines.{IsInStep}
 use Rattle.circ_file.proofs.lines.LineReader.new.Goals as goal
 
 pub returns-clause-reader : goal.returns-clause-reader
@@ -10,9 +12,9 @@ returns-clause-reader c =
     let none : IsSet th [] = record { increasing = tt; places = tt } in
     let P : List Place → Type 0 = λ x. IsSet th x in
     record {
-      kept = c.new.ensures.kept c.new-2.result.terms.items;
+      kept = c.new.ensures.kept (terms_in c.new-2.result);
       set = subst P (sym c.new.ensures.places) none;
-      read = c.new-2.ensures.read th.signature;
+      step = subst (λ n. IsInStep n c.new-2.result) (sym c.new.ensures.begin) c.new-2.ensures.state;
       due = c.new-3.ensures.due ∙ sym (ap (λ x. length (due th x)) c.new.ensures.places);
       certificates = omega (arith, c.new-3.ensures.certificates);
       steps = omega (arith, c.new-3.ensures.steps);

@@ -10,4 +10,4 @@ returns-in_ok-push_back-in-Tabling-clause-queue c =
     let old = c.args.self.now in
     ap (map plain_part) c.in_ok-push_back-in-Tabling.ensures.items
     ∙ map_push plain_part old.queue.items c.in_ok-part-in-Tabling.part
-    ∙ ap (λ x. queue_of old ++ x) (ap (λ x. x ∷ []) (c.in_ok-part-in-Tabling.ensures ∙ ap (λ x. Head c.args.terms.now x) c.as_slice.ensures.value) ∙ sym (head_ends c.args.terms.now old c.requires.kept c.in-Tabling.is))
+    ∙ ap (λ x. queue_of old ++ x) (ap (λ x. x ∷ []) (c.in_ok-part-in-Tabling.ensures ∙ ap (λ x. Head c.args.table x) c.as_slice.ensures.value) ∙ sym (head_ends c.args.table old c.requires.kept c.in-Tabling.is))
