@@ -1,8 +1,8 @@
 -- What is counted, item by item, and that places are few.
-use Rattle.std.specs.Prelude.{◌≡◌, ℕ, ◌+◌, ◌*◌, ◌^◌, ◌≤◌, ◌<◌, ◌==◌, Bool, true, false, cond, if◌then◌else◌, List, [], ◌∷◌, ◌++◌, length, drop, zero, suc, refl, Option, Some, None}
+use Rattle.std.specs.Prelude.{◌≡◌, ℕ, ◌+◌, ◌<◌, Bool, true, false, cond, if◌then◌else◌, List, [], ◌∷◌, ◌++◌, length, drop, zero, suc}
 use Rattle.std.specs.List.{slice_get, filter}
 use Rattle.std.specs.Option.{option_map_or}
-use Rattle.std.proofs.Common.{sym, ◌∙◌, ap, arith, length-append}
+use Rattle.std.proofs.Common.{ap, arith, length-append}
 use Rattle.circ_theory.specs.Theory.{Theory}
 use Rattle.circ_special.specs.declared.place.Place.{Place}
 use Rattle.circ_rules.specs.Certified.{derivatives_at, due_at, due}

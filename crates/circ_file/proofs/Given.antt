@@ -1,5 +1,5 @@
 -- Whys that are given to open splits.
-use Rattle.std.specs.Prelude.{◌≡◌, ℕ, ◌+◌, List, [], ◌∷◌, ◌++◌, length, map, Option, Some, None, cond, nat_eq, Bool, true, false, refl}
+use Rattle.std.specs.Prelude.{◌≡◌, ℕ, ◌+◌, List, [], ◌∷◌, ◌++◌, length, map, None, cond, nat_eq, Bool, true, false, refl}
 use Rattle.std.proofs.Common.{sym, ◌∙◌, ap, arith, length-append}
 use Rattle.std.proofs.lemmas.Bool.{eq-eqb, ne_eqb}
 use Rattle.circ_replay.specs.Plain.{WhyOf, Split_why, more_whys, plain_chain, plain_why, plain_whys}

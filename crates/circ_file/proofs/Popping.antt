@@ -1,9 +1,8 @@
 -- A part that leaves the queue.
 use Rattle.std.specs.Prelude.{◌≡◌, List, [], ◌∷◌, ◌++◌, length, map, drop, Option, Some, None, refl}
 use Rattle.std.specs.Option.{option_to_list}
-use Rattle.std.proofs.Common.{◌∙◌, sym, ap, arith}
-use Rattle.circ_term.specs.Tree.{Tree}
-use Rattle.circ_file.specs.View.{plain_part, now_at, IsKeptAt, Pops}
+use Rattle.std.proofs.Common.{◌∙◌, ap, arith}
+use Rattle.circ_file.specs.View.{plain_part, now_at, Pops}
 use Rattle.circ_rules.specs.declared.part.Part.{Part as CodePart}
 use Rattle.circ_file.specs.declared.machine.Machine.{Machine}
 use Rattle.circ_file.specs.declared.machine.Mode.{Mode}

@@ -1,14 +1,11 @@
 -- Where a reader stands after a line, and after the bytes of a line that is not whole.
-use Rattle.std.specs.Prelude.{◌≡◌, ◌⊎◌, ℕ, ◌+◌, true, false, List, [], ◌∷◌, ◌++◌, length, map, refl, Some, None}
-use Rattle.std.proofs.Common.{sym, ◌∙◌, ap, subst, inl, inr, append_assoc}
-use Rattle.std.proofs.lemmas.List.{append-nil, length-map}
+use Rattle.std.specs.Prelude.{◌≡◌, ℕ, ◌+◌, true, false, List, [], ◌∷◌, ◌++◌, length, refl, None}
+use Rattle.std.proofs.Common.{sym, ◌∙◌, ap, subst, inl, inr}
+use Rattle.std.proofs.lemmas.List.{length-map}
 use Rattle.circ_theory.specs.Theory.{Theory}
-use Rattle.circ_line.specs.Line.{Line}
-use Rattle.circ_line.specs.Text.{line_text, IsInRange}
 use Rattle.circ_line.specs.Plain.{NoFeed}
 use Rattle.circ_grammar.specs.FirstBad.{Line_fault, Limit_fault}
-use Rattle.circ_grammar.specs.Machine.{OpenSplit}
-use Rattle.circ_grammar.specs.Now.{Now, Begin, Tabling, Placing, Certifying, Opened, Stepping, Simplifying, Reducing, Closed, Ended, next_now}
+use Rattle.circ_grammar.specs.Now.{Now, Reducing}
 use Rattle.circ_proof_text.specs.Checks.{Seen, after, passes_at, limit_at}
 use Rattle.circ_proof_text.specs.ProofText.{FirstCause}
 use Rattle.circ_proof_text.specs.Parts.{Part}

@@ -1,6 +1,6 @@
 -- What a line gives that passes the checks and the limits.
-use Rattle.std.specs.Prelude.{◌≡◌, ◌⊎◌, ℕ, ◌+◌, ◌≤◌, ◌<◌, ◌==◌, ◌&&◌, ◌||◌, nat_eq, Bool, true, false, cond, List, [], ◌∷◌, ◌++◌, length, map, refl, Option, Some, None, is_some}
-use Rattle.std.proofs.Common.{sym, ◌∙◌, ap, subst, arith, inl, inr}
+use Rattle.std.specs.Prelude.{◌≡◌, ℕ, ◌+◌, ◌≤◌, ◌||◌, nat_eq, Bool, true, false, cond, List, [], ◌∷◌, ◌++◌, length, refl, Some, None, is_some}
+use Rattle.std.proofs.Common.{sym, ◌∙◌, ap, subst, arith, inr}
 use Rattle.std.proofs.lemmas.Bool.{and_parts, ltb-true, ltb-false}
 use Rattle.std.proofs.lemmas.Option.{same_Some, cond_some}
 use Rattle.circ_term.specs.Tree.{Tree}
@@ -16,12 +16,12 @@ use Rattle.circ_line.specs.Line.{done_line, same_line, split_line, left_line, ri
 use Rattle.circ_grammar.specs.Grammar.{why_count}
 use Rattle.circ_grammar.proofs.Spelled.{option_map_some}
 use Rattle.circ_grammar.specs.Machine.{OpenSplit, empty, open_split, push_why, add_left, add_right}
-use Rattle.circ_grammar.specs.Now.{Now, Begin, Tabling, Placing, Certifying, Opened, Stepping, Simplifying, Reducing, Closed, Ended, next_now, give_why_now}
-use Rattle.circ_grammar.specs.Now.{is_front, is_block, is_step, next_head, next_place, next_goal, next_same, next_split, next_left, next_right, next_end}
+use Rattle.circ_grammar.specs.Now.{Now, Begin, Tabling, Placing, Certifying, Stepping, Simplifying, Reducing, Closed, Ended, next_now, give_why_now}
+use Rattle.circ_grammar.specs.Now.{is_step, next_head, next_place, next_same, next_split, next_left, next_right, next_end}
 use Rattle.circ_rules.specs.Certified.{due}
 use Rattle.circ_rules.specs.Proof.{step_limit}
 use Rattle.circ_rules.proofs.FewPlaces.{place_low}
-use Rattle.circ_proof_text.specs.Checks.{Seen, after, is_next, is_place, is_goal, with_term, is_full, is_too_large, passes_at, limit_at}
+use Rattle.circ_proof_text.specs.Checks.{Seen, after, is_next, is_place, with_term, is_full, is_too_large, passes_at, limit_at}
 use Rattle.circ_proof_text.proofs.Places.{place_tells, increasing_push}
 use Rattle.circ_line.specs.Plain.{plain_line}
 use Rattle.circ_line.specs.declared.line.Line.{Line as CodeLine}
@@ -73,7 +73,7 @@ steps_then th c _ h p = h
 abbrev pub seen_with : List Tree → List Place → (certificates steps : ℕ) → (wanted : List ℕ) → Seen
 seen_with ts gs n m w = record { terms = ts; places = gs; certificates = n; steps = m; wanted = w }
 
-pub same_seen : (c : Seen) (ts : List Tree) (gs : List Place) (n m : ℕ) → ts ≡ c.terms → gs ≡ c.places → n ≡ c.certificates → m ≡ c.steps → seen_with ts gs n m c.wanted ≡ c
+same_seen : (c : Seen) (ts : List Tree) (gs : List Place) (n m : ℕ) → ts ≡ c.terms → gs ≡ c.places → n ≡ c.certificates → m ≡ c.steps → seen_with ts gs n m c.wanted ≡ c
 same_seen c ts gs n m a b e f =
     ap (λ x. seen_with x gs n m c.wanted) a ∙ ap (λ x. seen_with c.terms x n m c.wanted) b
     ∙ ap (λ x. seen_with c.terms c.places x m c.wanted) e ∙ ap (λ x. seen_with c.terms c.places c.certificates x c.wanted) f
@@ -159,12 +159,8 @@ after_end : (n m : Now) (t : ReadTable) → next_end n ≡ Some m → IsInStep m
 after_end Closed m t e = subst (λ n. IsInStep n t) (same_Some Ended m e) tt
 after_end _ m t e = absurd (cc)
 
-after_goal : (n m : Now) (a b : ℕ) (t : ReadTable) → next_goal n a b ≡ Some m → is_open t ≡ false → IsInStep m t
-after_goal (Opened gs) m a b t e s = subst (λ n. IsInStep n t) (same_Some (Opened (gs ++ (a, b) ∷ [])) m e) s
-after_goal _ m a b t e s = absurd (cc)
-
 -- a line that asks nothing of the table
-pub free_step : (n m : Now) (l : Line) (t : ReadTable) → IsFree l → next_now n l ≡ Some m → IsInStep n t → IsInStep m t
+free_step : (n m : Now) (l : Line) (t : ReadTable) → IsFree l → next_now n l ≡ Some m → IsInStep n t → IsInStep m t
 free_step n m head_line t o e s = after_head n m t e s
 free_step n m (table_line x) t o e s = absurd o
 free_step n m (place_line a b) t o e s = after_place n m (a, b) t e
@@ -195,21 +191,12 @@ advanced true r l m k f h =
     let t = h (terms_in r.table) k.kept in (t, refl, free_step (now_of r.machine) (now_of m) l r.table f t.next k.step)
 advanced false r l m k f h = h (terms_in r.table) k.kept
 
--- a certificate or a block begins
-pub begun_step : (n m : Now) (t : ReadTable) → is_open t ≡ false
-    → ((next_now n certificate_line ≡ Some m → IsInStep m t) × (next_now n block_line ≡ Some m → IsInStep m t))
-begun_step n m t s = (λ e. after_cond (is_front n) (Certifying []) m t e tt, λ e. after_cond (is_block n) (Opened []) m t e s)
-
--- a table that may get a line, and one of which goals are made
+-- where a line of the table may come
 pub still_open : (n m : Now) (l : TableLine) (t : ReadTable) → next_now n (table_line l) ≡ Some m → IsInStep n t → is_open t ≡ true
 still_open Tabling m l t e s = s
 still_open _ m l t e s = absurd (cc)
 
-pub closed_at : (k : Mode) (m : Machine) (t : ReadTable) → k ≡ mode.Opened → IsInStep (now_at k m) t → is_open t ≡ false
-closed_at mode.Opened m t e s = s
-closed_at _ m t e s = absurd (cc)
-
--- a reader that took a line of the table, or a goal
+-- the sets and counts of a reader that took a line of the table
 reader_then : (r s : LineReader) → IsReader r → s.theory.now ≡ r.theory.now → s.counts ≡ r.counts → s.machine.places.items ≡ r.machine.places.items
     → IsKept (terms_in s.table) s.machine → IsInStep (now_of s.machine) s.table → IsReader s
 reader_then r s k t n p a b = record {
@@ -244,20 +231,6 @@ table_handled w r s l Yes k t n m (u, f, within, us) b =
 table_handled w r s l Refused k t n m f b = inr (ap is_some f)
 table_handled w r s l Limit k t n m (u, f, over) b =
     (now_of s.machine, m.next, ap is_some f, ap (λ o. is_full term_limit (length (terms_in r.table)) || is_too_large o) f ∙ over)
-
--- A goal is taken whose numbers are in the table, and whose terms have one sort.
-pub goal_handled : (w : List ℕ) (r s : LineReader) (a b : ℕ) → IsReader r → s.theory.now ≡ r.theory.now → s.counts ≡ r.counts
-    → is_goal (terms_in r.table) a b ≡ true → Takes (terms_in r.table) r.machine (goal_line a b) s.machine → terms_in s.table ≡ terms_in r.table
-    → is_open s.table ≡ false → Handles Yes w r (goal_line a b) s
-goal_handled w r s a b k t n p m e o = record {
-  next = m.next;
-  passes = p;
-  within = refl;
-  seen = same_seen (seen_of w r) (terms_in s.table) s.machine.places.items s.counts.certificates s.counts.steps
-      e m.places (ap (λ x. x.certificates) n) (ap (λ x. x.steps) n);
-  queue = m.queue;
-  reader = reader_then r s k t n m.places (subst (λ ts. IsKept ts s.machine) (sym e) m.kept) (after_goal (now_of r.machine) (now_of s.machine) a b s.table m.next o);
-}
 
 -- A line is taken that is not of the table, and no goal.
 pub other_handled : (w : List ℕ) (r s : LineReader) (l : Line) → IsReader r → IsOther l → s.theory.now ≡ r.theory.now

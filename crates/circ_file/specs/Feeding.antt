@@ -1,5 +1,5 @@
 -- A reader of a proof's text, which comes in pieces.
-use Rattle.std.specs.Prelude.{◌≡◌, ◌≢◌, ℕ, ◌+◌, ◌<◌, ◌^◌, List, [], ◌∷◌, ◌++◌, map, length, Option, Some, None, Result, Ok, Err}
+use Rattle.std.specs.Prelude.{◌≡◌, ◌≢◌, ℕ, ◌+◌, ◌<◌, ◌^◌, List, [], ◌∷◌, ◌++◌, map, Option, Some, None, Result, Ok, Err}
 use Rattle.circ_theory.specs.Theory.{Theory}
 use Rattle.circ_line.specs.Plain.{NoFeed}
 use Rattle.circ_grammar.specs.FirstBad.{Line_fault, Limit_fault}

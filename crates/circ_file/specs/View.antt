@@ -9,7 +9,7 @@ use Rattle.circ_grammar.specs.Now.{Now, Begin, Tabling, Placing, Certifying, Ope
 use Rattle.circ_grammar.specs.Now.{next_now, line_part, front_part, step_part, is_step}
 use Rattle.circ_rules.specs.Proof.{goal_of}
 pub use Rattle.circ_rules.specs.Plain.{plain_part}
-use Rattle.circ_proof_text.specs.Parts.{Part, Head, Certificate, Goals, Step, part_with}
+use Rattle.circ_proof_text.specs.Parts.{Part, part_with}
 use Rattle.circ_proof_text.specs.ProofText.{place_numbers}
 use Rattle.circ_file.specs.Splits.{tops}
 use Rattle.circ_rules.specs.declared.part.Part.{Part as CodePart}

@@ -232,12 +232,7 @@ pub(crate) fn empty_chain(alloc: Global) -> Chain
 }
 
 // The places are copied, since they are still asked for.
-fn head(
-    alloc: Global,
-    theory: &Theory,
-    table: Table,
-    places: &[Place],
-) -> Result<Part, AllocError>
+fn head(alloc: Global, theory: &Theory, table: Table, places: &[Place]) -> Result<Part, AllocError>
     requires { IsSet theory.now places.now }
     ensures { IfOk result (λ p. plain_part p ≡ Head table places.now) }
 {

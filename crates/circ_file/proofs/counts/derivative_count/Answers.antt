@@ -1,4 +1,4 @@
-use Rattle.std.proofs.Common.{◌≡◌, ◌+◌, ◌<◌, ◌==◌, ◌∙◌, Bool, true, false, length, ap, arith, sym}
+use Rattle.std.proofs.Common.{◌<◌, ◌==◌, ◌∙◌, Bool, true, false, length, arith, sym}
 use Rattle.std.specs.List.{filter}
 use Rattle.circ_theory.specs.Theory.{Derivative}
 use Rattle.circ_file.proofs.Counted.{counted_more}

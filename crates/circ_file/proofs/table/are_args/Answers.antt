@@ -1,4 +1,4 @@
-use Rattle.std.proofs.Common.{◌≡◌, ◌+◌, ◌<◌, ◌≤◌, ◌&&◌, Bool, length, drop, sym, ◌∙◌, ap, arith}
+use Rattle.std.proofs.Common.{◌+◌, ◌<◌, ◌≤◌, ◌&&◌, Bool, length, drop, sym, ◌∙◌, ap, arith}
 use Rattle.circ_proof_text.specs.TableText.{firsts_at}
 use Rattle.circ_file.specs.Adding.{have_sorts}
 use Rattle.circ_file.proofs.Firsts.{sorts_left, none_left, other_count}

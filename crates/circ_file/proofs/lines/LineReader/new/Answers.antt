@@ -1,4 +1,4 @@
-use Rattle.std.proofs.Common.{◌≡◌, ◌≤◌, ◌∙◌, List, [], length, sym, ap, subst, arith}
+use Rattle.std.proofs.Common.{◌∙◌, List, [], length, sym, ap, subst, arith}
 use Rattle.circ_special.specs.declared.place.Place.{Place}
 use Rattle.circ_special.specs.Special.{IsSet}
 use Rattle.circ_rules.specs.Certified.{due}

@@ -1,4 +1,4 @@
-use Rattle.std.proofs.Common.{◌≡◌, ◌≤◌, ◌<◌, ◌^◌, ◌∙◌, true, false, [], length, sym, arith}
+use Rattle.std.proofs.Common.{◌≡◌, true, false, [], sym, arith}
 use Rattle.circ_line.specs.Plain.{plain_line}
 use Rattle.circ_proof_text.specs.Checks.{passes_at, limit_at}
 use Rattle.circ_file.specs.Lines.{seen_of, Advances}

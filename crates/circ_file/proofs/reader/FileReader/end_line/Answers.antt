@@ -1,5 +1,4 @@
-use Rattle.std.proofs.Common.{◌≡◌, ◌∙◌, ◌+◌, ◌++◌, refl, ap}
-use Rattle.circ_line.specs.Text.{line_text}
+use Rattle.std.proofs.Common.{◌∙◌, ◌+◌, ◌++◌, refl}
 use Rattle.circ_file.specs.View.{now_of}
 use Rattle.circ_file.specs.Lines.{ReadsNext}
 use Rattle.circ_file.specs.Feeding.{reading_of}

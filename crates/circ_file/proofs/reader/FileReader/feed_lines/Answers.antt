@@ -1,4 +1,4 @@
-use Rattle.std.proofs.Common.{◌≡◌, ◌∙◌, ◌++◌, ◌∷◌, length, length-append, refl, ap, arith}
+use Rattle.std.proofs.Common.{◌∙◌, ◌++◌, ◌∷◌, length, length-append, refl, ap, arith}
 use Rattle.circ_file.specs.declared.reader.FileReader.{FileReader}
 use Rattle.circ_file.proofs.Standing.{rest_taken}
 use Rattle.circ_file.proofs.Cutting.{none_read, line_read, line_fault, line_shown, all_read}

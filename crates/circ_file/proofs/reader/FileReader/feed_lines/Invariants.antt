@@ -1,8 +1,5 @@
-use Rattle.std.proofs.Common.{◌≡◌, ℕ, List, ◌++◌, ◌+◌, ◌≤◌, length}
-use Rattle.circ_theory.specs.Theory.{Theory}
-use Rattle.circ_proof_text.specs.Parts.{Part}
+use Rattle.std.proofs.Common.{◌≡◌, ◌+◌, ◌≤◌, length}
 use Rattle.circ_file.specs.Lines.{IsReader}
-use Rattle.circ_file.specs.Feeding.{Stands}
 use Rattle.circ_file.proofs.Cutting.{IsRead}
 use Rattle.circ_file.proofs.reader.FileReader.feed_lines.Given as goal
 
