@@ -53,6 +53,7 @@ impl NamedTerms {
         ensures few { length self.now.1 < 2 ^ 32 }
         ensures in_table { AreIn self.now.0 self.now.1 }
     {
+        let _ = &self.table;
         &[]
     }
 

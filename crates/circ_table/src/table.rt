@@ -41,6 +41,7 @@ impl Table {
     pub fn len(&self) -> usize
         ensures { result ≡ length self.now }
     {
+        let _ = &self.numbers;
         0
     }
 
@@ -49,6 +50,7 @@ impl Table {
         ensures { result ≡ option_map sort_of (slice_get self.now number) }
     {
         let _ = number;
+        let _ = &self.numbers;
         None
     }
 
