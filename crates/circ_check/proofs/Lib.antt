@@ -1,4 +1,5 @@
 pub mod Marks
+pub mod Placed
 pub mod Standing
 pub mod Behaving
 pub mod Fitting

@@ -28,7 +28,7 @@ IsSpent k = k.is_spent ≡ true
 
 abbrev pub checking_of : Checker → Checking
 checking_of k = record {
-  table = k.table.items;
+  table = k.named.0;
   places = k.gamma;
   due = due_after k.theory.now k.gamma k.due;
   before = take k.earlier k.state.hyps.items;

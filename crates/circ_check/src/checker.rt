@@ -20,12 +20,13 @@ ghost use Rattle.circ_check.specs.Watching.{Stands, Follows, IsSound, IsAsBefore
 ghost use Rattle.circ_check.specs.Watching.{Finds, FoundBehave};
 
 use crate::knowing::{apply_known, known_of};
+use crate::placing::{place_links, place_step};
 use crate::running::{put, share};
 use crate::tally::Tally;
 use circ_replay::Link;
 use circ_rules::{Due, Part, State, Step, certify_next};
 use circ_special::Gamma;
-use circ_term::Term;
+use circ_table::{NamedTerms, Table};
 use circ_theory::{Goal, Theory};
 use std::alloc::{AllocError, Global};
 use std::collections::VecDeque;
@@ -36,7 +37,8 @@ use std::collections::VecDeque;
 pub struct Checker<'a> {
     alloc: Global,
     theory: &'a Theory,
-    table: Vec<Term>,
+    // The table, and those of its terms that certificates and steps named so far.
+    named: NamedTerms,
     gamma: Gamma,
     due: Due,
     state: State,
@@ -62,7 +64,7 @@ impl<'a> Checker<'a> {
         Checker {
             alloc,
             theory,
-            table: Vec::new(alloc),
+            named: NamedTerms::of(alloc, Table::empty(alloc)),
             gamma: no_places(alloc, theory),
             due: Due {
                 place: 0,
@@ -137,7 +139,7 @@ impl<'a> Checker<'a> {
     {
         match part {
             Part::Head { table, gamma } => {
-                self.table = table;
+                self.named = NamedTerms::of(self.alloc, table);
                 self.gamma = gamma;
                 self.due = Due {
                     place: 0,
@@ -145,27 +147,28 @@ impl<'a> Checker<'a> {
                 };
                 Ok(())
             }
-            Part::Certificate { links } => self.take_certificate(links.as_slice()),
+            Part::Certificate { links } => self.take_certificate(links),
             Part::Goals { goals, names } => self.begin_block(goals, names.as_slice()),
-            Part::Step { step } => self.take_step(&step),
+            Part::Step { step } => self.take_step(step),
         }
     }
 
-    fn take_certificate(&mut self, links: &[Link]) -> Result<(), AllocError>
+    fn take_certificate(&mut self, mut links: Vec<Link>) -> Result<(), AllocError>
         requires ready { IsReady self.old.theory.now (checking_of self.old)
-            (Certificate (plain_links links.now)) }
+            (Certificate (plain_links links.items)) }
         requires sound { IsSound self.old.theory.now self.old }
         ensures took { OnOk result (Took self.old.theory.now
-            (Certificate (plain_links links.now)) self.old self.new) }
+            (Certificate (plain_links links.items)) self.old self.new) }
         ensures kept { OnErr result (IsAsBefore self.old self.new) }
     {
+        place_links(&mut self.named, &mut links)?;
         let holds = certify_next(
             self.alloc,
             self.theory,
-            self.table.as_slice(),
+            self.named.terms(),
             &self.gamma,
             &mut self.due,
-            links,
+            links.as_slice(),
         )?;
         if !holds {
             self.tally = self.tally.with_failure();
@@ -201,28 +204,28 @@ impl<'a> Checker<'a> {
         begin_list(self.alloc, &mut self.derived)
     }
 
-    fn take_step(&mut self, step: &Step) -> Result<(), AllocError>
+    fn take_step(&mut self, mut step: Step) -> Result<(), AllocError>
         requires ready { IsReady self.old.theory.now (checking_of self.old)
-            (StepPart (plain_step step.now)) }
+            (StepPart (plain_step step)) }
         requires sound { IsSound self.old.theory.now self.old }
         ensures took { OnOk result (Took self.old.theory.now
-            (StepPart (plain_step step.now)) self.old self.new) }
+            (StepPart (plain_step step)) self.old self.new) }
         ensures kept { OnErr result (IsAsBefore self.old self.new) }
     {
         if self.is_stopped {
             self.tally = self.tally.with_one();
             return Ok(());
         }
-        let made = made_by(step, &self.state.goals)?;
-        let table = self.table.as_slice();
+        let made = made_by(&step, &self.state.goals)?;
+        place_step(&mut self.named, &mut step)?;
         if !apply_known(
             self.alloc,
             self.theory,
-            table,
+            self.named.terms(),
             &self.gamma,
             &mut self.state,
             &mut self.known,
-            step,
+            &step,
         )? {
             self.is_stopped = true;
             self.tally = self.tally.with_failure();

@@ -5,6 +5,7 @@
 mod checker;
 mod checking;
 mod knowing;
+mod placing;
 mod running;
 mod tally;
 
