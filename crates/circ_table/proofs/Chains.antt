@@ -1,7 +1,7 @@
 -- How a term is put into its chain, and how a chain is gone through.
 use Rattle.std.specs.Prelude.{◌≡◌, ℕ, zero, suc, ◌+◌, ◌-◌, ◌%◌, ◌≤◌, ◌<◌, Bool, true, false, if◌then◌else◌, List, [], ◌∷◌, ◌++◌, length, replicate, slice_set, Option, Some, None, refl}
 use Rattle.std.specs.List.{slice_get}
-use Rattle.std.proofs.Common.{ap, sym, subst, ◌∙◌, arith, ◌⊎◌, inl, inr, length-append}
+use Rattle.std.proofs.Common.{ap, sym, subst, ◌∙◌, arith, ◌⊎◌, inl, inr}
 use Rattle.std.proofs.lemmas.Bool.{cases_eq}
 use Rattle.std.proofs.lemmas.List.{length-set}
 use Rattle.std.proofs.lemmas.Option.{same_Some, slice_get_within}
@@ -11,27 +11,8 @@ use Rattle.circ_table.specs.declared.lines.Row.{Row}
 use Rattle.circ_table.specs.declared.links.TheConstants.{END}
 use Rattle.circ_table.specs.Lines.{PlainRoot, row_root, begin_of, tree_at, trees_from, IsThere, AreRowsFrom}
 use Rattle.circ_table.specs.Links.{hash_of, keys_from, StandsIn, IsNewest, IsLinked}
-use Rattle.circ_table.proofs.Firsts.{get_front, get_back}
+use Rattle.circ_table.proofs.Firsts.{get_front, get_back, get_put, get_other, get_replicate}
 use Rattle.circ_table.proofs.Placing.{last_end, root_longer, rows_ahead, root_found}
-
--- ---- what is read where a list was written
-
-get_put : (xs : List ℕ) (i x y : ℕ) → slice_get (slice_set xs i x) i ≡ Some y → x ≡ y
-get_put [] i x y g = absurd (cc)
-get_put (z ∷ xs) zero x y g = same_Some x y g
-get_put (z ∷ xs) (suc i) x y g = get_put xs i x y g
-
-get_other : (xs : List ℕ) (i j x y : ℕ) → (i ≡ j → ⊥) → slice_get (slice_set xs i x) j ≡ Some y → slice_get xs j ≡ Some y
-get_other [] i j x y h g = g
-get_other (z ∷ xs) zero zero x y h g = absurd (h refl)
-get_other (z ∷ xs) zero (suc j) x y h g = g
-get_other (z ∷ xs) (suc i) zero x y h g = g
-get_other (z ∷ xs) (suc i) (suc j) x y h g = get_other xs i j x y (λ e. h (ap suc e)) g
-
-get_replicate : (n x i y : ℕ) → slice_get (replicate n x) i ≡ Some y → y ≡ x
-get_replicate zero x i y e = absurd (cc)
-get_replicate (suc n) x zero y e = sym (same_Some x y e)
-get_replicate (suc n) x (suc i) y e = get_replicate n x i y e
 
 -- ---- the hashes of the rows
 
@@ -63,9 +44,10 @@ keys_longer args extra table start (r ∷ rs) h =
 -- with a row more the others' are the same
 pub keys_pushed : (args extra : List ℕ) (rows : List Row) (r : Row) → AreRowsFrom args [] 0 rows
     → (k : Option ℕ) × (keys_from (args ++ extra) 0 (rows ++ r ∷ []) ≡ keys_from args 0 rows ++ k ∷ [])
-keys_pushed args extra rows r h =
-    (key_of (args ++ extra) (last_end 0 rows) r,
-    keys_push (args ++ extra) 0 rows r ∙ ap (λ ks. ks ++ key_of (args ++ extra) (last_end 0 rows) r ∷ []) (keys_longer args extra [] 0 rows h))
+keys_pushed args extra rows r h = (
+  key_of (args ++ extra) (last_end 0 rows) r,
+  keys_push (args ++ extra) 0 rows r ∙ ap (λ ks. ks ++ key_of (args ++ extra) (last_end 0 rows) r ∷ []) (keys_longer args extra [] 0 rows h),
+)
 
 -- ---- chains
 
@@ -183,10 +165,11 @@ pub record IsSought (args : List ℕ) (rows : List Row) (width : ℕ) (p : Plain
 
 row_stands : (args : List ℕ) (rows : List Row) (w : ℕ) (p : PlainRoot) (n : ℕ) (r : Row) → slice_get rows n ≡ Some r → r.is_first ≡ true → row_root args (begin_of 0 rows n) r ≡ p
     → StandsIn (keys_from args 0 rows) w (hash_of p % w) n
-row_stands args rows w p n r e first same =
-    (hash_of p,
-    keys_at args 0 rows n r e ∙ ap (λ b. Some (if b then Some (hash_of (row_root args (begin_of 0 rows n) r)) else None)) first ∙ ap (λ q. Some (Some (hash_of q))) same,
-    refl)
+row_stands args rows w p n r e first same = (
+  hash_of p,
+  keys_at args 0 rows n r e ∙ ap (λ b. Some (if b then Some (hash_of (row_root args (begin_of 0 rows n) r)) else None)) first ∙ ap (λ q. Some (Some (hash_of q))) same,
+  refl,
+)
 
 pub sought_first : (args : List ℕ) (rows : List Row) (next heads : List ℕ) (p : PlainRoot) (link : ℕ) → IsLinked (keys_from args 0 rows) next heads (length rows)
     → slice_get heads (hash_of p % length heads) ≡ Some link → IsSought args rows (length heads) p link

@@ -1,5 +1,5 @@
 -- Terms by their least numbers: they stay when a table grows, and a term has one.
-use Rattle.std.specs.Prelude.{◌≡◌, ℕ, zero, suc, ◌<◌, ◌==◌, Bool, true, false, ◌||◌, if◌then◌else◌, List, [], ◌∷◌, ◌++◌, length, take, Option, Some, None, refl}
+use Rattle.std.specs.Prelude.{◌≡◌, ℕ, zero, suc, ◌<◌, ◌==◌, Bool, true, false, ◌||◌, if◌then◌else◌, List, [], ◌∷◌, ◌++◌, length, take, replicate, slice_set, Option, Some, None, refl}
 use Rattle.std.specs.List.{slice_get, AllByRecursion}
 use Rattle.std.specs.Option.{option_and_then, option_map}
 use Rattle.std.proofs.Common.{ap, sym, subst, ◌∙◌, arith, get_or}
@@ -7,7 +7,7 @@ use Rattle.std.proofs.lemmas.Bool.{eqb-true, eq-eqb}
 use Rattle.std.proofs.lemmas.List.{get_or-take}
 use Rattle.std.proofs.lemmas.Option.{same_Some, slice_get_within, get_or_from_slice_get}
 use Rattle.circ_term.specs.Tree.{Tree, Var, trees_of}
-use Rattle.circ_term.specs.Limits.{or_else, first_limit, first_limits, IsWithinLimits}
+use Rattle.circ_term.specs.Limits.{or_else, first_limits, IsWithinLimits}
 use Rattle.circ_term.specs.Order.{is_same}
 use Rattle.circ_term.proofs.Order.{same_itself}
 use Rattle.circ_replay.specs.Table.{has, number_in}
@@ -35,6 +35,25 @@ pub get_there : {X : Type 0} (xs : List X) (n : ℕ) → n < length xs → (x : 
 get_there [] n h = absurd (omega arith)
 get_there (x ∷ xs) zero h = (x, refl)
 get_there (x ∷ xs) (suc n) h = get_there xs n (omega arith)
+
+-- what is read where a list was written
+
+pub get_put : (xs : List ℕ) (i x y : ℕ) → slice_get (slice_set xs i x) i ≡ Some y → x ≡ y
+get_put [] i x y g = absurd (cc)
+get_put (z ∷ xs) zero x y g = same_Some x y g
+get_put (z ∷ xs) (suc i) x y g = get_put xs i x y g
+
+pub get_other : (xs : List ℕ) (i j x y : ℕ) → (i ≡ j → ⊥) → slice_get (slice_set xs i x) j ≡ Some y → slice_get xs j ≡ Some y
+get_other [] i j x y h g = g
+get_other (z ∷ xs) zero zero x y h g = absurd (h refl)
+get_other (z ∷ xs) zero (suc j) x y h g = g
+get_other (z ∷ xs) (suc i) zero x y h g = g
+get_other (z ∷ xs) (suc i) (suc j) x y h g = get_other xs i j x y (λ e. h (ap suc e)) g
+
+pub get_replicate : (n x i y : ℕ) → slice_get (replicate n x) i ≡ Some y → y ≡ x
+get_replicate zero x i y e = absurd (cc)
+get_replicate (suc n) x zero y e = sym (same_Some x y e)
+get_replicate (suc n) x (suc i) y e = get_replicate n x i y e
 
 -- the term is there, by any number
 

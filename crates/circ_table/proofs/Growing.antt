@@ -1,12 +1,12 @@
 -- The root of a term that is added, and the limit that it passes.
-use Rattle.std.specs.Prelude.{◌≡◌, ℕ, ◌+◌, ◌≤◌, ◌<◌, Bool, true, false, List, [], length, unwrap_or, Some, None, refl}
+use Rattle.std.specs.Prelude.{◌≡◌, ℕ, ◌+◌, ◌≤◌, ◌<◌, false, List, [], length, unwrap_or, Some, None}
 use Rattle.std.proofs.Common.{ap, sym, subst, ◌∙◌, arith}
 use Rattle.std.proofs.lemmas.Grind.{common_steps}
-use Rattle.circ_term.specs.Tree.{Tree, Var, App, trees_of, list_of-trees_of, args_of, size_of, depth_of, sizes_of, depths_of}
-use Rattle.circ_term.specs.Limits.{argument_limit, node_limit, depth_limit, Limit, Big, Deep, limit_at, or_else, first_limit, first_limits, IsWithinLimits}
+use Rattle.circ_term.specs.Tree.{Tree, App, trees_of, list_of-trees_of, args_of, size_of, depth_of, sizes_of, depths_of}
+use Rattle.circ_term.specs.Limits.{argument_limit, node_limit, depth_limit, Big, Deep, limit_at, or_else, first_limit, first_limits, IsWithinLimits}
 use Rattle.circ_term.proofs.Limits.{limit_at_none}
 use Rattle.circ_table.specs.Table.{firsts_at}
-use Rattle.circ_table.specs.Lines.{PlainRoot, node_of, tree_at, IsNode}
+use Rattle.circ_table.specs.Lines.{PlainRoot, tree_at, IsNode}
 
 limit_at_big : (m d : ℕ) → node_limit < m → limit_at m d ≡ Some (Big m)
 limit_at_big m d big = grind (arith, common_steps)

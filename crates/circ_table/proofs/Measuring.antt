@@ -1,14 +1,14 @@
 -- The sizes and the depths of terms, one after another.
-use Rattle.std.specs.Prelude.{◌≡◌, ℕ, ◌+◌, ◌≤◌, ◌<◌, max, List, [], ◌∷◌, length, drop, Some, refl}
+use Rattle.std.specs.Prelude.{◌≡◌, ℕ, ◌+◌, ◌≤◌, ◌<◌, max, List, [], length, drop, Some}
 use Rattle.std.specs.List.{slice_get}
-use Rattle.std.proofs.Common.{ap, sym, subst, ◌∙◌, arith, get_or}
+use Rattle.std.proofs.Common.{ap, subst, ◌∙◌, arith, get_or}
 use Rattle.std.proofs.lemmas.Option.{same_Some}
 use Rattle.circ_term.specs.Tree.{Tree, trees_of, size_of, depth_of, sizes_of, depths_of}
 use Rattle.circ_term.specs.Limits.{node_limit, depth_limit, IsWithinLimits}
 use Rattle.circ_term.proofs.Limits.{within_limits}
 use Rattle.circ_term.proofs.Within.{drop_read}
 use Rattle.circ_table.specs.declared.lines.Row.{Row}
-use Rattle.circ_table.specs.Table.{first_at, firsts_at}
+use Rattle.circ_table.specs.Table.{firsts_at}
 use Rattle.circ_table.specs.Lines.{PlainRoot}
 use Rattle.circ_table.proofs.Firsts.{firsts_next, first_parts}
 use Rattle.circ_table.proofs.Placing.{Stands, own_is}
@@ -17,7 +17,7 @@ use Rattle.circ_table.proofs.Placing.{Stands, own_is}
 abbrev pub Measured : (table : List Tree) (ns rest : List ℕ) (sizes depths : ℕ) → Type 0
 Measured table ns rest sizes depths =
     (us : List Tree) → firsts_at table ns ≡ Some us
-        → (vs : List Tree) × (firsts_at table rest ≡ Some vs) × (sizes + sizes_of (trees_of vs) ≡ sizes_of (trees_of us)) × (max depths (depths_of (trees_of vs)) ≡ depths_of (trees_of us))
+    → (vs : List Tree) × (firsts_at table rest ≡ Some vs) × (sizes + sizes_of (trees_of vs) ≡ sizes_of (trees_of us)) × (max depths (depths_of (trees_of vs)) ≡ depths_of (trees_of us))
 
 pub measured_none : (table : List Tree) (ns : List ℕ) → Measured table ns ns 0 0
 measured_none table ns us e = (us, e, omega arith, omega arith)

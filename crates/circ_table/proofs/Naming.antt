@@ -1,35 +1,18 @@
 -- The terms that are asked for, one after another.
-use Rattle.std.specs.Prelude.{◌≡◌, ℕ, zero, suc, ◌+◌, ◌≤◌, ◌<◌, ◌^◌, List, [], ◌∷◌, ◌++◌, length, drop, replicate, slice_set, Some, refl}
+use Rattle.std.specs.Prelude.{◌≡◌, ℕ, zero, suc, ◌+◌, ◌<◌, List, [], ◌∷◌, ◌++◌, length, drop, replicate, slice_set, Some, refl}
 use Rattle.std.specs.List.{slice_get, AllByRecursion}
 use Rattle.std.proofs.Common.{ap, sym, subst, ◌∙◌, arith, ◌⊎◌, inl, inr, append_assoc, append-nil, length-append, get_or}
 use Rattle.std.proofs.lemmas.Bool.{cases_eq}
 use Rattle.std.proofs.lemmas.List.{length-set}
-use Rattle.std.proofs.lemmas.Option.{same_Some, slice_get_within}
+use Rattle.std.proofs.lemmas.Option.{same_Some}
 use Rattle.circ_term.specs.Tree.{Tree, args_of}
 use Rattle.circ_term.proofs.Within.{drop_read}
 use Rattle.circ_table.specs.declared.named.TheConstants.{ABSENT}
-use Rattle.circ_table.specs.Table.{first_at, firsts_at, IsIn, AreIn, Grows}
-use Rattle.circ_table.specs.Placed.{IsPlaced, HaveLength, ArePlacesOf, ArePlaced}
-use Rattle.circ_table.proofs.Firsts.{get_front, get_seam, firsts_next, first_parts}
+use Rattle.circ_table.specs.Table.{firsts_at, IsIn, AreIn, Grows}
+use Rattle.circ_table.specs.Placed.{IsPlaced, ArePlacesOf, ArePlaced}
+use Rattle.circ_table.proofs.Firsts.{get_front, get_seam, get_put, get_other, get_replicate, firsts_next, first_parts}
 
 -- ---- places
-
-get_put : (xs : List ℕ) (i x y : ℕ) → slice_get (slice_set xs i x) i ≡ Some y → x ≡ y
-get_put [] i x y g = absurd (cc)
-get_put (z ∷ xs) zero x y g = same_Some x y g
-get_put (z ∷ xs) (suc i) x y g = get_put xs i x y g
-
-get_other : (xs : List ℕ) (i j x y : ℕ) → (i ≡ j → ⊥) → slice_get (slice_set xs i x) j ≡ Some y → slice_get xs j ≡ Some y
-get_other [] i j x y h g = g
-get_other (z ∷ xs) zero zero x y h g = absurd (h refl)
-get_other (z ∷ xs) zero (suc j) x y h g = g
-get_other (z ∷ xs) (suc i) zero x y h g = g
-get_other (z ∷ xs) (suc i) (suc j) x y h g = get_other xs i j x y (λ e. h (ap suc e)) g
-
-get_replicate : (n x i y : ℕ) → slice_get (replicate n x) i ≡ Some y → y ≡ x
-get_replicate zero x i y e = absurd (cc)
-get_replicate (suc n) x zero y e = sym (same_Some x y e)
-get_replicate (suc n) x (suc i) y e = get_replicate n x i y e
 
 pub places_new : (old : List ℕ) (count : ℕ) → ArePlacesOf old (replicate count ABSENT)
 places_new old count n p e = inl (get_replicate count ABSENT n p e)
@@ -101,9 +84,11 @@ gathered_more table number ns i n args new u b read named is h t e =
     let p = h t e in
     let P : List ℕ → Type 0 = λ xs. firsts_at table xs ≡ Some p.0 in
     let q = firsts_next table n (drop (i + 1) ns) p.0 (subst P (drop_read ns i n b read) p.1) in
-    let same : u ≡ q.0 = same_Some u q.0 (sym named ∙ (first_parts table n q.0 q.2).0) in
-    (q.1, q.3,
-    ap (λ x. x ++ q.1) is ∙ append_assoc args (u ∷ []) q.1 ∙ ap (λ x. args ++ x ∷ q.1) same ∙ ap (λ x. args ++ x) (sym q.4) ∙ p.2)
+    let same : u ≡ q.0 = same_Some u q.0 (sym named ∙ (first_parts table n q.0 q.2).0) in (
+      q.1,
+      q.3,
+      ap (λ x. x ++ q.1) is ∙ append_assoc args (u ∷ []) q.1 ∙ ap (λ x. args ++ x ∷ q.1) same ∙ ap (λ x. args ++ x) (sym q.4) ∙ p.2,
+    )
 
 pub gathered_all : (table : List Tree) (number : ℕ) (args : List Tree) (t : Tree) → Gathered table number [] args → slice_get table number ≡ Some t → args ≡ args_of t
 gathered_all table number args t h e =

@@ -1,19 +1,19 @@
 -- The rows of a table, and the trees that they are.
-use Rattle.std.specs.Prelude.{◌≡◌, ℕ, zero, suc, ◌+◌, ◌-◌, ◌≤◌, ◌<◌, ◌==◌, Bool, true, false, not, if◌then◌else◌, List, [], ◌∷◌, ◌++◌, length, take, drop, unwrap_or, Option, Some, None, refl}
+use Rattle.std.specs.Prelude.{◌≡◌, ℕ, zero, suc, ◌+◌, ◌-◌, ◌≤◌, ◌<◌, ◌==◌, Bool, true, false, not, if◌then◌else◌, List, [], ◌∷◌, ◌++◌, length, take, drop, unwrap_or, Some, None, refl}
 use Rattle.std.specs.List.{slice_get, AllByRecursion}
-use Rattle.std.specs.Option.{option_and_then, option_map}
+use Rattle.std.specs.Option.{option_and_then}
 use Rattle.std.proofs.Common.{ap, sym, subst, ◌∙◌, arith, append_assoc, append-nil, length-append, length-drop}
-use Rattle.std.proofs.lemmas.Bool.{eqb-true, eq-eqb, cases_eq}
+use Rattle.std.proofs.lemmas.Bool.{eqb-true}
 use Rattle.std.proofs.lemmas.List.{drop-append-le, take-append-le, drop_at, take_all}
 use Rattle.std.proofs.lemmas.Option.{same_Some, slice_get_within, slice_get_past}
-use Rattle.circ_term.specs.Tree.{Tree, Var, App, trees_of, list_of-trees_of, args_of, size_of, depth_of, sort_of}
+use Rattle.circ_term.specs.Tree.{Tree, args_of, sort_of}
 use Rattle.circ_term.specs.Limits.{argument_limit, IsWithinLimits}
 use Rattle.circ_replay.specs.Table.{has, number_in}
 use Rattle.circ_replay.proofs.Tables.{number_names, number_stays, number_last}
 use Rattle.circ_table.specs.declared.lines.Row.{Row}
 use Rattle.circ_table.specs.Table.{first_at, firsts_at}
-use Rattle.circ_table.specs.Lines.{PlainRoot, node_of, tree_at, IsThere, row_root, trees_from, roots_from, begin_of, IsNode, IsRow, AreRowsFrom}
-use Rattle.circ_table.proofs.Firsts.{get_front, get_seam, get_there, has_at, first_made, firsts_later, firsts_below, firsts_once, firsts_length}
+use Rattle.circ_table.specs.Lines.{PlainRoot, node_of, tree_at, IsThere, row_root, trees_from, roots_from, begin_of, IsNode, AreRowsFrom}
+use Rattle.circ_table.proofs.Firsts.{get_seam, get_there, has_at, first_made, firsts_later, firsts_below, firsts_once, firsts_length}
 
 -- ---- arguments behind those that are read
 
@@ -137,16 +137,19 @@ rows_at args table start (q ∷ rows) zero m r h e is =
     let t = tree_at table (row_root args start q) in
     let more = trees_front args (table ++ t ∷ []) q.end rows in
     let end = rows_ahead args (table ++ t ∷ []) q.end rows h.1 in
-    subst P (same_Some q r e)
-    (record {
-      front = table;
-      rest = more.0;
-      split = more.1 ∙ append_assoc table (t ∷ []) more.0;
-      place = omega arith;
-      node = h.0.node;
-      first = h.0.first;
-      name = refl;
-    }, h.0.ahead, end)
+    subst P (same_Some q r e) (
+      record {
+        front = table;
+        rest = more.0;
+        split = more.1 ∙ append_assoc table (t ∷ []) more.0;
+        place = omega arith;
+        node = h.0.node;
+        first = h.0.first;
+        name = refl;
+      },
+      h.0.ahead,
+      end,
+    )
 rows_at args table start (q ∷ rows) (suc n) m r h e is =
     let t = tree_at table (row_root args start q) in
     let l = length-append table (t ∷ []) in rows_at args (table ++ t ∷ []) q.end rows n m r h.1 e (omega (arith, l))

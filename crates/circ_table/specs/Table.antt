@@ -2,7 +2,7 @@
 use Rattle.std.specs.Prelude.{◌≡◌, ℕ, ◌==◌, if◌then◌else◌, List, [], ◌∷◌, ◌++◌, Option, Some, None, Result, Ok, Err}
 use Rattle.std.specs.List.{slice_get, AllByRecursion}
 use Rattle.std.specs.Option.{option_map, option_and_then}
-use Rattle.circ_term.specs.Tree.{Tree, sort_of}
+use Rattle.circ_term.specs.Tree.{Tree}
 use Rattle.circ_term.specs.Limits.{first_limit, IsWithinLimits, Names}
 use Rattle.circ_term.specs.declared.fault.TermFault.{TermFault}
 use Rattle.circ_replay.specs.Table.{number_in}

@@ -75,7 +75,12 @@ impl Links {
     {
         let place = self.next.len();
         self.next.push_reserved(END);
-        link(lines, self.next.as_mut_slice(), self.heads.as_mut_slice(), place);
+        link(
+            lines,
+            self.next.as_mut_slice(),
+            self.heads.as_mut_slice(),
+            place,
+        );
     }
 
     // Whether a term has this root.

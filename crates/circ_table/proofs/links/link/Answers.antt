@@ -1,4 +1,4 @@
-use Rattle.std.proofs.Common.{◌≡◌, ◌%◌, ◌∙◌, length, Some, None, if◌then◌else◌, refl, ap, sym, arith, get_or}
+use Rattle.std.proofs.Common.{◌%◌, ◌∙◌, length, Some, None, if◌then◌else◌, refl, ap, sym, get_or}
 use Rattle.std.proofs.lemmas.Nat.{mod_below}
 use Rattle.std.proofs.lemmas.Option.{same_Some, slice_get_read, slice_get-get_or}
 use Rattle.circ_table.specs.Lines.{plain, row_root, begin_of}

@@ -1,4 +1,4 @@
-use Rattle.std.proofs.Common.{◌≡◌, ◌+◌, ◌-◌, ◌<◌, arith, ap, sym, ◌∙◌, length, refl}
+use Rattle.std.proofs.Common.{◌≡◌, ◌+◌, ◌-◌, arith, ap, sym, ◌∙◌, length, refl}
 use Rattle.std.proofs.lemmas.Option.{slice_get_read}
 use Rattle.circ_table.specs.Lines.{begin_of}
 use Rattle.circ_table.proofs.Placing.{begin_zero, begin_next}

@@ -1,4 +1,4 @@
-use Rattle.std.proofs.Common.{◌≡◌, ◌+◌, ◌-◌, Some, take, drop, arith, ap, sym, ◌∙◌, length, refl, []}
+use Rattle.std.proofs.Common.{◌-◌, Some, take, drop, arith, ap, sym, ◌∙◌, length, refl, []}
 use Rattle.std.proofs.lemmas.Option.{slice_get_read}
 use Rattle.circ_table.specs.Lines.{row_root}
 use Rattle.circ_table.proofs.Placing.{rows_at, roots_at, with_args}

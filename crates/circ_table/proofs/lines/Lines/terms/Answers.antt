@@ -1,4 +1,4 @@
-use Rattle.std.proofs.Common.{◌≡◌, ◌<◌, ◌∙◌, ◌++◌, ◌∷◌, ℕ, length, take, refl, ap, sym, subst, arith, [], get_or}
+use Rattle.std.proofs.Common.{◌≡◌, ◌<◌, ◌∙◌, ◌++◌, ◌∷◌, ℕ, length, take, ap, sym, subst, arith, []}
 use Rattle.std.specs.List.{AllByRecursion}
 use Rattle.std.proofs.lemmas.List.{length-take-le, take_more, take_all}
 use Rattle.std.proofs.lemmas.Option.{get_or_from_slice_get}
@@ -14,7 +14,7 @@ pick-requires c =
     let n = c.loop-place.place in
     let long = length_trees l.args.items [] 0 l.rows.items in
     let same : n ≡ length c.as_slice.result.now =
-        omega (arith, ap length c.as_slice.ensures.value, ap length c.loop-place.invariant, length-take-le n (trees l) (omega (arith, long, c.loop-place-test.true, l.rows.ok.0))) in
+    omega (arith, ap length c.as_slice.ensures.value, ap length c.loop-place.invariant, length-take-le n (trees l) (omega (arith, long, c.loop-place-test.true, l.rows.ok.0))) in
     let P : ℕ → Type 0 = λ k. AllByRecursion (λ m. m < k) c.args-in-loop-place.result.now in subst P same c.args-in-loop-place.ensures.before
 
 pub build-requires-clause-args : goal.build-requires-clause-args

@@ -1,5 +1,4 @@
-use Rattle.std.proofs.Common.{◌≡◌, ◌-◌, ◌%◌, ◌<◌, ◌∙◌, length, Some, refl, ap, sym, subst, arith, get_or, []}
-use Rattle.std.specs.Prelude.{true, false, IsTrue}
+use Rattle.std.proofs.Common.{◌≡◌, ◌-◌, ◌%◌, ◌∙◌, length, refl, ap, sym, subst, arith, get_or}
 use Rattle.std.proofs.lemmas.Nat.{mod_below}
 use Rattle.std.proofs.lemmas.Option.{same_Some, slice_get_read}
 use Rattle.circ_table.specs.Lines.{plain, row_root, begin_of}
@@ -15,7 +14,7 @@ loop-link-init c =
     let heads = c.args.self.now.heads.items in
     let p = plain c.args.root in
     let chain : c.hash.result % c.len.result ≡ hash_of p % length heads =
-        ap (λ h. h % c.len.result) c.hash.ensures ∙ ap (λ n. hash_of p % n) (c.len.ensures ∙ c.args.self.now.heads.ok.0) in
+    ap (λ h. h % c.len.result) c.hash.ensures ∙ ap (λ n. hash_of p % n) (c.len.ensures ∙ c.args.self.now.heads.ok.0) in
     sought_first l.args.items l.rows.items c.args.self.now.next.items heads p c.index-link.result.now c.requires.linked
     (slice_get_read heads (length heads) (hash_of p % length heads) c.index-link.result.now refl (mod_below (hash_of p) (length heads) c.requires.wide)
     (c.index-link.ensures ∙ ap (λ n. get_or heads n c.index-link.result.now) chain))

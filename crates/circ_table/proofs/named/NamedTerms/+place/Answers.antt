@@ -1,7 +1,7 @@
-use Rattle.std.proofs.Common.{◌≡◌, ◌<◌, ◌∙◌, [], ℕ, List, Some, length, refl, ap, sym, subst, arith, get_or}
+use Rattle.std.proofs.Common.{◌≡◌, ◌∙◌, List, length, refl, ap, sym, subst, arith, get_or}
 use Rattle.std.specs.List.{slice_get}
 use Rattle.std.proofs.lemmas.Option.{slice_get_read, slice_get-get_or, get_or_from_slice_get}
-use Rattle.circ_term.specs.Tree.{Tree, args_of}
+use Rattle.circ_term.specs.Tree.{Tree}
 use Rattle.circ_table.specs.Table.{firsts_at}
 use Rattle.circ_table.proofs.Naming.{Gathered, gathered_none, gathered_more, grows_self, grows_more}
 use Rattle.circ_table.proofs.named.NamedTerms.+place.Goals as goal

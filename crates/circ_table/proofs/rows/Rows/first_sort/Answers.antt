@@ -1,7 +1,7 @@
-use Rattle.std.proofs.Common.{arith, ap, sym, ◌∙◌, Some, None, Option, if◌then◌else◌, length, refl, [], List}
+use Rattle.std.proofs.Common.{arith, ap, sym, ◌∙◌, Some, None, if◌then◌else◌, length, refl, []}
 use Rattle.std.specs.Option.{option_map}
-use Rattle.std.proofs.lemmas.Option.{slice_get_past, slice_get_read}
-use Rattle.circ_term.specs.Tree.{Tree, sort_of}
+use Rattle.std.proofs.lemmas.Option.{slice_get_read}
+use Rattle.circ_term.specs.Tree.{sort_of}
 use Rattle.circ_table.specs.Table.{first_at}
 use Rattle.circ_table.specs.Lines.{trees}
 use Rattle.circ_table.proofs.Placing.{length_trees, rows_at, own, own_first, own_sort, first_past}

@@ -1,11 +1,10 @@
-use Rattle.std.proofs.Common.{◌≡◌, ◌+◌, ◌<◌, ◌∙◌, Some, max, List, length, drop, refl, ap, sym, subst, arith, get_or, []}
+use Rattle.std.proofs.Common.{◌≡◌, ◌+◌, Some, List, length, drop, refl, ap, sym, subst, arith, get_or, []}
 use Rattle.std.specs.List.{slice_get}
 use Rattle.std.proofs.lemmas.Option.{slice_get_read, slice_get_within, slice_get-get_or, get_or_from_slice_get}
 use Rattle.circ_term.specs.Tree.{Tree}
-use Rattle.circ_table.specs.Lines.{trees}
 use Rattle.circ_table.proofs.Placing.{length_trees, rows_at, trees_within}
 use Rattle.circ_table.proofs.Firsts.{firsts_within}
-use Rattle.circ_table.proofs.Measuring.{Measured, measured_more, measured_all, row_measures, next_first}
+use Rattle.circ_table.proofs.Measuring.{Measured, measured_more, row_measures, next_first}
 use Rattle.circ_table.proofs.rows.Rows.measure.Goals as goal
 
 pub index-row-requires : goal.index-row-requires

@@ -1,7 +1,5 @@
-use Rattle.std.proofs.Common.{◌≡◌, ◌+◌, ◌*◌, ◌≤◌, max, List, Some, drop}
-use Rattle.circ_term.specs.Tree.{Tree, trees_of, sizes_of, depths_of}
+use Rattle.std.proofs.Common.{◌*◌, ◌≤◌, drop}
 use Rattle.circ_term.specs.Limits.{node_limit, depth_limit}
-use Rattle.circ_table.specs.Table.{firsts_at}
 use Rattle.circ_table.proofs.Measuring.{Measured}
 use Rattle.circ_table.proofs.rows.Rows.measure.Given as goal
 

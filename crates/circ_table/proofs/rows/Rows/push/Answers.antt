@@ -1,5 +1,4 @@
-use Rattle.std.proofs.Common.{◌≡◌, ◌+◌, ◌∙◌, ◌++◌, ◌∷◌, List, [], length, length-append, not, refl, ap, sym, arith}
-use Rattle.circ_term.specs.Tree.{Tree}
+use Rattle.std.proofs.Common.{◌+◌, ◌∙◌, ◌++◌, ◌∷◌, [], length, length-append, not, ap, arith}
 use Rattle.circ_table.specs.Lines.{plain, tree_at}
 use Rattle.circ_table.specs.declared.lines.Row.{Row}
 use Rattle.circ_table.proofs.Placing.{length_trees, pushed}
@@ -11,7 +10,13 @@ add-requires-clause-lines c =
     let l = c.self.inside.lines in
     let p = c.args.root in
     let row : Row = record {
-      name = p.name; sort = p.sort; end = c.len.result + length p.args.now; size = c.args.size; depth = c.args.depth; is_variable = p.is_variable; is_first = not c.finds-is_first.result;
+      name = p.name;
+      sort = p.sort;
+      end = c.len.result + length p.args.now;
+      size = c.args.size;
+      depth = c.args.depth;
+      is_variable = p.is_variable;
+      is_first = not c.finds-is_first.result;
     } in
     (pushed l.args.items p.args.now c.push.new.self.args.items l.rows.items c.push.new.self.rows.items row c.self.invariant.lines (ap (λ n. n + length p.args.now) (c.len.ensures ∙ l.args.ok.0))
     (rw (← c.self.view_is) at c.requires.node) (ap not c.finds-is_first.ensures) c.in_ok-push.ensures.rows c.in_ok-push.ensures.args).0
@@ -21,7 +26,13 @@ add-requires-clause-linked c =
     let l = c.self.inside.lines in
     let p = c.args.root in
     let row : Row = record {
-      name = p.name; sort = p.sort; end = c.len.result + length p.args.now; size = c.args.size; depth = c.args.depth; is_variable = p.is_variable; is_first = not c.finds-is_first.result;
+      name = p.name;
+      sort = p.sort;
+      end = c.len.result + length p.args.now;
+      size = c.args.size;
+      depth = c.args.depth;
+      is_variable = p.is_variable;
+      is_first = not c.finds-is_first.result;
     } in
     linked_pushed l.args.items p.args.now c.push.new.self.args.items l.rows.items c.push.new.self.rows.items row c.make_room.new.self.next.items c.make_room.new.self.heads.items
     (length c.make_room.new.self.next.items) c.self.invariant.lines c.in_ok-push.ensures.rows c.in_ok-push.ensures.args c.in_ok-make_room.ensures.long c.in_ok-make_room.ensures.linked
@@ -31,10 +42,16 @@ invariant_of-self-2 c =
     let l = c.self.inside.lines in
     let p = c.args.root in
     let row : Row = record {
-      name = p.name; sort = p.sort; end = c.len.result + length p.args.now; size = c.args.size; depth = c.args.depth; is_variable = p.is_variable; is_first = not c.finds-is_first.result;
+      name = p.name;
+      sort = p.sort;
+      end = c.len.result + length p.args.now;
+      size = c.args.size;
+      depth = c.args.depth;
+      is_variable = p.is_variable;
+      is_first = not c.finds-is_first.result;
     } in
     let all = pushed l.args.items p.args.now c.push.new.self.args.items l.rows.items c.push.new.self.rows.items row c.self.invariant.lines (ap (λ n. n + length p.args.now) (c.len.ensures ∙ l.args.ok.0))
-        (rw (← c.self.view_is) at c.requires.node) (ap not c.finds-is_first.ensures) c.in_ok-push.ensures.rows c.in_ok-push.ensures.args in
+    (rw (← c.self.view_is) at c.requires.node) (ap not c.finds-is_first.ensures) c.in_ok-push.ensures.rows c.in_ok-push.ensures.args in
     record {
       lines = all.0;
       few =
@@ -55,7 +72,13 @@ returns-clause-added c =
     let l = c.self.inside.lines in
     let p = c.args.root in
     let row : Row = record {
-      name = p.name; sort = p.sort; end = c.len.result + length p.args.now; size = c.args.size; depth = c.args.depth; is_variable = p.is_variable; is_first = not c.finds-is_first.result;
+      name = p.name;
+      sort = p.sort;
+      end = c.len.result + length p.args.now;
+      size = c.args.size;
+      depth = c.args.depth;
+      is_variable = p.is_variable;
+      is_first = not c.finds-is_first.result;
     } in
     (pushed l.args.items p.args.now c.push.new.self.args.items l.rows.items c.push.new.self.rows.items row c.self.invariant.lines (ap (λ n. n + length p.args.now) (c.len.ensures ∙ l.args.ok.0))
     (rw (← c.self.view_is) at c.requires.node) (ap not c.finds-is_first.ensures) c.in_ok-push.ensures.rows c.in_ok-push.ensures.args).1
