@@ -1,15 +1,9 @@
 -- What contracts see of hypotheses: the list of the goals.
-use Rattle.std.specs.Prelude.{◌≡◌, ◌<◌, ◌^◌, ℕ, ◌%◌, ◌==◌, if◌then◌else◌, List, length, map, refl}
-use Rattle.std.specs.Coded.{Coded, code_by, coded×}
+use Rattle.std.specs.Prelude.{◌≡◌, ◌<◌, ◌^◌, ℕ, ◌%◌, ◌==◌, if◌then◌else◌, List, length, map}
 use Rattle.circ_term.specs.Tree.{Tree}
-use Rattle.circ_term.specs.Code.{tree_code}
 use Rattle.circ_theory.specs.declared.parts.Goal.{Goal}
 use Rattle.circ_theory.specs.declared.way.Way.{Way}
 use Rattle.circ_theory.specs.declared.way.Way.TheVariants.{Forth, Back}
-use Rattle.circ_replay.specs.Goals.{goal}
-
-abbrev pub goal_code : Coded Goal
-goal_code = code_by (Tree × Tree) (coded× tree_code tree_code) (λ g. (g.left, g.right)) (λ t. goal t.0 t.1) (λ _. refl)
 
 -- a goal's two sides, as an index has them
 abbrev pub both_sides : Goal → Tree × Tree

@@ -21,7 +21,8 @@ impl Model for Hypotheses {
     ghost use Rattle.std.specs.Prelude.{List};
     ghost use Rattle.std.specs.Coded.{coded_list};
     ghost use Rattle.circ_theory.specs.declared.parts.Goal.{Goal as TheGoal};
-    ghost use Rattle.circ_join.specs.Hypotheses.{goal_code, IsIndexed};
+    ghost use Rattle.circ_rewrite.specs.Code.{goal_code};
+    ghost use Rattle.circ_join.specs.Hypotheses.{IsIndexed};
 
     ghost Value = { List TheGoal };
 

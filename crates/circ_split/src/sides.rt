@@ -1,5 +1,5 @@
 //! Both sides of a goal in normal form.
-ghost use Rattle.std.specs.Prelude.{◌≡◌};
+ghost use Rattle.std.specs.Prelude.{◌≡◌, ◌≤◌};
 ghost use Rattle.circ_plain_search.specs.Search.{normalised, normal_sides};
 ghost use Rattle.circ_split.specs.Answers.{GivesSide, GivesSides};
 
@@ -38,6 +38,7 @@ pub fn normal_sides(
 ) -> Result<Sides, Stop>
     ensures exact { GivesSides (normal_sides memo.old.theory memo.old.rules memo.old.assumptions
         left.now right.now budget.old) budget.new result }
+    ensures less { budget.new ≤ budget.old }
     ensures same { memo.new ≡ memo.old }
 {
     match normal_side(alloc, memo, left, budget) {
@@ -64,6 +65,7 @@ fn normal_side(
 ) -> Result<Side, Stop>
     ensures exact { GivesSide (normalised memo.old.theory memo.old.rules memo.old.assumptions
         side.now budget.old) budget.new result }
+    ensures less { budget.new ≤ budget.old }
     ensures same { memo.new ≡ memo.old }
 {
     match memo.normal(side, budget) {

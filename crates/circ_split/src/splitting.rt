@@ -14,6 +14,7 @@ use crate::sides::{Sides, normal_sides};
 use circ_join::Stop;
 use circ_memo::Memo;
 use circ_record::TermWhy;
+use circ_rewrite::share_goals;
 use circ_term::{Term, TermFault};
 use circ_theory::{Goal, Theory};
 use std::alloc::{AllocError, Global};
@@ -39,7 +40,9 @@ pub struct Cases {
 impl Splitting<'_> {
     /// The cases of the first open subterm of the left side, or else of the right side. A case
     /// whose sides are not equal is split again, with eight splits inside one another at most.
-    /// The memo's assumptions are those of the cases, whatever they were before.
+    /// Each case puts its own assumptions in place of the memo's, whatever these were. No clause
+    /// says which they are afterwards: those of the last case that was tried, none where memory ran
+    /// out as they were put in place, or as before where there was no case.
     pub fn split_cases(
         &self,
         memo: &mut Memo<'_>,
@@ -50,6 +53,7 @@ impl Splitting<'_> {
         requires theory { memo.old.theory ≡ self.now.theory.now }
         ensures exact { GivesCases (split_cases self.now.theory.now memo.old.rules split_limit []
             left.now right.now budget.old) budget.new result }
+        ensures less { budget.new ≤ budget.old }
         ensures theory { memo.new.theory ≡ memo.old.theory }
         ensures rules { memo.new.rules ≡ memo.old.rules }
     {
@@ -72,6 +76,7 @@ impl Splitting<'_> {
         requires few { length assumptions.old.items + room ≤ split_limit }
         ensures exact { GivesCases (split_cases self.now.theory.now memo.old.rules room
             assumptions.old.items left.now right.now budget.old) budget.new result }
+        ensures less { budget.new ≤ budget.old }
         ensures theory { memo.new.theory ≡ memo.old.theory }
         ensures rules { memo.new.rules ≡ memo.old.rules }
         ensures same { OnOk result (assumptions.new.items ≡ assumptions.old.items) }
@@ -111,6 +116,7 @@ impl Splitting<'_> {
             (split_cases self.now.theory.now memo.old.rules room) assumptions.old.items
             term.now left.now right.now (constants_of self.now.theory.now (sort_of term.now))
             budget.old) term.now budget.new result }
+        ensures less { budget.new ≤ budget.old }
         ensures theory { memo.new.theory ≡ memo.old.theory }
         ensures rules { memo.new.rules ≡ memo.old.rules }
         ensures same { OnOk result (assumptions.new.items ≡ assumptions.old.items) }
@@ -153,6 +159,7 @@ impl Splitting<'_> {
         ensures exact { GivesReason (case_answer self.now.theory.now memo.old.rules room
             (assumptions.old.items ++ case_of term.now constant ∷ []) left.now right.now
             budget.old) budget.new result }
+        ensures less { budget.new ≤ budget.old }
         ensures theory { memo.new.theory ≡ memo.old.theory }
         ensures rules { memo.new.rules ≡ memo.old.rules }
         ensures same { OnOk result (assumptions.new.items ≡ assumptions.old.items) }
@@ -183,6 +190,7 @@ impl Splitting<'_> {
         requires few { length assumptions.old.items + room ≤ split_limit }
         ensures exact { GivesReason (case_answer self.now.theory.now memo.old.rules room
             assumptions.old.items left.now right.now budget.old) budget.new result }
+        ensures less { budget.new ≤ budget.old }
         ensures theory { memo.new.theory ≡ memo.old.theory }
         ensures rules { memo.new.rules ≡ memo.old.rules }
         ensures same { OnOk result (assumptions.new.items ≡ assumptions.old.items) }
@@ -214,6 +222,7 @@ impl Splitting<'_> {
         requires few { length assumptions.now < 2 ^ 32 }
         ensures exact { GivesSides (normal_sides self.now.theory.now memo.old.rules
             assumptions.now left.now right.now budget.old) budget.new result }
+        ensures less { budget.new ≤ budget.old }
         ensures theory { memo.new.theory ≡ memo.old.theory }
         ensures rules { memo.new.rules ≡ memo.old.rules }
     {
@@ -235,24 +244,6 @@ fn stuck(alloc: Global, left: &Term, right: &Term, assumptions: &[Goal]) -> Resu
         right,
         assumptions,
     })
-}
-
-fn share_goals(alloc: Global, goals: &[Goal]) -> Result<Vec<Goal>, AllocError>
-    ensures { IfOk result (λ v. v.items ≡ goals.now) }
-{
-    let mut copy = Vec::with_capacity(alloc, goals.len())?;
-    for goal in goals {
-        copy.push(share_goal(goal)?)?;
-    }
-    Ok(copy)
-}
-
-fn share_goal(goal: &Goal) -> Result<Goal, AllocError>
-    ensures { IfOk result (λ g. g ≡ goal.now) }
-{
-    let left = goal.left.share()?;
-    let right = goal.right.share()?;
-    Ok(Goal { left, right })
 }
 
 // The term is the constant.

@@ -54,6 +54,7 @@ each_case-loop-i-preserved t c =
     record {
       theory = c.in-Ok.ensures.theory ∙ c.loop-i.invariant.theory;
       rules = c.in-Ok.ensures.rules ∙ c.loop-i.invariant.rules;
+      less = omega (arith, c.in-Ok.ensures.less, c.loop-i.invariant.less);
       same = c.in-Ok.ensures.same ∙ c.loop-i.invariant.same;
       rest = subst P (sym c.in_ok-push-in-Ok.ensures.items)
           (rest_next c.args.self.now.theory.now c.args.memo.now.rules c.args.room c.args.assumptions.now.items c.args.term.now c.args.left.now c.args.right.now

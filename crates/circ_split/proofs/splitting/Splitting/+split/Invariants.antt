@@ -1,4 +1,4 @@
-use Rattle.std.proofs.Common.{◌≡◌, ◌+◌, ◌*◌, drop}
+use Rattle.std.proofs.Common.{◌≡◌, ◌+◌, ◌*◌, ◌≤◌, drop}
 use Rattle.circ_plain_search.specs.Search.{each_case, split_cases}
 use Rattle.circ_split.proofs.Splits.{Rest}
 use Rattle.circ_split.proofs.splitting.Splitting.+split.Given as goal
@@ -19,6 +19,7 @@ abbrev pub invariant-each_case-loop-i : goal.invariant-each_case-loop-i
 invariant-each_case-loop-i l = record {
   theory : l.memo.theory ≡ l.fn.memo.theory;
   rules : l.memo.rules ≡ l.fn.memo.rules;
+  less : l.budget ≤ l.fn.budget;
   same : l.assumptions.items ≡ l.fn.assumptions.items;
   rest : Rest
       (each_case l.self.theory.now l.fn.memo.rules (split_cases l.self.theory.now l.fn.memo.rules l.room) l.fn.assumptions.items l.term l.left l.right l.constants l.fn.budget)
