@@ -17,8 +17,8 @@ use circ_theory::{Goal, Theory};
 use std::alloc::{AllocError, Global};
 use std::mem;
 
-/// The terms of the lines so far. While lines come it knows the least number of each term, so that no
-/// terms are compared; when they have come it builds the terms that are asked for.
+/// The terms of the lines so far. While lines come it tells which numbers are least, so that no
+/// terms are compared. When all have come it builds the terms that goals ask for.
 #[derive(Drop)]
 pub(crate) enum ReadTable {
     Open { rows: Rows },
