@@ -3,24 +3,29 @@ use Rattle.std.proofs.Common.{◌≡◌, ◌+◌, ◌≤◌, ◌<◌, ℕ, zero,
 use Rattle.std.proofs.Common.{Result, Ok, Err, Vec, Global, slice_set, slice_index_or}
 use Rattle.std.proofs.Common.{inl, inr, refl, ap, sym, subst, ◌∙◌, arith}
 use Rattle.std.specs.Result.{OnOk, OnErr}
-use Rattle.circ_theory.specs.Theory.{Theory}
+use Rattle.circ_term.specs.Tree.{Tree}
+use Rattle.circ_theory.specs.Theory.{Theory, Derivative}
+use Rattle.circ_theory.specs.Rewriting.{named}
 use Rattle.circ_theory.specs.WellFormed.{IsWellFormed}
 use Rattle.circ_theory.specs.declared.parts.Goal.{Goal}
+use Rattle.circ_special.specs.declared.place.Place.{Place}
 use Rattle.circ_replay.specs.Goals.{AreSortedGoals}
-use Rattle.circ_rules.specs.Rules.{State, state, IsSortedState}
+use Rattle.circ_replay.specs.Plain.{LinkOf}
+use Rattle.circ_replay.specs.Link.{resolved_links}
+use Rattle.circ_rules.specs.Rules.{State, state, IsSortedState, ProofStep, Simplify, Reduce, Derive, Done, map_step, StepOf}
 use Rattle.circ_rules.specs.Proof.{Proof, ProofFor}
-use Rattle.circ_rules.specs.Parts.{Part, Goals, parts_of}
+use Rattle.circ_rules.specs.Parts.{Part, Certificate, Goals, Step, parts_of}
 use Rattle.circ_rules.specs.Fitting.{Fit}
 use Rattle.circ_rules.specs.Accepted.{Derives}
 use Rattle.circ_rules.specs.Plain.{plain_state}
 use Rattle.circ_rules.specs.declared.state.State.{State as TheState}
 use Rattle.circ_soundness.proofs.Sound.{goals_behave}
 use Rattle.circ_check.specs.declared.checker.Checker.{Checker}
-use Rattle.circ_check.specs.Checking.{Checking, TakesGoals, nothing_taken, with_derived}
+use Rattle.circ_check.specs.Checking.{Checking, TakesCertificate, TakesGoals, TakesStep, nothing_taken, made_by, with_one, with_derived}
 use Rattle.circ_check.specs.Deciding.{plain_list}
 use Rattle.circ_check.specs.Knowing.{AreKnown}
 use Rattle.circ_check.specs.Ready.{IsReady}
-use Rattle.circ_check.specs.Watching.{failed_of, derived_of, checking_of, IsSound, Stands, Follows, Took, Finds, FoundBehave}
+use Rattle.circ_check.specs.Watching.{failed_of, derived_of, checking_over, checking_of, IsSound, Stands, Follows, Took, TookPlaced, Finds, FoundBehave}
 use Rattle.circ_check.proofs.Fitting.{part_ready}
 use Rattle.circ_check.proofs.Finding.{part_more, parts_taken}
 
@@ -97,6 +102,79 @@ on_ok (Err e) f a = tt
 pub on_err : {T E A : Type 0} (r : Result T E) → A → OnErr r A
 on_err (Ok x) a = tt
 on_err (Err e) a = a
+
+-- ---- a part that was placed
+
+abbrev with_table : List Tree → Checking → Checking
+with_table table c = record c { table = table }
+
+certificate_over : (th : Theory) (table : List Tree) (c d : Checking) (xs : List (Place × Derivative)) (ls : List (LinkOf Tree))
+    → TakesCertificate th c xs ls d → TakesCertificate th (record c { table = table }) xs ls (record d { table = table })
+certificate_over th table c d [] ls t = absurd t
+certificate_over th table c d (x ∷ xs) ls (inl t) = inl (t.0, ap (with_table table) t.1)
+certificate_over th table c d (x ∷ xs) ls (inr t) = inr (t.0, ap (with_table table) t.1)
+
+pub certificate_placed : (old new : Checker) (names : List Tree × List Tree) (ls ms : List (LinkOf ℕ)) → names.0 ≡ old.named.0
+    → resolved_links names.1 ms ≡ resolved_links old.named.0 ls → TookPlaced old.theory.now (Certificate ms) (record old { named = names }) new
+    → Took old.theory.now (Certificate ls) old new
+certificate_placed old new names ls ms e same t =
+    let th : Theory = old.theory.now in
+    let c : Checking = checking_of old in
+    let d : Checking = checking_over names.1 new in
+    let P : List (LinkOf Tree) → Type 0 = λ x. TakesCertificate th c c.due x (record d { table = old.named.0 }) in
+    let Q : List Tree → Type 0 = λ x. TakesCertificate th c c.due (resolved_links old.named.0 ls) (checking_over x new) in
+    let table : old.named.0 ≡ new.named.0 = sym (ap (λ x. x.0) t.named ∙ e) in
+    record {
+      sound = t.sound;
+      taken = subst Q table (subst P same (certificate_over th old.named.0 (checking_over names.1 old) d c.due (resolved_links names.1 ms) t.taken));
+    }
+
+-- the two are steps of one kind
+same_made : (f g : ℕ → Tree) (s t : ProofStep ℕ) (gs : List Goal) → map_step f s ≡ map_step g t → made_by s gs ≡ made_by t gs
+same_made f g Derive Derive gs e = refl
+same_made f g Derive (Simplify c) gs e = absurd (cc)
+same_made f g Derive (Reduce w) gs e = absurd (cc)
+same_made f g Derive Done gs e = absurd (cc)
+same_made f g (Simplify c) Derive gs e = absurd (cc)
+same_made f g (Reduce w) Derive gs e = absurd (cc)
+same_made f g Done Derive gs e = absurd (cc)
+same_made f g (Simplify c) (Simplify d) gs e = refl
+same_made f g (Simplify c) (Reduce w) gs e = refl
+same_made f g (Simplify c) Done gs e = refl
+same_made f g (Reduce v) (Simplify d) gs e = refl
+same_made f g (Reduce v) (Reduce w) gs e = refl
+same_made f g (Reduce v) Done gs e = refl
+same_made f g Done (Simplify d) gs e = refl
+same_made f g Done (Reduce w) gs e = refl
+same_made f g Done Done gs e = refl
+
+step_over : (th : Theory) (table : List Tree) (c d : Checking) (s t : ProofStep ℕ) → map_step (named c.table) s ≡ map_step (named table) t
+    → TakesStep th c false s d → TakesStep th (record c { table = table }) false t (record d { table = table })
+step_over th table c d s t same (inl x) =
+    let P : ProofStep Tree → Type 0 = λ y. StepOf th c.places y c.state x.0 in
+    let R : List Goal → Checking =
+    λ gs. record c { table = table; state = x.0; tally = with_one c.tally; derived = with_derived c.derived gs } in
+    inl (x.0, subst P same x.1, ap (with_table table) x.2 ∙ ap R (same_made (named c.table) (named table) s t c.state.goals same))
+step_over th table c d s t same (inr x) = inr (
+  (λ b y. let P : ProofStep Tree → Type 0 = λ z. StepOf th c.places z c.state b in x.0 b (subst P (sym same) y)),
+  ap (with_table table) x.1,
+)
+
+pub step_placed : (old new : Checker) (names : List Tree × List Tree) (s t : ProofStep ℕ) → old.is_stopped ≡ false → names.0 ≡ old.named.0
+    → map_step (named names.1) t ≡ map_step (named old.named.0) s → TookPlaced old.theory.now (Step t) (record old { named = names }) new
+    → Took old.theory.now (Step s) old new
+step_placed old new names s t going e same k =
+    let th : Theory = old.theory.now in
+    let c : Checking = checking_of old in
+    let d : Checking = checking_over names.1 new in
+    let P : Bool → Type 0 = λ b. TakesStep th (checking_over names.1 old) b t d in
+    let Q : List Tree → Type 0 = λ x. TakesStep th c false s (checking_over x new) in
+    let R : Bool → Type 0 = λ b. TakesStep th c b s (checking_of new) in
+    let table : old.named.0 ≡ new.named.0 = sym (ap (λ x. x.0) k.named ∙ e) in
+    record {
+      sound = k.sound;
+      taken = subst R (sym going) (subst Q table (step_over th old.named.0 (checking_over names.1 old) d t s same (subst P going k.taken)));
+    }
 
 -- ---- what was found
 

@@ -1,6 +1,7 @@
 -- What contracts see of a checker that takes parts.
 use Rattle.std.specs.Prelude.{◌≡◌, ◌≤◌, ℕ, true, false, List, ◌∷◌, [], ◌++◌, length, map, take, Option, Some, None}
 use Rattle.std.specs.List.{Contains}
+use Rattle.circ_term.specs.Tree.{Tree}
 use Rattle.circ_theory.specs.Theory.{Theory}
 use Rattle.circ_theory.specs.Experiment.{Behaves}
 use Rattle.circ_theory.specs.declared.parts.Goal.{Goal}
@@ -26,9 +27,10 @@ derived_of k = map plain_list k.derived.items
 abbrev pub IsSpent : Checker → Type 0
 IsSpent k = k.is_spent ≡ true
 
-abbrev pub checking_of : Checker → Checking
-checking_of k = record {
-  table = k.named.0;
+-- what it has taken, with this table
+abbrev pub checking_over : (table : List Tree) → Checker → Checking
+checking_over table k = record {
+  table = table;
   places = k.gamma;
   due = due_after k.theory.now k.gamma k.due;
   before = take k.earlier k.state.hyps.items;
@@ -38,6 +40,9 @@ checking_of k = record {
   tally = k.tally;
   derived = derived_of k;
 }
+
+abbrev pub checking_of : Checker → Checking
+checking_of k = checking_over k.named.0 k
 
 -- what a checker keeps true that has memory
 pub record IsSound (th : Theory) (k : Checker) : Type 0 where
@@ -65,6 +70,12 @@ pub record IsAsBefore (old new : Checker) : Type 0 where
 pub record Took (th : Theory) (x : Part) (old new : Checker) : Type 0 where
   pub sound : IsSound th new
   pub taken : TakesPart th x (checking_of old) (checking_of new)
+
+-- the part is taken, in which places among the named terms stand for numbers of the table
+pub record TookPlaced (th : Theory) (x : Part) (old new : Checker) : Type 0 where
+  pub sound : IsSound th new
+  pub named : new.named ≡ old.named
+  pub taken : TakesPart th x (checking_over old.named.1 old) (checking_over old.named.1 new)
 
 -- nothing failed, and the proof is accepted; or this is where it fails first
 abbrev pub Finds : Theory → Proof → Option ℕ → Type 0

@@ -1,22 +1,27 @@
 //! A checker that takes the parts of a proof one after the other.
-ghost use Rattle.std.specs.Prelude.{◌≡◌, ◌++◌, ◌∷◌, [], ℕ, List, None, map, take};
+ghost use Rattle.std.specs.Prelude.{◌≡◌, ◌<◌, ◌++◌, ◌∷◌, [], ℕ, List, None, false, length, map, take};
 ghost use Rattle.std.specs.Prelude.{IfOk, OnOk, IsErr};
+ghost use Rattle.std.specs.List.{AllByRecursion};
 ghost use Rattle.std.specs.Result.{OnErr};
+ghost use Rattle.circ_theory.specs.Signature.{IsWellSorted};
 ghost use Rattle.circ_theory.specs.Theory.{Theory};
-ghost use Rattle.circ_rules.specs.Rules.{state as state_with, Derive};
+ghost use Rattle.circ_special.specs.Special.{IsSet};
+ghost use Rattle.circ_rules.specs.Rules.{state as state_with, Derive, AllOfStep};
 ghost use Rattle.circ_rules.specs.Proof.{Proof, ProofFor};
 ghost use Rattle.circ_rules.specs.Parts.{Part as PlainPart, parts_of};
 ghost use Rattle.circ_rules.specs.Parts.{Certificate, Goals, Step as StepPart};
 ghost use Rattle.circ_rules.specs.Accepted.{Derives};
 ghost use Rattle.circ_rules.specs.Plain.{plain_part, plain_state, plain_step};
 ghost use Rattle.circ_replay.specs.Goals.{AreSortedGoals};
+ghost use Rattle.circ_replay.specs.Link.{AllOfLinks};
 ghost use Rattle.circ_replay.specs.Plain.{plain_links};
 ghost use Rattle.circ_check.specs.Deciding.{plain_list, DerivedBehave};
 ghost use Rattle.circ_check.specs.Checking.{made_by, with_derived, goals_in};
 ghost use Rattle.circ_check.specs.Knowing.{AreKnown, marks_of};
-ghost use Rattle.circ_check.specs.Ready.{IsReady};
+ghost use Rattle.circ_check.specs.Ready.{IsReady, HasRoom};
 ghost use Rattle.circ_check.specs.Watching.{failed_of, derived_of, checking_of, IsSpent};
-ghost use Rattle.circ_check.specs.Watching.{Stands, Follows, IsSound, IsAsBefore, Took};
+ghost use Rattle.circ_check.specs.Watching.{Stands, Follows, IsSound, IsAsBefore};
+ghost use Rattle.circ_check.specs.Watching.{Took, TookPlaced};
 ghost use Rattle.circ_check.specs.Watching.{Finds, FoundBehave};
 
 use crate::knowing::{apply_known, known_of};
@@ -162,13 +167,29 @@ impl<'a> Checker<'a> {
         ensures kept { OnErr result (IsAsBefore self.old self.new) }
     {
         place_links(&mut self.named, &mut links)?;
+        self.certify(links.as_slice())
+    }
+
+    // The certificate that is due next, in which places among the named terms stand for numbers.
+    fn certify(&mut self, links: &[Link]) -> Result<(), AllocError>
+        requires in_table { AllOfLinks (λ n. n < length self.old.named.1) (plain_links links.now) }
+        requires table_sorted { AllByRecursion (IsWellSorted self.old.theory.now.signature)
+            self.old.named.0 }
+        requires set { IsSet self.old.theory.now self.old.gamma }
+        requires room { HasRoom (checking_of self.old) }
+        requires due { 0 < length (checking_of self.old).due }
+        requires sound { IsSound self.old.theory.now self.old }
+        ensures took { OnOk result (TookPlaced self.old.theory.now
+            (Certificate (plain_links links.now)) self.old self.new) }
+        ensures kept { OnErr result (IsAsBefore self.old self.new) }
+    {
         let holds = certify_next(
             self.alloc,
             self.theory,
             self.named.terms(),
             &self.gamma,
             &mut self.due,
-            links.as_slice(),
+            links,
         )?;
         if !holds {
             self.tally = self.tally.with_failure();
@@ -216,8 +237,23 @@ impl<'a> Checker<'a> {
             self.tally = self.tally.with_one();
             return Ok(());
         }
-        let made = made_by(&step, &self.state.goals)?;
         place_step(&mut self.named, &mut step)?;
+        self.advance(&step)
+    }
+
+    // The step, in which places among the named terms stand for numbers, where none has failed.
+    fn advance(&mut self, step: &Step) -> Result<(), AllocError>
+        requires going { self.old.is_stopped ≡ false }
+        requires in_table { AllOfStep (λ n. n < length self.old.named.1) (plain_step step.now) }
+        requires table_sorted { AllByRecursion (IsWellSorted self.old.theory.now.signature)
+            self.old.named.0 }
+        requires room { HasRoom (checking_of self.old) }
+        requires sound { IsSound self.old.theory.now self.old }
+        ensures took { OnOk result (TookPlaced self.old.theory.now
+            (StepPart (plain_step step.now)) self.old self.new) }
+        ensures kept { OnErr result (IsAsBefore self.old self.new) }
+    {
+        let made = made_by(step, &self.state.goals)?;
         if !apply_known(
             self.alloc,
             self.theory,
@@ -225,7 +261,7 @@ impl<'a> Checker<'a> {
             &self.gamma,
             &mut self.state,
             &mut self.known,
-            &step,
+            step,
         )? {
             self.is_stopped = true;
             self.tally = self.tally.with_failure();
