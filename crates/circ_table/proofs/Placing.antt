@@ -6,7 +6,7 @@ use Rattle.std.proofs.Common.{ap, sym, subst, ◌∙◌, arith, append_assoc, ap
 use Rattle.std.proofs.lemmas.Bool.{eqb-true}
 use Rattle.std.proofs.lemmas.List.{drop-append-le, take-append-le, drop_at, take_all}
 use Rattle.std.proofs.lemmas.Option.{same_Some, slice_get_within, slice_get_past}
-use Rattle.circ_term.specs.Tree.{Tree, args_of, sort_of}
+use Rattle.circ_term.specs.Tree.{Tree, args_of, size_of, sort_of}
 use Rattle.circ_term.specs.Limits.{argument_limit, IsWithinLimits}
 use Rattle.circ_replay.specs.Table.{has, number_in}
 use Rattle.circ_replay.proofs.Tables.{number_names, number_stays, number_last}
@@ -260,6 +260,13 @@ root_known args rows n p h b e =
     let r = get_there rows n b in
     let P : PlainRoot → Type 0 = λ q. Stands (trees_from args [] 0 rows) n r.0 q in
     (r.0, subst P (same_Some (row_root args (begin_of 0 rows n) r.0) p (sym (roots_at args 0 rows n r.0 r.1) ∙ e)) (rows_at args [] 0 rows n n r.0 h r.1 (omega arith)).0)
+
+pub root_size : (args : List ℕ) (rows : List Row) (n : ℕ) (r : Row) (p : PlainRoot) → AreRowsFrom args [] 0 rows → slice_get rows n ≡ Some r → slice_get (roots_from args 0 rows) n ≡ Some p
+    → r.size ≡ size_of (tree_at (trees_from args [] 0 rows) p)
+root_size args rows n r p h e f =
+    let P : PlainRoot → Type 0 = λ q. Stands (trees_from args [] 0 rows) n r q in
+    let same = same_Some (row_root args (begin_of 0 rows n) r) p (sym (roots_at args 0 rows n r e) ∙ f) in
+    let k = subst P same (rows_at args [] 0 rows n n r h e (omega arith)).0 in k.node.size ∙ ap size_of (sym (own_tree k))
 
 -- ---- a term is found by its root
 

@@ -1,8 +1,10 @@
 //! Terms of a table in chains by their roots, so that a term is found without a search through the table.
-ghost use Rattle.std.specs.Prelude.{◌≡◌, ◌+◌, ◌*◌, ◌≤◌, ◌<◌, ◌^◌, ◌↔◌, [], length, IsTrue, OnOk};
+ghost use Rattle.std.specs.Prelude.{◌≡◌, ◌+◌, ◌*◌, ◌≤◌, ◌<◌, ◌^◌, ◌↔◌, [], length, IsTrue, OnOk, Some};
 ghost use Rattle.std.specs.Prelude.{vec_len, vec_capacity};
+ghost use Rattle.std.specs.List.{slice_get};
+ghost use Rattle.circ_term.specs.Tree.{size_of};
 ghost use Rattle.circ_replay.specs.Table.{has};
-ghost use Rattle.circ_table.specs.Lines.{AreLines, plain, trees, tree_at, IsThere};
+ghost use Rattle.circ_table.specs.Lines.{AreLines, plain, trees, roots, tree_at, IsThere};
 ghost use Rattle.circ_table.specs.Links.{mixed, hash_of, keys, IsLinked};
 
 use crate::lines::{Lines, Root};
@@ -84,25 +86,39 @@ impl Links {
     }
 
     // Whether a term has this root.
-    pub(crate) fn finds(&self, lines: &Lines, root: Root<'_>) -> bool
+    pub(crate) fn finds(&self, lines: &Lines, root: Root<'_>, size: u32) -> bool
         requires lines { AreLines lines.now }
         requires wide { 0 < length self.now.heads.items }
         requires long { length self.now.next.items ≡ length lines.now.rows.items }
         requires linked { IsLinked (keys lines.now) self.now.next.items self.now.heads.items
             (length lines.now.rows.items) }
         requires there { IsThere (trees lines.now) (plain root) }
+        requires size { size ≡ size_of (tree_at (trees lines.now) (plain root)) }
         ensures { result ≡ has (trees lines.now) (tree_at (trees lines.now) (plain root.entry)) }
     {
         let mut link = self.heads[(hash(root) % self.heads.len() as u64) as usize];
         while link != END {
             let place = (link - 1) as usize;
-            if same(lines.root(place), root) {
+            if is_here(lines, place, root, size) {
                 return true;
             }
             link = self.next[place];
         }
         false
     }
+}
+
+// Whether a term has this root, whose tree has so many nodes. Where it has not as many, its arguments are not looked at.
+fn is_here(lines: &Lines, place: usize, root: Root<'_>, size: u32) -> bool
+    requires lines { AreLines lines.now }
+    requires place { place < length lines.now.rows.items }
+    requires size { size ≡ size_of (tree_at (trees lines.now) (plain root)) }
+    ensures { IsTrue result ↔ (slice_get (roots lines.now) place ≡ Some (plain root.entry)) }
+{
+    if lines.rows[place].size != size {
+        return false;
+    }
+    same(lines.root(place), root)
 }
 
 fn same(a: Root<'_>, b: Root<'_>) -> bool

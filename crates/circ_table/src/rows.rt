@@ -164,7 +164,7 @@ impl Rows {
             return Err(AllocError);
         }
         self.links.make_room(&self.lines)?;
-        let is_first = !self.links.finds(&self.lines, root);
+        let is_first = !self.links.finds(&self.lines, root, size);
         let row = Row {
             name: root.name,
             sort: root.sort,
