@@ -8,9 +8,7 @@
 mod block;
 mod deep;
 mod derivatives;
-mod goals;
 
 pub use block::BlockRules;
 pub use deep::is_deep_step;
 pub use derivatives::derivatives_on;
-pub use goals::{share_goal, share_goals, share_to};

@@ -13,6 +13,7 @@ use crate::fault::NumberFault;
 use crate::whys::steps;
 use circ_record::{TermLink, TermStep};
 use circ_replay::{Link, TableBuilder};
+use circ_rewrite::share_goals;
 use circ_rules::{Block, Proof};
 use circ_special::Gamma;
 use circ_term::Term;
@@ -67,25 +68,6 @@ fn shared(alloc: Global, terms: &[Term]) -> Result<Vec<Term>, AllocError>
     Ok(all)
 }
 
-fn shared_goals(alloc: Global, goals: &[Goal]) -> Result<Vec<Goal>, AllocError>
-    ensures { IfOk result (λ v. v.items ≡ goals.now) }
-{
-    let mut all = Vec::with_capacity(alloc, goals.len())?;
-    for goal in goals {
-        all.push(shared_goal(goal)?)?;
-    }
-    Ok(all)
-}
-
-fn shared_goal(goal: &Goal) -> Result<Goal, AllocError>
-    ensures { IfOk result (λ g. g ≡ goal.now) }
-{
-    Ok(Goal {
-        left: goal.left.share()?,
-        right: goal.right.share()?,
-    })
-}
-
 fn named_blocks(
     alloc: Global,
     table: &mut TableBuilder,
@@ -113,7 +95,7 @@ fn named_block(
     ensures { Asks table.old table.new (block_terms (plain_term_block recorded.now))
         (λ t x. plain_block x ≡ numbered_block t (plain_term_block recorded.now)) result }
 {
-    let goals = shared_goals(alloc, recorded.goals.as_slice())?;
+    let goals = share_goals(alloc, recorded.goals.as_slice())?;
     let names = match names(alloc, table, recorded.goals.as_slice()) {
         Ok(names) => names,
         Err(fault) => return Err(fault),

@@ -6,10 +6,10 @@ ghost use Rattle.circ_plain_search.specs.Search.{start};
 ghost use Rattle.circ_record.specs.Plain.{plain_term_chain};
 ghost use Rattle.circ_turn.specs.Standing.{standing, unlinked, limits_with, Keeps};
 
-use circ_block::{share_goal, share_goals};
 use circ_join::Hypotheses;
 use circ_numbering::TermBlock;
 use circ_record::{TermChain, TermStep};
+use circ_rewrite::{share_goal, share_goals};
 use circ_split::Sides;
 use circ_theory::Goal;
 use std::alloc::{AllocError, Global};

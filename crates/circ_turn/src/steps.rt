@@ -13,10 +13,11 @@ use crate::MOST_STEPS;
 use crate::end::End;
 use crate::search::Search;
 use crate::state::{State, share_queue};
-use circ_block::{derivatives_on, is_deep_step, share_goals, share_to};
+use circ_block::{derivatives_on, is_deep_step};
 use circ_join::{Hypotheses, Stop};
 use circ_numbering::TermBlock;
 use circ_record::{TermChain, TermStep, TermWhy};
+use circ_rewrite::{share_goals, share_goals_to};
 use circ_theory::Goal;
 use std::alloc::AllocError;
 use std::collections::VecDeque;
@@ -218,7 +219,7 @@ impl Search<'_> {
           steps = [];
         }) }
     {
-        share_to(&mut state.earlier, state.goals.as_slice())?;
+        share_goals_to(&mut state.earlier, state.goals.as_slice())?;
         let goals = mem::replace(&mut state.goals, Vec::new(self.alloc));
         let steps = mem::replace(&mut state.steps, Vec::new(self.alloc));
         state.finished.push(TermBlock { goals, steps })?;

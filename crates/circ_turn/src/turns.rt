@@ -17,11 +17,12 @@ use crate::end::End;
 use crate::search::Search;
 use crate::state::State;
 use crate::steps::has_links;
-use circ_block::{BlockRules, share_goal};
+use circ_block::BlockRules;
 use circ_join::{
     HypothesisUse, Joining, Lemmas, Passing, Stop, lemma_links, put_all, use_all, use_links,
 };
 use circ_record::{TermChain, TermWhy};
+use circ_rewrite::share_goal;
 use circ_split::{Sides, Splitting, normal_sides};
 use circ_theory::Goal;
 
