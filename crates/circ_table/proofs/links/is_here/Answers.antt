@@ -1,4 +1,4 @@
-use Rattle.std.proofs.Common.{◌≡◌, ◌∙◌, length, Some, refl, ap, sym, arith}
+use Rattle.std.proofs.Common.{◌∙◌, length, Some, refl, ap, sym, arith}
 use Rattle.std.specs.Prelude.{IsTrue, false}
 use Rattle.std.proofs.lemmas.Option.{same_Some, slice_get_read}
 use Rattle.circ_table.specs.Lines.{plain}

@@ -14,7 +14,7 @@ loop-link-init c =
     let heads = c.args.self.now.heads.items in
     let p = plain c.args.root in
     let chain : c.hash.result % c.len.result ≡ hash_of p % length heads =
-        ap (λ h. h % c.len.result) c.hash.ensures ∙ ap (λ n. hash_of p % n) (c.len.ensures ∙ c.args.self.now.heads.ok.0) in
+    ap (λ h. h % c.len.result) c.hash.ensures ∙ ap (λ n. hash_of p % n) (c.len.ensures ∙ c.args.self.now.heads.ok.0) in
     sought_first l.args.items l.rows.items c.args.self.now.next.items heads p c.index-link.result.now c.requires.linked
     (slice_get_read heads (length heads) (hash_of p % length heads) c.index-link.result.now refl (mod_below (hash_of p) (length heads) c.requires.wide)
     (c.index-link.ensures ∙ ap (λ n. get_or heads n c.index-link.result.now) chain))
