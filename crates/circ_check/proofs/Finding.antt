@@ -1,9 +1,8 @@
 -- What a checker has found that took all parts of a proof.
-use Rattle.std.proofs.Common.{◌≡◌, ◌⊎◌, ◌+◌, ℕ, Bool, true, false, List, [], ◌∷◌, ◌++◌, map, length, Option, Some, None}
+use Rattle.std.proofs.Common.{◌≡◌, ◌⊎◌, ◌+◌, ℕ, Bool, true, false, List, [], ◌∷◌, ◌++◌, map, length, Some, None}
 use Rattle.std.proofs.Common.{inl, inr, refl, ap, sym, subst, ◌∙◌, arith, append_assoc, append-nil}
 use Rattle.std.specs.List.{AllByRecursion}
 use Rattle.std.specs.Option.{option_or}
-use Rattle.std.proofs.lemmas.List.{length-map}
 use Rattle.circ_term.specs.Tree.{Tree}
 use Rattle.circ_theory.specs.Theory.{Theory, Derivative}
 use Rattle.circ_theory.specs.Rewriting.{named}
@@ -13,13 +12,12 @@ use Rattle.circ_replay.specs.Plain.{LinkOf}
 use Rattle.circ_replay.specs.Link.{resolved_links}
 use Rattle.circ_replay.specs.Runs.{Runs, FailsFirst}
 use Rattle.circ_rules.specs.Rules.{State, state, ProofStep, Simplify, Reduce, Derive, Done, map_step, StepOf, StepOn, StepsOf}
-use Rattle.circ_rules.specs.Certified.{Certified, due, AreCertified, CertificateFails}
+use Rattle.circ_rules.specs.Certified.{due, AreCertified, CertificateFails}
 use Rattle.circ_rules.specs.Proof.{Block, Proof, ProofFor, IsBlockFor}
-use Rattle.circ_rules.specs.Accepted.{certificates_of, steps_of, BlocksDerive, BlockFails, Derives, FirstFail}
+use Rattle.circ_rules.specs.Accepted.{steps_of, BlocksDerive, BlockFails, Derives, FirstFail}
 use Rattle.circ_rules.specs.Parts.{Part, Head, Certificate, Goals, Step, certificate_parts, step_parts, block_parts, parts_of}
 use Rattle.circ_rules.proofs.Stepping.{steps_end}
-use Rattle.circ_check.specs.declared.tally.Tally.{Tally}
-use Rattle.circ_check.specs.Checking.{Checking, TakesCertificate, TakesGoals, TakesStep, TakesPart, StandFor, nothing_taken, made_by, with_derived, with_one, with_failure}
+use Rattle.circ_check.specs.Checking.{Checking, TakesCertificate, TakesGoals, TakesStep, TakesPart, StandFor, nothing_taken, made_by, with_derived}
 
 -- one part more
 pub part_more : (th : Theory) (xs : List Part) (x : Part) (a b c : Checking) → Runs (TakesPart th) xs a b → TakesPart th x b c

@@ -1,6 +1,6 @@
 -- A part that fits behind earlier parts is what a checker needs that has taken these.
-use Rattle.std.proofs.Common.{◌≡◌, ◌+◌, ◌-◌, ◌<◌, ◌≤◌, ◌^◌, ℕ, Bool, true, false, List, [], ◌∷◌, ◌++◌, map, length}
-use Rattle.std.proofs.Common.{inl, inr, refl, ap, sym, subst, ◌∙◌, arith, append_assoc}
+use Rattle.std.proofs.Common.{◌≡◌, ◌+◌, ◌<◌, ℕ, Bool, true, false, List, [], ◌∷◌, ◌++◌, length}
+use Rattle.std.proofs.Common.{inl, inr, refl, ap, sym, subst, ◌∙◌, arith}
 use Rattle.std.specs.List.{AllByRecursion}
 use Rattle.circ_term.specs.Tree.{Tree}
 use Rattle.circ_theory.specs.Signature.{IsWellSorted}
@@ -14,9 +14,9 @@ use Rattle.circ_replay.specs.Plain.{LinkOf}
 use Rattle.circ_replay.specs.Runs.{Runs}
 use Rattle.circ_rules.specs.Rules.{ProofStep, Simplify, Reduce, Derive, Done}
 use Rattle.circ_rules.specs.Certified.{due}
-use Rattle.circ_rules.specs.Proof.{AreLinksFor, IsStepFor, IsNameFor, step_limit, goal_of}
+use Rattle.circ_rules.specs.Proof.{AreLinksFor, IsStepFor, step_limit}
 use Rattle.circ_rules.specs.Parts.{Part, Head, Certificate, Goals, Step}
-use Rattle.circ_rules.specs.Fitting.{IsHeadFor, AreGoalsFor, FitSteps, FitBlocks, FitRest, Fit}
+use Rattle.circ_rules.specs.Fitting.{AreGoalsFor, FitSteps, FitBlocks, FitRest, Fit}
 use Rattle.circ_rules.proofs.FewPlaces.{few_due}
 use Rattle.circ_rules.proofs.Sorted.{sorted_none, sorted_append}
 use Rattle.circ_soundness.proofs.Blocks.{names_sorted}

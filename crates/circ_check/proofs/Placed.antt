@@ -6,16 +6,16 @@ use Rattle.std.proofs.lemmas.Option.{same_Some}
 use Rattle.circ_term.specs.Tree.{Tree, Var}
 use Rattle.circ_theory.specs.Rewriting.{named}
 use Rattle.circ_theory.specs.declared.way.Way.{Way}
-use Rattle.circ_table.specs.Table.{Grows, IsIn, AreIn}
-use Rattle.circ_replay.specs.Plain.{LinkOf, Equation_link, Hypothesis_link, Assumption_link, Content_link, ChainOf, WhyOf, WhysOf, Same_why, Split_why, more_whys}
+use Rattle.circ_table.specs.Table.{Grows, AreIn}
+use Rattle.circ_replay.specs.Plain.{LinkOf, Equation_link, Hypothesis_link, Content_link, ChainOf, WhyOf, WhysOf, Same_why, Split_why, more_whys}
 use Rattle.circ_replay.specs.Plain.{map_link, map_chain, map_why, map_whys, plain_link, plain_links, plain_chain, plain_why, plain_whys}
 use Rattle.circ_replay.specs.Link.{AllOfLink}
 use Rattle.circ_replay.specs.declared.links.Link.{Link}
 use Rattle.circ_replay.specs.declared.links.Chain.{Chain}
 use Rattle.circ_replay.specs.declared.links.Why.{Why, Split}
 use Rattle.circ_replay.proofs.Whys.{split_plain}
-use Rattle.circ_rules.specs.Rules.{ProofStep, Simplify, Reduce, Derive, Done}
-use Rattle.circ_check.specs.Placing.{IsPlaced, Places, PlacesNumber, PlacesNumbers, PlacesLink, PlacesLinks, PlacesChain, PlacesWhy, PlacesWhys, PlacesStep}
+use Rattle.circ_rules.specs.Rules.{Simplify, Reduce}
+use Rattle.circ_check.specs.Placing.{Places, PlacesNumber, PlacesNumbers, PlacesLink, PlacesLinks, PlacesChain, PlacesWhy, PlacesWhys, PlacesStep}
 
 -- ---- terms that are added
 
@@ -196,7 +196,6 @@ why_stays table mid terms old new p g later h = p later (grows_more mid terms la
 pub links_placed : (table terms : List Tree) (i : ℕ) (xs ys : List Link) → DoneTo (LinkAsPlaced table terms) i xs ys → length ys ≤ i
     → PlacesLinks table terms (plain_links xs) (plain_links ys)
 links_placed table terms i xs ys d h = list_placed (λ f l. map_link f l) (λ P l. AllOfLink P l) plain_link table terms i xs ys d h
-
 
 pub equation_placed : (table terms : List Tree) (number : ℕ) (way : Way) (path ns ms : List ℕ) → PlacesNumbers table terms ns ms
     → PlacesLink table terms (Equation_link number way path ns) (Equation_link number way path ms)

@@ -1,5 +1,5 @@
 -- What a checker knows before a part and after it.
-use Rattle.std.proofs.Common.{◌≡◌, ◌+◌, ◌≤◌, ◌<◌, ℕ, zero, suc, Bool, true, false, List, [], ◌∷◌, ◌++◌, map, length, take, Option, Some, None}
+use Rattle.std.proofs.Common.{◌≡◌, ◌+◌, ℕ, zero, suc, Bool, false, List, [], ◌∷◌, ◌++◌, map, length, take, Option, Some, None}
 use Rattle.std.proofs.Common.{Result, Ok, Err, Vec, Global, slice_set, slice_index_or}
 use Rattle.std.proofs.Common.{inl, inr, refl, ap, sym, subst, ◌∙◌, arith}
 use Rattle.std.specs.Result.{OnOk, OnErr}
@@ -15,7 +15,6 @@ use Rattle.circ_replay.specs.Link.{resolved_links}
 use Rattle.circ_rules.specs.Rules.{State, state, IsSortedState, ProofStep, Simplify, Reduce, Derive, Done, map_step, StepOf}
 use Rattle.circ_rules.specs.Proof.{Proof, ProofFor}
 use Rattle.circ_rules.specs.Parts.{Part, Certificate, Goals, Step, parts_of}
-use Rattle.circ_rules.specs.Fitting.{Fit}
 use Rattle.circ_rules.specs.Accepted.{Derives}
 use Rattle.circ_rules.specs.Plain.{plain_state}
 use Rattle.circ_rules.specs.declared.state.State.{State as TheState}

@@ -1,5 +1,5 @@
 -- What a checker needs of a part that comes next.
-use Rattle.std.specs.Prelude.{◌<◌, ◌+◌, ◌^◌, List, ◌++◌, length}
+use Rattle.std.specs.Prelude.{◌<◌, ◌+◌, ◌^◌, ◌++◌, length}
 use Rattle.std.specs.List.{AllByRecursion}
 use Rattle.circ_theory.specs.Signature.{IsWellSorted}
 use Rattle.circ_theory.specs.Theory.{Theory}

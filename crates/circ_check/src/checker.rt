@@ -1,5 +1,6 @@
 //! A checker that takes the parts of a proof one after the other.
-ghost use Rattle.std.specs.Prelude.{◌≡◌, ◌<◌, ◌++◌, ◌∷◌, [], ℕ, List, None, false, length, map, take};
+ghost use Rattle.std.specs.Prelude.{◌≡◌, ◌<◌, ◌++◌, ◌∷◌, [], ℕ, List, None, false};
+ghost use Rattle.std.specs.Prelude.{length, map, take};
 ghost use Rattle.std.specs.Prelude.{IfOk, OnOk, IsErr};
 ghost use Rattle.std.specs.List.{AllByRecursion};
 ghost use Rattle.std.specs.Result.{OnErr};

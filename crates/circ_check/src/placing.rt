@@ -49,10 +49,7 @@ fn place_link(named: &mut NamedTerms, link: &mut Link) -> Result<(), AllocError>
 }
 
 /// The numbers of links.
-pub(crate) fn place_links(
-    named: &mut NamedTerms,
-    links: &mut Vec<Link>,
-) -> Result<(), AllocError>
+pub(crate) fn place_links(named: &mut NamedTerms, links: &mut Vec<Link>) -> Result<(), AllocError>
     requires { AllOfLinks (λ n. n < length named.old.0) (plain_links links.old.items) }
     ensures table { named.new.0 ≡ named.old.0 }
     ensures grows { Grows named.old.1 named.new.1 }

@@ -1,4 +1,4 @@
-use Rattle.std.proofs.Common.{◌≡◌, ◌∷◌, [], map, refl, ap, sym, ◌∙◌, arith}
+use Rattle.std.proofs.Common.{map, refl, ap, sym, ◌∙◌, arith}
 use Rattle.circ_check.specs.Checking.{goals_in, with_derived}
 use Rattle.circ_check.specs.Deciding.{plain_list}
 use Rattle.circ_check.proofs.Finding.{with_none}

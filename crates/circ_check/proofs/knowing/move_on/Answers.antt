@@ -1,4 +1,3 @@
-use Rattle.circ_rules.specs.Rules.{Derive, StepOn}
 use Rattle.circ_check.proofs.Marks.{known_behind}
 use Rattle.circ_check.proofs.knowing.move_on.Goals as goal
 

@@ -1,16 +1,16 @@
 use Rattle.std.proofs.Common.{◌≡◌, ◌<◌, ◌∙◌, ℕ, List, length, get_or, ap, sym, subst, arith}
 use Rattle.std.specs.Result.{OnOk}
 use Rattle.circ_term.specs.Tree.{Tree}
-use Rattle.circ_replay.specs.Plain.{ChainOf, WhyOf, plain_chain, plain_why, plain_whys}
-use Rattle.circ_replay.specs.Justified.{AllOfWhy, AllOfWhys}
+use Rattle.circ_replay.specs.Plain.{WhyOf, plain_chain, plain_why, plain_whys}
+use Rattle.circ_replay.specs.Justified.{AllOfWhy}
 use Rattle.circ_replay.specs.declared.links.Why.{Why, Split}
 use Rattle.circ_replay.specs.declared.links.Why as whys
 use Rattle.circ_replay.proofs.Whys.{split_plain}
 use Rattle.circ_replay.proofs.Reasons.{why_depth, whys_depth, depth_at, each_why}
-use Rattle.circ_check.specs.Placing.{PlacesLinks, PlacesWhy, PlacesWhys}
+use Rattle.circ_check.specs.Placing.{PlacesWhy, PlacesWhys}
 use Rattle.circ_check.proofs.Watching.{on_ok}
 use Rattle.circ_check.proofs.Placed.{WhyAsPlaced, grows_more, way_begins, way_on, way_next, read_any, why_stays, whys_placed, written}
-use Rattle.circ_check.proofs.Placed.{number_placed, chain_placed, same_placed, split_why_placed}
+use Rattle.circ_check.proofs.Placed.{number_placed, same_placed, split_why_placed}
 use Rattle.circ_check.proofs.placing.+place.Goals as goal
 
 pub place_why-place_whys-requires : goal.place_why-place_whys-requires

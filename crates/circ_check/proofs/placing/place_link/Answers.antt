@@ -1,4 +1,3 @@
-use Rattle.std.proofs.Common.{sym}
 use Rattle.circ_check.proofs.Watching.{on_ok}
 use Rattle.circ_check.proofs.Placed.{equation_placed, hypothesis_placed, content_placed, number_placed}
 use Rattle.circ_check.proofs.placing.place_link.Goals as goal

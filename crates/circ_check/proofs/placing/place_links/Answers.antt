@@ -1,4 +1,4 @@
-use Rattle.std.proofs.Common.{◌≡◌, ◌<◌, ◌∙◌, List, length, get_or, ap, sym, subst, arith}
+use Rattle.std.proofs.Common.{◌<◌, ◌∙◌, List, length, get_or, ap, sym, subst, arith}
 use Rattle.circ_replay.specs.Link.{AllOfLink}
 use Rattle.circ_replay.specs.Plain.{plain_link, plain_links}
 use Rattle.circ_replay.specs.declared.links.Link.{Link}

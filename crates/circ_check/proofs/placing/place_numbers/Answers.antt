@@ -1,5 +1,4 @@
-use Rattle.std.proofs.Common.{◌≡◌, ◌<◌, ◌∙◌, ℕ, List, length, get_or, ap, sym, subst, arith}
-use Rattle.circ_term.specs.Tree.{Tree}
+use Rattle.std.proofs.Common.{◌<◌, ◌∙◌, ℕ, List, length, get_or, ap, sym, subst, arith}
 use Rattle.circ_check.specs.Placing.{PlacesNumber, PlacesNumbers}
 use Rattle.circ_check.proofs.Placed.{grows_more, way_begins, way_on, way_next, each_number, read_any, number_stays, number_placed, numbers_placed, written}
 use Rattle.circ_check.proofs.placing.place_numbers.Goals as goal
