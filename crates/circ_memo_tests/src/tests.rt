@@ -7,31 +7,46 @@ ghost use Rattle.circ_rewrite.specs.Due.{IsRewriteRule};
 use circ_index::{PairIndex, RuleIndex};
 use circ_memo::Memo;
 use circ_rewrite::{RewriteFault, Rule, RuleName};
-use circ_term::{Term, TermFault};
+use circ_term::{Subst, Term, TermFault};
 use circ_theory::{Form, OpDecl, Side, Theory, TheoryFault};
 use itoa::Buffer;
 use std::alloc::{AllocError, Global};
 
 const CONSTANTS: u32 = 60_000;
 
-// Whether the second of two left sides, of another sort than the first, is found for a variable.
+// Whether a variable is given this term.
+fn is_given(given: &Subst, number: u32, sort: u32, term: &Term) -> bool {
+    match given.get(number, sort) {
+        Some(bound) => bound.same(term),
+        None => false,
+    }
+}
+
+// Whether the second of two left sides, of another sort than the first, is found for a variable,
+// and its own variable is given that one.
 fn second_left_is_found(alloc: Global) -> Result<bool, AllocError> {
     let mut lefts = Vec::new(alloc);
     lefts.push(Term::var(0, 1))?;
     lefts.push(Term::var(0, 0))?;
     let index = RuleIndex::of(alloc, lefts)?;
     match index.first(0, &Term::var(5, 0))? {
-        Some((number, _)) => Ok(number == 1),
+        Some((number, given)) => Ok(number == 1 && is_given(&given, 0, 0, &Term::var(5, 0))),
         None => Ok(false),
     }
 }
 
-// Whether a pair is found turned.
+// Whether a pair is found turned, and each of its variables is given that of its own sort.
 fn turned_pair_is_found(alloc: Global) -> Result<bool, AllocError> {
     let mut index = PairIndex::new(alloc);
     index.add(&Term::var(0, 0), &Term::var(0, 1))?;
     match index.first(0, &Term::var(7, 1), &Term::var(7, 0))? {
-        Some((place, _)) => Ok(place == 1),
+        Some((place, given)) => {
+            Ok(
+                place == 1
+                    && is_given(&given, 0, 0, &Term::var(7, 0))
+                    && is_given(&given, 0, 1, &Term::var(7, 1)),
+            )
+        }
         None => Ok(false),
     }
 }
