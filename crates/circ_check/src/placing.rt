@@ -17,6 +17,7 @@ use circ_rules::Step;
 use circ_table::NamedTerms;
 use std::alloc::AllocError;
 
+// Each number gives way to its term's place.
 fn place_numbers(named: &mut NamedTerms, numbers: &mut Vec<u32>) -> Result<(), AllocError>
     requires { AllByRecursion (λ n. n < length named.old.0) numbers.old.items }
     ensures table { named.new.0 ≡ named.old.0 }
@@ -30,6 +31,7 @@ fn place_numbers(named: &mut NamedTerms, numbers: &mut Vec<u32>) -> Result<(), A
     Ok(())
 }
 
+// The numbers of a link. One without terms is only looked at.
 fn place_link(named: &mut NamedTerms, link: &mut Link) -> Result<(), AllocError>
     requires { AllOfLink (λ n. n < length named.old.0) (plain_link link.old) }
     ensures table { named.new.0 ≡ named.old.0 }
@@ -62,6 +64,7 @@ pub(crate) fn place_links(named: &mut NamedTerms, links: &mut Vec<Link>) -> Resu
     Ok(())
 }
 
+// Those of both sides.
 fn place_chain(named: &mut NamedTerms, chain: &mut Chain) -> Result<(), AllocError>
     requires { AllOfChain (λ n. n < length named.old.0) (plain_chain chain.old) }
     ensures table { named.new.0 ≡ named.old.0 }
