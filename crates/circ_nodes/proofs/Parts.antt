@@ -1,7 +1,7 @@
 -- What was added is part of what was given.
-use Rattle.std.specs.Prelude.{◌≡◌, ℕ, ◌<◌, List, [], ◌∷◌, ◌++◌, length, Result, Ok, Err, Some, OnOk, OnErr, refl}
+use Rattle.std.specs.Prelude.{◌≡◌, ℕ, ◌<◌, List, [], ◌∷◌, ◌++◌, length, Result, Ok, Err, OnOk, OnErr, refl}
 use Rattle.std.specs.List.{slice_get}
-use Rattle.std.proofs.Common.{ap, sym, subst, ◌∙◌, get_or, ◌⊎◌, inl, inr}
+use Rattle.std.proofs.Common.{ap, subst, ◌∙◌, get_or, ◌⊎◌, inl, inr}
 use Rattle.std.proofs.lemmas.Option.{slice_get_read}
 use Rattle.circ_term.specs.Tree.{Tree, App, trees_of, list_of-trees_of, walk}
 use Rattle.circ_nodes.specs.Named.{IsNamed, Enters, Adds, IsPart, IsPartOfSome}
