@@ -53,7 +53,6 @@ impl NamedTerms {
         ensures few { length self.now.1 < 2 ^ 32 }
         ensures in_table { AreIn self.now.0 self.now.1 }
     {
-        let _ = &self.table;
         &[]
     }
 

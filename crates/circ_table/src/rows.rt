@@ -1,5 +1,5 @@
 //! A table to which terms are added.
-ghost use Rattle.std.specs.Prelude.{◌≡◌, ◌<◌, ◌≤◌, ◌++◌, ◌∷◌, [], List, length, Some, IfOk, OnOk, OnErr};
+ghost use Rattle.std.specs.Prelude.{◌≡◌, ◌<◌, ◌≤◌, ◌×◌, ◌++◌, ◌∷◌, [], List, length, Some, IfOk, OnOk, OnErr};
 ghost use Rattle.std.specs.Option.{option_map};
 ghost use Rattle.circ_term.specs.Tree.{Tree, Var, App, trees_of, sort_of};
 ghost use Rattle.circ_replay.specs.Table.{term_limit};
@@ -43,7 +43,6 @@ impl Rows {
     pub fn len(&self) -> usize
         ensures { result ≡ length self.now }
     {
-        let _ = &self.numbers;
         0
     }
 
@@ -52,7 +51,6 @@ impl Rows {
         ensures { result ≡ option_map sort_of (first_at self.now number) }
     {
         let _ = number;
-        let _ = &self.numbers;
         None
     }
 
@@ -74,7 +72,7 @@ impl Rows {
         ensures { (ts : List Tree) → firsts_at self.old args.now ≡ Some ts →
             Adds self.old self.new (App op sort (trees_of ts)) result }
     {
-        let _ = (op, sort, args.len());
+        let _ = (op, sort, args);
         Err(TermFault::Memory)
     }
 

@@ -41,7 +41,6 @@ impl Table {
     pub fn len(&self) -> usize
         ensures { result ≡ length self.now }
     {
-        let _ = &self.numbers;
         0
     }
 
@@ -50,7 +49,6 @@ impl Table {
         ensures { result ≡ option_map sort_of (slice_get self.now number) }
     {
         let _ = number;
-        let _ = &self.numbers;
         None
     }
 
