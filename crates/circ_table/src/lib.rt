@@ -1,5 +1,5 @@
-//! The table of a proof that is read, as numbers: for each term its root, with the numbers of its arguments. A
-//! term is built where it is asked for.
+//! The table of a proof that is read, as numbers: for each term its root, with the numbers of its
+//! arguments. A term is built where it is asked for.
 #![tactic(auto)]
 
 mod lines;

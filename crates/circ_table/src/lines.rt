@@ -1,5 +1,6 @@
 //! How a table lies in memory.
-ghost use Rattle.std.specs.Prelude.{◌≡◌, ◌-◌, ◌<◌, ◌≤◌, take, drop, ◌++◌, ◌∷◌, [], length, Some, IfOk, OnOk, OnErr};
+ghost use Rattle.std.specs.Prelude.{◌≡◌, ◌-◌, ◌<◌, ◌≤◌, ◌++◌, ◌∷◌};
+ghost use Rattle.std.specs.Prelude.{[], length, take, drop, Some, IfOk, OnOk, OnErr};
 ghost use Rattle.std.specs.List.{slice_get, AllByRecursion};
 ghost use Rattle.std.specs.Option.{option_map};
 ghost use Rattle.circ_term.specs.Tree.{Tree, sort_of, args_of};

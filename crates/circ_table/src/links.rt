@@ -1,5 +1,7 @@
-//! Terms of a table in chains by their roots, so that a term is found without a search through the table.
-ghost use Rattle.std.specs.Prelude.{◌≡◌, ◌+◌, ◌*◌, ◌≤◌, ◌<◌, ◌^◌, ◌↔◌, [], length, IsTrue, OnOk, Some};
+//! Terms of a table in chains by their roots, so that a term is found without a search through the
+//! table.
+ghost use Rattle.std.specs.Prelude.{◌≡◌, ◌+◌, ◌<◌, ◌^◌, ◌↔◌, []};
+ghost use Rattle.std.specs.Prelude.{length, Some, IsTrue, OnOk};
 ghost use Rattle.std.specs.Prelude.{vec_len, vec_capacity};
 ghost use Rattle.std.specs.List.{slice_get};
 ghost use Rattle.circ_term.specs.Tree.{size_of};
@@ -16,9 +18,9 @@ const END: u32 = 0;
 // The fewest chains.
 const FEWEST: usize = 8;
 
-// For each chain its newest term, and for each term the next older one of its chain. A term stands in the chain of
-// its root's hash, if it is the first of its kind. Terms of one chain may have different hashes, and terms with one
-// hash may be different.
+// For each chain its newest term, and for each term the next older one of its chain. A term stands
+// in the chain of its root's hash, if it is the first of its kind. Terms of one chain may have
+// different hashes, and terms with one hash may be different.
 #[derive(Drop)]
 pub(crate) struct Links {
     alloc: Global,
@@ -108,7 +110,8 @@ impl Links {
     }
 }
 
-// Whether a term has this root, whose tree has so many nodes. Where it has not as many, its arguments are not looked at.
+// Whether a term has this root, whose tree has so many nodes. Where it has not as many, its
+// arguments are not looked at.
 fn is_here(lines: &Lines, place: usize, root: Root<'_>, size: u32) -> bool
     requires lines { AreLines lines.now }
     requires place { place < length lines.now.rows.items }

@@ -1,5 +1,6 @@
 //! The terms of a table that were asked for.
-ghost use Rattle.std.specs.Prelude.{◌≡◌, ◌<◌, ◌≤◌, ◌^◌, [], length, Some, IfOk, OnOk, OnErr};
+ghost use Rattle.std.specs.Prelude.{◌≡◌, ◌<◌, ◌^◌, [], length};
+ghost use Rattle.std.specs.Prelude.{Some, IfOk, OnOk, OnErr};
 ghost use Rattle.std.specs.List.{slice_get};
 ghost use Rattle.std.specs.Option.{IfSome};
 ghost use Rattle.circ_term.specs.Tree.{Tree};
@@ -14,8 +15,8 @@ use std::marker::Model;
 // The place of a term that was not asked for. So there are fewer terms than that.
 const ABSENT: u32 = 4_294_967_295;
 
-/// The terms of a table that were asked for, each once and with its subterms. So a table costs only as many built
-/// terms as are named.
+/// The terms of a table that were asked for, each once and with its subterms. So a table costs only
+/// as many built terms as are named.
 #[derive(Drop)]
 pub struct NamedTerms {
     alloc: Global,
@@ -71,8 +72,8 @@ impl NamedTerms {
         self.terms.as_slice()
     }
 
-    /// The place of a number's term among those that were asked for. Where it is not there, it joins them, behind its
-    /// subterms.
+    /// The place of a number's term among those that were asked for. Where it is not there, it
+    /// joins them, behind its subterms.
     pub fn place(&mut self, number: u32) -> Result<u32, AllocError>
         requires { number < length self.old.0 }
         ensures table { self.new.0 ≡ self.old.0 }
@@ -108,7 +109,8 @@ impl NamedTerms {
 
     // The place of a number's term, if it was asked for.
     fn find(&self, number: u32) -> Option<u32>
-        ensures placed { IfSome result (λ n. slice_get self.now.1 n ≡ slice_get self.now.0 number) }
+        ensures placed { IfSome result (λ n.
+            slice_get self.now.1 n ≡ slice_get self.now.0 number) }
         ensures there { IfSome result (λ n. n < length self.now.1) }
     {
         let number = number as usize;

@@ -1,5 +1,6 @@
 //! A table to which terms are added.
-ghost use Rattle.std.specs.Prelude.{◌≡◌, ◌+◌, ◌*◌, ◌<◌, ◌≤◌, ◌++◌, ◌∷◌, [], List, length, Some, None};
+ghost use Rattle.std.specs.Prelude.{◌≡◌, ◌*◌, ◌<◌, ◌≤◌, ◌++◌, ◌∷◌};
+ghost use Rattle.std.specs.Prelude.{[], List, length, Some, None};
 ghost use Rattle.std.specs.Prelude.{IfOk, OnOk, OnErr};
 ghost use Rattle.std.specs.Option.{option_map};
 ghost use Rattle.circ_term.specs.Tree.{Tree, Var, App, trees_of, sort_of, sizes_of, depths_of};
@@ -156,7 +157,8 @@ impl Rows {
     fn push(&mut self, root: Root<'_>, size: u32, depth: u16) -> Result<(), AllocError>
         requires room { length self.old < term_limit }
         requires node { IsNode self.old (plain root) size depth }
-        ensures added { OnOk result (self.new ≡ self.old ++ tree_at self.old (plain root.entry) ∷ []) }
+        ensures added { OnOk result (self.new
+            ≡ self.old ++ tree_at self.old (plain root.entry) ∷ []) }
         ensures err { OnErr result (self.new ≡ self.old) }
     {
         let end = self.lines.args.len() + root.args.len();

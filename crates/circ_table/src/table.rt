@@ -128,7 +128,8 @@ impl Table {
         args: Vec<Term>,
     ) -> Result<Term, AllocError>
         requires number { number < length self.now }
-        requires args { (t : Tree) → slice_get self.now number ≡ Some t → args.items ≡ args_of t }
+        requires args { (t : Tree) → slice_get self.now number ≡ Some t
+            → args.items ≡ args_of t }
         ensures { IfOk result (λ t. slice_get self.now number ≡ Some t) }
     {
         match &self.held {
