@@ -16,7 +16,8 @@ use std::marker::Model;
 const ABSENT: u32 = 4_294_967_295;
 
 /// The terms of a table that were asked for, each once and with its subterms. So a table costs only
-/// as many built terms as are named.
+/// as many built terms as are named, and 4 bytes for each of its own once one is. A call that would
+/// build more than 4,294,967,295 answers want of memory.
 #[derive(Drop)]
 pub struct NamedTerms {
     alloc: Global,
@@ -73,7 +74,7 @@ impl NamedTerms {
     }
 
     /// The place of a number's term among those that were asked for. Where it is not there, it
-    /// joins them, behind its subterms.
+    /// joins them, behind its subterms. It calls itself as deep as the term is.
     pub fn place(&mut self, number: u32) -> Result<u32, AllocError>
         requires { number < length self.old.0 }
         ensures table { self.new.0 ≡ self.old.0 }

@@ -12,7 +12,7 @@ use std::alloc::{AllocError, Global};
 use std::marker::Model;
 use std::rc::Rc;
 
-/// A table that is whole. It is shared, not copied.
+/// A table that is whole. It is shared, not copied, and none of its terms is kept.
 #[derive(Drop)]
 pub struct Table {
     held: Held,
