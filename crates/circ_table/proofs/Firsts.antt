@@ -2,7 +2,7 @@
 use Rattle.std.specs.Prelude.{◌≡◌, ℕ, zero, suc, ◌<◌, ◌==◌, Bool, true, false, ◌||◌, if◌then◌else◌, List, [], ◌∷◌, ◌++◌, length, take, replicate, slice_set, Option, Some, None, refl}
 use Rattle.std.specs.List.{slice_get, AllByRecursion}
 use Rattle.std.specs.Option.{option_and_then, option_map}
-use Rattle.std.proofs.Common.{ap, sym, subst, ◌∙◌, arith, get_or}
+use Rattle.std.proofs.Common.{ap, sym, subst, ◌∙◌, arith, ◌⊎◌, inl, inr, get_or}
 use Rattle.std.proofs.lemmas.Bool.{eqb-true, eq-eqb}
 use Rattle.std.proofs.lemmas.List.{get_or-take}
 use Rattle.std.proofs.lemmas.Option.{same_Some, slice_get_within, get_or_from_slice_get}
@@ -54,6 +54,12 @@ pub get_replicate : (n x i y : ℕ) → slice_get (replicate n x) i ≡ Some y �
 get_replicate zero x i y e = absurd (cc)
 get_replicate (suc n) x zero y e = sym (same_Some x y e)
 get_replicate (suc n) x (suc i) y e = get_replicate n x i y e
+
+pub get_pushed : (xs : List ℕ) (x n y : ℕ) → slice_get (xs ++ x ∷ []) n ≡ Some y → (y ≡ x) ⊎ (slice_get xs n ≡ Some y)
+get_pushed [] x zero y e = inl (sym (same_Some x y e))
+get_pushed [] x (suc n) y e = absurd (cc)
+get_pushed (z ∷ xs) x zero y e = inr e
+get_pushed (z ∷ xs) x (suc n) y e = get_pushed xs x n y e
 
 -- the term is there, by any number
 

@@ -1,30 +1,32 @@
 -- The terms that are asked for, one after another.
-use Rattle.std.specs.Prelude.{◌≡◌, ℕ, zero, suc, ◌+◌, ◌<◌, List, [], ◌∷◌, ◌++◌, length, drop, replicate, slice_set, Some, refl}
+use Rattle.std.specs.Prelude.{◌≡◌, ℕ, zero, suc, ◌+◌, ◌<◌, List, [], ◌∷◌, ◌++◌, length, drop, slice_set, Some, refl}
 use Rattle.std.specs.List.{slice_get, AllByRecursion}
 use Rattle.std.proofs.Common.{ap, sym, subst, ◌∙◌, arith, ◌⊎◌, inl, inr, append_assoc, append-nil, length-append, get_or}
 use Rattle.std.proofs.lemmas.Bool.{cases_eq}
-use Rattle.std.proofs.lemmas.List.{length-set}
 use Rattle.std.proofs.lemmas.Option.{same_Some}
 use Rattle.circ_term.specs.Tree.{Tree, args_of}
 use Rattle.circ_term.proofs.Within.{drop_read}
 use Rattle.circ_table.specs.declared.named.TheConstants.{ABSENT}
 use Rattle.circ_table.specs.Table.{firsts_at, IsIn, AreIn, Grows}
 use Rattle.circ_table.specs.Placed.{IsPlaced, ArePlacesOf, ArePlaced}
-use Rattle.circ_table.proofs.Firsts.{get_front, get_seam, get_put, get_other, get_replicate, firsts_next, first_parts}
+use Rattle.circ_table.proofs.Firsts.{get_front, get_seam, get_put, get_other, get_pushed, firsts_next, first_parts}
 
 -- ---- places
 
-pub places_new : (old : List ℕ) (count : ℕ) → ArePlacesOf old (replicate count ABSENT)
-places_new old count n p e = inl (get_replicate count ABSENT n p e)
+pub places_more : (old xs : List ℕ) → ArePlacesOf old xs → ArePlacesOf old (xs ++ ABSENT ∷ [])
+places_more old xs h n p e = go (get_pushed xs ABSENT n p e)
+  where
+    go : (p ≡ ABSENT) ⊎ (slice_get xs n ≡ Some p) → (p ≡ ABSENT) ⊎ (slice_get old n ≡ Some p)
+    go (inl absent) = inl absent
+    go (inr there) = h n p there
 
 pub places_same : (old : List ℕ) → ArePlacesOf old old
 places_same old n p e = inr e
 
-pub placed_made : (table terms : List Tree) (places new : List ℕ) → ArePlaced table terms places → length new ≡ length table → ArePlacesOf places new → ArePlaced table terms new
-placed_made table terms places new h long kept = record {
+pub placed_made : (table terms : List Tree) (places new : List ℕ) → ArePlaced table terms places → ArePlacesOf places new → ArePlaced table terms new
+placed_made table terms places new h kept = record {
   few = h.few;
   in_table = h.in_table;
-  long = inr long;
   placed = λ n p e. go n p (kept n p e);
 }
   where
@@ -36,12 +38,11 @@ are_in_push : (table terms : List Tree) (t : Tree) → AreIn table terms → IsI
 are_in_push table [] t h k = (k, tt)
 are_in_push table (u ∷ terms) t h k = (h.0, are_in_push table terms t h.1 k)
 
-pub placed_put : (table terms : List Tree) (places : List ℕ) (number : ℕ) (t : Tree) → ArePlaced table terms places → length places ≡ length table → slice_get table number ≡ Some t
+pub placed_put : (table terms : List Tree) (places : List ℕ) (number : ℕ) (t : Tree) → ArePlaced table terms places → slice_get table number ≡ Some t
     → length terms < ABSENT → ArePlaced table (terms ++ t ∷ []) (slice_set places number (length terms))
-placed_put table terms places number t h long named room = record {
+placed_put table terms places number t h named room = record {
   few = let l = length-append terms (t ∷ []) in omega arith;
   in_table = are_in_push table terms t h.in_table (number, named);
-  long = inr (length-set places number (length terms) ∙ long);
   placed = λ n p e. go n p e (cases_eq number n);
 }
   where

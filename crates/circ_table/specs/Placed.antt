@@ -10,10 +10,6 @@ use Rattle.circ_table.specs.declared.named.TheConstants.{ABSENT}
 abbrev pub IsPlaced : (table terms : List Tree) (n p : ℕ) → Type 0
 IsPlaced table terms n p = (p ≡ ABSENT) ⊎ ((t : Tree) × (slice_get terms p ≡ Some t) × (slice_get table n ≡ Some t))
 
--- there are none, or one for each term
-abbrev pub HaveLength : List ℕ → ℕ → Type 0
-HaveLength places count = (length places ≡ 0) ⊎ (length places ≡ count)
-
 -- none is new
 abbrev pub ArePlacesOf : (old new : List ℕ) → Type 0
 ArePlacesOf old new = (n p : ℕ) → slice_get new n ≡ Some p → (p ≡ ABSENT) ⊎ (slice_get old n ≡ Some p)
@@ -21,5 +17,4 @@ ArePlacesOf old new = (n p : ℕ) → slice_get new n ≡ Some p → (p ≡ ABSE
 pub record ArePlaced (table terms : List Tree) (places : List ℕ) : Type 0 where
   pub few : length terms < 2 ^ 32
   pub in_table : AreIn table terms
-  pub long : HaveLength places (length table)
   pub placed : (n p : ℕ) → slice_get places n ≡ Some p → IsPlaced table terms n p

@@ -1,11 +1,11 @@
 //! The terms of a table that were asked for.
-ghost use Rattle.std.specs.Prelude.{◌≡◌, ◌<◌, ◌^◌, [], length};
+ghost use Rattle.std.specs.Prelude.{◌≡◌, ◌<◌, ◌≤◌, ◌^◌, [], length};
 ghost use Rattle.std.specs.Prelude.{Some, IfOk, OnOk, OnErr};
 ghost use Rattle.std.specs.List.{slice_get};
 ghost use Rattle.std.specs.Option.{IfSome};
 ghost use Rattle.circ_term.specs.Tree.{Tree};
 ghost use Rattle.circ_table.specs.Table.{Grows, AreIn};
-ghost use Rattle.circ_table.specs.Placed.{HaveLength, ArePlacesOf};
+ghost use Rattle.circ_table.specs.Placed.{ArePlacesOf};
 
 use crate::table::Table;
 use circ_term::Term;
@@ -16,14 +16,14 @@ use std::marker::Model;
 const ABSENT: u32 = 4_294_967_295;
 
 /// The terms of a table that were asked for, each once and with its subterms. So a table costs only
-/// as many built terms as are named, and 4 bytes for each of its own once one is. A call that would
-/// build more than 4,294,967,295 answers want of memory.
+/// as many built terms as are named, and 4 bytes for each number up to the greatest of them. A call
+/// that would build more than 4,294,967,295 answers want of memory.
 #[derive(Drop)]
 pub struct NamedTerms {
     alloc: Global,
     table: Table,
     terms: Vec<Term>,
-    // For each term of the table its place among them. There are none before a term is asked for.
+    // For each number up to the greatest that was asked for the place of its term among them.
     places: Vec<u32>,
 }
 
@@ -135,22 +135,21 @@ impl NamedTerms {
         if place >= ABSENT as usize {
             return Err(AllocError);
         }
-        make_places(self.alloc, &mut self.places, self.table.len())?;
+        make_places(&mut self.places, number as usize + 1)?;
         self.terms.push(term)?;
         self.places[number as usize] = place as u32;
         Ok(place as u32)
     }
 }
 
-// Makes places for so many terms, if there are none.
-fn make_places(alloc: Global, places: &mut Vec<u32>, count: usize) -> Result<(), AllocError>
-    requires { HaveLength places.old.items count }
-    ensures long { OnOk result (length places.new.items ≡ count) }
+// Makes places up to so many.
+fn make_places(places: &mut Vec<u32>, count: usize) -> Result<(), AllocError>
+    ensures long { OnOk result (count ≤ length places.new.items) }
     ensures kept { OnOk result (ArePlacesOf places.old.items places.new.items) }
-    ensures err { OnErr result (places.new.items ≡ places.old.items) }
+    ensures err { OnErr result (ArePlacesOf places.old.items places.new.items) }
 {
-    if places.is_empty() {
-        *places = vec![in alloc; ABSENT; count]?;
+    while places.len() < count {
+        places.push(ABSENT)?;
     }
     Ok(())
 }

@@ -13,13 +13,12 @@ invariant_of-self-2 c =
     let terms = c.self.inside.terms.items in
     let places = c.make_places.new.places.items in
     let t = c.args.term in
-    let long = c.in_ok-make_places.ensures.long ∙ c.len.ensures in
-    let made = placed_made table terms c.self.inside.places.items places c.self.invariant long c.in_ok-make_places.ensures.kept in
+    let made = placed_made table terms c.self.inside.places.items places c.self.invariant c.in_ok-make_places.ensures.kept in
     let named = ap (λ x. slice_get x.0 c.args.number) c.self.view_is ∙ c.requires.term in
     let count : c.len-place.result ≡ length terms = c.len-place.ensures ∙ c.self.inside.terms.ok.0 in
     let P : List Tree → Type 0 = λ ts. ArePlaced table ts (slice_set places c.args.number c.len-place.result) in
     let Q : ℕ → Type 0 = λ n. ArePlaced table (terms ++ t ∷ []) (slice_set places c.args.number n) in
-    subst P (sym c.in_ok-push.ensures.items) (subst Q (sym count) (placed_put table terms places c.args.number t made long named (omega (arith, count, c.if-place.false))))
+    subst P (sym c.in_ok-push.ensures.items) (subst Q (sym count) (placed_put table terms places c.args.number t made named (omega (arith, count, c.if-place.false))))
 
 pub returns-clause-placed : goal.returns-clause-placed
 returns-clause-placed c =
