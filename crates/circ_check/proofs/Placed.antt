@@ -6,7 +6,8 @@ use Rattle.std.proofs.lemmas.Option.{same_Some}
 use Rattle.circ_term.specs.Tree.{Tree, Var}
 use Rattle.circ_theory.specs.Rewriting.{named}
 use Rattle.circ_theory.specs.declared.way.Way.{Way}
-use Rattle.circ_table.specs.Table.{Grows, AreIn}
+use Rattle.circ_term.specs.Growing.{Grows}
+use Rattle.circ_table.specs.Table.{AreIn}
 use Rattle.circ_replay.specs.Plain.{LinkOf, Equation_link, Hypothesis_link, Content_link, ChainOf, WhyOf, WhysOf, Same_why, Split_why, more_whys}
 use Rattle.circ_replay.specs.Plain.{map_link, map_chain, map_why, map_whys, plain_link, plain_links, plain_chain, plain_why, plain_whys}
 use Rattle.circ_replay.specs.Link.{AllOfLink}

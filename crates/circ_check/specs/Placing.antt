@@ -3,21 +3,21 @@ use Rattle.std.specs.Prelude.{◌≡◌, ◌<◌, ℕ, List, length, map}
 use Rattle.std.specs.List.{AllByRecursion}
 use Rattle.circ_term.specs.Tree.{Tree}
 use Rattle.circ_theory.specs.Rewriting.{named}
-use Rattle.circ_table.specs.Table.{Grows}
+use Rattle.circ_term.specs.Growing.{Grows}
 use Rattle.circ_replay.specs.Plain.{LinkOf, ChainOf, WhyOf, WhysOf, map_link, map_chain, map_why, map_whys}
 use Rattle.circ_replay.specs.Link.{AllOfLink, AllOfLinks}
 use Rattle.circ_replay.specs.Justified.{AllOfChain, AllOfWhy, AllOfWhys}
 use Rattle.circ_rules.specs.Rules.{ProofStep, map_step, AllOfStep}
 
 -- With these terms for its numbers the new one is what the old one is with those of the table, and each of its numbers has a term.
-pub record IsPlaced {X Y : Type 0} (read : (ℕ → Tree) → X → Y) (all : (ℕ → Type 0) → X → Type 0) (table : List Tree) (old new : X) (terms : List Tree)
+pub record MeansTheSame {X Y : Type 0} (read : (ℕ → Tree) → X → Y) (all : (ℕ → Type 0) → X → Type 0) (table : List Tree) (old new : X) (terms : List Tree)
     : Type 0 where
   pub same : read (named terms) new ≡ read (named table) old
   pub within : all (λ n. n < length terms) new
 
 -- so it is with these terms, and with all that go on from them
 abbrev pub Places : {X Y : Type 0} → (read : (ℕ → Tree) → X → Y) → (all : (ℕ → Type 0) → X → Type 0) → (table terms : List Tree) → (old new : X) → Type 0
-Places read all table terms old new = (later : List Tree) → Grows terms later → IsPlaced read all table old new later
+Places read all table terms old new = (later : List Tree) → Grows terms later → MeansTheSame read all table old new later
 
 abbrev pub PlacesNumber : (table terms : List Tree) → (old new : ℕ) → Type 0
 PlacesNumber table terms old new = Places (λ f n. f n) (λ P n. P n) table terms old new

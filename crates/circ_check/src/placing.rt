@@ -8,7 +8,7 @@ ghost use Rattle.circ_replay.specs.Link.{AllOfLink, AllOfLinks};
 ghost use Rattle.circ_replay.specs.Justified.{AllOfChain, AllOfWhy, AllOfWhys};
 ghost use Rattle.circ_rules.specs.Plain.{plain_step};
 ghost use Rattle.circ_rules.specs.Rules.{AllOfStep};
-ghost use Rattle.circ_table.specs.Table.{Grows};
+ghost use Rattle.circ_term.specs.Growing.{Grows};
 ghost use Rattle.circ_check.specs.Placing.{PlacesNumbers, PlacesLink, PlacesLinks};
 ghost use Rattle.circ_check.specs.Placing.{PlacesChain, PlacesWhy, PlacesWhys, PlacesStep};
 

@@ -7,7 +7,7 @@ use Rattle.std.proofs.lemmas.List.{map-append, drop_more}
 use Rattle.circ_theory.specs.Theory.{Theory}
 use Rattle.circ_special.specs.declared.place.Place.{Place}
 use Rattle.circ_special.specs.Special.{place}
-use Rattle.circ_contexts.specs.Candidates.{Adds, IsFound, GivesCandidate, AreCandidates, places_of}
+use Rattle.circ_contexts.specs.Candidates.{AddsKept, IsFound, GivesCandidate, AreCandidates, places_of}
 use Rattle.circ_contexts.specs.Greatest.{IsCandidate}
 use Rattle.circ_contexts.specs.declared.candidates.Candidate.{Candidate}
 use Rattle.circ_contexts.proofs.Adding.{adds_start, adds_kept, adds_dropped, adds_last}
@@ -20,7 +20,7 @@ all_and P (y ∷ xs) x a p = (a.0, all_and P xs x a.1 p)
 module _ (th : Theory) (budget : ℕ) (gs : List Place) where
   -- What is found up to the place of number i.
   pub record Gathered (i : ℕ) (cs : List Candidate) : Type 0 where
-    pub kept : Adds (IsCandidate th budget) gs (drop i gs) [] (places_of cs)
+    pub kept : AddsKept (IsCandidate th budget) gs (drop i gs) [] (places_of cs)
     pub all : AllByRecursion (IsFound th budget) cs
 
   pub gather_start : Gathered 0 []
@@ -35,7 +35,7 @@ module _ (th : Theory) (budget : ℕ) (gs : List Place) where
 
     pub gather_one : (c : Candidate) → GivesCandidate th budget g (Some c) → Gathered (i + 1) (cs ++ c ∷ [])
     gather_one c h =
-        let Q : List Place → Type 0 = λ ps. Adds (IsCandidate th budget) gs (drop (i + 1) gs) [] ps in
+        let Q : List Place → Type 0 = λ ps. AddsKept (IsCandidate th budget) gs (drop (i + 1) gs) [] ps in
         let one : places_of (cs ++ c ∷ []) ≡ places_of cs ++ g ∷ []
         = map-append (λ (c : Candidate). c.place) cs (c ∷ []) ∙ ap (λ p. places_of cs ++ p ∷ []) h.0 in
         let is : IsCandidate th budget g = subst (IsCandidate th budget) h.0 (is_candidate th budget c h.1) in

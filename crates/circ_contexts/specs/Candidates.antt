@@ -40,7 +40,7 @@ places_at f None = []
 places_at f (Some o) = places_from f 0 o.args
 
 -- Behind the old items stand those of `whole` that have P, as far as the rest.
-pub record Adds {X : Type 0} (P : X → Type 0) (whole rest old new : List X) : Type 0 where
+pub record AddsKept {X : Type 0} (P : X → Type 0) (whole rest old new : List X) : Type 0 where
   pub added : List X
   pub items : new ≡ old ++ added
   pub kept : (ys : List X) → Keeps P rest ys → Keeps P whole (added ++ ys)

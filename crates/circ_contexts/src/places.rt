@@ -2,7 +2,7 @@
 ghost use Rattle.std.specs.Prelude.{◌≡◌, ◌↔◌, [], IsTrue, IfOk, OnOk};
 ghost use Rattle.std.specs.List.{slice_get};
 ghost use Rattle.circ_special.specs.Special.{IsPlace};
-ghost use Rattle.circ_contexts.specs.Candidates.{Adds, all_places, places_at};
+ghost use Rattle.circ_contexts.specs.Candidates.{AddsKept, all_places, places_at};
 ghost use Rattle.circ_contexts.specs.Keeps.{Keeps};
 
 use circ_special::Place;
@@ -23,7 +23,7 @@ pub(crate) fn hidden_places(alloc: Global, theory: &Theory) -> Result<Vec<Place>
 
 // Appends those of an operator.
 fn push_places(theory: &Theory, op: u32, places: &mut Vec<Place>) -> Result<(), AllocError>
-    ensures { OnOk result (Adds (IsPlace theory.now)
+    ensures { OnOk result (AddsKept (IsPlace theory.now)
         (places_at op (slice_get theory.now.signature.ops op)) [] places.old.items
         places.new.items) }
 {

@@ -6,7 +6,7 @@ use Rattle.std.proofs.lemmas.Option.{same_Some}
 use Rattle.circ_term.specs.Tree.{Tree, Var, sort_of}
 use Rattle.circ_term.specs.Substitution.{KeepsSorts}
 use Rattle.circ_term.specs.Subst.{found, substitution_of}
-use Rattle.circ_nodes.specs.Named.{Grows}
+use Rattle.circ_term.specs.Growing.{Grows}
 use Rattle.circ_nodes.proofs.Numbers.{grows_length}
 use Rattle.circ_due.specs.Bounds.{tree_at, bound_in, bounds_in, number_of, IsBound, AreBound}
 use Rattle.circ_due.specs.declared.choice.Bound.{Bound}

@@ -2,7 +2,7 @@
 use Rattle.std.proofs.Common.{◌≡◌, List, refl, sym, subst, ◌∙◌}
 use Rattle.circ_term.specs.Tree.{Tree}
 use Rattle.circ_match.specs.Matcher.{IsMatcher, Makes, has_variable}
-use Rattle.circ_nodes.specs.Named.{Grows}
+use Rattle.circ_term.specs.Growing.{Grows}
 use Rattle.circ_nodes.proofs.Numbers.{named_later}
 use Rattle.circ_rewrite.specs.Replacement.{Replacement}
 use Rattle.circ_rewrite.specs.declared.parts.Rule.{Rule}

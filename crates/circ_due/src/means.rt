@@ -3,7 +3,8 @@ ghost use Rattle.std.specs.Prelude.{◌≡◌, ◌<◌, ◌^◌, ℕ, List, [], 
 ghost use Rattle.std.specs.Prelude.{IfOk, OnErr};
 ghost use Rattle.std.specs.List.{AllByRecursion};
 ghost use Rattle.circ_term.specs.Tree.{Tree};
-ghost use Rattle.circ_nodes.specs.Named.{IsNamed, Grows, Interns};
+ghost use Rattle.circ_term.specs.Growing.{Grows};
+ghost use Rattle.circ_nodes.specs.Named.{IsNamed, Interns};
 ghost use Rattle.circ_rewrite.specs.Due.{IsRewriteRule};
 ghost use Rattle.circ_rewrite.specs.Plain.{plain_trace};
 ghost use Rattle.circ_rewrite.specs.Replacement.{Replacement, placed, traced};

@@ -13,7 +13,7 @@ use Rattle.circ_replay.specs.Table.{term_limit}
 use Rattle.circ_line.specs.Line.{TableLine, Application_line}
 use Rattle.circ_proof_text.specs.TableText.{firsts_at, term_for}
 use Rattle.circ_proof_text.specs.Checks.{is_full, is_too_large}
-use Rattle.circ_file.specs.Adding.{have_sorts, Adds}
+use Rattle.circ_file.specs.Adding.{have_sorts, AddsLine}
 use Rattle.circ_file.specs.declared.taken.Taken.TheVariants.{Limit as Over}
 
 -- the operator on these terms, where it takes their sorts
@@ -36,10 +36,10 @@ is_taken sig table f ns o e h = go (firsts_at table ns) refl h
     )
 
 module _ (sig : Signature) (ts us : List Tree) (l : TableLine) (t : Tree) (e : term_for sig ts l ≡ Some t) where
-  pub is_over : term_limit ≤ length ts → Adds sig ts l Over us
+  pub is_over : term_limit ≤ length ts → AddsLine sig ts l Over us
   is_over h = (t, e, ap (λ b. b || is_too_large (Some t)) (lt-ltb term_limit (length ts + 1) (omega (arith, h))))
 
-  pub is_large : (x : Limit) → first_limit t ≡ Some x → Adds sig ts l Over us
+  pub is_large : (x : Limit) → first_limit t ≡ Some x → AddsLine sig ts l Over us
   is_large x f = (t, e, ap (λ o. is_full term_limit (length ts) || is_some o) f ∙ go (is_full term_limit (length ts)))
     where
       go : (b : Bool) → (b || true) ≡ true

@@ -34,7 +34,7 @@ abbrev pub goal_at : List Tree → (left right : ℕ) → Option Goal
 goal_at table a b = if is_goal table a b then Some (goal_of table (a, b)) else None
 
 -- The line's term goes last; or it has none; or it has one, and passes a limit.
-abbrev pub Adds : Signature → List Tree → TableLine → Taken → List Tree → Type 0
-Adds sig ts l Yes us = (t : Tree) × (term_for sig ts l ≡ Some t) × ((is_full term_limit (length ts) || is_too_large (Some t)) ≡ false) × (us ≡ ts ++ t ∷ [])
-Adds sig ts l Line us = term_for sig ts l ≡ None
-Adds sig ts l Limit us = (t : Tree) × (term_for sig ts l ≡ Some t) × ((is_full term_limit (length ts) || is_too_large (Some t)) ≡ true)
+abbrev pub AddsLine : Signature → List Tree → TableLine → Taken → List Tree → Type 0
+AddsLine sig ts l Yes us = (t : Tree) × (term_for sig ts l ≡ Some t) × ((is_full term_limit (length ts) || is_too_large (Some t)) ≡ false) × (us ≡ ts ++ t ∷ [])
+AddsLine sig ts l Line us = term_for sig ts l ≡ None
+AddsLine sig ts l Limit us = (t : Tree) × (term_for sig ts l ≡ Some t) × ((is_full term_limit (length ts) || is_too_large (Some t)) ≡ true)

@@ -5,7 +5,7 @@ ghost use Rattle.circ_term.specs.Tree.{sort_of};
 ghost use Rattle.circ_line.specs.Line.{Variable_line, Application_line};
 ghost use Rattle.circ_line.specs.Plain.{plain_table_line};
 ghost use Rattle.circ_proof_text.specs.TableText.{first_at, firsts_at};
-ghost use Rattle.circ_file.specs.Adding.{terms_in, is_open, have_sorts, goal_at, Adds};
+ghost use Rattle.circ_file.specs.Adding.{terms_in, is_open, have_sorts, goal_at, AddsLine};
 
 use crate::checks::is_goal;
 use crate::taken::Taken;
@@ -49,7 +49,7 @@ impl ReadTable {
     /// Takes the term of a line, where the line has one that passes no limit.
     pub(crate) fn add(&mut self, theory: &Theory, line: &TableLine) -> Result<Taken, AllocError>
         requires { is_open self.old ≡ true }
-        ensures added { IfOk result (λ taken. Adds theory.now.signature (terms_in self.old)
+        ensures added { IfOk result (λ taken. AddsLine theory.now.signature (terms_in self.old)
             (plain_table_line line.now) taken (terms_in self.new)) }
         ensures state { is_open self.new ≡ true }
     {
@@ -94,7 +94,7 @@ impl ReadTable {
 }
 
 fn add_line(rows: &mut Rows, theory: &Theory, line: &TableLine) -> Result<Taken, AllocError>
-    ensures { IfOk result (λ taken. Adds theory.now.signature rows.old
+    ensures { IfOk result (λ taken. AddsLine theory.now.signature rows.old
         (plain_table_line line.now) taken rows.new) }
 {
     match line {
@@ -109,7 +109,7 @@ fn add_variable(
     number: u32,
     sort: u32,
 ) -> Result<Taken, AllocError>
-    ensures { IfOk result (λ taken. Adds theory.now.signature rows.old
+    ensures { IfOk result (λ taken. AddsLine theory.now.signature rows.old
         (Variable_line number sort) taken rows.new) }
 {
     if sort >= theory.sort_count() {
@@ -128,7 +128,7 @@ fn add_application(
     op: u32,
     args: &[u32],
 ) -> Result<Taken, AllocError>
-    ensures { IfOk result (λ taken. Adds theory.now.signature rows.old
+    ensures { IfOk result (λ taken. AddsLine theory.now.signature rows.old
         (Application_line op args.now) taken rows.new) }
 {
     theory.known();

@@ -2,7 +2,7 @@
 use circ_replay::Link;
 
 /// A line of the table. It stands for a term, and terms go by the numbers of their lines.
-#[derive(PartialEq, Eq, Hash, Drop)]
+#[derive(Drop)]
 pub enum TableLine {
     /// A variable of a sort.
     Variable { number: u32, sort: u32 },

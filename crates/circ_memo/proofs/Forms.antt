@@ -4,7 +4,7 @@ use Rattle.circ_term.specs.Tree.{Tree}
 use Rattle.circ_rewrite.specs.Replacement.{Replacement}
 use Rattle.circ_rewrite.specs.declared.fault.RewriteFault.{RewriteFault}
 use Rattle.circ_rewrite.specs.declared.fault.RewriteFault.TheVariants.{Spent, TooBig, TooDeep, Memory}
-use Rattle.circ_nodes.specs.Named.{Grows}
+use Rattle.circ_term.specs.Growing.{Grows}
 use Rattle.circ_nodes.proofs.Numbers.{named_later, are_named_later}
 use Rattle.circ_memo.proofs.Telling.{told_later}
 use Rattle.circ_memo.specs.Keeping.{IsForm, AreKept}

@@ -3,7 +3,8 @@ use Rattle.std.proofs.Common.{◌≡◌, ℕ, List, refl}
 use Rattle.std.specs.List.{slice_get}
 use Rattle.std.specs.Option.{option_map_or}
 use Rattle.circ_term.specs.Tree.{Tree, depth_of}
-use Rattle.circ_nodes.specs.Named.{IsNamed, Grows}
+use Rattle.circ_term.specs.Growing.{Grows}
+use Rattle.circ_nodes.specs.Named.{IsNamed}
 use Rattle.circ_nodes.proofs.Numbers.{grows_self, grows_more}
 use Rattle.circ_due.specs.Chosen.{due_by}
 use Rattle.circ_due.specs.declared.means.Means.{Means}

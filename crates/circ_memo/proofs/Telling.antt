@@ -5,7 +5,8 @@ use Rattle.std.proofs.lemmas.Option.{same_Some, slice_get_within}
 use Rattle.std.proofs.lemmas.Bool.{cases_lt}
 use Rattle.circ_term.specs.Tree.{Tree}
 use Rattle.circ_rewrite.specs.Replacement.{Replacement}
-use Rattle.circ_nodes.specs.Named.{IsNamed, Grows}
+use Rattle.circ_term.specs.Growing.{Grows}
+use Rattle.circ_nodes.specs.Named.{IsNamed}
 use Rattle.circ_nodes.proofs.Numbers.{named_later, are_named_later, named_one}
 use Rattle.circ_chain.proofs.Unique.{reduces_unique}
 use Rattle.circ_memo.specs.Keeping.{kept_at, HasSame, Puts, IsNumberKept, Stays, HasKeptArgs, IsWayKept, IsForm, IsNextKept, IsTold, IsKept, AreKept}

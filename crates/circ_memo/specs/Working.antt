@@ -1,5 +1,5 @@
 -- The state of a memo at work.
-use Rattle.circ_nodes.specs.Named.{Grows}
+use Rattle.circ_term.specs.Growing.{Grows}
 use Rattle.circ_due.specs.Chosen.{IsReady, due_by}
 use Rattle.circ_due.specs.declared.means.Means.{Means}
 use Rattle.circ_memo.specs.Keeping.{AreKept, Stays}

@@ -3,7 +3,8 @@ ghost use Rattle.std.specs.Prelude.{◌≡◌, ◌≤◌, ◌<◌, length};
 ghost use Rattle.circ_term.specs.Tree.{Tree};
 ghost use Rattle.circ_rewrite.specs.Standing.{HasSettledBelow};
 ghost use Rattle.circ_rewrite.specs.Plain.{rewrite_fault};
-ghost use Rattle.circ_nodes.specs.Named.{IsNamed, Grows};
+ghost use Rattle.circ_term.specs.Growing.{Grows};
+ghost use Rattle.circ_nodes.specs.Named.{IsNamed};
 ghost use Rattle.circ_due.specs.Chosen.{IsReady, due_by};
 ghost use Rattle.circ_memo.specs.Settling.{Advances};
 

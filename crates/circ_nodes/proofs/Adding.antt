@@ -6,7 +6,8 @@ use Rattle.std.proofs.lemmas.Option.{slice_get-get_or, get_or_from_slice_get}
 use Rattle.circ_term.specs.Tree.{Tree, Trees, App, none, more, args_of, list_of, trees_of, trees_of-list_of}
 use Rattle.circ_term.specs.Limits.{argument_limit}
 use Rattle.circ_term.proofs.Within.{drop_read}
-use Rattle.circ_nodes.specs.Named.{IsNamed, AreNamed, Grows}
+use Rattle.circ_term.specs.Growing.{Grows}
+use Rattle.circ_nodes.specs.Named.{IsNamed, AreNamed}
 use Rattle.circ_nodes.specs.Roots.{HasRoot, application}
 use Rattle.circ_nodes.proofs.Numbers.{grows_self, grows_more, named_later, are_named_length, all_there_named}
 

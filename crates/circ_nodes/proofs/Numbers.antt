@@ -4,7 +4,8 @@ use Rattle.std.specs.List.{slice_get, AllByRecursion}
 use Rattle.std.proofs.Common.{ap, sym, subst, ◌∙◌, arith, append_assoc, append-nil, length-append}
 use Rattle.std.proofs.lemmas.Option.{same_Some, slice_get_within}
 use Rattle.circ_term.specs.Tree.{Tree, Trees, none, more, list_of, trees_of, trees_of-list_of}
-use Rattle.circ_nodes.specs.Named.{IsNamed, AreNamed, Grows}
+use Rattle.circ_term.specs.Growing.{Grows}
+use Rattle.circ_nodes.specs.Named.{IsNamed, AreNamed}
 use Rattle.circ_nodes.proofs.Places.{get_there}
 
 -- how terms are added

@@ -4,7 +4,7 @@ use Rattle.std.specs.List.{slice_get}
 use Rattle.std.proofs.Common.{ap, subst, ◌∙◌, get_or, ◌⊎◌, inl, inr}
 use Rattle.std.proofs.lemmas.Option.{slice_get_read}
 use Rattle.circ_term.specs.Tree.{Tree, App, trees_of, list_of-trees_of, walk}
-use Rattle.circ_nodes.specs.Named.{IsNamed, Enters, Adds, IsPart, IsPartOfSome}
+use Rattle.circ_nodes.specs.Named.{IsNamed, Enters, AddsOnly, IsPart, IsPartOfSome}
 use Rattle.circ_nodes.proofs.Places.{get_last}
 
 -- a new term comes last
@@ -13,24 +13,24 @@ pub enters_put : {E : Type 0} (r : Result ℕ E) (old new : List Tree) (t u : Tr
 enters_put (Ok n) old new t u same fresh e = inr (fresh, e ∙ ap (λ x. old ++ x ∷ []) same)
 enters_put (Err x) old new t u same fresh e = tt
 
-pub adds_same : (P : Tree → Type 0) (old new : List Tree) → new ≡ old → Adds P old new
+pub adds_same : (P : Tree → Type 0) (old new : List Tree) → new ≡ old → AddsOnly P old new
 adds_same P old new e = λ n t h. inl (subst (λ ts. IsNamed ts n t) e h)
 
-pub adds_more : (P : Tree → Type 0) (a b c : List Tree) → Adds P a b → Adds P b c → Adds P a c
+pub adds_more : (P : Tree → Type 0) (a b c : List Tree) → AddsOnly P a b → AddsOnly P b c → AddsOnly P a c
 adds_more P a b c g h = λ n t k. go n t (h n t k)
   where
     go : (n : ℕ) (t : Tree) → IsNamed b n t ⊎ P t → IsNamed a n t ⊎ P t
     go n t (inl k) = g n t k
     go n t (inr p) = inr p
 
-pub adds_wider : (P Q : Tree → Type 0) (old new : List Tree) → ((t : Tree) → P t → Q t) → Adds P old new → Adds Q old new
+pub adds_wider : (P Q : Tree → Type 0) (old new : List Tree) → ((t : Tree) → P t → Q t) → AddsOnly P old new → AddsOnly Q old new
 adds_wider P Q old new f h = λ n t k. go n t (h n t k)
   where
     go : (n : ℕ) (t : Tree) → IsNamed old n t ⊎ P t → IsNamed old n t ⊎ Q t
     go n t (inl k) = inl k
     go n t (inr p) = inr (f t p)
 
-adds_entered : (P : Tree → Type 0) (old new : List Tree) (t : Tree) → P t → Enters old new t → Adds P old new
+adds_entered : (P : Tree → Type 0) (old new : List Tree) (t : Tree) → P t → Enters old new t → AddsOnly P old new
 adds_entered P old new t p (inl h) = adds_same P old new h.2
 adds_entered P old new t p (inr h) = λ n u k. go n u (get_last old t u n (subst (λ ts. IsNamed ts n u) h.1 k))
   where
@@ -42,7 +42,7 @@ part_self : (t : Tree) → IsPart t t
 part_self t = ([], refl)
 
 -- a term is entered, or nothing is
-pub adds_itself : {E : Type 0} (r : Result ℕ E) (old new : List Tree) (t : Tree) → OnOk r (Enters old new t) → OnErr r (new ≡ old) → Adds (IsPart t) old new
+pub adds_itself : {E : Type 0} (r : Result ℕ E) (old new : List Tree) (t : Tree) → OnOk r (Enters old new t) → OnErr r (new ≡ old) → AddsOnly (IsPart t) old new
 adds_itself (Ok n) old new t h e = adds_entered (IsPart t) old new t (part_self t) h
 adds_itself (Err x) old new t h e = adds_same (IsPart t) old new e
 
@@ -51,11 +51,11 @@ part_up : (f s : ℕ) (ts : List Tree) (u : Tree) → IsPartOfSome ts u → IsPa
 part_up f s ts u h =
     (h.0 ∷ h.3.0, ap (λ xs. walk (slice_get xs h.0) h.3.0) (list_of-trees_of ts) ∙ ap (λ o. walk o h.3.0) h.2 ∙ h.3.1)
 
-pub adds_args : (old new : List Tree) (f s : ℕ) (ts : List Tree) (t : Tree) → App f s (trees_of ts) ≡ t → Adds (IsPartOfSome ts) old new → Adds (IsPart t) old new
+pub adds_args : (old new : List Tree) (f s : ℕ) (ts : List Tree) (t : Tree) → App f s (trees_of ts) ≡ t → AddsOnly (IsPartOfSome ts) old new → AddsOnly (IsPart t) old new
 adds_args old new f s ts t is h =
     adds_wider (IsPartOfSome ts) (IsPart t) old new (λ u p. subst (λ x. IsPart x u) is (part_up f s ts u p)) h
 
 -- the parts of one of the terms
-pub adds_one : (old new ts : List Tree) (i : ℕ) (t : Tree) → i < length ts → t ≡ get_or ts i t → Adds (IsPart t) old new → Adds (IsPartOfSome ts) old new
+pub adds_one : (old new ts : List Tree) (i : ℕ) (t : Tree) → i < length ts → t ≡ get_or ts i t → AddsOnly (IsPart t) old new → AddsOnly (IsPartOfSome ts) old new
 adds_one old new ts i t within read h =
     adds_wider (IsPart t) (IsPartOfSome ts) old new (λ u p. (i, t, slice_get_read ts (length ts) i t refl within read, p)) h

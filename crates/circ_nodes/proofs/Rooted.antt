@@ -7,7 +7,8 @@ use Rattle.circ_term.specs.Tree.{Tree, Trees, Var, App, none, more, args_of}
 use Rattle.circ_term.specs.Limits.{argument_limit}
 use Rattle.circ_nodes.specs.declared.nodes.Root.{Root}
 use Rattle.circ_nodes.specs.contracts.nodes.RootPartialEq.TheImpl.{eq-value}
-use Rattle.circ_nodes.specs.Named.{IsNamed, AreNamed, Grows, IsOnce}
+use Rattle.circ_term.specs.Growing.{Grows}
+use Rattle.circ_nodes.specs.Named.{IsNamed, AreNamed, IsOnce}
 use Rattle.circ_nodes.specs.Roots.{PlainRoot, variable, application, plain_root, HasRoot, Finds, IsKept}
 use Rattle.circ_nodes.proofs.Numbers.{named_below, there_named, are_named_one, are_named_length, are_named_later}
 use Rattle.circ_nodes.proofs.Places.{get_there, any_at, any_place, position_place, get_last}

@@ -18,17 +18,13 @@ AreNamed nodes [] (more t ts) = ⊥
 AreNamed nodes (n ∷ ns) none = ⊥
 AreNamed nodes (n ∷ ns) (more t ts) = IsNamed nodes n t × AreNamed nodes ns ts
 
--- terms were added, and the numbers of the others stay
-abbrev pub Grows : (old new : List Tree) → Type 0
-Grows old new = (rest : List Tree) × (new ≡ old ++ rest)
-
 -- t was entered and nothing else: the terms are those of before where it has a number there, and else it comes last
 abbrev pub Enters : (old new : List Tree) → Tree → Type 0
 Enters old new t = ((n : ℕ) × IsNamed old n t × (new ≡ old)) ⊎ (((n : ℕ) → IsNamed old n t → ⊥) × (new ≡ old ++ t ∷ []))
 
 -- each term that was added is such
-abbrev pub Adds : (Tree → Type 0) → (old new : List Tree) → Type 0
-Adds P old new = (n : ℕ) (t : Tree) → IsNamed new n t → IsNamed old n t ⊎ P t
+abbrev pub AddsOnly : (Tree → Type 0) → (old new : List Tree) → Type 0
+AddsOnly P old new = (n : ℕ) (t : Tree) → IsNamed new n t → IsNamed old n t ⊎ P t
 
 -- u stands in t at some path
 abbrev pub IsPart : (t u : Tree) → Type 0

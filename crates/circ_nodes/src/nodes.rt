@@ -4,8 +4,9 @@ ghost use Rattle.std.specs.Prelude.{◌++◌, ◌∷◌, None, IfOk, OnOk, OnErr
 ghost use Rattle.std.specs.List.{AllByRecursion};
 ghost use Rattle.circ_term.specs.Tree.{Tree, Trees, Var, App, args_of, trees_of};
 ghost use Rattle.circ_term.specs.Limits.{Builds};
-ghost use Rattle.circ_nodes.specs.Named.{IsNamed, AreNamed, Grows, IsOnce, HasShape, Interns};
-ghost use Rattle.circ_nodes.specs.Named.{Enters, Adds, IsPart, IsPartOfSome};
+ghost use Rattle.circ_term.specs.Growing.{Grows};
+ghost use Rattle.circ_nodes.specs.Named.{IsNamed, AreNamed, IsOnce, HasShape, Interns};
+ghost use Rattle.circ_nodes.specs.Named.{Enters, AddsOnly, IsPart, IsPartOfSome};
 ghost use Rattle.circ_nodes.specs.Roots.{HasRoot, Finds, plain_root};
 
 use crate::Numbers;
@@ -153,7 +154,7 @@ impl Nodes {
     #[cycle(intern)]
     pub fn intern(&mut self, term: &Term) -> Result<u32, AllocError>
         ensures grows { Grows self.old self.new }
-        ensures parts { Adds (IsPart term.now) self.old self.new }
+        ensures parts { AddsOnly (IsPart term.now) self.old self.new }
         ensures named { IfOk result (λ n. IsNamed self.new n term.now) }
     {
         match term.kind() {
@@ -168,7 +169,7 @@ impl Nodes {
     #[cycle(intern)]
     fn intern_all(&mut self, terms: &[Term]) -> Result<Numbers, AllocError>
         ensures grows { Grows self.old self.new }
-        ensures parts { Adds (IsPartOfSome terms.now) self.old self.new }
+        ensures parts { AddsOnly (IsPartOfSome terms.now) self.old self.new }
         ensures named { IfOk result (λ ns. AreNamed self.new ns.items (trees_of terms.now)) }
     {
         let mut numbers = Numbers::with_capacity(self.alloc, terms.len())?;

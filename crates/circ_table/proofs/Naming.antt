@@ -7,7 +7,8 @@ use Rattle.std.proofs.lemmas.Option.{same_Some}
 use Rattle.circ_term.specs.Tree.{Tree, args_of}
 use Rattle.circ_term.proofs.Within.{drop_read}
 use Rattle.circ_table.specs.declared.named.TheConstants.{ABSENT}
-use Rattle.circ_table.specs.Table.{firsts_at, IsIn, AreIn, Grows}
+use Rattle.circ_term.specs.Growing.{Grows}
+use Rattle.circ_table.specs.Table.{firsts_at, IsIn, AreIn}
 use Rattle.circ_table.specs.Placed.{IsPlaced, ArePlacesOf, ArePlaced}
 use Rattle.circ_table.proofs.Firsts.{get_front, get_seam, get_put, get_other, get_pushed, firsts_next, first_parts}
 

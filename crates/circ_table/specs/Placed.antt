@@ -1,6 +1,5 @@
 -- The terms that were asked for, and their places.
-use Rattle.std.specs.Prelude.{◌≡◌, ℕ, ◌<◌, ◌^◌, List, length, Some}
-use Rattle.std.proofs.Common.{◌⊎◌}
+use Rattle.std.specs.Prelude.{◌≡◌, ◌⊎◌, ℕ, ◌<◌, ◌^◌, List, length, Some}
 use Rattle.std.specs.List.{slice_get}
 use Rattle.circ_term.specs.Tree.{Tree}
 use Rattle.circ_table.specs.Table.{AreIn}

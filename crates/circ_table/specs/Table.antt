@@ -16,17 +16,13 @@ firsts_at table [] = Some []
 firsts_at table (n ∷ ns) = option_and_then (λ t. option_map (λ ts. t ∷ ts) (firsts_at table ns)) (first_at table n)
 
 -- What a call answers that adds the term: it goes last, where it is within the limits. Else the table is as before.
-abbrev pub Adds : {U : Type 0} → (old new : List Tree) → Tree → Result U TermFault → Type 0
-Adds old new t (Ok u) = (new ≡ old ++ t ∷ []) × IsWithinLimits t
-Adds old new t (Err e) = (new ≡ old) × Names e (first_limit t)
+abbrev pub AddsRow : {U : Type 0} → (old new : List Tree) → Tree → Result U TermFault → Type 0
+AddsRow old new t (Ok u) = (new ≡ old ++ t ∷ []) × IsWithinLimits t
+AddsRow old new t (Err e) = (new ≡ old) × Names e (first_limit t)
 
 -- the term has a number in the table
 abbrev pub IsIn : (table : List Tree) → Tree → Type 0
 IsIn table t = (n : ℕ) × (slice_get table n ≡ Some t)
-
--- terms were added behind the others
-abbrev pub Grows : (old new : List Tree) → Type 0
-Grows old new = (rest : List Tree) × (new ≡ old ++ rest)
 
 -- each of these terms has a number in the table
 abbrev pub AreIn : (table terms : List Tree) → Type 0

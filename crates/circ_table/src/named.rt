@@ -4,7 +4,8 @@ ghost use Rattle.std.specs.Prelude.{Some, IfOk, OnOk, OnErr};
 ghost use Rattle.std.specs.List.{slice_get};
 ghost use Rattle.std.specs.Option.{IfSome};
 ghost use Rattle.circ_term.specs.Tree.{Tree};
-ghost use Rattle.circ_table.specs.Table.{Grows, AreIn};
+ghost use Rattle.circ_term.specs.Growing.{Grows};
+ghost use Rattle.circ_table.specs.Table.{AreIn};
 ghost use Rattle.circ_table.specs.Placed.{ArePlacesOf};
 
 use crate::table::Table;

@@ -6,7 +6,7 @@ ghost use Rattle.std.specs.Option.{option_map};
 ghost use Rattle.circ_term.specs.Tree.{Tree, Var, App, trees_of, sort_of, sizes_of, depths_of};
 ghost use Rattle.circ_term.specs.Limits.{node_limit, depth_limit, first_limits};
 ghost use Rattle.circ_replay.specs.Table.{term_limit};
-ghost use Rattle.circ_table.specs.Table.{first_at, firsts_at, Adds};
+ghost use Rattle.circ_table.specs.Table.{first_at, firsts_at, AddsRow};
 ghost use Rattle.circ_table.specs.Lines.{plain, tree_at, IsNode};
 
 use crate::lines::{Lines, Root, Row};
@@ -103,7 +103,7 @@ impl Rows {
         requires few { length args.now ≤ MOST_ARGS }
         requires firsts { (ts : List Tree) × (firsts_at self.old args.now ≡ Some ts) }
         ensures { (ts : List Tree) → firsts_at self.old args.now ≡ Some ts →
-            Adds self.old self.new (App op sort (trees_of ts)) result }
+            AddsRow self.old self.new (App op sort (trees_of ts)) result }
     {
         let (sizes, depths) = self.measure(args);
         let nodes = sizes + 1;

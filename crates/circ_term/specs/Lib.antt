@@ -8,3 +8,4 @@ pub mod Kind
 pub mod Subst
 pub mod Bindings
 pub mod Order
+pub mod Growing

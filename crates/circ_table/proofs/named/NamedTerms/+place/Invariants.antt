@@ -1,5 +1,5 @@
 use Rattle.std.proofs.Common.{◌≡◌, drop}
-use Rattle.circ_table.specs.Table.{Grows}
+use Rattle.circ_term.specs.Growing.{Grows}
 use Rattle.circ_table.proofs.Naming.{Gathered}
 use Rattle.circ_table.proofs.named.NamedTerms.+place.Given as goal
 
