@@ -29,7 +29,7 @@ _circ() {
     case $command:$place in
       *:0) COMPREPLY=($(compgen -f -X '!*.circ' -- "$word") $(compgen -d -- "$word")) ;;
       check:1 | relation:1 | prove:2) COMPREPLY=($(compgen -f -X '!*.proof' -- "$word") $(compgen -d -- "$word")) ;;
-      prove:1 | reduce:1) COMPREPLY=($(compgen -f -X '!*.script' -- "$word") $(compgen -d -- "$word")) ;;
+      prove:1 | reduce:1) COMPREPLY=($(compgen -f -X '!*.script' -- "$word") $(compgen -f -X '!*.goals' -- "$word") $(compgen -d -- "$word")) ;;
     esac
   fi
 }
