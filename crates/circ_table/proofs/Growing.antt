@@ -1,11 +1,12 @@
 -- The root of a term that is added, and the limit that it passes.
-use Rattle.std.specs.Prelude.{◌≡◌, ℕ, ◌+◌, ◌≤◌, ◌<◌, false, List, [], length, unwrap_or, Some, None}
+use Rattle.std.specs.Prelude.{◌≡◌, ℕ, ◌+◌, ◌≤◌, ◌<◌, List, [], length, unwrap_or, Some, None}
 use Rattle.std.proofs.Common.{ap, sym, subst, ◌∙◌, arith}
 use Rattle.std.proofs.lemmas.Grind.{common_steps}
 use Rattle.circ_term.specs.Tree.{Tree, App, trees_of, list_of-trees_of, args_of, size_of, depth_of, sizes_of, depths_of}
 use Rattle.circ_term.specs.Limits.{argument_limit, node_limit, depth_limit, Big, Deep, limit_at, or_else, first_limit, first_limits, IsWithinLimits}
 use Rattle.circ_term.proofs.Limits.{limit_at_none}
 use Rattle.circ_table.specs.Table.{firsts_at}
+use Rattle.circ_table.specs.declared.lines.Kind.TheVariants as kinds
 use Rattle.circ_table.specs.Lines.{PlainRoot, tree_at, IsNode}
 
 limit_at_big : (m d : ℕ) → node_limit < m → limit_at m d ≡ Some (Big m)
@@ -30,7 +31,7 @@ module _ (f s : ℕ) (ts : List Tree) (nodes depth : ℕ) (within : first_limits
   app_within h k = limit_own ∙ limit_at_none nodes depth h k
 
 abbrev pub app_root : (f s : ℕ) → List ℕ → PlainRoot
-app_root f s ns = record { is_variable = false; name = f; sort = s; args = ns }
+app_root f s ns = record { kind = kinds.Application; name = f; sort = s; args = ns }
 
 pub app_tree : (table : List Tree) (f s : ℕ) (ns : List ℕ) (ts : List Tree) → firsts_at table ns ≡ Some ts → tree_at table (app_root f s ns) ≡ App f s (trees_of ts)
 app_tree table f s ns ts e = ap (λ o. App f s (trees_of (unwrap_or o []))) e

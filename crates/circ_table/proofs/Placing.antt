@@ -10,6 +10,8 @@ use Rattle.circ_term.specs.Tree.{Tree, args_of, size_of, sort_of}
 use Rattle.circ_term.specs.Limits.{argument_limit, IsWithinLimits}
 use Rattle.circ_replay.specs.Table.{has, number_in}
 use Rattle.circ_replay.proofs.Tables.{number_names, number_stays, number_last}
+use Rattle.circ_table.specs.declared.lines.Kind.{Kind}
+use Rattle.circ_table.specs.declared.lines.Kind.TheVariants as kinds
 use Rattle.circ_table.specs.declared.lines.Row.{Row}
 use Rattle.circ_table.specs.Table.{first_at, firsts_at}
 use Rattle.circ_table.specs.Lines.{PlainRoot, node_of, tree_at, IsThere, row_root, trees_from, roots_from, begin_of, IsNode, AreRowsFrom}
@@ -26,7 +28,7 @@ slice_longer args extra s e a b =
     ap (take (e - s)) (drop-append-le s args extra (omega arith)) ∙ take-append-le (e - s) (drop s args) extra (let d = length-drop s args in omega arith)
 
 abbrev pub with_args : Row → List ℕ → PlainRoot
-with_args r ns = record { is_variable = r.is_variable; name = r.name; sort = r.sort; args = ns }
+with_args r ns = record { kind = r.kind; name = r.name; sort = r.sort; args = ns }
 
 pub root_longer : (args extra : List ℕ) (start : ℕ) (r : Row) → start ≤ r.end → r.end ≤ length args → row_root (args ++ extra) start r ≡ row_root args start r
 root_longer args extra start r a b = ap (with_args r) (slice_longer args extra start r.end a b)
@@ -160,37 +162,37 @@ pub there_later : (table rest : List Tree) (p : PlainRoot) → IsThere table p �
 there_later table rest p h = firsts_later table rest p.args (args_of (tree_at table p)) h ∙ sym h
 
 pub tree_later : (table rest : List Tree) (p : PlainRoot) → IsThere table p → tree_at (table ++ rest) p ≡ tree_at table p
-tree_later table rest p h = ap (λ o. node_of p.is_variable p.name p.sort (unwrap_or o [])) (there_later table rest p h)
+tree_later table rest p h = ap (λ o. node_of p.kind p.name p.sort (unwrap_or o [])) (there_later table rest p h)
 
 pub is_there_later : (table rest : List Tree) (p : PlainRoot) → IsThere table p → IsThere (table ++ rest) p
 is_there_later table rest p h = there_later table rest p h ∙ h ∙ ap (λ t. Some (args_of t)) (sym (tree_later table rest p h))
 
-node_parts : (b c : Bool) (n m s k : ℕ) (ts us : List Tree) → node_of b n s ts ≡ node_of c m k us → (b ≡ c) × (n ≡ m) × (s ≡ k)
-node_parts true true n m s k ts us e = (refl, cc, cc)
-node_parts true false n m s k ts us e = absurd (cc)
-node_parts false true n m s k ts us e = absurd (cc)
-node_parts false false n m s k ts us e = (refl, cc, cc)
+node_parts : (b c : Kind) (n m s k : ℕ) (ts us : List Tree) → node_of b n s ts ≡ node_of c m k us → (b ≡ c) × (n ≡ m) × (s ≡ k)
+node_parts kinds.Variable kinds.Variable n m s k ts us e = (refl, cc, cc)
+node_parts kinds.Variable kinds.Application n m s k ts us e = absurd (cc)
+node_parts kinds.Application kinds.Variable n m s k ts us e = absurd (cc)
+node_parts kinds.Application kinds.Application n m s k ts us e = (refl, cc, cc)
 
-same_roots : (b c : Bool) (n m s k : ℕ) (ns ms : List ℕ) → b ≡ c → n ≡ m → s ≡ k → ns ≡ ms
-    → ◌≡◌ {A = PlainRoot} (record { is_variable = b; name = n; sort = s; args = ns }) (record { is_variable = c; name = m; sort = k; args = ms })
+same_roots : (b c : Kind) (n m s k : ℕ) (ns ms : List ℕ) → b ≡ c → n ≡ m → s ≡ k → ns ≡ ms
+    → ◌≡◌ {A = PlainRoot} (record { kind = b; name = n; sort = s; args = ns }) (record { kind = c; name = m; sort = k; args = ms })
 same_roots b c n m s k ns ms e f g h =
-    let a1 = ap {B = PlainRoot} (λ (x : Bool). record { is_variable = x; name = n; sort = s; args = ns }) e in
-    let a2 = ap {B = PlainRoot} (λ (x : ℕ). record { is_variable = c; name = x; sort = s; args = ns }) f in
-    let a3 = ap {B = PlainRoot} (λ (x : ℕ). record { is_variable = c; name = m; sort = x; args = ns }) g in
-    let a4 = ap {B = PlainRoot} (λ (x : List ℕ). record { is_variable = c; name = m; sort = k; args = x }) h in a1 ∙ a2 ∙ a3 ∙ a4
+    let a1 = ap {B = PlainRoot} (λ (x : Kind). record { kind = x; name = n; sort = s; args = ns }) e in
+    let a2 = ap {B = PlainRoot} (λ (x : ℕ). record { kind = c; name = x; sort = s; args = ns }) f in
+    let a3 = ap {B = PlainRoot} (λ (x : ℕ). record { kind = c; name = m; sort = x; args = ns }) g in
+    let a4 = ap {B = PlainRoot} (λ (x : List ℕ). record { kind = c; name = m; sort = k; args = x }) h in a1 ∙ a2 ∙ a3 ∙ a4
 
 -- a term has one root
 pub roots_once : (table : List Tree) (p q : PlainRoot) → IsThere table p → IsThere table q → tree_at table p ≡ tree_at table q → p ≡ q
 roots_once table p q g h e =
     let args = firsts_once table p.args q.args (args_of (tree_at table q)) (g ∙ ap (λ t. Some (args_of t)) e) h in
-    let parts = node_parts p.is_variable q.is_variable p.name q.name p.sort q.sort (unwrap_or (firsts_at table p.args) []) (unwrap_or (firsts_at table q.args) []) e in
-    same_roots p.is_variable q.is_variable p.name q.name p.sort q.sort p.args q.args parts.0 parts.1 parts.2 args
+    let parts = node_parts p.kind q.kind p.name q.name p.sort q.sort (unwrap_or (firsts_at table p.args) []) (unwrap_or (firsts_at table q.args) []) e in
+    same_roots p.kind q.kind p.name q.name p.sort q.sort p.args q.args parts.0 parts.1 parts.2 args
 
 -- ---- what a row says of its tree
 
-node_sort : (b : Bool) (n s : ℕ) (ts : List Tree) → sort_of (node_of b n s ts) ≡ s
-node_sort true n s ts = refl
-node_sort false n s ts = refl
+node_sort : (b : Kind) (n s : ℕ) (ts : List Tree) → sort_of (node_of b n s ts) ≡ s
+node_sort kinds.Variable n s ts = refl
+node_sort kinds.Application n s ts = refl
 
 module _ {table : List Tree} {n : ℕ} {r : Row} {p : PlainRoot} (k : Stands table n r p) where
   abbrev pub own : Tree
@@ -217,10 +219,10 @@ module _ {table : List Tree} {n : ℕ} {r : Row} {p : PlainRoot} (k : Stands tab
   own_before = let P : ℕ → Type 0 = λ l. AllByRecursion (λ m. m < l) p.args in subst P k.place (firsts_below k.front p.args (args_of own) k.node.there)
 
   pub own_sort : sort_of own ≡ r.sort
-  own_sort = node_sort p.is_variable p.name p.sort (unwrap_or (firsts_at k.front p.args) []) ∙ k.name
+  own_sort = node_sort p.kind p.name p.sort (unwrap_or (firsts_at k.front p.args) []) ∙ k.name
 
-  pub own_node : own ≡ node_of p.is_variable p.name p.sort (args_of own)
-  own_node = ap (λ o. node_of p.is_variable p.name p.sort (unwrap_or o [])) k.node.there
+  pub own_node : own ≡ node_of p.kind p.name p.sort (args_of own)
+  own_node = ap (λ o. node_of p.kind p.name p.sort (unwrap_or o [])) k.node.there
 
   pub own_few : length (args_of own) ≤ argument_limit
   own_few = let l = firsts_length k.front p.args (args_of own) k.node.there in omega (arith, l, k.node.few)

@@ -1,30 +1,32 @@
 -- How a table lies in memory, and the trees that it is.
-use Rattle.std.specs.Prelude.{◌≡◌, ℕ, zero, suc, ◌-◌, ◌≤◌, Bool, true, false, not, List, [], ◌∷◌, ◌++◌, length, take, drop, unwrap_or, slice_index_or, Some}
+use Rattle.std.specs.Prelude.{◌≡◌, ℕ, zero, suc, ◌-◌, ◌≤◌, not, List, [], ◌∷◌, ◌++◌, length, take, drop, unwrap_or, slice_index_or, Some}
 use Rattle.circ_term.specs.Tree.{Tree, Var, App, trees_of, args_of, size_of, depth_of}
 use Rattle.circ_term.specs.Limits.{argument_limit, IsWithinLimits}
 use Rattle.circ_replay.specs.Table.{has}
 use Rattle.circ_table.specs.Table.{firsts_at}
+use Rattle.circ_table.specs.declared.lines.Kind.{Kind}
+use Rattle.circ_table.specs.declared.lines.Kind.TheVariants as kinds
 use Rattle.circ_table.specs.declared.lines.Root.{Root}
 use Rattle.circ_table.specs.declared.lines.Row.{Row}
 use Rattle.circ_table.specs.declared.lines.Lines.{Lines}
 
--- a root as plain data: a variable's number or an operator, the sort, the numbers of the arguments
+-- a root as plain data: what it is, a variable's number or an operator, the sort, the numbers of the arguments
 pub record PlainRoot : Type 0 where
-  pub is_variable : Bool
+  pub kind : Kind
   pub name : ℕ
   pub sort : ℕ
   pub args : List ℕ
 
 abbrev pub plain : Root → PlainRoot
-plain r = record { is_variable = r.is_variable; name = r.name; sort = r.sort; args = r.args.now }
+plain r = record { kind = r.kind; name = r.name; sort = r.sort; args = r.args.now }
 
-abbrev pub node_of : Bool → (name sort : ℕ) → List Tree → Tree
-node_of true n s ts = Var n s
-node_of false f s ts = App f s (trees_of ts)
+abbrev pub node_of : Kind → (name sort : ℕ) → List Tree → Tree
+node_of kinds.Variable n s ts = Var n s
+node_of kinds.Application f s ts = App f s (trees_of ts)
 
 -- the tree with this root, in a table that has its arguments
 abbrev pub tree_at : List Tree → PlainRoot → Tree
-tree_at table p = node_of p.is_variable p.name p.sort (unwrap_or (firsts_at table p.args) [])
+tree_at table p = node_of p.kind p.name p.sort (unwrap_or (firsts_at table p.args) [])
 
 -- the arguments are there, each by its least number
 abbrev pub IsThere : List Tree → PlainRoot → Type 0
@@ -32,7 +34,7 @@ IsThere table p = firsts_at table p.args ≡ Some (args_of (tree_at table p))
 
 -- the root of a row whose arguments begin at `start`
 abbrev pub row_root : (args : List ℕ) (start : ℕ) → Row → PlainRoot
-row_root args start r = record { is_variable = r.is_variable; name = r.name; sort = r.sort; args = take (r.end - start) (drop start args) }
+row_root args start r = record { kind = r.kind; name = r.name; sort = r.sort; args = take (r.end - start) (drop start args) }
 
 -- the table with these rows behind its terms
 abbrev pub trees_from : (args : List ℕ) → List Tree → (start : ℕ) → List Row → List Tree

@@ -10,11 +10,18 @@ ghost use Rattle.circ_table.specs.Lines.{AreLines, plain, trees, roots, begin_of
 use circ_term::Term;
 use std::alloc::{AllocError, Global};
 
+// What a term is.
+#[derive(Clone, Copy, PartialEq, Eq)]
+pub(crate) enum Kind {
+    Variable,
+    Application,
+}
+
 // A term's root, with the numbers of its arguments.
 #[derive(Clone, Copy)]
 pub(crate) struct Root<'a> {
-    pub is_variable: bool,
-    // A variable's number, or an operator.
+    pub kind: Kind,
+    // Of a variable its number, of an application its operator.
     pub name: u32,
     pub sort: u32,
     pub args: &'a [u32],
@@ -28,7 +35,7 @@ pub(crate) struct Row {
     pub end: u32,
     pub size: u32,
     pub depth: u16,
-    pub is_variable: bool,
+    pub kind: Kind,
     // Whether no term before it is the same.
     pub is_first: bool,
 }
@@ -60,7 +67,7 @@ impl Lines {
         let start = self.begin(place);
         let row = &self.rows[place];
         Root {
-            is_variable: row.is_variable,
+            kind: row.kind,
             name: row.name,
             sort: row.sort,
             args: part(self.args.as_slice(), start, row.end),
@@ -116,12 +123,12 @@ impl Lines {
         ensures { IfOk result (λ t. slice_get (trees self.now) place ≡ Some t) }
     {
         let root = self.root(place);
-        if root.is_variable {
-            return Ok(Term::var(root.name, root.sort));
-        }
-        match Term::app(alloc, root.name, root.sort, args) {
-            Ok(term) => Ok(term),
-            Err(_) => Err(AllocError),
+        match root.kind {
+            Kind::Variable => Ok(Term::var(root.name, root.sort)),
+            Kind::Application => match Term::app(alloc, root.name, root.sort, args) {
+                Ok(term) => Ok(term),
+                Err(_) => Err(AllocError),
+            },
         }
     }
 

@@ -127,7 +127,7 @@ fn is_here(lines: &Lines, place: usize, root: Root<'_>, size: u32) -> bool
 fn same(a: Root<'_>, b: Root<'_>) -> bool
     ensures { IsTrue result ↔ (plain a.entry ≡ plain b.entry) }
 {
-    if a.is_variable != b.is_variable || a.name != b.name || a.sort != b.sort {
+    if a.kind != b.kind || a.name != b.name || a.sort != b.sort {
         return false;
     }
     a.args == b.args

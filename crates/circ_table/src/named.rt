@@ -16,9 +16,10 @@ use std::marker::Model;
 // The place of a term that was not asked for. So there are fewer terms than that.
 const ABSENT: u32 = 4_294_967_295;
 
-/// The terms of a table that were asked for, each once and with its subterms. So a table costs only
-/// as many built terms as are named, and 4 bytes for each number up to the greatest of them. A call
-/// that would build more than 4,294,967,295 answers want of memory.
+/// The terms of a table that were asked for by their numbers, with their subterms. A term that the
+/// table names twice may be there twice. So a table costs only as many built terms as are named, and
+/// 4 bytes for each number up to the greatest of them. A call that would build more than
+/// 4,294,967,295 answers want of memory.
 #[derive(Drop)]
 pub struct NamedTerms {
     alloc: Global,
@@ -74,8 +75,8 @@ impl NamedTerms {
         self.terms.as_slice()
     }
 
-    /// The place of a number's term among those that were asked for. Where it is not there, it
-    /// joins them, behind its subterms. It calls itself as deep as the term is.
+    /// The place of a number's term among those that were asked for. Where this number was not
+    /// asked for, its term joins them, behind its subterms. It calls itself as deep as the term is.
     pub fn place(&mut self, number: u32) -> Result<u32, AllocError>
         requires { number < length self.old.0 }
         ensures table { self.new.0 ≡ self.old.0 }

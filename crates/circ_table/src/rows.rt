@@ -4,15 +4,15 @@ ghost use Rattle.std.specs.Prelude.{[], List, length, Some, None};
 ghost use Rattle.std.specs.Prelude.{IfOk, OnOk, OnErr};
 ghost use Rattle.std.specs.Option.{option_map};
 ghost use Rattle.circ_term.specs.Tree.{Tree, Var, App, trees_of, sort_of, sizes_of, depths_of};
-ghost use Rattle.circ_term.specs.Limits.{node_limit, depth_limit, first_limits};
+ghost use Rattle.circ_term.specs.Limits.{argument_limit, node_limit, depth_limit, first_limits};
 ghost use Rattle.circ_replay.specs.Table.{term_limit};
 ghost use Rattle.circ_table.specs.Table.{first_at, firsts_at, AddsRow};
 ghost use Rattle.circ_table.specs.Lines.{plain, tree_at, IsNode};
 
-use crate::lines::{Lines, Root, Row};
+use crate::lines::{Kind, Lines, Root, Row};
 use crate::links::Links;
 use crate::table::Table;
-use circ_term::{MOST_ARGS, MOST_DEPTH, MOST_NODES, TermFault};
+use circ_term::{MOST_DEPTH, MOST_NODES, TermFault};
 use std::alloc::{AllocError, Global};
 use std::marker::Model;
 
@@ -87,7 +87,7 @@ impl Rows {
         ensures err { OnErr result (self.new ≡ self.old) }
     {
         let root = Root {
-            is_variable: true,
+            kind: Kind::Variable,
             name: number,
             sort,
             args: &[],
@@ -100,7 +100,7 @@ impl Rows {
     /// much as there are arguments, if hashes spread well.
     pub fn add_application(&mut self, op: u32, sort: u32, args: &[u32]) -> Result<(), TermFault>
         requires room { length self.old < term_limit }
-        requires few { length args.now ≤ MOST_ARGS }
+        requires few { length args.now ≤ argument_limit }
         requires firsts { (ts : List Tree) × (firsts_at self.old args.now ≡ Some ts) }
         ensures { (ts : List Tree) → firsts_at self.old args.now ≡ Some ts →
             AddsRow self.old self.new (App op sort (trees_of ts)) result }
@@ -115,7 +115,7 @@ impl Rows {
             return Err(TermFault::TooDeep { depth });
         }
         let root = Root {
-            is_variable: false,
+            kind: Kind::Application,
             name: op,
             sort,
             args,
@@ -135,7 +135,7 @@ impl Rows {
 
     // The nodes of the terms of these numbers together, and the depth of the deepest.
     fn measure(&self, args: &[u32]) -> (u64, u16)
-        requires few { length args.now ≤ MOST_ARGS }
+        requires few { length args.now ≤ argument_limit }
         requires firsts { (ts : List Tree) × (firsts_at self.now args.now ≡ Some ts) }
         ensures sizes { (ts : List Tree) → firsts_at self.now args.now ≡ Some ts
             → result.0 ≡ sizes_of (trees_of ts) }
@@ -143,7 +143,7 @@ impl Rows {
             → result.1 ≡ depths_of (trees_of ts) }
         ensures within { (ts : List Tree) → firsts_at self.now args.now ≡ Some ts
             → first_limits (trees_of ts) ≡ None }
-        ensures few { result.0 ≤ MOST_ARGS * node_limit }
+        ensures few { result.0 ≤ argument_limit * node_limit }
         ensures shallow { result.1 ≤ depth_limit }
     {
         let mut sizes: u64 = 0;
@@ -176,7 +176,7 @@ impl Rows {
             end: end as u32,
             size,
             depth,
-            is_variable: root.is_variable,
+            kind: root.kind,
             is_first,
         };
         self.lines.push(row, root.args)?;

@@ -15,7 +15,7 @@ add-requires-clause-lines c =
       end = c.len.result + length p.args.now;
       size = c.args.size;
       depth = c.args.depth;
-      is_variable = p.is_variable;
+      kind = p.kind;
       is_first = not c.finds-is_first.result;
     } in
     (pushed l.args.items p.args.now c.push.new.self.args.items l.rows.items c.push.new.self.rows.items row c.self.invariant.lines (ap (λ n. n + length p.args.now) (c.len.ensures ∙ l.args.ok.0))
@@ -31,7 +31,7 @@ add-requires-clause-linked c =
       end = c.len.result + length p.args.now;
       size = c.args.size;
       depth = c.args.depth;
-      is_variable = p.is_variable;
+      kind = p.kind;
       is_first = not c.finds-is_first.result;
     } in
     linked_pushed l.args.items p.args.now c.push.new.self.args.items l.rows.items c.push.new.self.rows.items row c.make_room.new.self.next.items c.make_room.new.self.heads.items
@@ -47,7 +47,7 @@ invariant_of-self-2 c =
       end = c.len.result + length p.args.now;
       size = c.args.size;
       depth = c.args.depth;
-      is_variable = p.is_variable;
+      kind = p.kind;
       is_first = not c.finds-is_first.result;
     } in
     let all = pushed l.args.items p.args.now c.push.new.self.args.items l.rows.items c.push.new.self.rows.items row c.self.invariant.lines (ap (λ n. n + length p.args.now) (c.len.ensures ∙ l.args.ok.0))
@@ -77,7 +77,7 @@ returns-clause-added c =
       end = c.len.result + length p.args.now;
       size = c.args.size;
       depth = c.args.depth;
-      is_variable = p.is_variable;
+      kind = p.kind;
       is_first = not c.finds-is_first.result;
     } in
     (pushed l.args.items p.args.now c.push.new.self.args.items l.rows.items c.push.new.self.rows.items row c.self.invariant.lines (ap (λ n. n + length p.args.now) (c.len.ensures ∙ l.args.ok.0))
