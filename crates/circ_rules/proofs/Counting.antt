@@ -14,7 +14,7 @@ use Rattle.circ_replay.specs.Plain.{LinkOf, plain_links}
 use Rattle.circ_replay.specs.Link.{AllOfLinks}
 use Rattle.circ_rules.specs.declared.basis.Basis.{Basis}
 use Rattle.circ_rules.specs.Plain.{plain_certificates}
-use Rattle.circ_rules.specs.Basis.{links_of, certificates_of}
+use Rattle.circ_rules.specs.Basis.{links_of, certificates_in}
 use Rattle.circ_rules.specs.Certified.{Certified, due, due_at, AreCertified, CertificateFails}
 use Rattle.circ_rules.specs.Admitting.{HoldSoFar}
 use Rattle.circ_rules.proofs.Certifying.{fails_among}
@@ -23,9 +23,9 @@ use Rattle.circ_rules.proofs.Deriving.{some_if_at, from_number, derivative_at, t
 -- ---- certificates, read by their numbers
 
 pub certificate_read : (b : Basis) (vs : List (Vec Link Global)) (i : ℕ) (v : Vec Link Global) → i < length vs → v ≡ get_or vs i v
-    → drop i (certificates_of b vs) ≡ links_of b v.items ∷ drop (i + 1) (certificates_of b vs)
+    → drop i (certificates_in b vs) ≡ links_of b v.items ∷ drop (i + 1) (certificates_in b vs)
 certificate_read b [] i v h e = absurd (omega arith)
-certificate_read b (w ∷ vs) zero v h e = ap (λ x. links_of b x.items ∷ certificates_of b vs) (sym e)
+certificate_read b (w ∷ vs) zero v h e = ap (λ x. links_of b x.items ∷ certificates_in b vs) (sym e)
 certificate_read b (w ∷ vs) (suc i) v h e =
     let n : suc i + 1 ≡ suc (i + 1) = omega arith in
     rw n (certificate_read b vs i v (omega arith) e)
@@ -36,9 +36,9 @@ certificate_in_table n [] i v h e a = absurd (omega arith)
 certificate_in_table n (w ∷ vs) zero v h e a = let P : Vec Link Global → Type 0 = λ x. AllOfLinks (λ m. m < n) (plain_links x.items) in subst P (sym e) a.0
 certificate_in_table n (w ∷ vs) (suc i) v h e a = certificate_in_table n vs i v (omega arith) e a.1
 
-pub length-certificates_of : (b : Basis) (vs : List (Vec Link Global)) → length (certificates_of b vs) ≡ length vs
-length-certificates_of b [] = refl
-length-certificates_of b (v ∷ vs) = ap suc (length-certificates_of b vs)
+pub length-certificates_in : (b : Basis) (vs : List (Vec Link Global)) → length (certificates_in b vs) ≡ length vs
+length-certificates_in b [] = refl
+length-certificates_in b (v ∷ vs) = ap suc (length-certificates_in b vs)
 
 -- ---- one certificate more
 
@@ -71,16 +71,16 @@ due_is th g o e = ap (λ x. map (λ d. (g, d)) (option_map_or (λ o. from_number
 -- What the loop over the derivatives of a place keeps: old certificates hold before it, and `done` in all.
 pub record StandsAt (b : Basis) (g : Place) (s : ℕ) (vs : List (Vec Link Global)) (old done i : ℕ) : Type 0 where
   pub enough : done + length (due_from b.theory.now g s i) ≤ length vs
-  pub so_far : (ys : List (Place × Derivative)) → HoldSoFar b.theory.now b.gamma.now (certificates_of b vs) old (due_at b.theory.now g ++ ys)
-      → HoldSoFar b.theory.now b.gamma.now (certificates_of b vs) done (due_from b.theory.now g s i ++ ys)
+  pub so_far : (ys : List (Place × Derivative)) → HoldSoFar b.theory.now b.gamma.now (certificates_in b vs) old (due_at b.theory.now g ++ ys)
+      → HoldSoFar b.theory.now b.gamma.now (certificates_in b vs) done (due_from b.theory.now g s i ++ ys)
 
 -- behind the last derivative
 pub stands_last : (b : Basis) (g : Place) (s : ℕ) (vs : List (Vec Link Global)) (old done i : ℕ) → length b.theory.now.derivatives ≤ i
-    → StandsAt b g s vs old done i → (ys : List (Place × Derivative)) → HoldSoFar b.theory.now b.gamma.now (certificates_of b vs) old (due_at b.theory.now g ++ ys)
-    → HoldSoFar b.theory.now b.gamma.now (certificates_of b vs) done ys
+    → StandsAt b g s vs old done i → (ys : List (Place × Derivative)) → HoldSoFar b.theory.now b.gamma.now (certificates_in b vs) old (due_at b.theory.now g ++ ys)
+    → HoldSoFar b.theory.now b.gamma.now (certificates_in b vs) done ys
 stands_last b g s vs old done i h st ys f =
     let P : List Derivative → Type 0 =
-    λ ds. HoldSoFar b.theory.now b.gamma.now (certificates_of b vs) done (map (λ d. (g, d)) (filter (λ d. d.hole == s) ds) ++ ys) in
+    λ ds. HoldSoFar b.theory.now b.gamma.now (certificates_in b vs) done (map (λ d. (g, d)) (filter (λ d. d.hole == s) ds) ++ ys) in
     subst P (drop_of_length-le b.theory.now.derivatives h) (st.so_far ys f)
 
 module _ (b : Basis) (g : Place) (s : ℕ) (vs : List (Vec Link Global)) (old done i : ℕ) (within : i < length b.theory.now.derivatives)
@@ -92,7 +92,7 @@ module _ (b : Basis) (g : Place) (s : ℕ) (vs : List (Vec Link Global)) (old do
   G = b.gamma.now
 
   abbrev lss : List (List (LinkOf Tree))
-  lss = certificates_of b vs
+  lss = certificates_in b vs
 
   abbrev here : Derivative
   here = (derivative_at th.derivatives i within).0
@@ -136,8 +136,8 @@ module _ (b : Basis) (g : Place) (s : ℕ) (vs : List (Vec Link Global)) (old do
             (told_here.0 e);
       }
 
-      pub stands_failed : holds ≡ false → (ys : List (Place × Derivative)) → HoldSoFar b.theory.now b.gamma.now (certificates_of b vs) old (due_at b.theory.now g ++ ys)
-          → CertificateFails b.theory.now b.gamma.now (due b.theory.now b.gamma.now) (certificates_of b vs) (done + 1)
+      pub stands_failed : holds ≡ false → (ys : List (Place × Derivative)) → HoldSoFar b.theory.now b.gamma.now (certificates_in b vs) old (due_at b.theory.now g ++ ys)
+          → CertificateFails b.theory.now b.gamma.now (due b.theory.now b.gamma.now) (certificates_in b vs) (done + 1)
       stands_failed e ys h =
           one_fails th G lss done g here (links_of b v.items) (due_from th g s (i + 1) ++ ys) (certificate_read b vs done v one_there is) (before ys h)
           (λ c. absurd (let t = told_here.1 c in cc))
@@ -152,7 +152,7 @@ place_next th G Gs lss done i x within so_far =
 
 -- the certificate that fails is one of them
 pub fails_in_slice : (b : Basis) (vs : List (Vec Link Global)) (n : ℕ)
-    → CertificateFails b.theory.now b.gamma.now (due b.theory.now b.gamma.now) (certificates_of b vs) n → n ≤ length vs
+    → CertificateFails b.theory.now b.gamma.now (due b.theory.now b.gamma.now) (certificates_in b vs) n → n ≤ length vs
 fails_in_slice b vs n f =
-    let r = fails_among b.theory.now b.gamma.now (due b.theory.now b.gamma.now) (certificates_of b vs) n f in
-    omega (arith, r.1, length-certificates_of b vs)
+    let r = fails_among b.theory.now b.gamma.now (due b.theory.now b.gamma.now) (certificates_in b vs) n f in
+    omega (arith, r.1, length-certificates_in b vs)

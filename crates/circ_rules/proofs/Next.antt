@@ -1,11 +1,17 @@
 -- The derivatives of a sort, from a number on, are gone through one by one.
-use Rattle.std.specs.Prelude.{◌≡◌, ◌<◌, ◌+◌, ℕ, true, false, ◌==◌, length}
-use Rattle.std.proofs.Common.{ap, sym, ◌∙◌}
+use Rattle.std.specs.Prelude.{◌≡◌, ◌↔◌, ◌<◌, ◌+◌, ℕ, Bool, true, false, IsTrue, ◌==◌, List, [], ◌∷◌, length}
+use Rattle.std.proofs.Common.{ap, sym, subst, ◌∙◌}
 use Rattle.std.proofs.lemmas.Bool.{eqb-true}
 use Rattle.std.specs.List.{slice_get}
 use Rattle.std.specs.Option.{option_map_or}
-use Rattle.circ_theory.specs.Theory.{Theory}
-use Rattle.circ_rules.specs.Due.{derivatives_from, IsFirst}
+use Rattle.circ_term.specs.Tree.{Tree}
+use Rattle.circ_theory.specs.Theory.{Theory, Derivative}
+use Rattle.circ_special.specs.declared.place.Place.{Place}
+use Rattle.circ_replay.specs.Plain.{LinkOf}
+use Rattle.circ_rules.specs.Certified.{Certified}
+use Rattle.circ_rules.specs.Due.{derivatives_from, IsFirst, due_after, IsNextSlot, CertifiesNext}
+use Rattle.circ_rules.specs.declared.due.Due.{Due}
+use Rattle.circ_rules.specs.declared.due.Slot.{Slot}
 use Rattle.circ_rules.proofs.Deriving.{derivative_at, taken_next, passed_next}
 
 module _ (th : Theory) (s i from : ℕ) (so_far : derivatives_from th s i ≡ derivatives_from th s from) where
@@ -24,3 +30,16 @@ module _ (th : Theory) (s i from : ℕ) (so_far : derivatives_from th s i ≡ de
   first_passed within e =
       let at = derivative_at th.derivatives i within in
       sym (passed_next th.derivatives s i at.0 at.1 e) ∙ so_far
+
+-- the links that certify the slot certify what was due first
+pub slot_certified : (th : Theory) (G : List Place) (old new : Due) (s : Slot) (ls : List (LinkOf Tree)) (holds : Bool) → (k : IsNextSlot th G old s new)
+    → (IsTrue holds ↔ Certified th G s.place k.derivative ls) → CertifiesNext th G old new ls holds
+slot_certified th G old new s ls holds k c =
+    record {
+      next = λ x xs e.
+          let same : (s.place, k.derivative) ∷ due_after th G new ≡ x ∷ xs = sym k.first ∙ e in
+          let head : (s.place, k.derivative) ≡ x = cc in
+          let tail : due_after th G new ≡ xs = cc in
+          let P : Place × Derivative → Type 0 = λ y. IsTrue holds ↔ Certified th G y.0 y.1 ls in (tail, subst P head c);
+      none = λ e. absurd (let z : (s.place, k.derivative) ∷ due_after th G new ≡ [] = sym k.first ∙ e in cc);
+    }

@@ -23,5 +23,5 @@ setting_of b H = setting b.theory.now b.gamma.now H []
 abbrev pub links_of : Basis → List Link → List (LinkOf Tree)
 links_of b ls = resolved_links b.table.now (plain_links ls)
 
-abbrev pub certificates_of : Basis → List (Vec Link Global) → List (List (LinkOf Tree))
-certificates_of b lss = map (resolved_links b.table.now) (plain_certificates lss)
+abbrev pub certificates_in : Basis → List (Vec Link Global) → List (List (LinkOf Tree))
+certificates_in b lss = map (resolved_links b.table.now) (plain_certificates lss)

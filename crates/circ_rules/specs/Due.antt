@@ -1,5 +1,5 @@
 -- Which certificate is due next, and whether links are that certificate.
-use Rattle.std.specs.Prelude.{◌≡◌, ◌↔◌, ℕ, ◌+◌, ◌==◌, Bool, IsTrue, List, [], ◌∷◌, ◌++◌, map, drop, Some}
+use Rattle.std.specs.Prelude.{◌≡◌, ◌↔◌, ℕ, ◌+◌, ◌==◌, Bool, false, IsTrue, List, [], ◌∷◌, ◌++◌, map, drop, Some}
 use Rattle.std.specs.List.{filter, slice_get}
 use Rattle.std.specs.Option.{option_map_or}
 use Rattle.circ_term.specs.Tree.{Tree}
@@ -56,8 +56,8 @@ pub record IsNextSlot (th : Theory) (G : List Place) (old : Due) (s : Slot) (new
   pub hole : derivative.hole ≡ operator.result
   pub first : due_after th G old ≡ (s.place, derivative) ∷ due_after th G new
 
--- whether the links are the certificate that was due first, and that it is due no more
-abbrev pub CertifiesNext : Theory → List Place → (old new : Due) → List (LinkOf Tree) → Bool → Type 0
-CertifiesNext th G old new ls holds =
-    (x : Place × Derivative) (xs : List (Place × Derivative)) → due_after th G old ≡ x ∷ xs
-    → (due_after th G new ≡ xs) × (IsTrue holds ↔ Certified th G x.0 x.1 ls)
+-- Whether the links are the certificate that was due first, and that it is due no more. Where none was due they are not, and none is.
+pub record CertifiesNext (th : Theory) (G : List Place) (old new : Due) (ls : List (LinkOf Tree)) (holds : Bool) : Type 0 where
+  pub next : (x : Place × Derivative) (xs : List (Place × Derivative)) → due_after th G old ≡ x ∷ xs
+      → (due_after th G new ≡ xs) × (IsTrue holds ↔ Certified th G x.0 x.1 ls)
+  pub none : due_after th G old ≡ [] → (holds ≡ false) × (new ≡ old)

@@ -1,4 +1,4 @@
--- The rules of circular coinduction on a list of hypotheses and a list of goals (`StepOf`; Done, Reduce and Derive of CALCO 2009, section 4).
+-- The rules of circular coinduction on a list of hypotheses and a list of goals (`StepOf`): Simplify, Reduce, Derive and Done.
 use Rattle.std.specs.Prelude.{◌≡◌, ◌≤◌, ◌+◌, ◌^◌, ℕ, List, [], ◌∷◌, ◌++◌, map, length}
 use Rattle.std.specs.List.{AllByRecursion}
 use Rattle.circ_term.specs.Tree.{Tree, sort_of}

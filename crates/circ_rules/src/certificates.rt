@@ -12,7 +12,7 @@ ghost use Rattle.circ_replay.specs.Link.{AllOfLinks};
 ghost use Rattle.circ_special.specs.Special.{IsPlace};
 ghost use Rattle.circ_rules.specs.Certified.{Certified, start_args, start_term, due_at};
 ghost use Rattle.circ_rules.specs.Plain.{plain_certificates};
-ghost use Rattle.circ_rules.specs.Basis.{IsSortedBasis, links_of, certificates_of};
+ghost use Rattle.circ_rules.specs.Basis.{IsSortedBasis, links_of, certificates_in};
 ghost use Rattle.circ_rules.specs.Answers.{Gives};
 ghost use Rattle.circ_rules.specs.Deriving.{IsWithin};
 ghost use Rattle.circ_rules.specs.Admitting.{IsStartOf, IsStart, AdmitsAt};
@@ -153,7 +153,7 @@ impl Basis<'_> {
         requires enough { done.old + length (due_at self.now.theory.now place) ≤
             length certificates.now }
         ensures { IfOk result (AdmitsAt self.now.theory.now self.now.gamma.now place
-            (certificates_of self.now certificates.now) done.old done.new) }
+            (certificates_in self.now certificates.now) done.old done.new) }
     {
         let start = start_at(self.alloc, self.theory, place)?;
         self.admit_start(&start, certificates, done)
@@ -173,7 +173,7 @@ impl Basis<'_> {
         requires enough { done.old + length (due_at self.now.theory.now start.now.place) ≤
             length certificates.now }
         ensures { IfOk result (AdmitsAt self.now.theory.now self.now.gamma.now start.now.place
-            (certificates_of self.now certificates.now) done.old done.new) }
+            (certificates_in self.now certificates.now) done.old done.new) }
     {
         for derivative in 0..self.theory.derivative_count() {
             if self.takes(derivative, start.decl.result) {

@@ -1,12 +1,15 @@
 //! Certificates, one after the other.
-ghost use Rattle.std.specs.Prelude.{◌≡◌, ◌<◌, ◌-◌, ◌^◌, [], length, IfOk, MatchOption};
+ghost use Rattle.std.specs.Prelude.{◌≡◌, ◌<◌, ◌-◌, ◌^◌, List, [], length, IfOk, OnErr, MatchOption};
 ghost use Rattle.std.specs.List.{AllByRecursion};
 ghost use Rattle.std.specs.Option.{IfSome};
 ghost use Rattle.circ_theory.specs.Signature.{IsWellSorted};
+ghost use Rattle.circ_theory.specs.Theory.{Theory};
+ghost use Rattle.circ_special.specs.declared.place.Place.{Place};
 ghost use Rattle.circ_special.specs.Special.{IsPlace, IsSet};
 ghost use Rattle.circ_replay.specs.Plain.{plain_links};
 ghost use Rattle.circ_replay.specs.Link.{AllOfLinks, resolved_links};
 ghost use Rattle.circ_rules.specs.Basis.{IsSortedBasis, links_of};
+ghost use Rattle.circ_rules.specs.Certified.{due};
 ghost use Rattle.circ_rules.specs.Due.{derivatives_from, due_after, IsFirst, NoneAt, IsFirstAt};
 ghost use Rattle.circ_rules.specs.Due.{IsNextSlot, CertifiesNext};
 
@@ -27,6 +30,18 @@ pub struct Due {
     pub derivative: u32,
 }
 
+impl Due {
+    /// All are due.
+    pub fn all() -> Due
+        ensures { (th : Theory) (G : List Place) → due_after th G result ≡ due th G }
+    {
+        Due {
+            place: 0,
+            derivative: 0,
+        }
+    }
+}
+
 // A place, and the number of a derivative of its result sort.
 #[derive(Clone, Copy)]
 struct Slot {
@@ -34,7 +49,8 @@ struct Slot {
     derivative: u32,
 }
 
-/// Whether the links are the certificate that is due next. `due` goes on to the one behind it.
+/// Whether the links are the certificate that is due next; `due` goes on to the one behind it. If
+/// none is due, or memory runs out, `due` is as before.
 pub fn certify_next(
     alloc: Global,
     theory: &Theory,
@@ -46,8 +62,9 @@ pub fn certify_next(
     requires in_table { AllOfLinks (λ n. n < length table.now) (plain_links links.now) }
     requires table_sorted { AllByRecursion (IsWellSorted theory.now.signature) table.now }
     requires places { IsSet theory.now gamma.now }
-    ensures { IfOk result (CertifiesNext theory.now gamma.now due.old due.new
+    ensures exact { IfOk result (CertifiesNext theory.now gamma.now due.old due.new
         (resolved_links table.now (plain_links links.now))) }
+    ensures kept { OnErr result (due.new ≡ due.old) }
 {
     let basis = Basis {
         alloc,
@@ -63,14 +80,18 @@ impl Basis<'_> {
         requires basis_sorted { IsSortedBasis self.now }
         requires in_table { AllOfLinks (λ n. n < length self.now.table.now) (plain_links links.now) }
         requires places { AllByRecursion (IsPlace self.now.theory.now) self.now.gamma.now }
-        ensures { IfOk result (CertifiesNext self.now.theory.now self.now.gamma.now
+        ensures exact { IfOk result (CertifiesNext self.now.theory.now self.now.gamma.now
             due.old due.new (links_of self.now links.now)) }
+        ensures kept { OnErr result (due.new ≡ due.old) }
     {
-        let Some(slot) = self.next_slot(due) else {
+        let mut next = *due;
+        let Some(slot) = self.next_slot(&mut next) else {
             return Ok(false);
         };
         let start = start_at(self.alloc, self.theory, slot.place)?;
-        self.certifies(&start, slot.derivative, links)
+        let holds = self.certifies(&start, slot.derivative, links)?;
+        *due = next;
+        Ok(holds)
     }
 
     // What the next certificate is due for.
