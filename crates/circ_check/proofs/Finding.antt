@@ -48,9 +48,31 @@ part_stays th (Certificate ls) c d n t e = certificate_stays th c d c.due (resol
 part_stays th (Goals gs ns) c d n t e = goals_stay c d c.stopped gs n t e
 part_stays th (Step s) c d n t e = step_stays th c d c.stopped s n t e
 
-failed_stays : (th : Theory) (xs : List Part) (c d : Checking) (n : ℕ) → Runs (TakesPart th) xs c d → c.tally.failed ≡ Some n → d.tally.failed ≡ Some n
+-- The part is taken; or something failed before it, and only that stays.
+abbrev Passes : Theory → Part → Checking → Checking → Type 0
+Passes th x c d = TakesPart th x c d ⊎ ((n : ℕ) × (c.tally.failed ≡ Some n) × (d.tally.failed ≡ Some n))
+
+-- where nothing failed before
+taken_so_far : (th : Theory) (x : Part) (c d : Checking) → c.tally.failed ≡ None → Passes th x c d → TakesPart th x c d
+taken_so_far th x c d e (inl t) = t
+taken_so_far th x c d e (inr f) = absurd (let z = sym e ∙ f.1 in cc)
+
+pass_stays : (th : Theory) (x : Part) (c d : Checking) (n : ℕ) → Passes th x c d → c.tally.failed ≡ Some n → d.tally.failed ≡ Some n
+pass_stays th x c d n (inl t) e = part_stays th x c d n t e
+pass_stays th x c d n (inr f) e = f.2 ∙ sym f.1 ∙ e
+
+failed_stays : (th : Theory) (xs : List Part) (c d : Checking) (n : ℕ) → Runs (Passes th) xs c d → c.tally.failed ≡ Some n → d.tally.failed ≡ Some n
 failed_stays th [] c d n r e = sym (ap (λ y. y.tally.failed) r) ∙ e
-failed_stays th (x ∷ xs) c d n r e = failed_stays th xs r.0 d n r.2 (part_stays th x c r.0 n r.1 e)
+failed_stays th (x ∷ xs) c d n r e = failed_stays th xs r.0 d n r.2 (pass_stays th x c r.0 n r.1 e)
+
+-- behind a failure all parts pass
+passed_by : (th : Theory) (xs : List Part) (c : Checking) (n : ℕ) → c.tally.failed ≡ Some n → Runs (Passes th) xs c c
+passed_by th [] c n e = refl
+passed_by th (x ∷ xs) c n e = (c, inr (n, e, e), passed_by th xs c n e)
+
+passed : (th : Theory) (xs ys : List Part) (a c d : Checking) → Runs (TakesPart th) xs a c → Runs (Passes th) ys c d → Runs (Passes th) (xs ++ ys) a d
+passed th [] ys a c d r s = let P : Checking → Type 0 = λ y. Runs (Passes th) ys y d in subst P (sym r) s
+passed th (x ∷ xs) ys a c d r s = (r.0, inl r.1, passed th xs ys r.0 c d r.2 s)
 
 -- ---- lists of what was derived
 
@@ -112,7 +134,7 @@ module _ (th : Theory) (p : Proof) where
     made : List Goal
     leads : StepsOf th p.places (resolved ss) a last
     grown : last.hypotheses ≡ a.hypotheses ++ made
-    rest : Runs (TakesPart th) k (here B O last (n + length ss) (with_derived D made)) e
+    rest : Runs (Passes th) k (here B O last (n + length ss) (with_derived D made)) e
 
   -- or one of them fails
   record Fall (ss : List (ProofStep ℕ)) (a : State) (n : ℕ) (e : Checking) : Type 0 where
@@ -121,25 +143,25 @@ module _ (th : Theory) (p : Proof) where
     failed : e.tally.failed ≡ Some (n + number)
 
   steps_taken : (ss : List (ProofStep ℕ)) (k : List Part) (B O : List Goal) (a : State) (n : ℕ) (D : List (List Goal)) (e : Checking)
-      → Runs (TakesPart th) (step_parts ss ++ k) (here B O a n D) e → Lead ss k B O a n D e ⊎ Fall ss a n e
+      → Runs (Passes th) (step_parts ss ++ k) (here B O a n D) e → Lead ss k B O a n D e ⊎ Fall ss a n e
   steps_taken [] k B O a n D e r =
       let z : n ≡ n + 0 = omega arith in
-      let P : ℕ → Type 0 = λ m. Runs (TakesPart th) k (here B O a m D) e in
-      let Q : List (List Goal) → Type 0 = λ x. Runs (TakesPart th) k (here B O a (n + 0) x) e in
+      let P : ℕ → Type 0 = λ m. Runs (Passes th) k (here B O a m D) e in
+      let Q : List (List Goal) → Type 0 = λ x. Runs (Passes th) k (here B O a (n + 0) x) e in
       inl (record { last = a; made = []; leads = refl; grown = sym (append-nil a.hypotheses); rest = subst Q (sym (with_none D)) (subst P z r) })
-  steps_taken (s ∷ ss) k B O a n D e r = go r.1 (λ b m E x. steps_taken ss k B O b m E e x)
+  steps_taken (s ∷ ss) k B O a n D e r = go (taken_so_far th (Step s) (here B O a n D) r.0 refl r.1) (λ b m E x. steps_taken ss k B O b m E e x)
     where
       go : TakesStep th (here B O a n D) false s r.0
-          → ((b : State) (m : ℕ) (E : List (List Goal)) → Runs (TakesPart th) (step_parts ss ++ k) (here B O b m E) e → Lead ss k B O b m E e ⊎ Fall ss b m e)
+          → ((b : State) (m : ℕ) (E : List (List Goal)) → Runs (Passes th) (step_parts ss ++ k) (here B O b m E) e → Lead ss k B O b m E e ⊎ Fall ss b m e)
           → Lead (s ∷ ss) k B O a n D e ⊎ Fall (s ∷ ss) a n e
       go (inl t) rest =
-          let P : Checking → Type 0 = λ y. Runs (TakesPart th) (step_parts ss ++ k) y e in
+          let P : Checking → Type 0 = λ y. Runs (Passes th) (step_parts ss ++ k) y e in
           let D' : List (List Goal) = with_derived D (made_by s a.goals) in
           elim (rest t.0 (n + 1) D' (subst P t.2 r.2)) [
             | inl l ↦
                 let count : n + 1 + length ss ≡ n + length (s ∷ ss) = omega arith in
-                let Q : ℕ → Type 0 = λ m. Runs (TakesPart th) k (here B O l.last m (with_derived D' l.made)) e in
-                let R : List (List Goal) → Type 0 = λ x. Runs (TakesPart th) k (here B O l.last (n + length (s ∷ ss)) x) e in
+                let Q : ℕ → Type 0 = λ m. Runs (Passes th) k (here B O l.last m (with_derived D' l.made)) e in
+                let R : List (List Goal) → Type 0 = λ x. Runs (Passes th) k (here B O l.last (n + length (s ∷ ss)) x) e in
                 inl (record {
                   last = l.last;
                   made = made_by s a.goals ++ l.made;
@@ -172,13 +194,14 @@ module _ (th : Theory) (p : Proof) where
     failed : e.tally.failed ≡ Some (n + number)
 
   blocks_taken : (bs : List Block) → AllByRecursion (IsBlockFor p.table) bs → (B O : List Goal) (a : State) (n : ℕ) (D : List (List Goal)) (e : Checking)
-      → Runs (TakesPart th) (block_parts bs) (here B O a n D) e → BlocksLead (B ++ O) bs D e ⊎ BlocksFall (B ++ O) bs n e
+      → Runs (Passes th) (block_parts bs) (here B O a n D) e → BlocksLead (B ++ O) bs D e ⊎ BlocksFall (B ++ O) bs n e
   blocks_taken [] f B O a n D e r =
       inl (record { made = []; leads = tt; none = sym (ap (λ y. y.tally.failed) r); derived = sym (ap (λ y. y.derived) r) ∙ sym (append-nil D) })
   blocks_taken (b ∷ bs) f B O a n D e r =
       let H : List Goal = B ++ O in
-      let P : Checking → Type 0 = λ y. Runs (TakesPart th) (step_parts b.steps ++ block_parts bs) y e in
-      elim (steps_taken b.steps (block_parts bs) H b.goals (state H b.goals) n (D ++ [] ∷ []) e (subst P r.1 r.2)) [
+      let P : Checking → Type 0 = λ y. Runs (Passes th) (step_parts b.steps ++ block_parts bs) y e in
+      elim (steps_taken b.steps (block_parts bs) H b.goals (state H b.goals) n (D ++ [] ∷ []) e
+      (subst P (taken_so_far th (Goals b.goals b.names) (here B O a n D) r.0 refl r.1) r.2)) [
         | inl l ↦
             let ended : l.last.goals ≡ [] = steps_end th p.places (named p.table) b.steps (state H b.goals) l.last f.0.ended l.leads in
             let end : l.last ≡ state (H ++ l.made) [] = ap (λ x. state x l.last.goals) l.grown ∙ ap (state (H ++ l.made)) ended in
@@ -213,7 +236,7 @@ module _ (th : Theory) (p : Proof) where
 
   record AllHold (lss : List (List (LinkOf ℕ))) (k : List Part) (xs : List (Place × Derivative)) (n : ℕ) (e : Checking) : Type 0 where
     hold : AreCertified th p.places xs (resolved_all lss)
-    rest : Runs (TakesPart th) k (at_front [] (n + length lss)) e
+    rest : Runs (Passes th) k (at_front [] (n + length lss)) e
 
   record OneFails (lss : List (List (LinkOf ℕ))) (xs : List (Place × Derivative)) (n : ℕ) (e : Checking) : Type 0 where
     number : ℕ
@@ -221,24 +244,25 @@ module _ (th : Theory) (p : Proof) where
     failed : e.tally.failed ≡ Some (n + number)
 
   certificates_taken : (lss : List (List (LinkOf ℕ))) (k : List Part) (xs : List (Place × Derivative)) (n : ℕ) (e : Checking) → length lss ≡ length xs
-      → Runs (TakesPart th) (certificate_parts lss ++ k) (at_front xs n) e → AllHold lss k xs n e ⊎ OneFails lss xs n e
+      → Runs (Passes th) (certificate_parts lss ++ k) (at_front xs n) e → AllHold lss k xs n e ⊎ OneFails lss xs n e
   certificates_taken [] k [] n e l r =
       let z : n ≡ n + 0 = omega arith in
-      let P : ℕ → Type 0 = λ m. Runs (TakesPart th) k (at_front [] m) e in
+      let P : ℕ → Type 0 = λ m. Runs (Passes th) k (at_front [] m) e in
       inl (record { hold = tt; rest = subst P z r })
   certificates_taken [] k (x ∷ xs) n e l r = absurd (omega (arith, l))
   certificates_taken (ls ∷ lss) k [] n e l r = absurd (omega (arith, l))
-  certificates_taken (ls ∷ lss) k (x ∷ xs) n e l r = go r.1 (λ m y. certificates_taken lss k xs m e (omega (arith, l)) y)
+  certificates_taken (ls ∷ lss) k (x ∷ xs) n e l r =
+      go (taken_so_far th (Certificate ls) (at_front (x ∷ xs) n) r.0 refl r.1) (λ m y. certificates_taken lss k xs m e (omega (arith, l)) y)
     where
       go : TakesCertificate th (at_front (x ∷ xs) n) (x ∷ xs) (resolved_links p.table ls) r.0
-          → ((m : ℕ) → Runs (TakesPart th) (certificate_parts lss ++ k) (at_front xs m) e → AllHold lss k xs m e ⊎ OneFails lss xs m e)
+          → ((m : ℕ) → Runs (Passes th) (certificate_parts lss ++ k) (at_front xs m) e → AllHold lss k xs m e ⊎ OneFails lss xs m e)
           → AllHold (ls ∷ lss) k (x ∷ xs) n e ⊎ OneFails (ls ∷ lss) (x ∷ xs) n e
       go (inl t) rest =
-          let P : Checking → Type 0 = λ y. Runs (TakesPart th) (certificate_parts lss ++ k) y e in
+          let P : Checking → Type 0 = λ y. Runs (Passes th) (certificate_parts lss ++ k) y e in
           elim (rest (n + 1) (subst P t.1 r.2)) [
             | inl h ↦
                 let count : n + 1 + length lss ≡ n + length (ls ∷ lss) = omega arith in
-                let Q : ℕ → Type 0 = λ m. Runs (TakesPart th) k (at_front [] m) e in
+                let Q : ℕ → Type 0 = λ m. Runs (Passes th) k (at_front [] m) e in
                 inl (record { hold = (t.0, h.hold); rest = subst Q count h.rest })
             | inr f ↦
                 let count : n + 1 + f.number ≡ n + (f.number + 1) = omega arith in
@@ -263,10 +287,11 @@ module _ (th : Theory) (p : Proof) where
     pub some : e.tally.failed ≡ Some number
     pub first : FirstFail th p number
 
-  pub parts_taken : ProofFor th p → (e : Checking) → StandFor th (parts_of p) e → FoundNothing e ⊎ FoundFailure e
-  parts_taken f e r =
-      let P : Checking → Type 0 = λ y. Runs (TakesPart th) (certificate_parts p.certificates ++ block_parts p.blocks) y e in
-      elim (certificates_taken p.certificates (block_parts p.blocks) (due th p.places) 0 e f.one_each (subst P r.1 r.2)) [
+  parts_passed : ProofFor th p → (e : Checking) → Runs (Passes th) (parts_of p) nothing_taken e → FoundNothing e ⊎ FoundFailure e
+  parts_passed f e r =
+      let P : Checking → Type 0 = λ y. Runs (Passes th) (certificate_parts p.certificates ++ block_parts p.blocks) y e in
+      elim (certificates_taken p.certificates (block_parts p.blocks) (due th p.places) 0 e f.one_each
+      (subst P (taken_so_far th (Head p.table p.places) nothing_taken r.0 refl r.1) r.2)) [
         | inl h ↦ elim (blocks_taken p.blocks f.blocks [] [] (state [] []) (0 + length p.certificates) [] e h.rest) [
           | inl m ↦
               let Q : List (List Goal) → Type 0 = BlocksDerive th p [] p.blocks in
@@ -278,4 +303,20 @@ module _ (th : Theory) (p : Proof) where
         | inr g ↦
             let count : 0 + g.number ≡ g.number = omega arith in
             inr (record { number = g.number; some = g.failed ∙ ap Some count; first = inl g.first })
+      ]
+
+  pub parts_taken : ProofFor th p → (e : Checking) → StandFor th (parts_of p) e → FoundNothing e ⊎ FoundFailure e
+  parts_taken f e r =
+      let P : List Part → Type 0 = λ xs. Runs (Passes th) xs nothing_taken e in
+      parts_passed f e (subst P (append-nil (parts_of p)) (passed th (parts_of p) [] nothing_taken e e r refl))
+
+  -- what failed among the first parts is the first failure
+  pub failed_early : ProofFor th p → (xs ys : List Part) (c : Checking) (n : ℕ) → parts_of p ≡ xs ++ ys → StandFor th xs c → c.tally.failed ≡ Some n
+      → FirstFail th p n
+  failed_early f xs ys c n all r e =
+      let P : List Part → Type 0 = λ zs. Runs (Passes th) zs nothing_taken c in
+      let Q : ℕ → Type 0 = FirstFail th p in
+      elim (parts_passed f c (subst P (sym all) (passed th xs ys nothing_taken c c r (passed_by th ys c n e)))) [
+        | inl m ↦ absurd (let z = sym m.none ∙ e in cc)
+        | inr m ↦ let same : m.number ≡ n = (let z : Some m.number ≡ Some n = sym m.some ∙ e in cc) in subst Q same m.first
       ]

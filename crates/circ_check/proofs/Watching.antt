@@ -15,18 +15,18 @@ use Rattle.circ_replay.specs.Link.{resolved_links}
 use Rattle.circ_rules.specs.Rules.{State, state, IsSortedState, ProofStep, Simplify, Reduce, Derive, Done, map_step, StepOf}
 use Rattle.circ_rules.specs.Proof.{Proof, ProofFor}
 use Rattle.circ_rules.specs.Parts.{Part, Certificate, Goals, Step, parts_of}
-use Rattle.circ_rules.specs.Accepted.{Derives}
+use Rattle.circ_rules.specs.Accepted.{Derives, FirstFail}
 use Rattle.circ_rules.specs.Plain.{plain_state}
 use Rattle.circ_rules.specs.declared.state.State.{State as TheState}
 use Rattle.circ_soundness.proofs.Sound.{goals_behave}
 use Rattle.circ_check.specs.declared.checker.Checker.{Checker}
 use Rattle.circ_check.specs.Checking.{Checking, TakesCertificate, TakesGoals, TakesStep, nothing_taken, made_by, with_one, with_derived}
-use Rattle.circ_check.specs.Deciding.{plain_list}
+use Rattle.circ_check.specs.Deciding.{plain_list, Finds, FoundBehave}
 use Rattle.circ_check.specs.Knowing.{AreKnown}
 use Rattle.circ_check.specs.Ready.{IsReady}
-use Rattle.circ_check.specs.Watching.{failed_of, derived_of, checking_over, checking_of, IsSound, Stands, Follows, Took, TookPlaced, Finds, FoundBehave}
+use Rattle.circ_check.specs.Watching.{failed_of, derived_of, checking_over, checking_of, IsSound, Stands, Follows, Took, TookPlaced}
 use Rattle.circ_check.proofs.Fitting.{part_ready}
-use Rattle.circ_check.proofs.Finding.{part_more, parts_taken}
+use Rattle.circ_check.proofs.Finding.{part_more, parts_taken, failed_early}
 
 -- ---- before a part
 
@@ -182,6 +182,10 @@ found th p k f s = elim (parts_taken th p f (checking_of k) s.checking) [
   | inl n ↦ let P : Option ℕ → Type 0 = Finds th p in subst P (sym n.none) (derived_of k, n.derives)
   | inr n ↦ let P : Option ℕ → Type 0 = Finds th p in subst P (sym n.some) n.first
 ]
+
+pub found_early : (th : Theory) (p : Proof) (xs ys : List Part) (n : ℕ) (k : Checker) → ProofFor th p → parts_of p ≡ xs ++ ys → Stands th xs k
+    → failed_of k ≡ Some n → FirstFail th p n
+found_early th p xs ys n k f all s e = failed_early th p f xs ys (checking_of k) n all s.checking e
 
 pub found_behave : (th : Theory) (p : Proof) → IsWellFormed th → ProofFor th p → (o : Option ℕ) → Finds th p o → FoundBehave th p o
 found_behave th p ok f None d = λ b c g e. goals_behave th ok p f d.0 d.1 b c g e

@@ -1,15 +1,11 @@
 -- What contracts see of a checker that takes parts.
-use Rattle.std.specs.Prelude.{◌≡◌, ◌≤◌, ℕ, true, false, List, ◌∷◌, [], ◌++◌, length, map, take, Option, Some, None}
-use Rattle.std.specs.List.{Contains}
+use Rattle.std.specs.Prelude.{◌≡◌, ◌≤◌, ℕ, true, false, List, ◌∷◌, [], ◌++◌, length, map, take, Option}
 use Rattle.circ_term.specs.Tree.{Tree}
 use Rattle.circ_theory.specs.Theory.{Theory}
-use Rattle.circ_theory.specs.Experiment.{Behaves}
 use Rattle.circ_theory.specs.declared.parts.Goal.{Goal}
 use Rattle.circ_rules.specs.Rules.{IsSortedState}
-use Rattle.circ_rules.specs.Proof.{Block, Proof}
 use Rattle.circ_rules.specs.Parts.{Part}
 use Rattle.circ_rules.specs.Fitting.{Fit}
-use Rattle.circ_rules.specs.Accepted.{Accepted, FirstFail}
 use Rattle.circ_rules.specs.Due.{due_after}
 use Rattle.circ_rules.specs.Plain.{plain_state}
 use Rattle.circ_check.specs.Checking.{Checking, TakesPart, StandFor}
@@ -76,13 +72,3 @@ pub record TookPlaced (th : Theory) (x : Part) (old new : Checker) : Type 0 wher
   pub sound : IsSound th new
   pub named : new.named ≡ old.named
   pub taken : TakesPart th x (checking_over old.named.1 old) (checking_over old.named.1 new)
-
--- nothing failed, and the proof is accepted; or this is where it fails first
-abbrev pub Finds : Theory → Proof → Option ℕ → Type 0
-Finds th p None = Accepted th p
-Finds th p (Some n) = FirstFail th p n
-
--- where nothing failed, each goal of the proof behaves
-abbrev pub FoundBehave : Theory → Proof → Option ℕ → Type 0
-FoundBehave th p None = (b : Block) → Contains p.blocks b → (g : Goal) → Contains b.goals g → Behaves th g.left g.right
-FoundBehave th p (Some n) = Unit {0}

@@ -1,5 +1,5 @@
 //! A checker that takes the parts of a proof one after the other.
-ghost use Rattle.std.specs.Prelude.{◌≡◌, ◌<◌, ◌++◌, ◌∷◌, [], ℕ, List, None, false};
+ghost use Rattle.std.specs.Prelude.{◌≡◌, ◌<◌, ◌++◌, ◌∷◌, [], ℕ, List, Some, None, false};
 ghost use Rattle.std.specs.Prelude.{length, map, take};
 ghost use Rattle.std.specs.Prelude.{IfOk, OnOk, IsErr};
 ghost use Rattle.std.specs.List.{AllByRecursion};
@@ -11,19 +11,18 @@ ghost use Rattle.circ_rules.specs.Rules.{state as state_with, Derive, AllOfStep}
 ghost use Rattle.circ_rules.specs.Proof.{Proof, ProofFor};
 ghost use Rattle.circ_rules.specs.Parts.{Part as PlainPart, parts_of};
 ghost use Rattle.circ_rules.specs.Parts.{Certificate, Goals, Step as StepPart};
-ghost use Rattle.circ_rules.specs.Accepted.{Derives};
+ghost use Rattle.circ_rules.specs.Accepted.{Derives, FirstFail};
 ghost use Rattle.circ_rules.specs.Plain.{plain_part, plain_state, plain_step};
 ghost use Rattle.circ_replay.specs.Goals.{AreSortedGoals};
 ghost use Rattle.circ_replay.specs.Link.{AllOfLinks};
 ghost use Rattle.circ_replay.specs.Plain.{plain_links};
-ghost use Rattle.circ_check.specs.Deciding.{plain_list, DerivedBehave};
+ghost use Rattle.circ_check.specs.Deciding.{plain_list, Finds, FoundBehave, DerivedBehave};
 ghost use Rattle.circ_check.specs.Checking.{made_by, with_derived, goals_in};
 ghost use Rattle.circ_check.specs.Knowing.{AreKnown, marks_of};
 ghost use Rattle.circ_check.specs.Ready.{IsReady, HasRoom};
 ghost use Rattle.circ_check.specs.Watching.{failed_of, derived_of, checking_of, IsSpent};
 ghost use Rattle.circ_check.specs.Watching.{Stands, Follows, IsSound, IsAsBefore};
 ghost use Rattle.circ_check.specs.Watching.{Took, TookPlaced};
-ghost use Rattle.circ_check.specs.Watching.{Finds, FoundBehave};
 
 use crate::knowing::{apply_known, known_of};
 use crate::placing::{place_links, place_step};
@@ -72,10 +71,7 @@ impl<'a> Checker<'a> {
             theory,
             named: NamedTerms::of(alloc, Table::empty(alloc)),
             gamma: no_places(alloc, theory),
-            due: Due {
-                place: 0,
-                derivative: 0,
-            },
+            due: Due::all(),
             state: no_state(alloc),
             known: VecDeque::new(alloc),
             earlier: 0,
@@ -109,12 +105,15 @@ impl<'a> Checker<'a> {
         }
     }
 
-    /// The first certificate or step that failed. Certificates are counted from 1, and the steps of
-    /// all blocks follow in one count.
+    /// The first certificate or step that failed so far. Certificates are counted from 1, and the
+    /// steps of all blocks follow in one count.
     pub fn failed(&self) -> Option<u64>
         ensures same { result ≡ failed_of self.now }
         ensures exact { (th : Theory) (p : Proof) → ProofFor th p →
             Stands th (parts_of p) self.now → Finds th p result }
+        ensures early { (th : Theory) (p : Proof) (xs ys : List PlainPart) (n : ℕ) →
+            ProofFor th p → parts_of p ≡ xs ++ ys → Stands th xs self.now →
+            result ≡ Some n → FirstFail th p n }
         ensures sound { (th : Theory) (p : Proof) → ProofFor th p →
             Stands th (parts_of p) self.now → FoundBehave th p result }
     {
@@ -147,10 +146,7 @@ impl<'a> Checker<'a> {
             Part::Head { table, gamma } => {
                 self.named = NamedTerms::of(self.alloc, table);
                 self.gamma = gamma;
-                self.due = Due {
-                    place: 0,
-                    derivative: 0,
-                };
+                self.due = Due::all();
                 Ok(())
             }
             Part::Certificate { links } => self.take_certificate(links),

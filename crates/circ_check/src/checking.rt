@@ -16,15 +16,15 @@ use std::collections::VecDeque;
 /// What a proof comes to.
 #[derive(Clone, Copy, PartialEq, Eq)]
 pub enum Verdict {
-    /// Every certificate and every step is an instance of its rule.
+    /// Every certificate certifies what is due, and every step is an instance of its rule.
     Accepted,
-    /// The first that is none. Certificates are counted from 1, and the steps of all blocks follow
+    /// The first that does not. Certificates are counted from 1, and the steps of all blocks follow
     /// in one count.
     Refused { step: u64 },
 }
 
-/// Whether every certificate and every step of the proof is an instance of its rule, or the first
-/// that is none. If all are, each goal of each block behaves.
+/// Whether every certificate of the proof certifies what is due, and every step is an instance of
+/// its rule, or the first that fails. If none does, each goal of each block behaves.
 pub fn check(alloc: Global, theory: &Theory, proof: &Proof) -> Result<Verdict, AllocError>
     requires { ProofFor theory.now (plain_proof proof.now) }
     ensures exact { IfOk result (Decides theory.now (plain_proof proof.now)) }

@@ -1,5 +1,5 @@
-//! The checker of proofs: whether each certificate and each step is an instance of its rule, and
-//! what the Derive steps of an accepted proof derived.
+//! The checker of proofs: whether every certificate certifies what is due, and every step is an
+//! instance of its rule, and what the Derive steps of an accepted proof derived.
 #![tactic(auto)]
 
 mod checker;
