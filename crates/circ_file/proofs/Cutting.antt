@@ -3,6 +3,7 @@ use Rattle.std.specs.Prelude.{◌≡◌, ℕ, List, [], ◌∷◌, ◌++◌, ref
 use Rattle.std.proofs.Common.{sym, ◌∙◌, ap, subst, append_assoc}
 use Rattle.std.proofs.lemmas.List.{append-nil}
 use Rattle.circ_theory.specs.Theory.{Theory}
+use Rattle.circ_grammar.specs.FirstBad.{file_text}
 use Rattle.circ_proof_text.specs.Parts.{Part}
 use Rattle.circ_file.specs.Feeding.{FaultIs, IsLineFault, IsShown, Stands}
 use Rattle.circ_file.specs.declared.fault.FileFault.TheVariants.{Line, Limit, Memory}
@@ -47,23 +48,33 @@ line_fault th x piece front rest line after later e c d h =
     ∙ ap (λ y. y ++ later) (append_assoc (x ++ front) (ended_line line) after ∙ append_assoc x front (ended_line line ++ after) ∙ ap (λ y. x ++ y) (sym whole)) in
     subst P same h
 
-shown_in : (th : Theory) (x piece front rest line after : List ℕ) (e : FileFault) → piece ≡ front ++ rest → rest ≡ line ++ (10 ∷ after)
-    → ((later : List ℕ) → FaultIs th (((x ++ front) ++ ended_line line) ++ later) e) → IsLineFault th (x ++ piece) e
-shown_in th x piece front rest line after e c d h = record {
-  before = x ++ front;
-  line = line;
-  after = after;
-  whole = ap (λ y. x ++ y) (c ∙ ap (λ y. front ++ y) (d ∙ sym (append_assoc line (10 ∷ []) after)))
-      ∙ sym (append_assoc x front (ended_line line ++ after)) ∙ sym (append_assoc (x ++ front) (ended_line line) after);
-  fault = h;
+-- What a whole line shows, it shows with more bytes after it.
+
+fault_in : (th : Theory) (bytes after : List ℕ) (e : FileFault) → IsLineFault th bytes e → IsLineFault th (bytes ++ after) e
+fault_in th bytes after e s = record {
+  before = s.before;
+  line = s.line;
+  after = s.after ++ after;
+  no_feed = s.no_feed;
+  whole = ap (λ y. y ++ after) s.whole ∙ append_assoc (file_text s.before ++ ended_line s.line) s.after after;
+  number = s.number;
+  fault = s.fault;
 }
 
--- It is that of a whole line.
+shown_in : (th : Theory) (bytes after : List ℕ) (e : FileFault) → IsShown th bytes e → IsShown th (bytes ++ after) e
+shown_in th bytes after Memory s = tt
+shown_in th bytes after (Line n) s = fault_in th bytes after (Line n) s
+shown_in th bytes after (Limit n) s = fault_in th bytes after (Limit n) s
+
+-- and so in the whole piece
 pub line_shown : (th : Theory) (x piece front rest line after : List ℕ) (e : FileFault) → piece ≡ front ++ rest → rest ≡ line ++ (10 ∷ after)
-    → ((later : List ℕ) → FaultIs th (((x ++ front) ++ ended_line line) ++ later) e) → IsShown th (x ++ piece) e
-line_shown th x piece front rest line after Memory c d h = tt
-line_shown th x piece front rest line after (Line n) c d h = shown_in th x piece front rest line after (Line n) c d h
-line_shown th x piece front rest line after (Limit n) c d h = shown_in th x piece front rest line after (Limit n) c d h
+    → IsShown th ((x ++ front) ++ ended_line line) e → IsShown th (x ++ piece) e
+line_shown th x piece front rest line after e c d s =
+    let P : List ℕ → Type 0 = λ y. IsShown th y e in
+    let whole : piece ≡ front ++ (ended_line line ++ after) = c ∙ ap (λ y. front ++ y) (d ∙ sym (append_assoc line (10 ∷ []) after)) in
+    let same : ((x ++ front) ++ ended_line line) ++ after ≡ x ++ piece
+    = append_assoc (x ++ front) (ended_line line) after ∙ append_assoc x front (ended_line line ++ after) ∙ ap (λ y. x ++ y) (sym whole) in
+    subst P same (shown_in th ((x ++ front) ++ ended_line line) after e s)
 
 -- what is left has no line feed, and all was read then
 pub all_read : (f g h : FileReader) (piece rest : List ℕ) → IsRead f piece rest g

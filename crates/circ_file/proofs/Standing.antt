@@ -1,11 +1,12 @@
 -- Where a reader stands after a line, and after the bytes of a line that is not whole.
 use Rattle.std.specs.Prelude.{◌≡◌, ℕ, ◌+◌, true, false, List, [], ◌∷◌, ◌++◌, length, refl, None}
-use Rattle.std.proofs.Common.{sym, ◌∙◌, ap, subst, inl, inr}
-use Rattle.std.proofs.lemmas.List.{length-map}
+use Rattle.std.proofs.Common.{sym, ◌∙◌, ap, subst, append_assoc, inl, inr}
+use Rattle.std.proofs.lemmas.List.{length-map, append-nil}
 use Rattle.circ_theory.specs.Theory.{Theory}
 use Rattle.circ_line.specs.Plain.{NoFeed}
-use Rattle.circ_grammar.specs.FirstBad.{Line_fault, Limit_fault}
+use Rattle.circ_grammar.specs.FirstBad.{file_text, Line_fault, Limit_fault}
 use Rattle.circ_grammar.specs.Now.{Now, Reducing}
+use Rattle.circ_grammar.proofs.Feeding.{no_feed_append}
 use Rattle.circ_proof_text.specs.Checks.{Seen, after, passes_at, limit_at}
 use Rattle.circ_proof_text.specs.ProofText.{FirstCause}
 use Rattle.circ_proof_text.specs.Parts.{Part}
@@ -14,7 +15,8 @@ use Rattle.circ_proof_text.proofs.Wanted.{wants, wants_of}
 use Rattle.circ_proof_text.proofs.Standing.{keeps_rest, takes_line, faults_form, faults_next, faults_check, faults_limit, standing_wanted}
 use Rattle.circ_file.specs.View.{now_of, queue_of, splits_in}
 use Rattle.circ_file.specs.Lines.{seen_of, ReadsNext}
-use Rattle.circ_file.specs.Feeding.{reading_of, Stands}
+use Rattle.circ_file.specs.Feeding.{FaultIs, IsOfLine, IsLineFault, reading_of, Stands}
+use Rattle.circ_file.specs.declared.fault.FileFault.{FileFault}
 use Rattle.circ_file.specs.declared.taken.Taken.TheVariants as taken
 use Rattle.circ_file.specs.declared.reader.FileReader.{FileReader}
 
@@ -73,6 +75,28 @@ module _ (th : Theory) (x more_bytes : List ℕ) (handed : List Part) (f g : Fil
       let P : Theory → Type 0 = λ y. passes_at y k.seen l ≡ true in
       let Q : Theory → Type 0 = λ y. limit_at y k.seen l ≡ true in
       faults_limit th x more_bytes later handed k l h.0 s.stands range text h.1 (subst P s.theory h.2) (subst Q s.theory h.3)
+
+  -- The fault of the line is that of a whole line.
+  pub line_shows : (e : FileFault) → NoFeed more_bytes → IsOfLine e (f.lines + 1)
+      → ((later : List ℕ) → FaultIs th ((x ++ (more_bytes ++ (10 ∷ []))) ++ later) e) → IsLineFault th (x ++ (more_bytes ++ (10 ∷ []))) e
+  line_shows e n number fault =
+      let r : StandsFor th x handed (reading_of s.wanted f) = s.stands in
+      let front : List ℕ = file_text r.whole_lines in
+      let line : List ℕ = f.rest.items ++ more_bytes in
+      let P : ℕ → Type 0 = λ m. IsOfLine e (m + 1) in
+      let Q : List ℕ → Type 0 = λ y. (later : List ℕ) → FaultIs th (y ++ later) e in
+      let same : x ++ (more_bytes ++ (10 ∷ [])) ≡ front ++ (line ++ (10 ∷ []))
+      = ap (λ y. y ++ (more_bytes ++ (10 ∷ []))) r.fed.at.text ∙ append_assoc front f.rest.items (more_bytes ++ (10 ∷ []))
+      ∙ ap (λ y. front ++ y) (sym (append_assoc f.rest.items more_bytes (10 ∷ []))) in
+      record {
+        before = r.whole_lines;
+        line = line;
+        after = [];
+        no_feed = no_feed_append f.rest.items more_bytes r.fed.no_feed n;
+        whole = same ∙ sym (append-nil (front ++ (line ++ (10 ∷ []))));
+        number = subst P r.fed.count number;
+        fault = subst Q same fault;
+      }
 
   -- Bytes without a line feed are kept.
   pub rest_taken : NoFeed more_bytes → g.reader ≡ f.reader → g.lines ≡ f.lines → g.rest.items ≡ f.rest.items ++ more_bytes → g.fault ≡ None

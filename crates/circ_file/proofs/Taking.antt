@@ -26,7 +26,7 @@ use Rattle.circ_proof_text.proofs.Places.{place_tells, increasing_push}
 use Rattle.circ_line.specs.Plain.{plain_line}
 use Rattle.circ_line.specs.declared.line.Line.{Line as CodeLine}
 use Rattle.circ_line.specs.declared.line.Line.TheVariants as line
-use Rattle.circ_file.specs.View.{places_with, IsReady, IsFree, IsKeptAt, IsKept, now_at, now_of, Takes, Moves}
+use Rattle.circ_file.specs.View.{places_with, IsReady, IsFree, IsKeptAt, IsKept, now_at, now_of, MachineTakes, Moves}
 use Rattle.circ_file.specs.Counting.{certificates_with, steps_with}
 use Rattle.circ_file.specs.Lines.{IsInStep, IsOther, IsReader, seen_of, Advances, Handles}
 use Rattle.circ_file.specs.Adding.{terms_in, is_open, AddsLine}
@@ -210,7 +210,7 @@ reader_then r s k t n p a b = record {
 
 -- What becomes of a table line is what becomes of it in the table.
 pub table_handled : (w : List ℕ) (r s : LineReader) (l : TableLine) (t : Taken) → IsReader r → s.theory.now ≡ r.theory.now → s.counts ≡ r.counts
-    → Takes (terms_in r.table) r.machine (table_line l) s.machine → AddsLine r.theory.now.signature (terms_in r.table) l t (terms_in s.table)
+    → MachineTakes (terms_in r.table) r.machine (table_line l) s.machine → AddsLine r.theory.now.signature (terms_in r.table) l t (terms_in s.table)
     → is_open s.table ≡ true → Handles t w r (table_line l) s
 table_handled w r s l Yes k t n m (u, f, within, us) b =
     let th : Theory = r.theory.now in

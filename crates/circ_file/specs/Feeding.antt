@@ -1,8 +1,9 @@
 -- A reader of a proof's text, which comes in pieces.
-use Rattle.std.specs.Prelude.{◌≡◌, ◌≢◌, ℕ, ◌+◌, ◌<◌, ◌^◌, List, [], ◌∷◌, ◌++◌, map, Option, Some, None, Result, Ok, Err}
+use Rattle.std.specs.Prelude.{◌≡◌, ◌≢◌, ℕ, ◌+◌, ◌<◌, ◌^◌, List, [], ◌∷◌, ◌++◌, length, map, Option, Some, None, Result, Ok, Err}
 use Rattle.circ_theory.specs.Theory.{Theory}
+use Rattle.circ_line.specs.Line.{Line as FileLine}
 use Rattle.circ_line.specs.Plain.{NoFeed}
-use Rattle.circ_grammar.specs.FirstBad.{Line_fault, Limit_fault}
+use Rattle.circ_grammar.specs.FirstBad.{file_text, Line_fault, Limit_fault}
 use Rattle.circ_grammar.specs.Parts.{shown_by}
 use Rattle.circ_grammar.specs.Parts as grammar
 use Rattle.circ_rules.specs.Proof.{Proof}
@@ -59,13 +60,21 @@ pub record Stands (th : Theory) (x : List ℕ) (handed : List Part) (f : FileRea
   pub stands : StandsFor th x handed (reading_of wanted f)
   pub fault : f.fault ≡ None
 
--- These bytes have a whole line by which every text that goes on from it has this fault.
+-- the fault is that of the line of this number
+abbrev pub IsOfLine : FileFault → ℕ → Type 0
+IsOfLine (Line n) m = n ≡ m
+IsOfLine (Limit n) m = n ≡ m
+IsOfLine Memory m = Unit {0}
+
+-- A whole line of these bytes has the fault, in every text that goes on from it.
 pub record IsLineFault (th : Theory) (bytes : List ℕ) (e : FileFault) : Type 0 where
-  pub before : List ℕ
+  pub before : List FileLine
   pub line : List ℕ
   pub after : List ℕ
-  pub whole : bytes ≡ (before ++ (line ++ (10 ∷ []))) ++ after
-  pub fault : (later : List ℕ) → FaultIs th ((before ++ (line ++ (10 ∷ []))) ++ later) e
+  pub no_feed : NoFeed line
+  pub whole : bytes ≡ (file_text before ++ (line ++ (10 ∷ []))) ++ after
+  pub number : IsOfLine e (length before + 1)
+  pub fault : (later : List ℕ) → FaultIs th ((file_text before ++ (line ++ (10 ∷ []))) ++ later) e
 
 -- The fault is that of a whole line of the bytes, or memory ran out.
 abbrev pub IsShown : Theory → List ℕ → FileFault → Type 0
@@ -85,7 +94,8 @@ Feeds (Err e) th x piece handed f = (f.fault ≡ Some e) × ((later : List ℕ) 
 -- The same of the rest of a line and its line feed.
 abbrev pub EndsLine : Result (Unit {0}) FileFault → Theory → (x more_bytes : List ℕ) → List Part → FileReader → Type 0
 EndsLine (Ok _) th x bytes handed f = Stands th (x ++ (bytes ++ (10 ∷ []))) handed f
-EndsLine (Err e) th x bytes handed f = (later : List ℕ) → FaultIs th ((x ++ (bytes ++ (10 ∷ []))) ++ later) e
+EndsLine (Err e) th x bytes handed f =
+    ((later : List ℕ) → FaultIs th ((x ++ (bytes ++ (10 ∷ []))) ++ later) e) × IsShown th (x ++ (bytes ++ (10 ∷ []))) e
 
 -- the parts handed out, with the next
 abbrev pub handed_with : List Part → Option CodePart → List Part

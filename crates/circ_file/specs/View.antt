@@ -48,12 +48,12 @@ abbrev pub IsKept : List Tree → Machine → Type 0
 IsKept ts m = IsKeptAt m.mode ts m
 
 -- the parts that a line shows which begins a certificate or the first block
-abbrev pub front_parts : List Tree → Now → List Part
-front_parts ts n = map (part_with ts) (front_part ts n)
+abbrev pub shown_front_parts : List Tree → Now → List Part
+shown_front_parts ts n = map (part_with ts) (front_part ts n)
 
 -- and one that begins a step
-abbrev pub step_parts : List Tree → Now → List Part
-step_parts ts n = map (part_with ts) (step_part ts n)
+abbrev pub shown_step_parts : List Tree → Now → List Part
+shown_step_parts ts n = map (part_with ts) (step_part ts n)
 
 -- the parts that a line shows
 abbrev pub parts_at : List Tree → Now → Line → List Part
@@ -65,7 +65,7 @@ places_with gs (place_line f i) = gs ++ place f i ∷ []
 places_with gs _ = gs
 
 -- The line is the next, and what it shows goes last in the queue.
-pub record Takes (ts : List Tree) (m : Machine) (l : Line) (n : Machine) : Type 0 where
+pub record MachineTakes (ts : List Tree) (m : Machine) (l : Line) (n : Machine) : Type 0 where
   pub next : next_now (now_of m) l ≡ Some (now_of n)
   pub queue : queue_of n ≡ queue_of m ++ parts_at ts (now_of m) l
   pub places : n.places.items ≡ places_with m.places.items l
@@ -73,12 +73,12 @@ pub record Takes (ts : List Tree) (m : Machine) (l : Line) (n : Machine) : Type 
 
 -- whether the line was taken, or cannot come here
 abbrev pub Moves : Bool → List Tree → Machine → Line → Machine → Type 0
-Moves true ts m l n = Takes ts m l n
+Moves true ts m l n = MachineTakes ts m l n
 Moves false ts m l n = next_now (now_of m) l ≡ None
 
 -- A step may begin, and the part that ends by it goes last in the queue; or none may.
 abbrev pub Begins : Bool → List Tree → Machine → Machine → Type 0
-Begins true ts m n = (is_step (now_of m) ≡ true) × (queue_of n ≡ queue_of m ++ step_parts ts (now_of m)) × (n.places.items ≡ m.places.items)
+Begins true ts m n = (is_step (now_of m) ≡ true) × (queue_of n ≡ queue_of m ++ shown_step_parts ts (now_of m)) × (n.places.items ≡ m.places.items)
 Begins false ts m n = is_step (now_of m) ≡ false
 
 -- the first part is taken out, or there is none

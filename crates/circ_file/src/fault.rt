@@ -2,10 +2,10 @@
 use std::alloc::{AllocError, AllocFailed};
 use thiserror::Error;
 
-/// Why no proof was read: the first line at fault, counted from 1. A line that is bad and passes a
-/// limit too is bad.
+/// Why no proof was read: the first line at fault, counted from 1, or memory ran out. A line that
+/// is bad and passes a limit too is bad.
 #[derive(Debug, Drop, Clone, Copy, PartialEq, Eq, Error)]
-#[error("the file is no proof")]
+#[error("no proof was read")]
 pub enum FileFault {
     /// The line is not in its form or in its place, or it fails a check.
     Line { number: u64 },

@@ -8,7 +8,7 @@ ghost use Rattle.circ_line.specs.Line.{certificate_line, block_line, end_line};
 ghost use Rattle.circ_grammar.specs.Machine.{empty};
 ghost use Rattle.circ_grammar.specs.Now.{Begin, Ended, is_front, is_block, next_goal};
 ghost use Rattle.circ_proof_text.specs.Parts.{Head};
-ghost use Rattle.circ_file.specs.View.{now_of, queue_of, plain_part, front_parts};
+ghost use Rattle.circ_file.specs.View.{now_of, queue_of, plain_part, shown_front_parts};
 ghost use Rattle.circ_file.specs.View.{IsKept, Moves, Pops};
 ghost use Rattle.circ_file.specs.declared.machine.Mode.TheVariants.{Opened};
 
@@ -204,7 +204,7 @@ impl Machine {
         requires kept { IsKept table self.old }
         requires set { IsSet theory.now self.old.places.items }
         ensures queue { OnOk result (queue_of self.new ≡
-            queue_of self.old ++ front_parts table (now_of self.old)) }
+            queue_of self.old ++ shown_front_parts table (now_of self.old)) }
         ensures places { OnOk result (self.new.places.items ≡ self.old.places.items) }
     {
         match self.mode {

@@ -23,8 +23,8 @@ use circ_rules::Part;
 use circ_theory::Theory;
 use std::alloc::{AllocError, Global};
 
-/// A reader of a proof's text, which comes in pieces, whatever they are. After a fault it answers
-/// that fault.
+/// A reader of a proof's text, which comes in pieces, whatever they are. After a fault `feed` and
+/// `end` answer that fault, and no part is handed out.
 #[derive(Drop)]
 pub struct FileReader<'a> {
     reader: LineReader<'a>,
@@ -51,8 +51,8 @@ impl<'a> FileReader<'a> {
         }
     }
 
-    /// The next piece of the text. A fault is that of a whole line so far, and so of the whole text,
-    /// whatever comes later. It is kept.
+    /// The next piece of the text. The fault of a line is that of a whole line so far, and so of the
+    /// whole text, whatever comes later. Each fault is kept, want of memory too.
     pub fn feed(&mut self, piece: &[u8]) -> Result<(), FileFault>
         requires sound { IsSound self.old }
         requires room { fault_of self.old ≡ None →

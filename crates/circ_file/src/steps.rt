@@ -8,7 +8,7 @@ ghost use Rattle.circ_grammar.specs.Machine.{empty};
 ghost use Rattle.circ_grammar.specs.Now.{is_step};
 ghost use Rattle.circ_rules.specs.Proof.{goal_of};
 ghost use Rattle.circ_file.specs.Splits.{given, tops, now_given, parts_given};
-ghost use Rattle.circ_file.specs.View.{now_of, queue_of, step_parts, IsKept, Moves, Begins};
+ghost use Rattle.circ_file.specs.View.{now_of, queue_of, shown_step_parts, IsKept, Moves, Begins};
 ghost use Rattle.circ_file.specs.declared.machine.Mode.TheVariants.{Opened};
 
 use crate::machine::{Machine, Mode, empty_chain};

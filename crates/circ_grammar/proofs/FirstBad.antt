@@ -10,8 +10,8 @@ use Rattle.circ_line.specs.Text.{line_text, IsInRange}
 use Rattle.circ_line.specs.Plain.{NoFeed, ReadsLine}
 use Rattle.circ_line.proofs.OneText.{one_text, no_feed}
 use Rattle.circ_grammar.specs.Grammar.{NumberedBlock, NumberedProof, HasParts, proof_lines}
-use Rattle.circ_grammar.specs.FirstBad.{Rules, file_text, AllInRange, AllPass, NoLimit, IsTextOf, Follows, IsGood, PassesLimit, Line_fault, Limit_fault}
-use Rattle.circ_grammar.specs.FirstBad.{IsFaultless, IsFirstBadLine}
+use Rattle.circ_grammar.specs.FirstBad.{LineTests, file_text, AllInRange, AllPass, NoLimit, IsTextOf, Follows, IsGood, PassesLimit, Line_fault, Limit_fault}
+use Rattle.circ_grammar.specs.FirstBad.{IsFaultless, IsFirstFault}
 use Rattle.circ_grammar.specs.Machine.{Front, State, begin, ended, next, run, proof_of, front}
 use Rattle.circ_grammar.specs.Reading.{At, NextLine, IsEnded}
 use Rattle.circ_grammar.proofs.Complete.{proof_run, run-front, begins_run}
@@ -80,12 +80,12 @@ cut_list (suc k) [] h = absurd (omega arith)
 cut_list (suc k) (l ∷ ls) h = let c : (a : List Line) × (b : List Line) × (ls ≡ a ++ b) × (length a ≡ k) = cut_list k ls (omega arith) in
     (l ∷ c.0, c.1, ap (λ x. l ∷ x) c.2, omega (arith, c.3))
 
-pub pass_front : (r : Rules) (before a b : List Line) → AllPass r before (a ++ b) → AllPass r before a
+pub pass_front : (r : LineTests) (before a b : List Line) → AllPass r before (a ++ b) → AllPass r before a
 pass_front r before [] b h = tt
 pass_front r before (l ∷ a) b h = (h.0, pass_front r (before ++ (l ∷ [])) a b h.1)
 
 -- What is good up to n is good up to each number below.
-pub good_front : (r : Rules) (bytes : List ℕ) (n k : ℕ) → IsGood r bytes n → k ≤ n → IsGood r bytes k
+pub good_front : (r : LineTests) (bytes : List ℕ) (n k : ℕ) → IsGood r bytes n → k ≤ n → IsGood r bytes k
 good_front r bytes n k (ls, rest, len, text, (p, more, parts, e, fit), pass) h =
     let c : (a : List Line) × (b : List Line) × (ls ≡ a ++ b) × (length a ≡ k) = cut_list k ls (omega arith) in
     let P : List Line → Type 0 = AllPass r [] in (
@@ -98,18 +98,18 @@ good_front r bytes n k (ls, rest, len, text, (p, more, parts, e, fit), pass) h =
       pass_front r [] c.0 c.1 (subst P c.2 pass),
     )
 
-pub at_good : (r : Rules) (bytes : List ℕ) (ls : List Line) (rest : List ℕ) (m : State) → At r bytes ls rest m → IsGood r bytes (length ls)
+pub at_good : (r : LineTests) (bytes : List ℕ) (ls : List Line) (rest : List ℕ) (m : State) → At r bytes ls rest m → IsGood r bytes (length ls)
 at_good r bytes ls rest m at = (ls, rest, refl, at.text, at_follows ls m at.state at.fit, at.pass)
 
 pub false_true : false ≡ true → ⊥
 false_true e = let same : ◌≡◌ {A = ℕ} 0 1 = cc in absurd (omega arith)
 
-pub limit_at : (r : Rules) (before a : List Line) (l : Line) (more : List Line) → NoLimit r before ((a ++ (l ∷ [])) ++ more)
+pub limit_at : (r : LineTests) (before a : List Line) (l : Line) (more : List Line) → NoLimit r before ((a ++ (l ∷ [])) ++ more)
     → r.limit (before ++ a) l ≡ false
 limit_at r before [] l more h = ap (λ x. r.limit x l) (append-nil before) ∙ h.0
 limit_at r before (c ∷ a) l more h = ap (λ x. r.limit x l) (sym (append_assoc before (c ∷ []) a)) ∙ limit_at r (before ++ (c ∷ [])) a l more h.1
 
-pub at_faultless : (r : Rules) (bytes : List ℕ) (ls : List Line) (rest : List ℕ) (m : State) → At r bytes ls rest m
+pub at_faultless : (r : LineTests) (bytes : List ℕ) (ls : List Line) (rest : List ℕ) (m : State) → At r bytes ls rest m
     → IsFaultless r bytes (length ls)
 at_faultless r bytes ls rest m at = record {
   good = λ k h. good_front r bytes (length ls) k (at_good r bytes ls rest m at) h;
@@ -125,7 +125,7 @@ at_faultless r bytes ls rest m at = record {
         absurd (false_true (sym no ∙ reached))
 
 -- one line more than has been read
-pub more_line : (r : Rules) (bytes : List ℕ) (ls : List Line) (rest : List ℕ) (m : State) → At r bytes ls rest m
+pub more_line : (r : LineTests) (bytes : List ℕ) (ls : List Line) (rest : List ℕ) (m : State) → At r bytes ls rest m
     → (xs : List Line) (after : List ℕ) → length xs ≡ length ls + 1 → bytes ≡ file_text xs ++ after → AllInRange xs
     → (l : Line) × (xs ≡ ls ++ (l ∷ [])) × (rest ≡ line_text l ++ (10 ∷ after)) × IsInRange l
 more_line r bytes ls rest m at xs after len text fit =
@@ -142,8 +142,8 @@ more_line r bytes ls rest m at xs after len text fit =
     go (l ∷ k ∷ more) e t n = absurd (omega arith)
 
 -- The next line is bad where no good line follows, and the file is not whole.
-pub first_bad : (r : Rules) (bytes : List ℕ) (ls : List Line) (rest : List ℕ) (m : State) → At r bytes ls rest m
-    → (IsGood r bytes (length ls + 1) → ⊥) → (rest ≡ [] → IsEnded m → ⊥) → IsFirstBadLine r bytes (Line_fault (length ls + 1))
+pub first_bad : (r : LineTests) (bytes : List ℕ) (ls : List Line) (rest : List ℕ) (m : State) → At r bytes ls rest m
+    → (IsGood r bytes (length ls + 1) → ⊥) → (rest ≡ [] → IsEnded m → ⊥) → IsFirstFault r bytes (Line_fault (length ls + 1))
 first_bad r bytes ls rest m at bad open_yet =
     let e : length ls + 1 - 1 ≡ length ls = omega arith in
     let P : ℕ → Type 0 = IsFaultless r bytes in
@@ -183,8 +183,8 @@ pub follows_fit : (xs : List Line) → Follows xs → AllInRange xs
 follows_fit xs (p, more, parts, e, fit) = let P : List Line → Type 0 = AllInRange in all_front IsInRange xs more (subst P e fit)
 
 -- 1. No line feed comes any more, and the file is not whole.
-pub bad_cut : (r : Rules) (bytes : List ℕ) (ls : List Line) (rest : List ℕ) (m : State) → At r bytes ls rest m
-    → NoFeed rest → (rest ≡ [] → IsEnded m → ⊥) → IsFirstBadLine r bytes (Line_fault (length ls + 1))
+pub bad_cut : (r : LineTests) (bytes : List ℕ) (ls : List Line) (rest : List ℕ) (m : State) → At r bytes ls rest m
+    → NoFeed rest → (rest ≡ [] → IsEnded m → ⊥) → IsFirstFault r bytes (Line_fault (length ls + 1))
 bad_cut r bytes ls rest m at h open_yet = first_bad r bytes ls rest m at no_good open_yet
   where
     no_good : IsGood r bytes (length ls + 1) → ⊥
@@ -197,8 +197,8 @@ not_empty_text : (b after rest : List ℕ) → rest ≡ b ++ (10 ∷ after) → 
 not_empty_text b after rest e f = omega (arith, ap length e, ap length f, length-append b (10 ∷ after))
 
 -- 2. What comes up to the next line feed is no line.
-pub bad_form : (r : Rules) (bytes : List ℕ) (ls : List Line) (rest b after : List ℕ) (m : State) → At r bytes ls rest m
-    → NoFeed b → rest ≡ b ++ (10 ∷ after) → ReadsLine b None → IsFirstBadLine r bytes (Line_fault (length ls + 1))
+pub bad_form : (r : LineTests) (bytes : List ℕ) (ls : List Line) (rest b after : List ℕ) (m : State) → At r bytes ls rest m
+    → NoFeed b → rest ≡ b ++ (10 ∷ after) → ReadsLine b None → IsFirstFault r bytes (Line_fault (length ls + 1))
 bad_form r bytes ls rest b after m at h split none = first_bad r bytes ls rest m at no_good (λ e z. not_empty_text b after rest split e)
   where
     no_good : IsGood r bytes (length ls + 1) → ⊥
@@ -209,7 +209,7 @@ bad_form r bytes ls rest b after m at h split none = first_bad r bytes ls rest m
         none q.0 q.3 c.0
 
 -- One line more in the bytes is the next line.
-next_line : (r : Rules) (bytes : List ℕ) (ls : List Line) (rest after : List ℕ) (m : State) → At r bytes ls rest m
+next_line : (r : LineTests) (bytes : List ℕ) (ls : List Line) (rest after : List ℕ) (m : State) → At r bytes ls rest m
     → (l : Line) → NextLine rest l after
     → (xs : List Line) (later : List ℕ) → length xs ≡ length ls + 1 → bytes ≡ file_text xs ++ later → AllInRange xs → xs ≡ ls ++ (l ∷ [])
 next_line r bytes ls rest after m at l (fits, split) xs later len text fit =
@@ -233,8 +233,8 @@ run_push m ls l e n f = let s : (q : State) × (run begin ls ≡ Some q) × (run
     one (Some x) e = e
 
 -- 3. The next line may not stand here.
-pub bad_next : (r : Rules) (bytes : List ℕ) (ls : List Line) (rest after : List ℕ) (m : State) → At r bytes ls rest m
-    → (l : Line) → NextLine rest l after → next m l ≡ None → IsFirstBadLine r bytes (Line_fault (length ls + 1))
+pub bad_next : (r : LineTests) (bytes : List ℕ) (ls : List Line) (rest after : List ℕ) (m : State) → At r bytes ls rest m
+    → (l : Line) → NextLine rest l after → next m l ≡ None → IsFirstFault r bytes (Line_fault (length ls + 1))
 bad_next r bytes ls rest after m at l line none =
     first_bad r bytes ls rest m at no_good (λ q z. not_empty_text (line_text l) after rest line.1 q)
   where
@@ -245,13 +245,13 @@ bad_next r bytes ls rest after m at l line none =
         let f : next m l ≡ Some n.0 = run_push m ls l at.state n.0 (ap (run begin) (sym q) ∙ n.1) in
         none-some n.0 (sym none ∙ f)
 
-pass_last : (r : Rules) (before ls : List Line) (l : Line) → AllPass r before (ls ++ (l ∷ [])) → r.passes (before ++ ls) l ≡ true
+pass_last : (r : LineTests) (before ls : List Line) (l : Line) → AllPass r before (ls ++ (l ∷ [])) → r.passes (before ++ ls) l ≡ true
 pass_last r before [] l h = ap (λ x. r.passes x l) (append-nil before) ∙ h.0
 pass_last r before (c ∷ ls) l h = ap (λ x. r.passes x l) (sym (append_assoc before (c ∷ []) ls)) ∙ pass_last r (before ++ (c ∷ [])) ls l h.1
 
 -- 4. The next line does not pass the checks.
-pub bad_check : (r : Rules) (bytes : List ℕ) (ls : List Line) (rest after : List ℕ) (m : State) → At r bytes ls rest m
-    → (l : Line) → NextLine rest l after → r.passes ls l ≡ false → IsFirstBadLine r bytes (Line_fault (length ls + 1))
+pub bad_check : (r : LineTests) (bytes : List ℕ) (ls : List Line) (rest after : List ℕ) (m : State) → At r bytes ls rest m
+    → (l : Line) → NextLine rest l after → r.passes ls l ≡ false → IsFirstFault r bytes (Line_fault (length ls + 1))
 bad_check r bytes ls rest after m at l line fails =
     first_bad r bytes ls rest m at no_good (λ q z. not_empty_text (line_text l) after rest line.1 q)
   where
@@ -261,12 +261,12 @@ bad_check r bytes ls rest after m at l line fails =
         let P : List Line → Type 0 = AllPass r [] in
         false_true (sym fails ∙ pass_last r [] ls l (subst P q pass))
 
-pass-push : (r : Rules) (before ls : List Line) (l : Line) → AllPass r before ls → r.passes (before ++ ls) l ≡ true → AllPass r before (ls ++ (l ∷ []))
+pass-push : (r : LineTests) (before ls : List Line) (l : Line) → AllPass r before ls → r.passes (before ++ ls) l ≡ true → AllPass r before (ls ++ (l ∷ []))
 pass-push r before [] l h e = (ap (λ x. r.passes x l) (sym (append-nil before)) ∙ e, tt)
 pass-push r before (c ∷ ls) l h e =
     (h.0, pass-push r (before ++ (c ∷ [])) ls l h.1 (ap (λ x. r.passes x l) (append_assoc before (c ∷ []) ls) ∙ e))
 
-within-push : (r : Rules) (before ls : List Line) (l : Line) → NoLimit r before ls → r.limit (before ++ ls) l ≡ false → NoLimit r before (ls ++ (l ∷ []))
+within-push : (r : LineTests) (before ls : List Line) (l : Line) → NoLimit r before ls → r.limit (before ++ ls) l ≡ false → NoLimit r before (ls ++ (l ∷ []))
 within-push r before [] l h e = (ap (λ x. r.limit x l) (sym (append-nil before)) ∙ e, tt)
 within-push r before (c ∷ ls) l h e =
     (h.0, within-push r (before ++ (c ∷ [])) ls l h.1 (ap (λ x. r.limit x l) (append_assoc before (c ∷ []) ls) ∙ e))
@@ -279,9 +279,9 @@ pushed_text bytes ls rest after text l split =
     ∙ (sym (append_assoc (file_text ls) (line_text l ++ (10 ∷ [])) after) ∙ ap (λ x. x ++ after) (sym (file_text-append ls (l ∷ []))))))
 
 -- 5. The next line is good and passes a limit.
-pub bad_limit : (r : Rules) (bytes : List ℕ) (ls : List Line) (rest after : List ℕ) (m n : State) → At r bytes ls rest m
+pub bad_limit : (r : LineTests) (bytes : List ℕ) (ls : List Line) (rest after : List ℕ) (m n : State) → At r bytes ls rest m
     → (l : Line) → NextLine rest l after → next m l ≡ Some n → r.passes ls l ≡ true → r.limit ls l ≡ true
-    → IsFirstBadLine r bytes (Limit_fault (length ls + 1))
+    → IsFirstFault r bytes (Limit_fault (length ls + 1))
 bad_limit r bytes ls rest after m n at l (fits, split) f pass reached =
     let z : length ls + 1 - 1 ≡ length ls = omega arith in
     let P : ℕ → Type 0 = IsFaultless r bytes in
@@ -301,7 +301,7 @@ bad_limit r bytes ls rest after m n at l (fits, split) f pass reached =
     )
 
 -- 6. The next line is read.
-pub go_on : (r : Rules) (bytes : List ℕ) (ls : List Line) (rest after : List ℕ) (m n : State) → At r bytes ls rest m
+pub go_on : (r : LineTests) (bytes : List ℕ) (ls : List Line) (rest after : List ℕ) (m n : State) → At r bytes ls rest m
     → (l : Line) → NextLine rest l after → next m l ≡ Some n → r.passes ls l ≡ true → r.limit ls l ≡ false → At r bytes (ls ++ (l ∷ [])) after n
 go_on r bytes ls rest after m n at l (fits, split) f pass within = record {
   text = pushed_text bytes ls rest after at.text l split;
@@ -312,7 +312,7 @@ go_on r bytes ls rest after m n at l (fits, split) f pass within = record {
 }
 
 -- 7. The file is whole.
-pub whole : (r : Rules) (bytes : List ℕ) (ls : List Line) (f : Front) (bs : List NumberedBlock) → At r bytes ls [] (ended f bs)
+pub whole : (r : LineTests) (bytes : List ℕ) (ls : List Line) (f : Front) (bs : List NumberedBlock) → At r bytes ls [] (ended f bs)
     → IsTextOf r (proof_of f bs) bytes
 whole r bytes ls f bs at = let w : HasParts (proof_of f bs) × (proof_lines (proof_of f bs) ≡ ls) = run_whole ls f bs at.state in
     let F : List Line → Type 0 = AllInRange in let P : List Line → Type 0 = AllPass r [] in let N : List Line → Type 0 = NoLimit r [] in record {

@@ -1,4 +1,4 @@
--- Bytes that are no proof's text have a first bad line: a reader that goes from line to line comes to the one or the other.
+-- Bytes that are no proof's text have a first line at fault: a reader that goes from line to line comes to the one or the other.
 use Rattle.std.specs.Prelude.{◌≡◌, ℕ, ◌+◌, ◌<◌, ◌⊎◌, List, [], ◌∷◌, ◌++◌, length, refl, Option, Some, None, nat_eq, Bool, true, false, zero, suc}
 use Rattle.std.proofs.Common.{◌∙◌, ap, arith, length-append, inl, inr, subst}
 use Rattle.std.proofs.lemmas.Bool.{eqb-true}
@@ -6,7 +6,7 @@ use Rattle.circ_line.specs.Line.{Line}
 use Rattle.circ_line.specs.Text.{line_text}
 use Rattle.circ_line.specs.Plain.{NoFeed}
 use Rattle.circ_grammar.specs.Grammar.{NumberedProof}
-use Rattle.circ_grammar.specs.FirstBad.{Rules, IsTextOf, LineFault, Line_fault, Limit_fault, IsFirstBadLine}
+use Rattle.circ_grammar.specs.FirstBad.{LineTests, IsTextOf, LineFault, Line_fault, Limit_fault, IsFirstFault}
 use Rattle.circ_grammar.specs.Machine.{State, begin, tabling, placing, certifying, opened, stepping, simplifying, reducing, closed, ended, next, proof_of}
 use Rattle.circ_grammar.specs.Reading.{At, NextLine, IsEnded}
 use Rattle.circ_grammar.proofs.FirstBad.{bad_cut, bad_form, bad_next, bad_check, bad_limit, go_on, whole}
@@ -36,11 +36,11 @@ ended_or_not (simplifying o c) = inr (λ h. absurd (cc h.2))
 ended_or_not (reducing o fs c) = inr (λ h. absurd (cc h.2))
 ended_or_not (closed f bs) = inr (λ h. absurd (cc h.2))
 
--- what bytes are: some proof's text, or with a first bad line
-abbrev pub HasAnswer : Rules → List ℕ → Type 0
-HasAnswer r bytes = ((p : NumberedProof) × IsTextOf r p bytes) ⊎ ((f : LineFault) × IsFirstBadLine r bytes f)
+-- what bytes are: some proof's text, or with a first line at fault
+abbrev pub HasAnswer : LineTests → List ℕ → Type 0
+HasAnswer r bytes = ((p : NumberedProof) × IsTextOf r p bytes) ⊎ ((f : LineFault) × IsFirstFault r bytes f)
 
-at_end : (r : Rules) (bytes : List ℕ) (ls : List Line) (rest : List ℕ) (m : State) → At r bytes ls rest m → NoFeed rest → HasAnswer r bytes
+at_end : (r : LineTests) (bytes : List ℕ) (ls : List Line) (rest : List ℕ) (m : State) → At r bytes ls rest m → NoFeed rest → HasAnswer r bytes
 at_end r bytes ls [] m at h = go (ended_or_not m)
   where
     go : IsEnded m ⊎ (IsEnded m → ⊥) → HasAnswer r bytes
@@ -49,7 +49,7 @@ at_end r bytes ls [] m at h = go (ended_or_not m)
 at_end r bytes ls (c ∷ rest) m at h = inr (Line_fault (length ls + 1), bad_cut r bytes ls (c ∷ rest) m at h (λ e z. omega (arith, ap length e)))
 
 -- The next line is bad, or it is read.
-at_line : (r : Rules) (bytes : List ℕ) (ls : List Line) (rest after : List ℕ) (m : State) → At r bytes ls rest m
+at_line : (r : LineTests) (bytes : List ℕ) (ls : List Line) (rest after : List ℕ) (m : State) → At r bytes ls rest m
     → (l : Line) → NextLine rest l after → HasAnswer r bytes ⊎ ((n : State) × At r bytes (ls ++ (l ∷ [])) after n)
 at_line r bytes ls rest after m at l line = go (next m l) refl
   where
@@ -67,7 +67,7 @@ at_line r bytes ls rest after m at l line = go (next m l) refl
     go (Some n) e = checks n e (r.passes ls l) refl
 
 -- From each place there is an answer.
-answer_after : (r : Rules) (bytes : List ℕ) → (HasAnswer r bytes → ⊥) → (n : ℕ) (ls : List Line) (rest : List ℕ) (m : State) → At r bytes ls rest m
+answer_after : (r : LineTests) (bytes : List ℕ) → (HasAnswer r bytes → ⊥) → (n : ℕ) (ls : List Line) (rest : List ℕ) (m : State) → At r bytes ls rest m
     → length rest < n + 1
     → ((l : Line) (after : List ℕ) (q : State) → At r bytes (ls ++ (l ∷ [])) after q → length after < n → ⊥) → ⊥
 answer_after r bytes none n ls rest m at h ih = go (first_feed rest)
@@ -86,15 +86,15 @@ answer_after r bytes none n ls rest m at h ih = go (first_feed rest)
           read l after t (at_line r bytes ls rest after m at l (fits, t))),
     ))
 
-some_answer_from : (r : Rules) (bytes : List ℕ) → (HasAnswer r bytes → ⊥) → (n : ℕ) (ls : List Line) (rest : List ℕ) (m : State)
+some_answer_from : (r : LineTests) (bytes : List ℕ) → (HasAnswer r bytes → ⊥) → (n : ℕ) (ls : List Line) (rest : List ℕ) (m : State)
     → At r bytes ls rest m → length rest < n → ⊥
 some_answer_from r bytes none zero ls rest m at h = absurd (omega arith)
 some_answer_from r bytes none (suc n) ls rest m at h =
     answer_after r bytes none n ls rest m at (omega arith) (λ l after q further z. some_answer_from r bytes none n (ls ++ (l ∷ [])) after q further z)
 
--- Bytes that are no proof's text have a first bad line.
-pub some_answer : (r : Rules) (bytes : List ℕ) → ((p : NumberedProof) → IsTextOf r p bytes → ⊥)
-    → ((f : LineFault) → IsFirstBadLine r bytes f → ⊥) → ⊥
+-- Bytes that are no proof's text have a first line at fault.
+pub some_answer : (r : LineTests) (bytes : List ℕ) → ((p : NumberedProof) → IsTextOf r p bytes → ⊥)
+    → ((f : LineFault) → IsFirstFault r bytes f → ⊥) → ⊥
 some_answer r bytes no_text no_bad = some_answer_from r bytes none (length bytes + 1) [] bytes begin start (omega arith)
   where
     none : HasAnswer r bytes → ⊥

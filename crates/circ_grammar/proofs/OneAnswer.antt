@@ -1,12 +1,12 @@
--- Bytes are the text of one proof, or have one first bad line, and never both.
+-- Bytes are the text of one proof, or have one first line at fault, and never both.
 use Rattle.std.specs.Prelude.{◌≡◌, ℕ, ◌<◌, ◌≤◌, ◌⊎◌, List, [], ◌∷◌, ◌++◌, length, true}
 use Rattle.std.proofs.Common.{sym, ◌∙◌, ap, arith, append-nil, length-append, inl, inr, subst}
 use Rattle.std.proofs.lemmas.Option.{same_Some}
 use Rattle.circ_line.specs.Line.{Line}
 use Rattle.circ_line.specs.Text.{line_text}
 use Rattle.circ_grammar.specs.Grammar.{NumberedProof, proof_lines}
-use Rattle.circ_grammar.specs.FirstBad.{Rules, file_text, AllInRange, NoLimit, IsTextOf, IsGood, PassesLimit, LineFault, Line_fault, Limit_fault}
-use Rattle.circ_grammar.specs.FirstBad.{IsFirstBadLine}
+use Rattle.circ_grammar.specs.FirstBad.{LineTests, file_text, AllInRange, NoLimit, IsTextOf, IsGood, PassesLimit, LineFault, Line_fault, Limit_fault}
+use Rattle.circ_grammar.specs.FirstBad.{IsFirstFault}
 use Rattle.circ_grammar.specs.Machine.{State, begin, ended, run, proof_of, front}
 use Rattle.circ_grammar.proofs.Complete.{proof_run}
 use Rattle.circ_grammar.proofs.FirstBad.{same_front, limit_at, false_true}
@@ -28,7 +28,7 @@ at_most : (a b : ℕ) → (a ≤ b) ⊎ (b < a)
 at_most a b = grind arith
 
 -- A file is the text of one proof at most.
-pub one_proof : (r : Rules) (bytes : List ℕ) (p q : NumberedProof) → IsTextOf r p bytes → IsTextOf r q bytes → p ≡ q
+pub one_proof : (r : LineTests) (bytes : List ℕ) (p q : NumberedProof) → IsTextOf r p bytes → IsTextOf r q bytes → p ≡ q
 one_proof r bytes p q t u = go (at_most (length (proof_lines p)) (length (proof_lines q)))
   where
     lines : (x y : NumberedProof) → IsTextOf r x bytes → IsTextOf r y bytes → length (proof_lines x) ≤ length (proof_lines y)
@@ -45,8 +45,8 @@ one_proof r bytes p q t u = go (at_most (length (proof_lines p)) (length (proof_
     go (inl h) = same (lines p q t u h)
     go (inr h) = same (sym (lines q p u t (omega arith)))
 
--- The text of a proof has no first bad line.
-pub no_fault : (r : Rules) (bytes : List ℕ) (p : NumberedProof) → IsTextOf r p bytes → (f : LineFault) → IsFirstBadLine r bytes f → ⊥
+-- The text of a proof has no first line at fault.
+pub no_fault : (r : LineTests) (bytes : List ℕ) (p : NumberedProof) → IsTextOf r p bytes → (f : LineFault) → IsFirstFault r bytes f → ⊥
 no_fault r bytes p t (Line_fault n) h = h.3 p t
 no_fault r bytes p t (Limit_fault n) h = go h.3
   where
@@ -72,8 +72,8 @@ no_fault r bytes p t (Limit_fault n) h = go h.3
 three_ways : (a b : ℕ) → (a < b) ⊎ ((b < a) ⊎ (a ≡ b))
 three_ways a b = grind arith
 
--- A file has one first bad line at most.
-pub one_fault : (r : Rules) (bytes : List ℕ) (f g : LineFault) → IsFirstBadLine r bytes f → IsFirstBadLine r bytes g → f ≡ g
+-- A file has one first line at fault at most.
+pub one_fault : (r : LineTests) (bytes : List ℕ) (f g : LineFault) → IsFirstFault r bytes f → IsFirstFault r bytes g → f ≡ g
 one_fault r bytes (Line_fault n) (Line_fault m) h k = go (three_ways n m)
   where
     go : (n < m) ⊎ ((m < n) ⊎ (n ≡ m)) → Line_fault n ≡ Line_fault m

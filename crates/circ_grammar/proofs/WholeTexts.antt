@@ -1,4 +1,4 @@
--- A text that breaks off, and one that goes on after its end: the next line is the first bad one.
+-- A text that breaks off, and one that goes on after its end: the next line is the first at fault.
 use Rattle.std.specs.Prelude.{◌≡◌, ℕ, ◌+◌, List, [], ◌∷◌, ◌++◌, length, refl, Some, None}
 use Rattle.std.specs.Option.{option_and_then}
 use Rattle.std.proofs.Common.{sym, ◌∙◌, ap, arith, subst}
@@ -8,7 +8,7 @@ use Rattle.circ_line.specs.Line.{derive_line, done_line, same_line, split_line, 
 use Rattle.circ_line.specs.Text.{line_text, IsInRange}
 use Rattle.circ_line.specs.Plain.{NoFeed}
 use Rattle.circ_grammar.specs.Grammar.{NumberedBlock, NumberedProof, proof_lines}
-use Rattle.circ_grammar.specs.FirstBad.{Rules, file_text, AllInRange, AllPass, NoLimit, IsTextOf, IsGood, Line_fault, IsFirstBadLine}
+use Rattle.circ_grammar.specs.FirstBad.{LineTests, file_text, AllInRange, AllPass, NoLimit, IsTextOf, IsGood, Line_fault, IsFirstFault}
 use Rattle.circ_grammar.specs.Machine.{Front, State, begin, ended, next, run, front}
 use Rattle.circ_grammar.specs.Reading.{At, IsEnded}
 use Rattle.circ_grammar.proofs.Complete.{proof_run, run-front, begins_run}
@@ -31,7 +31,7 @@ ended_stops f bs (left_line link) = refl
 ended_stops f bs (right_line link) = refl
 ended_stops f bs end_line = refl
 
-limit_front : (r : Rules) (before a b : List Line) → NoLimit r before (a ++ b) → NoLimit r before a
+limit_front : (r : LineTests) (before a b : List Line) → NoLimit r before (a ++ b) → NoLimit r before a
 limit_front r before [] b h = tt
 limit_front r before (l ∷ a) b h = (h.0, limit_front r (before ++ (l ∷ [])) a b h.1)
 
@@ -39,7 +39,7 @@ abbrev last : NumberedProof → State
 last p = ended (front p.table p.places p.certificates) p.blocks
 
 -- A reader stands after the first lines of a text, whatever comes then.
-front_at : (r : Rules) (p : NumberedProof) (bytes : List ℕ) → IsTextOf r p bytes → (ls later : List Line) (rest : List ℕ) → proof_lines p ≡ ls ++ later
+front_at : (r : LineTests) (p : NumberedProof) (bytes : List ℕ) → IsTextOf r p bytes → (ls later : List Line) (rest : List ℕ) → proof_lines p ≡ ls ++ later
     → (m : State) × At r (file_text ls ++ rest) ls rest m × (run m later ≡ Some (last p))
 front_at r p bytes t ls later rest e =
     let q : (q : State) × (run begin ls ≡ Some q) × (run q later ≡ Some (last p))
@@ -54,8 +54,8 @@ front_at r p bytes t ls later rest e =
     } in
     (q.0, at, q.2)
 
-pub broken_off : (r : Rules) (p : NumberedProof) (bytes : List ℕ) → IsTextOf r p bytes → (ls : List Line) (l : Line) (later : List Line)
-    (rest : List ℕ) → proof_lines p ≡ ls ++ (l ∷ later) → NoFeed rest → IsFirstBadLine r (file_text ls ++ rest) (Line_fault (length ls + 1))
+pub broken_off : (r : LineTests) (p : NumberedProof) (bytes : List ℕ) → IsTextOf r p bytes → (ls : List Line) (l : Line) (later : List Line)
+    (rest : List ℕ) → proof_lines p ≡ ls ++ (l ∷ later) → NoFeed rest → IsFirstFault r (file_text ls ++ rest) (Line_fault (length ls + 1))
 broken_off r p bytes t ls l later rest e h =
     let a : (m : State) × At r (file_text ls ++ rest) ls rest m × (run m (l ∷ later) ≡ Some (last p)) = front_at r p bytes t ls (l ∷ later) rest e in
     bad_cut r (file_text ls ++ rest) ls rest a.0 a.1 h (λ z. not_ended a.0 a.2)
@@ -64,8 +64,8 @@ broken_off r p bytes t ls l later rest e h =
     not_ended m e (f, bs, q) = let P : State → Type 0 = λ x. run x (l ∷ later) ≡ Some (last p) in
         none-some (last p) (sym (ap (λ o. option_and_then (λ n. run n later) o) (ended_stops f bs l)) ∙ subst P q e)
 
-pub goes_on : (r : Rules) (p : NumberedProof) (bytes : List ℕ) → IsTextOf r p bytes → (b : ℕ) (more : List ℕ)
-    → IsFirstBadLine r (bytes ++ (b ∷ more)) (Line_fault (length (proof_lines p) + 1))
+pub goes_on : (r : LineTests) (p : NumberedProof) (bytes : List ℕ) → IsTextOf r p bytes → (b : ℕ) (more : List ℕ)
+    → IsFirstFault r (bytes ++ (b ∷ more)) (Line_fault (length (proof_lines p) + 1))
 goes_on r p bytes t b more =
     first_bad r (bytes ++ (b ∷ more)) (proof_lines p) (b ∷ more) (last p) at bad (λ z. absurd (omega (arith, ap length z)))
   where

@@ -3,11 +3,11 @@ use Rattle.std.specs.Prelude.{◌≡◌, ℕ, List, [], ◌∷◌, ◌++◌, Som
 use Rattle.circ_line.specs.Line.{Line}
 use Rattle.circ_line.specs.Text.{line_text, IsInRange}
 use Rattle.circ_grammar.specs.Grammar.{NumberedBlock}
-use Rattle.circ_grammar.specs.FirstBad.{Rules, file_text, AllInRange, AllPass, NoLimit}
+use Rattle.circ_grammar.specs.FirstBad.{LineTests, file_text, AllInRange, AllPass, NoLimit}
 use Rattle.circ_grammar.specs.Machine.{Front, State, begin, ended, run}
 
--- The bytes begin with the lines ls, which are as the rules ask and lead to the state m, and then come the bytes rest.
-pub record At (r : Rules) (bytes : List ℕ) (ls : List Line) (rest : List ℕ) (m : State) : Type 0 where
+-- The bytes begin with the lines ls, which are as the tests ask and lead to the state m, and then come the bytes rest.
+pub record At (r : LineTests) (bytes : List ℕ) (ls : List Line) (rest : List ℕ) (m : State) : Type 0 where
   pub text : bytes ≡ file_text ls ++ rest
   pub state : run begin ls ≡ Some m
   pub fit : AllInRange ls

@@ -4,41 +4,42 @@ ghost use Rattle.std.specs.Option.{option_map};
 ghost use Rattle.circ_line.specs.Line.{TableLine, Line};
 ghost use Rattle.circ_line.specs.Plain.{NoFeed};
 ghost use Rattle.circ_grammar.specs.Grammar.{NumberedProof, HasParts, BeginsProof, proof_lines};
-ghost use Rattle.circ_grammar.specs.FirstBad.{Rules, file_text, IsTextOf, LineFault, Line_fault};
-ghost use Rattle.circ_grammar.specs.FirstBad.{IsFirstBadLine};
+ghost use Rattle.circ_grammar.specs.FirstBad.{LineTests, file_text, IsTextOf, LineFault};
+ghost use Rattle.circ_grammar.specs.FirstBad.{Line_fault, IsFirstFault};
 ghost use Rattle.circ_grammar.specs.Machine.{State, begin, next, run};
 ghost use Rattle.circ_grammar.specs.Feeding.{Kept, IsFed};
 ghost use Rattle.circ_grammar.specs.Parts.{NumberedPart, parts_of, shown_by};
 ghost use Rattle.circ_grammar.specs.Shown.{shown, brings};
 ghost use Rattle.circ_grammar.specs.Now.{now, next_now, line_part, with_table};
 
-/// Bytes are the text of one proof at most, or have one first bad line at most, and never both.
+/// Bytes are the text of one proof at most, or have one first line at fault at most, and never
+/// both.
 pub fn one_answer()
-    ensures proof { (r : Rules) (bytes : List ℕ) (p q : NumberedProof) →
+    ensures proof { (r : LineTests) (bytes : List ℕ) (p q : NumberedProof) →
         IsTextOf r p bytes → IsTextOf r q bytes → p ≡ q }
-    ensures bad_line { (r : Rules) (bytes : List ℕ) (f g : LineFault) →
-        IsFirstBadLine r bytes f → IsFirstBadLine r bytes g → f ≡ g }
-    ensures not_both { (r : Rules) (bytes : List ℕ) (p : NumberedProof) →
-        IsTextOf r p bytes → (f : LineFault) → IsFirstBadLine r bytes f → ⊥ }
+    ensures fault { (r : LineTests) (bytes : List ℕ) (f g : LineFault) →
+        IsFirstFault r bytes f → IsFirstFault r bytes g → f ≡ g }
+    ensures not_both { (r : LineTests) (bytes : List ℕ) (p : NumberedProof) →
+        IsTextOf r p bytes → (f : LineFault) → IsFirstFault r bytes f → ⊥ }
 {}
 
-/// Bytes that are no proof's text have a first bad line.
+/// Bytes that are no proof's text have a first line at fault.
 pub fn nothing_left_out()
-    ensures { (r : Rules) (bytes : List ℕ) →
+    ensures { (r : LineTests) (bytes : List ℕ) →
         ((p : NumberedProof) → IsTextOf r p bytes → ⊥) →
-        ((f : LineFault) → IsFirstBadLine r bytes f → ⊥) → ⊥ }
+        ((f : LineFault) → IsFirstFault r bytes f → ⊥) → ⊥ }
 {}
 
-/// Where a proof's text breaks off, the next line is the first bad one, with or without bytes after
-/// the last line feed. So it is where bytes come after the end of a proof's text.
+/// Where a proof's text breaks off, the next line is the first at fault, with or without bytes
+/// after the last line feed. So it is where bytes come after the end of a proof's text.
 pub fn whole_texts_only()
-    ensures broken_off { (r : Rules) (p : NumberedProof) (bytes : List ℕ) →
+    ensures broken_off { (r : LineTests) (p : NumberedProof) (bytes : List ℕ) →
         IsTextOf r p bytes → (ls : List Line) (l : Line) (later : List Line) (rest : List ℕ) →
         proof_lines p ≡ ls ++ (l ∷ later) → NoFeed rest →
-        IsFirstBadLine r (file_text ls ++ rest) (Line_fault (length ls + 1)) }
-    ensures goes_on { (r : Rules) (p : NumberedProof) (bytes : List ℕ) →
+        IsFirstFault r (file_text ls ++ rest) (Line_fault (length ls + 1)) }
+    ensures goes_on { (r : LineTests) (p : NumberedProof) (bytes : List ℕ) →
         IsTextOf r p bytes → (b : ℕ) (more : List ℕ) →
-        IsFirstBadLine r (bytes ++ (b ∷ more)) (Line_fault (length (proof_lines p) + 1)) }
+        IsFirstFault r (bytes ++ (b ∷ more)) (Line_fault (length (proof_lines p) + 1)) }
 {}
 
 /// The machine runs through a list of lines exactly where the list begins a proof.
@@ -69,6 +70,6 @@ pub fn part_under_way()
 
 /// What a reader keeps that is fed in pieces depends on the bytes alone, whatever the pieces were.
 pub fn fed_in_pieces()
-    ensures { (r : Rules) (bytes : List ℕ) (ls bs : List Line) (m n : State) (k j : Kept) →
+    ensures { (r : LineTests) (bytes : List ℕ) (ls bs : List Line) (m n : State) (k j : Kept) →
         IsFed r bytes ls m k → IsFed r bytes bs n j → (ls ≡ bs) × (m ≡ n) × (k ≡ j) }
 {}

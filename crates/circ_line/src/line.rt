@@ -27,13 +27,13 @@ pub enum Line {
     Simplify,
     /// A step that ends a goal: the reason why it holds follows.
     Reduce,
-    /// A step that puts a goal's derivatives in its place.
+    /// A step that makes a goal a hypothesis, with its derivatives behind the other goals.
     Derive,
     /// A block ends.
     Done,
-    /// A reason ends: its two sides are one term.
+    /// A reason ends: its two sides have to be one term.
     Same,
-    /// A reason goes on by the cases of a term: as many reasons follow.
+    /// A reason goes on by the cases of a term: `count` reasons follow.
     Split { term: u32, count: u32 },
     /// A link on the left side.
     Left { link: Link },

@@ -17,7 +17,7 @@ use Rattle.circ_grammar.proofs.FirstBad.{same_front}
 use Rattle.circ_grammar.proofs.Shown.{shown_first}
 use Rattle.circ_grammar.proofs.ShownBy.{shown_is}
 use Rattle.circ_proof_text.specs.TableText.{entries_of}
-use Rattle.circ_proof_text.specs.ProofText.{numbers_of, rules, ReadsAsProof}
+use Rattle.circ_proof_text.specs.ProofText.{numbers_of, line_tests, ReadsAsProof}
 use Rattle.circ_proof_text.specs.Parts.{Part, part_with, parts_of}
 use Rattle.circ_rules.specs.Fitting.{Fit}
 use Rattle.circ_proof_text.specs.Reading.{Reading, StandsFor}
@@ -67,7 +67,7 @@ module _ (th : Theory) (bytes later : List ℕ) (handed : List Part) (k : Readin
       all : List Line
       all = proof_lines (numbers_of p)
 
-      t : IsTextOf (rules th) (numbers_of p) (bytes ++ later)
+      t : IsTextOf (line_tests th) (numbers_of p) (bytes ++ later)
       t = reads_text th (bytes ++ later) p w r
 
       le_or_le : (a b : ℕ) → (a ≤ b) ⊎ (b ≤ a)
@@ -115,7 +115,7 @@ module _ (th : Theory) (bytes later : List ℕ) (handed : List Part) (k : Readin
   pub handed_first : StandsFor th bytes handed k → ReadsAsProof th (bytes ++ later) p → (xs : List Part) × (parts_of p ≡ (handed ++ k.waiting) ++ xs)
   handed_first s r =
       let m = goes_on s r in
-      let t : IsTextOf (rules th) (numbers_of p) (bytes ++ later) = reads_text th (bytes ++ later) p w r in
+      let t : IsTextOf (line_tests th) (numbers_of p) (bytes ++ later) = reads_text th (bytes ++ later) p w r in
       let x = shown_first s.whole_lines m.0 s.state (numbers_of p) s.fed.at.state t.parts m.1 in (
         map (part_with p.table) x.0,
         sym (parts_are th p r.proof_for) ∙ ap (map (part_with p.table)) x.1 ∙ map-append (part_with p.table) (shown s.state) x.0
@@ -126,7 +126,7 @@ module _ (th : Theory) (bytes later : List ℕ) (handed : List Part) (k : Readin
       → handed ++ k.waiting ≡ map (part_with p.table) (shown_by k.lines (grammar.parts_of (numbers_of p)))
   handed_counted s r =
       let m = goes_on s r in
-      let t : IsTextOf (rules th) (numbers_of p) (bytes ++ later) = reads_text th (bytes ++ later) p w r in
+      let t : IsTextOf (line_tests th) (numbers_of p) (bytes ++ later) = reads_text th (bytes ++ later) p w r in
       let x = shown_first s.whole_lines m.0 s.state (numbers_of p) s.fed.at.state t.parts m.1 in
       sym (with_its_terms s r x.0 x.1)
       ∙ ap (map (part_with p.table)) (shown_is s.whole_lines m.0 s.state (numbers_of p) s.fed.at.state t.parts m.1)

@@ -12,3 +12,4 @@ pub mod Standing
 pub mod Fitting
 pub mod Handed
 pub mod TriedExamples
+pub mod WholeParts

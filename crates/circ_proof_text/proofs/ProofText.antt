@@ -10,7 +10,7 @@ use Rattle.circ_grammar.specs.FirstBad.{file_text, AllInRange, AllPass, NoLimit,
 use Rattle.circ_grammar.proofs.OneAnswer as one
 use Rattle.circ_grammar.proofs.NothingLeftOut.{some_answer}
 use Rattle.circ_proof_text.specs.Checks.{Seen, nothing, after, after_all}
-use Rattle.circ_proof_text.specs.ProofText.{numbers_of, proof_text, rules, ReadsAsProof, FirstCause}
+use Rattle.circ_proof_text.specs.ProofText.{numbers_of, proof_text, line_tests, ReadsAsProof, FirstCause}
 use Rattle.circ_proof_text.proofs.Fine.{AllFine}
 use Rattle.circ_proof_text.proofs.Numbers.{fine_fits, fits_fine, one_proof}
 
@@ -18,11 +18,11 @@ pub after_all-append : (th : Theory) (c : Seen) (a b : List Line) → after_all 
 after_all-append th c [] b = refl
 after_all-append th c (l ∷ a) b = after_all-append th (after th c l) a b
 
--- what lines are that are fine, by the rules
+-- what lines are that are fine, by the tests
 pub record AreGoodLines (th : Theory) (before ls : List Line) : Type 0 where
   pub fit : AllInRange ls
-  pub pass : AllPass (rules th) before ls
-  pub within : NoLimit (rules th) before ls
+  pub pass : AllPass (line_tests th) before ls
+  pub within : NoLimit (line_tests th) before ls
 
 good_lines : (th : Theory) (before ls : List Line) → AllFine th (after_all th nothing before) ls → AreGoodLines th before ls
 good_lines th before [] h = record { fit = tt; pass = tt; within = tt }
@@ -31,20 +31,20 @@ good_lines th before (l ∷ ls) h =
     let q = good_lines th (before ++ l ∷ []) ls (subst P (sym (after_all-append th nothing before (l ∷ []))) h.3) in
     record { fit = (h.0, q.fit); pass = (h.1, q.pass); within = (h.2, q.within) }
 
-pub fine_lines : (th : Theory) (before ls : List Line) → AllInRange ls → AllPass (rules th) before ls → NoLimit (rules th) before ls
+pub fine_lines : (th : Theory) (before ls : List Line) → AllInRange ls → AllPass (line_tests th) before ls → NoLimit (line_tests th) before ls
     → AllFine th (after_all th nothing before) ls
 fine_lines th before [] f h k = tt
 fine_lines th before (l ∷ ls) f h k =
     let P : Seen → Type 0 = λ c. AllFine th c ls in
     (f.0, h.0, k.0, subst P (after_all-append th nothing before (l ∷ [])) (fine_lines th (before ++ l ∷ []) ls f.1 h.1 k.1))
 
-pub reads_text : (th : Theory) (bytes : List ℕ) (p : Proof) → IsWellFormed th → ReadsAsProof th bytes p → IsTextOf (rules th) (numbers_of p) bytes
+pub reads_text : (th : Theory) (bytes : List ℕ) (p : Proof) → IsWellFormed th → ReadsAsProof th bytes p → IsTextOf (line_tests th) (numbers_of p) bytes
 reads_text th bytes p w h =
     let f = fits_fine th p w h.proof_for in
     let a = good_lines th [] (proof_lines (numbers_of p)) f.1 in
     record { parts = f.0; fit = a.fit; text = h.text; pass = a.pass; within = a.within }
 
-pub text_reads : (th : Theory) (bytes : List ℕ) (q : NumberedProof) → IsTextOf (rules th) q bytes → (p : Proof) × ReadsAsProof th bytes p × (numbers_of p ≡ q)
+pub text_reads : (th : Theory) (bytes : List ℕ) (q : NumberedProof) → IsTextOf (line_tests th) q bytes → (p : Proof) × ReadsAsProof th bytes p × (numbers_of p ≡ q)
 text_reads th bytes q h =
     let f : (p : Proof) × ProofFor th p × (numbers_of p ≡ q) = fine_fits th q h.parts (fine_lines th [] (proof_lines q) h.fit h.pass h.within) in
     (f.0, record { proof_for = f.1; text = h.text ∙ ap (λ x. file_text (proof_lines x)) (sym f.2) }, f.2)
@@ -52,16 +52,16 @@ text_reads th bytes q h =
 pub one_reading : (th : Theory) (bytes : List ℕ) (p q : Proof) → IsWellFormed th → ReadsAsProof th bytes p → ReadsAsProof th bytes q → p ≡ q
 one_reading th bytes p q w h k =
     one_proof th p q h.proof_for k.proof_for
-    (one.one_proof (rules th) bytes (numbers_of p) (numbers_of q) (reads_text th bytes p w h) (reads_text th bytes q w k))
+    (one.one_proof (line_tests th) bytes (numbers_of p) (numbers_of q) (reads_text th bytes p w h) (reads_text th bytes q w k))
 
 pub reads_back : (th : Theory) (p : Proof) → ProofFor th p → ReadsAsProof th (proof_text p) p
 reads_back th p f = record { proof_for = f; text = refl }
 
 pub not_both : (th : Theory) (bytes : List ℕ) (p : Proof) (fault : LineFault) → IsWellFormed th → ReadsAsProof th bytes p → FirstCause th bytes fault → ⊥
-not_both th bytes p fault w h f = one.no_fault (rules th) bytes (numbers_of p) (reads_text th bytes p w h) fault f
+not_both th bytes p fault w h f = one.no_fault (line_tests th) bytes (numbers_of p) (reads_text th bytes p w h) fault f
 
 pub some_cause : (th : Theory) (bytes : List ℕ) → ((p : Proof) → ReadsAsProof th bytes p → ⊥) → ((fault : LineFault) → FirstCause th bytes fault → ⊥) → ⊥
-some_cause th bytes none no_fault = some_answer (rules th) bytes (λ q t. let r = text_reads th bytes q t in none r.0 r.1) no_fault
+some_cause th bytes none no_fault = some_answer (line_tests th) bytes (λ q t. let r = text_reads th bytes q t in none r.0 r.1) no_fault
 
 pub one_cause : (th : Theory) (bytes : List ℕ) (f g : LineFault) → FirstCause th bytes f → FirstCause th bytes g → f ≡ g
-one_cause th bytes f g a b = one.one_fault (rules th) bytes f g a b
+one_cause th bytes f g a b = one.one_fault (line_tests th) bytes f g a b

@@ -20,7 +20,7 @@ use Rattle.circ_grammar.proofs.Feeding.{fed_nothing, fed_rest, fed_line, fed_for
 use Rattle.circ_grammar.proofs.Now.{line_part_is}
 use Rattle.circ_grammar.proofs.Shown.{next_shown}
 use Rattle.circ_proof_text.specs.Checks.{Seen, nothing, after, after_all, passes_at, limit_at}
-use Rattle.circ_proof_text.specs.ProofText.{numbers_of, rules, ReadsAsProof, FirstCause}
+use Rattle.circ_proof_text.specs.ProofText.{numbers_of, line_tests, ReadsAsProof, FirstCause}
 use Rattle.circ_proof_text.specs.Parts.{Part, part_with, parts_of}
 use Rattle.circ_proof_text.specs.Reading.{Reading, kept, nothing_read, StandsFor, line_parts, after_line}
 use Rattle.circ_proof_text.proofs.TableText.{one_table}
@@ -33,7 +33,7 @@ use Rattle.circ_proof_text.proofs.Wanted.{wants, wants_of, lines_wanted}
 
 -- Nothing was read.
 pub starts : (th : Theory) → StandsFor th [] [] nothing_read
-starts th = record { whole_lines = []; state = begin; fed = fed_nothing (rules th); seen = refl; parts = refl }
+starts th = record { whole_lines = []; state = begin; fed = fed_nothing (line_tests th); seen = refl; parts = refl }
 
 -- Bytes without a line feed are kept.
 pub keeps_rest : (th : Theory) (bytes piece : List ℕ) (handed : List Part) (k : Reading) → NoFeed piece → StandsFor th bytes handed k
@@ -41,7 +41,7 @@ pub keeps_rest : (th : Theory) (bytes piece : List ℕ) (handed : List Part) (k 
 keeps_rest th bytes piece handed k n s = record {
   whole_lines = s.whole_lines;
   state = s.state;
-  fed = fed_rest (rules th) bytes piece s.whole_lines s.state (kept k) s.fed n;
+  fed = fed_rest (line_tests th) bytes piece s.whole_lines s.state (kept k) s.fed n;
   seen = s.seen;
   parts = s.parts;
 }
@@ -98,7 +98,7 @@ pub takes_line : (th : Theory) (bytes more : List ℕ) (handed : List Part) (k :
     → IsInRange l → k.rest ++ more ≡ line_text l → next_now k.under_way l ≡ Some n → passes_at th k.seen l ≡ true → limit_at th k.seen l ≡ false
     → StandsFor th (bytes ++ (more ++ (10 ∷ []))) handed (after_line th k l n)
 takes_line th bytes more handed k l n s fits e g pass within =
-    let f = fed_line (rules th) bytes more s.whole_lines s.state (kept k) l n s.fed fits e g
+    let f = fed_line (line_tests th) bytes more s.whole_lines s.state (kept k) l n s.fed fits e g
     (ap (λ c. passes_at th c l) (sym s.seen) ∙ pass) (ap (λ c. limit_at th c l) (sym s.seen) ∙ within) in
     record {
       whole_lines = s.whole_lines ++ (l ∷ []);
@@ -114,24 +114,24 @@ takes_line th bytes more handed k l n s fits e g pass within =
 
 pub faults_form : (th : Theory) (bytes more later : List ℕ) (handed : List Part) (k : Reading) → StandsFor th bytes handed k → NoFeed more
     → ReadsLine (k.rest ++ more) None → FirstCause th ((bytes ++ (more ++ (10 ∷ []))) ++ later) (Line_fault (k.lines + 1))
-faults_form th bytes more later handed k s n none = fed_form (rules th) bytes more later s.whole_lines s.state (kept k) s.fed n none
+faults_form th bytes more later handed k s n none = fed_form (line_tests th) bytes more later s.whole_lines s.state (kept k) s.fed n none
 
 pub faults_next : (th : Theory) (bytes more later : List ℕ) (handed : List Part) (k : Reading) (l : Line) → StandsFor th bytes handed k
     → IsInRange l → k.rest ++ more ≡ line_text l → next_now k.under_way l ≡ None
     → FirstCause th ((bytes ++ (more ++ (10 ∷ []))) ++ later) (Line_fault (k.lines + 1))
-faults_next th bytes more later handed k l s fits e g = fed_next (rules th) bytes more later s.whole_lines s.state (kept k) l s.fed fits e g
+faults_next th bytes more later handed k l s fits e g = fed_next (line_tests th) bytes more later s.whole_lines s.state (kept k) l s.fed fits e g
 
 pub faults_check : (th : Theory) (bytes more later : List ℕ) (handed : List Part) (k : Reading) (l : Line) → StandsFor th bytes handed k
     → IsInRange l → k.rest ++ more ≡ line_text l → passes_at th k.seen l ≡ false
     → FirstCause th ((bytes ++ (more ++ (10 ∷ []))) ++ later) (Line_fault (k.lines + 1))
 faults_check th bytes more later handed k l s fits e fails =
-    fed_check (rules th) bytes more later s.whole_lines s.state (kept k) l s.fed fits e (ap (λ c. passes_at th c l) (sym s.seen) ∙ fails)
+    fed_check (line_tests th) bytes more later s.whole_lines s.state (kept k) l s.fed fits e (ap (λ c. passes_at th c l) (sym s.seen) ∙ fails)
 
 pub faults_limit : (th : Theory) (bytes more later : List ℕ) (handed : List Part) (k : Reading) (l : Line) (n : Now) → StandsFor th bytes handed k
     → IsInRange l → k.rest ++ more ≡ line_text l → next_now k.under_way l ≡ Some n → passes_at th k.seen l ≡ true → limit_at th k.seen l ≡ true
     → FirstCause th ((bytes ++ (more ++ (10 ∷ []))) ++ later) (Limit_fault (k.lines + 1))
 faults_limit th bytes more later handed k l n s fits e g pass reached =
-    fed_limit (rules th) bytes more later s.whole_lines s.state (kept k) l n s.fed fits e g
+    fed_limit (line_tests th) bytes more later s.whole_lines s.state (kept k) l n s.fed fits e g
     (ap (λ c. passes_at th c l) (sym s.seen) ∙ pass) (ap (λ c. limit_at th c l) (sym s.seen) ∙ reached)
 
 -- the terms are those of the table that the lines have written
@@ -146,7 +146,7 @@ standing_terms th bytes handed k s =
 pub ends : (th : Theory) (bytes : List ℕ) (handed : List Part) (k : Reading) → StandsFor th bytes handed k → k.rest ≡ [] → k.under_way ≡ Ended
     → (p : Proof) × ReadsAsProof th bytes p × (handed ++ k.waiting ≡ parts_of p)
 ends th bytes handed k s r u =
-    let w = fed_whole (rules th) bytes s.whole_lines s.state (kept k) s.fed r u in
+    let w = fed_whole (line_tests th) bytes s.whole_lines s.state (kept k) s.fed r u in
     let f : Front = w.0 in
     let bs : List NumberedBlock = w.1 in
     let p : (p : Proof) × ReadsAsProof th bytes p × (numbers_of p ≡ proof_of f bs) = text_reads th bytes (proof_of f bs) w.3 in
@@ -163,13 +163,13 @@ ends th bytes handed k s r u =
 -- The bytes are at their end, and not whole.
 pub ends_badly : (th : Theory) (bytes : List ℕ) (handed : List Part) (k : Reading) → StandsFor th bytes handed k
     → (k.rest ≡ [] → k.under_way ≡ Ended → ⊥) → FirstCause th bytes (Line_fault (k.lines + 1))
-ends_badly th bytes handed k s open_yet = fed_end (rules th) bytes s.whole_lines s.state (kept k) s.fed open_yet
+ends_badly th bytes handed k s open_yet = fed_end (line_tests th) bytes s.whole_lines s.state (kept k) s.fed open_yet
 
 -- What is kept, and what is handed out with what waits, depend on the bytes alone, whatever the pieces were.
 pub one_standing : (th : Theory) (bytes : List ℕ) (xs ys : List Part) (k j : Reading) → StandsFor th bytes xs k → StandsFor th bytes ys j
     → (kept k ≡ kept j) × (k.seen ≡ j.seen) × (xs ++ k.waiting ≡ ys ++ j.waiting)
 one_standing th bytes xs ys k j a b =
-    let o = one_fed (rules th) bytes a.whole_lines b.whole_lines a.state b.state (kept k) (kept j) a.fed b.fed in
+    let o = one_fed (line_tests th) bytes a.whole_lines b.whole_lines a.state b.state (kept k) (kept j) a.fed b.fed in
     let c : k.seen ≡ j.seen = a.seen ∙ ap (after_all th nothing) o.0 ∙ sym b.seen in
     (o.2, c, sym a.parts ∙ ap (λ x. map (part_with k.seen.terms) (shown x)) o.1 ∙ ap (λ x. map (part_with x.terms) (shown b.state)) c ∙ b.parts)
 

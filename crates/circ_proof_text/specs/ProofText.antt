@@ -5,7 +5,7 @@ use Rattle.circ_special.specs.declared.place.Place.{Place}
 use Rattle.circ_rules.specs.Rules.{ProofStep, Simplify, Reduce, Derive, Done}
 use Rattle.circ_rules.specs.Proof.{Block, Proof, ProofFor}
 use Rattle.circ_grammar.specs.Grammar.{NumberedStep, Simplify_step, Reduce_step, Derive_step, NumberedBlock, NumberedProof, proof_lines}
-use Rattle.circ_grammar.specs.FirstBad.{Rules, file_text, LineFault, IsFirstBadLine}
+use Rattle.circ_grammar.specs.FirstBad.{LineTests, file_text, LineFault, IsFirstFault}
 use Rattle.circ_proof_text.specs.TableText.{entries_of}
 use Rattle.circ_proof_text.specs.Checks.{nothing, after_all, passes_at, limit_at}
 
@@ -37,8 +37,8 @@ abbrev pub proof_text : Proof → List ℕ
 proof_text p = file_text (proof_lines (numbers_of p))
 
 -- the checks and the limits of lines, by what the lines before them have given
-abbrev pub rules : Theory → Rules
-rules th = record {
+abbrev pub line_tests : Theory → LineTests
+line_tests th = record {
   passes = λ before l. passes_at th (after_all th nothing before) l;
   limit = λ before l. limit_at th (after_all th nothing before) l;
 }
@@ -50,4 +50,4 @@ pub record ReadsAsProof (th : Theory) (bytes : List ℕ) (p : Proof) : Type 0 wh
 
 -- the fault of bytes that read as no proof: their first line that is bad, or past a limit
 abbrev pub FirstCause : Theory → List ℕ → LineFault → Type 0
-FirstCause th bytes fault = IsFirstBadLine (rules th) bytes fault
+FirstCause th bytes fault = IsFirstFault (line_tests th) bytes fault

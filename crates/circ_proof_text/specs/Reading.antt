@@ -7,7 +7,7 @@ use Rattle.circ_grammar.specs.Now.{Now, Begin, line_part}
 use Rattle.circ_grammar.specs.Feeding.{Kept, IsFed}
 use Rattle.circ_grammar.specs.Shown.{shown}
 use Rattle.circ_proof_text.specs.Checks.{Seen, nothing, after, after_all}
-use Rattle.circ_proof_text.specs.ProofText.{rules}
+use Rattle.circ_proof_text.specs.ProofText.{line_tests}
 use Rattle.circ_proof_text.specs.Parts.{Part, part_with}
 
 -- What such a reader keeps: the number of whole lines, the bytes after the last line feed, the part under way, what the lines have given, and the parts
@@ -30,7 +30,7 @@ nothing_read = record { lines = 0; rest = []; under_way = Begin; seen = nothing;
 pub record StandsFor (th : Theory) (bytes : List ℕ) (handed : List Part) (k : Reading) : Type 0 where
   pub whole_lines : List Line
   pub state : State
-  pub fed : IsFed (rules th) bytes whole_lines state (kept k)
+  pub fed : IsFed (line_tests th) bytes whole_lines state (kept k)
   pub seen : k.seen ≡ after_all th nothing whole_lines
   pub parts : map (part_with k.seen.terms) (shown state) ≡ handed ++ k.waiting
 

@@ -13,16 +13,17 @@ ghost use Rattle.circ_grammar.specs.Grammar.{NumberedProof};
 ghost use Rattle.circ_grammar.specs.FirstBad.{IsTextOf, LineFault};
 ghost use Rattle.circ_proof_text.specs.TableText.{term_for, entry_of};
 ghost use Rattle.circ_proof_text.specs.Checks.{is_place, is_next};
-ghost use Rattle.circ_proof_text.specs.ProofText.{numbers_of, proof_text, rules};
+ghost use Rattle.circ_proof_text.specs.ProofText.{numbers_of, proof_text, line_tests};
 ghost use Rattle.circ_proof_text.specs.ProofText.{ReadsAsProof, FirstCause};
 
 /// Bytes read as a proof exactly where they are the text of a proof's numbers whose lines pass all
 /// checks and no limit.
 pub fn reads_as_proof()
     ensures text { (th : Theory) (bytes : List ℕ) (p : Proof) → IsWellFormed th →
-        ReadsAsProof th bytes p → IsTextOf (rules th) (numbers_of p) bytes }
+        ReadsAsProof th bytes p → IsTextOf (line_tests th) (numbers_of p) bytes }
     ensures proof { (th : Theory) (bytes : List ℕ) (q : NumberedProof) →
-        IsTextOf (rules th) q bytes → (p : Proof) × ReadsAsProof th bytes p × (numbers_of p ≡ q) }
+        IsTextOf (line_tests th) q bytes →
+        (p : Proof) × ReadsAsProof th bytes p × (numbers_of p ≡ q) }
 {}
 
 /// Bytes read as one proof at most, and as none where they have a first cause.

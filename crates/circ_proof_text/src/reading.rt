@@ -6,6 +6,7 @@ ghost use Rattle.circ_theory.specs.Theory.{Theory};
 ghost use Rattle.circ_theory.specs.WellFormed.{IsWellFormed};
 ghost use Rattle.circ_replay.specs.Plain.{ChainOf};
 ghost use Rattle.circ_rules.specs.Proof.{Proof, ProofFor};
+ghost use Rattle.circ_rules.specs.Rules.{Done};
 ghost use Rattle.circ_line.specs.Line.{Line};
 ghost use Rattle.circ_line.specs.Text.{line_text, IsInRange};
 ghost use Rattle.circ_line.specs.Plain.{NoFeed, ReadsLine};
@@ -16,14 +17,14 @@ ghost use Rattle.circ_grammar.specs.Parts as grammar;
 ghost use Rattle.circ_grammar.specs.Now.{Now, Reducing, Ended, next_now};
 ghost use Rattle.circ_proof_text.specs.Checks.{passes_at, limit_at};
 ghost use Rattle.circ_proof_text.specs.ProofText.{numbers_of, ReadsAsProof, FirstCause};
-ghost use Rattle.circ_proof_text.specs.Parts.{Part, part_with, parts_of, gathered};
+ghost use Rattle.circ_proof_text.specs.Parts.{Part, Step, part_with, parts_of, gathered};
 ghost use Rattle.circ_proof_text.specs.Parts.{nothing_gathered, gather_all};
 ghost use Rattle.circ_rules.specs.Fitting.{Fit};
 ghost use Rattle.circ_proof_text.specs.Reading.{Reading, kept, nothing_read, StandsFor};
 ghost use Rattle.circ_proof_text.specs.Reading.{after_line};
 
-/// The parts of a proof are those that its lines show, with the terms of its table. They fit, and
-/// give the proof back.
+/// The parts of a proof are those that its lines show, with the terms of its table. They fit, end
+/// with a Done, and give the proof back. Where parts fit and end so, their proof fits.
 pub fn parts_make_the_proof()
     ensures shown { (th : Theory) (p : Proof) → ProofFor th p →
         map (part_with p.table) (grammar.parts_of (numbers_of p)) ≡ parts_of p }
@@ -31,6 +32,10 @@ pub fn parts_make_the_proof()
         gather_all nothing_gathered (parts_of p) ≡ gathered p }
     ensures fit { (th : Theory) (p : Proof) → IsWellFormed th →
         ProofFor th p → Fit th (parts_of p) }
+    ensures last { (th : Theory) (p : Proof) → ProofFor th p →
+        (xs : List Part) × (parts_of p ≡ xs ++ Step Done ∷ []) }
+    ensures whole { (th : Theory) (p : Proof) (xs : List Part) →
+        Fit th (parts_of p) → parts_of p ≡ xs ++ Step Done ∷ [] → ProofFor th p }
 {}
 
 /// A reader begins with nothing, keeps bytes up to a line feed, takes a line, and hands out a part.

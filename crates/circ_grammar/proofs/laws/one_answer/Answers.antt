@@ -4,8 +4,8 @@ use Rattle.circ_grammar.proofs.laws.one_answer.Goals as goal
 pub returns-clause-proof : goal.returns-clause-proof
 returns-clause-proof c = one_proof
 
-pub returns-clause-bad_line : goal.returns-clause-bad_line
-returns-clause-bad_line c = one_fault
+pub returns-clause-fault : goal.returns-clause-fault
+returns-clause-fault c = one_fault
 
 pub returns-clause-not_both : goal.returns-clause-not_both
 returns-clause-not_both c = no_fault

@@ -3,8 +3,9 @@ use Rattle.circ_file.specs.View.{now_of}
 use Rattle.circ_file.specs.Lines.{ReadsNext}
 use Rattle.circ_file.specs.Feeding.{reading_of}
 use Rattle.circ_file.specs.declared.taken.Taken.TheVariants as taken
+use Rattle.circ_file.specs.declared.fault.FileFault.TheVariants.{Line, Limit}
 use Rattle.circ_file.specs.declared.reader.FileReader.{FileReader}
-use Rattle.circ_file.proofs.Standing.{wanted_counted, some_wanted, line_taken, line_refused, line_over}
+use Rattle.circ_file.proofs.Standing.{wanted_counted, some_wanted, line_taken, line_refused, line_over, line_shows}
 use Rattle.circ_file.proofs.reader.FileReader.end_line.Goals as goal
 
 pub returns-in-Ok-Yes-clause-reader : goal.returns-in-Ok-Yes-clause-reader
@@ -26,11 +27,15 @@ returns-in-Ok-Line-clause-stands c th x handed s =
     let old = c.args.self.now in
     let read : ReadsNext taken.Line s.wanted old.reader (old.rest.items ++ c.args.more.now) c.read.new.self.reader
     = (rw c.in-Ok-Line.field-0-is at c.in-Ok-Line.ensures.read) s.wanted (wanted_counted th x handed (reading_of s.wanted old) s.stands) in
-    line_refused th x c.args.more.now handed old c.read.new.self s read c.requires.no_feed
+    let more = c.args.more.now in
+    let fault = line_refused th x more handed old c.read.new.self s read c.requires.no_feed in
+    (fault, line_shows th x more handed old c.read.new.self s (Line (old.lines + 1)) c.requires.no_feed refl fault)
 
 pub returns-in-Ok-Limit-clause-stands : goal.returns-in-Ok-Limit-clause-stands
 returns-in-Ok-Limit-clause-stands c th x handed s =
     let old = c.args.self.now in
     let read : ReadsNext taken.Limit s.wanted old.reader (old.rest.items ++ c.args.more.now) c.read.new.self.reader
     = (rw c.in-Ok-Limit.field-0-is at c.in-Ok-Limit.ensures.read) s.wanted (wanted_counted th x handed (reading_of s.wanted old) s.stands) in
-    line_over th x c.args.more.now handed old c.read.new.self s read
+    let more = c.args.more.now in
+    let fault = line_over th x more handed old c.read.new.self s read in
+    (fault, line_shows th x more handed old c.read.new.self s (Limit (old.lines + 1)) c.requires.no_feed refl fault)

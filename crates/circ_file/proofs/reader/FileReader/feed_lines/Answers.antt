@@ -12,8 +12,8 @@ returns-in-Err-clause-stands c th x handed s =
     let r = c.loop-line.invariant.read in
     let told = c.in-Err.ensures.stands th (x ++ r.front) handed (r.stands th x handed s) in (
       λ later. line_fault th x c.args.piece.now r.front c.loop-line.rest.now c.in-Some.line.now c.in-Some.after.now later c.in-Err.fault r.cut
-          c.in-Some.ensures.whole (told (c.in-Some.after.now ++ later)),
-      line_shown th x c.args.piece.now r.front c.loop-line.rest.now c.in-Some.line.now c.in-Some.after.now c.in-Err.fault r.cut c.in-Some.ensures.whole told,
+          c.in-Some.ensures.whole (told.0 (c.in-Some.after.now ++ later)),
+      line_shown th x c.args.piece.now r.front c.loop-line.rest.now c.in-Some.line.now c.in-Some.after.now c.in-Err.fault r.cut c.in-Some.ensures.whole told.1,
     )
 
 pub loop-line-preserved : goal.loop-line-preserved
