@@ -1,5 +1,5 @@
 -- A pair under a substitution, and under the terms that this gives its variables in order.
-use Rattle.std.proofs.Common.{◌≡◌, ℕ, Bool, true, false, ◌==◌, ◌||◌, List, [], ◌∷◌, Some, refl, ap, sym, subst, ◌∙◌, arith}
+use Rattle.std.proofs.Common.{◌≡◌, ℕ, true, ◌||◌, List, [], ◌∷◌, Some, refl, ap, sym, subst, ◌∙◌}
 use Rattle.std.specs.List.{list_any, AllByRecursion}
 use Rattle.circ_term.specs.Tree.{Tree, at}
 use Rattle.circ_term.specs.Substitution.{Substitution, instance}

@@ -17,7 +17,7 @@ use Rattle.circ_theory.specs.Operators.{has_mark}
 use Rattle.circ_theory.specs.WellFormed.{IsWellFormed}
 use Rattle.circ_theory.specs.Fresh.{above, all_above}
 use Rattle.circ_theory.proofs.Rewriting.{contains_at}
-use Rattle.circ_theory.proofs.Sorting.{KeepsSort, arg_well_sorted, at_sorted, replaced_sorted}
+use Rattle.circ_theory.proofs.Sorting.{arg_well_sorted, at_sorted}
 use Rattle.circ_aci.specs.Content.{put_term, sorted_terms, settled, leaves, content}
 use Rattle.circ_aci.specs.Canonical.{join, canonical, canonical_under}
 use Rattle.circ_match.specs.Matcher.{has_variable, have_variable}
@@ -133,12 +133,6 @@ all_items th m (more u us) g = (g zero u refl, all_items th m us (λ i a e. g (s
 
 pub args_fine : (th : Theory) (m f s : ℕ) (ts : Trees) → Fine th m (App f s ts) → FineTerms th m (list_of ts)
 args_fine th m f s ts h = all_items th m ts (λ i a e. arg_fine th m f s ts i a h e)
-
--- a fine term with a subterm of its sort put in
-pub replaced_fine : (th : Theory) (m : ℕ) (p : List ℕ) (t a b u : Tree) → Fine th m t → at t p ≡ Some a → KeepsSort th a b → above b ≤ m → replaced t p b ≡ Some u
-    → IsWithinLimits u → Fine th m u
-replaced_fine th m p t a b u f g k l r w =
-    record { sorted = (replaced_sorted th p t a b u f.sorted g k r).well_sorted; within = w; low = replaced_low m p t b u r f.low l }
 
 -- ---- the paths of a fine term
 
