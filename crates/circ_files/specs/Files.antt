@@ -4,16 +4,16 @@ use Rattle.circ_outer.specs.Shelf.{ShelfState, Struck, Missing}
 use Rattle.circ_outer.specs.declared.fault.OuterFault.{OuterFault}
 use Rattle.circ_outer.specs.declared.fault.OuterFault.TheVariants as outer
 use Rattle.circ_read.specs.declared.cause.Cause.{Cause}
-use Rattle.circ_files.specs.declared.files.FileFault.{FileFault}
-use Rattle.circ_files.specs.declared.files.FileFault.TheVariants as file
+use Rattle.circ_files.specs.declared.files.TakeFault.{TakeFault}
+use Rattle.circ_files.specs.declared.files.TakeFault.TheVariants as taking
 use Rattle.circ_files.specs.declared.files.TheConstants.{MOST_BYTES, PIECE}
 use Rattle.circ_files.specs.declared.status.Status.{Status}
 use Rattle.circ_files.specs.declared.status.Status.TheVariants as status
 
--- a fault of the outside as that of a file
-abbrev pub file_fault : OuterFault → FileFault
-file_fault outer.Failed = file.Failed
-file_fault outer.Memory = file.Memory
+-- a fault of the outside, as that of a file that was not taken
+abbrev pub take_fault : OuterFault → TakeFault
+take_fault outer.Failed = taking.Failed
+take_fault outer.Memory = taking.Memory
 
 -- the one value of which this is true
 abbrev pub IsOnly : {X : Type 0} → X → (X → Type 0) → Type 0

@@ -1,8 +1,8 @@
 -- Which answers come over a shelf whose count of faults changed.
 use Rattle.std.specs.Prelude.{Result, Ok, Err}
 use Rattle.circ_outer.specs.Shelf.{ShelfState, IsQuiet}
-use Rattle.circ_files.specs.declared.files.FileFault.{FileFault}
-use Rattle.circ_files.specs.declared.files.FileFault.TheVariants.{Failed}
+use Rattle.circ_files.specs.declared.files.TakeFault.{TakeFault}
+use Rattle.circ_files.specs.declared.files.TakeFault.TheVariants.{Failed}
 use Rattle.circ_files.specs.declared.status.Status.{Status}
 use Rattle.circ_files.specs.declared.status.Status.TheVariants.{ReadFault}
 
@@ -23,6 +23,6 @@ module _ {A : Type 0} where
   IsQuietCall before after (Err s) = IsQuietBut before after s
 
   -- the same of taking a file
-  abbrev pub IsQuietTaking : (before after : ShelfState) → Result A FileFault → Type 0
+  abbrev pub IsQuietTaking : (before after : ShelfState) → Result A TakeFault → Type 0
   IsQuietTaking before after (Err Failed) = Unit {0}
   IsQuietTaking before after _ = IsQuiet before after

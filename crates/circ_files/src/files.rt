@@ -55,16 +55,16 @@ pub fn take_into<S: Shelf, I: Intake>(
 {
     match read_file(alloc, shelf, name, into) {
         Ok(()) => Ok(()),
-        Err(FileFault::Failed) => Err(Status::ReadFault {
+        Err(TakeFault::Failed) => Err(Status::ReadFault {
             count: shelf.faults(),
         }),
-        Err(FileFault::TooLong { count }) => Err(Status::TooLong { file, count }),
-        Err(FileFault::Memory) => Err(Status::Memory),
+        Err(TakeFault::TooLong { count }) => Err(Status::TooLong { file, count }),
+        Err(TakeFault::Memory) => Err(Status::Memory),
     }
 }
 
 /// Why a file was not taken.
-pub enum FileFault {
+pub enum TakeFault {
     /// The outside failed, or there is no such file.
     Failed,
     /// More than [`MOST_BYTES`] bytes: how many were taken.
@@ -73,27 +73,27 @@ pub enum FileFault {
     Memory,
 }
 
-impl From<AllocError> for FileFault {
+impl From<AllocError> for TakeFault {
     ghost use Rattle.std.specs.Prelude.{◌≡◌};
-    ghost use Rattle.circ_files.specs.declared.files.FileFault.TheVariants.{Memory};
+    ghost use Rattle.circ_files.specs.declared.files.TakeFault.TheVariants.{Memory};
 
     ghost from_gives = { λ _ fault. fault ≡ Memory };
 
-    fn from(_: AllocError) -> FileFault {
-        FileFault::Memory
+    fn from(_: AllocError) -> TakeFault {
+        TakeFault::Memory
     }
 }
 
-impl From<OuterFault> for FileFault {
+impl From<OuterFault> for TakeFault {
     ghost use Rattle.std.specs.Prelude.{◌≡◌};
-    ghost use Rattle.circ_files.specs.Files.{file_fault};
+    ghost use Rattle.circ_files.specs.Files.{take_fault};
 
-    ghost from_gives = { λ e fault. fault ≡ file_fault e };
+    ghost from_gives = { λ e fault. fault ≡ take_fault e };
 
-    fn from(fault: OuterFault) -> FileFault {
+    fn from(fault: OuterFault) -> TakeFault {
         match fault {
-            OuterFault::Failed => FileFault::Failed,
-            OuterFault::Memory => FileFault::Memory,
+            OuterFault::Failed => TakeFault::Failed,
+            OuterFault::Memory => TakeFault::Memory,
         }
     }
 }
@@ -104,20 +104,20 @@ fn read_file<S: Shelf, I: Intake>(
     shelf: &mut S,
     name: &str,
     into: &mut I,
-) -> Result<(), FileFault>
+) -> Result<(), TakeFault>
     requires { I.takes into.old [] into.old }
     ensures taken { OnOk result (TakesBytes name.now (S.state shelf.old)
         (λ bytes. I.takes into.old bytes into.new)) }
 
     // The count of a file that is too long lies within one piece past the limit, and within the
     // file.
-    ensures past { (n : ℕ) → result ≡ Err (FileFault.TooLong n) →
+    ensures past { (n : ℕ) → result ≡ Err (TakeFault.TooLong n) →
         (MOST_BYTES < n) × (n ≤ MOST_BYTES + PIECE) }
-    ensures long { (n : ℕ) → result ≡ Err (FileFault.TooLong n) →
+    ensures long { (n : ℕ) → result ≡ Err (TakeFault.TooLong n) →
         (S.state shelf.old).tells ≡ true → (bytes : List ℕ) ×
         ((S.state shelf.old).holds name.now ≡ Some bytes) × (n ≤ length bytes) }
 
-    ensures failed { result ≡ Err FileFault.Failed →
+    ensures failed { result ≡ Err TakeFault.Failed →
         Struck name.now false (S.state shelf.old) (S.state shelf.new)
         ⊎ Missing name.now (S.state shelf.old) (S.state shelf.new) }
     ensures quiet { IsQuietTaking (S.state shelf.old) (S.state shelf.new) result }
@@ -132,7 +132,7 @@ fn read_file<S: Shelf, I: Intake>(
             return Ok(());
         }
         if n > MOST_BYTES - count {
-            return Err(FileFault::TooLong {
+            return Err(TakeFault::TooLong {
                 count: (count + n) as u64,
             });
         }
