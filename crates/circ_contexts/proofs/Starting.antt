@@ -1,5 +1,5 @@
 -- The normal forms of start terms, as the code finds them one by one.
-use Rattle.std.specs.Prelude.{◌≡◌, ◌≤◌, ◌<◌, ◌==◌, ◌+◌, ℕ, true, false, List, [], ◌∷◌, ◌++◌, length, Option, Some, None, Result, Ok, Err, IfOk, Vec, Bool, refl}
+use Rattle.std.specs.Prelude.{◌≡◌, ◌≤◌, ◌<◌, ◌==◌, ◌+◌, ℕ, true, false, List, [], ◌∷◌, ◌++◌, length, Option, Some, None, Result, Ok, Err, IfOk, Vec, Bool}
 use Rattle.std.specs.List.{Contains, slice_get, filter}
 use Rattle.std.specs.Option.{IfSome, option_map_or}
 use Rattle.std.proofs.Common.{Global, ap, sym, subst, ◌∙◌, append-nil, append_assoc}
@@ -36,12 +36,6 @@ module _ (th : Theory) (budget : ℕ) where
     its : (p : IsPlace th s.place) → p.operator ≡ o
     its p = same_Some p.operator o (sym p.listed ∙ start.listed)
 
-    -- it passes a limit
-    pub no_start : Gives (IsWithin (start_term o s.place d)) None → GivesNormal th budget s.place d None
-    no_start none normal traces h =
-        let P : Operator → Type 0 = λ o. IsWithinLimits (start_term o s.place d) in
-        none (start_term o s.place d) (record { within = subst P (its h.place) h.within; same = refl })
-
     -- what it comes to
     pub start_comes : (t : Tree) → IsWithin (start_term o s.place d) t → (x : Option Normal)
         → ComesTo (norm th.signature (theory_rules th) [] budget t) x → GivesNormal th budget s.place d x
@@ -60,12 +54,6 @@ module _ (th : Theory) (budget : ℕ) where
 
   -- the same for the derivative of a number
   module _ (s : Start) (start : IsStart th s) (i : ℕ) (d : Derivative) (there : slice_get th.derivatives i ≡ Some d) where
-    pub none_at : IfSome (slice_get th.derivatives i) (λ d. Gives (IsWithin (start_term (operator_of s.decl.now) s.place d)) None)
-        → IfSome (slice_get th.derivatives i) (λ d. GivesNormal th budget s.place d None)
-    none_at x =
-        if_some_at (λ d. GivesNormal th budget s.place d None) (slice_get th.derivatives i) d there
-        (no_start s start d (some_if_at (λ d. Gives (IsWithin (start_term (operator_of s.decl.now) s.place d)) None) (slice_get th.derivatives i) d there x))
-
     pub comes_at : (t : Tree) → IfSome (slice_get th.derivatives i) (λ d. Gives (IsWithin (start_term (operator_of s.decl.now) s.place d)) (Some t))
         → {E : Type 0} (r : Result (Option Normal) E)
         → IfOk r (ComesTo (norm th.signature (theory_rules th) [] budget t)) → IfSome (slice_get th.derivatives i) (λ d. IfOk r (GivesNormal th budget s.place d))
@@ -85,16 +73,6 @@ module _ (th : Theory) (budget : ℕ) where
     pub rest : (ms : List Normal) → AreNormals th budget g (from_number th.derivatives result i) ms
         → AreNormals th budget g (derivatives_at th g) (ns ++ ms)
     pub among : (d : Derivative) → Contains (from_number th.derivatives result i) d → Contains (derivatives_at th g) d
-
-  pub normals_start : (g : Place) (o : Operator) → slice_get th.signature.ops g.op ≡ Some o → NormalsTo g o.result 0 []
-  normals_start g o e =
-      let same : derivatives_at th g ≡ from_number th.derivatives o.result 0
-      = ap (λ x. option_map_or (λ o. from_number th.derivatives o.result 0) x []) e in
-      let P : List Derivative → List Normal → Type 0 = AreNormals th budget g in
-      record {
-        rest = λ ms a. let Q : List Derivative → Type 0 = λ ds. AreNormals th budget g ds ms in subst Q (sym same) a;
-        among = λ d c. let Q : List Derivative → Type 0 = λ ds. Contains ds d in subst Q (sym same) c;
-      }
 
   module _ (g : Place) (result i : ℕ) (ns : List Normal) (within : i < length th.derivatives) (st : NormalsTo g result i ns) where
     abbrev d : Derivative

@@ -1,6 +1,5 @@
 //! The greatest special set, by dropping candidates until none is dropped.
 ghost use Rattle.std.specs.Prelude.{◌≡◌, ◌↔◌, ◌++◌, IsTrue, IfOk, OnOk, map};
-ghost use Rattle.std.specs.List.{AllByRecursion};
 ghost use Rattle.circ_special.specs.Special.{IsSet};
 ghost use Rattle.circ_contexts.specs.Greatest.{GreatestSpecialSet};
 ghost use Rattle.circ_contexts.specs.Keeps.{Keeps};

@@ -1,5 +1,5 @@
 //! The places of a theory.
-ghost use Rattle.std.specs.Prelude.{◌≡◌, ◌↔◌, [], IsTrue, IfOk, OnOk};
+ghost use Rattle.std.specs.Prelude.{◌↔◌, [], IsTrue, IfOk, OnOk};
 ghost use Rattle.std.specs.List.{slice_get};
 ghost use Rattle.circ_special.specs.Special.{IsPlace};
 ghost use Rattle.circ_contexts.specs.Candidates.{AddsKept, all_places, places_at};

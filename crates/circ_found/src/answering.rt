@@ -22,6 +22,9 @@ use circ_search::{Found, Limits, prove};
 use circ_theory::{Goal, Theory};
 use std::alloc::{AllocError, Global};
 
+/// The number of the proof among the files of a run: the theory and the script come first.
+const PROOF_FILE: u8 = 3;
+
 /// How the search for a proof of these blocks of goals ends. The proof's text is to be stored under
 /// this name.
 pub fn search<'a>(
@@ -70,7 +73,7 @@ fn found_ending<'a>(
             derives,
             steps,
         } => spent(alloc, *rewrites, *derives, *steps),
-        Found::LongTable { .. } => too_long(alloc, 67_108_865),
+        Found::LongTable { .. } => too_long(alloc, MOST_BYTES as u64 + 1),
         Found::TooBig { nodes } => too_big(alloc, *nodes),
         Found::TooDeep { depth } => too_deep(alloc, *depth),
     }
@@ -116,8 +119,14 @@ fn too_long<'a>(alloc: Global, count: u64) -> Result<Ending<'a>, AllocError>
         ending (status.TooLong 3 count) (too_long_text 3) None) }
 {
     let mut text = Vec::new(alloc);
-    push_counted(&mut text, b"too long: file ", 3, b"\n")?;
-    Ok(unstored(Status::TooLong { file: 3, count }, text))
+    push_counted(&mut text, b"too long: file ", u64::from(PROOF_FILE), b"\n")?;
+    Ok(unstored(
+        Status::TooLong {
+            file: PROOF_FILE,
+            count,
+        },
+        text,
+    ))
 }
 
 fn spent<'a>(

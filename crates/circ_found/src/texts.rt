@@ -1,5 +1,5 @@
 //! The texts of what a search finds.
-ghost use Rattle.std.specs.Prelude.{◌≡◌, ◌≤◌, ◌++◌, flat_map, map, IfOk, OnOk, codes};
+ghost use Rattle.std.specs.Prelude.{◌≡◌, ◌≤◌, ◌++◌, map, IfOk, OnOk, codes};
 ghost use Rattle.circ_rules.specs.Plain.{plain_block, plain_proof};
 ghost use Rattle.circ_rules.specs.Proof.{steps_in};
 ghost use Rattle.circ_show.specs.GoalsText.{plain_goal, pair_line, pair_lines};

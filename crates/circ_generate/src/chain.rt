@@ -1,6 +1,6 @@
 //! The texts of a chain.
 ghost use Rattle.std.specs.Prelude.{◌≡◌, ◌≤◌, ◌+◌, ◌++◌, IfOk, OnOk};
-ghost use Rattle.circ_generate.specs.Chain.{each_below, link_name, next_in, op_text, eqs_text};
+ghost use Rattle.circ_generate.specs.Chain.{each_below, next_in, op_text, eqs_text};
 ghost use Rattle.circ_generate.specs.Chain.{chain_theory, goal_text, chain_script};
 
 use circ_files::{push_counted, push_numbered};

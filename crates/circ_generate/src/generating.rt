@@ -1,5 +1,5 @@
 //! What comes of a chain.
-ghost use Rattle.std.specs.Prelude.{◌≡◌, ◌≤◌, ◌++◌, None, IfOk, OnOk, codes, decimal};
+ghost use Rattle.std.specs.Prelude.{◌≡◌, ◌≤◌, None, IfOk};
 ghost use Rattle.circ_rules.specs.Plain.{plain_proof};
 ghost use Rattle.circ_rules.specs.Proof.{Proof as PlainProof, steps_in};
 ghost use Rattle.circ_read.specs.ReadsAs.{ReadsAs};

@@ -24,7 +24,7 @@ use Rattle.circ_found.specs.Ending.{Stored, Ending}
 use Rattle.circ_found.specs.Answering.{blocks_of, found_ending}
 use Rattle.circ_top.specs.Outcome.{Outcome, usage, command}
 use Rattle.circ_files.specs.ProofFile.{ProofRefusal}
-use Rattle.circ_top.specs.Reduce.{Results, reduced, EndsWith, results_text, not_reduced, all_reduced}
+use Rattle.circ_top.specs.Reduce.{reduced, results_text, not_reduced, all_reduced}
 use Rattle.circ_top.specs.Reduce as reduce
 use Rattle.circ_top.specs.Prove.{search_limits, searched}
 use Rattle.circ_top.specs.Prove as prove

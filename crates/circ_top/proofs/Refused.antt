@@ -1,23 +1,15 @@
 -- Refusals of a command, and their texts.
-use Rattle.std.proofs.Common.{◌≡◌, ℕ, List, [], sym, ◌∙◌, subst, refl}
+use Rattle.std.proofs.Common.{◌≡◌, ℕ, List, sym, ◌∙◌, subst}
 use Rattle.std.proofs.lemmas.Option.{same_Some}
-use Rattle.circ_outer.specs.Shelf.{ShelfState}
 use Rattle.circ_read.specs.declared.cause.Cause.{Cause}
 use Rattle.circ_files.specs.Files.{Held, Refusal, RefusesFile}
 use Rattle.circ_files.specs.Like.{IsLikeCause, IsLike, another_count, like_cause}
-use Rattle.circ_files.specs.Quiet.{IsQuietBut}
 use Rattle.circ_files.specs.Texts.{too_long_text}
 use Rattle.circ_files.specs.declared.status.Status.{Status}
 use Rattle.circ_files.specs.declared.status.Status.TheVariants as status
-use Rattle.circ_files.proofs.FileFaults.{quiet_any, long_file, IsOneWay}
+use Rattle.circ_files.proofs.FileFaults.{long_file, IsOneWay}
 use Rattle.circ_top.specs.Command.{Command}
 use Rattle.circ_top.specs.Refusals.{place_text, refusal_text}
-
--- a refusal without a text is what is answered
-pub delivered_quiet : (before after : ShelfState) (k : Command) (d r : Status) → (refusal_text k d ≡ [] → r ≡ d) → IsQuietBut before after d
-    → IsQuietBut before after r
-delivered_quiet before after k (status.ReadFault n) r empty q = let P : Status → Type 0 = IsQuietBut before after in subst P (sym (empty refl)) tt
-delivered_quiet before after k d r empty q = quiet_any before after r q
 
 pub unreadable_like : (k : Command) (f g p q : ℕ) (c d : Cause) → f ≡ g → p ≡ q → IsLikeCause c d
     → IsLike (status.Unreadable f p c) (refusal_text k (status.Unreadable f p c)) (status.Unreadable g q d) (refusal_text k (status.Unreadable g q d))

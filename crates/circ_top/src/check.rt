@@ -1,5 +1,5 @@
 //! The commands `check` and `relation`: a proof file is checked against a theory file.
-ghost use Rattle.std.specs.Prelude.{◌≡◌, [], IfOk, IfErr};
+ghost use Rattle.std.specs.Prelude.{[], IfOk, IfErr};
 ghost use Rattle.circ_outer.specs.Shelf.{ShelfFrame};
 ghost use Rattle.circ_top.specs.Check.{IsAccepted, RefusesCheck};
 ghost use Rattle.circ_top.specs.CheckProof.{AcceptsProof, RefusesProof};
@@ -13,6 +13,9 @@ use circ_outer::Shelf;
 use circ_proof_text::laws::one_answer;
 use circ_theory::Theory;
 use std::alloc::Global;
+
+/// The number of a proof among the files of a run: the theory is the first.
+pub(crate) const PROOF_FILE: u8 = 2;
 
 /// The report of a proof that is accepted, or the answer in its place.
 pub(crate) fn check<S: Shelf>(
@@ -54,7 +57,7 @@ fn check_proof<S: Shelf>(
     ensures quiet { IsQuietCall (S.state shelf.old) (S.state shelf.new) result }
     ensures frame { ShelfFrame (S.state shelf.old) (S.state shelf.new) }
 {
-    if let Err(status) = take_into(alloc, shelf, 2, name, incoming) {
+    if let Err(status) = take_into(alloc, shelf, PROOF_FILE, name, incoming) {
         return Err(status);
     }
     theory.known();

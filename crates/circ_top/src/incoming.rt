@@ -12,6 +12,7 @@ ghost use Rattle.circ_found.specs.Answering.{all_goal_lines};
 ghost use Rattle.circ_top.specs.Incoming.{goals_among, HasRead, HasTaken, Judges};
 ghost use Rattle.circ_top.specs.Incoming.{RefusesBytes};
 
+use crate::check::PROOF_FILE;
 use crate::request::Report;
 use circ_check::Checker;
 use circ_file::{FileFault, FileReader};
@@ -172,12 +173,12 @@ fn refusal(fault: FileFault) -> Status
 {
     match fault {
         FileFault::Line { number } => Status::Unreadable {
-            file: 2,
+            file: PROOF_FILE,
             place: number,
             cause: Cause::Line,
         },
         FileFault::Limit { number } => Status::Unreadable {
-            file: 2,
+            file: PROOF_FILE,
             place: number,
             cause: Cause::LineLimit,
         },

@@ -8,9 +8,15 @@ use crate::words::{Limits, Words, found, is_word, matches, number};
 use circ_lib::lookup;
 use std::alloc::{AllocError, Global};
 
+/// The fewest streams of a chain.
+const LEAST_STREAMS: u64 = 2;
+
+/// The most streams of a chain.
+const MOST_STREAMS: u64 = 1_000;
+
 /// What is printed of an accepted proof.
 #[derive(Clone, Copy, PartialEq, Eq)]
-pub enum Report {
+pub(crate) enum Report {
     /// Its goals.
     Goals,
     /// Its goals, and what each block derived: the relation that the proof builds.
@@ -19,7 +25,7 @@ pub enum Report {
 
 /// A command with what it takes: names of files, or the text of the library that is named.
 #[derive(Drop)]
-pub enum Request<'a> {
+pub(crate) enum Request<'a> {
     /// A proof file is checked against a theory file.
     Check {
         report: Report,
@@ -62,7 +68,10 @@ pub enum Request<'a> {
 }
 
 /// The request that the words make, if they are those of a command.
-pub fn asked<'a>(alloc: Global, words: &'a [String]) -> Result<Option<Request<'a>>, AllocError>
+pub(crate) fn asked<'a>(
+    alloc: Global,
+    words: &'a [String],
+) -> Result<Option<Request<'a>>, AllocError>
     ensures { IfOk result (λ o. MatchOption o (IsNoCommand (map string_bytes words.now))
         (λ r. Asks (map string_bytes words.now) (plain_request r))) }
 {
@@ -124,8 +133,8 @@ fn chain_of<'a>(word: &str) -> Option<Request<'a>>
         (λ r. (n : ℕ) × (plain_request r ≡ Generate n) × (2 ≤ n) × (n ≤ 1000)
         × (word.now ≡ decimal n)) }
 {
-    let number = number(word, 1_000)?;
-    if number < 2 {
+    let number = number(word, MOST_STREAMS)?;
+    if number < LEAST_STREAMS {
         return None;
     }
     Some(Request::Generate {

@@ -1,5 +1,5 @@
 //! The program over files and a text in memory, which never fail.
-ghost use Rattle.std.specs.Prelude.{◌≡◌, ◌⊎◌, ◌++◌, ℕ, List, true, Option, None, map, string_bytes};
+ghost use Rattle.std.specs.Prelude.{◌≡◌, ◌⊎◌, ℕ, List, Option, map, string_bytes};
 ghost use Rattle.circ_outer.specs.SureShelf.{holds_of, state_of as shelf_state};
 ghost use Rattle.circ_outer.specs.SureSink.{state_of as sink_state};
 ghost use Rattle.circ_top.specs.Command.{IsNotStored};

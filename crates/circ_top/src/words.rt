@@ -28,21 +28,24 @@ const MOST_DERIVES: u64 = 10_000;
 
 /// How many steps and derivations a search may make.
 #[derive(Clone, Copy)]
-pub struct Limits {
+pub(crate) struct Limits {
     pub steps: u64,
     pub derives: u64,
 }
 
 /// What the words of a run say: the limits, the command's name, and the words that it takes.
 #[derive(Clone, Copy)]
-pub struct Words<'m, 'a> {
+pub(crate) struct Words<'m, 'a> {
     pub limits: Limits,
     pub name: &'a str,
     pub given: &'m [&'a str],
 }
 
 /// What `clap` finds in the words. None exactly where it refuses them.
-pub fn matches<'a>(alloc: Global, words: &'a [String]) -> Result<Option<ArgMatches<'a>>, AllocError>
+pub(crate) fn matches<'a>(
+    alloc: Global,
+    words: &'a [String],
+) -> Result<Option<ArgMatches<'a>>, AllocError>
     ensures { IfOk result (λ o. MatchOption o
         (fault_of circ_app (map string_bytes words.now) ≢ [])
         (λ m. (fault_of circ_app (map string_bytes words.now) ≡ [])
@@ -59,7 +62,7 @@ pub fn matches<'a>(alloc: Global, words: &'a [String]) -> Result<Option<ArgMatch
 
 /// The words by what `clap` found in them. None exactly where a budget is no number within its
 /// limit, or a word is missing.
-pub fn found<'m, 'a>(matches: &'m ArgMatches<'a>) -> Option<Words<'m, 'a>>
+pub(crate) fn found<'m, 'a>(matches: &'m ArgMatches<'a>) -> Option<Words<'m, 'a>>
     ensures { MatchOption result (FindsNothing (rows_of (found_of matches.now)))
         (λ w. Finds (rows_of (found_of matches.now)) w.limits w.name.now
         (map (λ x. x.now) w.given.now)) }
