@@ -8,12 +8,6 @@ use crate::words::{Limits, Words, found, is_word, matches, number};
 use circ_lib::lookup;
 use std::alloc::{AllocError, Global};
 
-/// The fewest streams of a chain.
-const LEAST_STREAMS: u64 = 2;
-
-/// The most streams of a chain.
-const MOST_STREAMS: u64 = 1_000;
-
 /// What is printed of an accepted proof.
 #[derive(Clone, Copy, PartialEq, Eq)]
 pub(crate) enum Report {
@@ -133,8 +127,8 @@ fn chain_of<'a>(word: &str) -> Option<Request<'a>>
         (λ r. (n : ℕ) × (plain_request r ≡ Generate n) × (2 ≤ n) × (n ≤ 1000)
         × (word.now ≡ decimal n)) }
 {
-    let number = number(word, MOST_STREAMS)?;
-    if number < LEAST_STREAMS {
+    let number = number(word, 1_000)?;
+    if number < 2 {
         return None;
     }
     Some(Request::Generate {
