@@ -44,15 +44,6 @@ fn count(status: &Status) -> u64 {
     }
 }
 
-/// The program's name, and the words of a line.
-fn called(alloc: Global, line: &str) -> Result<Vec<String>, AllocError> {
-    let mut words = vec![in alloc; String::from_str(alloc, "circ")?]?;
-    for word in line.split_ascii_whitespace() {
-        words.push(String::from_str(alloc, word)?)?;
-    }
-    Ok(words)
-}
-
 impl<'a> Row<'a> {
     /// A row of no part.
     pub fn new(alloc: Global) -> Row<'a> {
@@ -133,8 +124,11 @@ impl<'a> Row<'a> {
 
     /// The program's name, and the words behind it.
     fn words(&self, alloc: Global) -> Result<Vec<String>, AllocError> {
+        let mut words = vec![in alloc; String::from_str(alloc, "circ")?]?;
         let line = self.last("circ").map_or("", |part| part.name);
-        let mut words = called(alloc, line)?;
+        for word in line.split_ascii_whitespace() {
+            words.push(String::from_str(alloc, word)?)?;
+        }
         for part in &self.parts {
             if part.kind == "word" {
                 words.push(String::from_str(alloc, part.name)?)?;
