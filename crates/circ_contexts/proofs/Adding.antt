@@ -2,8 +2,8 @@
 use Rattle.std.specs.Prelude.{◌≡◌, List, [], ◌∷◌, ◌++◌}
 use Rattle.std.proofs.Common.{ap, sym, subst, ◌∙◌, append_assoc, append-nil}
 use Rattle.circ_contexts.specs.Candidates.{AddsKept}
-use Rattle.circ_contexts.specs.Keeps.{Keeps, ends, keeps, drops}
-use Rattle.circ_contexts.proofs.Keeping.{kept_append}
+use Rattle.circ_plain_search.specs.Keeps.{Keeps, ends, keeps, drops}
+use Rattle.circ_plain_search.proofs.Keeping.{kept_append}
 
 pub adds_start : {X : Type 0} (P : X → Type 0) (whole old : List X) → AddsKept P whole whole old old
 adds_start P whole old = record { added = []; items = sym (append-nil old); kept = λ ys k. k }

@@ -15,13 +15,14 @@ use Rattle.circ_rewrite.specs.Replacement.{Traced}
 use Rattle.circ_rewrite.specs.declared.parts.Normal.{Normal}
 use Rattle.circ_rewrite.specs.declared.parts.Trace.{Trace}
 use Rattle.circ_rules.specs.Certified.{derivatives_at, due}
-use Rattle.circ_contexts.specs.Candidates.{AreNormals, IsFound, AreCandidates, Passes, StandsAt, IsLast, places_of, all_places, plain_lists, traces_of}
-use Rattle.circ_contexts.specs.Greatest.{HasNormalForm, IsCandidate, IsSelfGuarded, AreTraces, GreatestSpecialSet}
-use Rattle.circ_contexts.specs.Keeps.{Keeps, ends, keeps, drops}
+use Rattle.circ_contexts.specs.Candidates.{AreNormals, IsFound, AreCandidates, Passes, StandsAt, IsLast, places_of, plain_lists, traces_of}
+use Rattle.circ_plain_search.specs.Places.{all_places}
+use Rattle.circ_plain_search.specs.Greatest.{HasNormalForm, IsCandidate, IsSelfGuarded, AreTraces, GreatestSpecialSet}
+use Rattle.circ_plain_search.specs.Keeps.{Keeps, ends, keeps, drops}
 use Rattle.circ_contexts.specs.declared.candidates.Candidate.{Candidate}
-use Rattle.circ_contexts.proofs.Increasing.{all_increase, increasing_kept, increasing_first, increasing_tail, before_all, is_listed}
-use Rattle.circ_contexts.proofs.Keeping.{contains_none, pick, kept_from, kept_all, same_kept, all_kept}
-use Rattle.circ_contexts.proofs.Unique.{one_normal, one_sort}
+use Rattle.circ_plain_search.proofs.Increasing.{all_increase, increasing_kept, increasing_first, increasing_tail, before_all, is_listed}
+use Rattle.circ_plain_search.proofs.Keeping.{contains_none, pick, kept_from, kept_all, same_kept, all_kept}
+use Rattle.circ_plain_search.proofs.Unique.{one_normal, one_sort}
 
 all_of : {X : Type 0} (P : X → Type 0) (xs : List X) (x : X) → AllByRecursion P xs → Contains xs x → P x
 all_of P [] x a c = contains_none x c

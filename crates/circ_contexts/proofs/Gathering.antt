@@ -8,7 +8,7 @@ use Rattle.circ_theory.specs.Theory.{Theory}
 use Rattle.circ_special.specs.declared.place.Place.{Place}
 use Rattle.circ_special.specs.Special.{place}
 use Rattle.circ_contexts.specs.Candidates.{AddsKept, IsFound, GivesCandidate, AreCandidates, places_of}
-use Rattle.circ_contexts.specs.Greatest.{IsCandidate}
+use Rattle.circ_plain_search.specs.Greatest.{IsCandidate}
 use Rattle.circ_contexts.specs.declared.candidates.Candidate.{Candidate}
 use Rattle.circ_contexts.proofs.Adding.{adds_start, adds_kept, adds_dropped, adds_last}
 use Rattle.circ_contexts.proofs.Dropping.{is_candidate}

@@ -1,9 +1,4 @@
-pub mod Keeping
-pub mod Increasing
-pub mod Unique
 pub mod Adding
-pub mod Existing
-pub mod Certifying
 pub mod Starting
 pub mod Listing
 pub mod Gathering

@@ -5,7 +5,8 @@ use Rattle.std.proofs.Common.{ap, sym, subst, ◌∙◌, arith}
 use Rattle.std.proofs.Math.ListN.{drop_of_length-le}
 use Rattle.circ_theory.specs.Signature.{Operator}
 use Rattle.circ_special.specs.Special.{place}
-use Rattle.circ_contexts.specs.Candidates.{places_from, all_places, places_at}
+use Rattle.circ_plain_search.specs.Places.{places_from, all_places}
+use Rattle.circ_contexts.specs.Candidates.{places_at}
 
 places_length : (f i : ℕ) (ss : List ℕ) → length (places_from f i ss) ≡ length ss
 places_length f i [] = refl

@@ -24,7 +24,7 @@ use Rattle.circ_rules.specs.Deriving.{IsWithin}
 use Rattle.circ_rules.specs.declared.certificates.Start.{Start}
 use Rattle.circ_rules.proofs.Deriving.{StartsWith, derivative_at, from_number, taken_next, passed_next, if_some_at, some_if_at}
 use Rattle.circ_contexts.specs.Candidates.{ComesTo, GivesNormal, AreNormals, IsFound}
-use Rattle.circ_contexts.specs.Greatest.{IsCandidate}
+use Rattle.circ_plain_search.specs.Greatest.{IsCandidate}
 
 module _ (th : Theory) (budget : ℕ) where
   -- ---- one start term

@@ -14,27 +14,16 @@ use Rattle.circ_rewrite.specs.Replacement.{Traced}
 use Rattle.circ_rewrite.specs.declared.parts.Normal.{Normal}
 use Rattle.circ_rewrite.specs.declared.parts.Trace.{Trace}
 use Rattle.circ_rules.specs.Certified.{derivatives_at}
-use Rattle.circ_contexts.specs.Greatest.{HasNormalForm, IsCandidate, IsSelfGuarded}
-use Rattle.circ_contexts.specs.Keeps.{Keeps}
+use Rattle.circ_plain_search.specs.Greatest.{HasNormalForm, IsCandidate, IsSelfGuarded}
+use Rattle.circ_plain_search.specs.Keeps.{Keeps}
+use Rattle.circ_plain_search.specs.Places.{places_from}
 use Rattle.circ_contexts.specs.declared.candidates.Candidate.{Candidate}
 
 -- what contracts see of lists of traces
 abbrev pub plain_lists : List (Vec Trace Global) → List (List Traced)
 plain_lists vs = map (λ v. plain_traces v.items) vs
 
--- ---- all arguments of operators
-
--- the arguments of operator f, the first of which has the number i
-abbrev pub places_from : (f i : ℕ) → (sorts : List ℕ) → List Place
-places_from f i [] = []
-places_from f i (s ∷ ss) = place f i ∷ places_from f (i + 1) ss
-
--- those of operators, the first of which has the number f
-abbrev pub all_places : (f : ℕ) → List Operator → List Place
-all_places f [] = []
-all_places f (o ∷ os) = places_from f 0 o.args ++ all_places (f + 1) os
-
--- those of an operator, if there is one
+-- the arguments of an operator, if there is one
 abbrev pub places_at : (f : ℕ) → Option Operator → List Place
 places_at f None = []
 places_at f (Some o) = places_from f 0 o.args

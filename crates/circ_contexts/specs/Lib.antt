@@ -1,4 +1,2 @@
-pub mod Greatest
-pub mod Keeps
 pub mod Candidates
 pub mod ByTheory

@@ -1,8 +1,8 @@
 //! The greatest special set, by dropping candidates until none is dropped.
 ghost use Rattle.std.specs.Prelude.{◌≡◌, ◌↔◌, ◌++◌, IsTrue, IfOk, OnOk, map};
 ghost use Rattle.circ_special.specs.Special.{IsSet};
-ghost use Rattle.circ_contexts.specs.Greatest.{GreatestSpecialSet};
-ghost use Rattle.circ_contexts.specs.Keeps.{Keeps};
+ghost use Rattle.circ_plain_search.specs.Greatest.{GreatestSpecialSet};
+ghost use Rattle.circ_plain_search.specs.Keeps.{Keeps};
 ghost use Rattle.circ_contexts.specs.Candidates.{Passes, StandsAt, IsLast};
 ghost use Rattle.circ_contexts.specs.Candidates.{places_of, plain_lists, traces_of};
 

@@ -1,11 +1,10 @@
 //! The greatest special set of a theory, with the certificates of its places.
 //!
-//! `GreatestSpecialSet` of specs/ says which set that is. [`laws`] states what is proved of it.
+//! `GreatestSpecialSet` of circ_plain_search says which set that is; its laws are proved there.
 #![tactic(auto)]
 
 mod candidates;
 mod contexts;
-pub mod laws;
 mod places;
 
 pub use contexts::special_contexts;

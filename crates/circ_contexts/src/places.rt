@@ -2,8 +2,9 @@
 ghost use Rattle.std.specs.Prelude.{◌↔◌, [], IsTrue, IfOk, OnOk};
 ghost use Rattle.std.specs.List.{slice_get};
 ghost use Rattle.circ_special.specs.Special.{IsPlace};
-ghost use Rattle.circ_contexts.specs.Candidates.{AddsKept, all_places, places_at};
-ghost use Rattle.circ_contexts.specs.Keeps.{Keeps};
+ghost use Rattle.circ_plain_search.specs.Places.{all_places};
+ghost use Rattle.circ_contexts.specs.Candidates.{AddsKept, places_at};
+ghost use Rattle.circ_plain_search.specs.Keeps.{Keeps};
 
 use circ_special::Place;
 use circ_theory::Theory;

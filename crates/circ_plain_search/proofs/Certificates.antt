@@ -20,8 +20,8 @@ use Rattle.circ_rewrite.proofs.RuleLists.{rules_are}
 use Rattle.circ_rules.specs.Certified.{start_args, start_term, derivatives_at, due, Certified, AreCertified}
 use Rattle.circ_rules.proofs.Sorted.{sorted_none}
 use Rattle.circ_rules.proofs.Starting.{few_args}
-use Rattle.circ_contexts.specs.Greatest.{HasNormalForm, AreTraces, GreatestSpecialSet}
-use Rattle.circ_contexts.proofs.Certifying.{of_place, from_due, is_certified, starts_sorted}
+use Rattle.circ_plain_search.specs.Greatest.{HasNormalForm, AreTraces, GreatestSpecialSet}
+use Rattle.circ_plain_search.proofs.Certifying.{of_place, from_due, is_certified, starts_sorted}
 use Rattle.circ_plain_search.proofs.Terms.{Fine}
 use Rattle.circ_plain_search.proofs.Normals.{normal_form_led}
 use Rattle.circ_plain_search.proofs.Derived.{derived_low}

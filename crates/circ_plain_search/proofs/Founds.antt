@@ -4,8 +4,8 @@ use Rattle.circ_theory.specs.Theory.{Theory}
 use Rattle.circ_theory.specs.declared.parts.Goal.{Goal}
 use Rattle.circ_special.specs.declared.place.Place.{Place}
 use Rattle.circ_rewrite.specs.Links.{link_of}
-use Rattle.circ_contexts.proofs.Unique.{one_set}
-use Rattle.circ_contexts.proofs.Existing.{some_set}
+use Rattle.circ_plain_search.proofs.Unique.{one_set}
+use Rattle.circ_plain_search.proofs.Existing.{some_set}
 use Rattle.circ_plain_search.specs.Search.{Limits, Reaches, start}
 use Rattle.circ_plain_search.specs.Numbering.{Found, special, found_of}
 use Rattle.circ_plain_search.specs.PlainSearch.{PlainSearch}

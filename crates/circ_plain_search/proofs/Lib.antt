@@ -1,3 +1,8 @@
+pub mod Keeping
+pub mod Increasing
+pub mod Unique
+pub mod Existing
+pub mod Certifying
 pub mod Terms
 pub mod Led
 pub mod PairTerms

@@ -1,3 +1,6 @@
+pub mod Places
+pub mod Keeps
+pub mod Greatest
 pub mod BlockRules
 pub mod Joining
 pub mod Search

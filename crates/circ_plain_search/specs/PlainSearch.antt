@@ -11,7 +11,7 @@ use Rattle.circ_rewrite.specs.Replacement.{Traced}
 use Rattle.circ_rules.specs.Accepted.{Accepted}
 use Rattle.circ_rules.specs.Proof.{Proof, ProofFor}
 use Rattle.circ_rules.specs.Rules.{fresh_in}
-use Rattle.circ_contexts.specs.Greatest.{GreatestSpecialSet}
+use Rattle.circ_plain_search.specs.Greatest.{GreatestSpecialSet}
 use Rattle.circ_plain_search.specs.Search.{Limits, Ending, Reaches, start}
 use Rattle.circ_plain_search.specs.Numbering.{Found, special, found_of}
 

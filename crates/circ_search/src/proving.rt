@@ -2,7 +2,7 @@
 ghost use Rattle.std.specs.Prelude.{◌≡◌, Some, [], map, IfOk};
 ghost use Rattle.circ_rewrite.specs.Links.{link_of};
 ghost use Rattle.circ_contexts.specs.Candidates.{plain_lists};
-ghost use Rattle.circ_contexts.specs.Greatest.{GreatestSpecialSet};
+ghost use Rattle.circ_plain_search.specs.Greatest.{GreatestSpecialSet};
 ghost use Rattle.circ_rules.specs.Plain.{plain_proof};
 ghost use Rattle.circ_plain_search.specs.Numbering.{Special, found_of, needed, proof_with};
 ghost use Rattle.circ_plain_search.specs.PlainSearch.{AreSearchable, PlainSearch, IsProofOf};

@@ -3,7 +3,7 @@ use Rattle.std.proofs.Common.{◌≡◌, ℕ, List, refl, subst, true, None, ap,
 use Rattle.circ_outer.specs.Shelf.{ShelfState}
 use Rattle.circ_theory.specs.Theory.{Theory}
 use Rattle.circ_read.specs.ReadsAs.{ReadsAs}
-use Rattle.circ_contexts.proofs.Unique.{one_set}
+use Rattle.circ_plain_search.proofs.Unique.{one_set}
 use Rattle.circ_show.specs.PlacesText.{place_lines}
 use Rattle.circ_top.specs.Command.{Contexts, Asks}
 use Rattle.circ_files.specs.Files.{RefusesFile}

@@ -30,7 +30,7 @@ use Rattle.circ_top.specs.Prove.{search_limits, searched}
 use Rattle.circ_top.specs.Prove as prove
 use Rattle.circ_top.specs.Contexts.{not_listed, listed}
 use Rattle.circ_show.specs.PlacesText.{place_lines}
-use Rattle.circ_contexts.proofs.Existing.{some_set}
+use Rattle.circ_plain_search.proofs.Existing.{some_set}
 use Rattle.circ_generate.specs.Chain.{chain_theory, chain_script}
 use Rattle.circ_generate.specs.Generating.{Generates, greatest_limits, chain_ending, unread_ending}
 use Rattle.circ_generate.specs.Generating as generating

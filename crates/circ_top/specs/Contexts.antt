@@ -4,7 +4,7 @@ use Rattle.circ_outer.specs.Shelf.{ShelfState}
 use Rattle.circ_theory.specs.Theory.{Theory}
 use Rattle.circ_special.specs.declared.place.Place.{Place}
 use Rattle.circ_rewrite.specs.Replacement.{Traced}
-use Rattle.circ_contexts.specs.Greatest.{GreatestSpecialSet}
+use Rattle.circ_plain_search.specs.Greatest.{GreatestSpecialSet}
 use Rattle.circ_show.specs.PlacesText.{place_lines}
 use Rattle.circ_top.specs.Command.{Contexts}
 use Rattle.circ_files.specs.Files.{Held, RefusesFile}

@@ -1,6 +1,6 @@
 use Rattle.std.proofs.Common.{rules}
 use Rattle.circ_contexts.specs.Candidates.{Passes}
-use Rattle.circ_contexts.proofs.Keeping.{keeps_filtered}
+use Rattle.circ_plain_search.proofs.Keeping.{keeps_filtered}
 use Rattle.circ_contexts.proofs.contexts.narrow.Goals as goal
 
 pub returns : goal.returns

@@ -2,7 +2,8 @@ use Rattle.std.proofs.Common.{◌≡◌, ◌+◌, ◌<◌, ◌≤◌, [], drop, 
 use Rattle.std.proofs.Math.ListN.{drop_of_length-le}
 use Rattle.std.specs.List.{slice_get}
 use Rattle.circ_special.specs.Special.{IsPlace}
-use Rattle.circ_contexts.specs.Candidates.{all_places, places_at}
+use Rattle.circ_plain_search.specs.Places.{all_places}
+use Rattle.circ_contexts.specs.Candidates.{places_at}
 use Rattle.circ_contexts.proofs.Adding.{adds_more, adds_last}
 use Rattle.circ_contexts.proofs.Listing.{next_operator}
 use Rattle.circ_contexts.proofs.places.hidden_places.Goals as goal

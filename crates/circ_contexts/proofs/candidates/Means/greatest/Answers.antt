@@ -1,7 +1,7 @@
 use Rattle.std.proofs.Common.{List, ap, subst, ◌∙◌, arith}
 use Rattle.circ_special.specs.declared.place.Place.{Place}
 use Rattle.circ_contexts.specs.Candidates.{Passes, places_of}
-use Rattle.circ_contexts.specs.Keeps.{Keeps}
+use Rattle.circ_plain_search.specs.Keeps.{Keeps}
 use Rattle.circ_contexts.proofs.Dropping.{stands_next, stands_last, is_set}
 use Rattle.circ_contexts.proofs.candidates.Means.greatest.Goals as goal
 

@@ -12,8 +12,8 @@ use Rattle.circ_rewrite.specs.Norm.{Normalised, Normal_form, Budget_spent, Limit
 use Rattle.circ_rewrite.specs.Replacement.{Traced}
 use Rattle.circ_rules.specs.Certified.{start_term, due}
 use Rattle.circ_rewrite.specs.TheoryRules.{theory_rules}
-use Rattle.circ_contexts.specs.Greatest.{HasNormalForm, AreTraces, GreatestSpecialSet}
-use Rattle.circ_contexts.proofs.Increasing.{same_places}
+use Rattle.circ_plain_search.specs.Greatest.{HasNormalForm, AreTraces, GreatestSpecialSet}
+use Rattle.circ_plain_search.proofs.Increasing.{same_places}
 
 -- a place has one operator, and one sort
 pub one_operator : (th : Theory) (g : Place) (p q : IsPlace th g) → p.operator ≡ q.operator

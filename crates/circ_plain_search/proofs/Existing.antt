@@ -11,11 +11,11 @@ use Rattle.circ_special.specs.Guarded.{Guarded}
 use Rattle.circ_special.proofs.Larger.{guarded_more}
 use Rattle.circ_rewrite.specs.Replacement.{Traced}
 use Rattle.circ_rules.specs.Certified.{due, derivatives_at}
-use Rattle.circ_contexts.specs.Greatest.{HasNormalForm, IsCandidate, IsSelfGuarded, AreTraces, GreatestSpecialSet}
-use Rattle.circ_contexts.specs.Candidates.{all_places}
-use Rattle.circ_contexts.specs.Keeps.{Keeps}
-use Rattle.circ_contexts.proofs.Keeping.{kept_from, kept_all, some_kept}
-use Rattle.circ_contexts.proofs.Increasing.{all_increase, is_listed, increasing_kept}
+use Rattle.circ_plain_search.specs.Greatest.{HasNormalForm, IsCandidate, IsSelfGuarded, AreTraces, GreatestSpecialSet}
+use Rattle.circ_plain_search.specs.Places.{all_places}
+use Rattle.circ_plain_search.specs.Keeps.{Keeps}
+use Rattle.circ_plain_search.proofs.Keeping.{kept_from, kept_all, some_kept}
+use Rattle.circ_plain_search.proofs.Increasing.{all_increase, is_listed, increasing_kept}
 
 module _ (th : Theory) (budget : ℕ) where
   -- traces of what is due, where each has a normal form

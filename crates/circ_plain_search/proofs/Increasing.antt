@@ -11,9 +11,9 @@ use Rattle.circ_theory.proofs.Casing.{contains_first}
 use Rattle.circ_theory.proofs.Weakening.{first_or_rest, in_rest}
 use Rattle.circ_special.specs.declared.place.Place.{Place}
 use Rattle.circ_special.specs.Special.{IsPlace, IsIncreasing, IsWithin, comes_before, place}
-use Rattle.circ_contexts.specs.Candidates.{places_from, all_places}
-use Rattle.circ_contexts.specs.Keeps.{Keeps, ends, keeps, drops}
-use Rattle.circ_contexts.proofs.Keeping.{contains_none, pick, kept_from}
+use Rattle.circ_plain_search.specs.Places.{places_from, all_places}
+use Rattle.circ_plain_search.specs.Keeps.{Keeps, ends, keeps, drops}
+use Rattle.circ_plain_search.proofs.Keeping.{contains_none, pick, kept_from}
 
 -- ---- the order
 

@@ -5,7 +5,7 @@ use Rattle.std.specs.List.Retain.{IsFiltered, ReturnsInTurn}
 use Rattle.std.proofs.Common.{ap, sym, subst, inl, inr, arith}
 use Rattle.circ_theory.proofs.Casing.{contains_first}
 use Rattle.circ_theory.proofs.Weakening.{first_or_rest, in_rest}
-use Rattle.circ_contexts.specs.Keeps.{Keeps, ends, keeps, drops}
+use Rattle.circ_plain_search.specs.Keeps.{Keeps, ends, keeps, drops}
 
 pub contains_none : {X C : Type 0} (x : X) → Contains [] x → C
 contains_none x c = absurd (omega (arith, c.1))

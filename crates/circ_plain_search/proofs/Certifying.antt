@@ -26,8 +26,8 @@ use Rattle.circ_rewrite.proofs.RuleLists.{rules_are}
 use Rattle.circ_rewrite.proofs.Runs.{normal_form_reduces}
 use Rattle.circ_rules.specs.Certified.{start_args, start_term, due, due_at, derivatives_at, Certified, AreCertified}
 use Rattle.circ_rules.proofs.Starting.{applied_sorted}
-use Rattle.circ_contexts.specs.Greatest.{HasNormalForm, IsSelfGuarded, AreTraces, GreatestSpecialSet}
-use Rattle.circ_contexts.proofs.Keeping.{contains_none, pick}
+use Rattle.circ_plain_search.specs.Greatest.{HasNormalForm, IsSelfGuarded, AreTraces, GreatestSpecialSet}
+use Rattle.circ_plain_search.proofs.Keeping.{contains_none, pick}
 
 -- a start term is well-sorted
 pub start_sorted : (th : Theory) → IsWellFormed th → (g : Place) (o : Operator) (d : Derivative) → slice_get th.signature.ops g.op ≡ Some o

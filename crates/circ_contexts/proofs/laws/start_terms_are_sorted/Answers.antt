@@ -1,5 +1,0 @@
-use Rattle.circ_contexts.proofs.Certifying.{starts_sorted}
-use Rattle.circ_contexts.proofs.laws.start_terms_are_sorted.Goals as goal
-
-pub returns : goal.returns
-returns c = starts_sorted
