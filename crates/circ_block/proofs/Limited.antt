@@ -17,9 +17,9 @@ use Rattle.circ_theory.specs.Fresh.{numbered_from, given_parameters, parameter_s
 use Rattle.circ_theory.specs.declared.parts.Goal.{Goal}
 use Rattle.circ_theory.proofs.Rewriting.{contains_at}
 use Rattle.circ_theory.proofs.Derived.{derived-numbered_from}
-use Rattle.circ_replay.specs.Goals.{goal}
-use Rattle.circ_rules.specs.Rules.{fresh_in, derived_goal, derivatives_on}
-use Rattle.circ_rules.proofs.Deriving.{if_some_at, some_if_at, the_derivative, StartsWith, derivative_at}
+use Rattle.circ_proof.specs.Goals.{goal}
+use Rattle.circ_proof.specs.Rules.{fresh_in, derived_goal, derivatives_on}
+use Rattle.circ_proof.proofs.Derivatives.{if_some_at, some_if_at, the_derivative, StartsWith, derivative_at}
 use Rattle.circ_plain_search.specs.Joining.{Stop, Past_limit}
 use Rattle.circ_plain_search.specs.Search.{goals_limit, unless_past}
 use Rattle.circ_join.specs.Stopping.{Stops, term_stop}

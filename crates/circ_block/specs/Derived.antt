@@ -7,8 +7,8 @@ use Rattle.circ_theory.specs.Theory.{Theory, Derivative}
 use Rattle.circ_theory.specs.Experiment.{derived}
 use Rattle.circ_theory.specs.Fresh.{given_parameters}
 use Rattle.circ_theory.specs.declared.parts.Goal.{Goal}
-use Rattle.circ_replay.specs.Goals.{goal}
-use Rattle.circ_rules.specs.Rules.{derivatives_on}
+use Rattle.circ_proof.specs.Goals.{goal}
+use Rattle.circ_proof.specs.Rules.{derivatives_on}
 use Rattle.circ_plain_search.specs.Search.{goals_limit, unless_past}
 use Rattle.circ_join.specs.Stopping.{Stops}
 use Rattle.circ_join.specs.declared.stop.Stop.{Stop}

@@ -4,7 +4,7 @@ ghost use Rattle.std.specs.List.{slice_get};
 ghost use Rattle.std.specs.Option.{IfSome, option_map, option_map_or};
 ghost use Rattle.circ_term.specs.Tree.{sort_of};
 ghost use Rattle.circ_theory.specs.Fresh.{variables_from, FitSome};
-ghost use Rattle.circ_rules.specs.Rules.{fresh_in, derived_goal};
+ghost use Rattle.circ_proof.specs.Rules.{fresh_in, derived_goal};
 ghost use Rattle.circ_plain_search.specs.Coming.{IsReady};
 ghost use Rattle.circ_block.specs.Derived.{GivesDerivatives};
 ghost use Rattle.circ_block.specs.Derived.{GivesGoal, instances_on};

@@ -1,8 +1,8 @@
 //! What no clause says: that a call does not want memory where there is enough.
 ghost use Rattle.std.specs.Prelude.{IsTrue};
 ghost use Rattle.circ_mixfix.specs.Answers.{declared_by, HaveSorts};
-ghost use Rattle.circ_rules.specs.Plain.{plain_proof};
-ghost use Rattle.circ_rules.specs.Proof.{ProofFor};
+ghost use Rattle.circ_proof.specs.PlainProof.{plain_proof};
+ghost use Rattle.circ_proof.specs.Proof.{ProofFor};
 
 use circ_aci::{canonical, content, same_content};
 use circ_check::{Verdict, check, derived};
@@ -14,8 +14,8 @@ use circ_memo::normalise;
 use circ_mixfix::{ParseFault, Reading, parse_one, parse_pair, print};
 use circ_outer::{SureShelf, SureSink};
 use circ_read::read_theory;
-use circ_replay::{Chain, Link, TableBuilder, Why, follow, follow_all, follow_why};
-use circ_rules::Proof;
+use circ_replay::{TableBuilder, follow, follow_all, follow_why};
+use circ_proof::{Chain, Link, Proof, Why};
 use circ_show::unobserved;
 use circ_special::Gamma;
 use circ_term::{Path, Subst, Term, TermFault};

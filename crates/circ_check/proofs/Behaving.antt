@@ -3,8 +3,8 @@ use Rattle.std.proofs.Common.{Result, Ok, Err, IfOk, List}
 use Rattle.circ_theory.specs.Theory.{Theory}
 use Rattle.circ_theory.specs.WellFormed.{IsWellFormed}
 use Rattle.circ_theory.specs.declared.parts.Goal.{Goal}
-use Rattle.circ_rules.specs.Proof.{Proof, ProofFor}
-use Rattle.circ_rules.specs.Accepted.{Derives}
+use Rattle.circ_proof.specs.Proof.{Proof, ProofFor}
+use Rattle.circ_proof.specs.Accepted.{Derives}
 use Rattle.circ_soundness.proofs.Sound.{goals_behave, derived_behave}
 use Rattle.circ_check.specs.declared.checking.Verdict.{Verdict}
 use Rattle.circ_check.specs.declared.checking.Verdict.TheVariants as verdict

@@ -8,15 +8,15 @@ use Rattle.circ_theory.specs.Theory.{Theory, Derivative}
 use Rattle.circ_theory.specs.Rewriting.{named}
 use Rattle.circ_theory.specs.declared.parts.Goal.{Goal}
 use Rattle.circ_special.specs.declared.place.Place.{Place}
-use Rattle.circ_replay.specs.Plain.{LinkOf}
-use Rattle.circ_replay.specs.Link.{resolved_links}
-use Rattle.circ_replay.specs.Runs.{Runs, FailsFirst}
-use Rattle.circ_rules.specs.Rules.{State, state, ProofStep, Simplify, Reduce, Derive, Done, map_step, StepOf, StepOn, StepsOf}
-use Rattle.circ_rules.specs.Certified.{due, AreCertified, CertificateFails}
-use Rattle.circ_rules.specs.Proof.{Block, Proof, ProofFor, IsBlockFor}
-use Rattle.circ_rules.specs.Accepted.{steps_of, BlocksDerive, BlockFails, Derives, FirstFail}
-use Rattle.circ_rules.specs.Parts.{Part, Head, Certificate, Goals, Step, certificate_parts, step_parts, block_parts, parts_of}
-use Rattle.circ_rules.proofs.Stepping.{steps_end}
+use Rattle.circ_proof.specs.Plain.{LinkOf}
+use Rattle.circ_proof.specs.Link.{resolved_links}
+use Rattle.circ_proof.specs.Runs.{Runs, FailsFirst}
+use Rattle.circ_proof.specs.Rules.{State, state, ProofStep, Simplify, Reduce, Derive, Done, map_step, StepOf, StepOn, StepsOf}
+use Rattle.circ_proof.specs.Certified.{due, AreCertified, CertificateFails}
+use Rattle.circ_proof.specs.Proof.{Block, Proof, ProofFor, IsBlockFor}
+use Rattle.circ_proof.specs.Accepted.{steps_of, BlocksDerive, BlockFails, Derives, FirstFail}
+use Rattle.circ_proof.specs.Parts.{Part, Head, Certificate, Goals, Step, certificate_parts, step_parts, block_parts, parts_of}
+use Rattle.circ_proof.proofs.Stepping.{steps_end}
 use Rattle.circ_check.specs.Checking.{Checking, TakesCertificate, TakesGoals, TakesStep, TakesPart, StandFor, nothing_taken, made_by, with_derived}
 
 -- one part more

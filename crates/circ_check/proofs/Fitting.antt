@@ -9,16 +9,16 @@ use Rattle.circ_theory.specs.WellFormed.{IsWellFormed}
 use Rattle.circ_theory.specs.declared.parts.Goal.{Goal}
 use Rattle.circ_special.specs.declared.place.Place.{Place}
 use Rattle.circ_special.specs.Special.{IsSet}
-use Rattle.circ_replay.specs.Goals.{AreSortedGoals}
-use Rattle.circ_replay.specs.Plain.{LinkOf}
-use Rattle.circ_replay.specs.Runs.{Runs}
-use Rattle.circ_rules.specs.Rules.{ProofStep, Simplify, Reduce, Derive, Done}
-use Rattle.circ_rules.specs.Certified.{due}
-use Rattle.circ_rules.specs.Proof.{AreLinksFor, IsStepFor, step_limit}
-use Rattle.circ_rules.specs.Parts.{Part, Head, Certificate, Goals, Step}
-use Rattle.circ_rules.specs.Fitting.{AreGoalsFor, FitSteps, FitBlocks, FitRest, Fit}
-use Rattle.circ_rules.proofs.FewPlaces.{few_due}
-use Rattle.circ_rules.proofs.Sorted.{sorted_none, sorted_append}
+use Rattle.circ_proof.specs.Goals.{AreSortedGoals}
+use Rattle.circ_proof.specs.Plain.{LinkOf}
+use Rattle.circ_proof.specs.Runs.{Runs}
+use Rattle.circ_proof.specs.Rules.{ProofStep, Simplify, Reduce, Derive, Done}
+use Rattle.circ_proof.specs.Certified.{due}
+use Rattle.circ_proof.specs.Proof.{AreLinksFor, IsStepFor, step_limit}
+use Rattle.circ_proof.specs.Parts.{Part, Head, Certificate, Goals, Step}
+use Rattle.circ_proof.specs.Fitting.{AreGoalsFor, FitSteps, FitBlocks, FitRest, Fit}
+use Rattle.circ_proof.proofs.FewPlaces.{few_due}
+use Rattle.circ_proof.proofs.Sorted.{sorted_none, sorted_append}
 use Rattle.circ_soundness.proofs.Blocks.{names_sorted}
 use Rattle.circ_check.specs.Checking.{Checking, TakesCertificate, TakesGoals, TakesStep, TakesPart, StandFor, nothing_taken}
 use Rattle.circ_check.specs.Ready.{IsReady}

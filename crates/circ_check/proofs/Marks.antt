@@ -6,8 +6,8 @@ use Rattle.circ_theory.specs.Theory.{Theory}
 use Rattle.circ_theory.specs.Rewriting.{named}
 use Rattle.circ_theory.specs.declared.parts.Goal.{Goal}
 use Rattle.circ_special.specs.declared.place.Place.{Place}
-use Rattle.circ_rules.specs.Rules.{State, Derive, StepOn, derivatives_on}
-use Rattle.circ_rules.specs.Proof.{goal_of}
+use Rattle.circ_proof.specs.Rules.{State, Derive, StepOn, derivatives_on}
+use Rattle.circ_proof.specs.Proof.{goal_of}
 use Rattle.circ_check.specs.Knowing.{AreKnown, marks_of}
 
 -- goals of equal numbers have equal sides

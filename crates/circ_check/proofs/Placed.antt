@@ -8,14 +8,14 @@ use Rattle.circ_theory.specs.Rewriting.{named}
 use Rattle.circ_theory.specs.declared.way.Way.{Way}
 use Rattle.circ_term.specs.Growing.{Grows}
 use Rattle.circ_table.specs.Table.{AreIn}
-use Rattle.circ_replay.specs.Plain.{LinkOf, Equation_link, Hypothesis_link, Content_link, ChainOf, WhyOf, WhysOf, Same_why, Split_why, more_whys}
-use Rattle.circ_replay.specs.Plain.{map_link, map_chain, map_why, map_whys, plain_link, plain_links, plain_chain, plain_why, plain_whys}
-use Rattle.circ_replay.specs.Link.{AllOfLink}
-use Rattle.circ_replay.specs.declared.links.Link.{Link}
-use Rattle.circ_replay.specs.declared.links.Chain.{Chain}
-use Rattle.circ_replay.specs.declared.links.Why.{Why, Split}
+use Rattle.circ_proof.specs.Plain.{LinkOf, Equation_link, Hypothesis_link, Content_link, ChainOf, WhyOf, WhysOf, Same_why, Split_why, more_whys}
+use Rattle.circ_proof.specs.Plain.{map_link, map_chain, map_why, map_whys, plain_link, plain_links, plain_chain, plain_why, plain_whys}
+use Rattle.circ_proof.specs.Link.{AllOfLink}
+use Rattle.circ_proof.specs.declared.links.Link.{Link}
+use Rattle.circ_proof.specs.declared.links.Chain.{Chain}
+use Rattle.circ_proof.specs.declared.links.Why.{Why, Split}
 use Rattle.circ_replay.proofs.Whys.{split_plain}
-use Rattle.circ_rules.specs.Rules.{Simplify, Reduce}
+use Rattle.circ_proof.specs.Rules.{Simplify, Reduce}
 use Rattle.circ_check.specs.Placing.{Places, PlacesNumber, PlacesNumbers, PlacesLink, PlacesLinks, PlacesChain, PlacesWhy, PlacesWhys, PlacesStep}
 
 -- ---- terms that are added

@@ -11,12 +11,12 @@ use Rattle.circ_theory.specs.Theory.{Theory}
 use Rattle.circ_theory.specs.Rewriting.{named}
 use Rattle.circ_theory.specs.declared.parts.Goal.{Goal}
 use Rattle.circ_special.specs.declared.place.Place.{Place}
-use Rattle.circ_replay.specs.Goals.{AreSortedGoals}
-use Rattle.circ_replay.specs.Runs.{FailsFirst}
-use Rattle.circ_rules.specs.Rules.{State, state, ProofStep, map_step, IsSortedState, StepOf, StepsOf}
-use Rattle.circ_rules.specs.Proof.{Block, Proof, ProofFor, IsBlockFor, steps_in, step_limit}
-use Rattle.circ_rules.specs.Accepted.{steps_of, Admissible, BlocksDerive, Derives, Accepted, BlockFails, FirstFail}
-use Rattle.circ_rules.proofs.Sorted.{sorted_append}
+use Rattle.circ_proof.specs.Goals.{AreSortedGoals}
+use Rattle.circ_proof.specs.Runs.{FailsFirst}
+use Rattle.circ_proof.specs.Rules.{State, state, ProofStep, map_step, IsSortedState, StepOf, StepsOf}
+use Rattle.circ_proof.specs.Proof.{Block, Proof, ProofFor, IsBlockFor, steps_in, step_limit}
+use Rattle.circ_proof.specs.Accepted.{steps_of, Admissible, BlocksDerive, Derives, Accepted, BlockFails, FirstFail}
+use Rattle.circ_proof.proofs.Sorted.{sorted_append}
 use Rattle.circ_soundness.proofs.Blocks.{block_sorted}
 use Rattle.circ_soundness.proofs.Ending.{ended}
 use Rattle.circ_soundness.proofs.Failing.{not_both}

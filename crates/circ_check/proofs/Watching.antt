@@ -9,15 +9,15 @@ use Rattle.circ_theory.specs.Rewriting.{named}
 use Rattle.circ_theory.specs.WellFormed.{IsWellFormed}
 use Rattle.circ_theory.specs.declared.parts.Goal.{Goal}
 use Rattle.circ_special.specs.declared.place.Place.{Place}
-use Rattle.circ_replay.specs.Goals.{AreSortedGoals}
-use Rattle.circ_replay.specs.Plain.{LinkOf}
-use Rattle.circ_replay.specs.Link.{resolved_links}
-use Rattle.circ_rules.specs.Rules.{State, state, IsSortedState, ProofStep, Simplify, Reduce, Derive, Done, map_step, StepOf}
-use Rattle.circ_rules.specs.Proof.{Proof, ProofFor}
-use Rattle.circ_rules.specs.Parts.{Part, Certificate, Goals, Step, parts_of}
-use Rattle.circ_rules.specs.Accepted.{Derives, FirstFail}
-use Rattle.circ_rules.specs.Plain.{plain_state}
-use Rattle.circ_rules.specs.declared.state.State.{State as TheState}
+use Rattle.circ_proof.specs.Goals.{AreSortedGoals}
+use Rattle.circ_proof.specs.Plain.{LinkOf}
+use Rattle.circ_proof.specs.Link.{resolved_links}
+use Rattle.circ_proof.specs.Rules.{State, state, IsSortedState, ProofStep, Simplify, Reduce, Derive, Done, map_step, StepOf}
+use Rattle.circ_proof.specs.Proof.{Proof, ProofFor}
+use Rattle.circ_proof.specs.Parts.{Part, Certificate, Goals, Step, parts_of}
+use Rattle.circ_proof.specs.Accepted.{Derives, FirstFail}
+use Rattle.circ_proof.specs.PlainProof.{plain_state}
+use Rattle.circ_proof.specs.declared.state.State.{State as TheState}
 use Rattle.circ_soundness.proofs.Sound.{goals_behave}
 use Rattle.circ_check.specs.declared.checker.Checker.{Checker}
 use Rattle.circ_check.specs.Checking.{Checking, TakesCertificate, TakesGoals, TakesStep, nothing_taken, made_by, with_one, with_derived}

@@ -6,12 +6,12 @@ use Rattle.circ_theory.specs.Theory.{Theory, Derivative}
 use Rattle.circ_theory.specs.Rewriting.{named}
 use Rattle.circ_theory.specs.declared.parts.Goal.{Goal}
 use Rattle.circ_special.specs.declared.place.Place.{Place}
-use Rattle.circ_replay.specs.Plain.{LinkOf}
-use Rattle.circ_replay.specs.Link.{resolved_links}
-use Rattle.circ_replay.specs.Runs.{Runs}
-use Rattle.circ_rules.specs.Rules.{State, state, ProofStep, Simplify, Reduce, Derive, Done, map_step, StepOf}
-use Rattle.circ_rules.specs.Certified.{Certified, due}
-use Rattle.circ_rules.specs.Parts.{Part, Head, Certificate, Goals, Step}
+use Rattle.circ_proof.specs.Plain.{LinkOf}
+use Rattle.circ_proof.specs.Link.{resolved_links}
+use Rattle.circ_proof.specs.Runs.{Runs}
+use Rattle.circ_proof.specs.Rules.{State, state, ProofStep, Simplify, Reduce, Derive, Done, map_step, StepOf}
+use Rattle.circ_proof.specs.Certified.{Certified, due}
+use Rattle.circ_proof.specs.Parts.{Part, Head, Certificate, Goals, Step}
 use Rattle.circ_check.specs.declared.tally.Tally.{Tally}
 
 -- The table and the special set, the certificates that are still due, the goals of the blocks before this one and its own, the state, whether a step has

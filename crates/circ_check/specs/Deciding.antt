@@ -6,10 +6,10 @@ use Rattle.circ_theory.specs.Experiment.{Behaves}
 use Rattle.circ_theory.specs.declared.parts.Goal.{Goal}
 use Rattle.circ_term.specs.Tree.{Tree}
 use Rattle.circ_special.specs.declared.place.Place.{Place}
-use Rattle.circ_replay.specs.Runs.{FailsFirst}
-use Rattle.circ_rules.specs.Rules.{State, ProofStep, StepOf, StepsOf}
-use Rattle.circ_rules.specs.Proof.{Block, Proof}
-use Rattle.circ_rules.specs.Accepted.{Accepted, FirstFail}
+use Rattle.circ_proof.specs.Runs.{FailsFirst}
+use Rattle.circ_proof.specs.Rules.{State, ProofStep, StepOf, StepsOf}
+use Rattle.circ_proof.specs.Proof.{Block, Proof}
+use Rattle.circ_proof.specs.Accepted.{Accepted, FirstFail}
 use Rattle.circ_check.specs.declared.checking.Verdict.{Verdict}
 use Rattle.circ_check.specs.declared.checking.Verdict.TheVariants as verdict
 

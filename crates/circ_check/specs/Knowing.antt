@@ -1,8 +1,8 @@
 -- Goals whose sides are known to be one term, so that no walk over them has to find it.
 use Rattle.std.specs.Prelude.{◌≡◌, ℕ, Bool, true, List, [], ◌∷◌, ◌==◌, map}
 use Rattle.circ_theory.specs.declared.parts.Goal.{Goal}
-use Rattle.circ_replay.specs.Plain.{Same_why}
-use Rattle.circ_rules.specs.Rules.{ProofStep, Reduce}
+use Rattle.circ_proof.specs.Plain.{Same_why}
+use Rattle.circ_proof.specs.Rules.{ProofStep, Reduce}
 
 -- One mark each for the first goals. A mark that is set says that the goal's sides are one term.
 abbrev pub AreKnown : List Bool → List Goal → Type 0

@@ -4,10 +4,10 @@ use Rattle.std.specs.List.{AllByRecursion}
 use Rattle.circ_term.specs.Tree.{Tree}
 use Rattle.circ_theory.specs.Rewriting.{named}
 use Rattle.circ_term.specs.Growing.{Grows}
-use Rattle.circ_replay.specs.Plain.{LinkOf, ChainOf, WhyOf, WhysOf, map_link, map_chain, map_why, map_whys}
-use Rattle.circ_replay.specs.Link.{AllOfLink, AllOfLinks}
-use Rattle.circ_replay.specs.Justified.{AllOfChain, AllOfWhy, AllOfWhys}
-use Rattle.circ_rules.specs.Rules.{ProofStep, map_step, AllOfStep}
+use Rattle.circ_proof.specs.Plain.{LinkOf, ChainOf, WhyOf, WhysOf, map_link, map_chain, map_why, map_whys}
+use Rattle.circ_proof.specs.Link.{AllOfLink, AllOfLinks}
+use Rattle.circ_proof.specs.Justified.{AllOfChain, AllOfWhy, AllOfWhys}
+use Rattle.circ_proof.specs.Rules.{ProofStep, map_step, AllOfStep}
 
 -- With these terms for its numbers the new one is what the old one is with those of the table, and each of its numbers has a term.
 pub record MeansTheSame {X Y : Type 0} (read : (ℕ → Tree) → X → Y) (all : (ℕ → Type 0) → X → Type 0) (table : List Tree) (old new : X) (terms : List Tree)

@@ -4,9 +4,9 @@ use Rattle.std.specs.List.{AllByRecursion}
 use Rattle.circ_theory.specs.Signature.{IsWellSorted}
 use Rattle.circ_theory.specs.Theory.{Theory}
 use Rattle.circ_special.specs.Special.{IsSet}
-use Rattle.circ_replay.specs.Goals.{AreSortedGoals}
-use Rattle.circ_rules.specs.Proof.{AreLinksFor, IsStepFor}
-use Rattle.circ_rules.specs.Parts.{Part, Head, Certificate, Goals, Step}
+use Rattle.circ_proof.specs.Goals.{AreSortedGoals}
+use Rattle.circ_proof.specs.Proof.{AreLinksFor, IsStepFor}
+use Rattle.circ_proof.specs.Parts.{Part, Head, Certificate, Goals, Step}
 use Rattle.circ_check.specs.Checking.{Checking}
 use Rattle.circ_check.specs.Knowing.{AreKnown, marks_of}
 

@@ -3,11 +3,11 @@ use Rattle.std.specs.Prelude.{◌≡◌, ◌≤◌, ℕ, true, false, List, ◌�
 use Rattle.circ_term.specs.Tree.{Tree}
 use Rattle.circ_theory.specs.Theory.{Theory}
 use Rattle.circ_theory.specs.declared.parts.Goal.{Goal}
-use Rattle.circ_rules.specs.Rules.{IsSortedState}
-use Rattle.circ_rules.specs.Parts.{Part}
-use Rattle.circ_rules.specs.Fitting.{Fit}
+use Rattle.circ_proof.specs.Rules.{IsSortedState}
+use Rattle.circ_proof.specs.Parts.{Part}
+use Rattle.circ_proof.specs.Fitting.{Fit}
 use Rattle.circ_rules.specs.Due.{due_after}
-use Rattle.circ_rules.specs.Plain.{plain_state}
+use Rattle.circ_proof.specs.PlainProof.{plain_state}
 use Rattle.circ_check.specs.Checking.{Checking, TakesPart, StandFor}
 use Rattle.circ_check.specs.Deciding.{plain_list}
 use Rattle.circ_check.specs.Knowing.{AreKnown}

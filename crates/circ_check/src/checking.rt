@@ -1,14 +1,15 @@
 //! What a proof comes to.
 ghost use Rattle.std.specs.Prelude.{◌≡◌, List, [], IfOk, map};
 ghost use Rattle.std.specs.Result.{OnOk};
-ghost use Rattle.circ_rules.specs.Rules.{state as state_with};
-ghost use Rattle.circ_rules.specs.Proof.{ProofFor};
-ghost use Rattle.circ_rules.specs.Accepted.{Admissible, Accepted, Derives};
-ghost use Rattle.circ_rules.specs.Plain.{plain_state, plain_proof};
+ghost use Rattle.circ_proof.specs.Rules.{state as state_with};
+ghost use Rattle.circ_proof.specs.Proof.{ProofFor};
+ghost use Rattle.circ_proof.specs.Accepted.{Admissible, Accepted, Derives};
+ghost use Rattle.circ_proof.specs.PlainProof.{plain_state, plain_proof};
 ghost use Rattle.circ_check.specs.Deciding.{Decides, GoalsBehave, DerivedBehave, plain_list};
 
 use crate::running::{end_block, run_block};
-use circ_rules::{Admission, Proof, State, admit};
+use circ_proof::{Proof, State};
+use circ_rules::{Admission, admit};
 use circ_theory::{Goal, Theory};
 use std::alloc::{AllocError, Global};
 use std::collections::VecDeque;

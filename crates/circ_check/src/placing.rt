@@ -2,18 +2,17 @@
 //! among those that were asked for.
 ghost use Rattle.std.specs.Prelude.{◌≡◌, ◌<◌, length, OnOk};
 ghost use Rattle.std.specs.List.{AllByRecursion};
-ghost use Rattle.circ_replay.specs.Plain.{plain_link, plain_links, plain_chain};
-ghost use Rattle.circ_replay.specs.Plain.{plain_why, plain_whys};
-ghost use Rattle.circ_replay.specs.Link.{AllOfLink, AllOfLinks};
-ghost use Rattle.circ_replay.specs.Justified.{AllOfChain, AllOfWhy, AllOfWhys};
-ghost use Rattle.circ_rules.specs.Plain.{plain_step};
-ghost use Rattle.circ_rules.specs.Rules.{AllOfStep};
+ghost use Rattle.circ_proof.specs.Plain.{plain_link, plain_links, plain_chain};
+ghost use Rattle.circ_proof.specs.Plain.{plain_why, plain_whys};
+ghost use Rattle.circ_proof.specs.Link.{AllOfLink, AllOfLinks};
+ghost use Rattle.circ_proof.specs.Justified.{AllOfChain, AllOfWhy, AllOfWhys};
+ghost use Rattle.circ_proof.specs.PlainProof.{plain_step};
+ghost use Rattle.circ_proof.specs.Rules.{AllOfStep};
 ghost use Rattle.circ_term.specs.Growing.{Grows};
 ghost use Rattle.circ_check.specs.Placing.{PlacesNumbers, PlacesLink, PlacesLinks};
 ghost use Rattle.circ_check.specs.Placing.{PlacesChain, PlacesWhy, PlacesWhys, PlacesStep};
 
-use circ_replay::{Chain, Link, Why};
-use circ_rules::Step;
+use circ_proof::{Chain, Link, Step, Why};
 use circ_table::NamedTerms;
 use std::alloc::AllocError;
 

@@ -14,7 +14,7 @@ use Rattle.circ_rewrite.specs.Plain.{plain_traces}
 use Rattle.circ_rewrite.specs.Replacement.{Traced}
 use Rattle.circ_rewrite.specs.declared.parts.Normal.{Normal}
 use Rattle.circ_rewrite.specs.declared.parts.Trace.{Trace}
-use Rattle.circ_rules.specs.Certified.{derivatives_at, due}
+use Rattle.circ_proof.specs.Certified.{derivatives_at, due}
 use Rattle.circ_contexts.specs.Candidates.{AreNormals, IsFound, AreCandidates, Passes, StandsAt, IsLast, places_of, plain_lists, traces_of}
 use Rattle.circ_plain_search.specs.Places.{all_places}
 use Rattle.circ_plain_search.specs.Greatest.{HasNormalForm, IsCandidate, IsSelfGuarded, AreTraces, GreatestSpecialSet}

@@ -19,10 +19,10 @@ use Rattle.circ_rewrite.specs.TheoryRules.{theory_rules}
 use Rattle.circ_rewrite.specs.declared.parts.Normal.{Normal}
 use Rattle.circ_rules.specs.Admitting.{IsStart}
 use Rattle.circ_rules.specs.Answers.{Gives}
-use Rattle.circ_rules.specs.Certified.{start_term, derivatives_at}
+use Rattle.circ_proof.specs.Certified.{start_term, derivatives_at}
 use Rattle.circ_rules.specs.Deriving.{IsWithin}
 use Rattle.circ_rules.specs.declared.certificates.Start.{Start}
-use Rattle.circ_rules.proofs.Deriving.{StartsWith, derivative_at, from_number, taken_next, passed_next, if_some_at, some_if_at}
+use Rattle.circ_proof.proofs.Derivatives.{StartsWith, derivative_at, from_number, taken_next, passed_next, if_some_at, some_if_at}
 use Rattle.circ_contexts.specs.Candidates.{ComesTo, GivesNormal, AreNormals, IsFound}
 use Rattle.circ_plain_search.specs.Greatest.{IsCandidate}
 

@@ -13,7 +13,7 @@ use Rattle.circ_rewrite.specs.Plain.{plain_traces}
 use Rattle.circ_rewrite.specs.Replacement.{Traced}
 use Rattle.circ_rewrite.specs.declared.parts.Normal.{Normal}
 use Rattle.circ_rewrite.specs.declared.parts.Trace.{Trace}
-use Rattle.circ_rules.specs.Certified.{derivatives_at}
+use Rattle.circ_proof.specs.Certified.{derivatives_at}
 use Rattle.circ_plain_search.specs.Greatest.{HasNormalForm, IsCandidate, IsSelfGuarded}
 use Rattle.circ_plain_search.specs.Keeps.{Keeps}
 use Rattle.circ_plain_search.specs.Places.{places_from}

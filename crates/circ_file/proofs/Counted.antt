@@ -5,8 +5,8 @@ use Rattle.std.specs.Option.{option_map_or}
 use Rattle.std.proofs.Common.{ap, arith, length-append}
 use Rattle.circ_theory.specs.Theory.{Theory}
 use Rattle.circ_special.specs.declared.place.Place.{Place}
-use Rattle.circ_rules.specs.Certified.{derivatives_at, due_at, due}
-use Rattle.circ_rules.proofs.FewPlaces.{length-due_at}
+use Rattle.circ_proof.specs.Certified.{derivatives_at, due_at, due}
+use Rattle.circ_proof.proofs.FewPlaces.{length-due_at}
 
 -- those that pass, from one item on
 filter_here : {X : Type 0} (p : X → Bool) (x : X) (xs : List X) → length (filter p (x ∷ xs)) ≡ cond (p x) 1 0 + length (filter p xs)

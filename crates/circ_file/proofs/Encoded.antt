@@ -2,9 +2,9 @@
 use Rattle.std.specs.Prelude.{Result, Ok, Err, refl}
 use Rattle.circ_theory.specs.Theory.{Theory}
 use Rattle.circ_theory.specs.WellFormed.{IsWellFormed}
-use Rattle.circ_rules.specs.Plain.{plain_proof}
-use Rattle.circ_rules.specs.Proof.{Proof, ProofFor}
-use Rattle.circ_rules.specs.declared.proof.Proof.{Proof as CodeProof}
+use Rattle.circ_proof.specs.PlainProof.{plain_proof}
+use Rattle.circ_proof.specs.Proof.{Proof, ProofFor}
+use Rattle.circ_proof.specs.declared.proof.Proof.{Proof as CodeProof}
 use Rattle.circ_grammar.specs.FirstBad.{Line_fault, Limit_fault}
 use Rattle.circ_proof_text.specs.ProofText.{proof_text}
 use Rattle.circ_proof_text.proofs.ProofText.{one_reading, reads_back, not_both}

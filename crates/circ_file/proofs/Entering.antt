@@ -9,7 +9,7 @@ use Rattle.circ_term.specs.Tree.{Tree, App, sort_of, trees_of}
 use Rattle.circ_term.specs.Limits.{Limit, first_limit}
 use Rattle.circ_theory.specs.Signature.{Signature, Operator}
 use Rattle.circ_theory.specs.Adding.{application}
-use Rattle.circ_replay.specs.Table.{term_limit}
+use Rattle.circ_proof.specs.Table.{term_limit}
 use Rattle.circ_line.specs.Line.{TableLine, Application_line}
 use Rattle.circ_proof_text.specs.TableText.{firsts_at, term_for}
 use Rattle.circ_proof_text.specs.Checks.{is_full, is_too_large}

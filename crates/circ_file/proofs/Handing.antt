@@ -3,8 +3,8 @@ use Rattle.std.specs.Prelude.{◌≡◌, ℕ, ◌+◌, List, [], ◌∷◌, ◌+
 use Rattle.std.proofs.Common.{sym, ◌∙◌, ap, subst, append_assoc}
 use Rattle.circ_theory.specs.Theory.{Theory}
 use Rattle.circ_theory.specs.WellFormed.{IsWellFormed}
-use Rattle.circ_rules.specs.Proof.{Proof}
-use Rattle.circ_rules.specs.Fitting.{Fit}
+use Rattle.circ_proof.specs.Proof.{Proof}
+use Rattle.circ_proof.specs.Fitting.{Fit}
 use Rattle.circ_grammar.specs.Now.{Ended}
 use Rattle.circ_proof_text.specs.Parts.{Part, parts_of}
 use Rattle.circ_proof_text.specs.ProofText.{ReadsAsProof}

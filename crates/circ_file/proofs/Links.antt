@@ -5,7 +5,7 @@ use Rattle.std.proofs.lemmas.Bool.{eq-eqb, ne_eqb}
 use Rattle.std.proofs.lemmas.List.{append-nil}
 use Rattle.circ_term.specs.Tree.{Tree}
 use Rattle.circ_special.specs.declared.place.Place.{Place}
-use Rattle.circ_replay.specs.Plain.{ChainOf, WhyOf, Same_why, Split_why, no_why}
+use Rattle.circ_proof.specs.Plain.{ChainOf, WhyOf, Same_why, Split_why, no_why}
 use Rattle.circ_grammar.specs.Machine.{OpenSplit, open_split, empty}
 use Rattle.circ_grammar.specs.Now.{Now, Reducing, give_why_now, why_part, next_same, same_part, next_split, split_part}
 use Rattle.circ_proof_text.specs.Parts.{Part, Head, place_with, part_with}

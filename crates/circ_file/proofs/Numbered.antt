@@ -10,9 +10,9 @@ use Rattle.circ_term.specs.Order.{is_same}
 use Rattle.circ_term.proofs.Order.{same_here}
 use Rattle.circ_term.proofs.Within.{drop_read}
 use Rattle.circ_theory.proofs.Lists.{all_by, slice_get-front}
-use Rattle.circ_replay.specs.Table.{has, number_in, entered, added, all_added}
-use Rattle.circ_replay.proofs.Tables.{number_stays, number_last}
-use Rattle.circ_rules.specs.Proof.{IsEntry}
+use Rattle.circ_proof.specs.Table.{has, number_in, entered, added, all_added}
+use Rattle.circ_proof.proofs.Tables.{number_stays, number_last}
+use Rattle.circ_proof.specs.Proof.{IsEntry}
 use Rattle.circ_line.specs.Line.{Application_line}
 use Rattle.circ_proof_text.specs.TableText.{entry_of}
 use Rattle.circ_file.specs.Numbering.{IsClosed, AreNumbered}

@@ -9,8 +9,8 @@ use Rattle.circ_theory.specs.WellFormed.{IsWellFormed}
 use Rattle.circ_theory.proofs.Lists.{all_push}
 use Rattle.circ_special.specs.declared.place.Place.{Place}
 use Rattle.circ_special.specs.Special.{place, IsPlace, IsSet}
-use Rattle.circ_replay.specs.Plain.{LinkOf, WhyOf, Same_why, Split_why, no_why}
-use Rattle.circ_replay.specs.Table.{term_limit}
+use Rattle.circ_proof.specs.Plain.{LinkOf, WhyOf, Same_why, Split_why, no_why}
+use Rattle.circ_proof.specs.Table.{term_limit}
 use Rattle.circ_line.specs.Line.{TableLine, Line, head_line, table_line, place_line, certificate_line, block_line, goal_line, simplify_line, reduce_line, derive_line}
 use Rattle.circ_line.specs.Line.{done_line, same_line, split_line, left_line, right_line, end_line}
 use Rattle.circ_grammar.specs.Grammar.{why_count}
@@ -18,9 +18,9 @@ use Rattle.circ_grammar.proofs.Spelled.{option_map_some}
 use Rattle.circ_grammar.specs.Machine.{OpenSplit, empty, open_split, push_why, add_left, add_right}
 use Rattle.circ_grammar.specs.Now.{Now, Begin, Tabling, Placing, Certifying, Stepping, Simplifying, Reducing, Closed, Ended, next_now, give_why_now}
 use Rattle.circ_grammar.specs.Now.{is_step, next_head, next_place, next_same, next_split, next_left, next_right, next_end}
-use Rattle.circ_rules.specs.Certified.{due}
-use Rattle.circ_rules.specs.Proof.{step_limit}
-use Rattle.circ_rules.proofs.FewPlaces.{place_low}
+use Rattle.circ_proof.specs.Certified.{due}
+use Rattle.circ_proof.specs.Proof.{step_limit}
+use Rattle.circ_proof.proofs.FewPlaces.{place_low}
 use Rattle.circ_proof_text.specs.Checks.{Seen, after, is_next, is_place, with_term, is_full, is_too_large, passes_at, limit_at}
 use Rattle.circ_proof_text.proofs.Places.{place_tells, increasing_push}
 use Rattle.circ_line.specs.Plain.{plain_line}

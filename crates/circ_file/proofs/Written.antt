@@ -4,11 +4,11 @@ use Rattle.std.specs.List.{AllByRecursion}
 use Rattle.std.proofs.Common.{ap, sym, subst, ◌∙◌, arith, append_assoc, drop, get_or}
 use Rattle.std.proofs.lemmas.List.{drop_all}
 use Rattle.circ_term.proofs.Within.{drop_read}
-use Rattle.circ_replay.specs.Plain.{plain_why, plain_whys}
-use Rattle.circ_replay.specs.declared.links.Why.{Why}
-use Rattle.circ_rules.specs.Rules.{ProofStep, Simplify, Reduce, Derive, Done}
-use Rattle.circ_rules.specs.Proof.{IsWhyFor, AreWhysFor, IsEnded}
-use Rattle.circ_rules.specs.Proof as rules
+use Rattle.circ_proof.specs.Plain.{plain_why, plain_whys}
+use Rattle.circ_proof.specs.declared.links.Why.{Why}
+use Rattle.circ_proof.specs.Rules.{ProofStep, Simplify, Reduce, Derive, Done}
+use Rattle.circ_proof.specs.Proof.{IsWhyFor, AreWhysFor, IsEnded}
+use Rattle.circ_proof.specs.Proof as rules
 use Rattle.circ_line.specs.Line.{Line, simplify_line, reduce_line, derive_line, done_line}
 use Rattle.circ_line.specs.Text.{line_text}
 use Rattle.circ_grammar.specs.Grammar.{lines_of, chain_lines, why_lines, step_lines}

@@ -5,8 +5,8 @@ use Rattle.std.specs.Cmp.Lexicographic.{pointwise}
 use Rattle.circ_term.specs.Tree.{Tree, sort_of}
 use Rattle.circ_theory.specs.Signature.{Signature}
 use Rattle.circ_theory.specs.declared.parts.Goal.{Goal}
-use Rattle.circ_replay.specs.Table.{term_limit}
-use Rattle.circ_rules.specs.Proof.{goal_of}
+use Rattle.circ_proof.specs.Table.{term_limit}
+use Rattle.circ_proof.specs.Proof.{goal_of}
 use Rattle.circ_line.specs.Line.{TableLine}
 use Rattle.circ_proof_text.specs.TableText.{term_for}
 use Rattle.circ_proof_text.specs.Checks.{is_full, is_too_large, is_goal}

@@ -1,8 +1,8 @@
 -- What it is to decode bytes.
 use Rattle.std.specs.Prelude.{List, ℕ, map, Result, Ok, Err}
 use Rattle.circ_theory.specs.Theory.{Theory}
-use Rattle.circ_rules.specs.Plain.{plain_proof, plain_block, plain_steps, plain_certificates}
-use Rattle.circ_rules.specs.declared.proof.Proof.{Proof as CodeProof}
+use Rattle.circ_proof.specs.PlainProof.{plain_proof, plain_block, plain_steps, plain_certificates}
+use Rattle.circ_proof.specs.declared.proof.Proof.{Proof as CodeProof}
 use Rattle.circ_proof_text.specs.ProofText.{ReadsAsProof}
 use Rattle.circ_proof_text.specs.Parts.{Gathered}
 use Rattle.circ_file.specs.Feeding.{FaultIs}

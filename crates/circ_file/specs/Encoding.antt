@@ -2,10 +2,10 @@
 use Rattle.std.specs.Prelude.{◌≡◌, ◌≢◌, ◌≤◌, [], length, Result, Ok, Err}
 use Rattle.std.specs.List.{AllByRecursion}
 use Rattle.circ_term.specs.Limits.{IsWithinLimits}
-use Rattle.circ_replay.specs.Table.{term_limit}
-use Rattle.circ_rules.specs.Plain.{plain_proof}
-use Rattle.circ_rules.specs.Proof.{Proof, AreEntries, AreLinksFor, IsBlockFor, steps_in, step_limit}
-use Rattle.circ_rules.specs.declared.proof.Proof.{Proof as CodeProof}
+use Rattle.circ_proof.specs.Table.{term_limit}
+use Rattle.circ_proof.specs.PlainProof.{plain_proof}
+use Rattle.circ_proof.specs.Proof.{Proof, AreEntries, AreLinksFor, IsBlockFor, steps_in, step_limit}
+use Rattle.circ_proof.specs.declared.proof.Proof.{Proof as CodeProof}
 use Rattle.circ_file.specs.declared.fault.FileFault.{FileFault}
 use Rattle.circ_file.specs.declared.fault.FileFault.TheVariants.{Memory}
 

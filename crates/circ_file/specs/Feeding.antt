@@ -6,7 +6,7 @@ use Rattle.circ_line.specs.Plain.{NoFeed}
 use Rattle.circ_grammar.specs.FirstBad.{file_text, Line_fault, Limit_fault}
 use Rattle.circ_grammar.specs.Parts.{shown_by}
 use Rattle.circ_grammar.specs.Parts as grammar
-use Rattle.circ_rules.specs.Proof.{Proof}
+use Rattle.circ_proof.specs.Proof.{Proof}
 use Rattle.circ_proof_text.specs.Parts.{Part, part_with, parts_of}
 use Rattle.circ_proof_text.specs.ProofText.{numbers_of, ReadsAsProof, FirstCause}
 use Rattle.circ_proof_text.specs.Reading.{Reading, StandsFor}

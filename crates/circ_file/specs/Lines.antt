@@ -4,8 +4,8 @@ use Rattle.circ_special.specs.Special.{IsSet}
 use Rattle.circ_line.specs.Line.{Line, table_line, goal_line}
 use Rattle.circ_line.specs.Text.{line_text, IsInRange}
 use Rattle.circ_grammar.specs.Now.{Now, Begin, Tabling, Opened, next_now}
-use Rattle.circ_rules.specs.Certified.{due}
-use Rattle.circ_rules.specs.Proof.{step_limit}
+use Rattle.circ_proof.specs.Certified.{due}
+use Rattle.circ_proof.specs.Proof.{step_limit}
 use Rattle.circ_proof_text.specs.Checks.{Seen, after, passes_at, limit_at}
 use Rattle.circ_file.specs.View.{now_of, queue_of, parts_at, IsKept, Moves}
 use Rattle.circ_file.specs.Adding.{terms_in, is_open}

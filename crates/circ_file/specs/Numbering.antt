@@ -2,7 +2,7 @@
 use Rattle.std.specs.Prelude.{◌≡◌, ◌≤◌, ℕ, true, List, length, Some}
 use Rattle.std.specs.List.{slice_get, AllByRecursion}
 use Rattle.circ_term.specs.Tree.{Tree, args_of}
-use Rattle.circ_replay.specs.Table.{has, number_in, term_limit}
+use Rattle.circ_proof.specs.Table.{has, number_in, term_limit}
 use Rattle.circ_file.specs.declared.numbering.Numbering.{Numbering}
 
 -- the arguments of each term are there too

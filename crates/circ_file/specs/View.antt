@@ -3,11 +3,11 @@ use Rattle.std.specs.Prelude.{◌≡◌, ◌<◌, ◌^◌, ℕ, length, Bool, tr
 use Rattle.circ_term.specs.Tree.{Tree}
 use Rattle.circ_special.specs.Special.{place}
 use Rattle.circ_special.specs.declared.place.Place.{Place}
-use Rattle.circ_replay.specs.Plain.{plain_links, plain_chain}
+use Rattle.circ_proof.specs.Plain.{plain_links, plain_chain}
 use Rattle.circ_line.specs.Line.{Line, head_line, table_line, place_line, certificate_line, block_line, goal_line, end_line}
 use Rattle.circ_grammar.specs.Now.{Now, Begin, Tabling, Placing, Certifying, Opened, Stepping, Simplifying, Reducing, Closed, Ended}
 use Rattle.circ_grammar.specs.Now.{next_now, line_part, front_part, step_part, is_step}
-use Rattle.circ_rules.specs.Proof.{goal_of}
+use Rattle.circ_proof.specs.Proof.{goal_of}
 pub use Rattle.circ_rules.specs.Plain.{plain_part}
 use Rattle.circ_proof_text.specs.Parts.{Part, part_with}
 use Rattle.circ_proof_text.specs.ProofText.{place_numbers}

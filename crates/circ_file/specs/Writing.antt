@@ -3,7 +3,7 @@ use Rattle.std.specs.Prelude.{◌≡◌, ℕ, List, ◌∷◌, ◌++◌}
 use Rattle.circ_line.specs.Line.{Line, simplify_line, reduce_line, derive_line, done_line}
 use Rattle.circ_grammar.specs.Grammar.{chain_lines, why_lines}
 use Rattle.circ_grammar.specs.FirstBad.{file_text}
-use Rattle.circ_rules.specs.Rules.{ProofStep, Simplify, Reduce, Derive, Done}
+use Rattle.circ_proof.specs.Rules.{ProofStep, Simplify, Reduce, Derive, Done}
 
 -- Whatever lines come later: the new text with theirs is the old one with that of the lines that f makes of them.
 abbrev pub Writes : (old new : List ℕ) → (List Line → List Line) → Type 0

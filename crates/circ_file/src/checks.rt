@@ -2,10 +2,10 @@
 ghost use Rattle.std.specs.Prelude.{◌≡◌, nat_lt};
 ghost use Rattle.std.specs.List.{list_all};
 ghost use Rattle.circ_special.specs.Special.{place, comes_before};
-ghost use Rattle.circ_replay.specs.Plain.{plain_link};
+ghost use Rattle.circ_proof.specs.Plain.{plain_link};
 ghost use Rattle.circ_proof_text.specs.Checks.{is_next, is_place, is_goal, is_in_table, path_of};
 
-use circ_replay::Link;
+use circ_proof::Link;
 use circ_special::Place;
 use circ_table::Table;
 use circ_term::Path;

@@ -5,7 +5,7 @@ ghost use Rattle.std.specs.Option.{option_map_or};
 ghost use Rattle.circ_line.specs.Plain.{plain_line};
 ghost use Rattle.circ_special.specs.declared.place.Place.{Place};
 ghost use Rattle.circ_special.specs.Special.{place};
-ghost use Rattle.circ_rules.specs.Certified.{derivatives_at, due};
+ghost use Rattle.circ_proof.specs.Certified.{derivatives_at, due};
 ghost use Rattle.circ_theory.specs.Fresh.{derivatives_of};
 ghost use Rattle.circ_file.specs.View.{places_with};
 ghost use Rattle.circ_file.specs.Counting.{certificates_with, steps_with};

@@ -1,7 +1,7 @@
 //! Proofs from bytes.
 ghost use Rattle.std.specs.Prelude.{◌≡◌, [], IfOk};
-ghost use Rattle.circ_rules.specs.Plain.{plain_proof};
-ghost use Rattle.circ_rules.specs.Proof.{Proof as PlainProof};
+ghost use Rattle.circ_proof.specs.PlainProof.{plain_proof};
+ghost use Rattle.circ_proof.specs.Proof.{Proof as PlainProof};
 ghost use Rattle.circ_proof_text.specs.Parts.{nothing_gathered, gathered};
 ghost use Rattle.circ_proof_text.specs.Parts.{gather, gather_all, end_block};
 ghost use Rattle.circ_file.specs.View.{plain_part, queue_of};
@@ -10,7 +10,8 @@ ghost use Rattle.circ_file.specs.Decoding.{gathered_of, Decodes};
 
 use crate::fault::FileFault;
 use crate::reader::FileReader;
-use circ_rules::{Block, Part, Proof, Step};
+use circ_proof::{Block, Proof, Step};
+use circ_rules::Part;
 use circ_special::Gamma;
 use circ_theory::{Goal, Theory};
 use std::alloc::{AllocError, Global};

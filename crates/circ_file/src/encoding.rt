@@ -2,10 +2,10 @@
 ghost use Rattle.std.specs.Prelude.{◌≡◌, ◌++◌, ℕ, List, map, IfOk, OnOk};
 ghost use Rattle.std.specs.List.{AllByRecursion};
 ghost use Rattle.circ_term.specs.Tree.{Tree};
-ghost use Rattle.circ_replay.specs.Plain.{plain_links, plain_chain, plain_why, plain_whys};
-ghost use Rattle.circ_rules.specs.Plain.{plain_proof, plain_block, plain_step, plain_steps};
-ghost use Rattle.circ_rules.specs.Plain.{plain_certificates};
-ghost use Rattle.circ_rules.specs.Proof.{IsWhyFor, AreWhysFor, IsStepFor, IsBlockFor};
+ghost use Rattle.circ_proof.specs.Plain.{plain_links, plain_chain, plain_why, plain_whys};
+ghost use Rattle.circ_proof.specs.PlainProof.{plain_proof, plain_block, plain_step, plain_steps};
+ghost use Rattle.circ_proof.specs.PlainProof.{plain_certificates};
+ghost use Rattle.circ_proof.specs.Proof.{IsWhyFor, AreWhysFor, IsStepFor, IsBlockFor};
 ghost use Rattle.circ_grammar.specs.Grammar.{lines_of, place_lines, goal_lines, left_lines};
 ghost use Rattle.circ_grammar.specs.Grammar.{right_lines, chain_lines, why_lines, whys_lines};
 ghost use Rattle.circ_grammar.specs.Grammar.{certificate_lines, block_lines};
@@ -16,8 +16,7 @@ ghost use Rattle.circ_file.specs.Encoding.{IsProof};
 use crate::numbering::put_table;
 use crate::writing::{put_lent_line, put_line};
 use circ_line::{LentLine, Line};
-use circ_replay::{Chain, Link, Why};
-use circ_rules::{Block, Proof, Step};
+use circ_proof::{Block, Chain, Link, Proof, Step, Why};
 use circ_special::{Gamma, Place};
 use std::alloc::{AllocError, Global};
 

@@ -3,9 +3,9 @@
 ghost use Rattle.std.specs.Prelude.{◌≡◌, ℕ, List, Result, Ok};
 ghost use Rattle.circ_theory.specs.Theory.{Theory};
 ghost use Rattle.circ_theory.specs.WellFormed.{IsWellFormed};
-ghost use Rattle.circ_rules.specs.Plain.{plain_proof};
-ghost use Rattle.circ_rules.specs.Proof.{Proof, ProofFor};
-ghost use Rattle.circ_rules.specs.declared.proof.Proof.{Proof as CodeProof};
+ghost use Rattle.circ_proof.specs.PlainProof.{plain_proof};
+ghost use Rattle.circ_proof.specs.Proof.{Proof, ProofFor};
+ghost use Rattle.circ_proof.specs.declared.proof.Proof.{Proof as CodeProof};
 ghost use Rattle.circ_proof_text.specs.ProofText.{proof_text};
 ghost use Rattle.circ_file.specs.declared.fault.FileFault.{FileFault};
 ghost use Rattle.circ_file.specs.Decoding.{Decodes};

@@ -2,7 +2,7 @@
 ghost use Rattle.std.specs.Prelude.{◌≡◌, ◌++◌, ℕ, [], true, false, List, None, IfOk, OnOk};
 ghost use Rattle.circ_term.specs.Tree.{Tree};
 ghost use Rattle.circ_special.specs.Special.{IsSet};
-ghost use Rattle.circ_replay.specs.Plain.{plain_chain};
+ghost use Rattle.circ_proof.specs.Plain.{plain_chain};
 ghost use Rattle.circ_line.specs.Line.{head_line, table_line, place_line, TableLine};
 ghost use Rattle.circ_line.specs.Line.{certificate_line, block_line, end_line};
 ghost use Rattle.circ_grammar.specs.Machine.{empty};
@@ -13,7 +13,7 @@ ghost use Rattle.circ_file.specs.View.{IsKept, Moves, Pops};
 ghost use Rattle.circ_file.specs.declared.machine.Mode.TheVariants.{Opened};
 
 use crate::splits::OpenSplit;
-use circ_replay::{Chain, Link};
+use circ_proof::{Chain, Link};
 use circ_rules::Part;
 use circ_special::{Gamma, Place};
 use circ_table::Table;

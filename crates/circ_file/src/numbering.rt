@@ -3,8 +3,8 @@ ghost use Rattle.std.specs.Prelude.{◌≡◌, ◌≤◌, ◌<◌, ◌∷◌, �
 ghost use Rattle.std.specs.Prelude.{IfOk, OnOk};
 ghost use Rattle.std.specs.List.{AllByRecursion};
 ghost use Rattle.circ_term.specs.Tree.{Tree};
-ghost use Rattle.circ_replay.specs.Table.{has, number_in, term_limit};
-ghost use Rattle.circ_rules.specs.Proof.{IsEntry, AreEntries};
+ghost use Rattle.circ_proof.specs.Table.{has, number_in, term_limit};
+ghost use Rattle.circ_proof.specs.Proof.{IsEntry, AreEntries};
 ghost use Rattle.circ_line.specs.Line.{table_line};
 ghost use Rattle.circ_grammar.specs.Grammar.{lines_of, table_lines};
 ghost use Rattle.circ_proof_text.specs.TableText.{entry_of, entries_of};

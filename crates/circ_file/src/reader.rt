@@ -5,9 +5,9 @@ ghost use Rattle.std.specs.Prelude.{Some, None, Err, IfOk, OnOk, MatchOption, tr
 ghost use Rattle.circ_theory.specs.Theory.{Theory};
 ghost use Rattle.circ_line.specs.Plain.{NoFeed};
 ghost use Rattle.circ_grammar.specs.Now.{Ended};
-ghost use Rattle.circ_rules.specs.Parts.{Part as PlainPart, parts_of};
-ghost use Rattle.circ_rules.specs.Proof.{Proof};
-ghost use Rattle.circ_rules.specs.Fitting.{Fit};
+ghost use Rattle.circ_proof.specs.Parts.{Part as PlainPart, parts_of};
+ghost use Rattle.circ_proof.specs.Proof.{Proof};
+ghost use Rattle.circ_proof.specs.Fitting.{Fit};
 ghost use Rattle.circ_proof_text.specs.ProofText.{ReadsAsProof};
 ghost use Rattle.circ_file.specs.View.{now_of, queue_of, splits_in, Pops};
 ghost use Rattle.circ_file.specs.Lines.{IsReader, ReadsNext};

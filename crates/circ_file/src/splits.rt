@@ -1,10 +1,10 @@
 //! Splits that wait for their reasons.
 ghost use Rattle.std.specs.Prelude.{◌≡◌, [], IfOk};
 ghost use Rattle.std.specs.Option.{option_map};
-ghost use Rattle.circ_replay.specs.Plain.{plain_why};
+ghost use Rattle.circ_proof.specs.Plain.{plain_why};
 ghost use Rattle.circ_file.specs.Splits.{given, tops};
 
-use circ_replay::{Chain, Why};
+use circ_proof::{Chain, Why};
 use std::alloc::AllocError;
 
 /// A split that has fewer reasons than its count.

@@ -1,20 +1,20 @@
 //! The lines of blocks.
 ghost use Rattle.std.specs.Prelude.{◌≡◌, ◌++◌, [], true, List, IfOk, OnOk};
 ghost use Rattle.circ_term.specs.Tree.{Tree};
-ghost use Rattle.circ_replay.specs.Plain.{plain_link, plain_chain, plain_why};
+ghost use Rattle.circ_proof.specs.Plain.{plain_link, plain_chain, plain_why};
 ghost use Rattle.circ_line.specs.Line.{goal_line, simplify_line, reduce_line, derive_line};
 ghost use Rattle.circ_line.specs.Line.{done_line, same_line, split_line, left_line, right_line};
 ghost use Rattle.circ_grammar.specs.Machine.{empty};
 ghost use Rattle.circ_grammar.specs.Now.{is_step};
-ghost use Rattle.circ_rules.specs.Proof.{goal_of};
+ghost use Rattle.circ_proof.specs.Proof.{goal_of};
 ghost use Rattle.circ_file.specs.Splits.{given, tops, now_given, parts_given};
 ghost use Rattle.circ_file.specs.View.{now_of, queue_of, shown_step_parts, IsKept, Moves, Begins};
 ghost use Rattle.circ_file.specs.declared.machine.Mode.TheVariants.{Opened};
 
 use crate::machine::{Machine, Mode, empty_chain};
 use crate::splits::{OpenSplit, give};
-use circ_replay::{Chain, Link, Why};
-use circ_rules::{Part, Step};
+use circ_proof::{Chain, Link, Step, Why};
+use circ_rules::Part;
 use circ_theory::Goal;
 use std::alloc::AllocError;
 use std::mem;

@@ -10,7 +10,7 @@ ghost use Rattle.circ_file.specs.Adding.{terms_in, is_open, have_sorts, goal_at,
 use crate::checks::is_goal;
 use crate::taken::Taken;
 use circ_line::TableLine;
-use circ_replay::MOST_TERMS;
+use circ_proof::MOST_TERMS;
 use circ_table::{NamedTerms, Rows, Table};
 use circ_term::TermFault;
 use circ_theory::{Goal, Theory};

@@ -5,7 +5,7 @@ use Rattle.std.proofs.lemmas.Option.{same_Some}
 use Rattle.circ_outer.specs.Count.{Rose}
 use Rattle.circ_outer.specs.Shelf.{ShelfState, ShelfFrame, IsQuiet}
 use Rattle.circ_theory.specs.Theory.{Theory}
-use Rattle.circ_rules.specs.Proof.{Proof}
+use Rattle.circ_proof.specs.Proof.{Proof}
 use Rattle.circ_proof_text.specs.ProofText.{ReadsAsProof}
 use Rattle.circ_read.specs.declared.cause.Cause.{Cause}
 use Rattle.circ_files.specs.Files.{Held, Holds, HoldsMore, IsOnly, Refusal, RefusesFile, IsUnread, IsUntaken, IsFileFault}

@@ -5,9 +5,9 @@ use Rattle.circ_theory.specs.Signature.{Signature}
 use Rattle.circ_theory.specs.Theory.{Theory, Pair}
 use Rattle.circ_theory.specs.declared.parts.Goal.{Goal}
 use Rattle.circ_mixfix.specs.Printing.{text_of_term}
-use Rattle.circ_replay.specs.Goals.{goal}
-use Rattle.circ_rules.specs.Proof.{Block, Proof, steps_in}
-use Rattle.circ_rules.specs.Rules.{ProofStep, Derive}
+use Rattle.circ_proof.specs.Goals.{goal}
+use Rattle.circ_proof.specs.Proof.{Block, Proof, steps_in}
+use Rattle.circ_proof.specs.Rules.{ProofStep, Derive}
 use Rattle.circ_proof_text.specs.ProofText.{proof_text}
 use Rattle.circ_script.specs.Script.{Script}
 use Rattle.circ_show.specs.GoalsText.{plain_goal, pair_lines, goal_lines}

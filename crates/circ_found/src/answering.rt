@@ -1,7 +1,7 @@
 //! The search for a proof of goals, and what is answered.
 ghost use Rattle.std.specs.Prelude.{◌≡◌, None, map, IfOk};
-ghost use Rattle.circ_rules.specs.Plain.{plain_proof};
-ghost use Rattle.circ_rules.specs.Proof.{Proof as PlainProof, ProofFor};
+ghost use Rattle.circ_proof.specs.PlainProof.{plain_proof};
+ghost use Rattle.circ_proof.specs.Proof.{Proof as PlainProof, ProofFor};
 ghost use Rattle.circ_plain_search.specs.Numbering.{Proved};
 ghost use Rattle.circ_plain_search.specs.PlainSearch.{AreSearchable};
 ghost use Rattle.circ_search.specs.Plain.{plain_found, plain_limits};
@@ -17,7 +17,7 @@ use circ_file::encode;
 use circ_file::laws::texts_decode;
 use circ_files::{MOST_BYTES, Status, push_counted, push_spent};
 use circ_plain_search::laws::proved_is_accepted;
-use circ_rules::Proof;
+use circ_proof::Proof;
 use circ_search::{Found, Limits, prove};
 use circ_theory::{Goal, Theory};
 use std::alloc::{AllocError, Global};

@@ -1,10 +1,10 @@
 //! How many steps a proof has.
 ghost use Rattle.std.specs.Prelude.{◌≡◌, ◌≤◌, length, map};
-ghost use Rattle.circ_rules.specs.Plain.{plain_block, plain_steps};
-ghost use Rattle.circ_rules.specs.Proof.{steps_in};
+ghost use Rattle.circ_proof.specs.PlainProof.{plain_block, plain_steps};
+ghost use Rattle.circ_proof.specs.Proof.{steps_in};
 ghost use Rattle.circ_found.specs.Answering.{derives_among, derives_in};
 
-use circ_rules::{Block, Step};
+use circ_proof::{Block, Step};
 
 /// The steps of all blocks.
 pub(crate) fn steps_in(blocks: &[Block]) -> u64

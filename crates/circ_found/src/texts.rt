@@ -1,7 +1,7 @@
 //! The texts of what a search finds.
 ghost use Rattle.std.specs.Prelude.{◌≡◌, ◌≤◌, ◌++◌, map, IfOk, OnOk, codes};
-ghost use Rattle.circ_rules.specs.Plain.{plain_block, plain_proof};
-ghost use Rattle.circ_rules.specs.Proof.{steps_in};
+ghost use Rattle.circ_proof.specs.PlainProof.{plain_block, plain_proof};
+ghost use Rattle.circ_proof.specs.Proof.{steps_in};
 ghost use Rattle.circ_show.specs.GoalsText.{plain_goal, pair_line, pair_lines};
 ghost use Rattle.circ_found.specs.Answering.{all_goal_lines, counts_text, proved_text};
 ghost use Rattle.circ_found.specs.Answering.{derives_in};
@@ -10,7 +10,7 @@ ghost use Rattle.circ_found.specs.Answering.{side_line, stuck_text};
 use crate::counts::{derives_in, steps_in};
 use circ_files::{push_counted, push_numbered};
 use circ_mixfix::{print, print_pair};
-use circ_rules::{Block, Proof};
+use circ_proof::{Block, Proof};
 use circ_show::goals_text;
 use circ_term::Term;
 use circ_theory::{Goal, Theory};

@@ -2,8 +2,8 @@
 use Rattle.std.specs.Prelude.{◌≡◌, ℕ, List, [], ◌++◌, length, None, nat_lt, if◌then◌else◌, codes, decimal}
 use Rattle.circ_theory.specs.Signature.{Signature}
 use Rattle.circ_theory.specs.Theory.{Theory}
-use Rattle.circ_rules.specs.Accepted.{Accepted}
-use Rattle.circ_rules.specs.Proof.{Proof, ProofFor, steps_in}
+use Rattle.circ_proof.specs.Accepted.{Accepted}
+use Rattle.circ_proof.specs.Proof.{Proof, ProofFor, steps_in}
 use Rattle.circ_proof_text.specs.ProofText.{proof_text}
 use Rattle.circ_read.specs.ReadsAs.{ReadsAs, FirstCause}
 use Rattle.circ_read.specs.declared.cause.Cause.{Cause}

@@ -1,7 +1,7 @@
 //! What comes of a chain.
 ghost use Rattle.std.specs.Prelude.{◌≡◌, ◌≤◌, None, IfOk};
-ghost use Rattle.circ_rules.specs.Plain.{plain_proof};
-ghost use Rattle.circ_rules.specs.Proof.{Proof as PlainProof, steps_in};
+ghost use Rattle.circ_proof.specs.PlainProof.{plain_proof};
+ghost use Rattle.circ_proof.specs.Proof.{Proof as PlainProof, steps_in};
 ghost use Rattle.circ_read.specs.ReadsAs.{ReadsAs};
 ghost use Rattle.circ_script.specs.ReadsAsScript.{ReadsAsScript};
 ghost use Rattle.circ_script.specs.Script.{plain_script};
@@ -20,7 +20,7 @@ use circ_files::{Status, push_counted, push_unreadable};
 use circ_found::{Ending, push_counts, search, searchable};
 use circ_plain_search::laws::proved_is_accepted;
 use circ_read::{Cause, ReadFault, read_theory};
-use circ_rules::Proof;
+use circ_proof::Proof;
 use circ_script::laws::scripts_are_fit;
 use circ_script::{Job, read_script};
 use circ_search::Limits;

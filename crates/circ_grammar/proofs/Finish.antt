@@ -5,7 +5,7 @@ use Rattle.std.specs.List.{AllByRecursion}
 use Rattle.std.proofs.Common.{sym, ◌∙◌, ap, arith, append-nil, length-append, inl, inr, subst}
 use Rattle.std.proofs.lemmas.Option.{same_Some}
 use Rattle.std.proofs.lemmas.Bool.{true≢false, eqb-false, eq-eqb}
-use Rattle.circ_replay.specs.Plain.{LinkOf, ChainOf, WhyOf, WhysOf, Same_why, Split_why, no_why}
+use Rattle.circ_proof.specs.Plain.{LinkOf, ChainOf, WhyOf, WhysOf, Same_why, Split_why, no_why}
 use Rattle.circ_line.specs.Line.{TableLine, Line, head_line, table_line, place_line, certificate_line, block_line, goal_line, simplify_line, reduce_line}
 use Rattle.circ_line.specs.Line.{derive_line, done_line, same_line, split_line, left_line, right_line, end_line}
 use Rattle.circ_grammar.specs.Grammar.{Simplify_step, Reduce_step, Derive_step, NumberedBlock, NumberedProof, why_count, proof_lines, HasGoals, HasParts}

@@ -3,7 +3,7 @@ use Rattle.std.specs.Prelude.{map, ◌≡◌, ℕ, ◌+◌, List, [], ◌∷◌,
 use Rattle.std.specs.Option.{option_map}
 use Rattle.std.proofs.Common.{◌∙◌, ap}
 use Rattle.std.proofs.lemmas.List.{map-append}
-use Rattle.circ_replay.specs.Plain.{ChainOf, WhyOf, Same_why, Split_why, no_why}
+use Rattle.circ_proof.specs.Plain.{ChainOf, WhyOf, Same_why, Split_why, no_why}
 use Rattle.circ_line.specs.Line.{Line, head_line, table_line, place_line, certificate_line, block_line, goal_line, simplify_line, reduce_line, derive_line}
 use Rattle.circ_line.specs.Line.{done_line, same_line, split_line, left_line, right_line, end_line}
 use Rattle.circ_grammar.specs.Grammar.{Derive_step, why_count}

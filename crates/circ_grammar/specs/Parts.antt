@@ -1,6 +1,6 @@
 -- The parts of a proof, in the order of its lines, and which of them so many lines show. What stands for the table may be its lines or anything else.
 use Rattle.std.specs.Prelude.{if◌then◌else◌, nat_lt, ℕ, ◌+◌, ◌-◌, List, [], ◌∷◌, ◌++◌, length, Bool, true, false}
-use Rattle.circ_replay.specs.Plain.{LinkOf}
+use Rattle.circ_proof.specs.Plain.{LinkOf}
 use Rattle.circ_line.specs.Line.{TableLine, Line, head_line, certificate_line, block_line, simplify_line, reduce_line, derive_line, done_line}
 use Rattle.circ_grammar.specs.Grammar.{NumberedStep, Simplify_step, Reduce_step, Derive_step, NumberedBlock, NumberedProof, lines_of, table_lines}
 use Rattle.circ_grammar.specs.Grammar.{place_lines, left_lines, goal_lines, chain_lines, why_lines}

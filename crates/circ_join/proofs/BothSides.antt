@@ -16,7 +16,7 @@ use Rattle.circ_theory.specs.declared.way.Way.{Way}
 use Rattle.circ_theory.proofs.BoundTerms.{bound_terms, variables_apart}
 use Rattle.circ_match.specs.Matcher.{IsMatcher, Makes, has_variable}
 use Rattle.circ_match.proofs.Variables.{instance-variable}
-use Rattle.circ_replay.specs.Goals.{sides}
+use Rattle.circ_proof.specs.Goals.{sides}
 use Rattle.circ_rewrite.specs.Matching.{image}
 use Rattle.circ_rewrite.specs.Due.{terms_by}
 use Rattle.circ_rewrite.proofs.MatchingFacts.{is_same_term, image-instance, matching-sorts}

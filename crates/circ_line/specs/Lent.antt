@@ -1,5 +1,5 @@
 -- What contracts see of lines that are lent.
-use Rattle.circ_replay.specs.Plain.{plain_link}
+use Rattle.circ_proof.specs.Plain.{plain_link}
 use Rattle.circ_line.specs.Line.{Application_line, Line, table_line, left_line, right_line}
 use Rattle.circ_line.specs.declared.lent.LentLine.{LentLine}
 use Rattle.circ_line.specs.declared.lent.LentLine.TheVariants.{Application, Left, Right}

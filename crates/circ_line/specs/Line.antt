@@ -1,6 +1,6 @@
 -- The lines of a proof file, as plain data. Terms go by their numbers in the table.
 use Rattle.std.specs.Prelude.{ℕ, List}
-use Rattle.circ_replay.specs.Plain.{LinkOf}
+use Rattle.circ_proof.specs.Plain.{LinkOf}
 
 -- a line of the table: a variable, or an operator at terms
 pub data TableLine : Type 0 where

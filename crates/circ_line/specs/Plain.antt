@@ -1,7 +1,7 @@
 -- What contracts see of lines, and what it is to read one.
 use Rattle.std.specs.Prelude.{◌≡◌, ◌++◌, ℕ, List, Option, Some, None, nat_eq, false}
 use Rattle.std.specs.List.{AllByRecursion}
-use Rattle.circ_replay.specs.Plain.{plain_link}
+use Rattle.circ_proof.specs.Plain.{plain_link}
 use Rattle.circ_line.specs.Line.{TableLine, Variable_line, Application_line, Line, head_line, table_line, place_line, certificate_line, block_line, goal_line, simplify_line, reduce_line, derive_line, done_line, same_line, split_line, left_line, right_line, end_line}
 use Rattle.circ_line.specs.Text.{line_text, IsInRange}
 use Rattle.circ_line.specs.declared.line.Line.{Line as CodeLine}

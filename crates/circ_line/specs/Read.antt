@@ -4,7 +4,7 @@ use Rattle.std.specs.Option.{option_map}
 use Rattle.std.specs.Str.{bytes_eq}
 use Rattle.circ_theory.specs.declared.way.Way.{Way}
 use Rattle.circ_theory.specs.declared.way.Way.TheVariants.{Forth, Back}
-use Rattle.circ_replay.specs.Plain.{LinkOf, Equation_link, Hypothesis_link, Assumption_link, Content_link}
+use Rattle.circ_proof.specs.Plain.{LinkOf, Equation_link, Hypothesis_link, Assumption_link, Content_link}
 use Rattle.circ_line.specs.Line.{Variable_line, Application_line, Line, head_line, table_line, place_line, certificate_line, block_line, goal_line, simplify_line, reduce_line, derive_line, done_line, same_line, split_line, left_line, right_line, end_line}
 use Rattle.circ_line.specs.Text.{line_text}
 use Rattle.circ_line.specs.Front.{rest_after, marked, items_at, seq, ended, whole, then_whole, after_or}

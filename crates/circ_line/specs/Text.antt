@@ -3,7 +3,7 @@ use Rattle.std.specs.Prelude.{◌^◌, ◌<◌, ℕ, List, [], ◌∷◌, ◌++�
 use Rattle.std.specs.List.{AllByRecursion}
 use Rattle.circ_theory.specs.declared.way.Way.{Way}
 use Rattle.circ_theory.specs.declared.way.Way.TheVariants.{Forth, Back}
-use Rattle.circ_replay.specs.Plain.{LinkOf, Equation_link, Hypothesis_link, Assumption_link, Content_link}
+use Rattle.circ_proof.specs.Plain.{LinkOf, Equation_link, Hypothesis_link, Assumption_link, Content_link}
 use Rattle.circ_line.specs.Line.{TableLine, Variable_line, Application_line, Line, head_line, table_line, place_line, certificate_line, block_line, goal_line, simplify_line, reduce_line, derive_line, done_line, same_line, split_line, left_line, right_line, end_line}
 
 -- words with a mark between each two

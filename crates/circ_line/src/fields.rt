@@ -5,7 +5,7 @@ ghost use Rattle.circ_line.specs.Read.{way_at, entries_at, path_at, rule_at};
 
 use crate::ENTRIES;
 use crate::numbers::{after_text, field_at, marked};
-use circ_replay::Way;
+use circ_proof::Way;
 use circ_term::Path;
 use std::alloc::{AllocError, Global};
 

@@ -1,13 +1,13 @@
 //! Lines that are written from what is lent, so that nothing is copied for them.
 ghost use Rattle.std.specs.Prelude.{◌≡◌, ◌∷◌, ◌++◌, OnOk, OnErr};
-ghost use Rattle.circ_replay.specs.Plain.{plain_link};
+ghost use Rattle.circ_proof.specs.Plain.{plain_link};
 ghost use Rattle.circ_line.specs.Line.{Application_line};
 ghost use Rattle.circ_line.specs.Text.{joined, link_words, table_words, line_text};
 ghost use Rattle.circ_line.specs.Plain.{Keeps};
 ghost use Rattle.circ_line.specs.Lent.{plain_lent_line};
 
 use crate::writing::{put, put_link, put_number, put_numbers};
-use circ_replay::Link;
+use circ_proof::Link;
 use std::alloc::AllocError;
 
 /// A line that holds a list or a link of its writer.

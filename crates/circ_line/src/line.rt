@@ -1,5 +1,5 @@
 //! The kinds of lines.
-use circ_replay::Link;
+use circ_proof::Link;
 
 /// A line of the table. It stands for a term, and terms go by the numbers of their lines.
 #[derive(Drop)]

@@ -1,12 +1,12 @@
 //! Links as text is read.
 ghost use Rattle.std.specs.Prelude.{◌≡◌, IfOk};
 ghost use Rattle.std.specs.Option.{option_map};
-ghost use Rattle.circ_replay.specs.Plain.{plain_link};
+ghost use Rattle.circ_proof.specs.Plain.{plain_link};
 ghost use Rattle.circ_line.specs.Read.{link_of, instance_of, assumption_of, content_of};
 
 use crate::fields::{Rule, path_at, rule_at};
 use crate::numbers::{after_text, field_at, is_end, number_of, numbers_of};
-use circ_replay::Link;
+use circ_proof::Link;
 use std::alloc::{AllocError, Global};
 
 /// The link that the bytes are the text of, after its side.

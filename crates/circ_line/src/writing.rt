@@ -1,12 +1,12 @@
 //! Lines as text is written.
 ghost use Rattle.std.specs.Prelude.{◌≡◌, ◌++◌, ◌∷◌, [], codes, decimal, flat_map, map, OnOk, OnErr};
-ghost use Rattle.circ_replay.specs.Plain.{plain_link};
+ghost use Rattle.circ_proof.specs.Plain.{plain_link};
 ghost use Rattle.circ_line.specs.Text.{path_word, way_word, link_words, table_words, line_words, line_text};
 ghost use Rattle.circ_line.specs.Written.{first_word, spaced, further};
 ghost use Rattle.circ_line.specs.Plain.{plain_table_line, plain_line, Keeps};
 
 use crate::line::{Line, TableLine};
-use circ_replay::{Link, Way};
+use circ_proof::{Link, Way};
 use circ_term::Path;
 use itoa::Buffer;
 use std::alloc::AllocError;

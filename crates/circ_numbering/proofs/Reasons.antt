@@ -2,8 +2,8 @@
 use Rattle.std.proofs.Common.{◌≡◌, ◌≤◌, ◌<◌, ◌+◌, max, ℕ, zero, suc, List, [], ◌∷◌, ◌++◌, length, map, get_or, refl, ap, sym, ◌∙◌, arith}
 use Rattle.std.specs.Prelude.{flat_map}
 use Rattle.circ_term.specs.Tree.{Tree}
-use Rattle.circ_replay.specs.Plain.{WhyOf, WhysOf, Same_why, Split_why, no_why, more_whys, map_why, map_whys, plain_why, plain_whys}
-use Rattle.circ_replay.specs.declared.links.Why.{Why}
+use Rattle.circ_proof.specs.Plain.{WhyOf, WhysOf, Same_why, Split_why, no_why, more_whys, map_why, map_whys, plain_why, plain_whys}
+use Rattle.circ_proof.specs.declared.links.Why.{Why}
 use Rattle.circ_plain_search.specs.Numbering.{why_terms, whys_terms}
 use Rattle.circ_record.specs.Plain.{plain_term_why, plain_term_whys}
 use Rattle.circ_record.specs.declared.links.TermWhy.{TermWhy}

@@ -1,9 +1,9 @@
 -- One request to a table after another.
 use Rattle.std.proofs.Common.{◌≡◌, ℕ, true, List, [], ◌∷◌, ◌++◌, refl, ap, sym, subst, ◌∙◌, arith}
 use Rattle.circ_term.specs.Tree.{Tree}
-use Rattle.circ_replay.specs.Growing.{Continues}
-use Rattle.circ_replay.specs.Table.{added, has, number_in}
-use Rattle.circ_replay.proofs.Tables.{continues_self, continues_more, continues_length, added_continues, added_has, number_stays}
+use Rattle.circ_proof.specs.Table.{Continues}
+use Rattle.circ_proof.specs.Table.{added, has, number_in}
+use Rattle.circ_proof.proofs.Tables.{continues_self, continues_more, continues_length, added_continues, added_has, number_stays}
 use Rattle.circ_plain_search.specs.Numbering.{asked_for}
 use Rattle.circ_numbering.specs.Asking.{IsFaultOf}
 use Rattle.circ_numbering.specs.declared.fault.NumberFault.{NumberFault}

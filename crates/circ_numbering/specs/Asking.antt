@@ -1,9 +1,9 @@
 -- What calls answer that ask a table for terms.
 use Rattle.std.specs.Prelude.{◌≡◌, ◌<◌, ◌≤◌, List, length, Result, Ok, Err}
 use Rattle.circ_term.specs.Tree.{Tree}
-use Rattle.circ_replay.specs.Growing.{Continues}
-use Rattle.circ_replay.specs.Table.{term_limit}
-use Rattle.circ_rules.specs.Proof.{Proof}
+use Rattle.circ_proof.specs.Table.{Continues}
+use Rattle.circ_proof.specs.Table.{term_limit}
+use Rattle.circ_proof.specs.Proof.{Proof}
 use Rattle.circ_plain_search.specs.Numbering.{asked_for}
 use Rattle.circ_numbering.specs.declared.fault.NumberFault.{NumberFault}
 use Rattle.circ_numbering.specs.declared.fault.NumberFault.TheVariants as fault

@@ -2,7 +2,7 @@
 use Rattle.std.specs.Prelude.{List, map, Vec}
 use Rattle.std.proofs.Common.{Global}
 use Rattle.circ_term.specs.Tree.{Tree}
-use Rattle.circ_replay.specs.Plain.{LinkOf}
+use Rattle.circ_proof.specs.Plain.{LinkOf}
 use Rattle.circ_plain_search.specs.Search.{ProvedBlock}
 use Rattle.circ_record.specs.Plain.{plain_term_links, plain_term_steps}
 use Rattle.circ_record.specs.declared.links.TermLink.{TermLink}

@@ -1,9 +1,9 @@
 //! Terms and links, with their numbers in a table.
 ghost use Rattle.std.specs.Prelude.{◌≡◌, ◌∷◌, [], map, IfOk, IfErr};
-ghost use Rattle.circ_replay.specs.Plain.{plain_link, plain_links, plain_chain};
-ghost use Rattle.circ_replay.specs.Plain.{map_link, map_chain};
-ghost use Rattle.circ_replay.specs.Link.{terms_of};
-ghost use Rattle.circ_replay.specs.Table.{number_in};
+ghost use Rattle.circ_proof.specs.Plain.{plain_link, plain_links, plain_chain};
+ghost use Rattle.circ_proof.specs.Plain.{map_link, map_chain};
+ghost use Rattle.circ_proof.specs.Link.{terms_of};
+ghost use Rattle.circ_proof.specs.Table.{number_in};
 ghost use Rattle.circ_plain_search.specs.Numbering.{links_terms, chain_terms, numbered_links};
 ghost use Rattle.circ_record.specs.Plain.{plain_term_link, plain_term_links, plain_term_chain};
 ghost use Rattle.circ_numbering.specs.Asking.{Asks};
@@ -11,7 +11,8 @@ ghost use Rattle.circ_numbering.specs.declared.fault.NumberFault.TheVariants.{Me
 
 use crate::fault::NumberFault;
 use circ_record::{TermChain, TermLink};
-use circ_replay::{Chain, Link, TableBuilder};
+use circ_proof::{Chain, Link};
+use circ_replay::TableBuilder;
 use circ_term::{Path, Term};
 use std::alloc::Global;
 

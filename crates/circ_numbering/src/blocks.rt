@@ -1,6 +1,6 @@
 //! Finished blocks, and the proof that they make.
 ghost use Rattle.std.specs.Prelude.{◌≡◌, flat_map, map, IfOk};
-ghost use Rattle.circ_rules.specs.Plain.{plain_block, plain_certificates, plain_proof};
+ghost use Rattle.circ_proof.specs.PlainProof.{plain_block, plain_certificates, plain_proof};
 ghost use Rattle.circ_plain_search.specs.Numbering.{goal_terms, goal_name, links_terms};
 ghost use Rattle.circ_plain_search.specs.Numbering.{block_terms, numbered_block, numbered_links};
 ghost use Rattle.circ_plain_search.specs.Numbering.{proof_with};
@@ -12,9 +12,9 @@ use crate::asking::{links, number};
 use crate::fault::NumberFault;
 use crate::whys::steps;
 use circ_record::{TermLink, TermStep};
-use circ_replay::{Link, TableBuilder};
+use circ_replay::TableBuilder;
 use circ_rewrite::share_goals;
-use circ_rules::{Block, Proof};
+use circ_proof::{Block, Link, Proof};
 use circ_special::Gamma;
 use circ_term::Term;
 use circ_theory::Goal;

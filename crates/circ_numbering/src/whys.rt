@@ -1,9 +1,9 @@
 //! Reasons and steps, with the numbers of their terms in a table.
 ghost use Rattle.std.specs.Prelude.{◌≡◌, flat_map};
-ghost use Rattle.circ_replay.specs.Plain.{plain_why, plain_whys, map_why, map_whys};
-ghost use Rattle.circ_replay.specs.Table.{number_in};
-ghost use Rattle.circ_rules.specs.Plain.{plain_step, plain_steps};
-ghost use Rattle.circ_rules.specs.Rules.{map_step};
+ghost use Rattle.circ_proof.specs.Plain.{plain_why, plain_whys, map_why, map_whys};
+ghost use Rattle.circ_proof.specs.Table.{number_in};
+ghost use Rattle.circ_proof.specs.PlainProof.{plain_step, plain_steps};
+ghost use Rattle.circ_proof.specs.Rules.{map_step};
 ghost use Rattle.circ_plain_search.specs.Numbering.{why_terms, whys_terms, step_terms};
 ghost use Rattle.circ_plain_search.specs.Numbering.{numbered_steps};
 ghost use Rattle.circ_record.specs.Plain.{plain_term_why, plain_term_whys};
@@ -13,8 +13,8 @@ ghost use Rattle.circ_numbering.specs.Asking.{Asks};
 use crate::asking::{chain, number};
 use crate::fault::NumberFault;
 use circ_record::{TermStep, TermWhy};
-use circ_replay::{TableBuilder, Why};
-use circ_rules::Step;
+use circ_replay::TableBuilder;
+use circ_proof::{Step, Why};
 use std::alloc::Global;
 
 /// Steps with numbers.

@@ -12,17 +12,17 @@ use Rattle.circ_theory.specs.Rewriting.{named}
 use Rattle.circ_theory.specs.declared.parts.Goal.{Goal}
 use Rattle.circ_theory.proofs.Lists.{all_by}
 use Rattle.circ_special.specs.declared.place.Place.{Place}
-use Rattle.circ_replay.specs.Goals.{AreSortedGoals}
-use Rattle.circ_replay.specs.Plain.{LinkOf, map_link}
-use Rattle.circ_replay.specs.Link.{AllOfLinks}
+use Rattle.circ_proof.specs.Goals.{AreSortedGoals}
+use Rattle.circ_proof.specs.Plain.{LinkOf, map_link}
+use Rattle.circ_proof.specs.Link.{AllOfLinks}
 use Rattle.circ_rewrite.specs.Links.{link_of}
-use Rattle.circ_replay.specs.Table.{term_limit}
-use Rattle.circ_rules.specs.Rules.{state, ProofStep, Simplify, Reduce, Derive, Done, StepsOf}
-use Rattle.circ_rules.specs.Proof.{Proof, AreLinksFor, ProofFor, step_limit}
-use Rattle.circ_rules.specs.Accepted.{BlocksDerive, Accepted}
-use Rattle.circ_rules.specs.Certified.{due, AreCertified}
-use Rattle.circ_rules.proofs.Sorted.{sorted_none, sorted_append}
-use Rattle.circ_rules.proofs.Stepping.{Grows, steps_grow}
+use Rattle.circ_proof.specs.Table.{term_limit}
+use Rattle.circ_proof.specs.Rules.{state, ProofStep, Simplify, Reduce, Derive, Done, StepsOf}
+use Rattle.circ_proof.specs.Proof.{Proof, AreLinksFor, ProofFor, step_limit}
+use Rattle.circ_proof.specs.Accepted.{BlocksDerive, Accepted}
+use Rattle.circ_proof.specs.Certified.{due, AreCertified}
+use Rattle.circ_proof.proofs.Sorted.{sorted_none, sorted_append}
+use Rattle.circ_proof.proofs.Stepping.{Grows, steps_grow}
 use Rattle.circ_plain_search.specs.Search.{Limits, ProvedBlock, Ending, All_done, Is_stuck, Is_spent, Is_too_big, Is_too_deep, Reaches, start}
 use Rattle.circ_plain_search.specs.Numbering.{goal_terms, links_terms, step_terms, block_terms, proof_terms, numbered_links, numbered_block, table_for, proof_with, Special, needed, Proved, LongTable, proved_or_long, found_of}
 use Rattle.circ_plain_search.specs.PlainSearch.{PlainSearch, IsSearchable, AreSearchable, IsProofOf}

@@ -9,15 +9,15 @@ use Rattle.circ_theory.specs.Theory.{Theory}
 use Rattle.circ_theory.specs.Observing.{is_hidden}
 use Rattle.circ_theory.specs.declared.parts.Goal.{Goal}
 use Rattle.circ_special.specs.declared.place.Place.{Place}
-use Rattle.circ_replay.specs.Plain.{ChainOf, WhyOf, Same_why, Split_why, more_whys}
-use Rattle.circ_replay.specs.Goals.{goal}
+use Rattle.circ_proof.specs.Plain.{ChainOf, WhyOf, Same_why, Split_why, more_whys}
+use Rattle.circ_proof.specs.Goals.{goal}
 use Rattle.circ_rewrite.specs.Due.{due_under}
 use Rattle.circ_rewrite.specs.Norm.{Normalised, Normal_form, Budget_spent, Limit_passed, norm}
 use Rattle.circ_rewrite.specs.Links.{link_of}
 use Rattle.circ_rewrite.specs.declared.parts.Rule.{Rule}
 use Rattle.circ_rewrite.proofs.Runs.{normal_form_reduces}
-use Rattle.circ_rules.specs.Rules.{ProofStep, Simplify, Reduce, Derive, Done, derivatives_on}
-use Rattle.circ_rules.specs.Proof.{step_limit, split_limit}
+use Rattle.circ_proof.specs.Rules.{ProofStep, Simplify, Reduce, Derive, Done, derivatives_on}
+use Rattle.circ_proof.specs.Proof.{step_limit, split_limit}
 use Rattle.circ_plain_search.specs.BlockRules.{block_rules}
 use Rattle.circ_plain_search.specs.Joining.{HypothesisUse, first_open, use_link, joined, and_then, put_all, put_counted}
 use Rattle.circ_plain_search.specs.Search.{Limits, Standing, Ending, NormalSide, normal_side, side_of, normalised, Sides, sides_with, Reason, reason_with, SplitReason, split_with, case_of, Splitter, case_reason, each_case, constants_of, open_cases, chain_with, chained, normal_sides, split_cases, spent, or_end, record_step, is_nil, has_links, next_goal, with_sides, reduced, goals_limit, unless_past, derive_turn, simplified, hidden_turn, visible_turn, open_turn, pass_uses, swept_sides, pass_turn, join_turn, sides_turn, goal_turn, next_block, turn_at, turn, Reaches, ends, goes}

@@ -11,15 +11,15 @@ use Rattle.circ_theory.proofs.Lists.{all_by}
 use Rattle.circ_theory.proofs.Weakening.{in_rest}
 use Rattle.circ_special.specs.declared.place.Place.{Place}
 use Rattle.circ_special.specs.Special.{IsSet}
-use Rattle.circ_replay.specs.Plain.{LinkOf}
-use Rattle.circ_replay.specs.Link.{setting, AllOfLink, AllOfLinks, terms_of}
+use Rattle.circ_proof.specs.Plain.{LinkOf}
+use Rattle.circ_proof.specs.Link.{setting, AllOfLink, AllOfLinks, terms_of}
 use Rattle.circ_rewrite.specs.Links.{link_of}
 use Rattle.circ_rewrite.specs.Replacement.{Traced}
 use Rattle.circ_rewrite.specs.TheoryRules.{theory_rules}
 use Rattle.circ_rewrite.proofs.RuleLists.{rules_are}
-use Rattle.circ_rules.specs.Certified.{start_args, start_term, derivatives_at, due, Certified, AreCertified}
-use Rattle.circ_rules.proofs.Sorted.{sorted_none}
-use Rattle.circ_rules.proofs.Starting.{few_args}
+use Rattle.circ_proof.specs.Certified.{start_args, start_term, derivatives_at, due, Certified, AreCertified}
+use Rattle.circ_proof.proofs.Sorted.{sorted_none}
+use Rattle.circ_proof.proofs.Starting.{few_args}
 use Rattle.circ_plain_search.specs.Greatest.{HasNormalForm, AreTraces, GreatestSpecialSet}
 use Rattle.circ_plain_search.proofs.Certifying.{of_place, from_due, is_certified, starts_sorted}
 use Rattle.circ_plain_search.proofs.Terms.{Fine}

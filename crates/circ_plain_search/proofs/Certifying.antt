@@ -16,7 +16,7 @@ use Rattle.circ_theory.proofs.Derived.{derived_by, numbered_from_substitution}
 use Rattle.circ_theory.proofs.Weakening.{in_rest}
 use Rattle.circ_special.specs.declared.place.Place.{Place}
 use Rattle.circ_special.specs.Special.{IsPlace, IsSet}
-use Rattle.circ_replay.specs.Link.{setting}
+use Rattle.circ_proof.specs.Link.{setting}
 use Rattle.circ_rewrite.specs.Due.{due_under}
 use Rattle.circ_rewrite.specs.Links.{link_of}
 use Rattle.circ_rewrite.specs.Replacement.{Traced}
@@ -24,8 +24,8 @@ use Rattle.circ_rewrite.specs.TheoryRules.{theory_rules}
 use Rattle.circ_rewrite.proofs.Linked.{are_links}
 use Rattle.circ_rewrite.proofs.RuleLists.{rules_are}
 use Rattle.circ_rewrite.proofs.Runs.{normal_form_reduces}
-use Rattle.circ_rules.specs.Certified.{start_args, start_term, due, due_at, derivatives_at, Certified, AreCertified}
-use Rattle.circ_rules.proofs.Starting.{applied_sorted}
+use Rattle.circ_proof.specs.Certified.{start_args, start_term, due, due_at, derivatives_at, Certified, AreCertified}
+use Rattle.circ_proof.proofs.Starting.{applied_sorted}
 use Rattle.circ_plain_search.specs.Greatest.{HasNormalForm, IsSelfGuarded, AreTraces, GreatestSpecialSet}
 use Rattle.circ_plain_search.proofs.Keeping.{contains_none, pick}
 

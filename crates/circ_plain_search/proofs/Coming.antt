@@ -6,9 +6,9 @@ use Rattle.circ_theory.specs.Theory.{Theory}
 use Rattle.circ_theory.specs.WellFormed.{IsWellFormed}
 use Rattle.circ_theory.specs.declared.parts.Goal.{Goal}
 use Rattle.circ_special.specs.declared.place.Place.{Place}
-use Rattle.circ_replay.specs.Goals.{goal}
-use Rattle.circ_rules.specs.Rules.{State, state, ProofStep, Simplify, Reduce, Derive, Done, StepOn, StepsOf, derivatives_on}
-use Rattle.circ_rules.specs.Proof.{step_limit}
+use Rattle.circ_proof.specs.Goals.{goal}
+use Rattle.circ_proof.specs.Rules.{State, state, ProofStep, Simplify, Reduce, Derive, Done, StepOn, StepsOf, derivatives_on}
+use Rattle.circ_proof.specs.Proof.{step_limit}
 use Rattle.circ_plain_search.specs.BlockRules.{block_rules}
 use Rattle.circ_plain_search.specs.Search.{Limits, ProvedBlock, Standing, Ending, Sides, normal_sides, with_sides, Reaches, goes, start}
 use Rattle.circ_plain_search.specs.PlainSearch.{AreSearchable}

@@ -9,12 +9,12 @@ use Rattle.circ_theory.specs.Observing.{is_hidden}
 use Rattle.circ_theory.specs.declared.parts.Goal.{Goal}
 use Rattle.circ_theory.proofs.Casing.{hidden_tells}
 use Rattle.circ_special.specs.declared.place.Place.{Place}
-use Rattle.circ_replay.specs.Plain.{LinkOf, Equation_link, Hypothesis_link, Assumption_link, Content_link, ChainOf, WhyOf, WhysOf, Same_why, Split_why, no_why, more_whys}
-use Rattle.circ_replay.specs.Goals.{sides}
-use Rattle.circ_replay.specs.Runs.{Runs}
-use Rattle.circ_replay.specs.Link.{setting, Leads}
-use Rattle.circ_replay.specs.Justified.{ChainLeads, Justified, EachJustified}
-use Rattle.circ_rules.specs.Rules.{State, ProofStep, Simplify, Reduce, Derive, Done, StepOn, StepOf}
+use Rattle.circ_proof.specs.Plain.{LinkOf, Equation_link, Hypothesis_link, Assumption_link, Content_link, ChainOf, WhyOf, WhysOf, Same_why, Split_why, no_why, more_whys}
+use Rattle.circ_proof.specs.Goals.{sides}
+use Rattle.circ_proof.specs.Runs.{Runs}
+use Rattle.circ_proof.specs.Link.{setting, Leads}
+use Rattle.circ_proof.specs.Justified.{ChainLeads, Justified, EachJustified}
+use Rattle.circ_proof.specs.Rules.{State, ProofStep, Simplify, Reduce, Derive, Done, StepOn, StepOf}
 use Rattle.circ_plain_search.specs.Search.{is_deep, is_deep_chain, is_deep_why, are_deep_whys, is_deep_step}
 
 pub or_false : (a b : Bool) → (a || b) ≡ false → (a ≡ false) × (b ≡ false)

@@ -17,9 +17,9 @@ use Rattle.circ_theory.specs.Fresh.{above, all_above, numbered_from, derivatives
 use Rattle.circ_theory.specs.declared.parts.Goal.{Goal}
 use Rattle.circ_theory.proofs.Casing.{contains_first}
 use Rattle.circ_theory.proofs.Weakening.{in_rest}
-use Rattle.circ_replay.specs.Goals.{IsWellSortedGoal, AreSortedGoals}
-use Rattle.circ_rules.specs.Rules.{fresh_in, derived_goal, derivatives_on, IsDerivable}
-use Rattle.circ_rules.proofs.Sorted.{derived_sorted, sorted_none, sorted_more}
+use Rattle.circ_proof.specs.Goals.{IsWellSortedGoal, AreSortedGoals}
+use Rattle.circ_proof.specs.Rules.{fresh_in, derived_goal, derivatives_on, IsDerivable}
+use Rattle.circ_proof.proofs.Sorted.{derived_sorted, sorted_none, sorted_more}
 use Rattle.circ_plain_search.specs.Search.{goals_limit}
 use Rattle.circ_plain_search.proofs.Terms.{Fine, fine_more}
 

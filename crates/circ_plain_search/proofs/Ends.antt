@@ -9,11 +9,11 @@ use Rattle.circ_theory.specs.WellFormed.{IsWellFormed}
 use Rattle.circ_theory.specs.Observing.{is_hidden}
 use Rattle.circ_theory.specs.declared.parts.Goal.{Goal}
 use Rattle.circ_special.specs.declared.place.Place.{Place}
-use Rattle.circ_replay.specs.Plain.{WhyOf, Same_why, Split_why}
-use Rattle.circ_replay.specs.Goals.{goal}
-use Rattle.circ_rules.specs.Rules.{ProofStep, Simplify, Reduce, Derive, Done, derivatives_on}
-use Rattle.circ_rules.specs.Proof.{step_limit, split_limit}
-use Rattle.circ_rules.proofs.Sorted.{sorted_none}
+use Rattle.circ_proof.specs.Plain.{WhyOf, Same_why, Split_why}
+use Rattle.circ_proof.specs.Goals.{goal}
+use Rattle.circ_proof.specs.Rules.{ProofStep, Simplify, Reduce, Derive, Done, derivatives_on}
+use Rattle.circ_proof.specs.Proof.{step_limit, split_limit}
+use Rattle.circ_proof.proofs.Sorted.{sorted_none}
 use Rattle.circ_plain_search.specs.BlockRules.{block_rules}
 use Rattle.circ_plain_search.specs.Joining.{Stop, No_budget, Past_limit, Not_split, HypothesisUse, use_link, joined, and_then, put_all}
 use Rattle.circ_plain_search.specs.Search.{Limits, ProvedBlock, Standing, Ending, All_done, Sides, chain_with, chained, normal_sides, split_cases, spent, past, or_end, record_step, has_links, next_goal, with_sides, reduced, goals_limit, unless_past, derive_turn, hidden_turn, visible_turn, open_turn, swept_sides, join_turn, sides_turn, goal_turn, with_this, next_block, turn_at, turn, Reaches, ends, goes, start}

@@ -10,7 +10,7 @@ use Rattle.circ_special.specs.Special.{IsWithin}
 use Rattle.circ_special.specs.Guarded.{Guarded}
 use Rattle.circ_special.proofs.Larger.{guarded_more}
 use Rattle.circ_rewrite.specs.Replacement.{Traced}
-use Rattle.circ_rules.specs.Certified.{due, derivatives_at}
+use Rattle.circ_proof.specs.Certified.{due, derivatives_at}
 use Rattle.circ_plain_search.specs.Greatest.{HasNormalForm, IsCandidate, IsSelfGuarded, AreTraces, GreatestSpecialSet}
 use Rattle.circ_plain_search.specs.Places.{all_places}
 use Rattle.circ_plain_search.specs.Keeps.{Keeps}

@@ -13,7 +13,7 @@ use Rattle.circ_theory.specs.declared.parts.Goal.{Goal}
 use Rattle.circ_theory.specs.declared.way.Way.TheVariants.{Forth, Back}
 use Rattle.circ_special.specs.declared.place.Place.{Place}
 use Rattle.circ_special.specs.Special.{IsSpecial}
-use Rattle.circ_replay.specs.Goals.{sides, AreSortedGoals}
+use Rattle.circ_proof.specs.Goals.{sides, AreSortedGoals}
 use Rattle.circ_rewrite.specs.Matching.{image, matching}
 use Rattle.circ_rewrite.specs.Due.{terms_by}
 use Rattle.circ_rewrite.proofs.Linked.{fit_given}

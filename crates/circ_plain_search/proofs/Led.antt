@@ -4,9 +4,9 @@ use Rattle.std.specs.List.{AllByRecursion}
 use Rattle.circ_term.specs.Tree.{Tree, sort_of}
 use Rattle.circ_theory.specs.Theory.{Theory}
 use Rattle.circ_theory.proofs.Lists.{all_by}
-use Rattle.circ_replay.specs.Plain.{LinkOf}
-use Rattle.circ_replay.specs.Runs.{Runs}
-use Rattle.circ_replay.specs.Link.{Setting, Leads, terms_of, AllOfLink, AllOfLinks}
+use Rattle.circ_proof.specs.Plain.{LinkOf}
+use Rattle.circ_proof.specs.Runs.{Runs}
+use Rattle.circ_proof.specs.Link.{Setting, Leads, terms_of, AllOfLink, AllOfLinks}
 use Rattle.circ_plain_search.proofs.Terms.{Fine, fine_more}
 
 -- The links lead from t to u, which is fine and of t's sort, and their terms are fine.

@@ -2,10 +2,10 @@
 use Rattle.std.proofs.Common.{List, [], ◌∷◌, flat_map}
 use Rattle.std.specs.List.{AllByRecursion}
 use Rattle.circ_term.specs.Tree.{Tree}
-use Rattle.circ_replay.specs.Plain.{LinkOf, ChainOf, WhyOf, WhysOf, Same_why, Split_why, no_why, more_whys}
-use Rattle.circ_replay.specs.Link.{terms_of, AllOfLinks}
-use Rattle.circ_replay.specs.Justified.{AllOfChain, AllOfWhy, AllOfWhys}
-use Rattle.circ_rules.specs.Rules.{ProofStep, Simplify, Reduce, Derive, Done, AllOfStep}
+use Rattle.circ_proof.specs.Plain.{LinkOf, ChainOf, WhyOf, WhysOf, Same_why, Split_why, no_why, more_whys}
+use Rattle.circ_proof.specs.Link.{terms_of, AllOfLinks}
+use Rattle.circ_proof.specs.Justified.{AllOfChain, AllOfWhy, AllOfWhys}
+use Rattle.circ_proof.specs.Rules.{ProofStep, Simplify, Reduce, Derive, Done, AllOfStep}
 use Rattle.circ_plain_search.specs.Numbering.{links_terms, chain_terms, why_terms, whys_terms, step_terms}
 use Rattle.circ_plain_search.proofs.Led.{all_parts}
 

@@ -19,8 +19,8 @@ use Rattle.circ_theory.proofs.Lists.{all_at}
 use Rattle.circ_special.specs.declared.place.Place.{Place}
 use Rattle.circ_aci.specs.Canonical.{canonical_under}
 use Rattle.circ_aci.proofs.Again.{is_canonical}
-use Rattle.circ_replay.specs.Goals.{sides}
-use Rattle.circ_replay.specs.Link.{Setting, setting, AllOfLink}
+use Rattle.circ_proof.specs.Goals.{sides}
+use Rattle.circ_proof.specs.Link.{Setting, setting, AllOfLink}
 use Rattle.circ_rewrite.specs.Replacement.{Replacement, Traced, By_rule, By_content}
 use Rattle.circ_rewrite.specs.Matching.{matching, matches}
 use Rattle.circ_rewrite.specs.Due.{assumed, content_due, rule_variables, terms_by, ruled, due_under}

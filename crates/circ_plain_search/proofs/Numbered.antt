@@ -5,13 +5,13 @@ use Rattle.std.proofs.lemmas.List.{length-map}
 use Rattle.circ_term.specs.Tree.{Tree, sort_of}
 use Rattle.circ_theory.specs.Rewriting.{named}
 use Rattle.circ_theory.specs.declared.parts.Goal.{Goal}
-use Rattle.circ_replay.specs.Goals.{goal}
-use Rattle.circ_replay.specs.Plain.{LinkOf, Equation_link, Hypothesis_link, Assumption_link, Content_link, ChainOf, WhyOf, WhysOf, Same_why, Split_why, no_why, more_whys, map_link, map_chain, map_why, map_whys}
-use Rattle.circ_replay.specs.Link.{AllOfLink, AllOfLinks}
-use Rattle.circ_replay.specs.Justified.{AllOfChain, AllOfWhy, AllOfWhys}
-use Rattle.circ_replay.specs.Table.{number_in}
-use Rattle.circ_rules.specs.Rules.{ProofStep, Simplify, Reduce, Derive, Done, map_step, AllOfStep}
-use Rattle.circ_rules.specs.Proof.{IsLinkFor, AreLinksFor, IsChainFor, why_count, IsWhyFor, AreWhysFor, IsStepFor, IsEnded, goal_of, IsNameFor, IsBlockFor, steps_in}
+use Rattle.circ_proof.specs.Goals.{goal}
+use Rattle.circ_proof.specs.Plain.{LinkOf, Equation_link, Hypothesis_link, Assumption_link, Content_link, ChainOf, WhyOf, WhysOf, Same_why, Split_why, no_why, more_whys, map_link, map_chain, map_why, map_whys}
+use Rattle.circ_proof.specs.Link.{AllOfLink, AllOfLinks}
+use Rattle.circ_proof.specs.Justified.{AllOfChain, AllOfWhy, AllOfWhys}
+use Rattle.circ_proof.specs.Table.{number_in}
+use Rattle.circ_proof.specs.Rules.{ProofStep, Simplify, Reduce, Derive, Done, map_step, AllOfStep}
+use Rattle.circ_proof.specs.Proof.{IsLinkFor, AreLinksFor, IsChainFor, why_count, IsWhyFor, AreWhysFor, IsStepFor, IsEnded, goal_of, IsNameFor, IsBlockFor, steps_in}
 use Rattle.circ_plain_search.specs.Search.{ProvedBlock}
 use Rattle.circ_plain_search.specs.Numbering.{goal_name, numbered_links, numbered_steps, numbered_block}
 use Rattle.circ_plain_search.proofs.Splits.{FitsIn, AllFitIn}

@@ -12,7 +12,7 @@ use Rattle.circ_theory.specs.declared.parts.Goal.{Goal}
 use Rattle.circ_theory.specs.declared.way.Way.TheVariants.{Forth}
 use Rattle.circ_special.specs.declared.place.Place.{Place}
 use Rattle.circ_special.specs.Special.{IsSpecial}
-use Rattle.circ_replay.specs.Goals.{sides, AreSortedGoals}
+use Rattle.circ_proof.specs.Goals.{sides, AreSortedGoals}
 use Rattle.circ_rewrite.specs.Matching.{matching, matches}
 use Rattle.circ_rewrite.specs.Due.{rule_variables, terms_by, IsRewriteRule}
 use Rattle.circ_rewrite.specs.declared.parts.Rule.{Rule}

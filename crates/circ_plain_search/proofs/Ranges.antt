@@ -12,14 +12,14 @@ use Rattle.circ_theory.specs.declared.parts.Goal.{Goal}
 use Rattle.circ_theory.proofs.Casing.{contains_first, contains_next}
 use Rattle.circ_theory.proofs.Weakening.{first_or_rest}
 use Rattle.circ_special.specs.declared.place.Place.{Place}
-use Rattle.circ_replay.specs.Plain.{LinkOf, Equation_link, Hypothesis_link, Assumption_link, Content_link, ChainOf, WhyOf, WhysOf, Same_why, Split_why, no_why, more_whys}
-use Rattle.circ_replay.specs.Goals.{AreSortedGoals}
-use Rattle.circ_replay.specs.Runs.{Runs}
-use Rattle.circ_replay.specs.Link.{Setting, setting, Leads, AllOfLinks}
-use Rattle.circ_replay.specs.Justified.{ChainLeads, Justified, EachJustified, AllOfChain, AllOfWhy, AllOfWhys}
-use Rattle.circ_replay.proofs.Leading.{IsSortedSetting, link_sorted}
-use Rattle.circ_rules.specs.Proof.{IsNumber, IsPath, why_count}
-use Rattle.circ_rules.proofs.FewPlaces.{slice_bound}
+use Rattle.circ_proof.specs.Plain.{LinkOf, Equation_link, Hypothesis_link, Assumption_link, Content_link, ChainOf, WhyOf, WhysOf, Same_why, Split_why, no_why, more_whys}
+use Rattle.circ_proof.specs.Goals.{AreSortedGoals}
+use Rattle.circ_proof.specs.Runs.{Runs}
+use Rattle.circ_proof.specs.Link.{Setting, setting, Leads, AllOfLinks}
+use Rattle.circ_proof.specs.Justified.{ChainLeads, Justified, EachJustified, AllOfChain, AllOfWhy, AllOfWhys}
+use Rattle.circ_proof.proofs.Leading.{IsSortedSetting, link_sorted}
+use Rattle.circ_proof.specs.Proof.{IsNumber, IsPath, why_count}
+use Rattle.circ_proof.proofs.FewPlaces.{slice_bound}
 use Rattle.circ_plain_search.proofs.Terms.{path_fits}
 use Rattle.circ_plain_search.proofs.Splits.{FitsIn, AllFitIn}
 

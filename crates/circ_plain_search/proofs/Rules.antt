@@ -11,7 +11,7 @@ use Rattle.circ_theory.specs.Observing.{is_hidden}
 use Rattle.circ_theory.specs.declared.parts.Goal.{Goal}
 use Rattle.circ_theory.proofs.Casing.{hidden_tells}
 use Rattle.circ_theory.proofs.Rewriting.{contains_at}
-use Rattle.circ_replay.specs.Goals.{sides, AreSortedGoals}
+use Rattle.circ_proof.specs.Goals.{sides, AreSortedGoals}
 use Rattle.circ_rewrite.specs.TheoryRules.{theory_rules}
 use Rattle.circ_rewrite.specs.Due.{IsRewriteRule}
 use Rattle.circ_rewrite.specs.Links.{IsRuleOf}

@@ -7,13 +7,13 @@ use Rattle.circ_theory.specs.Theory.{Theory}
 use Rattle.circ_theory.specs.declared.parts.Goal.{Goal}
 use Rattle.circ_theory.proofs.Lists.{all_push}
 use Rattle.circ_special.specs.declared.place.Place.{Place}
-use Rattle.circ_replay.specs.Plain.{ChainOf}
-use Rattle.circ_replay.specs.Goals.{AreSortedGoals}
-use Rattle.circ_replay.specs.Runs.{Runs}
-use Rattle.circ_replay.specs.Link.{setting, Leads}
-use Rattle.circ_replay.specs.Justified.{AllOfChain}
-use Rattle.circ_rules.specs.Rules.{State, state, ProofStep, Simplify, Reduce, Derive, Done, StepOf, StepsOf}
-use Rattle.circ_rules.specs.Proof.{step_limit}
+use Rattle.circ_proof.specs.Plain.{ChainOf}
+use Rattle.circ_proof.specs.Goals.{AreSortedGoals}
+use Rattle.circ_proof.specs.Runs.{Runs}
+use Rattle.circ_proof.specs.Link.{setting, Leads}
+use Rattle.circ_proof.specs.Justified.{AllOfChain}
+use Rattle.circ_proof.specs.Rules.{State, state, ProofStep, Simplify, Reduce, Derive, Done, StepOf, StepsOf}
+use Rattle.circ_proof.specs.Proof.{step_limit}
 use Rattle.circ_plain_search.specs.Search.{Limits, ProvedBlock, proved_block, Standing, no_links, spent, record_step, is_deep_step}
 use Rattle.circ_plain_search.specs.Numbering.{goal_terms, step_terms, block_terms}
 use Rattle.circ_plain_search.proofs.Terms.{Fine, FineTerms, fine_more}

@@ -15,11 +15,11 @@ use Rattle.circ_theory.specs.declared.parts.Goal.{Goal}
 use Rattle.circ_theory.proofs.Casing.{contains_first, contains_next}
 use Rattle.circ_theory.proofs.Lists.{all_push}
 use Rattle.circ_special.specs.declared.place.Place.{Place}
-use Rattle.circ_replay.specs.Plain.{ChainOf, WhyOf, WhysOf, Same_why, Split_why, no_why, more_whys}
-use Rattle.circ_replay.specs.Goals.{sides}
-use Rattle.circ_replay.specs.Link.{Setting, setting, Leads}
-use Rattle.circ_replay.specs.Justified.{ChainLeads, Justified, EachJustified, AllOfWhy, AllOfWhys}
-use Rattle.circ_replay.proofs.Cases.{cases_listed}
+use Rattle.circ_proof.specs.Plain.{ChainOf, WhyOf, WhysOf, Same_why, Split_why, no_why, more_whys}
+use Rattle.circ_proof.specs.Goals.{sides}
+use Rattle.circ_proof.specs.Link.{Setting, setting, Leads}
+use Rattle.circ_proof.specs.Justified.{ChainLeads, Justified, EachJustified, AllOfWhy, AllOfWhys}
+use Rattle.circ_proof.proofs.Cases.{cases_listed}
 use Rattle.circ_rewrite.specs.Links.{IsRuleOf}
 use Rattle.circ_rewrite.specs.declared.parts.Rule.{Rule}
 use Rattle.circ_plain_search.specs.Joining.{and_then, is_open, first_open, first_open_in}

@@ -8,11 +8,11 @@ use Rattle.circ_theory.specs.WellFormed.{IsWellFormed}
 use Rattle.circ_theory.specs.Fresh.{derivatives_of}
 use Rattle.circ_theory.specs.declared.parts.Goal.{Goal}
 use Rattle.circ_special.specs.declared.place.Place.{Place}
-use Rattle.circ_replay.specs.Goals.{sides, AreSortedGoals}
-use Rattle.circ_replay.specs.Link.{setting}
-use Rattle.circ_rules.specs.Rules.{State, IsSortedState, ProofStep, Simplify, Reduce, Derive, Done, AllOfStep, StepOn, StepsOf, IsDerivable, derived_goal, fresh_in, derivatives_on}
-use Rattle.circ_rules.proofs.Sorted.{sorted_first}
-use Rattle.circ_rules.proofs.Stepping.{step_sorted}
+use Rattle.circ_proof.specs.Goals.{sides, AreSortedGoals}
+use Rattle.circ_proof.specs.Link.{setting}
+use Rattle.circ_proof.specs.Rules.{State, IsSortedState, ProofStep, Simplify, Reduce, Derive, Done, AllOfStep, StepOn, StepsOf, IsDerivable, derived_goal, fresh_in, derivatives_on}
+use Rattle.circ_proof.proofs.Sorted.{sorted_first}
+use Rattle.circ_proof.proofs.Stepping.{step_sorted}
 use Rattle.circ_term.specs.Limits.{IsWithinLimits}
 use Rattle.circ_plain_search.proofs.Led.{all_append}
 use Rattle.circ_plain_search.proofs.Splits.{FitsIn}

@@ -6,15 +6,15 @@ use Rattle.circ_term.specs.Tree.{Tree, Trees, Var, App, none, more, list_of}
 use Rattle.circ_theory.specs.Theory.{Theory}
 use Rattle.circ_theory.specs.Rewriting.{named}
 use Rattle.circ_theory.proofs.Lists.{all_push}
-use Rattle.circ_replay.specs.Plain.{LinkOf, Equation_link, Hypothesis_link, Assumption_link, Content_link, ChainOf, WhyOf, WhysOf, Same_why, Split_why, no_why, more_whys, map_link, map_chain, map_why, map_whys}
-use Rattle.circ_replay.specs.Growing.{Continues}
-use Rattle.circ_replay.specs.Link.{AllOfLink, AllOfLinks}
-use Rattle.circ_replay.specs.Justified.{AllOfChain, AllOfWhy, AllOfWhys}
-use Rattle.circ_replay.specs.Table.{has, number_in, entered, added, all_added}
-use Rattle.circ_replay.proofs.Tables.{has_front, number_names, continues_self, continues_more, added_continues, added_has, all_added_have}
-use Rattle.circ_rules.specs.Rules.{ProofStep, Simplify, Reduce, Derive, Done, map_step, AllOfStep}
-use Rattle.circ_rules.specs.Proof.{IsEntry, AreEntries}
-use Rattle.circ_rules.proofs.FewPlaces.{slice_bound}
+use Rattle.circ_proof.specs.Plain.{LinkOf, Equation_link, Hypothesis_link, Assumption_link, Content_link, ChainOf, WhyOf, WhysOf, Same_why, Split_why, no_why, more_whys, map_link, map_chain, map_why, map_whys}
+use Rattle.circ_proof.specs.Table.{Continues}
+use Rattle.circ_proof.specs.Link.{AllOfLink, AllOfLinks}
+use Rattle.circ_proof.specs.Justified.{AllOfChain, AllOfWhy, AllOfWhys}
+use Rattle.circ_proof.specs.Table.{has, number_in, entered, added, all_added}
+use Rattle.circ_proof.proofs.Tables.{has_front, number_names, continues_self, continues_more, added_continues, added_has, all_added_have}
+use Rattle.circ_proof.specs.Rules.{ProofStep, Simplify, Reduce, Derive, Done, map_step, AllOfStep}
+use Rattle.circ_proof.specs.Proof.{IsEntry, AreEntries}
+use Rattle.circ_proof.proofs.FewPlaces.{slice_bound}
 use Rattle.circ_plain_search.specs.Numbering.{asked_for}
 use Rattle.circ_plain_search.proofs.Terms.{Fine, FineTerms, args_fine}
 use Rattle.circ_plain_search.proofs.Runs.{most}

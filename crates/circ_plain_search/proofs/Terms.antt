@@ -21,8 +21,8 @@ use Rattle.circ_theory.proofs.Sorting.{arg_well_sorted, at_sorted}
 use Rattle.circ_aci.specs.Content.{put_term, sorted_terms, settled, leaves, content}
 use Rattle.circ_aci.specs.Canonical.{join, canonical, canonical_under}
 use Rattle.circ_match.specs.Matcher.{has_variable, have_variable}
-use Rattle.circ_rules.specs.Proof.{IsPath}
-use Rattle.circ_rules.proofs.FewPlaces.{slice_bound}
+use Rattle.circ_proof.specs.Proof.{IsPath}
+use Rattle.circ_proof.proofs.FewPlaces.{slice_bound}
 
 -- each variable's number is below m
 pub record Fine (th : Theory) (m : ℕ) (t : Tree) : Type 0 where

@@ -14,15 +14,15 @@ use Rattle.circ_theory.proofs.Casing.{hidden_tells}
 use Rattle.circ_theory.proofs.Lists.{all_by, slice_get-front}
 use Rattle.circ_theory.proofs.Rewriting.{contains_at}
 use Rattle.circ_special.specs.declared.place.Place.{Place}
-use Rattle.circ_replay.specs.Plain.{LinkOf, ChainOf, WhyOf, WhysOf, Same_why, Split_why, no_why, more_whys}
-use Rattle.circ_replay.specs.Goals.{goal, sides, IsWellSortedGoal, AreSortedGoals}
-use Rattle.circ_replay.specs.Runs.{Runs}
-use Rattle.circ_replay.specs.Link.{Setting, setting, Leads, AllOfLinks}
-use Rattle.circ_replay.specs.Justified.{Justified, AllOfChain, AllOfWhy, AllOfWhys}
-use Rattle.circ_replay.proofs.Cases.{cases_listed}
-use Rattle.circ_rules.specs.Rules.{ProofStep, Simplify, Reduce, Derive, Done, derivatives_on}
-use Rattle.circ_rules.specs.Proof.{step_limit, split_limit}
-use Rattle.circ_rules.proofs.Sorted.{sorted_append, sorted_more, sorted_none}
+use Rattle.circ_proof.specs.Plain.{LinkOf, ChainOf, WhyOf, WhysOf, Same_why, Split_why, no_why, more_whys}
+use Rattle.circ_proof.specs.Goals.{goal, sides, IsWellSortedGoal, AreSortedGoals}
+use Rattle.circ_proof.specs.Runs.{Runs}
+use Rattle.circ_proof.specs.Link.{Setting, setting, Leads, AllOfLinks}
+use Rattle.circ_proof.specs.Justified.{Justified, AllOfChain, AllOfWhy, AllOfWhys}
+use Rattle.circ_proof.proofs.Cases.{cases_listed}
+use Rattle.circ_proof.specs.Rules.{ProofStep, Simplify, Reduce, Derive, Done, derivatives_on}
+use Rattle.circ_proof.specs.Proof.{step_limit, split_limit}
+use Rattle.circ_proof.proofs.Sorted.{sorted_append, sorted_more, sorted_none}
 use Rattle.circ_rewrite.specs.Links.{IsRuleOf}
 use Rattle.circ_plain_search.specs.BlockRules.{block_rules, hidden_lemmas}
 use Rattle.circ_plain_search.specs.Joining.{Stop, HypothesisUse, use_link, joined, and_then, put_all, put_counted}

@@ -10,7 +10,7 @@ use Rattle.circ_special.specs.declared.place.Place.{Place}
 use Rattle.circ_special.specs.Special.{IsPlace}
 use Rattle.circ_rewrite.specs.Norm.{Normalised, Normal_form, Budget_spent, Limit_passed, norm}
 use Rattle.circ_rewrite.specs.Replacement.{Traced}
-use Rattle.circ_rules.specs.Certified.{start_term, due}
+use Rattle.circ_proof.specs.Certified.{start_term, due}
 use Rattle.circ_rewrite.specs.TheoryRules.{theory_rules}
 use Rattle.circ_plain_search.specs.Greatest.{HasNormalForm, AreTraces, GreatestSpecialSet}
 use Rattle.circ_plain_search.proofs.Increasing.{same_places}

@@ -19,9 +19,9 @@ use Rattle.circ_theory.proofs.Rewriting.{contains_at, given_substitution}
 use Rattle.circ_theory.proofs.Sorting.{KeepsSort, replaced_sorted, sorted_to, sort_instances}
 use Rattle.circ_special.specs.declared.place.Place.{Place}
 use Rattle.circ_special.specs.Special.{IsSpecial}
-use Rattle.circ_replay.specs.Plain.{LinkOf}
-use Rattle.circ_replay.specs.Goals.{sides, AreSortedGoals}
-use Rattle.circ_replay.specs.Link.{Setting, setting}
+use Rattle.circ_proof.specs.Plain.{LinkOf}
+use Rattle.circ_proof.specs.Goals.{sides, AreSortedGoals}
+use Rattle.circ_proof.specs.Link.{Setting, setting}
 use Rattle.circ_plain_search.specs.Joining.{Stop, HypothesisUse, use_link, pair_variables, and_then, within_or, put_in, put, put_all}
 use Rattle.circ_plain_search.proofs.Terms.{Fine, FineTerms, replaced_low}
 use Rattle.circ_plain_search.proofs.Led.{Led, led_none, led_append}

@@ -3,9 +3,9 @@ use Rattle.std.specs.Prelude.{◌≡◌, ◌≤◌, ◌+◌, ◌^◌, List, leng
 use Rattle.circ_theory.specs.Theory.{Theory}
 use Rattle.circ_theory.specs.declared.parts.Goal.{Goal}
 use Rattle.circ_special.specs.declared.place.Place.{Place}
-use Rattle.circ_replay.specs.Goals.{IsWellSortedGoal}
-use Rattle.circ_rules.specs.Rules.{fresh_in}
-use Rattle.circ_rules.specs.Proof.{step_limit}
+use Rattle.circ_proof.specs.Goals.{IsWellSortedGoal}
+use Rattle.circ_proof.specs.Rules.{fresh_in}
+use Rattle.circ_proof.specs.Proof.{step_limit}
 use Rattle.circ_plain_search.specs.Search.{Limits, Standing, turn}
 
 -- From the first standing the search comes to the second, turn by turn.

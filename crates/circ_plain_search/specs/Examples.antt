@@ -8,8 +8,8 @@ use Rattle.circ_theory.specs.declared.parts.Goal.{Goal}
 use Rattle.circ_special.specs.declared.place.Place.{Place}
 use Rattle.circ_special.specs.Special.{place}
 use Rattle.circ_theory.specs.declared.way.Way.TheVariants.{Forth}
-use Rattle.circ_replay.specs.Plain.{Equation_link}
-use Rattle.circ_replay.specs.Goals.{goal}
+use Rattle.circ_proof.specs.Plain.{Equation_link}
+use Rattle.circ_proof.specs.Goals.{goal}
 use Rattle.circ_plain_search.specs.Search.{Limits, Standing, Ending, turn, start}
 use Rattle.circ_plain_search.specs.Numbering.{Found, Special, special, found_of}
 

@@ -9,7 +9,7 @@ use Rattle.circ_special.specs.Special.{IsPlace, IsIncreasing, IsWithin}
 use Rattle.circ_special.specs.Guarded.{Guarded}
 use Rattle.circ_rewrite.specs.Norm.{Normal_form, norm}
 use Rattle.circ_rewrite.specs.Replacement.{Traced}
-use Rattle.circ_rules.specs.Certified.{start_term, derivatives_at, due}
+use Rattle.circ_proof.specs.Certified.{start_term, derivatives_at, due}
 use Rattle.circ_rewrite.specs.TheoryRules.{theory_rules}
 
 -- The start term of a place and a derivative is within the limits, and the theory's rules, with this budget for it alone, lead it to this normal

@@ -13,8 +13,8 @@ use Rattle.circ_theory.specs.declared.parts.Goal.{Goal}
 use Rattle.circ_theory.specs.declared.way.Way.{Way}
 use Rattle.circ_theory.specs.declared.way.Way.TheVariants.{Forth, Back}
 use Rattle.circ_special.specs.declared.place.Place.{Place}
-use Rattle.circ_replay.specs.Plain.{LinkOf, Hypothesis_link}
-use Rattle.circ_replay.specs.Goals.{sides}
+use Rattle.circ_proof.specs.Plain.{LinkOf, Hypothesis_link}
+use Rattle.circ_proof.specs.Goals.{sides}
 use Rattle.circ_rewrite.specs.Matching.{image, matching, matches}
 use Rattle.circ_rewrite.specs.Due.{rule_variables, terms_by}
 use Rattle.circ_rewrite.specs.declared.parts.Rule.{Rule}

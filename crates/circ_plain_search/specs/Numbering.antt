@@ -3,11 +3,11 @@ use Rattle.std.specs.Prelude.{ℕ, ◌+◌, Bool, true, false, if◌then◌else�
 use Rattle.circ_term.specs.Tree.{Tree}
 use Rattle.circ_theory.specs.declared.parts.Goal.{Goal}
 use Rattle.circ_special.specs.declared.place.Place.{Place}
-use Rattle.circ_replay.specs.Plain.{LinkOf, ChainOf, WhyOf, WhysOf, Same_why, Split_why, no_why, more_whys, map_link}
-use Rattle.circ_replay.specs.Link.{terms_of}
-use Rattle.circ_replay.specs.Table.{added, number_in, term_limit}
-use Rattle.circ_rules.specs.Rules.{ProofStep, Simplify, Reduce, Derive, Done, map_step}
-use Rattle.circ_rules.specs.Proof.{Block, Proof}
+use Rattle.circ_proof.specs.Plain.{LinkOf, ChainOf, WhyOf, WhysOf, Same_why, Split_why, no_why, more_whys, map_link}
+use Rattle.circ_proof.specs.Link.{terms_of}
+use Rattle.circ_proof.specs.Table.{added, number_in, term_limit}
+use Rattle.circ_proof.specs.Rules.{ProofStep, Simplify, Reduce, Derive, Done, map_step}
+use Rattle.circ_proof.specs.Proof.{Block, Proof}
 use Rattle.circ_plain_search.specs.Search.{ProvedBlock, Ending, All_done, Is_stuck, Is_spent, Is_too_big, Is_too_deep}
 
 -- the table of a builder that is asked for these terms, one after another

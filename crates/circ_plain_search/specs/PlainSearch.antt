@@ -5,12 +5,12 @@ use Rattle.circ_term.specs.Limits.{IsWithinLimits}
 use Rattle.circ_theory.specs.Theory.{Theory}
 use Rattle.circ_theory.specs.declared.parts.Goal.{Goal}
 use Rattle.circ_special.specs.declared.place.Place.{Place}
-use Rattle.circ_replay.specs.Goals.{IsWellSortedGoal}
+use Rattle.circ_proof.specs.Goals.{IsWellSortedGoal}
 use Rattle.circ_rewrite.specs.Links.{link_of}
 use Rattle.circ_rewrite.specs.Replacement.{Traced}
-use Rattle.circ_rules.specs.Accepted.{Accepted}
-use Rattle.circ_rules.specs.Proof.{Proof, ProofFor}
-use Rattle.circ_rules.specs.Rules.{fresh_in}
+use Rattle.circ_proof.specs.Accepted.{Accepted}
+use Rattle.circ_proof.specs.Proof.{Proof, ProofFor}
+use Rattle.circ_proof.specs.Rules.{fresh_in}
 use Rattle.circ_plain_search.specs.Greatest.{GreatestSpecialSet}
 use Rattle.circ_plain_search.specs.Search.{Limits, Ending, Reaches, start}
 use Rattle.circ_plain_search.specs.Numbering.{Found, special, found_of}

@@ -9,13 +9,13 @@ use Rattle.circ_theory.specs.Theory.{Theory}
 use Rattle.circ_theory.specs.Observing.{cases_of, is_hidden}
 use Rattle.circ_theory.specs.declared.parts.Goal.{Goal}
 use Rattle.circ_special.specs.declared.place.Place.{Place}
-use Rattle.circ_replay.specs.Plain.{LinkOf, Equation_link, Hypothesis_link, Assumption_link, Content_link, ChainOf, WhyOf, WhysOf, Same_why, Split_why, no_why, more_whys}
-use Rattle.circ_replay.specs.Goals.{goal}
+use Rattle.circ_proof.specs.Plain.{LinkOf, Equation_link, Hypothesis_link, Assumption_link, Content_link, ChainOf, WhyOf, WhysOf, Same_why, Split_why, no_why, more_whys}
+use Rattle.circ_proof.specs.Goals.{goal}
 use Rattle.circ_rewrite.specs.Norm.{Normalised, Normal_form, Budget_spent, Limit_passed, norm}
 use Rattle.circ_rewrite.specs.Links.{link_of}
 use Rattle.circ_rewrite.specs.declared.parts.Rule.{Rule}
-use Rattle.circ_rules.specs.Rules.{ProofStep, Simplify, Reduce, Derive, Done, derivatives_on}
-use Rattle.circ_rules.specs.Proof.{split_limit, step_limit}
+use Rattle.circ_proof.specs.Rules.{ProofStep, Simplify, Reduce, Derive, Done, derivatives_on}
+use Rattle.circ_proof.specs.Proof.{split_limit, step_limit}
 use Rattle.circ_plain_search.specs.Joining.{Stop, No_budget, Past_limit, Not_split, and_then, HypothesisUse, use_link, joined, swept, put_all, put_counted, first_open}
 use Rattle.circ_plain_search.specs.BlockRules.{block_rules, hidden_lemmas}
 

@@ -1,11 +1,11 @@
 //! Examples that try the definition of the search: what is found is computed.
 ghost use Rattle.std.specs.Prelude.{◌≡◌, List, [], ◌∷◌, Option, Some};
 ghost use Rattle.circ_theory.specs.declared.way.Way.TheVariants.{Forth};
-ghost use Rattle.circ_replay.specs.Goals.{goal};
-ghost use Rattle.circ_replay.specs.Plain.{Equation_link, Hypothesis_link};
-ghost use Rattle.circ_replay.specs.Plain.{Assumption_link, Same_why, Split_why};
-ghost use Rattle.circ_replay.specs.Plain.{no_why, more_whys};
-ghost use Rattle.circ_rules.specs.Rules.{Reduce, Derive, Done};
+ghost use Rattle.circ_proof.specs.Goals.{goal};
+ghost use Rattle.circ_proof.specs.Plain.{Equation_link, Hypothesis_link};
+ghost use Rattle.circ_proof.specs.Plain.{Assumption_link, Same_why, Split_why};
+ghost use Rattle.circ_proof.specs.Plain.{no_why, more_whys};
+ghost use Rattle.circ_proof.specs.Rules.{Reduce, Derive, Done};
 ghost use Rattle.circ_plain_search.specs.Numbering.{Proved, Stuck, Spent};
 ghost use Rattle.circ_special.specs.Special.{place};
 ghost use Rattle.circ_plain_search.specs.Numbering.{special};

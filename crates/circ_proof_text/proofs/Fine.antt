@@ -4,11 +4,11 @@ use Rattle.std.specs.List.{AllByRecursion, list_all}
 use Rattle.std.proofs.Common.{sym, ◌∙◌, ap, subst, arith}
 use Rattle.std.proofs.lemmas.Bool.{and_parts, and_from, ltb-true, ltb-false, lt-ltb, le-ltb}
 use Rattle.circ_theory.specs.Theory.{Theory}
-use Rattle.circ_replay.specs.Plain.{LinkOf, Equation_link, Hypothesis_link, Assumption_link, Content_link, ChainOf}
-use Rattle.circ_replay.specs.Plain.{WhyOf, WhysOf, Same_why, Split_why, no_why, more_whys}
-use Rattle.circ_replay.specs.Table.{term_limit}
-use Rattle.circ_rules.specs.Proof.{IsNumber, IsPath, IsLinkFor, AreLinksFor, IsChainFor, IsWhyFor, AreWhysFor, split_limit}
-use Rattle.circ_rules.specs.Proof as rules
+use Rattle.circ_proof.specs.Plain.{LinkOf, Equation_link, Hypothesis_link, Assumption_link, Content_link, ChainOf}
+use Rattle.circ_proof.specs.Plain.{WhyOf, WhysOf, Same_why, Split_why, no_why, more_whys}
+use Rattle.circ_proof.specs.Table.{term_limit}
+use Rattle.circ_proof.specs.Proof.{IsNumber, IsPath, IsLinkFor, AreLinksFor, IsChainFor, IsWhyFor, AreWhysFor, split_limit}
+use Rattle.circ_proof.specs.Proof as rules
 use Rattle.circ_line.specs.Line.{Line, same_line, split_line}
 use Rattle.circ_line.specs.Text.{IsInRange, AreNumbers, IsLinkInRange}
 use Rattle.circ_grammar.specs.Grammar.{lines_of, left_lines, right_lines, chain_lines, why_count, why_lines, whys_lines}

@@ -7,9 +7,9 @@ use Rattle.circ_term.specs.Tree.{Tree, sort_of}
 use Rattle.circ_theory.specs.Theory.{Theory}
 use Rattle.circ_theory.specs.Rewriting.{named}
 use Rattle.circ_special.specs.declared.place.Place.{Place}
-use Rattle.circ_replay.specs.Table.{term_limit}
-use Rattle.circ_rules.specs.Certified.{due}
-use Rattle.circ_rules.specs.Proof.{IsChainFor, IsWhyFor, IsNameFor, split_limit, step_limit}
+use Rattle.circ_proof.specs.Table.{term_limit}
+use Rattle.circ_proof.specs.Certified.{due}
+use Rattle.circ_proof.specs.Proof.{IsChainFor, IsWhyFor, IsNameFor, split_limit, step_limit}
 use Rattle.circ_line.specs.Line.{Line, done_line, end_line}
 use Rattle.circ_grammar.specs.Grammar.{NumberedStep, Simplify_step, Reduce_step, Derive_step, NumberedBlock, lines_of, goal_lines, step_lines, block_lines}
 use Rattle.circ_proof_text.specs.Checks.{Seen, is_goal}

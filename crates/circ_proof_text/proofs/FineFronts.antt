@@ -11,10 +11,10 @@ use Rattle.circ_theory.specs.WellFormed.{IsWellFormed}
 use Rattle.circ_theory.proofs.Lists.{all_push}
 use Rattle.circ_special.specs.declared.place.Place.{Place}
 use Rattle.circ_special.specs.Special.{IsPlace, IsIncreasing}
-use Rattle.circ_replay.specs.Plain.{LinkOf}
-use Rattle.circ_replay.specs.Table.{number_in, term_limit}
-use Rattle.circ_rules.specs.Certified.{due}
-use Rattle.circ_rules.specs.Proof.{IsNumber, AreLinksFor, IsEntry, AreEntries}
+use Rattle.circ_proof.specs.Plain.{LinkOf}
+use Rattle.circ_proof.specs.Table.{number_in, term_limit}
+use Rattle.circ_proof.specs.Certified.{due}
+use Rattle.circ_proof.specs.Proof.{IsNumber, AreLinksFor, IsEntry, AreEntries}
 use Rattle.circ_line.specs.Line.{TableLine, Line, table_line}
 use Rattle.circ_line.specs.Text.{IsInRange, AreNumbers}
 use Rattle.circ_grammar.specs.Grammar.{lines_of, table_lines, place_lines, certificate_lines}
@@ -23,7 +23,7 @@ use Rattle.circ_proof_text.specs.Checks.{with_term, is_place, is_next, is_too_la
 use Rattle.circ_proof_text.specs.ProofText.{place_numbers}
 use Rattle.circ_proof_text.specs.Parts.{place_with}
 use Rattle.circ_proof_text.proofs.TableText.{Have, number_there, HasEntry, is_entry, entry_args, entry_term, term_entry}
-use Rattle.circ_rules.proofs.FewPlaces.{slice_bound}
+use Rattle.circ_proof.proofs.FewPlaces.{slice_bound}
 use Rattle.circ_proof_text.proofs.Places.{place_tells, place_numbers_in_range, increasing_push, increasing_next}
 use Rattle.circ_proof_text.proofs.Fine.{AllFine, is_number, lefts_to, lefts_from}
 use Rattle.circ_proof_text.proofs.FineBlocks.{seen}

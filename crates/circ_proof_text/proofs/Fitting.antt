@@ -8,11 +8,11 @@ use Rattle.circ_term.specs.Tree.{Tree}
 use Rattle.circ_theory.specs.Theory.{Theory}
 use Rattle.circ_theory.specs.WellFormed.{IsWellFormed}
 use Rattle.circ_special.specs.declared.place.Place.{Place}
-use Rattle.circ_replay.specs.Plain.{LinkOf}
-use Rattle.circ_replay.specs.Table.{term_limit}
-use Rattle.circ_rules.specs.Rules.{Simplify, Reduce, Derive, Done}
-use Rattle.circ_rules.specs.Certified.{due}
-use Rattle.circ_rules.specs.Proof.{AreLinksFor, goal_of, step_limit, Proof, ProofFor}
+use Rattle.circ_proof.specs.Plain.{LinkOf}
+use Rattle.circ_proof.specs.Table.{term_limit}
+use Rattle.circ_proof.specs.Rules.{Simplify, Reduce, Derive, Done}
+use Rattle.circ_proof.specs.Certified.{due}
+use Rattle.circ_proof.specs.Proof.{AreLinksFor, goal_of, step_limit, Proof, ProofFor}
 use Rattle.circ_line.specs.Line.{Line, block_line, simplify_line, reduce_line, end_line}
 use Rattle.circ_grammar.specs.Grammar.{NumberedStep, Simplify_step, Reduce_step, Derive_step}
 use Rattle.circ_grammar.specs.Grammar.{NumberedBlock, NumberedProof, lines_of, place_lines, goal_lines}
@@ -30,7 +30,7 @@ use Rattle.circ_proof_text.specs.TableText.{entries_of}
 use Rattle.circ_proof_text.specs.Checks.{nothing}
 use Rattle.circ_proof_text.specs.ProofText.{numbers_of}
 use Rattle.circ_proof_text.specs.Parts.{Part, Head, Certificate, Goals, Step, parts_of, place_with, part_with}
-use Rattle.circ_rules.specs.Fitting.{IsHeadFor, FitSteps, FitBlocks, FitRest, Fit}
+use Rattle.circ_proof.specs.Fitting.{IsHeadFor, FitSteps, FitBlocks, FitRest, Fit}
 use Rattle.circ_proof_text.proofs.TableText.{one_table}
 use Rattle.circ_proof_text.proofs.Fine.{AllFine}
 use Rattle.circ_proof_text.proofs.FineBlocks.{seen, IsNumberedStepFor, IsNumberedBlockFor, numbered_steps_in, steps_to, names_to, blocks_to}

@@ -4,7 +4,7 @@ use Rattle.std.proofs.Common.{sym, ◌∙◌, ap, subst, arith, append_assoc, ap
 use Rattle.std.proofs.lemmas.List.{map-append}
 use Rattle.circ_theory.specs.Theory.{Theory}
 use Rattle.circ_theory.specs.WellFormed.{IsWellFormed}
-use Rattle.circ_rules.specs.Proof.{Proof}
+use Rattle.circ_proof.specs.Proof.{Proof}
 use Rattle.circ_line.specs.Line.{TableLine, Line}
 use Rattle.circ_line.specs.Text.{line_text}
 use Rattle.circ_grammar.specs.Grammar.{proof_lines}
@@ -19,7 +19,7 @@ use Rattle.circ_grammar.proofs.ShownBy.{shown_is}
 use Rattle.circ_proof_text.specs.TableText.{entries_of}
 use Rattle.circ_proof_text.specs.ProofText.{numbers_of, line_tests, ReadsAsProof}
 use Rattle.circ_proof_text.specs.Parts.{Part, part_with, parts_of}
-use Rattle.circ_rules.specs.Fitting.{Fit}
+use Rattle.circ_proof.specs.Fitting.{Fit}
 use Rattle.circ_proof_text.specs.Reading.{Reading, StandsFor}
 use Rattle.circ_proof_text.proofs.TableText.{one_table}
 use Rattle.circ_proof_text.proofs.FineFronts.{HaveTerms}

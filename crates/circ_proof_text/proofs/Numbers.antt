@@ -6,10 +6,10 @@ use Rattle.circ_term.specs.Tree.{Tree}
 use Rattle.circ_theory.specs.Theory.{Theory}
 use Rattle.circ_theory.specs.WellFormed.{IsWellFormed}
 use Rattle.circ_special.specs.declared.place.Place.{Place}
-use Rattle.circ_replay.specs.Table.{term_limit}
-use Rattle.circ_rules.specs.Rules.{ProofStep, Simplify, Reduce, Derive, Done}
-use Rattle.circ_rules.specs.Certified.{due}
-use Rattle.circ_rules.specs.Proof.{Block, Proof, goal_of, IsStepFor, IsEnded, IsBlockFor, steps_in, step_limit, ProofFor}
+use Rattle.circ_proof.specs.Table.{term_limit}
+use Rattle.circ_proof.specs.Rules.{ProofStep, Simplify, Reduce, Derive, Done}
+use Rattle.circ_proof.specs.Certified.{due}
+use Rattle.circ_proof.specs.Proof.{Block, Proof, goal_of, IsStepFor, IsEnded, IsBlockFor, steps_in, step_limit, ProofFor}
 use Rattle.circ_line.specs.Line.{Line, end_line}
 use Rattle.circ_grammar.specs.Grammar.{NumberedStep, Simplify_step, Reduce_step, Derive_step, NumberedBlock, NumberedProof, lines_of, place_lines}
 use Rattle.circ_grammar.specs.Grammar.{certificate_lines, block_lines, proof_lines, HasGoals, HasParts}

@@ -5,9 +5,9 @@ use Rattle.std.proofs.Common.{sym, ◌∙◌, ap, append_assoc, append-nil}
 use Rattle.std.proofs.lemmas.List.{map-append}
 use Rattle.circ_term.specs.Tree.{Tree}
 use Rattle.circ_theory.specs.Theory.{Theory}
-use Rattle.circ_replay.specs.Plain.{LinkOf}
-use Rattle.circ_rules.specs.Rules.{ProofStep, Simplify, Reduce, Derive, Done}
-use Rattle.circ_rules.specs.Proof.{Block, Proof, goal_of, IsEnded, IsBlockFor, ProofFor}
+use Rattle.circ_proof.specs.Plain.{LinkOf}
+use Rattle.circ_proof.specs.Rules.{ProofStep, Simplify, Reduce, Derive, Done}
+use Rattle.circ_proof.specs.Proof.{Block, Proof, goal_of, IsEnded, IsBlockFor, ProofFor}
 use Rattle.circ_grammar.specs.Parts.{PartOf, Head_part, Certificate_part, Goals_part, Step_part, Done_part}
 use Rattle.circ_grammar.specs.Parts as grammar
 use Rattle.circ_grammar.specs.Now.{with_table}

@@ -12,8 +12,8 @@ use Rattle.circ_theory.proofs.Casing.{hidden_tells}
 use Rattle.circ_theory.proofs.Rewriting.{contains_at}
 use Rattle.circ_special.specs.declared.place.Place.{Place}
 use Rattle.circ_special.specs.Special.{IsPlace, IsIncreasing}
-use Rattle.circ_rules.specs.Proof.{IsNumber}
-use Rattle.circ_rules.proofs.FewPlaces.{slice_bound}
+use Rattle.circ_proof.specs.Proof.{IsNumber}
+use Rattle.circ_proof.proofs.FewPlaces.{slice_bound}
 use Rattle.circ_proof_text.specs.Checks.{is_place, is_next}
 
 -- The test tells what a place is.

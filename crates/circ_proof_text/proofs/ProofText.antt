@@ -3,7 +3,7 @@ use Rattle.std.specs.Prelude.{◌≡◌, ℕ, ◌++◌, List, [], ◌∷◌, ref
 use Rattle.std.proofs.Common.{sym, ◌∙◌, ap, subst}
 use Rattle.circ_theory.specs.Theory.{Theory}
 use Rattle.circ_theory.specs.WellFormed.{IsWellFormed}
-use Rattle.circ_rules.specs.Proof.{Proof, ProofFor}
+use Rattle.circ_proof.specs.Proof.{Proof, ProofFor}
 use Rattle.circ_line.specs.Line.{Line}
 use Rattle.circ_grammar.specs.Grammar.{NumberedProof, proof_lines}
 use Rattle.circ_grammar.specs.FirstBad.{file_text, AllInRange, AllPass, NoLimit, IsTextOf, LineFault}

@@ -14,11 +14,11 @@ use Rattle.circ_term.proofs.Order.{same_itself}
 use Rattle.circ_theory.specs.Signature.{Signature, Operator, IsWellSorted, HaveSorts}
 use Rattle.circ_theory.specs.Adding.{application}
 use Rattle.circ_theory.proofs.Lists.{all_at}
-use Rattle.circ_replay.specs.Table.{has, number_in}
-use Rattle.circ_replay.proofs.Tables.{number_names}
+use Rattle.circ_proof.specs.Table.{has, number_in}
+use Rattle.circ_proof.proofs.Tables.{number_names}
 use Rattle.circ_line.specs.Line.{TableLine, Variable_line, Application_line, table_line}
 use Rattle.circ_line.specs.Text.{IsInRange}
-use Rattle.circ_rules.specs.Proof.{IsEntry, AreEntries}
+use Rattle.circ_proof.specs.Proof.{IsEntry, AreEntries}
 use Rattle.circ_proof_text.specs.TableText.{first_at, firsts_at, term_for, entry_of, entries_of}
 
 -- each of these terms is in the table

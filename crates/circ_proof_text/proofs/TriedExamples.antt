@@ -2,7 +2,7 @@
 use Rattle.std.specs.Prelude.{◌≡◌, ℕ, List, [], ◌∷◌, ◌++◌, codes, refl, Some, map}
 use Rattle.std.proofs.Common.{sym, ◌∙◌, ap, arith}
 use Rattle.circ_theory.specs.Examples.{streams}
-use Rattle.circ_rules.specs.Proof.{ProofFor}
+use Rattle.circ_proof.specs.Proof.{ProofFor}
 use Rattle.circ_line.specs.Line.{Line, Variable_line, table_line, head_line}
 use Rattle.circ_line.specs.Read.{line_of}
 use Rattle.circ_line.proofs.LineTexts.{line_gives}

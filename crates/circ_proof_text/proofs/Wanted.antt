@@ -8,7 +8,7 @@ use Rattle.std.proofs.lemmas.Bool.{lt-ltb, le-ltb, eqb-true, eqb-false}
 use Rattle.std.proofs.lemmas.Option.{same_Some}
 use Rattle.circ_term.specs.Tree.{Tree}
 use Rattle.circ_theory.specs.Theory.{Theory}
-use Rattle.circ_replay.specs.Plain.{LinkOf, ChainOf, WhyOf, Same_why, Split_why, no_why}
+use Rattle.circ_proof.specs.Plain.{LinkOf, ChainOf, WhyOf, Same_why, Split_why, no_why}
 use Rattle.circ_line.specs.Line.{Line, head_line, table_line, place_line, certificate_line, block_line, goal_line, simplify_line, reduce_line, derive_line}
 use Rattle.circ_line.specs.Line.{done_line, same_line, split_line, left_line, right_line, end_line}
 use Rattle.circ_grammar.specs.Grammar.{why_count}

@@ -5,11 +5,11 @@ use Rattle.std.proofs.Common.{sym, ◌∙◌, ap, subst, arith, append_assoc, ap
 use Rattle.circ_term.specs.Tree.{Tree}
 use Rattle.circ_theory.specs.Theory.{Theory}
 use Rattle.circ_special.specs.declared.place.Place.{Place}
-use Rattle.circ_replay.specs.Plain.{LinkOf}
-use Rattle.circ_rules.specs.Rules.{ProofStep, Simplify, Reduce, Derive, Done}
-use Rattle.circ_rules.specs.Certified.{due}
-use Rattle.circ_rules.specs.Proof.{Block, Proof, AreLinksFor, IsStepFor, IsEnded, IsBlockFor, steps_in, step_limit, ProofFor}
-use Rattle.circ_rules.specs.Fitting.{FitSteps, FitBlocks, FitRest, Fit}
+use Rattle.circ_proof.specs.Plain.{LinkOf}
+use Rattle.circ_proof.specs.Rules.{ProofStep, Simplify, Reduce, Derive, Done}
+use Rattle.circ_proof.specs.Certified.{due}
+use Rattle.circ_proof.specs.Proof.{Block, Proof, AreLinksFor, IsStepFor, IsEnded, IsBlockFor, steps_in, step_limit, ProofFor}
+use Rattle.circ_proof.specs.Fitting.{FitSteps, FitBlocks, FitRest, Fit}
 use Rattle.circ_proof_text.specs.Parts.{Part, Head, Certificate, Goals, Step, certificate_parts, step_parts, block_parts, parts_of}
 
 -- the last of such a part and these

@@ -10,11 +10,11 @@ use Rattle.circ_theory.specs.Rewriting.{named}
 use Rattle.circ_theory.specs.Observing.{is_hidden}
 use Rattle.circ_special.specs.declared.place.Place.{Place}
 use Rattle.circ_special.specs.Special.{place, comes_before}
-use Rattle.circ_replay.specs.Plain.{LinkOf, Equation_link, Hypothesis_link, Assumption_link, Content_link}
-use Rattle.circ_replay.specs.Link.{terms_of}
-use Rattle.circ_replay.specs.Table.{term_limit}
-use Rattle.circ_rules.specs.Certified.{due}
-use Rattle.circ_rules.specs.Proof.{split_limit, step_limit}
+use Rattle.circ_proof.specs.Plain.{LinkOf, Equation_link, Hypothesis_link, Assumption_link, Content_link}
+use Rattle.circ_proof.specs.Link.{terms_of}
+use Rattle.circ_proof.specs.Table.{term_limit}
+use Rattle.circ_proof.specs.Certified.{due}
+use Rattle.circ_proof.specs.Proof.{split_limit, step_limit}
 use Rattle.circ_line.specs.Line.{Line, table_line, place_line, certificate_line, block_line, goal_line, simplify_line, reduce_line, derive_line}
 use Rattle.circ_line.specs.Line.{done_line, same_line, split_line, left_line, right_line}
 use Rattle.circ_proof_text.specs.TableText.{term_for}

@@ -3,10 +3,10 @@ use Rattle.std.specs.Prelude.{ℕ, List, [], ◌∷◌, ◌++◌, codes}
 use Rattle.circ_term.specs.Tree.{Tree, Var, App, none, more}
 use Rattle.circ_theory.specs.declared.way.Way.TheVariants.{Forth}
 use Rattle.circ_special.specs.Special.{place}
-use Rattle.circ_replay.specs.Plain.{LinkOf, Equation_link, Hypothesis_link, WhyOf, Same_why}
-use Rattle.circ_replay.specs.Goals.{goal}
-use Rattle.circ_rules.specs.Rules.{Reduce, Derive, Done}
-use Rattle.circ_rules.specs.Proof.{Proof}
+use Rattle.circ_proof.specs.Plain.{LinkOf, Equation_link, Hypothesis_link, WhyOf, Same_why}
+use Rattle.circ_proof.specs.Goals.{goal}
+use Rattle.circ_proof.specs.Rules.{Reduce, Derive, Done}
+use Rattle.circ_proof.specs.Proof.{Proof}
 
 abbrev pub by_links : (left right : List (LinkOf ℕ)) → WhyOf ℕ
 by_links ls rs = Same_why (record { left = ls; right = rs })

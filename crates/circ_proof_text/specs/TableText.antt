@@ -4,7 +4,7 @@ use Rattle.std.specs.Option.{option_and_then}
 use Rattle.circ_term.specs.Tree.{Tree, Var, App, list_of}
 use Rattle.circ_theory.specs.Signature.{Signature}
 use Rattle.circ_theory.specs.Adding.{application}
-use Rattle.circ_replay.specs.Table.{number_in}
+use Rattle.circ_proof.specs.Table.{number_in}
 pub use Rattle.circ_table.specs.Table.{first_at, firsts_at}
 use Rattle.circ_line.specs.Line.{TableLine, Variable_line, Application_line}
 

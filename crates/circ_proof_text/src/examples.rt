@@ -2,7 +2,7 @@
 ghost use Rattle.std.specs.Prelude.{◌≡◌, ℕ, List, [], ◌∷◌, ◌++◌, codes, true, false, Some, None};
 ghost use Rattle.circ_theory.specs.Examples.{streams};
 ghost use Rattle.circ_special.specs.Special.{place};
-ghost use Rattle.circ_rules.specs.Proof.{ProofFor};
+ghost use Rattle.circ_proof.specs.Proof.{ProofFor};
 ghost use Rattle.circ_line.specs.Line.{split_line, derive_line, certificate_line, block_line};
 ghost use Rattle.circ_grammar.specs.FirstBad.{Line_fault};
 ghost use Rattle.circ_proof_text.specs.TableText.{first_at};

@@ -7,7 +7,7 @@ ghost use Rattle.circ_theory.specs.Theory.{Theory};
 ghost use Rattle.circ_theory.specs.WellFormed.{IsWellFormed};
 ghost use Rattle.circ_special.specs.declared.place.Place.{Place};
 ghost use Rattle.circ_special.specs.Special.{IsPlace, IsIncreasing};
-ghost use Rattle.circ_rules.specs.Proof.{IsEntry, Proof, ProofFor};
+ghost use Rattle.circ_proof.specs.Proof.{IsEntry, Proof, ProofFor};
 ghost use Rattle.circ_line.specs.Line.{TableLine};
 ghost use Rattle.circ_grammar.specs.Grammar.{NumberedProof};
 ghost use Rattle.circ_grammar.specs.FirstBad.{IsTextOf, LineFault};

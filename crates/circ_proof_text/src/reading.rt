@@ -4,9 +4,9 @@ ghost use Rattle.std.specs.Prelude.{◌≡◌, ℕ, ◌+◌, true, false, List, 
 ghost use Rattle.std.specs.Prelude.{length, map, Some, None};
 ghost use Rattle.circ_theory.specs.Theory.{Theory};
 ghost use Rattle.circ_theory.specs.WellFormed.{IsWellFormed};
-ghost use Rattle.circ_replay.specs.Plain.{ChainOf};
-ghost use Rattle.circ_rules.specs.Proof.{Proof, ProofFor};
-ghost use Rattle.circ_rules.specs.Rules.{Done};
+ghost use Rattle.circ_proof.specs.Plain.{ChainOf};
+ghost use Rattle.circ_proof.specs.Proof.{Proof, ProofFor};
+ghost use Rattle.circ_proof.specs.Rules.{Done};
 ghost use Rattle.circ_line.specs.Line.{Line};
 ghost use Rattle.circ_line.specs.Text.{line_text, IsInRange};
 ghost use Rattle.circ_line.specs.Plain.{NoFeed, ReadsLine};
@@ -19,7 +19,7 @@ ghost use Rattle.circ_proof_text.specs.Checks.{passes_at, limit_at};
 ghost use Rattle.circ_proof_text.specs.ProofText.{numbers_of, ReadsAsProof, FirstCause};
 ghost use Rattle.circ_proof_text.specs.Parts.{Part, Step, part_with, parts_of, gathered};
 ghost use Rattle.circ_proof_text.specs.Parts.{nothing_gathered, gather_all};
-ghost use Rattle.circ_rules.specs.Fitting.{Fit};
+ghost use Rattle.circ_proof.specs.Fitting.{Fit};
 ghost use Rattle.circ_proof_text.specs.Reading.{Reading, kept, nothing_read, StandsFor};
 ghost use Rattle.circ_proof_text.specs.Reading.{after_line};
 

@@ -5,7 +5,7 @@ use Rattle.circ_record.specs.declared.links.TermChain.{TermChain}
 use Rattle.circ_record.specs.declared.links.TermWhy.{TermWhy, Same, Split, Split', Row_of-TermWhy, end_of-TermWhy, more_of-TermWhy}
 use Rattle.circ_record.specs.declared.links.TermWhy.{items-the_row-TermWhy, items_hidden-the_row-TermWhy-0}
 use Rattle.circ_term.specs.Tree.{Tree}
-use Rattle.circ_replay.specs.Plain.{Split_why, more_whys}
+use Rattle.circ_proof.specs.Plain.{Split_why, more_whys}
 use Rattle.circ_record.specs.Plain.{plain_term_chain, plain_term_why, plain_term_whys, plain_term_row}
 
 abbrev row_in : TermWhy → (n : Count) × Row_of-TermWhy n

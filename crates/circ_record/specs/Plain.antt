@@ -1,8 +1,8 @@
 -- What contracts see of links, chains, reasons and steps with terms.
 use Rattle.std.specs.Prelude.{List, [], ◌∷◌, map}
 use Rattle.circ_term.specs.Tree.{Tree}
-use Rattle.circ_replay.specs.Plain.{LinkOf, Equation_link, Hypothesis_link, Assumption_link, Content_link, ChainOf, WhyOf, WhysOf, Same_why, Split_why, no_why, more_whys}
-use Rattle.circ_rules.specs.Rules.{ProofStep, Simplify, Reduce, Derive, Done}
+use Rattle.circ_proof.specs.Plain.{LinkOf, Equation_link, Hypothesis_link, Assumption_link, Content_link, ChainOf, WhyOf, WhysOf, Same_why, Split_why, no_why, more_whys}
+use Rattle.circ_proof.specs.Rules.{ProofStep, Simplify, Reduce, Derive, Done}
 use Rattle.circ_record.specs.declared.links.TermLink.{TermLink}
 use Rattle.circ_record.specs.declared.links.TermLink.TheVariants as link
 use Rattle.circ_record.specs.declared.links.TermChain.{TermChain}

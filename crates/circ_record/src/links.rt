@@ -3,7 +3,7 @@ ghost use Rattle.std.specs.Prelude.{◌≡◌, map, IfOk};
 ghost use Rattle.circ_rewrite.specs.Plain.{plain_trace, plain_traces};
 ghost use Rattle.circ_rewrite.specs.Replacement.{By_rule};
 ghost use Rattle.circ_rewrite.specs.Links.{link_of, link_by};
-ghost use Rattle.circ_replay.specs.Plain.{Same_why, Split_why};
+ghost use Rattle.circ_proof.specs.Plain.{Same_why, Split_why};
 ghost use Rattle.circ_record.specs.Plain.{plain_term_link, plain_term_chain};
 ghost use Rattle.circ_record.specs.Plain.{plain_term_why, plain_term_whys};
 

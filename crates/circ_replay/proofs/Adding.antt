@@ -4,11 +4,12 @@ use Rattle.std.specs.List.{AllByRecursion}
 use Rattle.std.proofs.Common.{ap, sym, subst, ◌∙◌, arith, append_assoc, append-nil, get_or}
 use Rattle.circ_term.specs.Tree.{Tree, Trees, App, list_of, trees_of, list_of-trees_of}
 use Rattle.circ_term.proofs.Within.{drop_read}
-use Rattle.circ_replay.specs.Table.{has, number_in, entered, added, all_added, Numbers, term_limit}
-use Rattle.circ_replay.specs.Growing.{Continues, SoFar, NumbersSoFar}
+use Rattle.circ_proof.specs.Table.{has, number_in, entered, added, all_added, Numbers, term_limit}
+use Rattle.circ_proof.specs.Table.{Continues}
+use Rattle.circ_replay.specs.Growing.{SoFar, NumbersSoFar}
 use Rattle.circ_replay.specs.Roots.{application, HasRoot}
-use Rattle.circ_replay.proofs.Tables.{added_has, all_added_have, added_continues, all_added_continues}
-use Rattle.circ_replay.proofs.Tables.{continues_self, continues_more, continues_length, number_stays}
+use Rattle.circ_proof.proofs.Tables.{added_has, all_added_have, added_continues, all_added_continues}
+use Rattle.circ_proof.proofs.Tables.{continues_self, continues_more, continues_length, number_stays}
 
 pub too_many : (table : List Tree) (t : Tree) (ts : Trees) → term_limit < length (added table t) → term_limit < length (all_added (added table t) ts)
 too_many table t ts h =

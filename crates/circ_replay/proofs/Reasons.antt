@@ -7,13 +7,13 @@ use Rattle.circ_theory.specs.Observing.{cases_of, case_list}
 use Rattle.circ_theory.specs.Rewriting.{named}
 use Rattle.circ_theory.specs.WellFormed.{IsWellFormed}
 use Rattle.circ_theory.specs.declared.parts.Goal.{Goal}
-use Rattle.circ_replay.specs.declared.links.Why.{Why}
-use Rattle.circ_replay.specs.Plain.{ChainOf, WhyOf, WhysOf, Same_why, Split_why, no_why, more_whys, map_whys, plain_why, plain_whys}
-use Rattle.circ_replay.specs.Goals.{sides}
-use Rattle.circ_replay.specs.Link.{Setting, Leads}
-use Rattle.circ_replay.specs.Justified.{Justified, EachJustified, ChainLeads, AllOfWhy, AllOfWhys}
-use Rattle.circ_replay.proofs.Leading.{one_chain}
-use Rattle.circ_replay.proofs.Cases.{cases_listed, listed_cases, no_cases}
+use Rattle.circ_proof.specs.declared.links.Why.{Why}
+use Rattle.circ_proof.specs.Plain.{ChainOf, WhyOf, WhysOf, Same_why, Split_why, no_why, more_whys, map_whys, plain_why, plain_whys}
+use Rattle.circ_proof.specs.Goals.{sides}
+use Rattle.circ_proof.specs.Link.{Setting, Leads}
+use Rattle.circ_proof.specs.Justified.{Justified, EachJustified, ChainLeads, AllOfWhy, AllOfWhys}
+use Rattle.circ_proof.proofs.Leading.{one_chain}
+use Rattle.circ_proof.proofs.Cases.{cases_listed, listed_cases, no_cases}
 
 pub if_tells : {E : Type 0} (r : Result Bool E) (P Q : Bool → Type 0) → IfOk r P → ((b : Bool) → P b → Q b) → IfOk r Q
 if_tells (Ok b) P Q h f = f b h

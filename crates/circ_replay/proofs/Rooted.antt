@@ -14,9 +14,9 @@ use Rattle.circ_term.proofs.Order.{same_here, same_itself}
 use Rattle.circ_replay.specs.declared.table.Root.{Root}
 use Rattle.circ_replay.specs.declared.table.Root.TheVariants.{Variable, Application}
 use Rattle.circ_replay.specs.contracts.table.RootPartialEq.TheImpl.{eq-value}
-use Rattle.circ_replay.specs.Table.{has, number_in, entered, AreNext, term_limit}
+use Rattle.circ_proof.specs.Table.{has, number_in, entered, AreNext, term_limit}
 use Rattle.circ_replay.specs.Roots.{PlainRoot, variable, application, plain_root, root_in, HasRoot, AreRoots, IsKept}
-use Rattle.circ_replay.proofs.Tables.{has_front, number_names, number_stays, number_bound, number_absent}
+use Rattle.circ_proof.proofs.Tables.{has_front, number_names, number_stays, number_bound, number_absent}
 
 abbrev Have : List Tree → List Tree → Type 0
 Have table ts = AllByRecursion (λ a. has table a ≡ true) ts

@@ -5,12 +5,12 @@ use Rattle.std.specs.Option.{IfSome}
 use Rattle.std.proofs.lemmas.List.{drop_all}
 use Rattle.circ_term.specs.Tree.{Tree}
 use Rattle.circ_term.proofs.Within.{drop_read}
-use Rattle.circ_replay.specs.declared.links.Link.{Link}
-use Rattle.circ_replay.specs.Plain.{LinkOf, plain_link, plain_links}
-use Rattle.circ_replay.specs.Runs.{Runs}
-use Rattle.circ_replay.specs.Link.{Setting, Leads, resolved_link, resolved_links, AllOfLink, AllOfLinks}
+use Rattle.circ_proof.specs.declared.links.Link.{Link}
+use Rattle.circ_proof.specs.Plain.{LinkOf, plain_link, plain_links}
+use Rattle.circ_proof.specs.Runs.{Runs}
+use Rattle.circ_proof.specs.Link.{Setting, Leads, resolved_link, resolved_links, AllOfLink, AllOfLinks}
 use Rattle.circ_replay.specs.Following.{Follows, FollowsAll}
-use Rattle.circ_replay.proofs.Leading.{one_link}
+use Rattle.circ_proof.proofs.Leading.{one_link}
 
 -- the links from one on
 abbrev pub links_from : (table : List Tree) → List Link → ℕ → List (LinkOf Tree)

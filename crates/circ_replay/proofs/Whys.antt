@@ -1,11 +1,11 @@
 -- What contracts see of a split whose whys lie in a vector.
 use Rattle.std.proofs.Common.{◌≡◌, ap, ◌∙◌, refl, Vec, Global}
 use mathlib.Core.Former.{Count}
-use Rattle.circ_replay.specs.declared.links.Chain.{Chain}
-use Rattle.circ_replay.specs.declared.links.Why.{Why, Same, Split, Split', Row_of-Why, end_of-Why, more_of-Why}
-use Rattle.circ_replay.specs.declared.links.Why.{items-the_row-Why, items_hidden-the_row-Why-0}
+use Rattle.circ_proof.specs.declared.links.Chain.{Chain}
+use Rattle.circ_proof.specs.declared.links.Why.{Why, Same, Split, Split', Row_of-Why, end_of-Why, more_of-Why}
+use Rattle.circ_proof.specs.declared.links.Why.{items-the_row-Why, items_hidden-the_row-Why-0}
 use Rattle.std.specs.Prelude.{ℕ}
-use Rattle.circ_replay.specs.Plain.{Split_why, more_whys, plain_chain, plain_why, plain_whys, plain_row}
+use Rattle.circ_proof.specs.Plain.{Split_why, more_whys, plain_chain, plain_why, plain_whys, plain_row}
 
 abbrev row_in : Why → (n : Count) × Row_of-Why n
 row_in (Same chain) = (_, end_of-Why)

@@ -2,13 +2,12 @@
 use Rattle.std.specs.Prelude.{List, [], Option, Some, None}
 use Rattle.circ_term.specs.Tree.{Tree}
 use Rattle.circ_theory.specs.Theory.{Theory, Pair}
-use Rattle.circ_theory.specs.Derivable.{Derivable}
 use Rattle.circ_theory.specs.declared.parts.Goal.{Goal}
-use Rattle.circ_replay.specs.Plain.{LinkOf, Equation_link, Hypothesis_link, Assumption_link, Content_link, ChainOf}
-use Rattle.circ_replay.specs.Goals.{sides}
-use Rattle.circ_replay.specs.Runs.{Runs}
-use Rattle.circ_replay.specs.Link.{Setting, Leads}
-use Rattle.circ_replay.specs.Justified.{ChainLeads}
+use Rattle.circ_proof.specs.Plain.{LinkOf, ChainOf}
+use Rattle.circ_proof.specs.Goals.{sides}
+use Rattle.circ_proof.specs.Runs.{Runs}
+use Rattle.circ_proof.specs.Link.{Setting, Leads}
+use Rattle.circ_proof.specs.Justified.{ChainLeads}
 
 -- the one term that the link leads to, or that there is none
 abbrev pub Follows : Setting → LinkOf Tree → Tree → Option Tree → Type 0
@@ -24,10 +23,3 @@ FollowsAll c ls t (Some u) = Runs (Leads c) ls t u
 abbrev pub FollowsChain : Setting → ChainOf Tree → Pair → Option Goal → Type 0
 FollowsChain c chain p None = (q : Pair) → ChainLeads (Leads c) chain p q → ⊥
 FollowsChain c chain p (Some g) = ChainLeads (Leads c) chain p (sides g)
-
--- What a link leads to is derivable: by the theory alone for an equation's link and one of content, and from the assumptions for an assumption's.
-abbrev pub LinkDerives : Theory → (assumptions : List Pair) → {T : Type 0} → LinkOf T → Tree → Tree → Type 0
-LinkDerives th A (Equation_link number way path terms) t u = Derivable th [] t u
-LinkDerives th A (Hypothesis_link number way path terms) t u = Unit {0}
-LinkDerives th A (Assumption_link number way path) t u = Derivable th A t u
-LinkDerives th A (Content_link op path term) t u = Derivable th [] t u

@@ -2,7 +2,7 @@
 use Rattle.std.specs.Prelude.{◌≡◌, ℕ, ◌≤◌, true, List, [], ◌∷◌, ◌++◌, length, map}
 use Rattle.std.specs.List.{AllByRecursion}
 use Rattle.circ_term.specs.Tree.{Tree, Var, App, args_of, list_of}
-use Rattle.circ_replay.specs.Table.{has, number_in, IsNext, term_limit}
+use Rattle.circ_proof.specs.Table.{has, number_in, IsNext, term_limit}
 use Rattle.circ_replay.specs.declared.table.Root.{Root}
 use Rattle.circ_replay.specs.declared.table.Root.TheVariants as root
 

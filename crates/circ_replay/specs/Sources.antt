@@ -2,7 +2,7 @@
 use Rattle.std.specs.Prelude.{List}
 use Rattle.circ_theory.specs.Theory.{Pair}
 use Rattle.circ_replay.specs.declared.following.Sources.{Sources}
-use Rattle.circ_replay.specs.Link.{Setting, setting}
+use Rattle.circ_proof.specs.Link.{Setting, setting}
 
 abbrev pub setting_of : Sources → (assumptions : List Pair) → Setting
 setting_of s A = setting s.theory.now s.gamma.now s.hyps.now A

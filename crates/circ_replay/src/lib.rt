@@ -7,7 +7,6 @@
 
 mod following;
 mod justifying;
-mod links;
 mod rewriting;
 mod substitution;
 mod table;
@@ -15,8 +14,4 @@ mod variables;
 
 pub use following::{follow, follow_all};
 pub use justifying::follow_why;
-pub use links::{Chain, Link, Way, Why};
 pub use table::TableBuilder;
-
-/// The most terms of a table.
-pub const MOST_TERMS: usize = 16_777_216;

@@ -3,7 +3,7 @@ ghost use Rattle.std.specs.Prelude.{◌≡◌, ◌<◌, ◌≤◌, ◌^◌, map,
 ghost use Rattle.std.specs.List.{AllByRecursion};
 ghost use Rattle.circ_theory.specs.Rewriting.{named};
 ghost use Rattle.circ_theory.specs.Variables.{numbered, sorted, variables_of};
-ghost use Rattle.circ_replay.specs.Goals.{sides};
+ghost use Rattle.circ_proof.specs.Goals.{sides};
 ghost use Rattle.circ_replay.specs.Gathering.{variable_of};
 ghost use Rattle.circ_replay.specs.Rewriting.{GivesSubst};
 

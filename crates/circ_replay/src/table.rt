@@ -3,11 +3,11 @@ ghost use Rattle.std.specs.Prelude.{◌≡◌, ◌≤◌, [], length, take, Some
 ghost use Rattle.std.specs.List.{slice_get};
 ghost use Rattle.std.specs.Option.{IfSome};
 ghost use Rattle.circ_term.specs.Tree.{trees_of};
-ghost use Rattle.circ_replay.specs.Table.{IsTable, Numbers, added, entered, term_limit};
+ghost use Rattle.circ_proof.specs.Table.{IsTable, Numbers, added, entered, term_limit};
 ghost use Rattle.circ_replay.specs.Growing.{NumbersSoFar, NumbersAllSoFar, Puts};
 ghost use Rattle.circ_replay.specs.Roots.{HasRoot, plain_root};
 
-use crate::MOST_TERMS;
+use circ_proof::MOST_TERMS;
 use circ_term::{Kind, Term};
 use indexmap::IndexSet;
 use smallvec::SmallVec;

@@ -2,7 +2,7 @@
 ghost use Rattle.std.specs.Prelude.{◌≡◌, IfOk, OnOk, map};
 ghost use Rattle.circ_term.specs.Tree.{trees_of};
 ghost use Rattle.circ_theory.specs.Variables.{sorted, variables_of};
-ghost use Rattle.circ_replay.specs.Goals.{sides};
+ghost use Rattle.circ_proof.specs.Goals.{sides};
 ghost use Rattle.circ_replay.specs.Gathering.{variable_of, gathered, gathered_all};
 
 use circ_term::{Kind, Term};

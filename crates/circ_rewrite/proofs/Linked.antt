@@ -21,8 +21,8 @@ use Rattle.circ_theory.proofs.Sorting.{KeepsSort, at_sorted, replaced_sorted}
 use Rattle.circ_aci.specs.Content.{HasContentOf}
 use Rattle.circ_aci.specs.Canonical.{canonical_under}
 use Rattle.circ_aci.proofs.Again.{is_canonical}
-use Rattle.circ_replay.specs.Goals.{sides}
-use Rattle.circ_replay.specs.Link.{Setting, Leads}
+use Rattle.circ_proof.specs.Goals.{sides}
+use Rattle.circ_proof.specs.Link.{Setting, Leads}
 use Rattle.circ_match.specs.Matcher.{has_variable}
 use Rattle.circ_match.proofs.Variables.{instance-variable}
 use Rattle.circ_rewrite.specs.Replacement.{Replacement, Traced, By_rule, By_assumption, By_content}

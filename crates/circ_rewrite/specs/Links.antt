@@ -7,10 +7,10 @@ use Rattle.circ_theory.specs.Theory.{Theory, pair_of, pair_with, IsVisible, IsWe
 use Rattle.circ_theory.specs.declared.parts.Equation.{Equation}
 use Rattle.circ_theory.specs.declared.parts.Goal.{Goal}
 use Rattle.circ_theory.specs.declared.way.Way.TheVariants.{Forth}
-use Rattle.circ_replay.specs.Plain.{LinkOf, Equation_link, Hypothesis_link, Assumption_link, Content_link}
-use Rattle.circ_replay.specs.Goals.{sides}
-use Rattle.circ_replay.specs.Link.{Setting, Leads}
-use Rattle.circ_replay.specs.Runs.{Runs}
+use Rattle.circ_proof.specs.Plain.{LinkOf, Equation_link, Hypothesis_link, Assumption_link, Content_link}
+use Rattle.circ_proof.specs.Goals.{sides}
+use Rattle.circ_proof.specs.Link.{Setting, Leads}
+use Rattle.circ_proof.specs.Runs.{Runs}
 use Rattle.circ_rewrite.specs.Replacement.{Reason, By_rule, By_assumption, By_content, Traced}
 use Rattle.circ_rewrite.specs.Due.{IsRewriteRule}
 use Rattle.circ_rewrite.specs.declared.parts.Rule.{Rule}

@@ -9,16 +9,16 @@ use Rattle.circ_term.specs.Tree.{Tree}
 use Rattle.circ_theory.specs.Signature.{Operator}
 use Rattle.circ_theory.specs.Theory.{Theory, Derivative}
 use Rattle.circ_special.specs.declared.place.Place.{Place}
-use Rattle.circ_replay.specs.declared.links.Link.{Link}
-use Rattle.circ_replay.specs.Plain.{LinkOf, plain_links}
-use Rattle.circ_replay.specs.Link.{AllOfLinks}
+use Rattle.circ_proof.specs.declared.links.Link.{Link}
+use Rattle.circ_proof.specs.Plain.{LinkOf, plain_links}
+use Rattle.circ_proof.specs.Link.{AllOfLinks}
 use Rattle.circ_rules.specs.declared.basis.Basis.{Basis}
-use Rattle.circ_rules.specs.Plain.{plain_certificates}
+use Rattle.circ_proof.specs.PlainProof.{plain_certificates}
 use Rattle.circ_rules.specs.Basis.{links_of, certificates_in}
-use Rattle.circ_rules.specs.Certified.{Certified, due, due_at, AreCertified, CertificateFails}
+use Rattle.circ_proof.specs.Certified.{Certified, due, due_at, AreCertified, CertificateFails}
 use Rattle.circ_rules.specs.Admitting.{HoldSoFar}
-use Rattle.circ_rules.proofs.Certifying.{fails_among}
-use Rattle.circ_rules.proofs.Deriving.{some_if_at, from_number, derivative_at, taken_next, passed_next}
+use Rattle.circ_proof.proofs.Certifying.{fails_among}
+use Rattle.circ_proof.proofs.Derivatives.{some_if_at, from_number, derivative_at, taken_next, passed_next}
 
 -- ---- certificates, read by their numbers
 

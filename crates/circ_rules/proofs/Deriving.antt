@@ -17,26 +17,16 @@ use Rattle.circ_theory.specs.Fresh.{numbered_from, given_parameters, parameter_s
 use Rattle.circ_theory.specs.declared.parts.Goal.{Goal}
 use Rattle.circ_theory.proofs.Rewriting.{contains_at}
 use Rattle.circ_theory.proofs.Derived.{derived-numbered_from, variables_fit}
-use Rattle.circ_replay.specs.Goals.{goal, IsWellSortedGoal, AreSortedGoals}
-use Rattle.circ_rules.specs.Rules.{state, fresh_in, derived_goal, derivatives_on, IsDerivable, IsSortedState}
+use Rattle.circ_proof.specs.Goals.{goal, IsWellSortedGoal, AreSortedGoals}
+use Rattle.circ_proof.specs.Rules.{state, fresh_in, derived_goal, derivatives_on, IsDerivable, IsSortedState}
+use Rattle.circ_proof.proofs.Derivatives.{if_some_at, some_if_at, the_derivative, numbered, sorts_are, derivative_at, from_number, taken_next, passed_next}
 use Rattle.circ_rules.specs.Answers.{Gives}
 use Rattle.circ_rules.specs.Deriving.{IsWithin, AreInstances, IsDerivativeOn, AreDerivativesOn, moved_on}
-use Rattle.circ_rules.proofs.Sorted.{sorted_none, sorted_more, sorted_first, sorted_rest, sorted_append, derivatives_sorted}
-
-pub if_some_at : {X : Type 0} (P : X → Type 0) (o : Option X) (x : X) → o ≡ Some x → P x → IfSome o P
-if_some_at P o x e p = let Q : Option _ → Type 0 = λ o. IfSome o P in subst Q (sym e) p
-
-pub some_if_at : {X : Type 0} (P : X → Type 0) (o : Option X) (x : X) → o ≡ Some x → IfSome o P → P x
-some_if_at P o x e p = let Q : Option _ → Type 0 = λ o. IfSome o P in subst Q e p
+use Rattle.circ_proof.proofs.Sorted.{sorted_none, sorted_more, sorted_first, sorted_rest, sorted_append, derivatives_sorted}
 
 -- what passes no limit is there
 pub past : (t u : Tree) → t ≡ u → Gives (IsWithin t) None → IsWithinLimits u → ⊥
 past t u e none w = none t (record { within = subst IsWithinLimits (sym e) w; same = refl })
-
--- the derivative that a hole's sort was read from
-pub the_derivative : (o : Option Derivative) (s : ℕ) → option_map (λ d. d.hole) o ≡ Some s → (d : Derivative) × (o ≡ Some d) × (d.hole ≡ s)
-the_derivative None s e = absurd (cc)
-the_derivative (Some d) s e = (d, refl, same_Some d.hole s e)
 
 -- a derivative of the theory on a goal, with variables numbered from k for its parameters
 module _ (th : Theory) (ok : IsWellFormed th) (n : ℕ) (g : Goal) (w : IsWellSortedGoal th g) (k : ℕ) (fresh : k ≡ fresh_in g)
@@ -48,34 +38,8 @@ module _ (th : Theory) (ok : IsWellFormed th) (n : ℕ) (g : Goal) (w : IsWellSo
   there : slice_get th.derivatives n ≡ Some d
   there = (the_derivative (slice_get th.derivatives n) (sort_of g.left) hole).1
 
-  sort_is : d.hole ≡ sort_of g.left
-  sort_is = (the_derivative (slice_get th.derivatives n) (sort_of g.left) hole).2
-
-  is_derivative : IsDerivative th.signature d
-  is_derivative = ok.derivatives d (contains_at th.derivatives n d there)
-
-  sorts_are : sorts ≡ parameter_sorts d
-  sorts_are = same_Some sorts (parameter_sorts d) (listed ∙ ap (option_map parameter_sorts) there)
-
-  params_are : params ≡ variables_from k (parameter_sorts d)
-  params_are = made ∙ ap (variables_from k) sorts_are
-
-  fits : (t : Tree) → sort_of t ≡ d.hole → FitSome (slice_get th.derivatives n) params t
-  fits t e =
-      let P : Option Derivative → Type 0 = λ o. FitSome o params t in
-      let Q : List Tree → Type 0 = λ ps. FitSome (Some d) ps t in
-      subst P (sym there) (subst Q (sym params_are) (variables_fit d t k e))
-
-  pub left_fits : FitSome (slice_get th.derivatives n) params g.left
-  left_fits = fits g.left (sym sort_is)
-
-  pub right_fits : FitSome (slice_get th.derivatives n) params g.right
-  right_fits = fits g.right (w.sorted.same_sort ∙ sym sort_is)
-
-  numbered : (t : Tree) → derived d t (given_parameters params) ≡ derived d t (numbered_from (fresh_in g))
-  numbered t =
-      ap (λ ps. derived d t (given_parameters ps)) params_are ∙ derived-numbered_from th.signature d is_derivative t k
-      ∙ ap (λ m. derived d t (numbered_from m)) fresh
+  renumbered : (t : Tree) → derived d t (given_parameters params) ≡ derived d t (numbered_from (fresh_in g))
+  renumbered = numbered th ok n g w k fresh hole sorts listed params made
 
   -- the instances are the derivative on the goal
   pub on_goal : {E : Type 0} (r : Result (Option Goal) E) → k + length sorts ≤ 2 ^ 32
@@ -88,57 +52,19 @@ module _ (th : Theory) (ok : IsWellFormed th) (n : ℕ) (g : Goal) (w : IsWellSo
       go : {E : Type 0} (r : Result (Option Goal) E) → IfOk r (Gives (AreInstances d params g)) → IfOk r (Gives (IsDerivativeOn g d))
       go (Err e) x = tt
       go (Ok None) x = λ h y. x h (record {
-        left = record { within = subst IsWithinLimits (sym (numbered g.left)) y.derivable.left; same = ap (λ a. a.left) y.same ∙ sym (numbered g.left) };
-        right = record { within = subst IsWithinLimits (sym (numbered g.right)) y.derivable.right; same = ap (λ a. a.right) y.same ∙ sym (numbered g.right) };
+        left = record { within = subst IsWithinLimits (sym (renumbered g.left)) y.derivable.left; same = ap (λ a. a.left) y.same ∙ sym (renumbered g.left) };
+        right = record { within = subst IsWithinLimits (sym (renumbered g.right)) y.derivable.right; same = ap (λ a. a.right) y.same ∙ sym (renumbered g.right) };
       })
       go (Ok (Some h)) x =
           let vs : List Variable = filter is_parameter (occurrences d.body) in
           record {
             derivable = record {
-              numbers = omega (arith, few, fresh, ap length sorts_are, length-map vs (λ v. v.sort), length-map vs (λ v. v.number));
-              left = subst IsWithinLimits (numbered g.left) x.left.within;
-              right = subst IsWithinLimits (numbered g.right) x.right.within;
+              numbers = omega (arith, few, fresh, ap length (sorts_are th ok n g w k fresh hole sorts listed params made), length-map vs (λ v. v.sort), length-map vs (λ v. v.number));
+              left = subst IsWithinLimits (renumbered g.left) x.left.within;
+              right = subst IsWithinLimits (renumbered g.right) x.right.within;
             };
-            same = ap (λ t. goal t h.right) (x.left.same ∙ numbered g.left) ∙ ap (goal (derived d g.left (numbered_from (fresh_in g)))) (x.right.same ∙ numbered g.right);
+            same = ap (λ t. goal t h.right) (x.left.same ∙ renumbered g.left) ∙ ap (goal (derived d g.left (numbered_from (fresh_in g)))) (x.right.same ∙ renumbered g.right);
           }
-
--- ---- the loop over a theory's derivatives
-
--- the derivatives from a number on, of which the first is d
-pub record StartsWith (ds : List Derivative) (i : ℕ) (d : Derivative) : Type 0 where
-  pub there : slice_get ds i ≡ Some d
-  pub rest : drop i ds ≡ d ∷ drop (i + 1) ds
-
-pub derivative_at : (ds : List Derivative) (i : ℕ) → i < length ds → (d : Derivative) × StartsWith ds i d
-derivative_at [] i h = absurd (omega arith)
-derivative_at (d ∷ ds) zero h = (d, record { there = refl; rest = refl })
-derivative_at (d ∷ ds) (suc i) h =
-    let r = derivative_at ds i (omega arith) in
-    let e : suc i + 1 ≡ suc (i + 1) = omega arith in
-    (r.0, record { there = r.1.there; rest = rw e r.1.rest })
-
--- those of a sort, from a number on
-abbrev pub from_number : (ds : List Derivative) (sort i : ℕ) → List Derivative
-from_number ds s i = filter (λ d. d.hole == s) (drop i ds)
-
-hole_test : (o : Option Derivative) (s : ℕ) (d : Derivative) (b : Bool) → o ≡ Some d → option_map_or (λ d. d.hole == s) o false ≡ b → (d.hole == s) ≡ b
-hole_test o s d b there e = sym (ap (λ o. option_map_or (λ d. d.hole == s) o false) there) ∙ e
-
-pub taken_next : (ds : List Derivative) (s i : ℕ) (d : Derivative) → StartsWith ds i d → option_map_or (λ d. d.hole == s) (slice_get ds i) false ≡ true
-    → from_number ds s i ≡ d ∷ from_number ds s (i + 1)
-taken_next ds s i d at e = ap (filter (λ d. d.hole == s)) at.rest ∙ (let t = hole_test (slice_get ds i) s d true at.there e in rw t refl)
-
-pub passed_next : (ds : List Derivative) (s i : ℕ) (d : Derivative) → StartsWith ds i d → option_map_or (λ d. d.hole == s) (slice_get ds i) false ≡ false
-    → from_number ds s i ≡ from_number ds s (i + 1)
-passed_next ds s i d at e = ap (filter (λ d. d.hole == s)) at.rest ∙ (let t = hole_test (slice_get ds i) s d false at.there e in rw t refl)
-
--- that the hole was tested
-pub hole_is : (ds : List Derivative) (s i : ℕ) → option_map_or (λ d. d.hole == s) (slice_get ds i) false ≡ true → option_map (λ d. d.hole) (slice_get ds i) ≡ Some s
-hole_is ds s i e = go (slice_get ds i) e
-  where
-    go : (o : Option Derivative) → option_map_or (λ d. d.hole == s) o false ≡ true → option_map (λ d. d.hole) o ≡ Some s
-    go None e = absurd (cc)
-    go (Some d) e = ap Some (eqb-true d.hole s e)
 
 -- What the loop keeps: the derivatives from a number on are what is left, and hs are those before.
 pub record Stands (th : Theory) (g : Goal) (i : ℕ) (hs : List Goal) : Type 0 where

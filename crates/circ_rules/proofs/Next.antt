@@ -7,12 +7,12 @@ use Rattle.std.specs.Option.{option_map_or}
 use Rattle.circ_term.specs.Tree.{Tree}
 use Rattle.circ_theory.specs.Theory.{Theory, Derivative}
 use Rattle.circ_special.specs.declared.place.Place.{Place}
-use Rattle.circ_replay.specs.Plain.{LinkOf}
-use Rattle.circ_rules.specs.Certified.{Certified}
+use Rattle.circ_proof.specs.Plain.{LinkOf}
+use Rattle.circ_proof.specs.Certified.{Certified}
 use Rattle.circ_rules.specs.Due.{derivatives_from, IsFirst, due_after, IsNextSlot, CertifiesNext}
 use Rattle.circ_rules.specs.declared.due.Due.{Due}
 use Rattle.circ_rules.specs.declared.due.Slot.{Slot}
-use Rattle.circ_rules.proofs.Deriving.{derivative_at, taken_next, passed_next}
+use Rattle.circ_proof.proofs.Derivatives.{derivative_at, taken_next, passed_next}
 
 module _ (th : Theory) (s i from : ℕ) (so_far : derivatives_from th s i ≡ derivatives_from th s from) where
   pub first_taken : i < length th.derivatives → option_map_or (λ d. d.hole == s) (slice_get th.derivatives i) false ≡ true → IsFirst th s from i

@@ -5,13 +5,13 @@ use Rattle.circ_term.specs.Tree.{Tree}
 use Rattle.circ_theory.specs.Theory.{Theory}
 use Rattle.circ_theory.specs.declared.parts.Goal.{Goal}
 use Rattle.circ_special.specs.declared.place.Place.{Place}
-use Rattle.circ_replay.specs.Plain.{ChainOf}
-use Rattle.circ_replay.specs.Goals.{sides, IsWellSortedGoal, AreSortedGoals}
-use Rattle.circ_replay.specs.Link.{setting, Leads}
-use Rattle.circ_replay.specs.Justified.{ChainLeads}
+use Rattle.circ_proof.specs.Plain.{ChainOf}
+use Rattle.circ_proof.specs.Goals.{sides, IsWellSortedGoal, AreSortedGoals}
+use Rattle.circ_proof.specs.Link.{setting, Leads}
+use Rattle.circ_proof.specs.Justified.{ChainLeads}
 use Rattle.circ_replay.specs.Following.{FollowsChain}
-use Rattle.circ_rules.specs.Rules.{State, state, Simplify, StepOn}
-use Rattle.circ_rules.proofs.Sorted.{sorted_more, sorted_rest}
+use Rattle.circ_proof.specs.Rules.{State, state, Simplify, StepOn}
+use Rattle.circ_proof.proofs.Sorted.{sorted_more, sorted_rest}
 
 -- the chain leads from the first goal to q
 pub simplifies : (th : Theory) (G : List Place) (chain : ChainOf Tree) (H gs : List Goal) (first q : Goal) → 0 < length gs → first ≡ get_or gs 0 first

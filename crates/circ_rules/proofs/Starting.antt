@@ -18,15 +18,16 @@ use Rattle.circ_theory.proofs.Derived.{derived-numbered_from, variables_fit, der
 use Rattle.circ_special.specs.declared.place.Place.{Place}
 use Rattle.circ_special.specs.Special.{IsPlace}
 use Rattle.circ_special.specs.Guarded.{Guarded}
-use Rattle.circ_replay.specs.Plain.{LinkOf}
-use Rattle.circ_replay.specs.Runs.{Runs}
-use Rattle.circ_replay.specs.Link.{setting, Leads}
+use Rattle.circ_proof.specs.Plain.{LinkOf}
+use Rattle.circ_proof.specs.Runs.{Runs}
+use Rattle.circ_proof.specs.Link.{setting, Leads}
 use Rattle.circ_replay.specs.Following.{FollowsAll}
-use Rattle.circ_rules.specs.Certified.{start_args, start_term, Certified}
+use Rattle.circ_proof.specs.Certified.{start_args, start_term, Certified}
 use Rattle.circ_rules.specs.Answers.{Gives}
 use Rattle.circ_rules.specs.Deriving.{IsWithin}
-use Rattle.circ_replay.proofs.Leading.{one_end}
-use Rattle.circ_rules.proofs.Deriving.{if_some_at, some_if_at, the_derivative}
+use Rattle.circ_proof.proofs.Leading.{one_end}
+use Rattle.circ_proof.proofs.Starting.{applied_sorted}
+use Rattle.circ_proof.proofs.Derivatives.{if_some_at, some_if_at, the_derivative}
 
 -- ---- the arguments
 
@@ -90,30 +91,6 @@ pub start_not_past : (f i k : ℕ) (ss : List ℕ) (ts : List Tree) (l : Limit) 
 start_not_past f i k ss ts l h e past_limit =
     let within : first_limit (App f k (trees_of ts)) ≡ None = ap (λ us. first_limit (App f k us)) e ∙ start_within f i k ss h in
     absurd (let z = sym within ∙ past_limit in cc)
-
--- ---- sorts
-
-contained_all : (P : ℕ → Type 0) (ss : List ℕ) → ((s : ℕ) → Contains ss s → P s) → AllByRecursion P ss
-contained_all P [] f = tt
-contained_all P (s ∷ ss) f = (f s (0, omega arith, refl), contained_all P ss (λ k c. f k (suc c.0, omega (arith, c.1), c.2)))
-
-variables_sorted : (sig : Signature) (k : ℕ) (ss : List ℕ) → AllByRecursion (IsSort sig) ss → HaveSorts sig (trees_of (variables_from k ss)) ss
-variables_sorted sig k [] a = tt
-variables_sorted sig k (s ∷ ss) a = (refl, a.0, variables_sorted sig (k + 1) ss a.1)
-
-args_sorted : (sig : Signature) (i k : ℕ) (ss : List ℕ) → AllByRecursion (IsSort sig) ss → HaveSorts sig (start_args i k ss) ss
-args_sorted sig i k [] a = tt
-args_sorted sig zero k (s ∷ ss) a = (refl, a.0, variables_sorted sig k ss a.1)
-args_sorted sig (suc i) k (s ∷ ss) a = (refl, a.0, args_sorted sig i (k + 1) ss a.1)
-
-pub applied_sorted : (th : Theory) → IsWellFormed th → (f i : ℕ) (o : Operator) → slice_get th.signature.ops f ≡ Some o
-    → IsWellSorted th.signature (App f o.result (start_args i 1 o.args))
-applied_sorted th ok f i o e =
-    let op = ok.operators o (contains_at th.signature.ops f o e) in
-    (o, e, refl, args_sorted th.signature i 1 o.args (contained_all (IsSort th.signature) o.args op.args))
-
-pub few_args : (th : Theory) → IsWellFormed th → (f : ℕ) (o : Operator) → slice_get th.signature.ops f ≡ Some o → length o.args ≤ 16
-few_args th ok f o e = (ok.operators o (contains_at th.signature.ops f o e)).few
 
 -- A certificate whose place has this operator and this sort.
 record IsCertified (th : Theory) (G : List Place) (g : Place) (o : Operator) (k : ℕ) (d : Derivative) (ls : List (LinkOf Tree)) : Type 0 where

@@ -6,8 +6,8 @@ use Rattle.circ_theory.specs.Theory.{Theory, Derivative}
 use Rattle.circ_theory.specs.Operators.{operator_of}
 use Rattle.circ_special.specs.declared.place.Place.{Place}
 use Rattle.circ_special.specs.Special.{IsPlace}
-use Rattle.circ_replay.specs.Plain.{LinkOf}
-use Rattle.circ_rules.specs.Certified.{start_args, due, due_at, AreCertified, CertificateFails}
+use Rattle.circ_proof.specs.Plain.{LinkOf}
+use Rattle.circ_proof.specs.Certified.{start_args, due, due_at, AreCertified, CertificateFails}
 use Rattle.circ_rules.specs.declared.certificates.Start.{Start}
 
 -- the operator of the place, on variables, with the sort of the argument

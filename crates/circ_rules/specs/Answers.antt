@@ -3,9 +3,9 @@ use Rattle.std.specs.Prelude.{◌≡◌, List, Bool, true, false, Option, Some, 
 use Rattle.circ_term.specs.Tree.{Tree}
 use Rattle.circ_theory.specs.Theory.{Theory}
 use Rattle.circ_special.specs.declared.place.Place.{Place}
-use Rattle.circ_replay.specs.Plain.{LinkOf}
-use Rattle.circ_rules.specs.Rules.{State, ProofStep, StepOf}
-use Rattle.circ_rules.specs.Certified.{due, AreCertified, CertificateFails}
+use Rattle.circ_proof.specs.Plain.{LinkOf}
+use Rattle.circ_proof.specs.Rules.{State, ProofStep, StepOf}
+use Rattle.circ_proof.specs.Certified.{due, AreCertified, CertificateFails}
 use Rattle.circ_rules.specs.declared.admitting.Admission.{Admission}
 use Rattle.circ_rules.specs.declared.admitting.Admission.TheVariants as admission
 

@@ -5,10 +5,10 @@ use Rattle.std.specs.List.{AllByRecursion}
 use Rattle.circ_term.specs.Tree.{Tree}
 use Rattle.circ_theory.specs.Signature.{IsWellSorted}
 use Rattle.circ_theory.specs.declared.parts.Goal.{Goal}
-use Rattle.circ_replay.specs.declared.links.Link.{Link}
-use Rattle.circ_replay.specs.Plain.{LinkOf, plain_links}
-use Rattle.circ_replay.specs.Link.{Setting, setting, resolved_links}
-use Rattle.circ_rules.specs.Plain.{plain_certificates}
+use Rattle.circ_proof.specs.declared.links.Link.{Link}
+use Rattle.circ_proof.specs.Plain.{LinkOf, plain_links}
+use Rattle.circ_proof.specs.Link.{Setting, setting, resolved_links}
+use Rattle.circ_proof.specs.PlainProof.{plain_certificates}
 use Rattle.circ_rules.specs.declared.basis.Basis.{Basis}
 
 -- the table's terms are well-sorted

@@ -7,7 +7,7 @@ use Rattle.circ_theory.specs.Theory.{Theory, Derivative}
 use Rattle.circ_theory.specs.Experiment.{derived}
 use Rattle.circ_theory.specs.Fresh.{given_parameters, derivatives_of}
 use Rattle.circ_theory.specs.declared.parts.Goal.{Goal}
-use Rattle.circ_rules.specs.Rules.{State, state, fresh_in, derived_goal, derivatives_on, IsDerivable}
+use Rattle.circ_proof.specs.Rules.{State, state, fresh_in, derived_goal, derivatives_on, IsDerivable}
 
 -- u is t, which is within the limits
 pub record IsWithin (t u : Tree) : Type 0 where

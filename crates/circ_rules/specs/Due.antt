@@ -7,8 +7,8 @@ use Rattle.circ_theory.specs.Signature.{Operator}
 use Rattle.circ_theory.specs.Theory.{Theory, Derivative}
 use Rattle.circ_special.specs.declared.place.Place.{Place}
 use Rattle.circ_special.specs.Special.{IsPlace}
-use Rattle.circ_replay.specs.Plain.{LinkOf}
-use Rattle.circ_rules.specs.Certified.{Certified, due}
+use Rattle.circ_proof.specs.Plain.{LinkOf}
+use Rattle.circ_proof.specs.Certified.{Certified, due}
 use Rattle.circ_rules.specs.declared.due.Due.{Due}
 use Rattle.circ_rules.specs.declared.due.Slot.{Slot}
 

@@ -1,9 +1,3 @@
-pub mod Rules
-pub mod Certified
-pub mod Proof
-pub mod Accepted
-pub mod Parts
-pub mod Fitting
 pub mod Due
 pub mod Plain
 pub mod Answers

@@ -13,13 +13,9 @@ mod certificates;
 mod derivatives;
 mod due;
 mod part;
-mod proof;
-mod state;
 
 pub use admitting::{Admission, admit};
 pub use applying::apply;
 pub use certificates::{Start, start_at, start_term};
 pub use due::{Due, certify_next};
 pub use part::Part;
-pub use proof::{Block, Proof, Step};
-pub use state::State;

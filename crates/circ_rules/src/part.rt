@@ -1,6 +1,6 @@
 //! The parts of a proof.
-use crate::proof::Step;
-use circ_replay::Link;
+use circ_proof::Step;
+use circ_proof::Link;
 use circ_special::Gamma;
 use circ_table::Table;
 use circ_theory::Goal;

@@ -2,8 +2,8 @@
 use Rattle.std.specs.Prelude.{List, map, Option, Some, None}
 use Rattle.circ_rewrite.specs.Links.{link_of}
 use Rattle.circ_rewrite.specs.Replacement.{Traced}
-use Rattle.circ_rules.specs.Plain.{plain_proof}
-use Rattle.circ_rules.specs.Proof.{Proof}
+use Rattle.circ_proof.specs.PlainProof.{plain_proof}
+use Rattle.circ_proof.specs.Proof.{Proof}
 use Rattle.circ_special.specs.declared.place.Place.{Place}
 use Rattle.circ_plain_search.specs.Search.{Ending, Is_stuck, Is_spent, Is_too_big, Is_too_deep}
 use Rattle.circ_plain_search.specs.Numbering.{Found, Proved, LongTable, Stuck, Spent, TooBig, TooDeep, Special, special}

@@ -1,5 +1,5 @@
 //! What a search finds.
-use circ_rules::Proof;
+use circ_proof::Proof;
 use circ_term::Term;
 use circ_theory::Goal;
 

@@ -8,11 +8,11 @@ use Rattle.circ_theory.specs.Theory.{Theory}
 use Rattle.circ_theory.specs.WellFormed.{IsWellFormed}
 use Rattle.circ_theory.specs.declared.parts.Goal.{Goal}
 use Rattle.circ_theory.proofs.Rewriting.{named_well_sorted}
-use Rattle.circ_replay.specs.Goals.{IsWellSortedGoal, AreSortedGoals}
-use Rattle.circ_rules.specs.Rules.{State, state}
-use Rattle.circ_rules.specs.Proof.{Block, Proof, goal_of, IsNameFor, IsBlockFor}
-use Rattle.circ_rules.specs.Accepted.{steps_of, BlocksDerive}
-use Rattle.circ_rules.proofs.Sorted.{sorted_none, sorted_more, sorted_append}
+use Rattle.circ_proof.specs.Goals.{IsWellSortedGoal, AreSortedGoals}
+use Rattle.circ_proof.specs.Rules.{State, state}
+use Rattle.circ_proof.specs.Proof.{Block, Proof, goal_of, IsNameFor, IsBlockFor}
+use Rattle.circ_proof.specs.Accepted.{steps_of, BlocksDerive}
+use Rattle.circ_proof.proofs.Sorted.{sorted_none, sorted_more, sorted_append}
 use Rattle.circ_soundness.specs.Levels.{AgreeGoal, HypothesesAgree, PlacesAgree}
 use Rattle.circ_soundness.proofs.Members.{nothing, pick}
 use Rattle.circ_soundness.proofs.Running.{IsRun, goals_agree, levels}

@@ -4,9 +4,9 @@ use Rattle.circ_term.specs.Tree.{Tree}
 use Rattle.circ_theory.specs.Theory.{Theory}
 use Rattle.circ_theory.specs.declared.parts.Goal.{Goal}
 use Rattle.circ_special.specs.declared.place.Place.{Place}
-use Rattle.circ_rules.specs.Rules.{State, state, ProofStep, map_step, StepsOf}
-use Rattle.circ_rules.specs.Proof.{IsEnded}
-use Rattle.circ_rules.proofs.Stepping.{steps_grow, steps_end}
+use Rattle.circ_proof.specs.Rules.{State, state, ProofStep, map_step, StepsOf}
+use Rattle.circ_proof.specs.Proof.{IsEnded}
+use Rattle.circ_proof.proofs.Stepping.{steps_grow, steps_end}
 
 -- no goal is left, and the hypotheses are those at the start with some appended
 pub ended : (th : Theory) (G : List Place) (name : ℕ → Tree) (ss : List (ProofStep ℕ)) (a b : State) → IsEnded ss → StepsOf th G (map (map_step name) ss) a b

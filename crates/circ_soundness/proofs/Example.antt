@@ -22,13 +22,13 @@ use Rattle.circ_theory.proofs.Linear.{distinct_by}
 use Rattle.circ_special.specs.Special.{place, IsPlace, IsSpecial}
 use Rattle.circ_special.specs.declared.place.Place.{Place}
 use Rattle.circ_special.specs.Guarded.{IsInstanceAt, by_visible, by_hidden, Guarded}
-use Rattle.circ_replay.specs.Plain.{map_link, Hypothesis_link, Same_why}
-use Rattle.circ_replay.specs.Goals.{goal}
-use Rattle.circ_replay.specs.Link.{setting, Leads}
-use Rattle.circ_rules.specs.Rules.{State, state, map_step, Reduce, Derive, StepOf, StepsOf}
-use Rattle.circ_rules.specs.Certified.{Certified}
-use Rattle.circ_rules.specs.Proof.{Block, ProofFor, IsBlockFor}
-use Rattle.circ_rules.specs.Accepted.{Accepted, Derives, FirstFail}
+use Rattle.circ_proof.specs.Plain.{map_link, Hypothesis_link, Same_why}
+use Rattle.circ_proof.specs.Goals.{goal}
+use Rattle.circ_proof.specs.Link.{setting, Leads}
+use Rattle.circ_proof.specs.Rules.{State, state, map_step, Reduce, Derive, StepOf, StepsOf}
+use Rattle.circ_proof.specs.Certified.{Certified}
+use Rattle.circ_proof.specs.Proof.{Block, ProofFor, IsBlockFor}
+use Rattle.circ_proof.specs.Accepted.{Accepted, Derives, FirstFail}
 use Rattle.circ_theory.specs.declared.way.Way.TheVariants.{Forth}
 use Rattle.circ_soundness.specs.Example.{hd, tl, g, f, k, x, head_derivative, tail_derivative, twins, by, chain_of, steps, first, second, twins_alike, twins_bare}
 use Rattle.circ_soundness.proofs.Members.{all_of}

@@ -5,16 +5,16 @@ use Rattle.std.proofs.lemmas.List.{length-map}
 use Rattle.circ_theory.specs.Theory.{Theory}
 use Rattle.circ_theory.specs.Rewriting.{named}
 use Rattle.circ_theory.specs.declared.parts.Goal.{Goal}
-use Rattle.circ_replay.specs.Plain.{map_link}
-use Rattle.circ_replay.specs.Runs.{Runs, FailsFirst}
-use Rattle.circ_replay.proofs.Leading.{one_run}
-use Rattle.circ_rules.specs.Rules.{State, state, StepOf, StepsOf}
-use Rattle.circ_rules.specs.Certified.{due}
-use Rattle.circ_rules.specs.Proof.{Block, Proof, IsBlockFor, ProofFor}
-use Rattle.circ_rules.specs.Accepted.{certificates_of, steps_of, BlocksDerive, Derives, Accepted, BlockFails, FirstFail}
-use Rattle.circ_rules.proofs.Running.{LeadsToOne, runs_or_fails}
-use Rattle.circ_rules.proofs.Certifying.{certified_or_fails, certificate_fails_once, certified_unless_fails}
-use Rattle.circ_rules.proofs.Stepping.{step_one}
+use Rattle.circ_proof.specs.Plain.{map_link}
+use Rattle.circ_proof.specs.Runs.{Runs, FailsFirst}
+use Rattle.circ_proof.proofs.Leading.{one_run}
+use Rattle.circ_proof.specs.Rules.{State, state, StepOf, StepsOf}
+use Rattle.circ_proof.specs.Certified.{due}
+use Rattle.circ_proof.specs.Proof.{Block, Proof, IsBlockFor, ProofFor}
+use Rattle.circ_proof.specs.Accepted.{certificates_of, steps_of, BlocksDerive, Derives, Accepted, BlockFails, FirstFail}
+use Rattle.circ_proof.proofs.Running.{LeadsToOne, runs_or_fails}
+use Rattle.circ_proof.proofs.Certifying.{certified_or_fails, certificate_fails_once, certified_unless_fails}
+use Rattle.circ_proof.proofs.Stepping.{step_one}
 use Rattle.circ_soundness.proofs.Ending.{ended}
 
 -- ---- steps

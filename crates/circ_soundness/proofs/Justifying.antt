@@ -11,9 +11,9 @@ use Rattle.circ_theory.specs.Derivable.{by_cases, is_case}
 use Rattle.circ_theory.proofs.Casing.{contains_first}
 use Rattle.circ_theory.proofs.Instances.{sort_of-instance_by, instance_well_sorted}
 use Rattle.circ_theory.proofs.Weakening.{in_rest, weaken}
-use Rattle.circ_replay.specs.Plain.{ChainOf, WhyOf, WhysOf, Same_why, Split_why, no_why, more_whys}
-use Rattle.circ_replay.specs.Link.{Setting, assuming, Leads}
-use Rattle.circ_replay.specs.Justified.{ChainLeads, Justified, EachJustified, AllOfChain, AllOfWhy, AllOfWhys}
+use Rattle.circ_proof.specs.Plain.{ChainOf, WhyOf, WhysOf, Same_why, Split_why, no_why, more_whys}
+use Rattle.circ_proof.specs.Link.{Setting, assuming, Leads}
+use Rattle.circ_proof.specs.Justified.{ChainLeads, Justified, EachJustified, AllOfChain, AllOfWhy, AllOfWhys}
 use Rattle.circ_soundness.specs.Levels.{Agree, Keeps}
 use Rattle.circ_soundness.proofs.Members.{nothing, pick, last_first}
 use Rattle.circ_soundness.proofs.Agreeing.{agree_same, agree_chain, agree_symmetry}

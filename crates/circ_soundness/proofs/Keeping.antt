@@ -24,10 +24,10 @@ use Rattle.circ_theory.proofs.Sorting.{at_sorted, sorted_from, sorted_to, sort_t
 use Rattle.circ_theory.proofs.Weakening.{weaken}
 use Rattle.circ_aci.proofs.Deriving.{same_content_derivable}
 use Rattle.circ_special.specs.Special.{IsSpecial}
-use Rattle.circ_replay.specs.Plain.{LinkOf, Equation_link, Hypothesis_link, Assumption_link, Content_link}
-use Rattle.circ_replay.specs.Goals.{sides, IsWellSortedGoal}
-use Rattle.circ_replay.specs.Runs.{Runs}
-use Rattle.circ_replay.specs.Link.{Setting, HypothesisLeads, Leads, AllOfLink, AllOfLinks}
+use Rattle.circ_proof.specs.Plain.{LinkOf, Equation_link, Hypothesis_link, Assumption_link, Content_link}
+use Rattle.circ_proof.specs.Goals.{sides, IsWellSortedGoal}
+use Rattle.circ_proof.specs.Runs.{Runs}
+use Rattle.circ_proof.specs.Link.{Setting, HypothesisLeads, Leads, AllOfLink, AllOfLinks}
 use Rattle.circ_soundness.specs.Levels.{Agree, AgreeGoal, HypothesesAgree, PlacesAgree, Stays, Keeps, AreSortedPairs}
 use Rattle.circ_soundness.proofs.Members.{nothing}
 use Rattle.circ_soundness.proofs.Agreeing.{derivable_agrees, agree_symmetry, agree_chain, agree_weaken, special_stays, special_instance}

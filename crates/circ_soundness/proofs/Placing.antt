@@ -14,10 +14,10 @@ use Rattle.circ_theory.proofs.Rewriting.{contains_at}
 use Rattle.circ_special.specs.declared.place.Place.{Place}
 use Rattle.circ_special.specs.Special.{place, IsPlace}
 use Rattle.circ_special.specs.Guarded.{Guarded}
-use Rattle.circ_replay.specs.Plain.{LinkOf}
-use Rattle.circ_replay.specs.Link.{setting, AllOfLinks}
+use Rattle.circ_proof.specs.Plain.{LinkOf}
+use Rattle.circ_proof.specs.Link.{setting, AllOfLinks}
 use Rattle.circ_theory.specs.Fresh.{numbered_from}
-use Rattle.circ_rules.specs.Certified.{start_args, start_term, Certified}
+use Rattle.circ_proof.specs.Certified.{start_args, start_term, Certified}
 use Rattle.circ_soundness.specs.Levels.{Agree, HypothesesAgree, PlacesAgree, Keeps}
 use Rattle.circ_soundness.proofs.Members.{nothing}
 use Rattle.circ_soundness.proofs.Changing.{DifferAt}

@@ -5,13 +5,13 @@ use Rattle.circ_term.specs.Tree.{Tree}
 use Rattle.circ_theory.specs.Signature.{Signature, IsWellSorted}
 use Rattle.circ_theory.specs.Rewriting.{named}
 use Rattle.circ_theory.proofs.Rewriting.{named_well_sorted}
-use Rattle.circ_replay.specs.Plain.{LinkOf, Equation_link, Hypothesis_link, Assumption_link, Content_link}
-use Rattle.circ_replay.specs.Plain.{WhyOf, WhysOf, Same_why, Split_why, no_why, more_whys}
-use Rattle.circ_replay.specs.Plain.{map_link, map_why, map_whys}
-use Rattle.circ_replay.specs.Link.{AllOfLink, AllOfLinks}
-use Rattle.circ_replay.specs.Justified.{AllOfWhy, AllOfWhys}
-use Rattle.circ_rules.specs.Rules.{ProofStep, Simplify, Reduce, Derive, Done, map_step, AllOfStep}
-use Rattle.circ_rules.specs.Proof.{IsLinkFor, AreLinksFor, IsWhyFor, AreWhysFor, IsStepFor, split_limit}
+use Rattle.circ_proof.specs.Plain.{LinkOf, Equation_link, Hypothesis_link, Assumption_link, Content_link}
+use Rattle.circ_proof.specs.Plain.{WhyOf, WhysOf, Same_why, Split_why, no_why, more_whys}
+use Rattle.circ_proof.specs.Plain.{map_link, map_why, map_whys}
+use Rattle.circ_proof.specs.Link.{AllOfLink, AllOfLinks}
+use Rattle.circ_proof.specs.Justified.{AllOfWhy, AllOfWhys}
+use Rattle.circ_proof.specs.Rules.{ProofStep, Simplify, Reduce, Derive, Done, map_step, AllOfStep}
+use Rattle.circ_proof.specs.Proof.{IsLinkFor, AreLinksFor, IsWhyFor, AreWhysFor, IsStepFor, split_limit}
 
 -- ---- what a property becomes
 

@@ -17,11 +17,11 @@ use Rattle.circ_theory.proofs.Casing.{contains_first}
 use Rattle.circ_theory.proofs.Instances.{sort_of-instance_by, instance_well_sorted}
 use Rattle.circ_theory.proofs.Weakening.{in_rest}
 use Rattle.circ_special.specs.declared.place.Place.{Place}
-use Rattle.circ_replay.specs.Goals.{goal, sides, IsWellSortedGoal, AreSortedGoals}
-use Rattle.circ_replay.specs.Link.{setting}
-use Rattle.circ_rules.specs.Rules.{State, state, ProofStep, Simplify, Reduce, Derive, Done, AllOfStep, IsSortedState, StepOn, StepsOf}
-use Rattle.circ_rules.specs.Rules.{fresh_in, derived_goal, derivatives_on}
-use Rattle.circ_rules.proofs.Stepping.{step_sorted, steps_sorted, steps_grow}
+use Rattle.circ_proof.specs.Goals.{goal, sides, IsWellSortedGoal, AreSortedGoals}
+use Rattle.circ_proof.specs.Link.{setting}
+use Rattle.circ_proof.specs.Rules.{State, state, ProofStep, Simplify, Reduce, Derive, Done, AllOfStep, IsSortedState, StepOn, StepsOf}
+use Rattle.circ_proof.specs.Rules.{fresh_in, derived_goal, derivatives_on}
+use Rattle.circ_proof.proofs.Stepping.{step_sorted, steps_sorted, steps_grow}
 use Rattle.circ_soundness.specs.Levels.{AgreeGoal, AgreeGoals, HypothesesAgree, PlacesAgree}
 use Rattle.circ_soundness.proofs.Members.{nothing, pick, in_map, in_filter}
 use Rattle.circ_soundness.proofs.Parameters.{with_parameters, with_parameters_sorted, derived-with_parameters}

@@ -13,11 +13,11 @@ use Rattle.circ_theory.specs.Fresh.{derivatives_of}
 use Rattle.circ_theory.specs.declared.parts.Goal.{Goal}
 use Rattle.circ_special.specs.declared.place.Place.{Place}
 use Rattle.circ_special.specs.Special.{IsPlace}
-use Rattle.circ_replay.specs.Plain.{LinkOf}
-use Rattle.circ_replay.specs.Link.{AllOfLinks}
-use Rattle.circ_rules.specs.Certified.{derivatives_at, due, AreCertified}
-use Rattle.circ_rules.specs.Proof.{Block, Proof, ProofFor}
-use Rattle.circ_rules.specs.Accepted.{certificates_of, Admissible, Derives}
+use Rattle.circ_proof.specs.Plain.{LinkOf}
+use Rattle.circ_proof.specs.Link.{AllOfLinks}
+use Rattle.circ_proof.specs.Certified.{derivatives_at, due, AreCertified}
+use Rattle.circ_proof.specs.Proof.{Block, Proof, ProofFor}
+use Rattle.circ_proof.specs.Accepted.{certificates_of, Admissible, Derives}
 use Rattle.circ_soundness.proofs.Members.{nothing, pick, all_of, in_map, in_filter}
 use Rattle.circ_soundness.proofs.Placing.{no_hypotheses, HasCertificate, IsCertifiedSet, places_agree}
 use Rattle.circ_soundness.proofs.Running.{levels_behave}

@@ -20,7 +20,7 @@ use Rattle.circ_special.specs.Special.{place}
 use Rattle.circ_special.proofs.Agreeing.{stands}
 use Rattle.circ_special.proofs.Distinct.{AreDistinct}
 use Rattle.circ_theory.specs.Fresh.{above, all_above, variables_from}
-use Rattle.circ_rules.specs.Certified.{start_args, start_term}
+use Rattle.circ_proof.specs.Certified.{start_args, start_term}
 use Rattle.circ_soundness.proofs.Filling.{FillsAll, IsOfSort, OfSort, MakesAll, all_distinct_make}
 use Rattle.circ_soundness.proofs.Changing.{DifferAt, replaced_once}
 use Rattle.circ_soundness.proofs.Parameters.{plug_hole, plug_differs, with_parameters, with_parameters_below, with_parameters_sorted, derived-with_parameters}

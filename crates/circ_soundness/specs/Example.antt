@@ -5,10 +5,10 @@ use Rattle.circ_theory.specs.Theory.{Theory, Derivative}
 use Rattle.circ_theory.specs.Examples.{plain_op}
 use Rattle.circ_theory.specs.declared.way.Way.TheVariants.{Forth}
 use Rattle.circ_special.specs.Special.{place}
-use Rattle.circ_replay.specs.Plain.{LinkOf, Equation_link, Hypothesis_link, ChainOf, Same_why}
-use Rattle.circ_replay.specs.Goals.{goal}
-use Rattle.circ_rules.specs.Rules.{ProofStep, Reduce, Derive, Done}
-use Rattle.circ_rules.specs.Proof.{Proof}
+use Rattle.circ_proof.specs.Plain.{LinkOf, Equation_link, Hypothesis_link, ChainOf, Same_why}
+use Rattle.circ_proof.specs.Goals.{goal}
+use Rattle.circ_proof.specs.Rules.{ProofStep, Reduce, Derive, Done}
+use Rattle.circ_proof.specs.Proof.{Proof}
 
 -- sort 0 is Bit, sort 1 is Stream; the operators are hd, tl, g, f and k
 abbrev pub hd : Tree → Tree

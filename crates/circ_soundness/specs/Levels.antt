@@ -10,7 +10,7 @@ use Rattle.circ_theory.specs.Experiment.{Entry, Fits, on}
 use Rattle.circ_theory.specs.declared.parts.Goal.{Goal}
 use Rattle.circ_special.specs.declared.place.Place.{Place}
 use Rattle.circ_special.specs.Special.{place}
-use Rattle.circ_replay.specs.Goals.{AreSortedGoals}
+use Rattle.circ_proof.specs.Goals.{AreSortedGoals}
 
 -- Two terms agree at level n where every fitting experiment of at most n entries gives results that are derivable from the assumptions.
 abbrev pub Agree : Theory → (assumptions : List Pair) → (level : ℕ) → Tree → Tree → Type 0

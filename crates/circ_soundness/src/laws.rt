@@ -5,8 +5,8 @@ ghost use Rattle.circ_theory.specs.Theory.{Theory};
 ghost use Rattle.circ_theory.specs.WellFormed.{IsWellFormed};
 ghost use Rattle.circ_theory.specs.Experiment.{Behaves};
 ghost use Rattle.circ_theory.specs.declared.parts.Goal.{Goal};
-ghost use Rattle.circ_rules.specs.Proof.{Block, Proof, ProofFor};
-ghost use Rattle.circ_rules.specs.Accepted.{Accepted, Derives, FirstFail};
+ghost use Rattle.circ_proof.specs.Proof.{Block, Proof, ProofFor};
+ghost use Rattle.circ_proof.specs.Accepted.{Accepted, Derives, FirstFail};
 ghost use Rattle.circ_soundness.specs.Example.{twins, twins_alike, twins_bare, first, second};
 
 /// Where a proof that fits a well-formed theory is accepted, each goal of each block behaves.

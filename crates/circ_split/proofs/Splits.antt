@@ -7,7 +7,7 @@ use Rattle.circ_term.specs.Order.{is_same}
 use Rattle.circ_term.proofs.Order.{same_here, same_itself}
 use Rattle.circ_theory.specs.Theory.{Theory}
 use Rattle.circ_theory.specs.declared.parts.Goal.{Goal}
-use Rattle.circ_replay.specs.Plain.{Same_why, Split_why, WhysOf, no_why, more_whys}
+use Rattle.circ_proof.specs.Plain.{Same_why, Split_why, WhysOf, no_why, more_whys}
 use Rattle.circ_rewrite.specs.declared.parts.Rule.{Rule}
 use Rattle.circ_plain_search.specs.Joining.{Stop, and_then, first_open}
 use Rattle.circ_plain_search.specs.Search.{Sides, normal_sides, reason_with, SplitReason, split_with, Splitter, case_reason, case_of, each_case, open_cases, split_cases}

@@ -3,7 +3,7 @@ use Rattle.std.specs.Prelude.{◌≡◌, ℕ, List, [], ◌∷◌, Vec, Result, 
 use Rattle.circ_term.specs.Tree.{Tree}
 use Rattle.circ_theory.specs.Theory.{Theory}
 use Rattle.circ_theory.specs.declared.parts.Goal.{Goal}
-use Rattle.circ_replay.specs.Plain.{WhysOf, more_whys}
+use Rattle.circ_proof.specs.Plain.{WhysOf, more_whys}
 use Rattle.circ_rewrite.specs.declared.parts.Rule.{Rule}
 use Rattle.circ_plain_search.specs.Joining.{Stop, and_then}
 use Rattle.circ_plain_search.specs.Search.{NormalSide, normal_side, Sides, sides_with, Reason, reason_with, SplitReason, split_with, normal_sides, case_reason, split_cases}

@@ -2,7 +2,7 @@
 ghost use Rattle.std.specs.Prelude.{◌≡◌, ◌≤◌, ◌<◌, ◌+◌, ◌^◌, ℕ, []};
 ghost use Rattle.std.specs.Prelude.{◌∷◌, ◌++◌, length, Err, IfOk, OnOk};
 ghost use Rattle.circ_term.specs.Tree.{App, none, sort_of};
-ghost use Rattle.circ_rules.specs.Proof.{split_limit};
+ghost use Rattle.circ_proof.specs.Proof.{split_limit};
 ghost use Rattle.circ_plain_search.specs.Joining.{Not_split};
 ghost use Rattle.circ_plain_search.specs.Search.{normal_sides, split_cases, each_case};
 ghost use Rattle.circ_plain_search.specs.Search.{case_of, constants_of};

@@ -6,7 +6,7 @@ use Rattle.std.proofs.lemmas.Bool.{cases_eq}
 use Rattle.std.proofs.lemmas.List.{length-set}
 use Rattle.std.proofs.lemmas.Option.{same_Some, slice_get_within}
 use Rattle.circ_term.specs.Tree.{Tree}
-use Rattle.circ_replay.specs.Table.{has}
+use Rattle.circ_proof.specs.Table.{has}
 use Rattle.circ_table.specs.declared.lines.Row.{Row}
 use Rattle.circ_table.specs.declared.links.TheConstants.{END}
 use Rattle.circ_table.specs.Lines.{PlainRoot, row_root, begin_of, tree_at, trees_from, IsThere, AreRowsFrom}

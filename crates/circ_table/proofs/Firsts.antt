@@ -10,8 +10,8 @@ use Rattle.circ_term.specs.Tree.{Tree, Var, trees_of}
 use Rattle.circ_term.specs.Limits.{or_else, first_limits, IsWithinLimits}
 use Rattle.circ_term.specs.Order.{is_same}
 use Rattle.circ_term.proofs.Order.{same_itself}
-use Rattle.circ_replay.specs.Table.{has, number_in}
-use Rattle.circ_replay.proofs.Tables.{number_stays}
+use Rattle.circ_proof.specs.Table.{has, number_in}
+use Rattle.circ_proof.proofs.Tables.{number_stays}
 use Rattle.circ_table.specs.Table.{first_at, firsts_at}
 use Rattle.circ_table.specs.Lines.{picked}
 

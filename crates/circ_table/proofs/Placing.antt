@@ -8,8 +8,8 @@ use Rattle.std.proofs.lemmas.List.{drop-append-le, take-append-le, drop_at, take
 use Rattle.std.proofs.lemmas.Option.{same_Some, slice_get_within, slice_get_past}
 use Rattle.circ_term.specs.Tree.{Tree, args_of, size_of, sort_of}
 use Rattle.circ_term.specs.Limits.{argument_limit, IsWithinLimits}
-use Rattle.circ_replay.specs.Table.{has, number_in}
-use Rattle.circ_replay.proofs.Tables.{number_names, number_stays, number_last}
+use Rattle.circ_proof.specs.Table.{has, number_in}
+use Rattle.circ_proof.proofs.Tables.{number_names, number_stays, number_last}
 use Rattle.circ_table.specs.declared.lines.Kind.{Kind}
 use Rattle.circ_table.specs.declared.lines.Kind.TheVariants as kinds
 use Rattle.circ_table.specs.declared.lines.Row.{Row}

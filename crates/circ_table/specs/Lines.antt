@@ -2,7 +2,7 @@
 use Rattle.std.specs.Prelude.{◌≡◌, ℕ, zero, suc, ◌-◌, ◌≤◌, not, List, [], ◌∷◌, ◌++◌, length, take, drop, unwrap_or, slice_index_or, Some}
 use Rattle.circ_term.specs.Tree.{Tree, Var, App, trees_of, args_of, size_of, depth_of}
 use Rattle.circ_term.specs.Limits.{argument_limit, IsWithinLimits}
-use Rattle.circ_replay.specs.Table.{has}
+use Rattle.circ_proof.specs.Table.{has}
 use Rattle.circ_table.specs.Table.{firsts_at}
 use Rattle.circ_table.specs.declared.lines.Kind.{Kind}
 use Rattle.circ_table.specs.declared.lines.Kind.TheVariants as kinds

@@ -1,7 +1,7 @@
 -- Terms of a table in chains: each chain leads from its newest term to its oldest.
 use Rattle.std.specs.Prelude.{◌≡◌, ◌⊎◌, ℕ, ◌-◌, ◌*◌, ◌/◌, ◌%◌, ◌^◌, ◌≤◌, ◌<◌, bit_xor, if◌then◌else◌, List, [], ◌∷◌, length, fold, Option, Some, None}
 use Rattle.std.specs.List.{slice_get}
-use Rattle.circ_replay.specs.Table.{term_limit}
+use Rattle.circ_proof.specs.Table.{term_limit}
 use Rattle.circ_table.specs.declared.lines.Row.{Row}
 use Rattle.circ_table.specs.declared.lines.Lines.{Lines}
 use Rattle.circ_table.specs.declared.links.Links.{Links}

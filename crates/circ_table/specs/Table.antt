@@ -5,7 +5,7 @@ use Rattle.std.specs.Option.{option_map, option_and_then}
 use Rattle.circ_term.specs.Tree.{Tree}
 use Rattle.circ_term.specs.Limits.{first_limit, IsWithinLimits, Names}
 use Rattle.circ_term.specs.declared.fault.TermFault.{TermFault}
-use Rattle.circ_replay.specs.Table.{number_in}
+use Rattle.circ_proof.specs.Table.{number_in}
 
 -- the term of which this is the least number
 abbrev pub first_at : List Tree → ℕ → Option Tree

@@ -5,7 +5,7 @@ ghost use Rattle.std.specs.Prelude.{length, Some, IsTrue, OnOk};
 ghost use Rattle.std.specs.Prelude.{vec_len, vec_capacity};
 ghost use Rattle.std.specs.List.{slice_get};
 ghost use Rattle.circ_term.specs.Tree.{size_of};
-ghost use Rattle.circ_replay.specs.Table.{has};
+ghost use Rattle.circ_proof.specs.Table.{has};
 ghost use Rattle.circ_table.specs.Lines.{AreLines, plain, trees, roots, tree_at, IsThere};
 ghost use Rattle.circ_table.specs.Links.{mixed, hash_of, keys, IsLinked};
 

@@ -5,7 +5,7 @@ ghost use Rattle.std.specs.Prelude.{IfOk, OnOk, OnErr};
 ghost use Rattle.std.specs.Option.{option_map};
 ghost use Rattle.circ_term.specs.Tree.{Tree, Var, App, trees_of, sort_of, sizes_of, depths_of};
 ghost use Rattle.circ_term.specs.Limits.{argument_limit, node_limit, depth_limit, first_limits};
-ghost use Rattle.circ_replay.specs.Table.{term_limit};
+ghost use Rattle.circ_proof.specs.Table.{term_limit};
 ghost use Rattle.circ_table.specs.Table.{first_at, firsts_at, AddsRow};
 ghost use Rattle.circ_table.specs.Lines.{plain, tree_at, IsNode};
 

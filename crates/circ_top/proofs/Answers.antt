@@ -5,8 +5,8 @@ use Rattle.circ_outer.specs.Sink.{SinkState}
 use Rattle.circ_theory.specs.Theory.{Theory}
 use Rattle.circ_theory.specs.declared.parts.Goal.{Goal}
 use Rattle.circ_theory.specs.WellFormed.{IsWellFormed}
-use Rattle.circ_rules.specs.Proof.{Proof}
-use Rattle.circ_rules.specs.Accepted.{Derives, FirstFail}
+use Rattle.circ_proof.specs.Proof.{Proof}
+use Rattle.circ_proof.specs.Accepted.{Derives, FirstFail}
 use Rattle.circ_plain_search.specs.Numbering.{Proved}
 use Rattle.circ_plain_search.specs.PlainSearch.{PlainSearch, AreSearchable, IsProofOf}
 use Rattle.circ_plain_search.specs.Search.{Limits as SearchLimits}

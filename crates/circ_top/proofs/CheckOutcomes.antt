@@ -4,8 +4,8 @@ use Rattle.circ_outer.specs.Shelf.{ShelfState}
 use Rattle.circ_theory.specs.Theory.{Theory}
 use Rattle.circ_theory.specs.WellFormed.{IsWellFormed}
 use Rattle.circ_theory.specs.declared.parts.Goal.{Goal}
-use Rattle.circ_rules.specs.Proof.{Proof}
-use Rattle.circ_rules.specs.Accepted.{Derives, FirstFail}
+use Rattle.circ_proof.specs.Proof.{Proof}
+use Rattle.circ_proof.specs.Accepted.{Derives, FirstFail}
 use Rattle.circ_proof_text.specs.ProofText.{ReadsAsProof}
 use Rattle.circ_read.specs.ReadsAs.{ReadsAs}
 use Rattle.circ_top.specs.Causes.{AtEither}

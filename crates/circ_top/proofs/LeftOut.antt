@@ -4,8 +4,8 @@ use Rattle.std.specs.Prelude.{IsSome}
 use Rattle.circ_theory.specs.Theory.{Theory}
 use Rattle.circ_theory.specs.declared.parts.Goal.{Goal}
 use Rattle.circ_grammar.specs.FirstBad.{LineFault, Line_fault, Limit_fault}
-use Rattle.circ_rules.specs.Proof.{Proof, ProofFor}
-use Rattle.circ_rules.specs.Accepted.{Accepted, FirstFail}
+use Rattle.circ_proof.specs.Proof.{Proof, ProofFor}
+use Rattle.circ_proof.specs.Accepted.{Accepted, FirstFail}
 use Rattle.circ_proof_text.specs.ProofText.{ReadsAsProof, FirstCause}
 use Rattle.circ_read.specs.ReadsAs.{ReadsAs, ReadOrRefused}
 use Rattle.circ_read.specs.declared.cause.Cause.{Cause}

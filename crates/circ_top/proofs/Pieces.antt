@@ -1,8 +1,8 @@
 -- A proof that is read and checked as its text comes.
 use Rattle.std.proofs.Common.{◌≡◌, ◌≢◌, ◌≤◌, ◌+◌, ◌∙◌, ℕ, List, [], ◌∷◌, ◌++◌, length, map, Some, refl, sym, ap, subst, arith, length-append, append_assoc, append-nil}
 use Rattle.circ_theory.specs.Theory.{Theory}
-use Rattle.circ_rules.specs.Parts.{Part, Head, Certificate, Goals, Step, block_parts, parts_of}
-use Rattle.circ_rules.specs.Proof.{Block, Proof}
+use Rattle.circ_proof.specs.Parts.{Part, Head, Certificate, Goals, Step, block_parts, parts_of}
+use Rattle.circ_proof.specs.Proof.{Block, Proof}
 use Rattle.circ_check.specs.Deciding.{plain_list}
 use Rattle.circ_check.specs.Watching as checker
 use Rattle.circ_proof_text.specs.ProofText.{ReadsAsProof}

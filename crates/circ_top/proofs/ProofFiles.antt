@@ -3,7 +3,7 @@ use Rattle.std.proofs.Common.{◌≡◌, ◌≤◌, ℕ, List, length, Some, tru
 use Rattle.std.specs.Prelude.{IfOk, IfErr}
 use Rattle.circ_outer.specs.Shelf.{ShelfState, ShelfFrame, IsQuiet}
 use Rattle.circ_theory.specs.Theory.{Theory}
-use Rattle.circ_rules.specs.Proof.{Proof}
+use Rattle.circ_proof.specs.Proof.{Proof}
 use Rattle.circ_proof_text.specs.ProofText.{ReadsAsProof}
 use Rattle.circ_top.specs.Check.{IsAccepted, RefusesCheck, proof_fault}
 use Rattle.circ_top.specs.Check as check

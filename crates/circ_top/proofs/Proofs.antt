@@ -4,8 +4,8 @@ use Rattle.circ_theory.specs.Theory.{Theory}
 use Rattle.circ_theory.specs.WellFormed.{IsWellFormed}
 use Rattle.circ_theory.specs.declared.parts.Goal.{Goal}
 use Rattle.circ_grammar.specs.FirstBad.{LineFault, Line_fault, Limit_fault}
-use Rattle.circ_rules.specs.Proof.{Proof}
-use Rattle.circ_rules.specs.Accepted.{Accepted, Derives, FirstFail}
+use Rattle.circ_proof.specs.Proof.{Proof}
+use Rattle.circ_proof.specs.Accepted.{Accepted, Derives, FirstFail}
 use Rattle.circ_proof_text.specs.ProofText.{ReadsAsProof, FirstCause}
 use Rattle.circ_read.specs.declared.cause.Cause.{Cause}
 use Rattle.circ_read.specs.declared.cause.Cause.TheVariants as cause

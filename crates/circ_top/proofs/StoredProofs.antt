@@ -3,8 +3,8 @@ use Rattle.std.proofs.Common.{◌≡◌, ℕ, List, refl, sym, ◌∙◌, subst,
 use Rattle.std.proofs.lemmas.Option.{same_Some}
 use Rattle.circ_theory.specs.Theory.{Theory}
 use Rattle.circ_theory.specs.WellFormed.{IsWellFormed}
-use Rattle.circ_rules.specs.Accepted.{Accepted, FirstFail}
-use Rattle.circ_rules.specs.Proof.{Proof}
+use Rattle.circ_proof.specs.Accepted.{Accepted, FirstFail}
+use Rattle.circ_proof.specs.Proof.{Proof}
 use Rattle.circ_proof_text.specs.ProofText.{ReadsAsProof}
 use Rattle.circ_read.specs.ReadsAs.{ReadsAs}
 use Rattle.circ_files.specs.Files.{Held, Holds, RefusesFile}

@@ -7,8 +7,8 @@ use Rattle.circ_theory.specs.Signature.{Signature}
 use Rattle.circ_theory.specs.Theory.{Theory}
 use Rattle.circ_theory.specs.Experiment.{Behaves}
 use Rattle.circ_theory.specs.declared.parts.Goal.{Goal}
-use Rattle.circ_rules.specs.Proof.{Block, Proof}
-use Rattle.circ_rules.specs.Accepted.{Derives, FirstFail}
+use Rattle.circ_proof.specs.Proof.{Block, Proof}
+use Rattle.circ_proof.specs.Accepted.{Derives, FirstFail}
 use Rattle.circ_show.specs.GoalsText.{plain_goal, relation_lines}
 use Rattle.circ_found.specs.Answering.{all_goal_lines}
 use Rattle.circ_top.specs.Command.{Check, Asks}

@@ -2,8 +2,8 @@
 use Rattle.std.specs.Prelude.{ℕ, List}
 use Rattle.circ_outer.specs.Shelf.{ShelfState}
 use Rattle.circ_theory.specs.Theory.{Theory}
-use Rattle.circ_rules.specs.Accepted.{FirstFail}
-use Rattle.circ_rules.specs.Proof.{Proof}
+use Rattle.circ_proof.specs.Accepted.{FirstFail}
+use Rattle.circ_proof.specs.Proof.{Proof}
 use Rattle.circ_top.specs.Check.{Proves}
 use Rattle.circ_files.specs.ProofFile.{TakesProof, IsProofFault}
 use Rattle.circ_top.specs.declared.request.Report.{Report}

@@ -1,9 +1,9 @@
 //! A proof that is read and checked as its text comes.
 ghost use Rattle.std.specs.Prelude.{◌≡◌, ◌++◌, ◌∷◌, [], ℕ, List, IfOk, OnOk, map};
 ghost use Rattle.circ_theory.specs.Theory.{Theory as PlainTheory};
-ghost use Rattle.circ_rules.specs.Parts.{Part as PlainPart};
+ghost use Rattle.circ_proof.specs.Parts.{Part as PlainPart};
 ghost use Rattle.circ_rules.specs.Plain.{plain_part};
-ghost use Rattle.circ_rules.specs.Proof.{Proof};
+ghost use Rattle.circ_proof.specs.Proof.{Proof};
 ghost use Rattle.circ_check.specs.Deciding.{plain_list};
 ghost use Rattle.circ_check.specs.Watching as checker;
 ghost use Rattle.circ_file.specs.Feeding as reader;

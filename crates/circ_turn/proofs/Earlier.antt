@@ -7,10 +7,10 @@ use Rattle.circ_theory.specs.Theory.{Theory}
 use Rattle.circ_theory.specs.Observing.{is_hidden}
 use Rattle.circ_theory.specs.declared.parts.Goal.{Goal}
 use Rattle.circ_special.specs.declared.place.Place.{Place}
-use Rattle.circ_replay.specs.Plain.{WhyOf, Same_why, Split_why}
-use Rattle.circ_replay.specs.Goals.{goal}
-use Rattle.circ_rules.specs.Rules.{ProofStep, Simplify, Reduce, Derive, derivatives_on}
-use Rattle.circ_rules.specs.Proof.{step_limit, split_limit}
+use Rattle.circ_proof.specs.Plain.{WhyOf, Same_why, Split_why}
+use Rattle.circ_proof.specs.Goals.{goal}
+use Rattle.circ_proof.specs.Rules.{ProofStep, Simplify, Reduce, Derive, derivatives_on}
+use Rattle.circ_proof.specs.Proof.{step_limit, split_limit}
 use Rattle.circ_plain_search.specs.BlockRules.{block_rules}
 use Rattle.circ_plain_search.specs.Joining.{HypothesisUse, use_link, and_then, put_all, joined}
 use Rattle.circ_plain_search.specs.Search.{Limits, Standing, Ending, Sides, chain_with, chained, has_links, normal_sides, split_cases, or_end, spent, record_step, reduced, goals_limit, unless_past, derive_turn, simplified, hidden_turn, visible_turn, open_turn, swept_sides, pass_turn, join_turn, sides_turn, goal_turn, with_sides, next_goal, turn, turn_at, is_deep_step}

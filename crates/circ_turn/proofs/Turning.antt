@@ -7,10 +7,10 @@ use Rattle.circ_theory.specs.Theory.{Theory}
 use Rattle.circ_theory.specs.Observing.{is_hidden}
 use Rattle.circ_theory.specs.declared.parts.Goal.{Goal}
 use Rattle.circ_special.specs.declared.place.Place.{Place}
-use Rattle.circ_replay.specs.Plain.{LinkOf, ChainOf, WhyOf, Same_why, Split_why}
-use Rattle.circ_replay.specs.Goals.{goal}
-use Rattle.circ_rules.specs.Rules.{Simplify, Done, derivatives_on}
-use Rattle.circ_rules.specs.Proof.{step_limit, split_limit}
+use Rattle.circ_proof.specs.Plain.{LinkOf, ChainOf, WhyOf, Same_why, Split_why}
+use Rattle.circ_proof.specs.Goals.{goal}
+use Rattle.circ_proof.specs.Rules.{Simplify, Done, derivatives_on}
+use Rattle.circ_proof.specs.Proof.{step_limit, split_limit}
 use Rattle.circ_plain_search.specs.BlockRules.{block_rules}
 use Rattle.circ_plain_search.specs.Joining.{Stop, HypothesisUse, use_link, and_then, put_all}
 use Rattle.circ_plain_search.specs.Search.{Limits, Standing, Ending, Sides, SplitReason, chain_with, chained, no_links, has_links, is_nil, normal_sides, split_cases, or_end, record_step, reduced, goals_limit, derive_turn, simplified, hidden_turn, visible_turn, open_turn, swept_sides, pass_turn, join_turn, sides_turn, goal_turn, with_sides, with_this, begun, next_block, done_turn, is_deep_step}

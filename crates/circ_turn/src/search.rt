@@ -2,7 +2,7 @@
 ghost use Rattle.std.specs.Prelude.{◌≡◌, ◌∷◌, [], List, Ok, IfOk};
 ghost use Rattle.std.specs.Bool.{OnTrue};
 ghost use Rattle.circ_theory.specs.declared.parts.Goal.{Goal as TheGoal};
-ghost use Rattle.circ_replay.specs.Goals.{goal};
+ghost use Rattle.circ_proof.specs.Goals.{goal};
 ghost use Rattle.circ_plain_search.specs.BlockRules.{block_rules};
 ghost use Rattle.circ_plain_search.specs.Coming.{IsReady, IsSmall};
 ghost use Rattle.circ_plain_search.specs.Search.{Reaches, Standing, Sides, normal_sides, turn};

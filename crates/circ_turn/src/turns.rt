@@ -1,7 +1,7 @@
 //! The turns of a search.
 ghost use Rattle.std.specs.Prelude.{◌≡◌, ◌<◌, ◌∷◌, [], List, length, drop, Some, Ok};
 ghost use Rattle.circ_theory.specs.declared.parts.Goal.{Goal as TheGoal};
-ghost use Rattle.circ_replay.specs.Goals.{goal};
+ghost use Rattle.circ_proof.specs.Goals.{goal};
 ghost use Rattle.circ_plain_search.specs.BlockRules.{block_rules, hidden_lemmas};
 ghost use Rattle.circ_plain_search.specs.Coming.{IsReady, IsSmall};
 ghost use Rattle.circ_plain_search.specs.Search.{goal_turn, sides_turn, join_turn, pass_turn};

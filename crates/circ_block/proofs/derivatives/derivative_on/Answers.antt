@@ -1,5 +1,5 @@
 use Rattle.std.proofs.Common.{◌∙◌}
-use Rattle.circ_rules.proofs.Deriving.{left_fits, right_fits}
+use Rattle.circ_proof.proofs.Derivatives.{left_fits, right_fits}
 use Rattle.circ_block.proofs.Limited.{on_goal}
 use Rattle.circ_block.proofs.derivatives.derivative_on.Goals as goal
 

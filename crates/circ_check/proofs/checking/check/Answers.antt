@@ -1,5 +1,5 @@
 use Rattle.std.proofs.Common.{length, inl}
-use Rattle.circ_rules.specs.Plain.{plain_proof, plain_certificates}
+use Rattle.circ_proof.specs.PlainProof.{plain_proof, plain_certificates}
 use Rattle.circ_soundness.proofs.Resolving.{certificates_in_table}
 use Rattle.circ_check.proofs.Behaving.{decided_behave}
 use Rattle.circ_check.proofs.checking.check.Goals as goal

@@ -1,5 +1,5 @@
 use Rattle.std.proofs.Common.{◌≡◌, [], map, drop, length}
-use Rattle.circ_rules.specs.Plain.{plain_block, plain_proof}
+use Rattle.circ_proof.specs.PlainProof.{plain_block, plain_proof}
 use Rattle.circ_check.specs.Deciding.{plain_list}
 use Rattle.circ_check.proofs.Standing.{DerivesSoFar}
 use Rattle.circ_check.proofs.checking.derive_blocks.Given as goal

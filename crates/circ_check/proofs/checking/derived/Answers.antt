@@ -1,5 +1,5 @@
 use Rattle.std.proofs.Common.{map}
-use Rattle.circ_rules.specs.Plain.{plain_proof}
+use Rattle.circ_proof.specs.PlainProof.{plain_proof}
 use Rattle.circ_check.specs.Deciding.{plain_list}
 use Rattle.circ_check.proofs.Behaving.{derived_lists_behave}
 use Rattle.circ_check.proofs.checking.derived.Goals as goal

@@ -1,5 +1,5 @@
 use Rattle.circ_theory.specs.Rewriting.{named}
-use Rattle.circ_rules.specs.Plain.{plain_state}
+use Rattle.circ_proof.specs.PlainProof.{plain_state}
 use Rattle.circ_check.proofs.knowing.apply_known.Goals as goal
 
 pub returns-clause-known : goal.returns-clause-known

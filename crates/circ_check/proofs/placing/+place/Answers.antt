@@ -1,10 +1,10 @@
 use Rattle.std.proofs.Common.{◌≡◌, ◌<◌, ◌∙◌, ℕ, List, length, get_or, ap, sym, subst, arith}
 use Rattle.std.specs.Result.{OnOk}
 use Rattle.circ_term.specs.Tree.{Tree}
-use Rattle.circ_replay.specs.Plain.{WhyOf, plain_chain, plain_why, plain_whys}
-use Rattle.circ_replay.specs.Justified.{AllOfWhy}
-use Rattle.circ_replay.specs.declared.links.Why.{Why, Split}
-use Rattle.circ_replay.specs.declared.links.Why as whys
+use Rattle.circ_proof.specs.Plain.{WhyOf, plain_chain, plain_why, plain_whys}
+use Rattle.circ_proof.specs.Justified.{AllOfWhy}
+use Rattle.circ_proof.specs.declared.links.Why.{Why, Split}
+use Rattle.circ_proof.specs.declared.links.Why as whys
 use Rattle.circ_replay.proofs.Whys.{split_plain}
 use Rattle.circ_replay.proofs.Reasons.{why_depth, whys_depth, depth_at, each_why}
 use Rattle.circ_check.specs.Placing.{PlacesWhy, PlacesWhys}

@@ -1,5 +1,5 @@
 use Rattle.std.proofs.Common.{◌+◌, ◌*◌}
-use Rattle.circ_replay.specs.Plain.{plain_why, plain_whys}
+use Rattle.circ_proof.specs.Plain.{plain_why, plain_whys}
 use Rattle.circ_replay.proofs.Reasons.{why_depth, whys_depth}
 use Rattle.circ_check.proofs.Placed.{OnTheirWay, WhyAsPlaced}
 use Rattle.circ_check.proofs.placing.+place.Given as goal

@@ -1,4 +1,4 @@
-use Rattle.circ_replay.specs.Plain.{plain_chain}
+use Rattle.circ_proof.specs.Plain.{plain_chain}
 use Rattle.circ_check.proofs.Watching.{on_ok}
 use Rattle.circ_check.proofs.Placed.{chain_placed}
 use Rattle.circ_check.proofs.placing.place_chain.Goals as goal

@@ -1,7 +1,7 @@
 use Rattle.std.proofs.Common.{◌<◌, ◌∙◌, List, length, get_or, ap, sym, subst, arith}
-use Rattle.circ_replay.specs.Link.{AllOfLink}
-use Rattle.circ_replay.specs.Plain.{plain_link, plain_links}
-use Rattle.circ_replay.specs.declared.links.Link.{Link}
+use Rattle.circ_proof.specs.Link.{AllOfLink}
+use Rattle.circ_proof.specs.Plain.{plain_link, plain_links}
+use Rattle.circ_proof.specs.declared.links.Link.{Link}
 use Rattle.circ_check.specs.Placing.{PlacesLinks}
 use Rattle.circ_check.proofs.Placed.{LinkAsPlaced, grows_more, way_begins, way_on, way_next, each_of, read_any, link_stays, links_placed, written}
 use Rattle.circ_check.proofs.placing.place_links.Goals as goal

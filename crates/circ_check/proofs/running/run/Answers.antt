@@ -2,9 +2,9 @@ use Rattle.std.proofs.Common.{map, subst, List, ◌<◌, length}
 use Rattle.std.specs.List.{AllByRecursion}
 use Rattle.circ_term.proofs.Within.{drop_read}
 use Rattle.circ_theory.specs.Rewriting.{named}
-use Rattle.circ_rules.specs.Rules.{map_step, AllOfStep}
-use Rattle.circ_rules.specs.Plain.{plain_state, plain_step, plain_steps}
-use Rattle.circ_rules.specs.declared.proof.Step.{Step}
+use Rattle.circ_proof.specs.Rules.{map_step, AllOfStep}
+use Rattle.circ_proof.specs.PlainProof.{plain_state, plain_step, plain_steps}
+use Rattle.circ_proof.specs.declared.proof.Step.{Step}
 use Rattle.circ_check.proofs.Standing.{stands_first, stands_done}
 use Rattle.circ_check.proofs.running.run.Goals as goal
 

@@ -1,8 +1,8 @@
 use Rattle.std.proofs.Common.{◌<◌, map, drop, length}
 use Rattle.std.specs.List.{AllByRecursion}
 use Rattle.circ_theory.specs.Rewriting.{named}
-use Rattle.circ_rules.specs.Rules.{map_step, AllOfStep}
-use Rattle.circ_rules.specs.Plain.{plain_state, plain_steps}
+use Rattle.circ_proof.specs.Rules.{map_step, AllOfStep}
+use Rattle.circ_proof.specs.PlainProof.{plain_state, plain_steps}
 use Rattle.circ_check.specs.Knowing.{AreKnown}
 use Rattle.circ_check.proofs.Standing.{StandsAt}
 use Rattle.circ_check.proofs.running.run.Given as goal

@@ -1,6 +1,6 @@
 use Rattle.std.proofs.Common.{◌≡◌, ◌++◌, Bool, List, length, ap, sym, subst, ◌∙◌}
-use Rattle.circ_replay.specs.Goals.{AreSortedGoals}
-use Rattle.circ_rules.specs.Plain.{plain_block, plain_steps}
+use Rattle.circ_proof.specs.Goals.{AreSortedGoals}
+use Rattle.circ_proof.specs.PlainProof.{plain_block, plain_steps}
 use Rattle.circ_soundness.proofs.Blocks.{block_sorted}
 use Rattle.circ_soundness.proofs.Resolving.{steps_in_table}
 use Rattle.circ_check.specs.Knowing.{AreKnown, marks_of}

@@ -1,7 +1,7 @@
 use Rattle.std.proofs.Common.{refl, sym, arith}
 use Rattle.std.specs.List.{slice_get}
 use Rattle.circ_theory.specs.Operators.{operator_of}
-use Rattle.circ_rules.proofs.Starting.{few_args}
+use Rattle.circ_proof.proofs.Starting.{few_args}
 use Rattle.circ_special.specs.Special.{IsPlace, place}
 use Rattle.circ_contexts.specs.Candidates.{places_at}
 use Rattle.circ_contexts.proofs.Adding.{adds_kept, adds_dropped, adds_all}

@@ -1,6 +1,6 @@
 use Rattle.std.proofs.Common.{◌∙◌, ℕ, List, [], sym, ap, subst}
 use Rattle.std.proofs.lemmas.List.{append-nil}
-use Rattle.circ_rules.specs.Proof.{Proof}
+use Rattle.circ_proof.specs.Proof.{Proof}
 use Rattle.circ_proof_text.specs.Parts.{nothing_gathered, gather_all}
 use Rattle.circ_proof_text.specs.ProofText.{ReadsAsProof}
 use Rattle.circ_proof_text.proofs.Parts.{parts_gathered}

@@ -1,5 +1,5 @@
 use Rattle.std.proofs.Common.{◌≡◌, ◌∙◌, sym, ap}
-use Rattle.circ_rules.specs.Proof.{Proof}
+use Rattle.circ_proof.specs.Proof.{Proof}
 use Rattle.circ_proof_text.specs.Parts.{Gathered, gathered, gather_all}
 use Rattle.circ_file.specs.Decoding.{gathered_of}
 use Rattle.circ_file.proofs.decoding.gather.Goals as goal

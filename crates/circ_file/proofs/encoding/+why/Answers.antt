@@ -1,9 +1,9 @@
 use Rattle.std.proofs.Common.{◌≡◌, ◌-◌, ◌++◌, ◌∙◌, ◌∷◌, ℕ, refl, ap, sym, subst, arith}
 use Rattle.std.proofs.lemmas.Result.{on_ok_weaker}
-use Rattle.circ_replay.specs.Plain.{WhyOf, plain_why, plain_whys}
+use Rattle.circ_proof.specs.Plain.{WhyOf, plain_why, plain_whys}
 use Rattle.circ_replay.proofs.Whys.{split_plain}
 use Rattle.circ_replay.proofs.Reasons.{why_depth, whys_depth, depth_at}
-use Rattle.circ_rules.specs.Proof.{IsWhyFor}
+use Rattle.circ_proof.specs.Proof.{IsWhyFor}
 use Rattle.circ_line.specs.Line.{split_line}
 use Rattle.circ_grammar.specs.Grammar.{why_count, why_lines, whys_lines}
 use Rattle.circ_grammar.specs.FirstBad.{file_text}

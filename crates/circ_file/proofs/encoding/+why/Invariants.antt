@@ -1,5 +1,5 @@
 use Rattle.std.proofs.Common.{◌+◌, ◌*◌}
-use Rattle.circ_replay.specs.Plain.{plain_why, plain_whys}
+use Rattle.circ_proof.specs.Plain.{plain_why, plain_whys}
 use Rattle.circ_replay.proofs.Reasons.{why_depth, whys_depth}
 use Rattle.circ_grammar.specs.Grammar.{whys_lines}
 use Rattle.circ_file.proofs.Written.{IsLeft}

@@ -1,6 +1,6 @@
 use Rattle.std.proofs.Common.{◌++◌, ◌∙◌, ◌∷◌, length, ap}
 use Rattle.std.proofs.lemmas.Result.{on_ok_weaker}
-use Rattle.circ_rules.specs.Plain.{plain_steps}
+use Rattle.circ_proof.specs.PlainProof.{plain_steps}
 use Rattle.circ_line.specs.Line.{done_line}
 use Rattle.circ_grammar.specs.Grammar.{lines_of, goal_lines, step_lines}
 use Rattle.circ_grammar.specs.FirstBad.{file_text}

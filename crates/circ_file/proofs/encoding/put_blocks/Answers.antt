@@ -1,6 +1,6 @@
 use Rattle.std.proofs.Common.{map, refl}
-use Rattle.circ_rules.specs.Plain.{plain_block}
-use Rattle.circ_rules.specs.Proof.{IsBlockFor}
+use Rattle.circ_proof.specs.PlainProof.{plain_block}
+use Rattle.circ_proof.specs.Proof.{IsBlockFor}
 use Rattle.circ_grammar.specs.Grammar.{lines_of, block_lines}
 use Rattle.circ_proof_text.specs.ProofText.{block_numbers}
 use Rattle.circ_file.proofs.Written.{all_written, mapped_at}

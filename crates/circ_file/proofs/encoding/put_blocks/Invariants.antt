@@ -1,5 +1,5 @@
 use Rattle.std.proofs.Common.{map}
-use Rattle.circ_rules.specs.Plain.{plain_block}
+use Rattle.circ_proof.specs.PlainProof.{plain_block}
 use Rattle.circ_grammar.specs.Grammar.{lines_of, block_lines}
 use Rattle.circ_proof_text.specs.ProofText.{block_numbers}
 use Rattle.circ_file.proofs.Written.{IsLeft}

@@ -1,4 +1,4 @@
-use Rattle.circ_rules.specs.Plain.{plain_certificates}
+use Rattle.circ_proof.specs.PlainProof.{plain_certificates}
 use Rattle.circ_grammar.specs.Grammar.{lines_of, certificate_lines}
 use Rattle.circ_file.proofs.Written.{IsLeft}
 use Rattle.circ_file.proofs.encoding.put_certificates.Given as goal

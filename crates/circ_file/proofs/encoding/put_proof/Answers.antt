@@ -1,6 +1,6 @@
 use Rattle.std.proofs.Common.{◌++◌, ◌∙◌, ◌∷◌, [], List, map, ap, sym, append-nil}
 use Rattle.std.proofs.lemmas.Result.{on_ok_weaker}
-use Rattle.circ_rules.specs.Plain.{plain_block, plain_certificates}
+use Rattle.circ_proof.specs.PlainProof.{plain_block, plain_certificates}
 use Rattle.circ_line.specs.Line.{Line, end_line}
 use Rattle.circ_grammar.specs.Grammar.{lines_of, table_lines, place_lines, certificate_lines, block_lines}
 use Rattle.circ_grammar.specs.FirstBad.{file_text}

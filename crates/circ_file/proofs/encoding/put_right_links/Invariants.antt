@@ -1,4 +1,4 @@
-use Rattle.circ_replay.specs.Plain.{plain_links}
+use Rattle.circ_proof.specs.Plain.{plain_links}
 use Rattle.circ_grammar.specs.Grammar.{lines_of, right_lines}
 use Rattle.circ_file.proofs.Written.{IsLeft}
 use Rattle.circ_file.proofs.encoding.put_right_links.Given as goal

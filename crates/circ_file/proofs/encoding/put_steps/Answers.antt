@@ -1,6 +1,6 @@
 use Rattle.std.proofs.Common.{refl}
-use Rattle.circ_rules.specs.Plain.{plain_step, plain_steps}
-use Rattle.circ_rules.specs.Proof.{IsStepFor}
+use Rattle.circ_proof.specs.PlainProof.{plain_step, plain_steps}
+use Rattle.circ_proof.specs.Proof.{IsStepFor}
 use Rattle.circ_grammar.specs.Grammar.{lines_of}
 use Rattle.circ_file.specs.Writing.{lines_of_step}
 use Rattle.circ_file.proofs.Written.{item_written, all_written, mapped_at}

@@ -1,4 +1,4 @@
-use Rattle.circ_rules.specs.Plain.{plain_steps}
+use Rattle.circ_proof.specs.PlainProof.{plain_steps}
 use Rattle.circ_grammar.specs.Grammar.{lines_of}
 use Rattle.circ_file.specs.Writing.{lines_of_step}
 use Rattle.circ_file.proofs.Written.{IsLeft}

@@ -1,5 +1,5 @@
 use Rattle.std.proofs.Common.{sym}
-use Rattle.circ_rules.specs.Plain.{plain_proof}
+use Rattle.circ_proof.specs.PlainProof.{plain_proof}
 use Rattle.circ_file.proofs.Encoded.{can_be_written}
 use Rattle.circ_file.proofs.laws.decoded_bytes_are_the_text.Goals as goal
 

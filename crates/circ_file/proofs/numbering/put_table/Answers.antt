@@ -2,7 +2,7 @@ use Rattle.std.proofs.Common.{◌+◌, ◌++◌, ◌∷◌, [], ◌∙◌, List,
 use Rattle.std.proofs.lemmas.List.{take-append-drop, drop_all}
 use Rattle.circ_term.specs.Tree.{Tree}
 use Rattle.circ_term.proofs.Within.{drop_read}
-use Rattle.circ_rules.specs.Proof.{AreEntries}
+use Rattle.circ_proof.specs.Proof.{AreEntries}
 use Rattle.circ_grammar.specs.Grammar.{lines_of, table_lines}
 use Rattle.circ_grammar.specs.FirstBad.{file_text}
 use Rattle.circ_proof_text.specs.TableText.{entries_of}

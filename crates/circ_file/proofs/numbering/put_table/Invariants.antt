@@ -1,5 +1,5 @@
 use Rattle.std.proofs.Common.{◌≡◌, ◌++◌, [], take, drop, List}
-use Rattle.circ_rules.specs.Proof.{AreEntries}
+use Rattle.circ_proof.specs.Proof.{AreEntries}
 use Rattle.circ_line.specs.Line.{Line}
 use Rattle.circ_grammar.specs.Grammar.{lines_of, table_lines}
 use Rattle.circ_grammar.specs.FirstBad.{file_text}

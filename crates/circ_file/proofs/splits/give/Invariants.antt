@@ -1,5 +1,5 @@
 use Rattle.std.proofs.Common.{◌≡◌, length, []}
-use Rattle.circ_replay.specs.Plain.{plain_why}
+use Rattle.circ_proof.specs.Plain.{plain_why}
 use Rattle.circ_file.specs.Splits.{given, tops}
 use Rattle.circ_file.proofs.splits.give.Given as goal
 

@@ -5,7 +5,7 @@ use Rattle.circ_theory.specs.Limits.{argument_limit}
 use Rattle.circ_theory.specs.Operators.{operator_of}
 use Rattle.circ_theory.specs.Signature.{Operator}
 use Rattle.circ_theory.proofs.Rewriting.{contains_at}
-use Rattle.circ_replay.specs.Table.{term_limit}
+use Rattle.circ_proof.specs.Table.{term_limit}
 use Rattle.circ_line.specs.Line.{Application_line}
 use Rattle.circ_proof_text.specs.TableText.{firsts_at}
 use Rattle.circ_file.specs.Adding.{have_sorts}

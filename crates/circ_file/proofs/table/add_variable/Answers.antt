@@ -1,7 +1,7 @@
 use Rattle.std.proofs.Common.{◌≡◌, ◌≤◌, ◌<◌, if◌then◌else◌, Some, None, length, ap, arith}
 use Rattle.std.proofs.lemmas.Bool.{lt-ltb}
 use Rattle.circ_term.specs.Tree.{Var}
-use Rattle.circ_replay.specs.Table.{term_limit}
+use Rattle.circ_proof.specs.Table.{term_limit}
 use Rattle.circ_line.specs.Line.{Variable_line}
 use Rattle.circ_proof_text.specs.TableText.{term_for}
 use Rattle.circ_file.proofs.Entering.{is_over}

@@ -1,5 +1,5 @@
 use Rattle.std.proofs.Common.{ap}
-use Rattle.circ_rules.specs.Plain.{plain_proof}
+use Rattle.circ_proof.specs.PlainProof.{plain_proof}
 use Rattle.circ_search.specs.Plain.{plain_found}
 use Rattle.circ_found.proofs.answering.found_ending.Goals as goal
 

@@ -1,5 +1,5 @@
 use Rattle.std.proofs.Common.{◌≡◌, ◌≤◌, ◌+◌, drop}
-use Rattle.circ_rules.specs.Plain.{plain_steps}
+use Rattle.circ_proof.specs.PlainProof.{plain_steps}
 use Rattle.circ_found.specs.Answering.{derives_among}
 use Rattle.circ_found.proofs.counts.derives_among.Given as goal
 

@@ -1,6 +1,6 @@
 use Rattle.std.proofs.Common.{◌≡◌, ◌+◌, drop, map}
-use Rattle.circ_rules.specs.Plain.{plain_block}
-use Rattle.circ_rules.specs.Proof.{steps_in}
+use Rattle.circ_proof.specs.PlainProof.{plain_block}
+use Rattle.circ_proof.specs.Proof.{steps_in}
 use Rattle.circ_found.proofs.counts.steps_in.Given as goal
 
 abbrev pub invariant-loop-block : goal.invariant-loop-block

@@ -1,5 +1,5 @@
 use Rattle.std.proofs.Common.{◌≡◌, ◌++◌, drop, map}
-use Rattle.circ_rules.specs.Plain.{plain_block}
+use Rattle.circ_proof.specs.PlainProof.{plain_block}
 use Rattle.circ_found.specs.Answering.{all_goal_lines}
 use Rattle.circ_found.proofs.texts.put_blocks.Given as goal
 

@@ -1,7 +1,7 @@
 use Rattle.std.proofs.Common.{◌≡◌, ℕ, List, Ok, None, subst}
-use Rattle.circ_rules.specs.Accepted.{FirstFail}
-use Rattle.circ_rules.specs.Plain.{plain_proof}
-use Rattle.circ_rules.specs.Proof.{Proof}
+use Rattle.circ_proof.specs.Accepted.{FirstFail}
+use Rattle.circ_proof.specs.PlainProof.{plain_proof}
+use Rattle.circ_proof.specs.Proof.{Proof}
 use Rattle.circ_file.specs.Decoding.{Decodes}
 use Rattle.circ_files.specs.declared.status.Status.TheVariants as status
 use Rattle.circ_files.proofs.FileFaults.{if_ok}

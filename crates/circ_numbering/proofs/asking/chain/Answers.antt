@@ -1,6 +1,6 @@
 use Rattle.std.proofs.Common.{◌∙◌, ap}
 use Rattle.std.proofs.Common.{ℕ, List}
-use Rattle.circ_replay.specs.Plain.{ChainOf, LinkOf, plain_links}
+use Rattle.circ_proof.specs.Plain.{ChainOf, LinkOf, plain_links}
 use Rattle.circ_plain_search.specs.Numbering.{links_terms, numbered_links}
 use Rattle.circ_record.specs.Plain.{plain_term_links}
 use Rattle.circ_numbering.proofs.Requests.{first_fails, second_fails, both_asked, later_too}

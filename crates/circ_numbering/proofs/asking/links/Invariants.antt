@@ -1,7 +1,7 @@
 use Rattle.std.proofs.Common.{drop}
-use Rattle.circ_replay.specs.Plain.{plain_link, map_link}
-use Rattle.circ_replay.specs.Link.{terms_of}
-use Rattle.circ_replay.specs.Table.{number_in}
+use Rattle.circ_proof.specs.Plain.{plain_link, map_link}
+use Rattle.circ_proof.specs.Link.{terms_of}
+use Rattle.circ_proof.specs.Table.{number_in}
 use Rattle.circ_record.specs.Plain.{plain_term_link}
 use Rattle.circ_numbering.proofs.Walks.{IsOnItsWay}
 use Rattle.circ_numbering.proofs.asking.links.Given as goal

@@ -1,7 +1,7 @@
 use Rattle.std.proofs.Common.{◌∙◌, [], ◌∷◌, ap, sym, subst}
 use Rattle.circ_plain_search.specs.Numbering.{asked_for}
 use Rattle.circ_numbering.specs.Asking.{IsFaultOf}
-use Rattle.circ_replay.specs.Table.{number_in}
+use Rattle.circ_proof.specs.Table.{number_in}
 use Rattle.circ_numbering.proofs.Walks.{walk_fails, walk_on, walk_asked, walk_named, each_alone, as_they_are}
 use Rattle.circ_numbering.proofs.asking.numbers.Goals as goal
 

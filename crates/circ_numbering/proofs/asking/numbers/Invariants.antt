@@ -1,5 +1,5 @@
 use Rattle.std.proofs.Common.{[], ◌∷◌, drop}
-use Rattle.circ_replay.specs.Table.{number_in}
+use Rattle.circ_proof.specs.Table.{number_in}
 use Rattle.circ_numbering.proofs.Walks.{IsOnItsWay}
 use Rattle.circ_numbering.proofs.asking.numbers.Given as goal
 

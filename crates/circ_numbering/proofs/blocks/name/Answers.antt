@@ -1,5 +1,5 @@
 use Rattle.std.proofs.Common.{◌∙◌, ℕ, [], ◌∷◌, ap}
-use Rattle.circ_replay.specs.Table.{number_in}
+use Rattle.circ_proof.specs.Table.{number_in}
 use Rattle.circ_numbering.proofs.Requests.{first_fails, later_too}
 use Rattle.circ_numbering.proofs.blocks.name.Goals as goal
 

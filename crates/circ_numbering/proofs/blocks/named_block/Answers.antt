@@ -1,8 +1,8 @@
 use Rattle.std.proofs.Common.{◌∙◌, ℕ, List, map, ap}
 use Rattle.std.specs.Prelude.{flat_map}
-use Rattle.circ_rules.specs.Plain.{plain_steps}
-use Rattle.circ_rules.specs.Proof.{Block}
-use Rattle.circ_rules.specs.Rules.{ProofStep}
+use Rattle.circ_proof.specs.PlainProof.{plain_steps}
+use Rattle.circ_proof.specs.Proof.{Block}
+use Rattle.circ_proof.specs.Rules.{ProofStep}
 use Rattle.circ_theory.specs.declared.parts.Goal.{Goal}
 use Rattle.circ_plain_search.specs.Numbering.{goal_terms, goal_name, step_terms}
 use Rattle.circ_record.specs.Plain.{plain_term_steps}

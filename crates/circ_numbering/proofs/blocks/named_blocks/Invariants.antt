@@ -1,5 +1,5 @@
 use Rattle.std.proofs.Common.{drop}
-use Rattle.circ_rules.specs.Plain.{plain_block}
+use Rattle.circ_proof.specs.PlainProof.{plain_block}
 use Rattle.circ_plain_search.specs.Numbering.{block_terms, numbered_block}
 use Rattle.circ_numbering.specs.Plain.{plain_term_block}
 use Rattle.circ_numbering.proofs.Walks.{IsOnItsWay}

@@ -1,7 +1,7 @@
 use Rattle.std.proofs.Common.{◌∙◌, ap, sym, subst}
 use Rattle.circ_plain_search.specs.Numbering.{asked_for}
 use Rattle.circ_numbering.specs.Asking.{IsFaultOf}
-use Rattle.circ_replay.specs.Plain.{plain_links}
+use Rattle.circ_proof.specs.Plain.{plain_links}
 use Rattle.circ_plain_search.specs.Numbering.{links_terms, numbered_links}
 use Rattle.circ_record.specs.Plain.{plain_term_links}
 use Rattle.circ_numbering.proofs.Walks.{walk_fails, walk_on, walk_asked, walk_named, flat_seen, map_seen}

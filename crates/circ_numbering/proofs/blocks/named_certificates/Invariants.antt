@@ -1,5 +1,5 @@
 use Rattle.std.proofs.Common.{drop}
-use Rattle.circ_replay.specs.Plain.{plain_links}
+use Rattle.circ_proof.specs.Plain.{plain_links}
 use Rattle.circ_plain_search.specs.Numbering.{links_terms, numbered_links}
 use Rattle.circ_record.specs.Plain.{plain_term_links}
 use Rattle.circ_numbering.proofs.Walks.{IsOnItsWay}

@@ -1,11 +1,11 @@
 use Rattle.std.proofs.Common.{◌≡◌, ◌≤◌, ◌∙◌, ℕ, List, [], map, length, ap, arith}
 use Rattle.std.specs.Prelude.{flat_map}
 use Rattle.circ_term.specs.Tree.{Tree}
-use Rattle.circ_replay.specs.Plain.{LinkOf}
-use Rattle.circ_replay.specs.Table.{term_limit}
-use Rattle.circ_replay.proofs.Tables.{continues_self}
-use Rattle.circ_rules.specs.Plain.{plain_block, plain_certificates}
-use Rattle.circ_rules.specs.Proof.{Block, Proof}
+use Rattle.circ_proof.specs.Plain.{LinkOf}
+use Rattle.circ_proof.specs.Table.{term_limit}
+use Rattle.circ_proof.proofs.Tables.{continues_self}
+use Rattle.circ_proof.specs.PlainProof.{plain_block, plain_certificates}
+use Rattle.circ_proof.specs.Proof.{Block, Proof}
 use Rattle.circ_plain_search.specs.Numbering.{block_terms, links_terms, numbered_links, numbered_proof, table_for}
 use Rattle.circ_numbering.specs.Plain.{plain_term_blocks, plain_term_certificates}
 use Rattle.circ_numbering.proofs.Requests.{first_fails, second_fails, both_asked, later_too}

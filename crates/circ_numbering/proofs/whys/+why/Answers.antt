@@ -2,8 +2,8 @@ use Rattle.std.proofs.Common.{◌∙◌, ℕ, [], ◌∷◌, ap, sym, subst}
 use Rattle.circ_plain_search.specs.Numbering.{asked_for}
 use Rattle.circ_numbering.specs.Asking.{IsFaultOf}
 use Rattle.std.proofs.Common.{arith}
-use Rattle.circ_replay.specs.Plain.{ChainOf, plain_why, plain_whys, map_why, map_chain, Same_why, Split_why}
-use Rattle.circ_replay.specs.Table.{number_in}
+use Rattle.circ_proof.specs.Plain.{ChainOf, plain_why, plain_whys, map_why, map_chain, Same_why, Split_why}
+use Rattle.circ_proof.specs.Table.{number_in}
 use Rattle.circ_replay.proofs.Whys as numbered
 use Rattle.circ_plain_search.specs.Numbering.{why_terms, chain_terms, whys_terms}
 use Rattle.circ_record.specs.Plain.{plain_term_why, plain_term_chain, plain_term_whys}

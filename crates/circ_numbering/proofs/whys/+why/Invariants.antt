@@ -1,6 +1,6 @@
 use Rattle.std.proofs.Common.{◌+◌, ◌*◌, drop}
-use Rattle.circ_replay.specs.Plain.{plain_why, map_why}
-use Rattle.circ_replay.specs.Table.{number_in}
+use Rattle.circ_proof.specs.Plain.{plain_why, map_why}
+use Rattle.circ_proof.specs.Table.{number_in}
 use Rattle.circ_plain_search.specs.Numbering.{why_terms}
 use Rattle.circ_record.specs.Plain.{plain_term_why, plain_term_whys}
 use Rattle.circ_numbering.proofs.Reasons.{depth_of_why, depth_of_whys}

@@ -1,5 +1,5 @@
 use Rattle.std.proofs.Common.{ap}
-use Rattle.circ_rules.specs.Rules.{Simplify}
+use Rattle.circ_proof.specs.Rules.{Simplify}
 use Rattle.circ_numbering.proofs.whys.step.Goals as goal
 
 pub returns-in-Ok : goal.returns-in-Ok

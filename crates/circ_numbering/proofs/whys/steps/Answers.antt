@@ -1,9 +1,9 @@
 use Rattle.std.proofs.Common.{◌∙◌, ap, sym, subst}
 use Rattle.circ_plain_search.specs.Numbering.{asked_for}
 use Rattle.circ_numbering.specs.Asking.{IsFaultOf}
-use Rattle.circ_replay.specs.Table.{number_in}
-use Rattle.circ_rules.specs.Plain.{plain_step}
-use Rattle.circ_rules.specs.Rules.{map_step}
+use Rattle.circ_proof.specs.Table.{number_in}
+use Rattle.circ_proof.specs.PlainProof.{plain_step}
+use Rattle.circ_proof.specs.Rules.{map_step}
 use Rattle.circ_plain_search.specs.Numbering.{step_terms}
 use Rattle.circ_record.specs.Plain.{plain_term_step}
 use Rattle.circ_numbering.proofs.Walks.{walk_fails, walk_on, walk_asked, walk_named, flat_seen, map_seen}

@@ -1,7 +1,7 @@
 use Rattle.std.proofs.Common.{drop}
-use Rattle.circ_replay.specs.Table.{number_in}
-use Rattle.circ_rules.specs.Plain.{plain_step}
-use Rattle.circ_rules.specs.Rules.{map_step}
+use Rattle.circ_proof.specs.Table.{number_in}
+use Rattle.circ_proof.specs.PlainProof.{plain_step}
+use Rattle.circ_proof.specs.Rules.{map_step}
 use Rattle.circ_plain_search.specs.Numbering.{step_terms}
 use Rattle.circ_record.specs.Plain.{plain_term_step}
 use Rattle.circ_numbering.proofs.Walks.{IsOnItsWay}

@@ -1,11 +1,11 @@
 use Rattle.std.proofs.Common.{◌≡◌, map}
 use Rattle.circ_term.specs.Tree.{sort_of}
 use Rattle.circ_theory.specs.Signature.{IsWellSorted}
-use Rattle.circ_replay.specs.Plain.{plain_link}
-use Rattle.circ_replay.specs.Goals.{sides}
-use Rattle.circ_replay.specs.Link.{setting, resolved_link}
-use Rattle.circ_replay.specs.Following.{LinkDerives}
-use Rattle.circ_replay.proofs.Leading.{link_sorted, link_derives, link_resolved, derives_resolved, sorted_setting}
+use Rattle.circ_proof.specs.Plain.{plain_link}
+use Rattle.circ_proof.specs.Goals.{sides}
+use Rattle.circ_proof.specs.Link.{setting, resolved_link}
+use Rattle.circ_proof.specs.Link.{LinkDerives}
+use Rattle.circ_proof.proofs.Leading.{link_sorted, link_derives, link_resolved, derives_resolved, sorted_setting}
 use Rattle.circ_replay.proofs.Running.{if_follows}
 use Rattle.circ_replay.proofs.following.follow.Goals as goal
 

@@ -1,10 +1,10 @@
 use Rattle.std.proofs.Common.{◌≡◌, map}
 use Rattle.circ_term.specs.Tree.{sort_of}
 use Rattle.circ_theory.specs.Signature.{IsWellSorted}
-use Rattle.circ_replay.specs.Plain.{plain_links}
-use Rattle.circ_replay.specs.Goals.{sides}
-use Rattle.circ_replay.specs.Link.{setting, resolved_links}
-use Rattle.circ_replay.proofs.Leading.{links_sorted, links_resolved, sorted_setting}
+use Rattle.circ_proof.specs.Plain.{plain_links}
+use Rattle.circ_proof.specs.Goals.{sides}
+use Rattle.circ_proof.specs.Link.{setting, resolved_links}
+use Rattle.circ_proof.proofs.Leading.{links_sorted, links_resolved, sorted_setting}
 use Rattle.circ_replay.proofs.Running.{if_follows_all}
 use Rattle.circ_replay.proofs.following.follow_all.Goals as goal
 

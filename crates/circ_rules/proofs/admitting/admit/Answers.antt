@@ -1,6 +1,6 @@
 use Rattle.std.proofs.Common.{◌+◌, drop, arith}
 use Rattle.circ_special.specs.Special.{place}
-use Rattle.circ_rules.specs.Certified.{due}
+use Rattle.circ_proof.specs.Certified.{due}
 use Rattle.circ_rules.specs.Basis.{certificates_in}
 use Rattle.circ_rules.specs.declared.basis.Basis.{Basis}
 use Rattle.circ_rules.proofs.Counting.{place_next, fails_in_slice}

@@ -2,7 +2,7 @@ use Rattle.std.proofs.Common.{drop}
 use Rattle.std.specs.List.{AllByRecursion}
 use Rattle.circ_special.specs.Special.{IsPlace}
 use Rattle.circ_rules.specs.Basis.{certificates_in}
-use Rattle.circ_rules.specs.Certified.{due}
+use Rattle.circ_proof.specs.Certified.{due}
 use Rattle.circ_rules.specs.Admitting.{HoldSoFar}
 use Rattle.circ_rules.proofs.admitting.admit.Given as goal
 

@@ -1,6 +1,6 @@
 use Rattle.std.proofs.Common.{◌≡◌, ◌≤◌, ◌++◌, ◌+◌, drop}
 use Rattle.circ_term.specs.Tree.{trees_of}
-use Rattle.circ_rules.specs.Certified.{start_args}
+use Rattle.circ_proof.specs.Certified.{start_args}
 use Rattle.circ_rules.proofs.Starting.{args_left}
 use Rattle.circ_rules.proofs.certificates.start_args.Given as goal
 

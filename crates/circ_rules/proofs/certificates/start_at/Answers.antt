@@ -2,8 +2,9 @@ use Rattle.std.proofs.Common.{length, refl, ap, sym, ◌∙◌}
 use Rattle.std.proofs.lemmas.Option.{slice_get_read}
 use Rattle.circ_term.specs.Tree.{App}
 use Rattle.circ_theory.specs.Operators.{operator_of}
-use Rattle.circ_rules.specs.Certified.{start_args}
-use Rattle.circ_rules.proofs.Starting.{few_args, few_start, start_not_past}
+use Rattle.circ_proof.specs.Certified.{start_args}
+use Rattle.circ_proof.proofs.Starting.{few_args}
+use Rattle.circ_rules.proofs.Starting.{few_start, start_not_past}
 use Rattle.circ_rules.proofs.certificates.start_at.Goals as goal
 
 pub app-requires : goal.app-requires

@@ -1,5 +1,5 @@
 use Rattle.std.proofs.Common.{◌∙◌, Bool, List, ap, sym, subst}
-use Rattle.circ_rules.specs.Rules.{state}
+use Rattle.circ_proof.specs.Rules.{state}
 use Rattle.circ_check.specs.declared.checker.Checker.{Checker}
 use Rattle.circ_check.specs.Knowing.{AreKnown}
 use Rattle.circ_check.proofs.Watching.{block_begun, on_ok}

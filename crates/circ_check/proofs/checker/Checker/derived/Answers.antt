@@ -1,6 +1,6 @@
 use Rattle.std.proofs.Common.{◌≡◌, map, ap, sym, subst}
 use Rattle.circ_theory.specs.WellFormed.{IsWellFormed}
-use Rattle.circ_rules.specs.Accepted.{Derives}
+use Rattle.circ_proof.specs.Accepted.{Derives}
 use Rattle.circ_check.specs.Deciding.{plain_list}
 use Rattle.circ_check.specs.Watching.{derived_of}
 use Rattle.circ_check.proofs.Behaving.{derived_lists_behave}

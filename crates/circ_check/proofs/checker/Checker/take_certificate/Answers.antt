@@ -1,4 +1,4 @@
-use Rattle.circ_replay.specs.Plain.{plain_links}
+use Rattle.circ_proof.specs.Plain.{plain_links}
 use Rattle.circ_check.proofs.Placed.{grows_self}
 use Rattle.circ_check.proofs.Watching.{on_ok, certificate_placed}
 use Rattle.circ_check.proofs.checker.Checker.take_certificate.Goals as goal

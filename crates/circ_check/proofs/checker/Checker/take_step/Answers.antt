@@ -1,5 +1,5 @@
 use Rattle.std.proofs.Common.{◌∷◌, [], length}
-use Rattle.circ_rules.specs.Plain.{plain_step}
+use Rattle.circ_proof.specs.PlainProof.{plain_step}
 use Rattle.circ_soundness.proofs.Resolving.{steps_in_table}
 use Rattle.circ_check.proofs.Placed.{grows_self}
 use Rattle.circ_check.proofs.Watching.{on_ok, step_placed}

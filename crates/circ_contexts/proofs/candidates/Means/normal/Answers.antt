@@ -1,5 +1,5 @@
 use Rattle.circ_contexts.proofs.Starting.{comes_at}
-use Rattle.circ_rules.proofs.Deriving.{the_derivative}
+use Rattle.circ_proof.proofs.Derivatives.{the_derivative}
 use Rattle.std.specs.List.{slice_get}
 use Rattle.circ_contexts.proofs.candidates.Means.normal.Goals as goal
 

@@ -1,7 +1,7 @@
 use Rattle.std.proofs.Common.{◌≡◌, ◌+◌, ◌∙◌, ◌++◌, ◌∷◌, [], ap, arith, sym, length}
 use Rattle.circ_special.specs.Special.{place}
 use Rattle.circ_line.specs.Plain.{plain_line}
-use Rattle.circ_rules.specs.Certified.{due}
+use Rattle.circ_proof.specs.Certified.{due}
 use Rattle.circ_file.specs.View.{places_with}
 use Rattle.circ_file.proofs.Counted.{due_more}
 use Rattle.circ_file.proofs.counts.Counts.with.Goals as goal

@@ -1,7 +1,7 @@
 use Rattle.std.proofs.Common.{◌∙◌, List, [], length, sym, ap, subst, arith}
 use Rattle.circ_special.specs.declared.place.Place.{Place}
 use Rattle.circ_special.specs.Special.{IsSet}
-use Rattle.circ_rules.specs.Certified.{due}
+use Rattle.circ_proof.specs.Certified.{due}
 use Rattle.circ_file.specs.Adding.{terms_in}
 use Rattle.circ_file.specs.Lines.{IsInStep}
 use Rattle.circ_file.proofs.lines.LineReader.new.Goals as goal

@@ -3,7 +3,7 @@ use Rattle.circ_line.specs.Plain.{plain_line}
 use Rattle.circ_proof_text.specs.Checks.{passes_at, limit_at}
 use Rattle.circ_file.specs.Lines.{seen_of, Advances}
 use Rattle.circ_file.specs.declared.lines.LineReader.{LineReader}
-use Rattle.circ_rules.proofs.FewPlaces.{few_due}
+use Rattle.circ_proof.proofs.FewPlaces.{few_due}
 use Rattle.circ_file.proofs.Taking.{ready_then, other_handled}
 use Rattle.circ_file.proofs.lines.LineReader.take_other.Goals as goal
 

@@ -1,5 +1,5 @@
 use Rattle.std.proofs.Common.{ap, ◌∙◌, []}
-use Rattle.circ_replay.specs.Plain.{plain_chain}
+use Rattle.circ_proof.specs.Plain.{plain_chain}
 use Rattle.circ_file.specs.Splits.{tops}
 use Rattle.circ_file.specs.View.{now_at, now_of, queue_of}
 use Rattle.circ_file.proofs.Links.{same_goes}

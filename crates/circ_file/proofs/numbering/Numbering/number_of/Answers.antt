@@ -1,6 +1,6 @@
 use Rattle.std.proofs.Common.{◌∙◌, arith}
 use Rattle.std.proofs.lemmas.Option.{slice_get_within, get_or_from_slice_get}
-use Rattle.circ_replay.specs.Table.{number_in}
+use Rattle.circ_proof.specs.Table.{number_in}
 use Rattle.circ_file.proofs.Numbered.{found_number, found_grown, still_numbered}
 use Rattle.circ_file.proofs.numbering.Numbering.number_of.Goals as goal
 

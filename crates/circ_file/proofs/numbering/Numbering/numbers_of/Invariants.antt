@@ -1,7 +1,7 @@
 use Rattle.std.proofs.Common.{◌≡◌, ◌++◌, drop, map, true, List}
 use Rattle.std.specs.List.{AllByRecursion}
 use Rattle.circ_term.specs.Tree.{Tree}
-use Rattle.circ_replay.specs.Table.{has, number_in}
+use Rattle.circ_proof.specs.Table.{has, number_in}
 use Rattle.circ_file.specs.Numbering.{IsNumbering}
 use Rattle.circ_file.proofs.numbering.Numbering.numbers_of.Given as goal
 

@@ -4,10 +4,10 @@ use Rattle.circ_theory.specs.Rewriting.{named}
 use Rattle.circ_theory.specs.Theory.{Pair}
 use Rattle.circ_theory.specs.Observing.{cases_of, case_list}
 use Rattle.circ_theory.proofs.Rewriting.{named_at}
-use Rattle.circ_replay.specs.Plain.{WhyOf, map_whys, plain_why, plain_whys, plain_chain}
-use Rattle.circ_replay.specs.Goals.{sides}
-use Rattle.circ_replay.specs.Link.{Setting, resolved_chain, resolved_why}
-use Rattle.circ_replay.specs.Justified.{Justified, EachJustified, IsWhyInTable}
+use Rattle.circ_proof.specs.Plain.{WhyOf, map_whys, plain_why, plain_whys, plain_chain}
+use Rattle.circ_proof.specs.Goals.{sides}
+use Rattle.circ_proof.specs.Link.{Setting, resolved_chain, resolved_why}
+use Rattle.circ_proof.specs.Justified.{Justified, EachJustified, IsWhyInTable}
 use Rattle.circ_replay.specs.Sources.{setting_of}
 use Rattle.circ_replay.proofs.Whys.{split_plain}
 use Rattle.circ_replay.proofs.Reasons.{why_depth, whys_depth, depth_at, each_why, each_counted, unlisted_split, stuck_split, split_tells, if_tells}

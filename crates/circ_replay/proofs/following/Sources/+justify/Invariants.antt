@@ -1,6 +1,6 @@
 use Rattle.std.proofs.Common.{◌≡◌, ◌↔◌, ◌+◌, ◌*◌, map}
-use Rattle.circ_replay.specs.Plain.{plain_why, plain_whys}
-use Rattle.circ_replay.specs.Goals.{sides}
+use Rattle.circ_proof.specs.Plain.{plain_why, plain_whys}
+use Rattle.circ_proof.specs.Goals.{sides}
 use Rattle.circ_replay.specs.Sources.{setting_of}
 use Rattle.circ_replay.proofs.Reasons.{EachFrom, why_depth, whys_depth}
 use Rattle.circ_replay.proofs.following.Sources.+justify.Given as goal

@@ -1,7 +1,7 @@
 use Rattle.std.proofs.Common.{IsTrue, refl, map, rules}
 use Rattle.circ_theory.specs.Variables.{variables_of, sorted}
 use Rattle.circ_theory.specs.Rewriting.{named}
-use Rattle.circ_replay.specs.Goals.{sides}
+use Rattle.circ_proof.specs.Goals.{sides}
 use Rattle.circ_replay.specs.Sources.{setting_of}
 use Rattle.circ_replay.proofs.Pairs.{hypothesis_follows, gives_rewriting}
 use Rattle.circ_replay.proofs.following.Sources.by_hypothesis.Goals as goal

@@ -1,5 +1,5 @@
 use Rattle.std.proofs.Common.{map}
-use Rattle.circ_replay.specs.Goals.{sides}
+use Rattle.circ_proof.specs.Goals.{sides}
 use Rattle.circ_replay.proofs.following.Sources.lead.Goals as goal
 
 pub returns-in-Equation : goal.returns-in-Equation

@@ -1,7 +1,7 @@
 use Rattle.std.proofs.Common.{map}
-use Rattle.circ_replay.specs.Plain.{plain_chain}
-use Rattle.circ_replay.specs.Goals.{sides}
-use Rattle.circ_replay.specs.Link.{resolved_chain}
+use Rattle.circ_proof.specs.Plain.{plain_chain}
+use Rattle.circ_proof.specs.Goals.{sides}
+use Rattle.circ_proof.specs.Link.{resolved_chain}
 use Rattle.circ_replay.specs.Sources.{setting_of}
 use Rattle.circ_replay.proofs.Reasons.{same_tells}
 use Rattle.circ_replay.proofs.following.Sources.meets.Goals as goal

@@ -1,9 +1,9 @@
 use Rattle.std.proofs.Common.{◌<◌, ◌+◌, List, length, map, sym, subst, refl}
 use Rattle.circ_term.specs.Tree.{Tree}
-use Rattle.circ_replay.specs.Plain.{LinkOf, plain_link}
-use Rattle.circ_replay.specs.Goals.{sides}
-use Rattle.circ_replay.specs.Runs.{Runs}
-use Rattle.circ_replay.specs.Link.{Setting, Leads, resolved_link}
+use Rattle.circ_proof.specs.Plain.{LinkOf, plain_link}
+use Rattle.circ_proof.specs.Goals.{sides}
+use Rattle.circ_proof.specs.Runs.{Runs}
+use Rattle.circ_proof.specs.Link.{Setting, Leads, resolved_link}
 use Rattle.circ_replay.specs.Sources.{setting_of}
 use Rattle.circ_replay.proofs.Running.{links_from, links_next, links_end, runs_on, runs_stuck, each_link}
 use Rattle.circ_replay.proofs.following.Sources.run.Goals as goal

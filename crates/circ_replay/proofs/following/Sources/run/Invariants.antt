@@ -1,8 +1,8 @@
 use Rattle.std.proofs.Common.{◌↔◌, map}
 use Rattle.circ_term.specs.Tree.{Tree}
-use Rattle.circ_replay.specs.Goals.{sides}
-use Rattle.circ_replay.specs.Runs.{Runs}
-use Rattle.circ_replay.specs.Link.{Leads}
+use Rattle.circ_proof.specs.Goals.{sides}
+use Rattle.circ_proof.specs.Runs.{Runs}
+use Rattle.circ_proof.specs.Link.{Leads}
 use Rattle.circ_replay.specs.Sources.{setting_of}
 use Rattle.circ_replay.proofs.Running.{links_from}
 use Rattle.circ_replay.proofs.following.Sources.run.Given as goal

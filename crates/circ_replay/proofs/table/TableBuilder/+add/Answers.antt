@@ -2,9 +2,9 @@ use Rattle.std.proofs.Common.{◌∙◌, ◌+◌, ◌<◌, List, drop, length, a
 use Rattle.std.proofs.lemmas.List.{drop_all}
 use Rattle.circ_term.specs.Tree.{Tree, trees_of}
 use Rattle.circ_term.proofs.Within.{depth_at}
-use Rattle.circ_replay.specs.Table.{all_added, term_limit}
-use Rattle.circ_replay.specs.Growing.{Continues}
-use Rattle.circ_replay.proofs.Tables.{added_continues, continues_more}
+use Rattle.circ_proof.specs.Table.{all_added, term_limit}
+use Rattle.circ_proof.specs.Table.{Continues}
+use Rattle.circ_proof.proofs.Tables.{added_continues, continues_more}
 use Rattle.circ_replay.proofs.Adding.{too_many, next_added, next_number, application_root, application_added, all_numbered, refused}
 use Rattle.circ_replay.proofs.table.TableBuilder.+add.Goals as goal
 

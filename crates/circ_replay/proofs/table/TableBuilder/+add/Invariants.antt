@@ -1,7 +1,7 @@
 use Rattle.std.proofs.Common.{◌≡◌, ◌++◌, ◌+◌, ◌*◌, List, drop, map}
 use Rattle.circ_term.specs.Tree.{Tree, trees_of, depth_of, depths_of}
-use Rattle.circ_replay.specs.Table.{number_in, all_added}
-use Rattle.circ_replay.specs.Growing.{Continues}
+use Rattle.circ_proof.specs.Table.{number_in, all_added}
+use Rattle.circ_proof.specs.Table.{Continues}
 use Rattle.circ_replay.proofs.table.TableBuilder.+add.Given as goal
 
 abbrev pub decreases-add : goal.decreases-add

@@ -1,9 +1,9 @@
 use Rattle.std.proofs.Common.{◌∙◌, ◌∷◌, [], List, length, ◌<◌, length-append, arith, subst, sym, ap}
 use Rattle.circ_term.specs.Tree.{Tree}
-use Rattle.circ_replay.specs.Table.{number_in, term_limit}
+use Rattle.circ_proof.specs.Table.{number_in, term_limit}
 use Rattle.circ_replay.specs.Roots.{IsKept}
 use Rattle.circ_replay.specs.declared.table.Root.{Root}
-use Rattle.circ_replay.proofs.Tables.{number_last}
+use Rattle.circ_proof.proofs.Tables.{number_last}
 use Rattle.circ_replay.proofs.Rooted.{number_found, old_term, new_term, kept_push, kept_cut}
 use Rattle.circ_replay.proofs.table.TableBuilder.enter.Goals as goal
 

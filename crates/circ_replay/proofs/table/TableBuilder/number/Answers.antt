@@ -1,4 +1,4 @@
-use Rattle.circ_replay.proofs.Tables.{added_names}
+use Rattle.circ_proof.proofs.Tables.{added_names}
 use Rattle.circ_replay.proofs.table.TableBuilder.number.Goals as goal
 
 pub returns-in-Ok-Some-clause-named : goal.returns-in-Ok-Some-clause-named

@@ -1,5 +1,6 @@
 use Rattle.std.proofs.Common.{◌∙◌, arith}
-use Rattle.circ_rules.proofs.Deriving.{left_fits, right_fits, on_goal}
+use Rattle.circ_proof.proofs.Derivatives.{left_fits, right_fits}
+use Rattle.circ_rules.proofs.Deriving.{on_goal}
 use Rattle.circ_rules.proofs.basis.Basis.derivative_on.Goals as goal
 
 pub both_sides-requires-clause-left : goal.both_sides-requires-clause-left

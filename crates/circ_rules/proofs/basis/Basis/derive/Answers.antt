@@ -1,5 +1,5 @@
 use Rattle.std.proofs.Common.{sym, subst}
-use Rattle.circ_rules.specs.Rules.{IsSortedState}
+use Rattle.circ_proof.specs.Rules.{IsSortedState}
 use Rattle.circ_rules.proofs.Deriving.{moved_sorted}
 use Rattle.circ_rules.proofs.basis.Basis.derive.Goals as goal
 

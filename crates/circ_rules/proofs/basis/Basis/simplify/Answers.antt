@@ -1,10 +1,10 @@
 use Rattle.std.proofs.Common.{None, ap}
-use Rattle.circ_replay.specs.Goals.{sides}
-use Rattle.circ_replay.specs.Link.{Leads, resolved_chain}
-use Rattle.circ_replay.specs.Plain.{plain_chain}
-use Rattle.circ_replay.specs.Justified.{ChainLeads}
+use Rattle.circ_proof.specs.Goals.{sides}
+use Rattle.circ_proof.specs.Link.{Leads, resolved_chain}
+use Rattle.circ_proof.specs.Plain.{plain_chain}
+use Rattle.circ_proof.specs.Justified.{ChainLeads}
 use Rattle.circ_replay.specs.Following.{FollowsChain}
-use Rattle.circ_rules.specs.Rules.{state}
+use Rattle.circ_proof.specs.Rules.{state}
 use Rattle.circ_rules.specs.Basis.{setting_of}
 use Rattle.circ_rules.proofs.Simplifying.{simplifies, none_simplifies, set_same, set_sorted}
 use Rattle.circ_rules.proofs.basis.Basis.simplify.Goals as goal

@@ -1,6 +1,6 @@
 use Rattle.std.proofs.Common.{◌≡◌, ℕ, List, length, None}
 use Rattle.circ_theory.specs.Theory.{Theory}
-use Rattle.circ_rules.specs.Parts.{Part}
+use Rattle.circ_proof.specs.Parts.{Part}
 use Rattle.circ_file.specs.Feeding as reader
 use Rattle.circ_top.specs.Incoming.{HasRead}
 use Rattle.circ_top.proofs.incoming.Incoming.take_waiting.Given as goal

@@ -1,7 +1,7 @@
 use Rattle.std.proofs.Common.{◌≡◌, ◌∷◌, List, drop, sym, ap, subst, refl, ◌∙◌}
 use Rattle.circ_term.proofs.Within.{drop_read}
 use Rattle.circ_theory.specs.declared.parts.Goal.{Goal}
-use Rattle.circ_replay.specs.Goals.{goal as goal_with}
+use Rattle.circ_proof.specs.Goals.{goal as goal_with}
 use Rattle.circ_plain_search.specs.Coming.{IsReady}
 use Rattle.circ_plain_search.specs.Search.{goal_turn, sides_with, Sides}
 use Rattle.circ_record.specs.Plain.{plain_term_chain}

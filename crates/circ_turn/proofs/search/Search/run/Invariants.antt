@@ -1,5 +1,5 @@
 use Rattle.std.proofs.Common.{◌+◌, ◌-◌}
-use Rattle.circ_rules.specs.Proof.{step_limit}
+use Rattle.circ_proof.specs.Proof.{step_limit}
 use Rattle.circ_plain_search.specs.Coming.{Comes}
 use Rattle.circ_block.specs.Rules.{IsRulesOf}
 use Rattle.circ_turn.specs.Standing.{standing, plain_limits}

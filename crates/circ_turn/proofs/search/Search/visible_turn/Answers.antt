@@ -1,5 +1,5 @@
 use Rattle.std.proofs.Common.{List, drop, ap, subst, ◌∙◌}
-use Rattle.circ_replay.specs.Plain.{Split_why}
+use Rattle.circ_proof.specs.Plain.{Split_why}
 use Rattle.circ_plain_search.specs.Search.{split_with, reduced}
 use Rattle.circ_record.specs.Plain.{plain_term_why, plain_term_whys}
 use Rattle.circ_theory.specs.declared.parts.Goal.{Goal}

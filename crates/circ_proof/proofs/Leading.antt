@@ -20,13 +20,13 @@ use Rattle.circ_theory.proofs.Weakening.{first_or_rest, in_rest}
 use Rattle.circ_theory.proofs.Rewriting.{contains_at, named_well_sorted, given_substitution, rewrite_keeps}
 use Rattle.circ_special.specs.declared.place.Place.{Place}
 use Rattle.circ_aci.proofs.Deriving.{same_content_derivable}
-use Rattle.circ_replay.specs.Plain.{LinkOf, Equation_link, Hypothesis_link, Assumption_link, Content_link, ChainOf}
-use Rattle.circ_replay.specs.Plain.{WhyOf, WhysOf, Same_why, Split_why, no_why, more_whys, map_whys}
-use Rattle.circ_replay.specs.Goals.{sides, AreSortedGoals}
-use Rattle.circ_replay.specs.Runs.{Runs}
-use Rattle.circ_replay.specs.Link.{Setting, setting, Leads, AllOfLink, AllOfLinks, IsInTable, resolved_link, resolved_chain, resolved_why}
-use Rattle.circ_replay.specs.Justified.{ChainLeads, AllOfChain, AllOfWhy, AllOfWhys, IsWhyInTable}
-use Rattle.circ_replay.specs.Following.{LinkDerives}
+use Rattle.circ_proof.specs.Plain.{LinkOf, Equation_link, Hypothesis_link, Assumption_link, Content_link, ChainOf}
+use Rattle.circ_proof.specs.Plain.{WhyOf, WhysOf, Same_why, Split_why, no_why, more_whys, map_whys}
+use Rattle.circ_proof.specs.Goals.{sides, AreSortedGoals}
+use Rattle.circ_proof.specs.Runs.{Runs}
+use Rattle.circ_proof.specs.Link.{Setting, setting, Leads, AllOfLink, AllOfLinks, IsInTable, resolved_link, resolved_chain, resolved_why}
+use Rattle.circ_proof.specs.Justified.{ChainLeads, AllOfChain, AllOfWhy, AllOfWhys, IsWhyInTable}
+use Rattle.circ_proof.specs.Link.{LinkDerives}
 
 -- ---- one term
 

@@ -7,8 +7,8 @@ use Rattle.std.proofs.lemmas.List.Folds.{find_at}
 use Rattle.circ_term.specs.Tree.{Tree, Trees, Var, App, none, more, list_of}
 use Rattle.circ_term.specs.Order.{is_same}
 use Rattle.circ_term.proofs.Order.{same_here, same_itself}
-use Rattle.circ_replay.specs.Table.{has, number_in, entered, added, all_added}
-use Rattle.circ_replay.specs.Growing.{Continues}
+use Rattle.circ_proof.specs.Table.{has, number_in, entered, added, all_added}
+use Rattle.circ_proof.specs.Table.{Continues}
 
 -- which terms a table has
 

@@ -4,9 +4,9 @@ use Rattle.std.specs.List.{Contains}
 use Rattle.circ_term.specs.Tree.{Tree, sort_of}
 use Rattle.circ_theory.specs.Theory.{Pair, pair_with, CaseList}
 use Rattle.circ_theory.specs.Derivable.{is_case}
-use Rattle.circ_replay.specs.Plain.{LinkOf, ChainOf, WhyOf, WhysOf, Same_why, Split_why, no_why, more_whys}
-use Rattle.circ_replay.specs.Runs.{Runs}
-use Rattle.circ_replay.specs.Link.{Setting, assuming, Leads, AllOfLinks}
+use Rattle.circ_proof.specs.Plain.{LinkOf, ChainOf, WhyOf, WhysOf, Same_why, Split_why, no_why, more_whys}
+use Rattle.circ_proof.specs.Runs.{Runs}
+use Rattle.circ_proof.specs.Link.{Setting, assuming, Leads, AllOfLinks}
 
 -- the chain's links, each of which leads from term to term by the relation, lead from one pair to the other
 pub record ChainLeads (LeadsBy : LinkOf Tree → Tree → Tree → Type 0) (chain : ChainOf Tree) (p q : Pair) : Type 0 where

@@ -8,11 +8,11 @@ use Rattle.circ_theory.specs.Experiment.{derived}
 use Rattle.circ_theory.specs.Observing.{parameters_in}
 use Rattle.circ_theory.specs.declared.parts.Goal.{Goal}
 use Rattle.circ_special.specs.declared.place.Place.{Place}
-use Rattle.circ_replay.specs.Plain.{ChainOf, WhyOf, map_chain, map_why}
-use Rattle.circ_replay.specs.Goals.{goal, sides, AreSortedGoals}
-use Rattle.circ_replay.specs.Runs.{Runs}
-use Rattle.circ_replay.specs.Link.{setting, Leads}
-use Rattle.circ_replay.specs.Justified.{ChainLeads, Justified, AllOfChain, AllOfWhy}
+use Rattle.circ_proof.specs.Plain.{ChainOf, WhyOf, map_chain, map_why}
+use Rattle.circ_proof.specs.Goals.{goal, sides, AreSortedGoals}
+use Rattle.circ_proof.specs.Runs.{Runs}
+use Rattle.circ_proof.specs.Link.{setting, Leads}
+use Rattle.circ_proof.specs.Justified.{ChainLeads, Justified, AllOfChain, AllOfWhy}
 use Rattle.circ_theory.specs.Fresh.{fresh_after, numbered_from, derivatives_of}
 
 -- what is taken as proved, and what is still to be proved, in order

@@ -10,9 +10,9 @@ use Rattle.circ_theory.specs.Experiment.{derived}
 use Rattle.circ_special.specs.declared.place.Place.{Place}
 use Rattle.circ_special.specs.Special.{IsPlace}
 use Rattle.circ_special.specs.Guarded.{Guarded}
-use Rattle.circ_replay.specs.Plain.{LinkOf}
-use Rattle.circ_replay.specs.Runs.{Runs}
-use Rattle.circ_replay.specs.Link.{setting, Leads}
+use Rattle.circ_proof.specs.Plain.{LinkOf}
+use Rattle.circ_proof.specs.Runs.{Runs}
+use Rattle.circ_proof.specs.Link.{setting, Leads}
 use Rattle.circ_theory.specs.Fresh.{numbered_from, variables_from, derivatives_of}
 
 -- variable 0 at one place, and variables numbered from k at the others from the left

@@ -1,5 +1,5 @@
 //! Proofs as data.
-use circ_replay::{Chain, Link, Why};
+use crate::links::{Chain, Link, Why};
 use circ_special::Gamma;
 use circ_term::Term;
 use circ_theory::Goal;

@@ -3,6 +3,7 @@ use Rattle.std.specs.Prelude.{◌≡◌, ◌<◌, ℕ, List, [], ◌∷◌, ◌+
 use Rattle.std.specs.List.{slice_get, AllByRecursion}
 use Rattle.circ_term.specs.Tree.{Tree, sort_of}
 use Rattle.circ_theory.specs.Theory.{Theory, Pair, pair_of, IsHidden}
+use Rattle.circ_theory.specs.Derivable.{Derivable}
 use Rattle.circ_theory.specs.Rewriting.{from_side, to_side, Replaces, named, RewritesBy}
 use Rattle.circ_theory.specs.declared.parts.Equation.{Equation}
 use Rattle.circ_theory.specs.declared.parts.Goal.{Goal}
@@ -10,8 +11,8 @@ use Rattle.circ_theory.specs.declared.way.Way.{Way}
 use Rattle.circ_special.specs.declared.place.Place.{Place}
 use Rattle.circ_special.specs.Special.{IsSpecial}
 use Rattle.circ_aci.specs.Content.{HasContentOf}
-use Rattle.circ_replay.specs.Plain.{LinkOf, Equation_link, Hypothesis_link, Assumption_link, Content_link, ChainOf, WhyOf, map_link, map_chain, map_why}
-use Rattle.circ_replay.specs.Goals.{sides}
+use Rattle.circ_proof.specs.Plain.{LinkOf, Equation_link, Hypothesis_link, Assumption_link, Content_link, ChainOf, WhyOf, map_link, map_chain, map_why}
+use Rattle.circ_proof.specs.Goals.{sides}
 
 -- What a link is read against: a theory, a special set, hypotheses, and the assumptions of the case splits around it, the outermost first.
 pub record Setting : Type 0 where
@@ -90,3 +91,10 @@ AllOfLinks P ls = AllByRecursion (AllOfLink P) ls
 -- each number of the link is in a table of this length
 abbrev pub IsInTable : (count : ℕ) → LinkOf ℕ → Type 0
 IsInTable count l = AllOfLink (λ n. n < count) l
+
+-- What a link leads to is derivable: by the theory alone for an equation's link and one of content, and from the assumptions for an assumption's.
+abbrev pub LinkDerives : Theory → (assumptions : List Pair) → {T : Type 0} → LinkOf T → Tree → Tree → Type 0
+LinkDerives th A (Equation_link number way path terms) t u = Derivable th [] t u
+LinkDerives th A (Hypothesis_link number way path terms) t u = Unit {0}
+LinkDerives th A (Assumption_link number way path) t u = Derivable th A t u
+LinkDerives th A (Content_link op path term) t u = Derivable th [] t u

@@ -1,10 +1,10 @@
 -- Links, chains and whys as plain data, over any terms: the terms themselves, or their numbers in a table.
 use Rattle.std.specs.Prelude.{ℕ, List, [], ◌∷◌, map}
 use Rattle.circ_theory.specs.declared.way.Way.{Way}
-use Rattle.circ_replay.specs.declared.links.Link.{Link}
-use Rattle.circ_replay.specs.declared.links.Link.TheVariants as link
-use Rattle.circ_replay.specs.declared.links.Chain.{Chain}
-use Rattle.circ_replay.specs.declared.links.Why.{Why, Same, Split', Row_of-Why, end_of-Why, more_of-Why}
+use Rattle.circ_proof.specs.declared.links.Link.{Link}
+use Rattle.circ_proof.specs.declared.links.Link.TheVariants as link
+use Rattle.circ_proof.specs.declared.links.Chain.{Chain}
+use Rattle.circ_proof.specs.declared.links.Why.{Why, Same, Split', Row_of-Why, end_of-Why, more_of-Why}
 
 -- one step of rewriting at a path
 pub data LinkOf (T : Type 0) : Type 0 where

@@ -11,7 +11,7 @@ use Rattle.circ_theory.specs.WellFormed.{IsWellFormed}
 use Rattle.circ_theory.proofs.Rewriting.{contains_at}
 use Rattle.circ_special.specs.declared.place.Place.{Place}
 use Rattle.circ_special.specs.Special.{IsPlace, IsIncreasing, IsSet, comes_before}
-use Rattle.circ_rules.specs.Certified.{derivatives_at, due_at, due}
+use Rattle.circ_proof.specs.Certified.{derivatives_at, due_at, due}
 use Rattle.circ_theory.specs.Fresh.{derivatives_of}
 
 pub slice_bound : {X : Type 0} (xs : List X) (n : ℕ) (x : X) → slice_get xs n ≡ Some x → n < length xs

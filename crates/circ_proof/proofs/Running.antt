@@ -1,7 +1,7 @@
 -- Runs of steps, each of which leads to one state at most: where they end, and where they fail first.
 use Rattle.std.specs.Prelude.{◌≡◌, ◌+◌, ℕ, List, [], ◌∷◌, ◌++◌, length, refl}
 use Rattle.std.proofs.Common.{sym, subst, inl, inr, arith}
-use Rattle.circ_replay.specs.Runs.{Runs, FailsFirst}
+use Rattle.circ_proof.specs.Runs.{Runs, FailsFirst}
 
 -- each step leads from a state to one state at most
 abbrev pub LeadsToOne : {X S : Type 0} → (X → S → S → Type 0) → Type 0

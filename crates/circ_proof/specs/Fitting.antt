@@ -9,11 +9,11 @@ use Rattle.circ_theory.specs.Theory.{Theory}
 use Rattle.circ_theory.specs.declared.parts.Goal.{Goal}
 use Rattle.circ_special.specs.declared.place.Place.{Place}
 use Rattle.circ_special.specs.Special.{IsSet}
-use Rattle.circ_replay.specs.Table.{term_limit}
-use Rattle.circ_rules.specs.Rules.{Done}
-use Rattle.circ_rules.specs.Certified.{due}
-use Rattle.circ_rules.specs.Proof.{AreEntries, AreLinksFor, IsNameFor, IsStepFor, goal_of, step_limit}
-use Rattle.circ_rules.specs.Parts.{Part, Head, Certificate, Goals, Step}
+use Rattle.circ_proof.specs.Table.{term_limit}
+use Rattle.circ_proof.specs.Rules.{Done}
+use Rattle.circ_proof.specs.Certified.{due}
+use Rattle.circ_proof.specs.Proof.{AreEntries, AreLinksFor, IsNameFor, IsStepFor, goal_of, step_limit}
+use Rattle.circ_proof.specs.Parts.{Part, Head, Certificate, Goals, Step}
 
 pub record IsHeadFor (th : Theory) (table : List Tree) (places : List Place) : Type 0 where
   pub sorted : AllByRecursion (IsWellSorted th.signature) table

@@ -3,9 +3,9 @@ use Rattle.std.specs.Prelude.{ℕ, List, [], ◌∷◌, ◌++◌, map}
 use Rattle.circ_term.specs.Tree.{Tree}
 use Rattle.circ_theory.specs.declared.parts.Goal.{Goal}
 use Rattle.circ_special.specs.declared.place.Place.{Place}
-use Rattle.circ_replay.specs.Plain.{LinkOf}
-use Rattle.circ_rules.specs.Rules.{ProofStep}
-use Rattle.circ_rules.specs.Proof.{Block, Proof}
+use Rattle.circ_proof.specs.Plain.{LinkOf}
+use Rattle.circ_proof.specs.Rules.{ProofStep}
+use Rattle.circ_proof.specs.Proof.{Block, Proof}
 
 -- the table and the special set, a certificate, the goals of a block, or one of its steps, Done among them
 pub data Part : Type 0 where

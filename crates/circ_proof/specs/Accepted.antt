@@ -4,11 +4,11 @@ use Rattle.circ_term.specs.Tree.{Tree}
 use Rattle.circ_theory.specs.Theory.{Theory}
 use Rattle.circ_theory.specs.Rewriting.{named}
 use Rattle.circ_theory.specs.declared.parts.Goal.{Goal}
-use Rattle.circ_replay.specs.Plain.{LinkOf, map_link}
-use Rattle.circ_replay.specs.Runs.{FailsFirst}
-use Rattle.circ_rules.specs.Rules.{State, state, ProofStep, map_step, StepOf, StepsOf}
-use Rattle.circ_rules.specs.Certified.{due, AreCertified, CertificateFails}
-use Rattle.circ_rules.specs.Proof.{Block, Proof}
+use Rattle.circ_proof.specs.Plain.{LinkOf, map_link}
+use Rattle.circ_proof.specs.Runs.{FailsFirst}
+use Rattle.circ_proof.specs.Rules.{State, state, ProofStep, map_step, StepOf, StepsOf}
+use Rattle.circ_proof.specs.Certified.{due, AreCertified, CertificateFails}
+use Rattle.circ_proof.specs.Proof.{Block, Proof}
 
 -- the certificates and the steps of a proof, with the terms of its table
 abbrev pub certificates_of : Proof → List (List (LinkOf Tree))

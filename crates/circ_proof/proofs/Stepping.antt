@@ -8,13 +8,13 @@ use Rattle.circ_theory.specs.Theory.{Theory}
 use Rattle.circ_theory.specs.WellFormed.{IsWellFormed}
 use Rattle.circ_theory.specs.declared.parts.Goal.{Goal}
 use Rattle.circ_special.specs.declared.place.Place.{Place}
-use Rattle.circ_replay.specs.Goals.{goal, sides, AreSortedGoals}
-use Rattle.circ_replay.specs.Link.{setting}
-use Rattle.circ_rules.specs.Rules.{State, state, IsSortedState, ProofStep, Simplify, Reduce, Derive, Done, AllOfStep, StepOn, StepOf, StepsOf, derivatives_on, map_step}
-use Rattle.circ_rules.specs.Proof.{IsEnded}
-use Rattle.circ_replay.proofs.Leading.{IsSortedSetting, one_chain, chain_sorted}
-use Rattle.circ_rules.proofs.Running.{LeadsToOne}
-use Rattle.circ_rules.proofs.Sorted.{sorted_none, sorted_more, sorted_first, sorted_rest, sorted_append, derivatives_sorted}
+use Rattle.circ_proof.specs.Goals.{goal, sides, AreSortedGoals}
+use Rattle.circ_proof.specs.Link.{setting}
+use Rattle.circ_proof.specs.Rules.{State, state, IsSortedState, ProofStep, Simplify, Reduce, Derive, Done, AllOfStep, StepOn, StepOf, StepsOf, derivatives_on, map_step}
+use Rattle.circ_proof.specs.Proof.{IsEnded}
+use Rattle.circ_proof.proofs.Leading.{IsSortedSetting, one_chain, chain_sorted}
+use Rattle.circ_proof.proofs.Running.{LeadsToOne}
+use Rattle.circ_proof.proofs.Sorted.{sorted_none, sorted_more, sorted_first, sorted_rest, sorted_append, derivatives_sorted}
 
 -- ---- one state
 

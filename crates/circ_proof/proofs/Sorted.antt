@@ -14,9 +14,9 @@ use Rattle.circ_theory.proofs.Weakening.{first_or_rest, in_rest}
 use Rattle.circ_theory.proofs.Casing.{contains_first}
 use Rattle.circ_theory.proofs.Behaviour.{plug_substitution}
 use Rattle.circ_theory.proofs.Instances.{instance_well_sorted, sort_of-instance_by}
-use Rattle.circ_replay.specs.Goals.{IsWellSortedGoal, AreSortedGoals}
+use Rattle.circ_proof.specs.Goals.{IsWellSortedGoal, AreSortedGoals}
 use Rattle.circ_theory.specs.Fresh.{numbered_from}
-use Rattle.circ_rules.specs.Rules.{fresh_in, derived_goal, derivatives_on}
+use Rattle.circ_proof.specs.Rules.{fresh_in, derived_goal, derivatives_on}
 
 pub sorted_none : (th : Theory) → AreSortedGoals th []
 sorted_none th g c = absurd (omega (arith, c.1))

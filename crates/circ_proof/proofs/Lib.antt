@@ -1,0 +1,10 @@
+pub mod Tables
+pub mod Leading
+pub mod Cases
+pub mod Running
+pub mod Sorted
+pub mod Stepping
+pub mod Certifying
+pub mod FewPlaces
+pub mod Derivatives
+pub mod Starting

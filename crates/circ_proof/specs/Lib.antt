@@ -1,0 +1,13 @@
+pub mod Plain
+pub mod Goals
+pub mod Runs
+pub mod Link
+pub mod Justified
+pub mod Table
+pub mod Rules
+pub mod Certified
+pub mod Proof
+pub mod Accepted
+pub mod Parts
+pub mod Fitting
+pub mod PlainProof
