@@ -14,7 +14,7 @@ use Rattle.circ_proof_text.proofs.Handed.{handed_fit, handed_first, handed_count
 use Rattle.circ_file.specs.View.{now_of, queue_of, plain_part, Pops}
 use Rattle.circ_file.specs.Feeding.{reading_of, Stands, Hands, Ends, handed_with, waiting_in, AreShown}
 use Rattle.circ_file.specs.declared.fault.FileFault.TheVariants.{Line}
-use Rattle.circ_rules.specs.declared.part.Part.{Part as CodePart}
+use Rattle.circ_table.specs.declared.part.Part.{Part as CodePart}
 use Rattle.circ_file.specs.Adding.{terms_in}
 use Rattle.circ_file.specs.Lines.{seen_of}
 use Rattle.circ_file.specs.declared.machine.Machine.{Machine}

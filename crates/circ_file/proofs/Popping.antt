@@ -3,7 +3,7 @@ use Rattle.std.specs.Prelude.{◌≡◌, List, [], ◌∷◌, ◌++◌, length, 
 use Rattle.std.specs.Option.{option_to_list}
 use Rattle.std.proofs.Common.{◌∙◌, ap, arith}
 use Rattle.circ_file.specs.View.{plain_part, now_at, Pops}
-use Rattle.circ_rules.specs.declared.part.Part.{Part as CodePart}
+use Rattle.circ_table.specs.declared.part.Part.{Part as CodePart}
 use Rattle.circ_file.specs.declared.machine.Machine.{Machine}
 use Rattle.circ_file.specs.declared.machine.Mode.{Mode}
 use Rattle.circ_file.specs.declared.machine.Mode.TheVariants as mode

@@ -14,7 +14,7 @@ use Rattle.circ_file.specs.View.{now_of, queue_of, plain_part}
 use Rattle.circ_file.specs.Lines.{IsReader, seen_of}
 use Rattle.circ_file.specs.declared.fault.FileFault.{FileFault}
 use Rattle.circ_file.specs.declared.fault.FileFault.TheVariants.{Line, Limit, Memory}
-use Rattle.circ_rules.specs.declared.part.Part.{Part as CodePart}
+use Rattle.circ_table.specs.declared.part.Part.{Part as CodePart}
 use Rattle.circ_file.specs.declared.reader.FileReader.{FileReader}
 
 -- the bytes up to the first line feed, and those after it

@@ -8,11 +8,11 @@ use Rattle.circ_line.specs.Line.{Line, head_line, table_line, place_line, certif
 use Rattle.circ_grammar.specs.Now.{Now, Begin, Tabling, Placing, Certifying, Opened, Stepping, Simplifying, Reducing, Closed, Ended}
 use Rattle.circ_grammar.specs.Now.{next_now, line_part, front_part, step_part, is_step}
 use Rattle.circ_proof.specs.Proof.{goal_of}
-pub use Rattle.circ_rules.specs.Plain.{plain_part}
+pub use Rattle.circ_table.specs.Part.{plain_part}
 use Rattle.circ_proof_text.specs.Parts.{Part, part_with}
 use Rattle.circ_proof_text.specs.ProofText.{place_numbers}
 use Rattle.circ_file.specs.Splits.{tops}
-use Rattle.circ_rules.specs.declared.part.Part.{Part as CodePart}
+use Rattle.circ_table.specs.declared.part.Part.{Part as CodePart}
 use Rattle.circ_file.specs.declared.machine.Mode.{Mode}
 use Rattle.circ_file.specs.declared.machine.Mode.TheVariants as mode
 use Rattle.circ_file.specs.declared.machine.Machine.{Machine}

@@ -11,7 +11,7 @@ ghost use Rattle.circ_file.specs.Decoding.{gathered_of, Decodes};
 use crate::fault::FileFault;
 use crate::reader::FileReader;
 use circ_proof::{Block, Proof, Step};
-use circ_rules::Part;
+use circ_table::Part;
 use circ_special::Gamma;
 use circ_theory::{Goal, Theory};
 use std::alloc::{AllocError, Global};

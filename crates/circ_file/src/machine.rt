@@ -14,9 +14,8 @@ ghost use Rattle.circ_file.specs.declared.machine.Mode.TheVariants.{Opened};
 
 use crate::splits::OpenSplit;
 use circ_proof::{Chain, Link};
-use circ_rules::Part;
 use circ_special::{Gamma, Place};
-use circ_table::Table;
+use circ_table::{Part, Table};
 use circ_theory::{Goal, Theory};
 use std::alloc::{AllocError, Global};
 use std::collections::VecDeque;

@@ -19,7 +19,7 @@ ghost use Rattle.circ_file.specs.declared.fault.FileFault.{FileFault};
 use crate::fault::FileFault;
 use crate::lines::LineReader;
 use crate::taken::Taken;
-use circ_rules::Part;
+use circ_table::Part;
 use circ_theory::Theory;
 use std::alloc::{AllocError, Global};
 

@@ -14,7 +14,7 @@ ghost use Rattle.circ_file.specs.declared.machine.Mode.TheVariants.{Opened};
 use crate::machine::{Machine, Mode, empty_chain};
 use crate::splits::{OpenSplit, give};
 use circ_proof::{Chain, Link, Step, Why};
-use circ_rules::Part;
+use circ_table::Part;
 use circ_theory::Goal;
 use std::alloc::AllocError;
 use std::mem;

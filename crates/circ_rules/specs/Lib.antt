@@ -1,5 +1,4 @@
 pub mod Due
-pub mod Plain
 pub mod Answers
 pub mod Basis
 pub mod Deriving

@@ -12,10 +12,8 @@ mod basis;
 mod certificates;
 mod derivatives;
 mod due;
-mod part;
 
 pub use admitting::{Admission, admit};
 pub use applying::apply;
 pub use certificates::{Start, start_at, start_term};
 pub use due::{Due, certify_next};
-pub use part::Part;

@@ -1,4 +1,5 @@
 pub mod Table
+pub mod Part
 pub mod Lines
 pub mod Links
 pub mod Held

@@ -2,7 +2,7 @@
 ghost use Rattle.std.specs.Prelude.{◌≡◌, ◌++◌, ◌∷◌, [], ℕ, List, IfOk, OnOk, map};
 ghost use Rattle.circ_theory.specs.Theory.{Theory as PlainTheory};
 ghost use Rattle.circ_proof.specs.Parts.{Part as PlainPart};
-ghost use Rattle.circ_rules.specs.Plain.{plain_part};
+ghost use Rattle.circ_table.specs.Part.{plain_part};
 ghost use Rattle.circ_proof.specs.Proof.{Proof};
 ghost use Rattle.circ_check.specs.Deciding.{plain_list};
 ghost use Rattle.circ_check.specs.Watching as checker;
@@ -18,7 +18,7 @@ use circ_check::Checker;
 use circ_file::{FileFault, FileReader};
 use circ_files::{Intake, Status};
 use circ_read::Cause;
-use circ_rules::Part;
+use circ_table::Part;
 use circ_show::{goals_text, relation_text};
 use circ_theory::{Goal, Theory};
 use std::alloc::{AllocError, Global};

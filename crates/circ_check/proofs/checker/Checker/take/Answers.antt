@@ -1,5 +1,5 @@
 use Rattle.std.proofs.Common.{sym, ◌∙◌}
-use Rattle.circ_rules.specs.Plain.{plain_part}
+use Rattle.circ_table.specs.Part.{plain_part}
 use Rattle.circ_check.proofs.Watching.{follows_ready, took_stands}
 use Rattle.circ_check.proofs.checker.Checker.take.Goals as goal
 

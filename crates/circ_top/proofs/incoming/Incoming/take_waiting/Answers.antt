@@ -1,5 +1,5 @@
 use Rattle.std.proofs.Common.{[], ◌∷◌, ◌++◌, subst, sym, ap, ◌∙◌}
-use Rattle.circ_rules.specs.Plain.{plain_part}
+use Rattle.circ_table.specs.Part.{plain_part}
 use Rattle.circ_file.specs.Feeding as reader
 use Rattle.circ_file.specs.declared.reader.FileReader.{FileReader}
 use Rattle.circ_top.proofs.Pieces.{part_taken}

@@ -1,8 +1,7 @@
 //! The parts of a proof.
-use circ_proof::Step;
-use circ_proof::Link;
+use crate::table::Table;
+use circ_proof::{Link, Step};
 use circ_special::Gamma;
-use circ_table::Table;
 use circ_theory::Goal;
 
 /// A part of a proof, in the order of its text.

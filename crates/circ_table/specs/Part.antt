@@ -3,8 +3,8 @@ use Rattle.circ_proof.specs.Plain.{plain_links}
 use Rattle.circ_proof.specs.PlainProof.{plain_step}
 use Rattle.circ_proof.specs.Parts.{Part, Head, Certificate, Goals}
 use Rattle.circ_proof.specs.Parts as parts
-use Rattle.circ_rules.specs.declared.part.Part.{Part as ThePart}
-use Rattle.circ_rules.specs.declared.part.Part.TheVariants as part
+use Rattle.circ_table.specs.declared.part.Part.{Part as ThePart}
+use Rattle.circ_table.specs.declared.part.Part.TheVariants as part
 
 -- the parts of a proof that a reader hands out
 abbrev pub plain_part : ThePart → Part
