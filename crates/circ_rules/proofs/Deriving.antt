@@ -41,6 +41,9 @@ module _ (th : Theory) (ok : IsWellFormed th) (n : ℕ) (g : Goal) (w : IsWellSo
   renumbered : (t : Tree) → derived d t (given_parameters params) ≡ derived d t (numbered_from (fresh_in g))
   renumbered = numbered th ok n g w k fresh hole sorts listed params made
 
+  are_sorts : sorts ≡ parameter_sorts d
+  are_sorts = sorts_are th ok n g w k fresh hole sorts listed params made
+
   -- the instances are the derivative on the goal
   pub on_goal : {E : Type 0} (r : Result (Option Goal) E) → k + length sorts ≤ 2 ^ 32
       → IfSome (slice_get th.derivatives n) (λ d. IfOk r (Gives (AreInstances d params g)))
@@ -59,7 +62,7 @@ module _ (th : Theory) (ok : IsWellFormed th) (n : ℕ) (g : Goal) (w : IsWellSo
           let vs : List Variable = filter is_parameter (occurrences d.body) in
           record {
             derivable = record {
-              numbers = omega (arith, few, fresh, ap length (sorts_are th ok n g w k fresh hole sorts listed params made), length-map vs (λ v. v.sort), length-map vs (λ v. v.number));
+              numbers = omega (arith, few, fresh, ap length are_sorts, length-map vs (λ v. v.sort), length-map vs (λ v. v.number));
               left = subst IsWithinLimits (renumbered g.left) x.left.within;
               right = subst IsWithinLimits (renumbered g.right) x.right.within;
             };
