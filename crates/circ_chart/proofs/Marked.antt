@@ -181,17 +181,6 @@ rules_step rs m q old mid new at h before after marked n r l e a = go (cases_eq 
         let f : q ≡ r = cc z in subst P f marked (are_stay old mid r.symbols.items before a)
     go (inr i) = after r.sort (h n r (omega arith) e a)
 
-pub variables_step : (vs : List Variable) (m : ℕ) (v : Variable) (old new : List Bool) → slice_get vs m ≡ Some v → VariablesMarked vs m old
-    → StayMarked old new → IsMarked new v.sort → VariablesMarked vs (m + 1) new
-variables_step vs m v old new at h stay marked n x l e = go (cases_eq n m)
-  where
-    go : ((n ≡ m) ⊎ (n ≡ m → ⊥)) → IsMarked new x.sort
-    go (inl i) =
-        let z : Some v ≡ Some x = sym at ∙ ap (slice_get vs) (sym i) ∙ e in
-        let P : Variable → Type 0 = λ y. IsMarked new y.sort in
-        let f : v ≡ x = cc z in subst P f marked
-    go (inr i) = stay x.sort (h n x (omega arith) e)
-
 -- enough of what the usable rules generate is enough of all
 pub alike_enough : (g h : Grammar) (b s : ℕ) (ts : List ℕ) → GenerateAlike (length ts) g h → (E : Tree → Type 0) → Enough E (Generates h b s ts)
     → Enough E (Generates g b s ts)

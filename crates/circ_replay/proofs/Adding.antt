@@ -2,7 +2,8 @@
 use Rattle.std.specs.Prelude.{◌≡◌, ℕ, ◌+◌, ◌<◌, true, List, [], ◌∷◌, ◌++◌, length, drop, map, Option, Some, None, Result, Ok, Err, IsErr, refl}
 use Rattle.std.specs.List.{AllByRecursion}
 use Rattle.std.proofs.Common.{ap, sym, subst, ◌∙◌, arith, append_assoc, append-nil, get_or}
-use Rattle.circ_term.specs.Tree.{Tree, Trees, App, list_of, trees_of, list_of-trees_of}
+use Rattle.circ_term.specs.Tree.{Tree, Trees, App, list_of, trees_of}
+use Rattle.circ_term.proofs.Trees.{list_of-trees_of}
 use Rattle.circ_term.proofs.Within.{drop_read}
 use Rattle.circ_replay.specs.Table.{has, number_in, entered, added, all_added, Numbers, term_limit}
 use Rattle.circ_replay.specs.Growing.{Continues, SoFar, NumbersSoFar}

@@ -1,8 +1,7 @@
 -- Tables only grow, and the numbers of their terms stay.
-use Rattle.std.specs.Prelude.{◌≡◌, ℕ, ◌+◌, ◌≤◌, Bool, true, false, ◌||◌, not, if◌then◌else◌, List, [], ◌∷◌, ◌++◌, length, take, find, Some, refl}
+use Rattle.std.specs.Prelude.{◌≡◌, ℕ, ◌+◌, ◌≤◌, Bool, true, false, ◌||◌, not, if◌then◌else◌, List, [], ◌∷◌, ◌++◌, length, find, Some, refl}
 use Rattle.std.specs.List.{slice_get, AllByRecursion}
 use Rattle.std.proofs.Common.{ap, sym, subst, ◌∙◌, arith, append_assoc, append-nil, length-append}
-use Rattle.std.proofs.Math.Seq.{take-append_seam}
 use Rattle.std.proofs.lemmas.List.Folds.{find_at}
 use Rattle.circ_term.specs.Tree.{Tree, Trees, Var, App, none, more, list_of}
 use Rattle.circ_term.specs.Order.{is_same}
@@ -93,9 +92,6 @@ continues_more old mid new a b = (a.0 ++ b.0, b.1 ∙ ap (λ table. table ++ b.0
 
 pub continues_length : (old new : List Tree) → Continues old new → length old ≤ length new
 continues_length old new a = let e = ap length a.1 ∙ length-append old a.0 in omega (arith, e)
-
-pub take_continued : (old new : List Tree) → Continues old new → take (length old) new ≡ old
-take_continued old new a = ap (take (length old)) a.1 ∙ take-append_seam old a.0
 
 entered_continues : (table : List Tree) (t : Tree) → Continues table (entered table t)
 entered_continues table t = go (has table t)
