@@ -3,7 +3,8 @@ use Rattle.std.proofs.Common.{◌≡◌, ◌≢◌, ◌<◌, ◌+◌, ◌++◌, 
 use Rattle.std.specs.Prelude.{if◌then◌else◌}
 use Rattle.std.specs.List.{list_any}
 use Rattle.std.specs.Cmp.Lexicographic.{pointwise, bytes_decides}
-use Rattle.std.proofs.lemmas.Bool.{eqb-true, eqb-false, and_parts}
+use Rattle.std.proofs.lemmas.Bool.{eqb-true, eqb-false, eq-eqb, and_parts}
+use Rattle.std.proofs.lemmas.List.{map-append}
 use Rattle.circ_term.specs.Tree.{Tree, Trees, Var, App, none, more}
 use Rattle.circ_term.specs.Substitution.{instance, instances}
 use Rattle.circ_term.proofs.Instances.{instance-same}
@@ -12,7 +13,7 @@ use Rattle.circ_theory.specs.Theory.{pair_with}
 use Rattle.circ_theory.specs.Variables.{Variable, is_variable, seen, seen_in, seen_in_all}
 use Rattle.circ_theory.specs.Renumbering.{renumbering, renumbered}
 use Rattle.circ_mixfix.specs.Named as named
-use Rattle.circ_mixfix.specs.Named.{NamedVariable, is_named, numbered, all_numbered, place_from}
+use Rattle.circ_mixfix.specs.Named.{Named, NamedList, NamedVariable, is_named, numbered, all_numbered, place_from}
 use Rattle.circ_mixfix.specs.Readings.{without_hole, numbers_of, reading_of}
 use Rattle.circ_mixfix.specs.Coding.{text_at, named_by, all_named_by}
 use Rattle.circ_mixfix.specs.WordLists.{BeginAlike}
@@ -46,6 +47,30 @@ module _ (ws : List (List ℕ)) (d : AreDifferent ws) where
 
   same_name : (v w : Variable) → v.number < length ws → w.number < length ws → is_named (name_of v) (name_of w) ≡ is_variable v w
   same_name v w a b = ap (λ x. x && (v.sort == w.sort)) (same_text v.number w.number a b)
+
+  any_named : (v : Variable) (vs : List Variable) → v.number < length ws → Known vs → list_any (is_named (name_of v)) (names vs) ≡ list_any (is_variable v) vs
+  any_named v [] a k = refl
+  any_named v (w ∷ vs) a k =
+      ap (λ x. x || list_any (is_named (name_of v)) (names vs)) (same_name v w a k.0) ∙ ap (λ x. is_variable v w || x) (any_named v vs a k.1)
+
+  known_push : (vs : List Variable) (v : Variable) → Known vs → v.number < length ws → Known (vs ++ v ∷ [])
+  known_push [] v k l = (l, tt)
+  known_push (w ∷ vs) v k l = (k.0, known_push vs v k.1 l)
+
+  seen_known : (v : Variable) (vs : List Variable) → Known vs → v.number < length ws → Known (seen v vs)
+  seen_known v vs k l = go (list_any (is_variable v) vs)
+    where
+      go : (b : Bool) → Known (if b then vs else vs ++ v ∷ [])
+      go true = k
+      go false = known_push vs v k l
+
+  seen_named : (v : Variable) (vs : List Variable) → Known vs → v.number < length ws
+      → (if list_any (is_named (name_of v)) (names vs) then names vs else names vs ++ name_of v ∷ []) ≡ names (seen v vs)
+  seen_named v vs k l = ap (λ b. if b then names vs else names vs ++ name_of v ∷ []) (any_named v vs l k) ∙ go (list_any (is_variable v) vs)
+    where
+      go : (b : Bool) → (if b then names vs else names vs ++ name_of v ∷ []) ≡ names (if b then vs else vs ++ v ∷ [])
+      go true = refl
+      go false = sym (map-append name_of vs (v ∷ []))
 
   mutual
     known_in : (t : Tree) (vs : List Variable) → AreKnown ws t → Known vs → Known (seen_in t vs)
@@ -174,12 +199,30 @@ module _ (ws : List (List ℕ)) (d : AreDifferent ws) where
       go ih true e = rw e refl
       go ih false e = rw e (ih (rw e at h))
 
+  any_last : (p : Variable → Bool) (vs : List Variable) (v : Variable) → p v ≡ true → list_any p (vs ++ v ∷ []) ≡ true
+  any_last p [] v e = rw e refl
+  any_last p (w ∷ vs) v e = go (any_last p vs v e) (p w)
+    where
+      go : list_any p (vs ++ v ∷ []) ≡ true → (b : Bool) → (b || list_any p (vs ++ v ∷ [])) ≡ true
+      go ih true = refl
+      go ih false = ih
+
   seen_more : (p : Variable → Bool) (v : Variable) (vs : List Variable) → list_any p vs ≡ true → list_any p (seen v vs) ≡ true
   seen_more p v vs h = go (list_any (is_variable v) vs)
     where
       go : (b : Bool) → list_any p (if b then vs else vs ++ v ∷ []) ≡ true
       go true = h
       go false = any_front p vs (v ∷ []) h
+
+  seen_itself : (v : Variable) (vs : List Variable) → list_any (is_variable v) (seen v vs) ≡ true
+  seen_itself v vs = go (list_any (is_variable v) vs) refl
+    where
+      itself : is_variable v v ≡ true
+      itself = let a = eq-eqb v.number v.number refl in let b = eq-eqb v.sort v.sort refl in rw (a, b) refl
+
+      go : (b : Bool) → list_any (is_variable v) vs ≡ b → list_any (is_variable v) (if list_any (is_variable v) vs then vs else vs ++ v ∷ []) ≡ true
+      go true e = rw e e
+      go false e = rw e (any_last (is_variable v) vs v itself)
 
   mutual
     kept : (p : Variable → Bool) (t : Tree) (vs : List Variable) → list_any p vs ≡ true → list_any p (seen_in t vs) ≡ true

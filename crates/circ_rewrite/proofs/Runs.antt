@@ -1,8 +1,9 @@
 -- A run that ends with a normal form makes what is due first, again and again.
 use Rattle.std.proofs.Common.{◌≡◌, ℕ, ◌+◌, zero, suc, List, [], ◌∷◌, ◌++◌, Option, Some, None, refl, ap, sym, subst, ◌∙◌, arith, append_assoc, append-nil}
+use Rattle.std.specs.List.{slice_get}
 use Rattle.std.specs.Option.{option_map, option_or}
 use Rattle.std.proofs.lemmas.Option.{same_Some}
-use Rattle.circ_term.specs.Tree.{Tree, Trees, Var, App, none, more, at, walk, replaced}
+use Rattle.circ_term.specs.Tree.{Tree, Trees, Var, App, none, more, list_of, at, walk, replaced}
 use Rattle.circ_term.specs.Limits.{Limit, first_limit}
 use Rattle.circ_term.proofs.Paths.{replaced_there}
 use Rattle.circ_rewrite.specs.Replacement.{Replacement, Placed, Traced, placed, below, traced}
@@ -13,6 +14,17 @@ module _ (due : Tree → Option Replacement) where
   -- the replacement is due at the root of the subterm at its path
   abbrev IsDueAt : Tree → Placed → Type 0
   IsDueAt t q = (a : Tree) × (at t q.path ≡ Some a) × (due a ≡ Some q.replacement)
+
+  -- the same in argument i of these, the first of which has the number j
+  abbrev IsDueIn : (j : ℕ) → Trees → Placed → Type 0
+  IsDueIn j ts q = (i : ℕ) × (x : Tree) × (r : Placed) × (slice_get (list_of ts) i ≡ Some x) × (q ≡ below (j + i) r) × IsDueAt x r
+
+  at_root : (t : Tree) (q : Placed) → option_map (placed []) (due t) ≡ Some q → IsDueAt t q
+  at_root t q e = go (due t) refl e
+    where
+      go : (o : Option Replacement) → due t ≡ o → option_map (placed []) o ≡ Some q → IsDueAt t q
+      go None f x = absurd (cc)
+      go (Some r) f x = subst (λ p. IsDueAt t p) (same_Some (placed [] r) q x) (t, refl, f)
 
   mutual
     due_there : (t : Tree) (q : Placed) → first_due due t ≡ Some q → IsDueAt t q

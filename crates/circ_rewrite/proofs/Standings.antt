@@ -134,7 +134,3 @@ replaced_past due (i ∷ p) (App f k ts) t u v l s h r e =
     let within = or_else_parts (first_limits ts) _ h in
     let ih = replaced_past due p s.0 t u deeper.0 l s.3 (arg_within (App f k ts) i s.0 s.1 h) deeper.1 e in
     ap first_limit (sym is) ∙ rw (limits_set ts i s.0 deeper.0 l s.1 within.0 ih) refl
-
--- ---- what is settled in a settled term
-
-module _ (due : Tree → Option Replacement) where
