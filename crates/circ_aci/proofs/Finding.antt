@@ -1,10 +1,11 @@
 -- How the code finds a content: by the two arguments at the top, by comparing terms and lists of terms, and by sizes.
 use Rattle.std.proofs.Common.{◌≡◌, ◌↔◌, ℕ, ◌==◌, ◌&&◌, not, Bool, true, false, cond, Ordering, Less, Equal, Greater, List, [], ◌∷◌}
-use Rattle.std.proofs.Common.{◌++◌, length, Option, Some, None, IsTrue, refl, sym, ap, subst, ◌∙◌, inl, inr}
+use Rattle.std.proofs.Common.{◌++◌, length, Some, None, IsTrue, refl, sym, ap, subst, ◌∙◌, inl, inr}
 use Rattle.std.specs.Ordering.{is_eq}
 use Rattle.std.proofs.lemmas.Bool.{cases_Bool, cond-true, cond-false, eq-eqb, eqb-true}
 use Rattle.std.proofs.lemmas.Option.{same_Some}
-use Rattle.circ_term.specs.Tree.{Tree, Trees, App, none, more, list_of, trees_of, list_of-trees_of}
+use Rattle.circ_term.specs.Tree.{Tree, App, none, more, list_of, trees_of}
+use Rattle.circ_term.proofs.Trees.{list_of-trees_of}
 use Rattle.circ_term.specs.Order.{is_same, trees_cmp}
 use Rattle.circ_term.proofs.Order.{same_here, same_itself, trees_same, trees_equal}
 use Rattle.circ_theory.specs.Signature.{Operator}
@@ -38,17 +39,6 @@ lists_told xs ys r e = (λ t. lists_same (equal_of (trees_cmp (trees_of xs) (tre
         subst P q (ap is_eq (trees_same (trees_of xs)))
 
 -- ---- the two arguments
-
-pub operands_of : (f g s : ℕ) (ts : Trees) → operands f (App g s ts) ≡ cond (f == g) (two_of ts) None
-operands_of f g s (more a (more b none)) = refl
-operands_of f g s ts = sym (neither (f == g))
-  where
-    absent : Option (Tree × Tree)
-    absent = None
-
-    neither : (c : Bool) → cond c absent None ≡ None
-    neither true = refl
-    neither false = refl
 
 pub two_absent : (ts : List Tree) → (length ts ≡ 2 → ⊥) → two_of (trees_of ts) ≡ None
 two_absent [] n = refl
@@ -90,9 +80,6 @@ stands_on f t a b e = absurd (cc)
 
 pub leaves_twice : (f k : ℕ) (a b : Tree) → leaves f (twice f k a b) ≡ leaves f a ++ leaves f b
 leaves_twice f k a b = rw (eq-eqb f f refl) refl
-
-pub leaves_of_two : (f : ℕ) (t a b : Tree) → Some (a, b) ≡ operands f t → leaves f t ≡ leaves f a ++ leaves f b
-leaves_of_two f t a b e = let h = stands_on f t a b e in ap (leaves f) h.is ∙ leaves_twice f h.sort a b
 
 -- the content of a marked operator on two terms
 abbrev pub content_of_both : Operator → ℕ → Tree → Tree → List Tree

@@ -1,5 +1,5 @@
 -- Chains: one after the other, with looser bounds, and of a subterm as of the term in which it stands.
-use Rattle.std.proofs.Common.{◌≡◌, ℕ, ◌+◌, ◌≤◌, ◌<◌, zero, suc, List, [], ◌∷◌, ◌++◌, map, length, Option, Some, refl, ap, sym, subst, ◌∙◌, arith, length-append, ◌⊎◌, inl, inr}
+use Rattle.std.proofs.Common.{◌≡◌, ℕ, ◌+◌, ◌≤◌, ◌<◌, List, [], ◌∷◌, ◌++◌, map, length, Option, Some, ap, sym, subst, ◌∙◌, arith, length-append, ◌⊎◌, inl, inr}
 use Rattle.std.proofs.lemmas.List.{length-map}
 use Rattle.std.proofs.lemmas.Option.{same_Some}
 use Rattle.circ_term.specs.Tree.{Tree, replaced, size_of, depth_of}
@@ -71,28 +71,6 @@ module _ (due : Tree → Option Replacement) where
         chain_up big deep more_big more_deep ts p next.0 u v x next.2 r.2 (omega (arith, r.1.small)) (omega (arith, r.1.shallow)) shallow
             (replaced_twice p w u next.0 v next.1 ∙ put),
       )
-
-  -- more replacements than k: the budget runs out
-  pub chain_out : (big deep : ℕ) (ts : List Traced) (k : ℕ) (t v : Tree) → Chain due big deep t ts v → k < length ts → RunsOut due big deep k t
-  chain_out big deep [] k t v r h = absurd (omega arith)
-  chain_out big deep (tr ∷ ts) zero t v r h = record {
-    traces = [];
-    here = t;
-    place = placed tr.path r.1.replacement;
-    chain = refl;
-    count = refl;
-    is_due = r.1.is_first.first;
-  }
-  chain_out big deep (tr ∷ ts) (suc k) t v r h =
-      let rest = chain_out big deep ts k r.0 v r.2 (omega arith) in
-      record {
-        traces = tr ∷ rest.traces;
-        here = rest.here;
-        place = rest.place;
-        chain = (r.0, r.1, rest.chain);
-        count = ap suc rest.count;
-        is_due = rest.is_due;
-      }
 
   -- stops after a chain, where the budget of the whole is n
   pub next_on : (big deep k n : ℕ) (ts us : List Traced) (t u x : Tree) → Chain due big deep t ts u → Next due big deep k u us x → length ts + k ≡ n

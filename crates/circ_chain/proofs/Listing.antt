@@ -4,14 +4,15 @@ use Rattle.std.proofs.lemmas.List.{map-append, length-set}
 use Rattle.std.proofs.lemmas.Option.{same_Some}
 use Rattle.std.specs.Prelude.{slice_set}
 use Rattle.std.specs.List.{slice_get}
-use Rattle.circ_term.specs.Tree.{Tree, Trees, Var, App, list_of, list_of-trees_of, put_at, size_of, depth_of}
+use Rattle.circ_term.specs.Tree.{Tree, Trees, App, list_of, put_at, size_of, depth_of}
+use Rattle.circ_term.proofs.Trees.{list_of-trees_of}
 use Rattle.circ_rewrite.specs.Replacement.{Replacement, Traced, placed, traced}
 use Rattle.circ_rewrite.specs.Standing.{IsSettled, HasSettledBelow}
 use Rattle.circ_chain.specs.Chain.{under, Chain, Reduces}
 use Rattle.circ_chain.specs.Through.{Readies}
 use Rattle.circ_chain.specs.Listed.{Lists, ListsThrough}
 use Rattle.circ_chain.proofs.Chains.{chain_on, chain_weaken}
-use Rattle.circ_chain.proofs.Settling.{through_start, through_next, through_still, through_end, readies_variable}
+use Rattle.circ_chain.proofs.Settling.{through_next, through_end}
 use Rattle.circ_chain.proofs.Roots.{root_step}
 use Rattle.circ_chain.proofs.Unique.{reduces_unique, readies_unique}
 
@@ -93,10 +94,6 @@ module _ (due : Tree → Option Replacement) where
     listed = ap (λ q. old ++ traced (placed q d) ∷ []) (sym (append-nil p));
   }
 
-  pub lists_args_start : (p : List ℕ) (f s : ℕ) (ts : Trees) (old : List Traced) → ListsThrough due p f s 0 ts ts old old
-  lists_args_start p f s ts old =
-      record { big = 0; deep = 0; traces = []; through = through_start due f s ts; listed = sym (append-nil old); rest = refl; count = refl }
-
   -- argument i still stands
   lists_stands : (p : List ℕ) (f s i : ℕ) (ts us : Trees) (a : Tree) (old new : List Traced) → ListsThrough due p f s i ts us old new → slice_get (list_of ts) i ≡ Some a
       → slice_get (list_of us) i ≡ Some a
@@ -121,18 +118,6 @@ module _ (due : Tree → Option Replacement) where
         count = ap length (list_of-trees_of (slice_set (list_of us) i v)) ∙ length-set (list_of us) i v ∙ g.count;
       }
 
-  pub lists_arg_still : (p : List ℕ) (f s i : ℕ) (ts us : Trees) (a : Tree) (old new : List Traced) → ListsThrough due p f s i ts us old new → slice_get (list_of ts) i ≡ Some a
-      → IsSettled due a → ListsThrough due p f s (i + 1) ts us old new
-  lists_arg_still p f s i ts us a old new g get settled = record {
-    big = g.big;
-    deep = g.deep;
-    traces = g.traces;
-    through = through_still due g.big g.deep (App f s ts) g.traces f s i us a g.through (lists_stands p f s i ts us a old new g get) settled;
-    listed = g.listed;
-    rest = drop_next (list_of us) (list_of ts) i g.rest;
-    count = g.count;
-  }
-
   -- all arguments are listed: the term that stands now is the one that is known to be ready
   pub lists_args_end : (b d : ℕ) (p : List ℕ) (f s i : ℕ) (ts us : Trees) (u : Tree) (known old new : List Traced) → ListsThrough due p f s i ts us old new
       → i ≡ length (list_of ts) → Readies due b d (App f s ts) known u → Lists due p (App f s ts) u old new
@@ -140,11 +125,6 @@ module _ (due : Tree → Option Replacement) where
       let end = through_end due g.big g.deep (App f s ts) g.traces f s i us g.through (e ∙ sym g.count) in
       let same = readies_unique due g.big g.deep b d g.traces known (App f s ts) (App f s us) u end r in
       record { big = g.big; deep = g.deep; traces = g.traces; chain = subst (λ x. Chain due g.big g.deep (App f s ts) g.traces x) same.1 g.through.chain; listed = g.listed }
-
-  -- a variable has no arguments
-  pub lists_variable : (b d : ℕ) (p : List ℕ) (n s : ℕ) (u : Tree) (known old : List Traced) → Readies due b d (Var n s) known u → Lists due p (Var n s) u old old
-  lists_variable b d p n s u known old r =
-      subst (λ x. Lists due p (Var n s) x old old) (readies_unique due 0 0 b d [] known (Var n s) (Var n s) u (readies_variable due n s) r).1 (lists_start p (Var n s) old)
 
   -- What is listed up to a settled term are the traces of the normal form.
   pub lists_end : (b d : ℕ) (p : List ℕ) (t v x : Tree) (ts old new : List Traced) → Lists due p t v old new → IsSettled due v → Reduces due b d t ts x

@@ -5,7 +5,7 @@ use Rattle.circ_term.specs.Limits.{Limit, first_limit, IsWithinLimits}
 use Rattle.circ_rewrite.specs.Replacement.{Replacement, Traced, placed, traced}
 use Rattle.circ_rewrite.specs.Norm.{first_due}
 use Rattle.circ_rewrite.specs.Standing.{IsSettled, HasSettledBelow}
-use Rattle.circ_rewrite.proofs.Standings.{due_term, settled_term, settled_below}
+use Rattle.circ_rewrite.proofs.Standings.{due_term, settled_term}
 use Rattle.circ_chain.specs.Chain.{IsStep, Chain, Reduces, Next, RunsOut, Breaks, Outgrows}
 use Rattle.circ_chain.specs.Through.{Readies}
 use Rattle.circ_chain.proofs.Chains.{chain_on, chain_weaken}
@@ -19,11 +19,6 @@ module _ (due : Tree → Option Replacement) where
   pub root_settled : (u : Tree) → HasSettledBelow due u → due u ≡ None → IsSettled due u
   root_settled (Var n s) h e = rw e refl
   root_settled (App f s us) h e = settled_term due f s us h e
-
-  -- a settled term has settled arguments
-  pub settled_has : (u : Tree) → IsSettled due u → HasSettledBelow due u
-  settled_has (Var n s) h = tt
-  settled_has (App f s us) h = settled_below due f s us h
 
   pub root_step : (big deep : ℕ) (u : Tree) (d : Replacement) → HasSettledBelow due u → due u ≡ Some d → size_of d.new ≤ big → depth_of d.new ≤ deep
       → IsStep due big deep u (traced (placed [] d)) d.new

@@ -1,9 +1,8 @@
 -- Arguments normalised one after the other, each by what is known of it by itself.
 use Rattle.std.proofs.Common.{◌≡◌, ℕ, ◌+◌, ◌≤◌, max, zero, List, [], ◌∷◌, ◌++◌, map, length, Option, Some, refl, subst, arith}
 use Rattle.std.specs.List.{slice_get}
-use Rattle.circ_term.specs.Tree.{Tree, Trees, Var, App, list_of, put_at, replaced, size_of, depth_of}
-use Rattle.circ_term.specs.Limits.{node_limit, depth_limit, Limit, first_limit, IsWithinLimits}
-use Rattle.circ_term.proofs.Limits.{first_limit_none, within_limits}
+use Rattle.circ_term.specs.Tree.{Tree, Trees, App, list_of, put_at, replaced, size_of, depth_of}
+use Rattle.circ_term.specs.Limits.{Limit, first_limit, IsWithinLimits}
 use Rattle.circ_rewrite.specs.Replacement.{Replacement, Traced}
 use Rattle.circ_rewrite.specs.Standing.{IsSettled, AreSettled, Stands}
 use Rattle.circ_rewrite.proofs.Standings.{settled_set, settled_next, get_set_list}
@@ -63,13 +62,6 @@ module _ (due : Tree → Option Replacement) where
       chain_within due (max big (size_of t)) (max deep (depth_of t)) traces t (App f s us) (omega arith) (omega arith)
       (chain_weaken due big deep (max big (size_of t)) (max deep (depth_of t)) traces t (App f s us) (omega arith) (omega arith) h.chain)
 
-  pub through_limits : (big deep : ℕ) (t : Tree) (traces : List Traced) (f s i : ℕ) (us : Trees) → Through due big deep t traces f s i us → IsWithinLimits t
-      → big ≤ node_limit → deep ≤ depth_limit → IsWithinLimits (App f s us)
-  through_limits big deep t traces f s i us h within small shallow =
-      let now = through_within big deep t traces f s i us h in
-      let first = within_limits t within in
-      first_limit_none (App f s us) (omega (arith, now.0, first.0)) (omega (arith, now.1, first.1))
-
   -- argument i stops, where its bounds are what those of the term leave; n is the budget of the whole
   pub through_out : (big deep b d most deepest k n : ℕ) (t : Tree) (traces : List Traced) (f s i : ℕ) (us : Trees) (a : Tree)
       → Through due big deep t traces f s i us → slice_get (list_of us) i ≡ Some a → big ≤ most → deep ≤ deepest → depth_of (App f s us) ≤ deepest
@@ -108,7 +100,3 @@ module _ (due : Tree → Option Replacement) where
   pub through_end : (big deep : ℕ) (t : Tree) (traces : List Traced) (f s i : ℕ) (us : Trees) → Through due big deep t traces f s i us → i ≡ length (list_of us)
       → Readies due big deep t traces (App f s us)
   through_end big deep t traces f s i us h e = record { chain = h.chain; below = h.below; settled = subst (λ n. AreSettled due n us) e h.settled }
-
-  -- there are none
-  pub readies_variable : (n s : ℕ) → Readies due zero zero (Var n s) [] (Var n s)
-  readies_variable n s = record { chain = refl; below = tt; settled = tt }

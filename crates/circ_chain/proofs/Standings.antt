@@ -2,7 +2,8 @@
 use Rattle.std.proofs.Common.{◌≡◌, ℕ, ◌+◌, ◌≤◌, max, zero, suc, List, [], ◌∷◌, ◌++◌, length, Option, Some, refl, ap, sym, ◌∙◌, arith}
 use Rattle.std.specs.List.{slice_get}
 use Rattle.std.proofs.lemmas.Option.{same_Some}
-use Rattle.circ_term.specs.Tree.{Tree, Trees, Var, App, none, more, list_of, trees_of-list_of, put_at, replaced, size_of, sizes_of, depth_of, depths_of}
+use Rattle.circ_term.specs.Tree.{Tree, Trees, Var, App, none, more, list_of, put_at, replaced, size_of, sizes_of, depth_of, depths_of}
+use Rattle.circ_term.proofs.Trees.{trees_of-list_of}
 use Rattle.circ_term.proofs.Paths.{replaced_below}
 use Rattle.circ_rewrite.specs.Replacement.{Replacement, placed}
 use Rattle.circ_rewrite.specs.Norm.{first_due}

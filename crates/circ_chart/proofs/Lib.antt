@@ -9,4 +9,3 @@ mod Lists
 mod Tops
 mod Marked
 pub mod Sets
-mod Limits

@@ -1,7 +1,8 @@
 -- What is made from known edges and columns is the rows of the symbols.
 use Rattle.std.proofs.Common.{◌≡◌, ◌⊎◌, ◌<◌, ◌≤◌, ◌+◌, ◌-◌, ℕ, zero, suc, List, [], ◌∷◌, length, drop, Some, inl, inr, sym, ◌∙◌, ap, subst, refl, arith}
 use Rattle.std.specs.List.{slice_get}
-use Rattle.circ_term.specs.Tree.{Tree, Trees, App, none, more, trees_of, list_of, args_of, trees_of-list_of}
+use Rattle.circ_term.specs.Tree.{Tree, Trees, App, none, more, trees_of, list_of, args_of}
+use Rattle.circ_term.proofs.Trees.{trees_of-list_of}
 use Rattle.circ_chart.specs.declared.grammar.Symbol.{Symbol}
 use Rattle.circ_chart.specs.declared.grammar.Symbol.TheVariants.{Word, Hole}
 use Rattle.circ_chart.specs.declared.grammar.Rule.{Rule}

@@ -5,7 +5,8 @@ use Rattle.std.proofs.Common.{ap, sym, subst, ◌∙◌, arith, length-append, a
 use Rattle.std.proofs.lemmas.List.{take_more}
 use Rattle.std.proofs.lemmas.Option.{slice_get_within, slice_get_read}
 use Rattle.std.proofs.Math.Seq.{get_or-append_seam}
-use Rattle.circ_term.specs.Tree.{Tree, Trees, Var, App, none, more, list_of, trees_of, list_of-trees_of, args_of}
+use Rattle.circ_term.specs.Tree.{Tree, Trees, Var, App, none, more, list_of, trees_of, args_of}
+use Rattle.circ_term.proofs.Trees.{list_of-trees_of}
 use Rattle.circ_term.specs.Order.{is_same}
 use Rattle.circ_term.proofs.Order.{same_here}
 use Rattle.circ_term.proofs.Within.{drop_read}

@@ -1,15 +1,14 @@
 -- Cutting a text into tokens from the left.
-use Rattle.std.proofs.Common.{◌≡◌, ◌<◌, ◌≤◌, ◌+◌, ℕ, suc, List, [], ◌∷◌, ◌++◌, Bool, true, false, cond, ◌==◌, not, take, drop, length, get_or, if◌then◌else◌, Option, Some, None, Err, refl, sym, subst, ◌∙◌, arith, append_assoc, append-nil, add-zero}
+use Rattle.std.proofs.Common.{◌≡◌, ◌<◌, ◌≤◌, ◌+◌, ℕ, suc, List, [], ◌∷◌, ◌++◌, Bool, true, false, cond, ◌==◌, not, take, drop, length, get_or, if◌then◌else◌, Option, Some, None, refl, sym, subst, ◌∙◌, arith, append-nil, add-zero}
 use Rattle.std.proofs.lemmas.List.{take-append-drop, drop-drop, drop_more, length-drop, drop_all}
 use Rattle.std.proofs.lemmas.List.Folds.{length-prefix_len}
 use Rattle.std.proofs.lemmas.List.Sums.{prefix_len-le-length}
 use Rattle.std.specs.List.{prefix_len, list_all}
 use Rattle.circ_lexer.specs.declared.tokens.Span.{Span}
 use Rattle.circ_lexer.specs.declared.fault.LexFault.{LexFault}
-use Rattle.circ_lexer.specs.declared.fault.LexFault.TheVariants.{NotAscii, Control, Memory}
 use Rattle.circ_lexer.specs.Bytes.{is_blank, is_special, is_plain, is_bad, is_in_line, begins_comment, ends_run, ends_line}
 use Rattle.circ_lexer.specs.Cuts.{Cuts, end, blank, comment, special, run, bad, AreSpans, span, fault_of}
-use Rattle.circ_lexer.specs.Scanning.{Scans, BeginsToken, GivesSpans, begins, fault_in}
+use Rattle.circ_lexer.specs.Scanning.{Scans, BeginsToken, begins, fault_in}
 use Rattle.circ_lexer.proofs.ByteKinds.{stops}
 use Rattle.circ_lexer.proofs.Prefix.{ahead, all_pass, some_pass}
 
@@ -22,13 +21,6 @@ scans_at bytes at n ss h k sound = record {
   ahead = omega arith;
   within = omega (arith, length-drop at bytes);
   sound = λ us o c. sound us o (rw drop-drop c);
-}
-
-pub scans_then : (bytes : List ℕ) (a b c : ℕ) (ss us : List Span) → Scans bytes a ss b → Scans bytes b us c → Scans bytes a (ss ++ us) c
-scans_then bytes a b c ss us h k = record {
-  ahead = omega arith;
-  within = k.within;
-  sound = λ vs o d. rw append_assoc (h.sound (us ++ vs) o (k.sound vs o d));
 }
 
 -- a place where a test fails, after all bytes that pass it
@@ -145,8 +137,3 @@ bad_cut bytes at n f e h k =
 
 pub all_cut : (bytes : List ℕ) (at : ℕ) (ss : List Span) → Scans bytes 0 ss at → length bytes ≤ at → AreSpans bytes ss
 all_cut bytes at ss h l = subst (λ (us : List Span). Cuts 0 bytes us None) (append-nil ss) (h.sound [] None (rw (drop_all at bytes l) (end at)))
-
-pub cut_to_fault : (bytes : List ℕ) (at : ℕ) (ss : List Span) (f : LexFault) → Scans bytes 0 ss at → Cuts at (drop at bytes) [] (Some f) → GivesSpans (Err f) bytes
-cut_to_fault bytes at ss (NotAscii p) h c = (ss ++ [], h.sound [] _ c)
-cut_to_fault bytes at ss (Control p) h c = (ss ++ [], h.sound [] _ c)
-cut_to_fault bytes at ss Memory h c = tt

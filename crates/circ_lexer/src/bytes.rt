@@ -3,6 +3,9 @@ ghost use Rattle.std.specs.Prelude.{◌≡◌, ◌≤◌, length, drop};
 ghost use Rattle.std.specs.List.{prefix_len};
 ghost use Rattle.circ_lexer.specs.Bytes.{is_blank, is_special, is_plain, is_bad, is_in_line, begins_comment};
 
+// The last byte of ASCII.
+pub(crate) const DELETE: u8 = 127;
+
 fn is_blank(byte: u8) -> bool
     ensures { result ≡ is_blank byte }
 {
@@ -24,13 +27,13 @@ pub(crate) fn is_special(byte: u8) -> bool
 fn is_plain(byte: u8) -> bool
     ensures { result ≡ is_plain byte }
 {
-    32 < byte && byte < 127 && !is_special(byte)
+    b' ' < byte && byte < DELETE && !is_special(byte)
 }
 
 pub(crate) fn is_bad(byte: u8) -> bool
     ensures { result ≡ is_bad byte }
 {
-    126 < byte || byte < 32 && !is_blank(byte)
+    b'~' < byte || byte < b' ' && !is_blank(byte)
 }
 
 pub(crate) fn blank_count(bytes: &[u8]) -> usize

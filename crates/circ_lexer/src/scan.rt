@@ -4,7 +4,7 @@ ghost use Rattle.circ_lexer.specs.Bytes.{is_blank, begins_comment};
 ghost use Rattle.circ_lexer.specs.Scanning.{Scans, BeginsToken, GivesToken, GivesSpans, begins, fault_in};
 
 use crate::bytes::{
-    begins_comment, blank_count, is_bad, is_special, line_length, plain_count, rest,
+    DELETE, begins_comment, blank_count, is_bad, is_special, line_length, plain_count, rest,
 };
 use crate::{LexFault, Span};
 use std::alloc::Global;
@@ -79,7 +79,7 @@ fn fault_at(bytes: &[u8], at: usize) -> Option<LexFault>
         return None;
     }
     let place = at as u64;
-    if byte < 128 {
+    if byte <= DELETE {
         Some(LexFault::Control { place })
     } else {
         Some(LexFault::NotAscii { place })

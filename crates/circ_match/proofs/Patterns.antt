@@ -1,6 +1,7 @@
 -- How bindings are extended: by a ground pattern, by an operator's arguments one after another, by two patterns.
 use Rattle.std.proofs.Common.{◌≡◌, ◌↔◌, ℕ, Bool, true, false, ◌||◌, List, length, Result, Ok, Err, IfOk, IsTrue, [], is_some, unwrap_or, refl, ap, sym, ◌∙◌}
-use Rattle.circ_term.specs.Tree.{Tree, Trees, Var, App, none, more, list_of, trees_of, list_of-trees_of, is_ground, are_ground}
+use Rattle.circ_term.specs.Tree.{Tree, Trees, Var, App, none, more, list_of, trees_of, is_ground, are_ground}
+use Rattle.circ_term.proofs.Trees.{list_of-trees_of}
 use Rattle.circ_term.specs.Substitution.{Substitution, KeepsSorts, instance, instances}
 use Rattle.circ_term.specs.Subst.{Bound, found, substitution_of}
 use Rattle.circ_term.proofs.Instances.{instance-is_ground, length-instances}

@@ -1,7 +1,8 @@
 -- Readings that were found, one more.
-use Rattle.std.proofs.Common.{◌≡◌, ◌⊎◌, ◌∙◌, ◌+◌, ◌<◌, ◌++◌, ℕ, List, [], ◌∷◌, drop, length, get_or, Bool, Ordering, Equal, Greater, inl, inr, sym, ap, subst, refl}
+use Rattle.std.proofs.Common.{◌≡◌, ◌⊎◌, ◌∙◌, ◌+◌, ◌<◌, ℕ, List, [], ◌∷◌, drop, length, get_or, Bool, Ordering, Equal, Greater, inl, inr, sym, ap, subst, refl}
 use Rattle.std.proofs.lemmas.List.{drop_more}
-use Rattle.circ_term.specs.Tree.{Tree, trees_of, list_of, list_of-trees_of, sort_of}
+use Rattle.circ_term.specs.Tree.{Tree, trees_of, list_of, sort_of}
+use Rattle.circ_term.proofs.Trees.{list_of-trees_of}
 use Rattle.circ_term.specs.Order.{trees_cmp}
 use Rattle.circ_chart.specs.Few.{Enough, Differ, Or}
 use Rattle.circ_chart.proofs.Sets.{enough_all, enough_chain, enough_step}
@@ -20,13 +21,6 @@ Same r ts = ts ≡ r.terms.items
 
 same_list : (ts us : List Tree) → trees_of ts ≡ trees_of us → ts ≡ us
 same_list ts us e = sym (list_of-trees_of ts) ∙ ap list_of e ∙ list_of-trees_of us
-
-pub one_first : (r : Reading) → KeepsReadings (One r) (Or (In Empty) (Same r))
-one_first r = record { enough = enough_all (In (One r)) (Or (In Empty) (Same r)) (λ ts h. inr h) back; ordered = tt }
-  where
-    back : (ts : List Tree) → Or (In Empty) (Same r) ts → In (One r) ts
-    back ts (inl h) = absurd h
-    back ts (inr h) = h
 
 -- how the lists of two readings compare
 cmp_of : (a r : Reading) (xs ys : List Tree) (o : Ordering) → xs ≡ a.terms.items → ys ≡ r.terms.items → o ≡ trees_cmp (trees_of xs) (trees_of ys) → trees_cmp (trees_of a.terms.items) (trees_of r.terms.items) ≡ o
@@ -156,9 +150,6 @@ both_step old new t us rights P e k = step old new (RightRead t rights) (BothRea
 -- an item that is read is the first of those that are left
 pub drop_read : {X : Type 0} (xs : List X) (i : ℕ) (x : X) → i < length xs → x ≡ get_or xs i x → drop i xs ≡ x ∷ drop (i + 1) xs
 drop_read xs i x l e = drop_more xs i x l ∙ ap (λ y. y ∷ drop (i + 1) xs) (sym e)
-
-pub list_two : (xs ys zs : List Tree) (t u : Tree) → xs ≡ [] → ys ≡ xs ++ t ∷ [] → zs ≡ ys ++ u ∷ [] → zs ≡ t ∷ u ∷ []
-list_two xs ys zs t u a b c = c ∙ ap (λ x. x ++ u ∷ []) (b ∙ ap (λ x. x ++ t ∷ []) a)
 
 -- the ends of the loops
 pub begun : (P : List Tree → Type 0) → Enough (Or (In Empty) P) P

@@ -262,9 +262,6 @@ module _ (sig : Signature) (vars : List Declared) (hole : Bool) (ws : List (List
           subst P z (name, refl, at, g.0)
       sound (suc n) v e = absurd (cc)
 
-  pub none_written : GivesVariable sig vars hole w None → AreVariablesOf sig vars hole ws i w []
-  none_written g = record { sound = λ n v e. absurd (cc); all = λ name s v. absurd (g name s v) }
-
 pub is_nil : {X : Type 0} (xs : List X) → (length xs == 0) ≡ true → xs ≡ []
 is_nil xs e = nil_from_length xs (eqb-true (length xs) 0 e)
 

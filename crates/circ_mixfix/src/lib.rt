@@ -23,7 +23,6 @@ pub use circ_chart::{EVERY, MOST_TOKENS};
 pub use few::Reading;
 pub use parse::{ParseFault, parse_one, parse_one_declared, parse_pair, parse_pair_declared};
 pub use printing::{print, print_derivative, print_pair};
-pub use spelling::{Symbol, precedence, symbols};
 
 // The number of the hole's name, which is the empty text, among the texts of tokens.
 const HOLE: u32 = 2;

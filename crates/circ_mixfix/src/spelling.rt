@@ -12,7 +12,7 @@ use std::alloc::{AllocError, Global};
 
 /// A part of what spells an operator.
 #[derive(Clone, Copy)]
-pub enum Symbol<'a> {
+pub(crate) enum Symbol<'a> {
     /// A token.
     Word(&'a [u8]),
     /// A term of this sort, of a precedence below `below`. Where that is 0, nothing fits.
@@ -20,7 +20,7 @@ pub enum Symbol<'a> {
 }
 
 /// The precedence of an operator's terms. One without holes has 0, whatever is declared.
-pub fn precedence(decl: &OpDecl) -> u8
+pub(crate) fn precedence(decl: &OpDecl) -> u8
     ensures { result ≡ precedence_of (operator_of decl.now) }
 {
     if decl.form.has_hole() { decl.prec } else { 0 }
@@ -158,7 +158,7 @@ fn with_arguments<'a>(out: Vec<Symbol<'a>>, sorts: &[u32]) -> Result<Vec<Symbol<
 
 /// What spells the operator, in order: its form with the sorts and bounds of its holes; or, for a
 /// form without holes, its words, and its arguments in parentheses. The precedence is at most 127.
-pub fn symbols(alloc: Global, decl: &OpDecl) -> Result<Vec<Symbol<'_>>, AllocError>
+pub(crate) fn symbols(alloc: Global, decl: &OpDecl) -> Result<Vec<Symbol<'_>>, AllocError>
     requires { precedence_of (operator_of decl.now) < EVERY }
     ensures { IfOk result (λ v. map symbol_of v.items ≡ symbols_of (operator_of decl.now)) }
 {

@@ -3,7 +3,8 @@ use Rattle.std.specs.Prelude.{◌≡◌, ℕ, zero, suc, ◌<◌, ◌≤◌, Lis
 use Rattle.std.specs.List.{slice_get, AllByRecursion}
 use Rattle.std.proofs.Common.{ap, sym, subst, ◌∙◌, arith, append_assoc, append-nil, length-append}
 use Rattle.std.proofs.lemmas.Option.{same_Some, slice_get_within}
-use Rattle.circ_term.specs.Tree.{Tree, Trees, none, more, list_of, trees_of, trees_of-list_of}
+use Rattle.circ_term.specs.Tree.{Tree, Trees, none, more, list_of, trees_of}
+use Rattle.circ_term.proofs.Trees.{trees_of-list_of}
 use Rattle.circ_term.specs.Growing.{Grows}
 use Rattle.circ_nodes.specs.Named.{IsNamed, AreNamed}
 use Rattle.circ_nodes.proofs.Places.{get_there}
@@ -91,10 +92,3 @@ are_named_set nodes (n ∷ ns) none i m u h k = absurd h
 are_named_set nodes (n ∷ ns) (more t ts) zero m u h k =
     let P : Trees → Type 0 = AreNamed nodes ns in (k, subst P (sym (trees_of-list_of ts)) h.1)
 are_named_set nodes (n ∷ ns) (more t ts) (suc i) m u h k = (h.0, are_named_set nodes ns ts i m u h.1 k)
-
-pub are_named_push : (nodes : List Tree) (ns : List ℕ) (ts : List Tree) (n : ℕ) (t : Tree) → AreNamed nodes ns (trees_of ts) → IsNamed nodes n t
-    → AreNamed nodes (ns ++ n ∷ []) (trees_of (ts ++ t ∷ []))
-are_named_push nodes [] [] n t h k = (k, tt)
-are_named_push nodes [] (u ∷ ts) n t h k = absurd h
-are_named_push nodes (m ∷ ns) [] n t h k = absurd h
-are_named_push nodes (m ∷ ns) (u ∷ ts) n t h k = (h.0, are_named_push nodes ns ts n t h.1 k)

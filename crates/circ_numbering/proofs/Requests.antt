@@ -1,9 +1,9 @@
 -- One request to a table after another.
 use Rattle.std.proofs.Common.{◌≡◌, ℕ, true, List, [], ◌∷◌, ◌++◌, refl, ap, sym, subst, ◌∙◌, arith}
 use Rattle.circ_term.specs.Tree.{Tree}
-use Rattle.circ_proof.specs.Table.{Continues}
+use Rattle.circ_term.specs.Growing.{Grows}
 use Rattle.circ_proof.specs.Table.{added, has, number_in}
-use Rattle.circ_proof.proofs.Tables.{continues_self, continues_more, continues_length, added_continues, added_has, number_stays}
+use Rattle.circ_proof.proofs.Tables.{grows_self, grows_more, grows_length, added_grows, added_has, number_stays}
 use Rattle.circ_plain_search.specs.Numbering.{asked_for}
 use Rattle.circ_numbering.specs.Asking.{IsFaultOf}
 use Rattle.circ_numbering.specs.declared.fault.NumberFault.{NumberFault}
@@ -13,20 +13,20 @@ pub asked_append : (table ts us : List Tree) → asked_for table (ts ++ us) ≡ 
 asked_append table [] us = refl
 asked_append table (t ∷ ts) us = asked_append (added table t) ts us
 
-pub asked_continues : (table ts : List Tree) → Continues table (asked_for table ts)
-asked_continues table [] = continues_self table
-asked_continues table (t ∷ ts) = continues_more table (added table t) (asked_for (added table t) ts) (added_continues table t) (asked_continues (added table t) ts)
+pub asked_grows : (table ts : List Tree) → Grows table (asked_for table ts)
+asked_grows table [] = grows_self table
+asked_grows table (t ∷ ts) = grows_more table (added table t) (asked_for (added table t) ts) (added_grows table t) (asked_grows (added table t) ts)
 
 -- a table that is too long stays so
-pub fault_later : (old new : List Tree) (e : NumberFault) → Continues old new → IsFaultOf old e → IsFaultOf new e
-fault_later old new fault.LongTable a h = omega (arith, h, continues_length old new a)
+pub fault_later : (old new : List Tree) (e : NumberFault) → Grows old new → IsFaultOf old e → IsFaultOf new e
+fault_later old new fault.LongTable a h = omega (arith, h, grows_length old new a)
 fault_later old new fault.Memory a h = tt
 
 -- the first request fails, or the second
 pub first_fails : (old ts us : List Tree) (e : NumberFault) → IsFaultOf (asked_for old ts) e → IsFaultOf (asked_for old (ts ++ us)) e
 first_fails old ts us e h =
     let P : List Tree → Type 0 = λ x. IsFaultOf x e in
-    subst P (sym (asked_append old ts us)) (fault_later (asked_for old ts) (asked_for (asked_for old ts) us) e (asked_continues (asked_for old ts) us) h)
+    subst P (sym (asked_append old ts us)) (fault_later (asked_for old ts) (asked_for (asked_for old ts) us) e (asked_grows (asked_for old ts) us) h)
 
 pub second_fails : (old mid ts us : List Tree) (e : NumberFault) → mid ≡ asked_for old ts → IsFaultOf (asked_for mid us) e → IsFaultOf (asked_for old (ts ++ us)) e
 second_fails old mid ts us e m h =
@@ -37,17 +37,17 @@ pub both_asked : (old mid new ts us : List Tree) → mid ≡ asked_for old ts �
 both_asked old mid new ts us a b = b ∙ ap (λ x. asked_for x us) a ∙ sym (asked_append old ts us)
 
 -- what goes on from the table after the second goes on from the one after the first
-pub later_too : (mid new us table : List Tree) → new ≡ asked_for mid us → Continues new table → Continues mid table
+pub later_too : (mid new us table : List Tree) → new ≡ asked_for mid us → Grows new table → Grows mid table
 later_too mid new us table e a =
-    continues_more mid new table (let P : List Tree → Type 0 = Continues mid in subst P (sym e) (asked_continues mid us)) a
+    grows_more mid new table (let P : List Tree → Type 0 = Grows mid in subst P (sym e) (asked_grows mid us)) a
 
 -- one term
-pub number_later : (old new table : List Tree) (t : Tree) (n : ℕ) → new ≡ added old t → n ≡ number_in new t → Continues new table → n ≡ number_in table t
+pub number_later : (old new table : List Tree) (t : Tree) (n : ℕ) → new ≡ added old t → n ≡ number_in new t → Grows new table → n ≡ number_in table t
 number_later old new table t n e m a =
     let P : List Tree → Type 0 = λ x. has x t ≡ true in
     m ∙ sym (number_stays new a.0 t (subst P (sym e) (added_has old t))) ∙ ap (λ x. number_in x t) (sym a.1)
 
 -- what one request has, in the tables that go on from the table after the next
 pub earlier_named : {X : Type 0} (Named : List Tree → X → Type 0) (mid new us : List Tree) (x : X) → new ≡ asked_for mid us
-    → ((table : List Tree) → Continues mid table → Named table x) → (table : List Tree) → Continues new table → Named table x
+    → ((table : List Tree) → Grows mid table → Named table x) → (table : List Tree) → Grows new table → Named table x
 earlier_named Named mid new us x e h table a = h table (later_too mid new us table e a)

@@ -3,8 +3,8 @@ use Rattle.std.proofs.Common.{◌≡◌, ◌<◌, ◌≤◌, ◌+◌, ℕ, List,
 use Rattle.std.specs.Prelude.{flat_map}
 use Rattle.std.proofs.lemmas.List.{map-append, drop_all}
 use Rattle.circ_term.specs.Tree.{Tree}
+use Rattle.circ_term.specs.Growing.{Grows}
 use Rattle.circ_term.proofs.Within.{drop_read}
-use Rattle.circ_proof.specs.Table.{Continues}
 use Rattle.circ_plain_search.specs.Numbering.{asked_for}
 use Rattle.circ_numbering.specs.Asking.{IsFaultOf}
 use Rattle.circ_numbering.specs.declared.fault.NumberFault.{NumberFault}
@@ -14,7 +14,7 @@ use Rattle.circ_numbering.proofs.Requests.{asked_append, first_fails, later_too}
 pub record IsOnItsWay {X Y Z : Type 0} (terms : X → List Tree) (f : Y → Z) (g : List Tree → X → Z) (first : List Tree) (xs left : List X) (now : List Tree)
     (ys : List Y) : Type 0 where
   pub asked : asked_for now (flat_map terms left) ≡ asked_for first (flat_map terms xs)
-  pub named : (table : List Tree) → Continues now table → map f ys ++ map (g table) left ≡ map (g table) xs
+  pub named : (table : List Tree) → Grows now table → map f ys ++ map (g table) left ≡ map (g table) xs
 
 module _ {X Y Z : Type 0} (terms : X → List Tree) (f : Y → Z) (g : List Tree → X → Z) (first : List Tree) (xs : List X) where
   pub on_its_way : (now : List Tree) (ys : List Y) → now ≡ first → ys ≡ [] → IsOnItsWay terms f g first xs xs now ys
@@ -22,7 +22,7 @@ module _ {X Y Z : Type 0} (terms : X → List Tree) (f : Y → Z) (g : List Tree
 
   -- one thing further on
   pub one_further : (x : X) (left : List X) (now new : List Tree) (ys zs : List Y) (y : Y) → IsOnItsWay terms f g first xs (x ∷ left) now ys
-      → new ≡ asked_for now (terms x) → ((table : List Tree) → Continues new table → f y ≡ g table x) → zs ≡ ys ++ y ∷ []
+      → new ≡ asked_for now (terms x) → ((table : List Tree) → Grows new table → f y ≡ g table x) → zs ≡ ys ++ y ∷ []
       → IsOnItsWay terms f g first xs left new zs
   one_further x left now new ys zs y w e h z = record {
     asked = ap (λ t. asked_for t (flat_map terms left)) e ∙ sym (asked_append now (terms x) (flat_map terms left)) ∙ w.asked;
@@ -41,7 +41,7 @@ module _ {X Y Z : Type 0} (terms : X → List Tree) (f : Y → Z) (g : List Tree
   pub all_asked : (now : List Tree) (ys : List Y) → IsOnItsWay terms f g first xs [] now ys → now ≡ asked_for first (flat_map terms xs)
   all_asked now ys w = w.asked
 
-  pub all_named : (now : List Tree) (ys : List Y) → IsOnItsWay terms f g first xs [] now ys → (table : List Tree) → Continues now table → map f ys ≡ map (g table) xs
+  pub all_named : (now : List Tree) (ys : List Y) → IsOnItsWay terms f g first xs [] now ys → (table : List Tree) → Grows now table → map f ys ≡ map (g table) xs
   all_named now ys w table a = sym (append-nil (map f ys)) ∙ w.named table a
 
 -- a list as it is walked
@@ -78,7 +78,7 @@ module _ {X Y Z : Type 0} (terms : X → List Tree) (f : Y → Z) (g : List Tree
     pub walk_fails : (e : NumberFault) → IsFaultOf (asked_for now (terms x)) e → IsFaultOf (asked_for first (flat_map terms xs)) e
     walk_fails e k = one_fails terms f g first xs x (drop (i + 1) xs) now ys e here k
 
-    pub walk_on : (new : List Tree) (zs : List Y) (y : Y) → new ≡ asked_for now (terms x) → ((table : List Tree) → Continues new table → f y ≡ g table x)
+    pub walk_on : (new : List Tree) (zs : List Y) (y : Y) → new ≡ asked_for now (terms x) → ((table : List Tree) → Grows new table → f y ≡ g table x)
         → zs ≡ ys ++ y ∷ [] → IsOnItsWay terms f g first xs (drop (i + 1) xs) new zs
     walk_on new zs y e k z = one_further terms f g first xs x (drop (i + 1) xs) now new ys zs y here e k z
 
@@ -89,5 +89,5 @@ module _ {X Y Z : Type 0} (terms : X → List Tree) (f : Y → Z) (g : List Tree
     pub walk_asked : now ≡ asked_for first (flat_map terms xs)
     walk_asked = all_asked terms f g first xs now ys over
 
-    pub walk_named : (table : List Tree) → Continues now table → map f ys ≡ map (g table) xs
+    pub walk_named : (table : List Tree) → Grows now table → map f ys ≡ map (g table) xs
     walk_named table a = all_named terms f g first xs now ys over table a

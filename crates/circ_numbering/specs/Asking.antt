@@ -1,7 +1,7 @@
 -- What calls answer that ask a table for terms.
 use Rattle.std.specs.Prelude.{◌≡◌, ◌<◌, ◌≤◌, List, length, Result, Ok, Err}
 use Rattle.circ_term.specs.Tree.{Tree}
-use Rattle.circ_proof.specs.Table.{Continues}
+use Rattle.circ_term.specs.Growing.{Grows}
 use Rattle.circ_proof.specs.Table.{term_limit}
 use Rattle.circ_proof.specs.Proof.{Proof}
 use Rattle.circ_plain_search.specs.Numbering.{asked_for}
@@ -16,7 +16,7 @@ IsFaultOf grown fault.Memory = Unit {0}
 -- The table has the terms that are asked for, in their order, and in each table that goes on from it this is what was asked for; or the fault is that of
 -- the table as it would be.
 abbrev pub Asks : {X : Type 0} → (old new terms : List Tree) → (Named : (table : List Tree) → X → Type 0) → Result X NumberFault → Type 0
-Asks old new terms Named (Ok x) = (new ≡ asked_for old terms) × ((table : List Tree) → Continues new table → Named table x)
+Asks old new terms Named (Ok x) = (new ≡ asked_for old terms) × ((table : List Tree) → Grows new table → Named table x)
 Asks old new terms Named (Err e) = IsFaultOf (asked_for old terms) e
 
 -- the proof, whose table is short enough; or the fault of its table

@@ -3,15 +3,15 @@ use Rattle.std.proofs.Common.{◌≡◌, ◌<◌, length, Bool, true, false, if�
 use Rattle.std.specs.List.{AllByRecursion}
 use Rattle.std.specs.Option.{unwrap_or}
 use Rattle.circ_term.specs.Tree.{Tree, Trees, Var, App, none, more, list_of}
+use Rattle.circ_term.specs.Growing.{Grows}
 use Rattle.circ_theory.specs.Theory.{Theory}
 use Rattle.circ_theory.specs.Rewriting.{named}
 use Rattle.circ_theory.proofs.Lists.{all_push}
 use Rattle.circ_proof.specs.Plain.{LinkOf, Equation_link, Hypothesis_link, Assumption_link, Content_link, ChainOf, WhyOf, WhysOf, Same_why, Split_why, no_why, more_whys, map_link, map_chain, map_why, map_whys}
-use Rattle.circ_proof.specs.Table.{Continues}
 use Rattle.circ_proof.specs.Link.{AllOfLink, AllOfLinks}
 use Rattle.circ_proof.specs.Justified.{AllOfChain, AllOfWhy, AllOfWhys}
 use Rattle.circ_proof.specs.Table.{has, number_in, entered, added, all_added}
-use Rattle.circ_proof.proofs.Tables.{has_front, number_names, continues_self, continues_more, added_continues, added_has, all_added_have}
+use Rattle.circ_proof.proofs.Tables.{has_front, number_names, grows_self, grows_more, added_grows, added_has, all_added_have}
 use Rattle.circ_proof.specs.Rules.{ProofStep, Simplify, Reduce, Derive, Done, map_step, AllOfStep}
 use Rattle.circ_proof.specs.Proof.{IsEntry, AreEntries}
 use Rattle.circ_proof.proofs.FewPlaces.{slice_bound}
@@ -24,18 +24,18 @@ use Rattle.circ_plain_search.proofs.Runs.{most}
 abbrev pub Has : (table : List Tree) → Tree → Type 0
 Has table t = has table t ≡ true
 
-has_later : (old new : List Tree) (t : Tree) → Continues old new → Has old t → Has new t
+has_later : (old new : List Tree) (t : Tree) → Grows old new → Has old t → Has new t
 has_later old new t a h = let P : List Tree → Type 0 = λ x. Has x t in subst P (sym a.1) (has_front old a.0 t h)
 
-asked_continues : (table ts : List Tree) → Continues table (asked_for table ts)
-asked_continues table [] = continues_self table
-asked_continues table (t ∷ ts) =
-    continues_more table (added table t) (asked_for (added table t) ts) (added_continues table t) (asked_continues (added table t) ts)
+asked_grows : (table ts : List Tree) → Grows table (asked_for table ts)
+asked_grows table [] = grows_self table
+asked_grows table (t ∷ ts) =
+    grows_more table (added table t) (asked_for (added table t) ts) (added_grows table t) (asked_grows (added table t) ts)
 
 pub asked_has : (table ts : List Tree) → AllByRecursion (Has (asked_for table ts)) ts
 asked_has table [] = tt
 asked_has table (t ∷ ts) =
-    (has_later (added table t) (asked_for (added table t) ts) t (asked_continues (added table t) ts) (added_has table t), asked_has (added table t) ts)
+    (has_later (added table t) (asked_for (added table t) ts) t (asked_grows (added table t) ts) (added_has table t), asked_has (added table t) ts)
 
 pub number_named : (table : List Tree) (t : Tree) → Has table t → named table (number_in table t) ≡ t
 number_named table t h = ap (λ o. unwrap_or o (Var 0 0)) (number_names table t h)

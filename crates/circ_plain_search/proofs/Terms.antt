@@ -5,7 +5,8 @@ use Rattle.std.specs.List.{slice_get, AllByRecursion, dedup, dedup_from}
 use Rattle.std.specs.Option.{option_map, unwrap_or}
 use Rattle.std.proofs.lemmas.Bool.{and_parts, eqb-true}
 use Rattle.std.proofs.lemmas.Option.{same_Some}
-use Rattle.circ_term.specs.Tree.{Tree, Trees, Var, App, none, more, list_of, trees_of, trees_of-list_of, at, replaced, depth_of, depths_of}
+use Rattle.circ_term.specs.Tree.{Tree, Trees, Var, App, none, more, list_of, trees_of, at, replaced, depth_of, depths_of}
+use Rattle.circ_term.proofs.Trees.{trees_of-list_of}
 use Rattle.circ_term.specs.Limits.{IsWithinLimits}
 use Rattle.circ_term.specs.Order.{is_same, comes_before}
 use Rattle.circ_term.specs.Substitution.{Substitution, instance, instances}

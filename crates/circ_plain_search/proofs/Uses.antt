@@ -3,7 +3,8 @@ use Rattle.std.proofs.Common.{◌≡◌, ℕ, ◌+◌, ◌≤◌, length, List, 
 use Rattle.std.specs.Prelude.{slice_set}
 use Rattle.std.specs.List.{slice_get}
 use Rattle.std.specs.Option.{unwrap_or}
-use Rattle.circ_term.specs.Tree.{Tree, Trees, App, more, sort_of, list_of, trees_of, list_of-trees_of, at, replaced}
+use Rattle.circ_term.specs.Tree.{Tree, Trees, App, more, sort_of, list_of, trees_of, at, replaced}
+use Rattle.circ_term.proofs.Trees.{list_of-trees_of}
 use Rattle.circ_term.specs.Limits.{Limit, first_limit, or_else, IsWithinLimits}
 use Rattle.circ_term.specs.Substitution.{Substitution, instance}
 use Rattle.circ_term.proofs.Paths.{replaced_there, replaced_self, at_replaced, replaced_twice, replaced_below}

@@ -1,14 +1,13 @@
 -- Tables only grow, and the numbers of their terms stay.
-use Rattle.std.specs.Prelude.{◌≡◌, ℕ, ◌+◌, ◌≤◌, Bool, true, false, ◌||◌, not, if◌then◌else◌, List, [], ◌∷◌, ◌++◌, length, take, find, Some, refl}
+use Rattle.std.specs.Prelude.{◌≡◌, ℕ, ◌+◌, ◌≤◌, Bool, true, false, ◌||◌, not, if◌then◌else◌, List, [], ◌∷◌, ◌++◌, length, find, Some, refl}
 use Rattle.std.specs.List.{slice_get, AllByRecursion}
 use Rattle.std.proofs.Common.{ap, sym, subst, ◌∙◌, arith, append_assoc, append-nil, length-append}
-use Rattle.std.proofs.Math.Seq.{take-append_seam}
 use Rattle.std.proofs.lemmas.List.Folds.{find_at}
 use Rattle.circ_term.specs.Tree.{Tree, Trees, Var, App, none, more, list_of}
 use Rattle.circ_term.specs.Order.{is_same}
+use Rattle.circ_term.specs.Growing.{Grows}
 use Rattle.circ_term.proofs.Order.{same_here, same_itself}
 use Rattle.circ_proof.specs.Table.{has, number_in, entered, added, all_added}
-use Rattle.circ_proof.specs.Table.{Continues}
 
 -- which terms a table has
 
@@ -85,37 +84,34 @@ number_last (u ∷ table) t h = go (is_same t u) (number_last table t) h
 
 -- how tables go on
 
-pub continues_self : (table : List Tree) → Continues table table
-continues_self table = ([], sym (append-nil table))
+pub grows_self : (table : List Tree) → Grows table table
+grows_self table = ([], sym (append-nil table))
 
-pub continues_more : (old mid new : List Tree) → Continues old mid → Continues mid new → Continues old new
-continues_more old mid new a b = (a.0 ++ b.0, b.1 ∙ ap (λ table. table ++ b.0) a.1 ∙ append_assoc old a.0 b.0)
+pub grows_more : (old mid new : List Tree) → Grows old mid → Grows mid new → Grows old new
+grows_more old mid new a b = (a.0 ++ b.0, b.1 ∙ ap (λ table. table ++ b.0) a.1 ∙ append_assoc old a.0 b.0)
 
-pub continues_length : (old new : List Tree) → Continues old new → length old ≤ length new
-continues_length old new a = let e = ap length a.1 ∙ length-append old a.0 in omega (arith, e)
+pub grows_length : (old new : List Tree) → Grows old new → length old ≤ length new
+grows_length old new a = let e = ap length a.1 ∙ length-append old a.0 in omega (arith, e)
 
-pub take_continued : (old new : List Tree) → Continues old new → take (length old) new ≡ old
-take_continued old new a = ap (take (length old)) a.1 ∙ take-append_seam old a.0
-
-entered_continues : (table : List Tree) (t : Tree) → Continues table (entered table t)
-entered_continues table t = go (has table t)
+entered_grows : (table : List Tree) (t : Tree) → Grows table (entered table t)
+entered_grows table t = go (has table t)
   where
-    go : (b : Bool) → Continues table (if b then table else table ++ t ∷ [])
-    go true = continues_self table
+    go : (b : Bool) → Grows table (if b then table else table ++ t ∷ [])
+    go true = grows_self table
     go false = (t ∷ [], refl)
 
 mutual
-  pub added_continues : (table : List Tree) (t : Tree) → Continues table (added table t)
-  added_continues table (Var n s) = entered_continues table (Var n s)
-  added_continues table (App f s ts) =
-      continues_more table (all_added table ts) (added table (App f s ts)) (all_added_continues table ts) (entered_continues (all_added table ts) (App f s ts))
+  pub added_grows : (table : List Tree) (t : Tree) → Grows table (added table t)
+  added_grows table (Var n s) = entered_grows table (Var n s)
+  added_grows table (App f s ts) =
+      grows_more table (all_added table ts) (added table (App f s ts)) (all_added_grows table ts) (entered_grows (all_added table ts) (App f s ts))
 
-  pub all_added_continues : (table : List Tree) (ts : Trees) → Continues table (all_added table ts)
-  all_added_continues table none = continues_self table
-  all_added_continues table (more t ts) =
-      continues_more table (added table t) (all_added table (more t ts)) (added_continues table t) (all_added_continues (added table t) ts)
+  pub all_added_grows : (table : List Tree) (ts : Trees) → Grows table (all_added table ts)
+  all_added_grows table none = grows_self table
+  all_added_grows table (more t ts) =
+      grows_more table (added table t) (all_added table (more t ts)) (added_grows table t) (all_added_grows (added table t) ts)
 
-has_later : (old new : List Tree) (t : Tree) → Continues old new → has old t ≡ true → has new t ≡ true
+has_later : (old new : List Tree) (t : Tree) → Grows old new → has old t ≡ true → has new t ≡ true
 has_later old new t a h = let P : List Tree → Type 0 = λ x. has x t ≡ true in subst P (sym a.1) (has_front old a.0 t h)
 
 -- what is added is there
@@ -134,7 +130,7 @@ added_has table (App f s ts) = entered_has (all_added table ts) (App f s ts)
 pub all_added_have : (table : List Tree) (ts : Trees) → AllByRecursion (λ t. has (all_added table ts) t ≡ true) (list_of ts)
 all_added_have table none = tt
 all_added_have table (more t ts) =
-    (has_later (added table t) (all_added table (more t ts)) t (all_added_continues (added table t) ts) (added_has table t), all_added_have (added table t) ts)
+    (has_later (added table t) (all_added table (more t ts)) t (all_added_grows (added table t) ts) (added_has table t), all_added_have (added table t) ts)
 
 pub added_names : (old new : List Tree) (t : Tree) (n : ℕ) → new ≡ added old t → n ≡ number_in new t → slice_get new n ≡ Some t
 added_names old new t n e m =

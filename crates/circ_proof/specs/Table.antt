@@ -49,7 +49,3 @@ AreNext before (t ∷ ts) = IsNext before t × AreNext (before ++ t ∷ []) ts
 pub record IsTable (table : List Tree) : Type 0 where
   pub few : length table ≤ term_limit
   pub in_order : AreNext [] table
-
--- the second table begins with the first
-abbrev pub Continues : (old new : List Tree) → Type 0
-Continues old new = (rest : List Tree) × (new ≡ old ++ rest)

@@ -8,7 +8,8 @@ use Rattle.std.proofs.Common.{sym, ◌∙◌, ap, subst, arith}
 use Rattle.std.proofs.lemmas.Bool.{eqb-true, eq-eqb, ltb-true, lt-ltb}
 use Rattle.std.proofs.lemmas.Option.{same_Some, cond_some}
 use Rattle.std.proofs.lemmas.Slice.Eq.{bytes_eq-Decides}
-use Rattle.circ_term.specs.Tree.{Tree, Trees, Var, App, list_of, trees_of, list_of-trees_of, trees_of-list_of, sort_of}
+use Rattle.circ_term.specs.Tree.{Tree, Trees, Var, App, list_of, trees_of, sort_of}
+use Rattle.circ_term.proofs.Trees.{list_of-trees_of, trees_of-list_of}
 use Rattle.circ_term.specs.Order.{is_same}
 use Rattle.circ_term.proofs.Order.{same_itself}
 use Rattle.circ_theory.specs.Signature.{Signature, Operator, IsWellSorted, HaveSorts}

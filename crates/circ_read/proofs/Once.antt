@@ -15,9 +15,6 @@ alike_ok : {A : Type 0} (r q : Result A Cause) → AreAlike r q → (a : A) → 
 alike_ok r q same a e = e
 alike_ok r q ambiguous a e = cc
 
-pub both_ambiguous : {A : Type 0} (r q : Result A Cause) (s t u v : List ℕ) → r ≡ Err (cause.Ambiguous s t) → q ≡ Err (cause.Ambiguous u v) → AreAlike r q
-both_ambiguous {A} r q s t u v e f = subst (λ x. AreAlike x q) (sym e) (subst (λ (x : Result A Cause). AreAlike (Err (cause.Ambiguous s t)) x) (sym f) ambiguous)
-
 pub ok_same : {A : Type 0} (a b : A) → AreAlike (Ok a) (Ok b) → a ≡ b
 ok_same a b h = let e = alike_ok (Ok a) (Ok b) h a refl in cc
 

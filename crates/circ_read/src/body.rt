@@ -12,6 +12,9 @@ use circ_lexer::{Span, Tokens};
 use circ_statement::Statement;
 use std::alloc::Global;
 
+// The number of the first statement after a head, which is statement 1.
+const FIRST_STATEMENT: u64 = 2;
+
 // What statements are added to.
 pub(crate) trait Receiver {
     // The statement is accepted, and leads to the second value.
@@ -38,7 +41,7 @@ pub(crate) fn add_body<R: Receiver>(
         (drop head.now.body (tokens_of tokens.now)) head.now.opened }
 {
     let mut at = head.body;
-    let mut number = 2;
+    let mut number = FIRST_STATEMENT;
     while let Some(stop) = next_stop(tokens, at) {
         match add_tokens(alloc, receiver, tokens, Span { from: at, to: stop }) {
             Ok(()) => {}

@@ -9,6 +9,9 @@ use crate::names::is_word;
 use circ_lexer::Tokens;
 use circ_statement::is_name;
 
+// How many tokens a head has: `theory`, a name and `is`.
+const HEAD_TOKENS: usize = 3;
+
 // The head of a text.
 #[derive(Drop)]
 pub(crate) struct Head<'a> {
@@ -27,14 +30,14 @@ pub(crate) fn read_head<'a>(tokens: &Tokens<'a>) -> Option<Head<'a>>
         Some(Head {
             opened: true,
             name,
-            body: 4,
+            body: HEAD_TOKENS + 1,
         })
     } else {
         let name = name_after(tokens, 0)?;
         Some(Head {
             opened: false,
             name,
-            body: 3,
+            body: HEAD_TOKENS,
         })
     }
 }

@@ -2,18 +2,19 @@
 use Rattle.std.specs.Prelude.{◌≡◌, ℕ, ◌+◌, ◌<◌, true, List, [], ◌∷◌, ◌++◌, length, drop, map, Option, Some, None, Result, Ok, Err, IsErr, refl}
 use Rattle.std.specs.List.{AllByRecursion}
 use Rattle.std.proofs.Common.{ap, sym, subst, ◌∙◌, arith, append_assoc, append-nil, get_or}
-use Rattle.circ_term.specs.Tree.{Tree, Trees, App, list_of, trees_of, list_of-trees_of}
+use Rattle.circ_term.specs.Tree.{Tree, Trees, App, list_of, trees_of}
+use Rattle.circ_term.specs.Growing.{Grows}
+use Rattle.circ_term.proofs.Trees.{list_of-trees_of}
 use Rattle.circ_term.proofs.Within.{drop_read}
 use Rattle.circ_proof.specs.Table.{has, number_in, entered, added, all_added, Numbers, term_limit}
-use Rattle.circ_proof.specs.Table.{Continues}
 use Rattle.circ_replay.specs.Growing.{SoFar, NumbersSoFar}
 use Rattle.circ_replay.specs.Roots.{application, HasRoot}
-use Rattle.circ_proof.proofs.Tables.{added_has, all_added_have, added_continues, all_added_continues}
-use Rattle.circ_proof.proofs.Tables.{continues_self, continues_more, continues_length, number_stays}
+use Rattle.circ_proof.proofs.Tables.{added_has, all_added_have, added_grows, all_added_grows}
+use Rattle.circ_proof.proofs.Tables.{grows_self, grows_more, grows_length, number_stays}
 
 pub too_many : (table : List Tree) (t : Tree) (ts : Trees) → term_limit < length (added table t) → term_limit < length (all_added (added table t) ts)
 too_many table t ts h =
-    let l = continues_length (added table t) (all_added (added table t) ts) (all_added_continues (added table t) ts) in omega (arith, l, h)
+    let l = grows_length (added table t) (all_added (added table t) ts) (all_added_grows (added table t) ts) in omega (arith, l, h)
 
 -- at a term of a list
 module _ (table : List Tree) (ts : List Tree) (i : ℕ) (t : Tree) (h : i < length ts) (e : t ≡ get_or ts i t) where
@@ -21,18 +22,18 @@ module _ (table : List Tree) (ts : List Tree) (i : ℕ) (t : Tree) (h : i < leng
   next_added = ap (λ us. all_added table (trees_of us)) (drop_read ts i t h e)
 
   pub next_number : (grown later : List Tree) (ns more : List ℕ) (n : ℕ) → grown ≡ added table t → n ≡ number_in grown t
-      → more ≡ ns ++ n ∷ [] → Continues grown later
-      → ((any : List Tree) → Continues table any → ns ++ map (number_in any) (drop i ts) ≡ map (number_in any) ts)
+      → more ≡ ns ++ n ∷ [] → Grows grown later
+      → ((any : List Tree) → Grows table any → ns ++ map (number_in any) (drop i ts) ≡ map (number_in any) ts)
       → more ++ map (number_in later) (drop (i + 1) ts) ≡ map (number_in later) ts
   next_number grown later ns more n g m p longer so_far =
-      let P : List Tree → Type 0 = Continues table in
+      let P : List Tree → Type 0 = Grows table in
       let H : List Tree → Type 0 = λ x. has x t ≡ true in
-      let on = subst P (sym g) (added_continues table t) in
+      let on = subst P (sym g) (added_grows table t) in
       let there = subst H (sym g) (added_has table t) in
       let rest = map (number_in later) (drop (i + 1) ts) in
       let here : number_in later t ≡ n = ap (λ x. number_in x t) longer.1 ∙ number_stays grown longer.0 t there ∙ sym m in
       ap (λ x. x ++ rest) p ∙ append_assoc ns (n ∷ []) rest ∙ ap (λ x. ns ++ x ∷ rest) (sym here)
-      ∙ ap (λ us. ns ++ map (number_in later) us) (sym (drop_read ts i t h e)) ∙ so_far later (continues_more table grown later on longer)
+      ∙ ap (λ us. ns ++ map (number_in later) us) (sym (drop_read ts i t h e)) ∙ so_far later (grows_more table grown later on longer)
 
 -- an application, once its arguments are added
 module _ (old mid : List Tree) (f s : ℕ) (ts : List Tree) (t : Tree) (is : App f s (trees_of ts) ≡ t) (m : mid ≡ all_added old (trees_of ts)) where
@@ -48,8 +49,8 @@ module _ (old mid : List Tree) (f s : ℕ) (ts : List Tree) (t : Tree) (is : App
       whole : entered mid t ≡ added old t
       whole = ap (λ table. entered table t) m ∙ (let P : Tree → Type 0 = λ u. entered (all_added old (trees_of ts)) u ≡ added old u in subst P is refl)
 
-      on : new ≡ mid → Continues old new
-      on e = let P : List Tree → Type 0 = Continues old in subst P (sym (e ∙ m)) (all_added_continues old (trees_of ts))
+      on : new ≡ mid → Grows old new
+      on e = let P : List Tree → Type 0 = Grows old in subst P (sym (e ∙ m)) (all_added_grows old (trees_of ts))
 
       go : (r : Result (Option ℕ) E) → Numbers mid new (entered mid t) t r → NumbersSoFar old new t r
       go (Ok (Some n)) x = (x.0 ∙ whole, x.1)
@@ -59,15 +60,15 @@ module _ (old mid : List Tree) (f s : ℕ) (ts : List Tree) (t : Tree) (is : App
 -- at the end of a list
 module _ (table ts : List Tree) (i : ℕ) (e : drop i ts ≡ []) where
   pub all_numbered : (old : List Tree) (ns : List ℕ) → all_added table (trees_of (drop i ts)) ≡ all_added old (trees_of ts)
-      → ((any : List Tree) → Continues table any → ns ++ map (number_in any) (drop i ts) ≡ map (number_in any) ts)
+      → ((any : List Tree) → Grows table any → ns ++ map (number_in any) (drop i ts) ≡ map (number_in any) ts)
       → (table ≡ all_added old (trees_of ts)) × (ns ≡ map (number_in table) (list_of (trees_of ts)))
   all_numbered old ns made numbers = (
     ap (λ us. all_added table (trees_of us)) (sym e) ∙ made,
-    sym (append-nil ns) ∙ ap (λ us. ns ++ map (number_in table) us) (sym e) ∙ numbers table (continues_self table)
+    sym (append-nil ns) ∙ ap (λ us. ns ++ map (number_in table) us) (sym e) ∙ numbers table (grows_self table)
         ∙ ap (map (number_in table)) (sym (list_of-trees_of ts)),
   )
 
-pub refused : {N E : Type 0} (old new goal : List Tree) (right : N → Type 0) (r : Result (Option N) E) → IsErr r → Continues old new
+pub refused : {N E : Type 0} (old new goal : List Tree) (right : N → Type 0) (r : Result (Option N) E) → IsErr r → Grows old new
     → SoFar old new goal right r
 refused old new goal right (Ok o) e h = absurd (cc)
 refused old new goal right (Err f) e h = h

@@ -15,7 +15,7 @@ use Rattle.circ_theory.specs.declared.way.Way.{Way}
 use Rattle.circ_special.specs.Special.{IsSpecial}
 use Rattle.circ_proof.specs.Plain.{Equation_link, Hypothesis_link}
 use Rattle.circ_proof.specs.Goals.{sides}
-use Rattle.circ_proof.specs.Link.{Setting, EquationLeads, HypothesisLeads}
+use Rattle.circ_proof.specs.Link.{Setting, EquationLeads}
 use Rattle.circ_replay.specs.Following.{Follows}
 use Rattle.circ_replay.specs.Rewriting.{GivesExchange, GivesSubst}
 
@@ -80,14 +80,6 @@ equation_follows c number e way path terms t there (Ok None) h = λ u r.
     h u (subst P it r.rewrites)
 
 -- ---- hypotheses
-
-pub hypothesis_unfit : (c : Setting) (number : ℕ) (g : Goal) (way : Way) (path : List ℕ) (terms : List Tree) (t u : Tree)
-    → Some g ≡ slice_get c.hypotheses number → (FitVariables (sorted (variables_of (sides g))) terms → ⊥)
-    → HypothesisLeads c number way path terms t u → ⊥
-hypothesis_unfit c number g way path terms t u there unfit r =
-    let it : r.hypothesis ≡ g = same_Some r.hypothesis g (sym r.listed ∙ sym there) in
-    let P : Goal → Type 0 = λ h. RewritesBy (sides h) way path terms t u in
-    unfit (subst P it r.rewrites).fit
 
 pub hypothesis_follows : {E : Type 0} (c : Setting) (number : ℕ) (g : Goal) (way : Way) (path : List ℕ) (terms : List Tree) (t : Tree)
     → Some g ≡ slice_get c.hypotheses number → (IsHidden c.theory (sort_of g.left) → IsSpecial c.places t path)

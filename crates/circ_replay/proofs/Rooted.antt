@@ -8,7 +8,8 @@ use Rattle.std.proofs.Math.Seq.{take-append_seam}
 use Rattle.std.proofs.lemmas.Option.{same_Some}
 use Rattle.std.proofs.lemmas.Bool.{eqb-true, eq-eqb, and_parts}
 use Rattle.std.proofs.lemmas.Slice.Eq.{bytes_eq-Decides}
-use Rattle.circ_term.specs.Tree.{Tree, Var, App, args_of, list_of, trees_of, trees_of-list_of}
+use Rattle.circ_term.specs.Tree.{Tree, Var, App, args_of, list_of, trees_of}
+use Rattle.circ_term.proofs.Trees.{trees_of-list_of}
 use Rattle.circ_term.specs.Order.{is_same}
 use Rattle.circ_term.proofs.Order.{same_here, same_itself}
 use Rattle.circ_replay.specs.declared.table.Root.{Root}

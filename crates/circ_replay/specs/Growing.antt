@@ -1,13 +1,14 @@
 -- A table that grows by a term's subterms, one after another. A refusal leaves what was added.
 use Rattle.std.specs.Prelude.{◌≡◌, ℕ, ◌≤◌, ◌<◌, Bool, true, false, List, [], ◌∷◌, ◌++◌, length, map, Option, Some, None, Result, Ok, Err}
 use Rattle.circ_term.specs.Tree.{Tree, Trees, list_of}
-use Rattle.circ_proof.specs.Table.{number_in, added, all_added, term_limit, Continues}
+use Rattle.circ_term.specs.Growing.{Grows}
+use Rattle.circ_proof.specs.Table.{number_in, added, all_added, term_limit}
 
 -- the table is grown, and the answer is right; or that table would be too long
 abbrev pub SoFar : {N E : Type 0} → (old new grown : List Tree) → (N → Type 0) → Result (Option N) E → Type 0
 SoFar old new grown right (Ok (Some n)) = (new ≡ grown) × right n
-SoFar old new grown right (Ok None) = Continues old new × (term_limit < length grown)
-SoFar old new grown right (Err e) = Continues old new
+SoFar old new grown right (Ok None) = Grows old new × (term_limit < length grown)
+SoFar old new grown right (Err e) = Grows old new
 
 -- the number of a term, and those of terms
 abbrev pub NumbersSoFar : {E : Type 0} → (old new : List Tree) → Tree → Result (Option ℕ) E → Type 0

@@ -14,6 +14,9 @@ use smallvec::SmallVec;
 use std::alloc::{AllocError, Global};
 use std::marker::Model;
 
+// Numbers of arguments. Few need no memory of their own.
+type ArgumentNumbers = SmallVec<u32, 4>;
+
 // What a term is looked up by: its root, with the numbers of its arguments.
 #[derive(PartialEq, Eq, Hash, Drop)]
 enum Root {
@@ -24,7 +27,7 @@ enum Root {
     Application {
         op: u32,
         sort: u32,
-        args: SmallVec<u32, 4>,
+        args: ArgumentNumbers,
     },
 }
 
@@ -117,10 +120,10 @@ impl TableBuilder {
     }
 
     #[cycle(add)]
-    fn add_all(&mut self, terms: &[Term]) -> Result<Option<SmallVec<u32, 4>>, AllocError>
+    fn add_all(&mut self, terms: &[Term]) -> Result<Option<ArgumentNumbers>, AllocError>
         ensures { NumbersAllSoFar self.old self.new (trees_of terms.now) (λ v. v.items) result }
     {
-        let mut numbers = SmallVec::new(self.alloc);
+        let mut numbers = ArgumentNumbers::new(self.alloc);
         for term in terms {
             let Some(number) = self.add(term)? else {
                 return Ok(None);

@@ -2,9 +2,9 @@
 use Rattle.std.proofs.Common.{◌≡◌, ℕ, ◌+◌, ◌-◌, ◌<◌, zero, suc, List, [], ◌∷◌, ◌++◌, length, Option, Some, None, refl, ap, sym, subst, ◌∙◌, arith}
 use Rattle.std.specs.Prelude.{slice_set}
 use Rattle.std.specs.List.{slice_get}
-use Rattle.std.specs.Option.{option_map, option_or}
 use Rattle.std.proofs.lemmas.Option.{same_Some}
-use Rattle.circ_term.specs.Tree.{Tree, Trees, Var, App, none, more, list_of, trees_of, at, walk, replaced, list_of-trees_of}
+use Rattle.circ_term.specs.Tree.{Tree, Trees, Var, App, none, more, list_of, trees_of, at, walk, replaced}
+use Rattle.circ_term.proofs.Trees.{list_of-trees_of}
 use Rattle.circ_term.specs.Limits.{Limit, or_else, first_limit, first_limits, IsWithinLimits}
 use Rattle.circ_term.proofs.Paths.{replaced_self}
 use Rattle.circ_term.proofs.Limits.{or_else_parts, arg_within}
@@ -28,15 +28,6 @@ module _ (due : Tree → Option Replacement) where
   dues_at j (suc i) (more t ts) a q h g d =
       let z : j + 1 + i ≡ j + suc i = omega arith in
       rw h.0 (dues_at (j + 1) i ts a q h.1 g d ∙ ap (λ i. Some (below i q)) z)
-
-  -- what is due at the root of a term that stands is due first
-  pub due_first : (p : List ℕ) (w t : Tree) (d : Replacement) → Stands due w p t → first_due due t ≡ Some (placed [] d) → first_due due w ≡ Some (placed p d)
-  due_first [] w t d s e = ap (first_due due) s ∙ e
-  due_first (i ∷ p) (Var n k) t d s e = absurd s
-  due_first (i ∷ p) (App f k ts) t d s e =
-      let below_it = due_first p s.0 t d s.3 e in
-      let z : 0 + i ≡ i = omega arith in
-      rw (dues_at 0 i ts s.0 (placed p d) s.2 s.1 below_it) (ap (λ j. Some (placed (j ∷ p) d)) z)
 
 pub stands_at : (due : Tree → Option Replacement) (p : List ℕ) (w t : Tree) → Stands due w p t → at w p ≡ Some t
 stands_at due [] w t s = ap Some s
@@ -79,24 +70,12 @@ module _ (due : Tree → Option Replacement) where
         (deeper.0, get_set_list ts i s.0 deeper.0 s.1, settled_set i ts deeper.0 s.2, deeper.2),
       )
 
-  -- one step down, to the first argument that is not known to be settled
-  pub stands_down : (p : List ℕ) (w : Tree) (f k i : ℕ) (ts : Trees) (a : Tree) → Stands due w p (App f k ts) → AreSettled due i ts → slice_get (list_of ts) i ≡ Some a
-      → Stands due w (p ++ i ∷ []) a
-  stands_down [] w f k i ts a s h g = subst (λ v. Stands due v (i ∷ []) a) (sym s) (a, g, h, refl)
-  stands_down (j ∷ p) (Var n l) f k i ts a s h g = absurd s
-  stands_down (j ∷ p) (App e l us) f k i ts a s h g = (s.0, s.1, s.2, stands_down p s.0 f k i ts a s.3 h g)
-
   -- what is put into the argument is put into the term
   pub replaced_down : (p : List ℕ) (w : Tree) (f k i : ℕ) (ts : Trees) (a b : Tree) → Stands due w p (App f k ts) → slice_get (list_of ts) i ≡ Some a
       → replaced w (p ++ i ∷ []) b ≡ replaced w p (App f k (trees_of (slice_set (list_of ts) i b)))
   replaced_down [] w f k i ts a b s g = rw (s, g) refl
   replaced_down (j ∷ p) (Var n l) f k i ts a b s g = absurd s
   replaced_down (j ∷ p) (App e l us) f k i ts a b s g = rw (s.1, replaced_down p s.0 f k i ts a b s.3 g) refl
-
-  pub stands_same : (p : List ℕ) (w t u v : Tree) → Stands due w p t → replaced w p u ≡ Some v → Stands due v p u
-  stands_same p w t u v s r =
-      let put = stands_put p w t u s in
-      subst (λ x. Stands due x p u) (same_Some put.0 v (sym put.1 ∙ r)) put.2
 
   -- what is settled everywhere but at the root, where nothing is due, is settled
   pub settled_term : (f k : ℕ) (ts : Trees) → AreSettled due (length (list_of ts)) ts → due (App f k ts) ≡ None → IsSettled due (App f k ts)
@@ -155,24 +134,3 @@ replaced_past due (i ∷ p) (App f k ts) t u v l s h r e =
     let within = or_else_parts (first_limits ts) _ h in
     let ih = replaced_past due p s.0 t u deeper.0 l s.3 (arg_within (App f k ts) i s.0 s.1 h) deeper.1 e in
     ap first_limit (sym is) ∙ rw (limits_set ts i s.0 deeper.0 l s.1 within.0 ih) refl
-
--- ---- what is settled in a settled term
-
-none_of_two : {X : Type 0} (a b : Option X) → option_or a b ≡ None → (a ≡ None) × (b ≡ None)
-none_of_two None b e = (refl, e)
-none_of_two (Some x) b e = absurd (cc)
-
-none_mapped : {X Y : Type 0} (f : X → Y) (o : Option X) → option_map f o ≡ None → o ≡ None
-none_mapped f None e = refl
-none_mapped f (Some x) e = absurd (cc)
-
-module _ (due : Tree → Option Replacement) where
-  -- the parts of a settled term are settled
-  settled_args : (j : ℕ) (ts : Trees) → first_dues due j ts ≡ None → AreSettled due (length (list_of ts)) ts
-  settled_args j none e = tt
-  settled_args j (more t ts) e =
-      let parts = none_of_two _ _ e in
-      (none_mapped _ (first_due due t) parts.0, settled_args (j + 1) ts parts.1)
-
-  pub settled_below : (f s : ℕ) (ts : Trees) → IsSettled due (App f s ts) → AreSettled due (length (list_of ts)) ts
-  settled_below f s ts e = settled_args 0 ts (none_of_two _ _ e).0

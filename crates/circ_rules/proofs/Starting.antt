@@ -5,7 +5,8 @@ use Rattle.std.specs.Option.{IfSome, option_map}
 use Rattle.std.proofs.Common.{ap, sym, ◌∙◌, subst, arith}
 use Rattle.std.proofs.lemmas.Bool.{eq-eqb, ne_eqb}
 use Rattle.std.proofs.lemmas.Option.{same_Some}
-use Rattle.circ_term.specs.Tree.{Tree, Trees, Var, App, more, sort_of, trees_of, list_of, list_of-trees_of, sizes_of, depths_of}
+use Rattle.circ_term.specs.Tree.{Tree, Trees, Var, App, more, sort_of, trees_of, list_of, sizes_of, depths_of}
+use Rattle.circ_term.proofs.Trees.{list_of-trees_of}
 use Rattle.circ_term.specs.Limits.{Limit, IsWithinLimits, first_limit}
 use Rattle.circ_term.proofs.Limits.{first_limit_none}
 use Rattle.circ_theory.specs.Signature.{Signature, Operator, IsSort, IsWellSorted, HaveSorts}

@@ -87,19 +87,6 @@ module _ (th : Theory) (ok : IsWellFormed th) (ms : List Bool) (n : ℕ) (t : Tr
       sound s (inl i) = let Q : ℕ → Type 0 = IsObserved th in subst Q (sym i) hole
       sound s (inr g) = k.sound s g
 
-  -- the result is not marked, or the hole's sort is
-  pub result_passes : (slice_get ms (sort_of t) ≡ Some true → ⊥) → CarriesMarkAt th ms n
-  result_passes g d i m =
-      let x = found th.derivatives n t h e f in
-      let same : d ≡ x.0 = same_Some d x.0 (sym i ∙ x.1) in
-      absurd (g (ap (λ y. slice_get ms (sort_of y)) (sym x.2) ∙ ap (λ y. slice_get ms (sort_of y.body)) (sym same) ∙ m))
-
-  pub hole_passes : slice_get ms h ≡ Some true → CarriesMarkAt th ms n
-  hole_passes g d i m =
-      let x = found th.derivatives n t h e f in
-      let same : d ≡ x.0 = same_Some d x.0 (sym i ∙ x.1) in
-      ap (slice_get ms) (ap (λ y. y.hole) same ∙ x.3) ∙ g
-
   pub hole_within : AreSortMarks th ms → h < length ms
   hole_within k =
       let d = found th.derivatives n t h e f in
@@ -229,6 +216,3 @@ passed_more th ms k a p n h = go (cases_order n k)
     go (inl e) = let P : ℕ → Type 0 = CarriesMarkAt th ms in subst P (sym e) p
     go (inr (inl l)) = a n l
     go (inr (inr g)) = absurd (omega (arith, h, g))
-
-pub all_passed : (th : Theory) (ms : List Bool) → ((n : ℕ) → n < length th.derivatives → CarriesMarkAt th ms n) → AreClosed th ms
-all_passed th ms a n d g = a n (slice_get_within th.derivatives n d g) d g

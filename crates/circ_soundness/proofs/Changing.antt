@@ -4,7 +4,8 @@ use Rattle.std.proofs.Common.{refl, ap, sym, subst, ◌∙◌}
 use Rattle.std.specs.List.{slice_get}
 use Rattle.std.proofs.lemmas.Bool.{cases_Bool, eqb-true, eq-eqb, and_parts}
 use Rattle.std.proofs.lemmas.Option.{same_Some}
-use Rattle.circ_term.specs.Tree.{Tree, Trees, Var, App, none, more, list_of, trees_of-list_of, at, walk, put_at, replaced}
+use Rattle.circ_term.specs.Tree.{Tree, Trees, Var, App, none, more, list_of, at, walk, put_at, replaced}
+use Rattle.circ_term.proofs.Trees.{trees_of-list_of}
 use Rattle.circ_term.specs.Substitution.{Substitution, instance, instances}
 use Rattle.circ_term.proofs.Paths.{nowhere}
 use Rattle.circ_theory.specs.Signature.{Signature, IsSort, IsSubstitution}

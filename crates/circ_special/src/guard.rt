@@ -33,11 +33,14 @@ pub fn guarded(theory: &Theory, gamma: &Gamma, term: &Term, id: u32, sort: u32) 
     asked.below(term, &mut path, 0)
 }
 
+// The most steps of a path and one: the greatest depth of a term.
+const ROOM: usize = 1_000;
+
 // Room for each path in a term, which has fewer steps than the term is deep.
-fn room() -> [u16; 1000]
+fn room() -> [u16; ROOM]
     ensures { length result ≡ MOST_DEPTH }
 {
-    [0u16; 1000]
+    [0u16; ROOM]
 }
 
 // What is asked: whether the variable is guarded in the root.

@@ -7,9 +7,6 @@ use Rattle.circ_statement.specs.Words.{Word, is_word, has_word, is_name, are_nam
 pub word_is : (v w : Word) → is_word v w ≡ true → v ≡ w
 word_is v w h = (bytes_eq-Decides v w).0 h
 
-pub word_same : (w : Word) → is_word w w ≡ true
-word_same w = (bytes_eq-Decides w w).1 refl
-
 pub word_other : (v w : Word) → is_word v w ≡ false → v ≡ w → ⊥
 word_other v w h e = let yes : is_word v w ≡ true = (bytes_eq-Decides v w).1 e in cc
 

@@ -14,6 +14,9 @@ use crate::{Statement, StatementFault};
 use circ_lexer::{Span, Tokens};
 use std::alloc::Global;
 
+// How many tokens the mark of an equation that is no rewrite rule has.
+const MARK_TOKENS: usize = 3;
+
 /// The statement that the tokens of the span are, without the stop that ends it. The causes of a
 /// fault are tested in the order of [`StatementFault`].
 pub fn statement(
@@ -123,10 +126,10 @@ fn unmarked(tokens: &Tokens<'_>, span: Span) -> (Span, bool)
     requires { IsWithin tokens.now span }
     ensures { GivesUnmarked result tokens.now span }
 {
-    if span.to - span.from < 3 {
+    if span.to - span.from < MARK_TOKENS {
         return (span, true);
     }
-    let at = span.to - 3;
+    let at = span.to - MARK_TOKENS;
     let mark = Span {
         from: at,
         to: span.to,

@@ -2,7 +2,8 @@
 use Rattle.std.specs.Prelude.{◌≡◌, ℕ, ◌+◌, ◌≤◌, ◌<◌, List, [], length, unwrap_or, Some, None}
 use Rattle.std.proofs.Common.{ap, sym, subst, ◌∙◌, arith}
 use Rattle.std.proofs.lemmas.Grind.{common_steps}
-use Rattle.circ_term.specs.Tree.{Tree, App, trees_of, list_of-trees_of, args_of, size_of, depth_of, sizes_of, depths_of}
+use Rattle.circ_term.specs.Tree.{Tree, App, trees_of, args_of, size_of, depth_of, sizes_of, depths_of}
+use Rattle.circ_term.proofs.Trees.{list_of-trees_of}
 use Rattle.circ_term.specs.Limits.{argument_limit, node_limit, depth_limit, Big, Deep, limit_at, or_else, first_limit, first_limits, IsWithinLimits}
 use Rattle.circ_term.proofs.Limits.{limit_at_none}
 use Rattle.circ_table.specs.Table.{firsts_at}

@@ -1,8 +1,8 @@
 -- Laws of instances.
 use Rattle.std.proofs.Common.{◌≡◌, ℕ, true, length, suc, refl, ap, ◌∙◌}
 use Rattle.std.proofs.lemmas.Bool.{and_parts}
-use Rattle.circ_term.specs.Tree.{Tree, Trees, Var, App, none, more, is_ground, are_ground, list_of, sort_of}
-use Rattle.circ_term.specs.Substitution.{Substitution, KeepsSorts, instance, instances, composed}
+use Rattle.circ_term.specs.Tree.{Tree, Trees, Var, App, none, more, is_ground, are_ground, list_of}
+use Rattle.circ_term.specs.Substitution.{Substitution, instance, instances, composed}
 
 -- an instance of an instance
 mutual
@@ -51,7 +51,3 @@ mutual
   pub instances-Var : (ts : Trees) → instances Var ts ≡ ts
   instances-Var none = refl
   instances-Var (more t ts) = ap (λ x. more x (instances Var ts)) (instance-Var t) ∙ ap (more t) (instances-Var ts)
-
-pub sort_of-instance : (σ : Substitution) (t : Tree) → KeepsSorts σ → sort_of (instance σ t) ≡ sort_of t
-sort_of-instance σ (Var n s) k = k n s
-sort_of-instance σ (App f s ts) k = refl

@@ -1,3 +1,4 @@
+pub mod Trees
 pub mod Paths
 pub mod Limits
 pub mod Instances

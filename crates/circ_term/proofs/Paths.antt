@@ -4,7 +4,8 @@ use Rattle.std.specs.Prelude.{slice_set}
 use Rattle.std.specs.List.{slice_get}
 use Rattle.std.specs.Option.{option_map, option_and_then}
 use Rattle.std.proofs.lemmas.Option.{same_Some}
-use Rattle.circ_term.specs.Tree.{Tree, Trees, Var, App, none, more, list_of, trees_of, list_of-trees_of, trees_of-list_of, args_of}
+use Rattle.circ_term.specs.Tree.{Tree, Trees, Var, App, none, more, list_of, trees_of, args_of}
+use Rattle.circ_term.proofs.Trees.{list_of-trees_of, trees_of-list_of}
 use Rattle.circ_term.specs.Tree.{walk, at, put_at, with_arg, replaced}
 use Rattle.circ_term.specs.Substitution.{Substitution, instance, instances}
 

@@ -2,7 +2,8 @@
 use Rattle.std.proofs.Common.{◌≡◌, ℕ, ◌<◌, List, ◌∷◌, length, set, zero, suc, refl, ap, sym, ◌∙◌, arith, Option, Some, None, Err}
 use Rattle.std.specs.List.{slice_get}
 use Rattle.std.proofs.lemmas.Option.{slice_get_within}
-use Rattle.circ_term.specs.Tree.{Tree, Trees, Var, App, none, more, list_of, trees_of, args_of, trees_of-list_of, replaced, with_arg, walk}
+use Rattle.circ_term.specs.Tree.{Tree, Trees, Var, App, none, more, list_of, trees_of, args_of, replaced, with_arg, walk}
+use Rattle.circ_term.proofs.Trees.{trees_of-list_of}
 use Rattle.circ_term.specs.Limits.{Limit, or_else, first_limit, first_limits, IsWithinLimits, BuildsSome}
 use Rattle.circ_term.proofs.Paths.{walk_none}
 use Rattle.circ_term.proofs.Limits.{first_limit_none, or_else_parts}

@@ -1,9 +1,10 @@
 -- Lists of terms, as the loops over arguments read them.
-use Rattle.std.proofs.Common.{◌≡◌, ℕ, ◌+◌, ◌≤◌, ◌<◌, Bool, IsTrue, ◌↔◌, List, [], ◌∷◌, zero, suc, length, drop, min, get_or, refl, ap, sym, ◌∙◌, arith}
+use Rattle.std.proofs.Common.{◌≡◌, ℕ, ◌+◌, ◌≤◌, ◌<◌, List, [], ◌∷◌, zero, suc, length, drop, min, get_or, refl, ap, sym, ◌∙◌, arith}
 use Rattle.std.proofs.lemmas.Bool.Decides.{nat_tests}
 use Rattle.std.proofs.lemmas.List.{drop_more}
 use Rattle.std.specs.Ordering.{nat_cmp}
-use Rattle.circ_term.specs.Tree.{Tree, App, depth_of, depths_of, list_of, list_of-trees_of, trees_of-list_of, trees_of}
+use Rattle.circ_term.specs.Tree.{Tree, depth_of, depths_of, list_of, trees_of}
+use Rattle.circ_term.proofs.Trees.{list_of-trees_of, trees_of-list_of}
 use Rattle.circ_term.specs.Order.{trees_cmp}
 use Rattle.circ_term.proofs.Paths.{walk_none}
 
@@ -21,11 +22,6 @@ depth_at (x ∷ ts) (suc i) t h e = omega (arith, depth_at ts i t (omega arith) 
 
 pub trees_of_same : (xs ys : List Tree) → trees_of xs ≡ trees_of ys → xs ≡ ys
 trees_of_same xs ys e = sym (list_of-trees_of xs) ∙ ap list_of e ∙ list_of-trees_of ys
-
-pub same_apps : (r : Bool) (f s g k : ℕ) (xs ys : List Tree) → f ≡ g → s ≡ k → (IsTrue r ↔ (xs ≡ ys))
-    → IsTrue r ↔ (App f s (trees_of xs) ≡ App g k (trees_of ys))
-same_apps r f s g k xs ys p q h =
-    (λ t. let e = h.0 t in cc, λ e. h.1 (trees_of_same xs ys (cc)))
 
 next_cmp : (n m : ℕ) → nat_cmp n m ≡ nat_cmp (suc n) (suc m)
 next_cmp n m = grind (arith, nat_tests)

@@ -1,8 +1,7 @@
 -- A term as contracts see it: a plain tree, with no sharing, no kept size and no pointers.
-use Rattle.std.specs.Prelude.{◌≡◌, ℕ, ◌+◌, max, Bool, true, false, ◌&&◌, List, [], ◌∷◌, refl, Option, Some, None, slice_set}
+use Rattle.std.specs.Prelude.{ℕ, ◌+◌, max, Bool, true, false, ◌&&◌, List, [], ◌∷◌, Option, Some, None, slice_set}
 use Rattle.std.specs.List.{slice_get}
 use Rattle.std.specs.Option.{option_and_then, option_map}
-use Rattle.std.proofs.Common.{ap}
 
 -- A variable has a number and a sort. An application has an operator's number, the sort of its result, and arguments.
 mutual
@@ -21,14 +20,6 @@ list_of (more t ts) = t ∷ list_of ts
 abbrev pub trees_of : List Tree → Trees
 trees_of [] = none
 trees_of (t ∷ ts) = more t (trees_of ts)
-
-pub list_of-trees_of : (ts : List Tree) → list_of (trees_of ts) ≡ ts
-list_of-trees_of [] = refl
-list_of-trees_of (t ∷ ts) = ap (λ xs. t ∷ xs) (list_of-trees_of ts)
-
-pub trees_of-list_of : (ts : Trees) → trees_of (list_of ts) ≡ ts
-trees_of-list_of none = refl
-trees_of-list_of (more t ts) = ap (more t) (trees_of-list_of ts)
 
 -- the number of nodes, counted as a tree
 abbrev mutual

@@ -276,19 +276,29 @@ impl Term {
     pub fn same(&self, other: &Term) -> bool
         ensures { IsTrue result ↔ (self.now ≡ other.now) }
     {
-        match (&self.shape, &other.shape) {
+        if self.size() != other.size() || self.depth() != other.depth() {
+            return false;
+        }
+        match (self.kind(), other.kind()) {
             (
-                Shape::Variable { number, sort },
-                Shape::Variable {
+                Kind::Variable { number, sort },
+                Kind::Variable {
                     number: other_number,
                     sort: other_sort,
                 },
-            ) => *number == *other_number && *sort == *other_sort,
-            (Shape::Application(a), Shape::Application(b)) => {
-                if a.op != b.op || a.sort != b.sort || a.size != b.size || a.depth != b.depth {
+            ) => number == other_number && sort == other_sort,
+            (
+                Kind::Application { op, sort, args },
+                Kind::Application {
+                    op: other_op,
+                    sort: other_sort,
+                    args: other_args,
+                },
+            ) => {
+                if op != other_op || sort != other_sort {
                     return false;
                 }
-                same_all(a.args.as_slice(), b.args.as_slice())
+                same_all(args, other_args)
             }
             _ => false,
         }

@@ -13,7 +13,7 @@ use Rattle.circ_term.proofs.Instances.{instance-same}
 use Rattle.circ_theory.specs.Signature.{Signature, IsWellSorted, IsSubstitution}
 use Rattle.circ_theory.specs.Limits.{parameter_limit}
 use Rattle.circ_theory.specs.Theory.{Theory, Derivative}
-use Rattle.circ_theory.specs.Variables.{Variable, occurrences, all_occurrences, AreNumberedFrom, numbered, given, FitVariables}
+use Rattle.circ_theory.specs.Variables.{Variable, occurrences, all_occurrences, AreNumberedFrom, numbered, given}
 use Rattle.circ_theory.specs.WellFormed.{IsDerivative, IsWellFormed}
 use Rattle.circ_theory.specs.Experiment.{plug, derived}
 use Rattle.circ_theory.specs.Observing.{is_hole, is_parameter}
@@ -21,17 +21,10 @@ use Rattle.circ_theory.specs.Fresh.{numbered_from, given_parameters, parameter_s
 use Rattle.circ_theory.proofs.Lists.{all_by}
 use Rattle.circ_theory.proofs.Numbering.{numbered-sorts}
 use Rattle.circ_theory.proofs.Instances.{sort_of-instance_by, instance_well_sorted}
-use Rattle.circ_theory.proofs.Rewriting.{given_substitution, contains_at}
+use Rattle.circ_theory.proofs.Rewriting.{contains_at}
 use Rattle.circ_theory.proofs.Behaviour.{plug_substitution}
 
 -- ---- sorts
-
-fit_own : (k : ℕ) (ts : List Tree) → FitVariables (numbered k (map sort_of ts)) ts
-fit_own k [] = tt
-fit_own k (t ∷ ts) = (refl, fit_own (k + 1) ts)
-
-pub parameters_substitution : (sig : Signature) (ts : List Tree) → AllByRecursion (IsWellSorted sig) ts → IsSubstitution sig (given_parameters ts)
-parameters_substitution sig ts a = given_substitution sig (numbered 1 (map sort_of ts)) ts (fit_own 1 ts) a
 
 -- an instance on well-sorted terms is well-sorted, of the body's sort
 pub record IsWellDerived (sig : Signature) (d : Derivative) (u : Tree) : Type 0 where
@@ -46,10 +39,6 @@ derived_by sig d t p i e w s =
       well_sorted = instance_well_sorted sig (plug d.hole t p) d.body σ i.body;
       same_sort = sort_of-instance_by sig (plug d.hole t p) d.body σ i.body;
     }
-
-pub derived_well_sorted : (sig : Signature) (d : Derivative) (ts : List Tree) (t : Tree) → IsDerivative sig d → FitDerivative d ts t
-    → AllByRecursion (IsWellSorted sig) ts → IsWellSorted sig t → IsWellDerived sig d (derived d t (given_parameters ts))
-derived_well_sorted sig d ts t i f a w = derived_by sig d t (given_parameters ts) i f.hole w (parameters_substitution sig ts a)
 
 pub numbered_from_substitution : (sig : Signature) (k : ℕ) → IsSubstitution sig (numbered_from k)
 numbered_from_substitution sig k = λ n s h. (refl, h)
@@ -134,10 +123,6 @@ derived_agree sig d i t p q a =
 pub sorts-variables_from : (k : ℕ) (ss : List ℕ) → map sort_of (variables_from k ss) ≡ ss
 sorts-variables_from k [] = refl
 sorts-variables_from k (s ∷ ss) = ap (λ xs. s ∷ xs) (sorts-variables_from (k + 1) ss)
-
-pub length-variables_from : (k : ℕ) (ss : List ℕ) → length (variables_from k ss) ≡ length ss
-length-variables_from k [] = refl
-length-variables_from k (s ∷ ss) = ap suc (length-variables_from (k + 1) ss)
 
 -- variables numbered from j are given those numbered from k
 record IsGivenFrom (k j : ℕ) (vs : List Variable) (v : Variable) : Type 0 where

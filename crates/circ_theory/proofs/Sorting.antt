@@ -3,7 +3,8 @@ use Rattle.std.specs.Prelude.{◌≡◌, ℕ, zero, suc, List, [], ◌∷◌, So
 use Rattle.std.specs.List.{slice_get}
 use Rattle.std.proofs.lemmas.Option.{same_Some}
 use Rattle.std.proofs.Common.{ap, sym, ◌∙◌, subst}
-use Rattle.circ_term.specs.Tree.{Tree, Trees, App, none, more, sort_of, list_of, trees_of-list_of, at, put_at, replaced}
+use Rattle.circ_term.specs.Tree.{Tree, Trees, App, none, more, sort_of, list_of, at, put_at, replaced}
+use Rattle.circ_term.proofs.Trees.{trees_of-list_of}
 use Rattle.circ_term.specs.Substitution.{Substitution, instance}
 use Rattle.circ_term.proofs.Paths.{Down, down, Deeper, deeper}
 use Rattle.circ_theory.specs.Signature.{Signature, IsWellSorted, HaveSorts, IsSubstitution}

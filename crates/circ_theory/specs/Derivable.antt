@@ -1,4 +1,4 @@
--- Equational derivations (the entailment of CALCO 2009, section 2, with a rule for case lists that is this project's own).
+-- Equational derivations (equational entailment, with a rule for case lists that is this project's own).
 use Rattle.std.specs.Prelude.{◌≡◌, ℕ, List, ◌∷◌}
 use Rattle.std.specs.List.{Contains}
 use Rattle.circ_term.specs.Tree.{Tree, Trees, App, none, more, sort_of}

@@ -1,4 +1,4 @@
--- Experiments, and pairs that no experiment tells apart (CALCO 2009, sections 3 and 4).
+-- Experiments, and pairs that no experiment tells apart (behavioural equivalence).
 use Rattle.std.specs.Prelude.{◌≡◌, ℕ, List, [], ◌∷◌, ◌==◌, ◌&&◌, if◌then◌else◌}
 use Rattle.std.specs.List.{Contains}
 use Rattle.circ_term.specs.Tree.{Tree, sort_of}

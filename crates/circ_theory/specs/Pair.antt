@@ -1,9 +1,7 @@
 -- Pairs of terms, as equations, goals and premises are.
-use Rattle.std.specs.Prelude.{List, refl}
+use Rattle.std.specs.Prelude.{List}
 use Rattle.std.specs.List.{Contains}
-use Rattle.std.specs.Coded.{Coded, code_by, coded×}
 use Rattle.circ_term.specs.Tree.{Tree}
-use Rattle.circ_term.specs.Code.{tree_code}
 use Rattle.circ_term.specs.Substitution.{Substitution, instance}
 
 pub record Pair : Type 0 where
@@ -20,6 +18,3 @@ Within H K = (p : Pair) → Contains H p → Contains K p
 -- both sides under a substitution
 abbrev pub instance_pair : Substitution → Pair → Pair
 instance_pair σ p = pair_with (instance σ p.left) (instance σ p.right)
-
-abbrev pub pair_code : Coded Pair
-pair_code = code_by (Tree × Tree) (coded× tree_code tree_code) (λ p. (p.left, p.right)) (λ t. pair_with t.0 t.1) (λ _. refl)

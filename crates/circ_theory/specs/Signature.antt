@@ -1,4 +1,4 @@
--- Many-sorted signatures, and terms that are well-sorted under one (CALCO 2009, section 2).
+-- Many-sorted signatures, and terms that are well-sorted under one.
 use Rattle.std.specs.Prelude.{◌≡◌, ℕ, ◌<◌, List, [], ◌∷◌, Some, Bool, length}
 use Rattle.std.specs.List.{slice_get}
 use Rattle.circ_term.specs.Tree.{Tree, Trees, Var, App, none, more, sort_of}

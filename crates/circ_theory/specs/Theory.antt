@@ -1,4 +1,4 @@
--- Theories: a signature with equations, derivatives and case lists (behavioural specifications, CALCO 2009, section 3).
+-- Theories: a signature with equations, derivatives and case lists (behavioural specifications).
 use Rattle.std.specs.Prelude.{◌≡◌, ℕ, List, Some, true}
 use Rattle.std.specs.List.{slice_get, Contains}
 use Rattle.circ_term.specs.Tree.{Tree, Var, App, none, more, sort_of}

@@ -278,5 +278,5 @@ fn has_bad_byte(word: &[u8]) -> bool
 fn is_bad_byte(byte: u8) -> bool
     ensures { result ≡ is_bad_byte byte }
 {
-    byte == b'(' || byte == b')' || byte == b',' || byte == b':' || byte < 33 || byte > 126
+    byte == b'(' || byte == b')' || byte == b',' || byte == b':' || byte < b'!' || byte > b'~'
 }

@@ -11,7 +11,7 @@ ghost use Rattle.circ_theory.specs.Operators.{operator_of, ops_by_word};
 ghost use Rattle.circ_theory.specs.Adding.{sort_number, var_number, op_of_form};
 ghost use Rattle.circ_theory.specs.Names.{AreDifferent, names_of};
 ghost use Rattle.circ_theory.specs.Rule.{is_rule};
-ghost use Rattle.circ_theory.specs.Observing.{parameters_in, derivative_with, cases_of, is_hidden};
+ghost use Rattle.circ_theory.specs.Observing.{derivative_with, cases_of, is_hidden};
 ghost use Rattle.circ_theory.specs.Observing.{parameter_sorts_in};
 ghost use Rattle.circ_theory.specs.Fresh.{parameter_sorts};
 
@@ -193,17 +193,6 @@ impl Theory {
     {
         match self.observer(n) {
             Some(observer) => Some(observer.hole),
-            None => None,
-        }
-    }
-
-    /// The number of a derivative's parameters.
-    pub fn param_count(&self, n: u32) -> Option<usize>
-        ensures { result ≡ option_map (λ d. length (parameters_in d.body))
-            (slice_get self.now.derivatives n) }
-    {
-        match self.observer(n) {
-            Some(observer) => Some(observer.sorts.len()),
             None => None,
         }
     }

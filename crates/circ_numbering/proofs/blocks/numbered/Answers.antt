@@ -3,7 +3,7 @@ use Rattle.std.specs.Prelude.{flat_map}
 use Rattle.circ_term.specs.Tree.{Tree}
 use Rattle.circ_proof.specs.Plain.{LinkOf}
 use Rattle.circ_proof.specs.Table.{term_limit}
-use Rattle.circ_proof.proofs.Tables.{continues_self}
+use Rattle.circ_proof.proofs.Tables.{grows_self}
 use Rattle.circ_proof.specs.PlainProof.{plain_block, plain_certificates}
 use Rattle.circ_proof.specs.Proof.{Block, Proof}
 use Rattle.circ_plain_search.specs.Numbering.{block_terms, links_terms, numbered_links, numbered_proof, table_for}
@@ -28,7 +28,7 @@ returns c =
     let cs = plain_term_certificates c.args.certificates.now in
     let blocks = rw c.new-table.ensures at c.in-Ok.ensures in
     let links = c.in-Ok-named_certificates.ensures in
-    let here = continues_self c.named_certificates.new.table in
+    let here = grows_self c.named_certificates.new.table in
     let all : c.named_certificates.new.table ≡ table_for cs bs =
     both_asked [] c.named_blocks.new.table c.named_certificates.new.table (flat_map block_terms bs) (flat_map links_terms cs) blocks.0 links.0 in
     let b = blocks.1 c.named_certificates.new.table

@@ -1,5 +1,6 @@
 use Rattle.std.proofs.Common.{◌≡◌, length, map, List, [], ◌∷◌, ◌++◌, refl, ap, sym, ◌∙◌, arith}
-use Rattle.circ_term.specs.Tree.{trees_of, list_of-trees_of, depth_of, args_of}
+use Rattle.circ_term.specs.Tree.{trees_of, depth_of, args_of}
+use Rattle.circ_term.proofs.Trees.{list_of-trees_of}
 use Rattle.circ_term.proofs.Within.{depth_at}
 use Rattle.circ_plain_search.specs.Joining.{HypothesisUse}
 use Rattle.circ_join.specs.Uses.{plain_use, plain_uses}

@@ -1,10 +1,10 @@
 use Rattle.std.proofs.Common.{◌∙◌, ◌+◌, ◌<◌, List, drop, length, arith, ap, sym, subst}
 use Rattle.std.proofs.lemmas.List.{drop_all}
 use Rattle.circ_term.specs.Tree.{Tree, trees_of}
+use Rattle.circ_term.specs.Growing.{Grows}
 use Rattle.circ_term.proofs.Within.{depth_at}
 use Rattle.circ_proof.specs.Table.{all_added, term_limit}
-use Rattle.circ_proof.specs.Table.{Continues}
-use Rattle.circ_proof.proofs.Tables.{added_continues, continues_more}
+use Rattle.circ_proof.proofs.Tables.{added_grows, grows_more}
 use Rattle.circ_replay.proofs.Adding.{too_many, next_added, next_number, application_root, application_added, all_numbered, refused}
 use Rattle.circ_replay.proofs.table.TableBuilder.+add.Goals as goal
 
@@ -33,7 +33,7 @@ add_all-returns-in_default t c =
     let more = rw c.in_default.is at c.in_ok-number.ensures in
     let next = next_added at.self ts at.term-index c.term-item.result c.loop-term-test.true c.term-item.is in
     let P : List Tree → Type 0 = λ table. term_limit < length table in (
-      continues_more c.args.self.now at.self c.add.new.self at.invariant.continues more.0,
+      grows_more c.args.self.now at.self c.add.new.self at.invariant.grows more.0,
       subst P (sym next ∙ at.invariant.made) (too_many at.self c.term-item.result (trees_of (drop (at.term-index + 1) ts)) more.1),
     )
 
@@ -41,10 +41,10 @@ pub add_all-returns-in_err-push : goal.add_all-returns-in_err-push
 add_all-returns-in_err-push t c =
     let at = c.loop-term in
     let more = rw c.in-Some.is at c.in_ok-number.ensures in
-    let P : List Tree → Type 0 = Continues at.self in
+    let P : List Tree → Type 0 = Grows at.self in
     refused c.args.self.now c.add.new.self (all_added c.args.self.now (trees_of c.args.terms.now)) _ c.from_residual-in_err-push.result
     c.from_residual-in_err-push.ensures.0
-    (continues_more c.args.self.now at.self c.add.new.self at.invariant.continues (subst P (sym more.0) (added_continues at.self c.term-item.result)))
+    (grows_more c.args.self.now at.self c.add.new.self at.invariant.grows (subst P (sym more.0) (added_grows at.self c.term-item.result)))
 
 pub add_all-loop-term-preserved : goal.add_all-loop-term-preserved
 add_all-loop-term-preserved t c =
@@ -54,9 +54,9 @@ add_all-loop-term-preserved t c =
     let item = c.term-item.result in
     let more = rw c.in-Some.is at c.in_ok-number.ensures in
     let next = next_added at.self ts i item c.loop-term-test.true c.term-item.is in
-    let P : List Tree → Type 0 = Continues at.self in
+    let P : List Tree → Type 0 = Grows at.self in
     record {
-      continues = continues_more c.args.self.now at.self c.add.new.self at.invariant.continues (subst P (sym more.0) (added_continues at.self item));
+      grows = grows_more c.args.self.now at.self c.add.new.self at.invariant.grows (subst P (sym more.0) (added_grows at.self item));
       made = ap (λ table. all_added table (trees_of (drop (i + 1) ts))) more.0 ∙ sym next ∙ at.invariant.made;
       numbers = λ table longer.
           next_number at.self ts i item c.loop-term-test.true c.term-item.is c.add.new.self table at.numbers.items c.push.new.self.items c.in-Some.number

@@ -1,6 +1,7 @@
 use Rattle.std.proofs.Common.{ℕ, List, IsTrue, ◌↔◌, ◌<◌, length, length-set, take, refl, sym, ap, subst, arith, rules}
 use Rattle.std.proofs.lemmas.Option.{slice_get_read, slice_get_within}
-use Rattle.circ_term.specs.Tree.{Tree, args_of, trees_of, list_of-trees_of, depth_of}
+use Rattle.circ_term.specs.Tree.{Tree, args_of, trees_of, depth_of}
+use Rattle.circ_term.proofs.Trees.{list_of-trees_of}
 use Rattle.circ_term.proofs.Within.{depth_at}
 use Rattle.circ_special.specs.Occurrences.{GuardedBelow, AllGuardedBelow}
 use Rattle.circ_special.proofs.Occurrences.{variable_below, application_below, path_here, path_kept, one_more}

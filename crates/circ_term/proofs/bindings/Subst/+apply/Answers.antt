@@ -1,5 +1,6 @@
 use Rattle.std.proofs.Common.{◌≡◌, arith, sym, ap, ◌∙◌, length}
-use Rattle.circ_term.specs.Tree.{trees_of, args_of, trees_of-list_of}
+use Rattle.circ_term.specs.Tree.{trees_of, args_of}
+use Rattle.circ_term.proofs.Trees.{trees_of-list_of}
 use Rattle.circ_term.specs.Substitution.{instances}
 use Rattle.circ_term.specs.Subst.{substitution_of}
 use Rattle.circ_term.proofs.Instances.{instance-is_ground, length-instances}
