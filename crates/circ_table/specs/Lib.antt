@@ -1,5 +1,5 @@
 pub mod Table
 pub mod Lines
-pub mod Links
+pub mod HashChains
 pub mod Held
 pub mod Placed

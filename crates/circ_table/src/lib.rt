@@ -2,12 +2,12 @@
 //! arguments. A term is built where it is asked for.
 #![tactic(auto)]
 
+mod hash_chains;
 mod lines;
-mod links;
 mod named;
-mod rows;
+mod open_table;
 mod table;
 
 pub use named::NamedTerms;
-pub use rows::Rows;
+pub use open_table::OpenTable;
 pub use table::Table;
