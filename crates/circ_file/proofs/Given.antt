@@ -4,7 +4,7 @@ use Rattle.std.proofs.Common.{sym, ◌∙◌, ap, arith, length-append}
 use Rattle.std.proofs.lemmas.Bool.{eq-eqb, ne_eqb}
 use Rattle.circ_proof.specs.Plain.{WhyOf, Split_why, more_whys, plain_chain, plain_why, plain_whys}
 use Rattle.circ_proof.specs.declared.links.Why.{Why}
-use Rattle.circ_grammar.specs.Grammar.{why_count}
+use Rattle.circ_proof.specs.Counting.{why_count}
 use Rattle.circ_grammar.specs.Machine.{OpenSplit, open_split, push_why, empty}
 use Rattle.circ_grammar.specs.Now.{Reducing, give_why_now, why_part}
 use Rattle.circ_term.specs.Tree.{Tree}

@@ -13,7 +13,7 @@ use Rattle.circ_proof.specs.Plain.{LinkOf, WhyOf, Same_why, Split_why, no_why}
 use Rattle.circ_proof.specs.Table.{term_limit}
 use Rattle.circ_line.specs.Line.{TableLine, Line, head_line, table_line, place_line, certificate_line, block_line, goal_line, simplify_line, reduce_line, derive_line}
 use Rattle.circ_line.specs.Line.{done_line, same_line, split_line, left_line, right_line, end_line}
-use Rattle.circ_grammar.specs.Grammar.{why_count}
+use Rattle.circ_proof.specs.Counting.{why_count}
 use Rattle.circ_grammar.proofs.Spelled.{option_map_some}
 use Rattle.circ_grammar.specs.Machine.{OpenSplit, empty, open_split, push_why, add_left, add_right}
 use Rattle.circ_grammar.specs.Now.{Now, Begin, Tabling, Placing, Certifying, Stepping, Simplifying, Reducing, Closed, Ended, next_now, give_why_now}

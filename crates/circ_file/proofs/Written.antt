@@ -8,7 +8,6 @@ use Rattle.circ_proof.specs.Plain.{plain_why, plain_whys}
 use Rattle.circ_proof.specs.declared.links.Why.{Why}
 use Rattle.circ_proof.specs.Rules.{ProofStep, Simplify, Reduce, Derive, Done}
 use Rattle.circ_proof.specs.Proof.{IsWhyFor, AreWhysFor, IsEnded}
-use Rattle.circ_proof.specs.Proof as rules
 use Rattle.circ_line.specs.Line.{Line, simplify_line, reduce_line, derive_line, done_line}
 use Rattle.circ_line.specs.Text.{line_text}
 use Rattle.circ_grammar.specs.Grammar.{lines_of, chain_lines, why_lines, step_lines}
@@ -59,10 +58,6 @@ ended_lines (Derive ∷ t ∷ ss) e k = ap (λ ls. derive_line ∷ ls) (ended_li
 ended_lines (Done ∷ t ∷ ss) e k = absurd (e.0 refl)
 
 -- the whys of a split
-pub rules_count : (ws : List Why) → rules.why_count (plain_whys ws) ≡ length ws
-rules_count [] = refl
-rules_count (w ∷ ws) = omega (arith, rules_count ws)
-
 pub why_for : (count splits : ℕ) (ws : List Why) (i : ℕ) (w : Why) → AreWhysFor count splits (plain_whys ws) → i < length ws → w ≡ get_or ws i w
     → IsWhyFor count splits (plain_why w)
 why_for count splits [] i w a h e = absurd (omega arith)

@@ -1,7 +1,7 @@
 -- Open splits, as a reader keeps them: the innermost last.
 use Rattle.std.specs.Prelude.{ℕ, ◌+◌, List, [], ◌∷◌, Option, Some, None, cond, nat_eq}
 use Rattle.circ_proof.specs.Plain.{WhyOf, Split_why, plain_chain, plain_whys}
-use Rattle.circ_grammar.specs.Grammar.{why_count}
+use Rattle.circ_proof.specs.Counting.{why_count}
 use Rattle.circ_grammar.specs.Machine.{OpenSplit, open_split, push_why, empty}
 use Rattle.circ_grammar.specs.Now.{Now, Stepping, Reducing}
 use Rattle.circ_proof.specs.Rules.{Reduce}

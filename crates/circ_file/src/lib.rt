@@ -26,7 +26,7 @@ pub use fault::FileFault;
 pub use reader::FileReader;
 
 /// The most steps of a proof.
-const MOST_STEPS: u64 = 100_000;
+const MOST_PROOF_STEPS: u64 = 100_000;
 
 /// The most splits inside one another.
 const MOST_SPLITS: usize = 8;

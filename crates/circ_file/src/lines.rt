@@ -14,7 +14,7 @@ use crate::counts::Counts;
 use crate::machine::Machine;
 use crate::table::ReadTable;
 use crate::taken::Taken;
-use crate::{MOST_ENTRIES, MOST_SPLITS, MOST_STEPS};
+use crate::{MOST_ENTRIES, MOST_SPLITS, MOST_PROOF_STEPS};
 use circ_line::{Line, TableLine, read_line};
 use circ_theory::Theory;
 use std::alloc::{AllocError, Global};
@@ -216,7 +216,7 @@ impl<'a> LineReader<'a> {
     {
         match line {
             Line::Simplify | Line::Reduce | Line::Derive | Line::Done => {
-                self.counts.steps >= MOST_STEPS
+                self.counts.steps >= MOST_PROOF_STEPS
             }
             Line::Split { .. } => self.machine.open_splits() >= MOST_SPLITS,
             Line::Left { link } => path_of(link).len() > MOST_ENTRIES,

@@ -11,7 +11,7 @@ use crate::checks::is_goal;
 use crate::taken::Taken;
 use circ_line::TableLine;
 use circ_proof::MOST_TERMS;
-use circ_table::{NamedTerms, Rows, Table};
+use circ_table::{NamedTerms, OpenTable, Table};
 use circ_term::TermFault;
 use circ_theory::{Goal, Theory};
 use std::alloc::{AllocError, Global};
@@ -21,7 +21,7 @@ use std::mem;
 /// terms are compared. When all have come it builds the terms that goals ask for.
 #[derive(Drop)]
 pub(crate) enum ReadTable {
-    Open { rows: Rows },
+    Open { rows: OpenTable },
     Closed { terms: NamedTerms },
 }
 
@@ -32,7 +32,7 @@ impl ReadTable {
         ensures state { is_open result ≡ true }
     {
         ReadTable::Open {
-            rows: Rows::new(alloc),
+            rows: OpenTable::new(alloc),
         }
     }
 
@@ -67,7 +67,7 @@ impl ReadTable {
     {
         match self {
             ReadTable::Open { rows } => {
-                let rows = mem::replace(rows, Rows::new(alloc));
+                let rows = mem::replace(rows, OpenTable::new(alloc));
                 let table = rows.close()?;
                 let shared = table.share()?;
                 *self = ReadTable::Closed {
@@ -93,7 +93,7 @@ impl ReadTable {
     }
 }
 
-fn add_line(rows: &mut Rows, theory: &Theory, line: &TableLine) -> Result<Taken, AllocError>
+fn add_line(rows: &mut OpenTable, theory: &Theory, line: &TableLine) -> Result<Taken, AllocError>
     ensures { IfOk result (λ taken. AddsLine theory.now.signature rows.old
         (plain_table_line line.now) taken rows.new) }
 {
@@ -104,7 +104,7 @@ fn add_line(rows: &mut Rows, theory: &Theory, line: &TableLine) -> Result<Taken,
 }
 
 fn add_variable(
-    rows: &mut Rows,
+    rows: &mut OpenTable,
     theory: &Theory,
     number: u32,
     sort: u32,
@@ -123,7 +123,7 @@ fn add_variable(
 }
 
 fn add_application(
-    rows: &mut Rows,
+    rows: &mut OpenTable,
     theory: &Theory,
     op: u32,
     args: &[u32],
@@ -150,7 +150,7 @@ fn add_application(
 }
 
 // Whether each number is the least of its term, and the terms have these sorts.
-fn are_args(rows: &Rows, numbers: &[u32], sorts: &[u32]) -> bool
+fn are_args(rows: &OpenTable, numbers: &[u32], sorts: &[u32]) -> bool
     ensures { result ≡ have_sorts (firsts_at rows.now numbers.now) sorts.now }
 {
     if numbers.len() != sorts.len() {
@@ -165,7 +165,7 @@ fn are_args(rows: &Rows, numbers: &[u32], sorts: &[u32]) -> bool
 }
 
 // Whether the number is the least of its term, and the term has this sort.
-fn is_arg(rows: &Rows, number: u32, sort: u32) -> bool
+fn is_arg(rows: &OpenTable, number: u32, sort: u32) -> bool
     ensures { result ≡ option_map_or (λ t. sort_of t == sort) (first_at rows.now number) false }
 {
     match rows.first_sort(number) {

@@ -7,7 +7,8 @@ use Rattle.std.proofs.lemmas.Bool.{eq-eqb}
 use Rattle.circ_proof.specs.Plain.{LinkOf, ChainOf, WhyOf, WhysOf, Same_why, Split_why, no_why, more_whys}
 use Rattle.circ_line.specs.Line.{TableLine, Line, head_line, certificate_line, block_line, simplify_line, reduce_line, derive_line, done_line, same_line}
 use Rattle.circ_line.specs.Line.{split_line, end_line}
-use Rattle.circ_grammar.specs.Grammar.{NumberedStep, Simplify_step, Reduce_step, Derive_step, NumberedBlock, NumberedProof, why_count, lines_of}
+use Rattle.circ_proof.specs.Counting.{why_count}
+use Rattle.circ_grammar.specs.Grammar.{NumberedStep, Simplify_step, Reduce_step, Derive_step, NumberedBlock, NumberedProof, lines_of}
 use Rattle.circ_grammar.specs.Grammar.{table_lines, place_lines, left_lines, right_lines, goal_lines, chain_lines, why_lines, whys_lines, step_lines}
 use Rattle.circ_grammar.specs.Grammar.{certificate_lines, block_lines, proof_lines, HasGoals, HasParts, BeginsProof}
 use Rattle.circ_grammar.specs.Machine.{Front, OpenBlock, OpenSplit, State, begin, tabling, placing, certifying, opened, stepping, simplifying, reducing}

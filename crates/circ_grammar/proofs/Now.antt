@@ -6,7 +6,8 @@ use Rattle.std.proofs.lemmas.List.{map-append}
 use Rattle.circ_proof.specs.Plain.{ChainOf, WhyOf, Same_why, Split_why, no_why}
 use Rattle.circ_line.specs.Line.{Line, head_line, table_line, place_line, certificate_line, block_line, goal_line, simplify_line, reduce_line, derive_line}
 use Rattle.circ_line.specs.Line.{done_line, same_line, split_line, left_line, right_line, end_line}
-use Rattle.circ_grammar.specs.Grammar.{Derive_step, why_count}
+use Rattle.circ_proof.specs.Counting.{why_count}
+use Rattle.circ_grammar.specs.Grammar.{Derive_step}
 use Rattle.circ_grammar.specs.Machine.{OpenBlock, OpenSplit, State, begin, tabling, placing, certifying, opened, stepping, simplifying, reducing, closed}
 use Rattle.circ_grammar.specs.Machine.{ended, empty, no_steps, with_step, push_why, open_split, give_why, to_step, add_left, next}
 use Rattle.circ_grammar.specs.Parts.{Step_part, Done_part}

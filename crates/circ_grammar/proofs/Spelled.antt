@@ -7,7 +7,8 @@ use Rattle.std.proofs.lemmas.Bool.{eqb-true}
 use Rattle.circ_proof.specs.Plain.{LinkOf, ChainOf, WhyOf, WhysOf, Same_why, Split_why, no_why, more_whys}
 use Rattle.circ_line.specs.Line.{TableLine, Line, head_line, table_line, place_line, certificate_line, block_line, goal_line, simplify_line, reduce_line}
 use Rattle.circ_line.specs.Line.{derive_line, done_line, same_line, split_line, left_line, right_line, end_line}
-use Rattle.circ_grammar.specs.Grammar.{Simplify_step, Reduce_step, Derive_step, NumberedBlock, why_count, lines_of, table_lines, place_lines, left_lines}
+use Rattle.circ_proof.specs.Counting.{why_count}
+use Rattle.circ_grammar.specs.Grammar.{Simplify_step, Reduce_step, Derive_step, NumberedBlock, lines_of, table_lines, place_lines, left_lines}
 use Rattle.circ_grammar.specs.Grammar.{right_lines, goal_lines, chain_lines, why_lines, whys_lines, step_lines, certificate_lines, block_lines}
 use Rattle.circ_grammar.specs.Machine.{Front, OpenBlock, OpenSplit, State, begin, tabling, placing, certifying, opened, stepping, simplifying, reducing}
 use Rattle.circ_grammar.specs.Machine.{closed, ended, empty, front, with_certificate, no_steps, open_block, with_step, block_of, push_why, open_split}

@@ -1,7 +1,8 @@
 -- A proof as its lines write it, with the numbers of its table for terms, and its lines in their order.
-use Rattle.std.specs.Prelude.{◌≡◌, ℕ, ◌+◌, ◌<◌, List, [], ◌∷◌, ◌++◌, length}
+use Rattle.std.specs.Prelude.{◌≡◌, ℕ, ◌<◌, List, [], ◌∷◌, ◌++◌, length}
 use Rattle.std.specs.List.{AllByRecursion}
 use Rattle.circ_proof.specs.Plain.{LinkOf, ChainOf, WhyOf, WhysOf, Same_why, Split_why, no_why, more_whys}
+use Rattle.circ_proof.specs.Counting.{why_count}
 use Rattle.circ_line.specs.Line.{TableLine, Line, head_line, table_line, place_line, certificate_line, block_line, goal_line, simplify_line, reduce_line}
 use Rattle.circ_line.specs.Line.{derive_line, done_line, same_line, split_line, left_line, right_line, end_line}
 
@@ -44,10 +45,6 @@ goal_lines g k = goal_line g.0 g.1 ∷ k
 
 abbrev pub chain_lines : ChainOf ℕ → List Line → List Line
 chain_lines c k = lines_of left_lines c.left (lines_of right_lines c.right k)
-
-abbrev pub why_count : WhysOf ℕ → ℕ
-why_count no_why = 0
-why_count (more_whys w ws) = why_count ws + 1
 
 abbrev mutual
   pub why_lines : WhyOf ℕ → List Line → List Line

@@ -4,7 +4,8 @@ use Rattle.std.specs.Option.{option_map}
 use Rattle.circ_proof.specs.Plain.{LinkOf, ChainOf, WhyOf, Same_why, Split_why, no_why}
 use Rattle.circ_line.specs.Line.{Line, head_line, table_line, place_line, certificate_line, block_line, goal_line, simplify_line, reduce_line, derive_line}
 use Rattle.circ_line.specs.Line.{done_line, same_line, split_line, left_line, right_line, end_line}
-use Rattle.circ_grammar.specs.Grammar.{Simplify_step, Reduce_step, Derive_step, why_count}
+use Rattle.circ_proof.specs.Counting.{why_count}
+use Rattle.circ_grammar.specs.Grammar.{Simplify_step, Reduce_step, Derive_step}
 use Rattle.circ_grammar.specs.Machine.{OpenSplit, State, begin, tabling, placing, certifying, opened, stepping, simplifying, reducing, closed, ended, empty}
 use Rattle.circ_grammar.specs.Machine.{push_why, open_split, add_left, add_right}
 use Rattle.circ_grammar.specs.Parts.{PartOf, Head_part, Certificate_part, Goals_part, Step_part, Done_part, NumberedPart}

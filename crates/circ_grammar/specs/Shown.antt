@@ -2,7 +2,8 @@
 use Rattle.std.specs.Prelude.{ℕ, ◌+◌, List, [], ◌∷◌, ◌++◌, cond, nat_eq}
 use Rattle.circ_proof.specs.Plain.{WhyOf, Same_why, Split_why, no_why}
 use Rattle.circ_line.specs.Line.{Line, certificate_line, block_line, simplify_line, reduce_line, derive_line, done_line, same_line, split_line}
-use Rattle.circ_grammar.specs.Grammar.{Simplify_step, Reduce_step, Derive_step, NumberedBlock, why_count}
+use Rattle.circ_proof.specs.Counting.{why_count}
+use Rattle.circ_grammar.specs.Grammar.{Simplify_step, Reduce_step, Derive_step, NumberedBlock}
 use Rattle.circ_grammar.specs.Machine.{Front, OpenBlock, OpenSplit, State, begin, tabling, placing, certifying, opened, stepping, simplifying, reducing}
 use Rattle.circ_grammar.specs.Machine.{closed, ended, push_why}
 use Rattle.circ_grammar.specs.Parts.{Head_part, Certificate_part, Goals_part, Step_part, Done_part, NumberedPart, step_parts, certificate_parts}

@@ -11,7 +11,8 @@ use Rattle.circ_proof.specs.Link.{AllOfLink, AllOfLinks}
 use Rattle.circ_proof.specs.Justified.{AllOfChain, AllOfWhy, AllOfWhys}
 use Rattle.circ_proof.specs.Table.{number_in}
 use Rattle.circ_proof.specs.Rules.{ProofStep, Simplify, Reduce, Derive, Done, map_step, AllOfStep}
-use Rattle.circ_proof.specs.Proof.{IsLinkFor, AreLinksFor, IsChainFor, why_count, IsWhyFor, AreWhysFor, IsStepFor, IsEnded, goal_of, IsNameFor, IsBlockFor, steps_in}
+use Rattle.circ_proof.specs.Counting.{why_count}
+use Rattle.circ_proof.specs.Proof.{IsLinkFor, AreLinksFor, IsChainFor, IsWhyFor, AreWhysFor, IsStepFor, IsEnded, goal_of, IsNameFor, IsBlockFor, steps_in}
 use Rattle.circ_plain_search.specs.Search.{ProvedBlock}
 use Rattle.circ_plain_search.specs.Numbering.{goal_name, numbered_links, numbered_steps, numbered_block}
 use Rattle.circ_plain_search.proofs.Splits.{FitsIn, AllFitIn}

@@ -18,7 +18,8 @@ use Rattle.circ_proof.specs.Runs.{Runs}
 use Rattle.circ_proof.specs.Link.{Setting, setting, Leads, AllOfLinks}
 use Rattle.circ_proof.specs.Justified.{ChainLeads, Justified, EachJustified, AllOfChain, AllOfWhy, AllOfWhys}
 use Rattle.circ_proof.proofs.Leading.{IsSortedSetting, link_sorted}
-use Rattle.circ_proof.specs.Proof.{IsNumber, IsPath, why_count}
+use Rattle.circ_proof.specs.Counting.{why_count}
+use Rattle.circ_proof.specs.Proof.{IsNumber, IsPath}
 use Rattle.circ_proof.proofs.FewPlaces.{slice_bound}
 use Rattle.circ_plain_search.proofs.Terms.{path_fits}
 use Rattle.circ_plain_search.proofs.Splits.{FitsIn, AllFitIn}

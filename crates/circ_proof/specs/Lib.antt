@@ -1,4 +1,5 @@
 pub mod Plain
+pub mod Counting
 pub mod Goals
 pub mod Runs
 pub mod Link

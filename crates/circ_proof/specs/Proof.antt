@@ -10,6 +10,7 @@ use Rattle.circ_theory.specs.declared.parts.Goal.{Goal}
 use Rattle.circ_special.specs.declared.place.Place.{Place}
 use Rattle.circ_special.specs.Special.{IsSet}
 use Rattle.circ_proof.specs.Plain.{LinkOf, Equation_link, Hypothesis_link, Assumption_link, Content_link, ChainOf, WhyOf, WhysOf, Same_why, Split_why, no_why, more_whys}
+use Rattle.circ_proof.specs.Counting.{why_count}
 use Rattle.circ_proof.specs.Table.{has, term_limit}
 use Rattle.circ_proof.specs.Goals.{goal}
 use Rattle.circ_proof.specs.Rules.{ProofStep, Simplify, Reduce, Derive, Done}
@@ -51,10 +52,6 @@ AreLinksFor count ls = AllByRecursion (IsLinkFor count) ls
 
 abbrev pub IsChainFor : (count : ℕ) → ChainOf ℕ → Type 0
 IsChainFor count c = AreLinksFor count c.left × AreLinksFor count c.right
-
-abbrev pub why_count : {T : Type 0} → WhysOf T → ℕ
-why_count no_why = 0
-why_count (more_whys w ws) = why_count ws + 1
 
 -- at most so many splits stand inside one another, each of a number of whys that the text can hold
 abbrev mutual

@@ -8,10 +8,10 @@ use Rattle.circ_proof.specs.Plain.{LinkOf, Equation_link, Hypothesis_link, Assum
 use Rattle.circ_proof.specs.Plain.{WhyOf, WhysOf, Same_why, Split_why, no_why, more_whys}
 use Rattle.circ_proof.specs.Table.{term_limit}
 use Rattle.circ_proof.specs.Proof.{IsNumber, IsPath, IsLinkFor, AreLinksFor, IsChainFor, IsWhyFor, AreWhysFor, split_limit}
-use Rattle.circ_proof.specs.Proof as rules
 use Rattle.circ_line.specs.Line.{Line, same_line, split_line}
 use Rattle.circ_line.specs.Text.{IsInRange, AreNumbers, IsLinkInRange}
-use Rattle.circ_grammar.specs.Grammar.{lines_of, left_lines, right_lines, chain_lines, why_count, why_lines, whys_lines}
+use Rattle.circ_proof.specs.Counting.{why_count}
+use Rattle.circ_grammar.specs.Grammar.{lines_of, left_lines, right_lines, chain_lines, why_lines, whys_lines}
 use Rattle.circ_grammar.proofs.Complete.{no_zero}
 use Rattle.circ_proof_text.specs.Checks.{Seen, wanting, after_why, after_split, after, is_in_table, path_of, passes_at, path_limit, limit_at}
 
@@ -99,10 +99,6 @@ chain_from th c ch k few h f = lefts_from th c ch.left (lines_of right_lines ch.
 
 -- whys
 
-same_count : (ws : WhysOf ℕ) → rules.why_count ws ≡ why_count ws
-same_count no_why = refl
-same_count (more_whys w ws) = ap (λ n. n + 1) (same_count ws)
-
 room : (n : ℕ) → 8 - n - 1 ≡ 8 - suc n
 room n = omega arith
 
@@ -161,9 +157,7 @@ mutual
       let low : length c.wanted + 1 ≤ 8 = ltb-false 8 (length c.wanted + 1) r.1.2 in
       let s = split_to th c ws k (λ z g. whys_to th c c.wanted ws k z g) r.1.3 in
       let P : ℕ → Type 0 = λ x. AreWhysFor (length c.terms) x ws in
-      let Q : ℕ → Type 0 = IsNumber in
-      let n : IsNumber (rules.why_count ws) = subst Q (sym (same_count ws)) r.1.0.1.0 in
-      ((r.0, ltb-true t (length c.terms) r.1.1, omega arith, n, subst P (sym (room (length c.wanted))) s.0), s.1)
+      ((r.0, ltb-true t (length c.terms) r.1.1, omega arith, r.1.0.1.0, subst P (sym (room (length c.wanted))) s.0), s.1)
 
   pub whys_to : (th : Theory) (c : Seen) (ns : List ℕ) (ws : WhysOf ℕ) (k : List Line) → 0 < why_count ws
       → AllFine th (wanting c (why_count ws ∷ ns)) (whys_lines ws k)
@@ -182,10 +176,8 @@ mutual
       let P : ℕ → Type 0 = λ x. AreWhysFor (length c.terms) x ws in
       let hs : AreWhysFor (length c.terms) (8 - suc (length c.wanted)) ws = subst P (room (length c.wanted)) h.4 in
       let some : 1 ≤ 8 - length c.wanted = h.2 in
-      let Q : ℕ → Type 0 = IsNumber in
-      let n : IsNumber (why_count ws) = subst Q (same_count ws) h.3 in
       chain_from th c ch (split_line t (why_count ws) ∷ whys_lines ws k) few h.0 (
-        (is_number (length c.terms) t few h.1, (n, tt)),
+        (is_number (length c.terms) t few h.1, (h.3, tt)),
         lt-ltb t (length c.terms) h.1,
         le-ltb 8 (length c.wanted + 1) (omega arith),
         split_from th c ws k (λ z. whys_from th c c.wanted ws k few z hs f) f,

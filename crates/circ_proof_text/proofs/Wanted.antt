@@ -11,7 +11,7 @@ use Rattle.circ_theory.specs.Theory.{Theory}
 use Rattle.circ_proof.specs.Plain.{LinkOf, ChainOf, WhyOf, Same_why, Split_why, no_why}
 use Rattle.circ_line.specs.Line.{Line, head_line, table_line, place_line, certificate_line, block_line, goal_line, simplify_line, reduce_line, derive_line}
 use Rattle.circ_line.specs.Line.{done_line, same_line, split_line, left_line, right_line, end_line}
-use Rattle.circ_grammar.specs.Grammar.{why_count}
+use Rattle.circ_proof.specs.Counting.{why_count}
 use Rattle.circ_grammar.specs.Machine.{OpenSplit, State, begin, tabling, placing, certifying, opened, stepping, simplifying, reducing, closed, ended}
 use Rattle.circ_grammar.specs.Machine.{empty, push_why, open_split, add_left, next, run}
 use Rattle.circ_grammar.specs.Now.{Now, Begin, Tabling, Placing, Certifying, Opened, Stepping, Simplifying, Reducing, Closed, Ended, now, give_why_now}

@@ -8,11 +8,11 @@ use Rattle.std.proofs.lemmas.Option.{same_Some, slice_get_within}
 use Rattle.circ_term.specs.Tree.{Tree}
 use Rattle.circ_proof.specs.Table.{has}
 use Rattle.circ_table.specs.declared.lines.Row.{Row}
-use Rattle.circ_table.specs.declared.links.TheConstants.{END}
-use Rattle.circ_table.specs.Lines.{PlainRoot, row_root, begin_of, tree_at, trees_from, IsThere, AreRowsFrom}
-use Rattle.circ_table.specs.Links.{hash_of, keys_from, StandsIn, IsNewest, IsLinked}
-use Rattle.circ_table.proofs.Firsts.{get_front, get_back, get_put, get_other, get_replicate}
-use Rattle.circ_table.proofs.Placing.{last_end, root_longer, rows_ahead, root_found}
+use Rattle.circ_table.specs.declared.hash_chains.TheConstants.{CHAIN_END}
+use Rattle.circ_table.specs.Lines.{PlainRoot, row_root, begin_of, roots_from, tree_at, trees_from, IsThere, AreRowsFrom}
+use Rattle.circ_table.specs.HashChains.{hash_of, keys_from, StandsIn, IsNewest, IsLinked, IsChainOf}
+use Rattle.circ_table.proofs.Firsts.{get_front, get_back, get_seam, get_there, get_put, get_other, get_replicate}
+use Rattle.circ_table.proofs.Placing.{last_end, with_args, root_longer, root_last, rows_ahead, rows_end, roots_at, root_found}
 
 -- ---- the hashes of the rows
 
@@ -28,6 +28,11 @@ pub keys_at : (args : List ℕ) (start : ℕ) (rows : List Row) (n : ℕ) (r : R
 keys_at args start [] n r e = absurd (cc)
 keys_at args start (q ∷ rows) zero r e = ap (λ x. Some (key_of args start x)) (same_Some q r e)
 keys_at args start (q ∷ rows) (suc n) r e = keys_at args q.end rows n r e
+
+-- the key of a term that is the first of its kind
+pub key_there : (args : List ℕ) (rows : List Row) (n : ℕ) (r : Row) → slice_get rows n ≡ Some r → r.is_first ≡ true
+    → slice_get (keys_from args 0 rows) n ≡ Some (Some (hash_of (row_root args (begin_of 0 rows n) r)))
+key_there args rows n r e first = keys_at args 0 rows n r e ∙ ap (λ b. Some (if b then Some (hash_of (row_root args (begin_of 0 rows n) r)) else None)) first
 
 keys_push : (args : List ℕ) (start : ℕ) (rows : List Row) (r : Row) → keys_from args start (rows ++ r ∷ []) ≡ keys_from args start rows ++ key_of args (last_end start rows) r ∷ []
 keys_push args start [] r = refl
@@ -52,9 +57,9 @@ keys_pushed args extra rows r h = (
 -- ---- chains
 
 -- none before the first
-pub linked_none : (keys : List (Option ℕ)) (next : List ℕ) (width : ℕ) → IsLinked keys next (replicate width END) 0
+pub linked_none : (keys : List (Option ℕ)) (next : List ℕ) (width : ℕ) → IsLinked keys next (replicate width CHAIN_END) 0
 linked_none keys next width = record {
-  newest = λ chain link e. record { above = λ m b s. absurd (omega arith); stands = inl (get_replicate width END chain link e) };
+  newest = λ chain link e. record { above = λ m b s. absurd (omega arith); stands = inl (get_replicate width CHAIN_END chain link e) };
   older = λ m k link b e f. absurd (omega arith);
 }
 
@@ -65,7 +70,7 @@ newest_more keys w chain count link apart h = record { above = λ m b s. above m
     above m b s (inl e) = absurd (apart (let P : ℕ → Type 0 = λ n. StandsIn keys w chain n in subst P e s))
     above m b s (inr e) = h.above m (omega arith) s
 
-    there : (link ≡ END) ⊎ ((END < link) × (link ≤ count) × StandsIn keys w chain (link - 1)) → (link ≡ END) ⊎ ((END < link) × (link ≤ count + 1) × StandsIn keys w chain (link - 1))
+    there : (link ≡ CHAIN_END) ⊎ ((CHAIN_END < link) × (link ≤ count) × StandsIn keys w chain (link - 1)) → (link ≡ CHAIN_END) ⊎ ((CHAIN_END < link) × (link ≤ count + 1) × StandsIn keys w chain (link - 1))
     there (inl e) = inl e
     there (inr s) = inr (s.0, omega (arith, s.1), s.2)
 
@@ -132,8 +137,8 @@ linked_key keys key next heads count few h = record {
       stands = there k.stands;
     }
       where
-        there : (link ≡ END) ⊎ ((END < link) × (link ≤ count) × StandsIn keys (length heads) chain (link - 1))
-            → (link ≡ END) ⊎ ((END < link) × (link ≤ count) × StandsIn (keys ++ key ∷ []) (length heads) chain (link - 1))
+        there : (link ≡ CHAIN_END) ⊎ ((CHAIN_END < link) × (link ≤ count) × StandsIn keys (length heads) chain (link - 1))
+            → (link ≡ CHAIN_END) ⊎ ((CHAIN_END < link) × (link ≤ count) × StandsIn (keys ++ key ∷ []) (length heads) chain (link - 1))
         there (inl e) = inl e
         there (inr s) = inr (s.0, s.1, (s.2.0, get_front keys (key ∷ []) (link - 1) (Some s.2.0) s.2.1, s.2.2))
 
@@ -156,11 +161,43 @@ linked_pushed args ns new_args rows new_rows r next heads count h same_rows same
     let S : ℕ → Type 0 = λ n. IsLinked (keys_from new_args 0 new_rows) next heads n in
     subst S (sym long) (subst R (sym same_args) (subst Q (sym same_rows) (subst P (sym k.1) (linked_key (keys_from args 0 rows) k.0 next heads (length rows) (omega arith) linked))))
 
+key_is : (b : Bool) (k hash : ℕ) → Some k ≡ (if b then Some hash else None) → k ≡ hash
+key_is true k hash e = same_Some k hash e
+key_is false k hash e = absurd (cc)
+
+-- the chain of a term's root
+pub chain_there : (args : List ℕ) (rows : List Row) (n width chain : ℕ) (p : PlainRoot) → n < length rows → slice_get (roots_from args 0 rows) n ≡ Some p → chain ≡ hash_of p % width
+    → IsChainOf (keys_from args 0 rows) width n chain
+chain_there args rows n width chain p below root is k there =
+    let r = get_there rows n below in
+    let q = row_root args (begin_of 0 rows n) r.0 in
+    let same = key_is r.0.is_first k (hash_of q) (same_Some (Some k) (key_of args (begin_of 0 rows n) r.0) (sym there ∙ keys_at args 0 rows n r.0 r.1)) in
+    is ∙ ap (λ x. hash_of x % width) (same_Some p q (sym root ∙ roots_at args 0 rows n r.0 r.1)) ∙ ap (λ h. h % width) (sym same)
+
+-- the chain of the row that went last
+pub pushed_chain : (args ns new_args : List ℕ) (rows new_rows : List Row) (r : Row) (width count chain : ℕ) → AreRowsFrom args [] 0 rows → r.end ≡ length args + length ns
+    → new_rows ≡ rows ++ r ∷ [] → new_args ≡ args ++ ns → count ≡ length rows → chain ≡ hash_of (with_args r ns) % width → IsChainOf (keys_from new_args 0 new_rows) width count chain
+pushed_chain args ns new_args rows new_rows r width count chain h e same_rows same_args long is k there =
+    is ∙ ap (λ p. hash_of p % width) (sym root)
+    ∙ ap (λ n. n % width) (sym (key_is r.is_first k (hash_of (row_root (args ++ ns) (last_end 0 rows) r)) (same_Some (Some k) key (sym there ∙ got))))
+  where
+    key : Option ℕ
+    key = key_of (args ++ ns) (last_end 0 rows) r
+
+    root : row_root (args ++ ns) (last_end 0 rows) r ≡ with_args r ns
+    root = ap (λ s. row_root (args ++ ns) s r) (rows_end args [] 0 rows h) ∙ root_last args ns r e
+
+    got : slice_get (keys_from new_args 0 new_rows) count ≡ Some key
+    got =
+        ap (λ x. slice_get (keys_from x 0 new_rows) count) same_args ∙ ap (λ x. slice_get (keys_from (args ++ ns) 0 x) count) same_rows
+        ∙ ap (λ ks. slice_get ks count) (keys_push (args ++ ns) 0 rows r ∙ ap (λ ks. ks ++ key ∷ []) (keys_longer args ns [] 0 rows h))
+        ∙ ap (slice_get (keys_from args 0 rows ++ key ∷ [])) (long ∙ sym (length_keys args 0 rows)) ∙ get_seam (keys_from args 0 rows) key []
+
 -- ---- how a chain is gone through
 
 -- Down to a link no term that is the first of its kind has the root.
 pub record IsSought (args : List ℕ) (rows : List Row) (width : ℕ) (p : PlainRoot) (link : ℕ) : Type 0 where
-  pub stands : (link ≡ END) ⊎ ((END < link) × (link ≤ length rows) × StandsIn (keys_from args 0 rows) width (hash_of p % width) (link - 1))
+  pub stands : (link ≡ CHAIN_END) ⊎ ((CHAIN_END < link) × (link ≤ length rows) × StandsIn (keys_from args 0 rows) width (hash_of p % width) (link - 1))
   pub left : (n : ℕ) (r : Row) → slice_get rows n ≡ Some r → r.is_first ≡ true → row_root args (begin_of 0 rows n) r ≡ p → n < link
 
 row_stands : (args : List ℕ) (rows : List Row) (w : ℕ) (p : PlainRoot) (n : ℕ) (r : Row) → slice_get rows n ≡ Some r → r.is_first ≡ true → row_root args (begin_of 0 rows n) r ≡ p
@@ -181,7 +218,7 @@ sought_first args rows next heads p link h e =
     }
 
 pub sought_next : (args : List ℕ) (rows : List Row) (next heads : List ℕ) (p : PlainRoot) (link further : ℕ) → IsLinked (keys_from args 0 rows) next heads (length rows)
-    → IsSought args rows (length heads) p link → END < link → slice_get next (link - 1) ≡ Some further
+    → IsSought args rows (length heads) p link → CHAIN_END < link → slice_get next (link - 1) ≡ Some further
     → ((r : Row) → slice_get rows (link - 1) ≡ Some r → row_root args (begin_of 0 rows (link - 1)) r ≡ p → ⊥)
     → IsSought args rows (length heads) p further × (further < link)
 sought_next args rows next heads p link further h k up read apart = go k.stands
@@ -197,16 +234,16 @@ sought_next args rows next heads p link further h k up read apart = go k.stands
     left newest n r g first same (inr e) =
         let under = k.left n r g first same in newest.above n (omega arith) (row_stands args rows (length heads) p n r g first same)
 
-    down : (further ≡ END) ⊎ ((END < further) × (further ≤ link - 1) × StandsIn (keys_from args 0 rows) (length heads) (hash_of p % length heads) (further - 1)) → further < link
+    down : (further ≡ CHAIN_END) ⊎ ((CHAIN_END < further) × (further ≤ link - 1) × StandsIn (keys_from args 0 rows) (length heads) (hash_of p % length heads) (further - 1)) → further < link
     down (inl e) = omega arith
     down (inr s) = omega (arith, s.1)
 
-    there : link ≤ length rows → (further ≡ END) ⊎ ((END < further) × (further ≤ link - 1) × StandsIn (keys_from args 0 rows) (length heads) (hash_of p % length heads) (further - 1))
-        → (further ≡ END) ⊎ ((END < further) × (further ≤ length rows) × StandsIn (keys_from args 0 rows) (length heads) (hash_of p % length heads) (further - 1))
+    there : link ≤ length rows → (further ≡ CHAIN_END) ⊎ ((CHAIN_END < further) × (further ≤ link - 1) × StandsIn (keys_from args 0 rows) (length heads) (hash_of p % length heads) (further - 1))
+        → (further ≡ CHAIN_END) ⊎ ((CHAIN_END < further) × (further ≤ length rows) × StandsIn (keys_from args 0 rows) (length heads) (hash_of p % length heads) (further - 1))
     there b (inl e) = inl e
     there b (inr s) = inr (s.0, omega (arith, s.1), s.2)
 
-    go : (link ≡ END) ⊎ ((END < link) × (link ≤ length rows) × StandsIn (keys_from args 0 rows) (length heads) (hash_of p % length heads) (link - 1))
+    go : (link ≡ CHAIN_END) ⊎ ((CHAIN_END < link) × (link ≤ length rows) × StandsIn (keys_from args 0 rows) (length heads) (hash_of p % length heads) (link - 1))
         → IsSought args rows (length heads) p further × (further < link)
     go (inl e) = absurd (omega arith)
     go (inr s) =
@@ -215,14 +252,14 @@ sought_next args rows next heads p link further h k up read apart = go k.stands
           down newest.stands,
         )
 
-pub sought_within : (args : List ℕ) (rows : List Row) (w : ℕ) (p : PlainRoot) (link : ℕ) → IsSought args rows w p link → END < link → link - 1 < length rows
+pub sought_within : (args : List ℕ) (rows : List Row) (w : ℕ) (p : PlainRoot) (link : ℕ) → IsSought args rows w p link → CHAIN_END < link → link - 1 < length rows
 sought_within args rows w p link k up = go k.stands
   where
-    go : (link ≡ END) ⊎ ((END < link) × (link ≤ length rows) × StandsIn (keys_from args 0 rows) w (hash_of p % w) (link - 1)) → link - 1 < length rows
+    go : (link ≡ CHAIN_END) ⊎ ((CHAIN_END < link) × (link ≤ length rows) × StandsIn (keys_from args 0 rows) w (hash_of p % w) (link - 1)) → link - 1 < length rows
     go (inl e) = absurd (omega arith)
     go (inr s) = omega (arith, s.1)
 
-pub sought_none : (args : List ℕ) (rows : List Row) (w : ℕ) (p : PlainRoot) → AreRowsFrom args [] 0 rows → IsThere (trees_from args [] 0 rows) p → IsSought args rows w p END
+pub sought_none : (args : List ℕ) (rows : List Row) (w : ℕ) (p : PlainRoot) → AreRowsFrom args [] 0 rows → IsThere (trees_from args [] 0 rows) p → IsSought args rows w p CHAIN_END
     → has (trees_from args [] 0 rows) (tree_at (trees_from args [] 0 rows) p) ≡ false
 sought_none args rows w p h there k = go (has (trees_from args [] 0 rows) (tree_at (trees_from args [] 0 rows) p)) refl
   where

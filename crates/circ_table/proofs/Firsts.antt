@@ -55,12 +55,6 @@ get_replicate zero x i y e = absurd (cc)
 get_replicate (suc n) x zero y e = sym (same_Some x y e)
 get_replicate (suc n) x (suc i) y e = get_replicate n x i y e
 
-pub get_pushed : (xs : List ℕ) (x n y : ℕ) → slice_get (xs ++ x ∷ []) n ≡ Some y → (y ≡ x) ⊎ (slice_get xs n ≡ Some y)
-get_pushed [] x zero y e = inl (sym (same_Some x y e))
-get_pushed [] x (suc n) y e = absurd (cc)
-get_pushed (z ∷ xs) x zero y e = inr e
-get_pushed (z ∷ xs) x (suc n) y e = get_pushed xs x n y e
-
 -- the term is there, by any number
 
 pub has_at : (table : List Tree) (n : ℕ) (t : Tree) → slice_get table n ≡ Some t → has table t ≡ true

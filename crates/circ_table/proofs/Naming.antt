@@ -10,19 +10,9 @@ use Rattle.circ_table.specs.declared.named.TheConstants.{ABSENT}
 use Rattle.circ_term.specs.Growing.{Grows}
 use Rattle.circ_table.specs.Table.{firsts_at, IsIn, AreIn}
 use Rattle.circ_table.specs.Placed.{IsPlaced, ArePlacesOf, ArePlaced}
-use Rattle.circ_table.proofs.Firsts.{get_front, get_seam, get_put, get_other, get_pushed, firsts_next, first_parts}
+use Rattle.circ_table.proofs.Firsts.{get_front, get_seam, get_put, get_other, firsts_next, first_parts}
 
 -- ---- places
-
-pub places_more : (old xs : List ℕ) → ArePlacesOf old xs → ArePlacesOf old (xs ++ ABSENT ∷ [])
-places_more old xs h n p e = go (get_pushed xs ABSENT n p e)
-  where
-    go : (p ≡ ABSENT) ⊎ (slice_get xs n ≡ Some p) → (p ≡ ABSENT) ⊎ (slice_get old n ≡ Some p)
-    go (inl absent) = inl absent
-    go (inr there) = h n p there
-
-pub places_same : (old : List ℕ) → ArePlacesOf old old
-places_same old n p e = inr e
 
 pub placed_made : (table terms : List Tree) (places new : List ℕ) → ArePlaced table terms places → ArePlacesOf places new → ArePlaced table terms new
 placed_made table terms places new h kept = record {

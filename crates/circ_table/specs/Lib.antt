@@ -1,6 +1,6 @@
 pub mod Table
 pub mod Part
 pub mod Lines
-pub mod Links
+pub mod HashChains
 pub mod Held
 pub mod Placed

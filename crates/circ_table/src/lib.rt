@@ -3,14 +3,14 @@
 //! proof, the table first.
 #![tactic(auto)]
 
+mod hash_chains;
 mod lines;
-mod links;
 mod named;
+mod open_table;
 mod part;
-mod rows;
 mod table;
 
 pub use named::NamedTerms;
+pub use open_table::OpenTable;
 pub use part::Part;
-pub use rows::Rows;
 pub use table::Table;

@@ -148,10 +148,10 @@ impl NamedTerms {
 fn make_places(places: &mut Vec<u32>, count: usize) -> Result<(), AllocError>
     ensures long { OnOk result (count ≤ length places.new.items) }
     ensures kept { OnOk result (ArePlacesOf places.old.items places.new.items) }
-    ensures err { OnErr result (ArePlacesOf places.old.items places.new.items) }
+    ensures err { OnErr result (places.new.items ≡ places.old.items) }
 {
-    while places.len() < count {
-        places.push(ABSENT)?;
+    if places.len() >= count {
+        return Ok(());
     }
-    Ok(())
+    places.resize(count, ABSENT)
 }

@@ -5,10 +5,11 @@ use Rattle.circ_replay.proofs.Whys.{split_plain}
 use Rattle.circ_replay.proofs.Reasons.{why_depth, whys_depth, depth_at}
 use Rattle.circ_proof.specs.Proof.{IsWhyFor}
 use Rattle.circ_line.specs.Line.{split_line}
-use Rattle.circ_grammar.specs.Grammar.{why_count, why_lines, whys_lines}
+use Rattle.circ_proof.specs.Counting.{why_count}
+use Rattle.circ_grammar.specs.Grammar.{why_lines, whys_lines}
 use Rattle.circ_grammar.specs.FirstBad.{file_text}
 use Rattle.circ_file.proofs.Given.{count-whys}
-use Rattle.circ_file.proofs.Written.{rules_count, why_for, all_written}
+use Rattle.circ_file.proofs.Written.{why_for, all_written}
 use Rattle.circ_file.proofs.encoding.+why.Goals as goal
 
 pub put_why-overflow_cast-count : goal.put_why-overflow_cast-count
@@ -16,7 +17,7 @@ put_why-overflow_cast-count t c =
     let e = ap plain_why c.in-Split.is ∙ split_plain c.in-Split.chain c.in-Split.term c.in-Split.whys in
     let P : WhyOf ℕ → Type 0 = IsWhyFor c.requires.0 c.requires.1 in
     let fits = subst P e c.requires.2 in
-    omega (arith, fits.3, rules_count c.in-Split.whys.items)
+    omega (arith, fits.3, count-whys c.in-Split.whys.items)
 
 pub put_why-put_whys-requires : goal.put_why-put_whys-requires
 put_why-put_whys-requires t c =
