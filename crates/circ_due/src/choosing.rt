@@ -8,6 +8,7 @@ use crate::choice::{Bounds, Choice};
 use crate::matching::extend;
 use crate::means::Means;
 use circ_aci::is_canonical;
+use circ_index::{least, rule_keys};
 use circ_nodes::{Nodes, Shape};
 use circ_rewrite::Rule;
 use std::alloc::AllocError;
@@ -33,7 +34,7 @@ pub(crate) fn choose_besides(
     ruled(means, nodes, number)
 }
 
-// The rules in the term's two rows are tried in the order of their numbers.
+// The rules with a key of the term are tried in the order of their numbers.
 fn ruled(means: &Means<'_>, nodes: &Nodes, number: u32) -> Result<Option<Choice>, AllocError>
     requires ready { IsReady nodes.now means.now }
     requires there { number < length nodes.now }
@@ -41,18 +42,17 @@ fn ruled(means: &Means<'_>, nodes: &Nodes, number: u32) -> Result<Option<Choice>
         (ruled means.now.rules.items (tree_at nodes.now number))) }
 {
     let mut given = Bounds::new(means.alloc);
-    let mut near = means.rows.first_near(nodes.term(number));
-    let mut wide = means.rows.first_wide(nodes.term(number));
-    while near.min(wide) < means.rules.len() {
-        let rule = near.min(wide);
-        if fits(nodes, &means.rules[rule], number, &mut given)? {
-            return Ok(Some(Choice::Ruled {
-                rule: rule as u32,
-                given,
-            }));
+    let mut ahead = [0; 2];
+    means
+        .rows
+        .start(&rule_keys(nodes.term(number)), 0, &mut ahead);
+    let mut rule = least(&ahead);
+    while (rule as usize) < means.rules.len() {
+        if fits(nodes, &means.rules[rule as usize], number, &mut given)? {
+            return Ok(Some(Choice::Ruled { rule, given }));
         }
-        near = means.rows.behind(near, rule);
-        wide = means.rows.behind(wide, rule);
+        means.rows.pass(rule, &mut ahead);
+        rule = least(&ahead);
     }
     Ok(None)
 }

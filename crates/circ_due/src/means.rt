@@ -1,6 +1,6 @@
 //! What is used to rewrite interned terms.
-ghost use Rattle.std.specs.Prelude.{◌≡◌, ◌<◌, ◌^◌, ℕ, List, [], length};
-ghost use Rattle.std.specs.Prelude.{IfOk, OnErr};
+ghost use Rattle.std.specs.Prelude.{◌≡◌, ◌+◌, ◌<◌, ◌^◌, ℕ, List, [], ◌∷◌, ◌++◌, length};
+ghost use Rattle.std.specs.Prelude.{map, IfOk, OnOk, OnErr};
 ghost use Rattle.std.specs.List.{AllByRecursion};
 ghost use Rattle.circ_term.specs.Tree.{Tree};
 ghost use Rattle.circ_term.specs.Growing.{Grows};
@@ -8,14 +8,14 @@ ghost use Rattle.circ_nodes.specs.Named.{IsNamed, Interns};
 ghost use Rattle.circ_rewrite.specs.Due.{IsRewriteRule};
 ghost use Rattle.circ_rewrite.specs.Plain.{plain_trace};
 ghost use Rattle.circ_rewrite.specs.Replacement.{Replacement, placed, traced};
-ghost use Rattle.circ_due.specs.Chosen.{IsReady, IsChoice, IsChosen, Chooses, due_by};
+ghost use Rattle.circ_due.specs.Chosen.{IsReady, IsChoice, IsChosen, Chooses, due_by, rule_key};
 
 use crate::assuming::{Assumed, assumed_at, kept};
 use crate::building::{canonical_form, instance};
 use crate::choice::Choice;
 use crate::choosing::choose_besides;
-use crate::index::Rows;
 use crate::tracing::terms_given;
+use circ_index::{Rows, left_key};
 use circ_nodes::Nodes;
 use circ_rewrite::{Rule, Trace, share_goals};
 use circ_term::{Path, TermFault};
@@ -34,7 +34,7 @@ pub struct Means<'a> {
     pub rules: Vec<Rule>,
     /// The assumptions, which are tried first.
     pub assumptions: Vec<Goal>,
-    // The rules by their roots, and the assumptions by the numbers of their left sides.
+    // The keys of the rules' left sides, and the assumptions by the numbers of theirs.
     pub(crate) rows: Rows,
     pub(crate) assumed: IndexMap<u32, Assumed>,
 }
@@ -49,7 +49,7 @@ impl<'a> Means<'a> {
         ensures rules { IfOk result (λ m. m.rules.items ≡ rules.items) }
         ensures assumptions { IfOk result (λ m. m.assumptions.items ≡ []) }
     {
-        let rows = Rows::of(alloc, rules.as_slice())?;
+        let rows = rows_of(alloc, rules.as_slice())?;
         Ok(Means {
             alloc,
             theory,
@@ -58,6 +58,39 @@ impl<'a> Means<'a> {
             rows,
             assumed: IndexMap::new(alloc),
         })
+    }
+
+    /// Puts a rule last. After want of memory the rules are as before.
+    pub fn push(&mut self, rule: Rule) -> Result<(), AllocError>
+        requires ready { (nodes : List Tree) × IsReady nodes self.old }
+        requires rewrite { IsRewriteRule rule }
+        requires few { length self.old.rules.items + 1 < 2 ^ 32 }
+        ensures ready { (nodes : List Tree) → IsReady nodes self.old → IsReady nodes self.new }
+        ensures theory { self.new.theory.now ≡ self.old.theory.now }
+        ensures rules { OnOk result (self.new.rules.items ≡ self.old.rules.items ++ rule ∷ []) }
+        ensures assumptions { self.new.assumptions.items ≡ self.old.assumptions.items }
+        ensures err { OnErr result (self.new.rules.items ≡ self.old.rules.items) }
+    {
+        let key = left_key(&rule.left);
+        self.rules.push(rule)?;
+        match self.rows.add(&[key]) {
+            Ok(()) => Ok(()),
+            Err(fault) => {
+                let _last = self.rules.pop();
+                Err(fault)
+            }
+        }
+    }
+
+    /// Makes no assumptions any more. The means serve each table of terms then.
+    pub fn forget(&mut self)
+        ensures ready { (old new : List Tree) → IsReady old self.old → IsReady new self.new }
+        ensures theory { self.new.theory.now ≡ self.old.theory.now }
+        ensures rules { self.new.rules.items ≡ self.old.rules.items }
+        ensures assumptions { self.new.assumptions.items ≡ [] }
+    {
+        self.assumptions = Vec::new(self.alloc);
+        self.assumed = IndexMap::new(self.alloc);
     }
 
     /// Puts these assumptions in place of those before. After want of memory there are none.
@@ -71,8 +104,7 @@ impl<'a> Means<'a> {
         ensures assumptions { IfOk result (λ _. self.new.assumptions.items ≡ assumptions.now) }
         ensures forgotten { OnErr result (self.new.assumptions.items ≡ []) }
     {
-        self.assumptions = Vec::new(self.alloc);
-        self.assumed = IndexMap::new(self.alloc);
+        self.forget();
         let goals = share_goals(self.alloc, assumptions)?;
         let assumed = kept(self.alloc, nodes, assumptions)?;
         self.assumptions = goals;
@@ -149,4 +181,16 @@ impl<'a> Means<'a> {
             }),
         }
     }
+}
+
+// The rows of the rules' left sides.
+fn rows_of(alloc: Global, rules: &[Rule]) -> Result<Rows, AllocError>
+    requires { length rules.now < 2 ^ 32 }
+    ensures { IfOk result (λ x. x.keys ≡ map rule_key rules.now) }
+{
+    let mut rows = Rows::new(alloc);
+    for rule in rules {
+        rows.add(&[left_key(&rule.left)])?;
+    }
+    Ok(rows)
 }

@@ -51,6 +51,13 @@ impl PairIndex {
         }
     }
 
+    /// How many pairs there are.
+    pub fn len(&self) -> usize
+        ensures { result ≡ length self.now }
+    {
+        self.pairs.len()
+    }
+
     /// Puts a pair last. After want of memory the index is as before.
     pub fn add(&mut self, left: &Term, right: &Term) -> Result<(), AllocError>
         requires { length self.old + 1 < 2 ^ 31 }

@@ -21,11 +21,13 @@ const EMPTY: Row = Row {
     last: END,
 };
 
-// Places, numbered from 0, each with a key. All places with one key stand in one row, in increasing
-// order, and `next` has for each the one behind it. That a row has places of several keys does no
-// harm. There are never fewer rows than places.
+/// Places, numbered from 0, each with a key, found by their keys. Contracts see the keys in order,
+/// and how many rows there are.
+/// All places with one key stand in one row, in increasing order, and `next` has for each the one
+/// behind it. That a row has places of several keys does no harm. There are never fewer rows than
+/// places.
 #[derive(Drop)]
-pub(crate) struct Rows {
+pub struct Rows {
     alloc: Global,
     keys: Vec<u64>,
     next: Vec<u32>,
@@ -46,8 +48,8 @@ impl Model for Rows {
 }
 
 impl Rows {
-    // No places.
-    pub(crate) fn new(alloc: Global) -> Rows
+    /// No places.
+    pub fn new(alloc: Global) -> Rows
         ensures { length result.keys ≡ 0 }
     {
         Rows {
@@ -58,8 +60,8 @@ impl Rows {
         }
     }
 
-    // Puts places with these keys behind the others. After want of memory there are none of them.
-    pub(crate) fn add(&mut self, keys: &[u64]) -> Result<(), AllocError>
+    /// Puts places with these keys behind the others. After want of memory there are none of them.
+    pub fn add(&mut self, keys: &[u64]) -> Result<(), AllocError>
         requires { length self.old.keys + length keys.now < 2 ^ 32 }
         ensures added { OnOk result (self.new.keys ≡ self.old.keys ++ keys.now) }
         ensures err { OnErr result (self.new.keys ≡ self.old.keys) }
@@ -88,8 +90,8 @@ impl Rows {
         Ok(())
     }
 
-    // The first places at or above `from` in the rows of these keys.
-    pub(crate) fn start(&self, keys: &[u64], from: u32, ahead: &mut [u32])
+    /// The first places at or above `from` in the rows of these keys.
+    pub fn start(&self, keys: &[u64], from: u32, ahead: &mut [u32])
         requires { length ahead.old ≡ length keys.now }
         ensures { AreAhead self.now keys.now from ahead.new }
     {
@@ -98,8 +100,8 @@ impl Rows {
         }
     }
 
-    // The places behind one of them.
-    pub(crate) fn pass(&self, place: u32, ahead: &mut [u32])
+    /// The places behind one of them.
+    pub fn pass(&self, place: u32, ahead: &mut [u32])
         requires { place < length self.now.keys }
         ensures { (keys : List ℕ) → AreAhead self.now keys place ahead.old
             → AreAhead self.now keys (place + 1) ahead.new }
@@ -127,8 +129,8 @@ impl Rows {
     }
 }
 
-// The least of these places, past all places where there is none.
-pub(crate) fn least(ahead: &[u32]) -> u32
+/// The least of these places, past all places where there is none.
+pub fn least(ahead: &[u32]) -> u32
     ensures { IsLeast ahead.now result }
 {
     let mut least = END;

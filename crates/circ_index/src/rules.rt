@@ -1,7 +1,7 @@
 //! The first of many left sides that has a term as an instance.
-ghost use Rattle.std.specs.Prelude.{◌≡◌, ◌<◌, ◌^◌, length, map, IfOk};
+ghost use Rattle.std.specs.Prelude.{◌≡◌, ◌+◌, ◌<◌, ◌^◌, [], ◌∷◌, ◌++◌, length};
+ghost use Rattle.std.specs.Prelude.{IfOk, OnOk, OnErr};
 ghost use Rattle.circ_index.specs.Finding.{FindsFirst};
-ghost use Rattle.circ_index.specs.Keys.{left_key};
 
 use crate::keys::{left_key, term_keys};
 use crate::rows::{Rows, least};
@@ -36,15 +36,31 @@ impl Model for RuleIndex {
 }
 
 impl RuleIndex {
-    /// The index of these left sides.
-    pub fn of(alloc: Global, lefts: Vec<Term>) -> Result<RuleIndex, AllocError>
-        requires { length lefts.items < 2 ^ 32 }
-        ensures { IfOk result (λ x. x ≡ lefts.items) }
+    /// No left sides.
+    pub fn new(alloc: Global) -> RuleIndex
+        ensures { result ≡ [] }
     {
-        let keys = left_keys(alloc, lefts.as_slice())?;
-        let mut rows = Rows::new(alloc);
-        rows.add(keys.as_slice())?;
-        Ok(RuleIndex { alloc, lefts, rows })
+        RuleIndex {
+            alloc,
+            lefts: Vec::new(alloc),
+            rows: Rows::new(alloc),
+        }
+    }
+
+    /// Puts a left side last. After want of memory the index is as before.
+    pub fn add(&mut self, left: &Term) -> Result<(), AllocError>
+        requires { length self.old + 1 < 2 ^ 32 }
+        ensures added { OnOk result (self.new ≡ self.old ++ left.now ∷ []) }
+        ensures err { OnErr result (self.new ≡ self.old) }
+    {
+        self.lefts.push(left.share()?)?;
+        match self.rows.add(&[left_key(left)]) {
+            Ok(()) => Ok(()),
+            Err(fault) => {
+                let _last = self.lefts.pop();
+                Err(fault)
+            }
+        }
     }
 
     /// The least number at or above `from` whose left side matches the term, with the substitution.
@@ -63,14 +79,4 @@ impl RuleIndex {
         }
         Ok(None)
     }
-}
-
-fn left_keys(alloc: Global, lefts: &[Term]) -> Result<Vec<u64>, AllocError>
-    ensures { IfOk result (λ v. v.items ≡ map left_key lefts.now) }
-{
-    let mut keys = Vec::with_capacity(alloc, lefts.len())?;
-    for left in lefts {
-        keys.push(left_key(left))?;
-    }
-    Ok(keys)
 }

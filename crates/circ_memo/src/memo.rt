@@ -1,5 +1,5 @@
 //! A memo of normal forms.
-ghost use Rattle.std.specs.Prelude.{◌≡◌, ◌≤◌, ◌<◌, ◌^◌, [], length};
+ghost use Rattle.std.specs.Prelude.{◌≡◌, ◌+◌, ◌≤◌, ◌<◌, ◌^◌, [], ◌∷◌, ◌++◌, length};
 ghost use Rattle.std.specs.Prelude.{IfOk, OnOk, OnErr};
 ghost use Rattle.std.specs.List.{AllByRecursion};
 ghost use Rattle.circ_term.specs.Tree.{Tree};
@@ -67,6 +67,32 @@ impl<'a> Memo<'a> {
         Ok(Memo {
             work: Box::new(alloc, Work { means, store })?,
         })
+    }
+
+    /// Forgets all normal forms and assumptions, and gives back what they took.
+    pub fn forget(&mut self)
+        ensures { self.new ≡ record self.old { assumptions = [] } }
+    {
+        let work = &mut *self.work;
+        work.means.forget();
+        work.store = Store::new(work.store.alloc);
+    }
+
+    /// Puts a rule last, and forgets all normal forms and assumptions. After want of memory the
+    /// rules are as before.
+    pub fn push(&mut self, rule: Rule) -> Result<(), AllocError>
+        requires rewrite { IsRewriteRule rule }
+        requires few { length self.old.rules + 1 < 2 ^ 32 }
+        ensures added { OnOk result (self.new ≡ record self.old {
+          rules = self.old.rules ++ rule ∷ [];
+          assumptions = [];
+        }) }
+        ensures err { OnErr result (self.new ≡ record self.old { assumptions = [] }) }
+    {
+        let work = &mut *self.work;
+        work.means.forget();
+        work.store = Store::new(work.store.alloc);
+        work.means.push(rule)
     }
 
     /// Puts these assumptions in place of those before, and forgets all normal forms. After want of
