@@ -10,8 +10,8 @@ ghost use Rattle.circ_numbering.specs.Asking.{Asks};
 ghost use Rattle.circ_numbering.specs.declared.fault.NumberFault.TheVariants.{Memory};
 
 use crate::fault::NumberFault;
-use circ_record::{TermChain, TermLink};
 use circ_proof::{Chain, Link};
+use circ_record::{TermChain, TermLink};
 use circ_replay::TableBuilder;
 use circ_term::{Path, Term};
 use std::alloc::Global;

@@ -12,9 +12,9 @@ ghost use Rattle.circ_numbering.specs.Asking.{Asks};
 
 use crate::asking::{chain, number};
 use crate::fault::NumberFault;
+use circ_proof::{Step, Why};
 use circ_record::{TermStep, TermWhy};
 use circ_replay::TableBuilder;
-use circ_proof::{Step, Why};
 use std::alloc::Global;
 
 /// Steps with numbers.

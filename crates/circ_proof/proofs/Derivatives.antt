@@ -16,7 +16,6 @@ use Rattle.circ_theory.proofs.Derived.{derived-numbered_from, variables_fit}
 use Rattle.circ_proof.specs.Goals.{IsWellSortedGoal}
 use Rattle.circ_proof.specs.Rules.{fresh_in}
 
-
 pub if_some_at : {X : Type 0} (P : X → Type 0) (o : Option X) (x : X) → o ≡ Some x → P x → IfSome o P
 if_some_at P o x e p = let Q : Option _ → Type 0 = λ o. IfSome o P in subst Q (sym e) p
 

@@ -10,7 +10,6 @@ use Rattle.circ_theory.specs.Fresh.{variables_from}
 use Rattle.circ_theory.proofs.Rewriting.{contains_at}
 use Rattle.circ_proof.specs.Certified.{start_args}
 
-
 contained_all : (P : ℕ → Type 0) (ss : List ℕ) → ((s : ℕ) → Contains ss s → P s) → AllByRecursion P ss
 contained_all P [] f = tt
 contained_all P (s ∷ ss) f = (f s (0, omega arith, refl), contained_all P ss (λ k c. f k (suc c.0, omega (arith, c.1), c.2)))

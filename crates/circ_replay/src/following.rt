@@ -18,10 +18,10 @@ ghost use Rattle.circ_proof.specs.Link.{LinkDerives};
 ghost use Rattle.circ_replay.specs.Following.{Follows, FollowsAll};
 ghost use Rattle.circ_replay.specs.Sources.{setting_of};
 
-use circ_proof::Link;
 use crate::rewriting::{Sides, exchange, replaced_at, rewrite};
 use crate::substitution;
 use circ_aci::same_content;
+use circ_proof::Link;
 use circ_special::Gamma;
 use circ_term::Term;
 use circ_theory::{Goal, Theory, Way};

@@ -14,9 +14,7 @@ ghost use Rattle.circ_rules.specs.Answers.{Applies};
 ghost use Rattle.circ_rules.specs.Basis.{IsSortedBasis};
 
 use crate::basis::Basis;
-use circ_proof::Step;
-use circ_proof::State;
-use circ_proof::{Chain, Why};
+use circ_proof::{Chain, State, Step, Why};
 use circ_replay::follow_why;
 use circ_special::Gamma;
 use circ_term::Term;

@@ -18,8 +18,8 @@ use circ_check::Checker;
 use circ_file::{FileFault, FileReader};
 use circ_files::{Intake, Status};
 use circ_read::Cause;
-use circ_table::Part;
 use circ_show::{goals_text, relation_text};
+use circ_table::Part;
 use circ_theory::{Goal, Theory};
 use std::alloc::{AllocError, Global};
 
