@@ -1,5 +1,5 @@
 -- What the rules of a block are.
-use Rattle.std.specs.Prelude.{◌≡◌, List, []}
+use Rattle.std.specs.Prelude.{◌≡◌, List, [], length}
 use Rattle.circ_theory.specs.Theory.{Theory}
 use Rattle.circ_theory.specs.declared.parts.Goal.{Goal}
 use Rattle.circ_plain_search.specs.BlockRules.{block_rules, hidden_lemmas}
@@ -11,3 +11,4 @@ pub record IsRulesOf (th : Theory) (earlier : List Goal) (r : BlockRules) : Type
   pub theory : r.cases.theory ≡ th
   pub rules : r.cases.rules ≡ block_rules th earlier
   pub lemmas : r.lemmas ≡ hidden_lemmas th 0 earlier
+  pub count : r.count ≡ length earlier

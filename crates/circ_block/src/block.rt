@@ -1,11 +1,11 @@
 //! The rules and the lemmas of a block.
-ghost use Rattle.std.specs.Prelude.{◌≡◌, ◌≤◌, ◌<◌, ◌^◌, ◌++◌};
-ghost use Rattle.std.specs.Prelude.{◌∷◌, [], length, IfOk, OnOk};
+ghost use Rattle.std.specs.Prelude.{◌≡◌, ◌≤◌, ◌<◌, ◌^◌, ◌++◌, ◌∷◌, []};
+ghost use Rattle.std.specs.Prelude.{List, length, take, IfOk, OnOk};
 ghost use Rattle.std.specs.List.{AllByRecursion};
 ghost use Rattle.circ_theory.specs.Rule.{is_bound};
 ghost use Rattle.circ_theory.specs.Theory.{pair_with};
+ghost use Rattle.circ_theory.specs.declared.parts.Goal.{Goal as TheGoal};
 ghost use Rattle.circ_rewrite.specs.Due.{IsRewriteRule};
-ghost use Rattle.circ_plain_search.specs.BlockRules.{lemma_rules, hidden_lemmas};
 ghost use Rattle.circ_plain_search.specs.BlockRules.{can_rewrite, lemma_rule};
 ghost use Rattle.circ_block.specs.Rules.{IsRulesOf};
 
@@ -27,38 +27,66 @@ pub struct BlockRules<'a> {
     pub cases: Memo<'a>,
     /// The hidden goals of earlier blocks that rewrite.
     pub lemmas: Lemmas,
+    /// How many goals of earlier blocks there are.
+    pub count: u32,
 }
 
 impl<'a> BlockRules<'a> {
-    /// The rules after these goals of earlier blocks.
-    pub fn of(
-        alloc: Global,
-        theory: &'a Theory,
-        earlier: &[Goal],
-    ) -> Result<BlockRules<'a>, AllocError>
-        requires few { length earlier.now ≤ 100000 }
-        ensures { IfOk result (λ r. IsRulesOf theory.now earlier.now r) }
+    /// The rules of the first block.
+    pub fn new(alloc: Global, theory: &'a Theory) -> Result<BlockRules<'a>, AllocError>
+        ensures { IfOk result (λ r. IsRulesOf theory.now [] r) }
     {
         theory.known();
-        let mut rules = theory_rules(alloc, theory)?;
-        let mut lemmas = Vec::new(alloc);
-        for n in 0..earlier.len() {
-            put_lemma(
-                alloc,
-                theory,
-                n as u32,
-                &earlier[n],
-                &mut rules,
-                &mut lemmas,
-            )?;
-        }
-        let lemmas = Lemmas::of(alloc, lemmas)?;
+        let rules = theory_rules(alloc, theory)?;
         let (plain, cases) = memos(alloc, theory, rules)?;
         Ok(BlockRules {
             plain,
             cases,
-            lemmas,
+            lemmas: Lemmas::new(alloc),
+            count: 0,
         })
+    }
+
+    /// The rules of the next block, after these goals of earlier blocks. The first of them are
+    /// those that the rules are of, and only the others are gone through.
+    pub fn next_block(
+        &mut self,
+        alloc: Global,
+        theory: &Theory,
+        earlier: &[Goal],
+    ) -> Result<(), AllocError>
+        requires few { length earlier.now ≤ 100000 }
+        requires before { IsRulesOf theory.now (take self.old.count earlier.now) self.old }
+        ensures { OnOk result (IsRulesOf theory.now earlier.now self.new) }
+    {
+        self.plain.forget();
+        self.cases.forget();
+        for n in self.count as usize..earlier.len() {
+            self.put_goal(alloc, theory, &earlier[n])?;
+        }
+        Ok(())
+    }
+
+    // A goal that rewrites goes behind the rules where it is visible, and behind the lemmas where
+    // it is hidden.
+    fn put_goal(&mut self, alloc: Global, theory: &Theory, goal: &Goal) -> Result<(), AllocError>
+        requires few { (E : List TheGoal) × IsRulesOf theory.now E self.old × (length E < 100000) }
+        ensures { (E : List TheGoal) → IsRulesOf theory.now E self.old
+            → OnOk result (IsRulesOf theory.now (E ++ goal.now ∷ []) self.new) }
+    {
+        theory.known();
+        let number = self.count;
+        self.count += 1;
+        if !can_rewrite(alloc, goal)? {
+            return Ok(());
+        }
+        if theory.is_hidden(goal.left.sort()) {
+            self.lemmas.push(lemma_rule(number, goal)?)?;
+            return Ok(());
+        }
+        self.plain.push(lemma_rule(number, goal)?)?;
+        self.cases.push(lemma_rule(number, goal)?)?;
+        Ok(())
     }
 }
 
@@ -81,33 +109,6 @@ fn memos<'a>(
     let plain = Memo::new(alloc, theory, rules)?;
     let cases = Memo::new(alloc, theory, copy)?;
     Ok((plain, cases))
-}
-
-// A goal that rewrites goes behind the rules where it is visible, and behind the lemmas where it is
-// hidden.
-fn put_lemma(
-    alloc: Global,
-    theory: &Theory,
-    number: u32,
-    goal: &Goal,
-    rules: &mut Vec<Rule>,
-    lemmas: &mut Vec<Rule>,
-) -> Result<(), AllocError>
-    ensures rules { OnOk result (rules.new.items
-        ≡ rules.old.items ++ lemma_rules theory.now number (goal.now ∷ [])) }
-    ensures lemmas { OnOk result (lemmas.new.items
-        ≡ lemmas.old.items ++ hidden_lemmas theory.now number (goal.now ∷ [])) }
-{
-    if !can_rewrite(alloc, goal)? {
-        return Ok(());
-    }
-    let rule = lemma_rule(number, goal)?;
-    if theory.is_hidden(goal.left.sort()) {
-        lemmas.push(rule)?;
-    } else {
-        rules.push(rule)?;
-    }
-    Ok(())
 }
 
 fn lemma_rule(number: u32, goal: &Goal) -> Result<Rule, AllocError>

@@ -4,3 +4,4 @@ pub mod FirstUse
 pub mod Passes
 pub mod Places
 pub mod FirstLemma
+pub mod TwoParts

@@ -1,17 +1,34 @@
--- What contracts see of hypotheses: the list of the goals.
-use Rattle.std.specs.Prelude.{◌≡◌, ◌<◌, ◌^◌, ℕ, ◌%◌, ◌==◌, if◌then◌else◌, List, length, map}
+-- What contracts see of hypotheses: the lists of the goals.
+use Rattle.std.specs.Prelude.{◌≡◌, ◌<◌, ◌^◌, ℕ, ◌%◌, ◌==◌, if◌then◌else◌, List, ◌++◌, length, map, take, refl}
+use Rattle.std.specs.Coded.{Coded, code_by, coded×, coded_list}
 use Rattle.circ_term.specs.Tree.{Tree}
 use Rattle.circ_theory.specs.declared.parts.Goal.{Goal}
 use Rattle.circ_theory.specs.declared.way.Way.{Way}
+use Rattle.circ_rewrite.specs.Code.{goal_code}
 use Rattle.circ_theory.specs.declared.way.Way.TheVariants.{Forth, Back}
+
+-- the goals of earlier blocks, and all hypotheses, which begin with them
+pub record Held : Type 0 where
+  pub earlier : List Goal
+  pub all : List Goal
+
+abbrev pub held : (earlier all : List Goal) → Held
+held E H = record { earlier = E; all = H }
+
+abbrev pub held_code : Coded Held
+held_code = code_by (List Goal × List Goal) (coded× (coded_list goal_code) (coded_list goal_code)) (λ h. (h.earlier, h.all)) (λ p. held p.0 p.1) (λ _. refl)
+
+-- of these hypotheses so many are goals of earlier blocks
+abbrev pub held_in : (goals : List Goal) → (count : ℕ) → Held
+held_in H n = held (take n H) H
 
 -- a goal's two sides, as an index has them
 abbrev pub both_sides : Goal → Tree × Tree
 both_sides g = (g.left, g.right)
 
--- The index is of the goals' sides, and they are few.
-pub record IsIndexed (goals : List Goal) (index : List (Tree × Tree)) : Type 0 where
-  pub sides : index ≡ map both_sides goals
+-- The indexes have the goals' sides, one behind the other, and the goals are few.
+pub record IsIndexed (goals : List Goal) (earlier own : List (Tree × Tree)) : Type 0 where
+  pub sides : earlier ++ own ≡ map both_sides goals
   pub few : length goals < 2 ^ 31
 
 -- which side of a hypothesis is found at a place of the index

@@ -2,7 +2,7 @@
 ghost use Rattle.std.specs.Prelude.{◌≡◌, ◌<◌, ◌+◌, ◌^◌, [], ◌∷◌, ◌++◌, length, map};
 ghost use Rattle.std.specs.Prelude.{IfOk, OnOk, OnErr};
 ghost use Rattle.circ_index.specs.Finding.{FindsFirstPair};
-ghost use Rattle.circ_join.specs.Hypotheses.{both_sides};
+ghost use Rattle.circ_join.specs.Hypotheses.{both_sides, held};
 
 use circ_index::PairIndex;
 use circ_term::{Subst, Term};
@@ -10,62 +10,94 @@ use circ_theory::Goal;
 use std::alloc::{AllocError, Global};
 use std::marker::Model;
 
-/// Hypotheses in their order, found by their sides. Contracts see the list of the goals.
+/// The hypotheses of a block, in their order, found by their sides: the goals of earlier blocks,
+/// and behind them those of the block itself. Contracts see the goals of earlier blocks, and all.
 #[derive(Drop)]
 pub struct Hypotheses {
+    alloc: Global,
     goals: Vec<Goal>,
-    index: PairIndex,
+    earlier: PairIndex,
+    own: PairIndex,
 }
 
 impl Model for Hypotheses {
-    ghost use Rattle.std.specs.Prelude.{List};
-    ghost use Rattle.std.specs.Coded.{coded_list};
-    ghost use Rattle.circ_theory.specs.declared.parts.Goal.{Goal as TheGoal};
-    ghost use Rattle.circ_rewrite.specs.Code.{goal_code};
-    ghost use Rattle.circ_join.specs.Hypotheses.{IsIndexed};
+    ghost use Rattle.std.specs.Prelude.{length};
+    ghost use Rattle.circ_join.specs.Hypotheses.{Held, held_code, held_in, IsIndexed};
 
-    ghost Value = { List TheGoal };
+    ghost Value = { Held };
 
-    ghost coded = { coded_list goal_code };
+    ghost coded = { held_code };
 
-    ghost view = { λ a. a.goals.items };
+    ghost view = { λ a. held_in a.goals.items (length a.earlier) };
 
-    ghost invariant = { λ a. IsIndexed a.goals.items a.index };
+    ghost invariant = { λ a. IsIndexed a.goals.items a.earlier a.own };
 }
 
 impl Hypotheses {
     /// No hypotheses.
     pub fn new(alloc: Global) -> Hypotheses
-        ensures { result ≡ [] }
+        ensures { result ≡ held [] [] }
     {
         Hypotheses {
+            alloc,
             goals: Vec::new(alloc),
-            index: PairIndex::new(alloc),
+            earlier: PairIndex::new(alloc),
+            own: PairIndex::new(alloc),
         }
     }
 
-    /// The goals as hypotheses.
-    pub fn of(alloc: Global, goals: &[Goal]) -> Result<Hypotheses, AllocError>
-        requires few { length goals.now < 2 ^ 31 }
-        ensures { IfOk result (λ h. h ≡ goals.now) }
-    {
-        let mut hyps = Hypotheses::new(alloc);
-        for goal in goals {
-            hyps.push(goal)?;
-        }
-        Ok(hyps)
-    }
-
-    /// Puts a hypothesis last. After want of memory they are as before.
+    /// Puts a hypothesis of the block last. After want of memory they are as before.
     pub fn push(&mut self, goal: &Goal) -> Result<(), AllocError>
-        requires few { length self.old + 1 < 2 ^ 31 }
-        ensures added { OnOk result (self.new ≡ self.old ++ goal.now ∷ []) }
+        requires few { length self.old.all + 1 < 2 ^ 31 }
+        ensures added { OnOk result
+            (self.new ≡ held self.old.earlier (self.old.all ++ goal.now ∷ [])) }
         ensures err { OnErr result (self.new ≡ self.old) }
     {
         let left = goal.left.share()?;
         let right = goal.right.share()?;
         self.goals.push(Goal { left, right })?;
-        match self.index.add(&goal.left, &goal.right) {
+        match self.own.add(&goal.left, &goal.right) {
+            Ok(()) => Ok(()),
+            Err(fault) => {
+                let _last = self.goals.pop();
+                Err(fault)
+            }
+        }
+    }
+
+    /// The block is finished: its own hypotheses go, and these goals, which are its own, come
+    /// behind those of earlier blocks. After want of memory some of them may be missing.
+    pub fn finish_block(&mut self, goals: &[Goal]) -> Result<(), AllocError>
+        requires few { length self.old.earlier + length goals.now < 2 ^ 31 }
+        ensures { OnOk result (self.new ≡ held (self.old.earlier ++ goals.now)
+            (self.old.earlier ++ goals.now)) }
+    {
+        self.forget_own();
+        for goal in goals {
+            self.push_earlier(goal)?;
+        }
+        Ok(())
+    }
+
+    // The hypotheses of the block itself go.
+    fn forget_own(&mut self)
+        ensures { self.new ≡ held self.old.earlier self.old.earlier }
+    {
+        self.goals.truncate(self.earlier.len());
+        self.own = PairIndex::new(self.alloc);
+    }
+
+    // Puts a goal of an earlier block last, where there are no hypotheses of the block itself.
+    fn push_earlier(&mut self, goal: &Goal) -> Result<(), AllocError>
+        requires none { self.old.all ≡ self.old.earlier }
+        requires few { length self.old.earlier + 1 < 2 ^ 31 }
+        ensures { OnOk result (self.new ≡ held (self.old.earlier ++ goal.now ∷ [])
+            (self.old.earlier ++ goal.now ∷ [])) }
+    {
+        let left = goal.left.share()?;
+        let right = goal.right.share()?;
+        self.goals.push(Goal { left, right })?;
+        match self.earlier.add(&goal.left, &goal.right) {
             Ok(()) => Ok(()),
             Err(fault) => {
                 let _last = self.goals.pop();
@@ -76,16 +108,32 @@ impl Hypotheses {
 
     /// The hypotheses, in their order.
     pub fn goals(&self) -> &[Goal]
-        ensures { result.now ≡ self.now }
+        ensures { result.now ≡ self.now.all }
     {
         self.goals.as_slice()
+    }
+
+    /// The goals of earlier blocks, in their order.
+    pub fn earlier(&self) -> &[Goal]
+        ensures { result.now ≡ self.now.earlier }
+    {
+        &self.goals[..self.earlier.len()]
     }
 
     // The first that has the two terms as an instance, either way, with the substitution. At place
     // 2n is hypothesis n from left to right, and at place 2n + 1 the other way about.
     pub(crate) fn first(&self, a: &Term, b: &Term) -> Result<Option<(u32, Subst)>, AllocError>
-        ensures { IfOk result (FindsFirstPair (map both_sides self.now) 0 a.now b.now) }
+        ensures { IfOk result (FindsFirstPair (map both_sides self.now.all) 0 a.now b.now) }
     {
-        self.index.first(0, a, b)
+        match self.earlier.first(0, a, b)? {
+            Some(found) => Ok(Some(found)),
+            None => match self.own.first(0, a, b)? {
+                Some((place, subst)) => {
+                    let before = 2 * self.earlier.len() as u32;
+                    Ok(Some((before + place, subst)))
+                }
+                None => Ok(None),
+            },
+        }
     }
 }

@@ -30,7 +30,7 @@ impl Joining<'_> {
     /// join.
     pub fn join(&self, a: &Term, b: &Term) -> Result<Option<Vec<HypothesisUse>>, AllocError>
         ensures { IfOk result (λ o. option_map (λ v. plain_uses v.items) o
-            ≡ joined self.now.gamma.now self.now.hyps.now [] a.now b.now) }
+            ≡ joined self.now.gamma.now self.now.hyps.now.all [] a.now b.now) }
     {
         let mut path = Path::new(self.alloc);
         let mut uses = Vec::new(self.alloc);
@@ -51,7 +51,7 @@ impl Joining<'_> {
         path: &mut Path,
         uses: &mut Vec<HypothesisUse>,
     ) -> Result<bool, AllocError>
-        ensures exact { Joins (joined self.now.gamma.now self.now.hyps.now path.old.items
+        ensures exact { Joins (joined self.now.gamma.now self.now.hyps.now.all path.old.items
             a.now b.now) (plain_uses uses.old.items) (plain_uses uses.new.items) result }
         ensures path { OnOk result (path.new.items ≡ path.old.items) }
     {
@@ -92,7 +92,7 @@ impl Joining<'_> {
         uses: &mut Vec<HypothesisUse>,
     ) -> Result<bool, AllocError>
         requires narrow { length args.now ≤ 65536 }
-        ensures exact { Joins (all_joined self.now.gamma.now self.now.hyps.now op path.old.items 0
+        ensures exact { Joins (all_joined self.now.gamma.now self.now.hyps.now.all op path.old.items 0
             (trees_of args.now) (trees_of others.now))
             (plain_uses uses.old.items) (plain_uses uses.new.items) result }
         ensures path { OnOk result (path.new.items ≡ path.old.items) }
@@ -126,7 +126,7 @@ impl Joining<'_> {
         path: &mut Path,
         uses: &mut Vec<HypothesisUse>,
     ) -> Result<bool, AllocError>
-        ensures exact { Joins (joined self.now.gamma.now self.now.hyps.now
+        ensures exact { Joins (joined self.now.gamma.now self.now.hyps.now.all
             (path.old.items ++ i ∷ []) arg.now other.now)
             (plain_uses uses.old.items) (plain_uses uses.new.items) result }
         ensures path { OnOk result (path.new.items ≡ path.old.items) }
@@ -146,7 +146,7 @@ impl Joining<'_> {
         b: &Term,
     ) -> Result<Option<HypothesisUse>, AllocError>
         ensures { IfOk result (λ o. option_map plain_use o
-            ≡ first_use 0 self.now.hyps.now path.now a.now b.now) }
+            ≡ first_use 0 self.now.hyps.now.all path.now a.now b.now) }
     {
         let Some((place, subst)) = self.hyps.first(a, b)? else {
             return Ok(None);

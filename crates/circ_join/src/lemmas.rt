@@ -1,6 +1,6 @@
 //! Lemmas, found by their left sides.
-ghost use Rattle.std.specs.Prelude.{◌≡◌, ◌<◌, ◌==◌, ◌^◌, length, map, IfOk};
-ghost use Rattle.std.specs.List.{AllByRecursion};
+ghost use Rattle.std.specs.Prelude.{◌≡◌, ◌+◌, ◌<◌, ◌==◌, ◌^◌, [], ◌∷◌, ◌++◌, length, map};
+ghost use Rattle.std.specs.Prelude.{IfOk, OnOk, OnErr};
 ghost use Rattle.std.specs.Option.{option_map};
 ghost use Rattle.circ_index.specs.Finding.{FindsFirst};
 ghost use Rattle.circ_rewrite.specs.Due.{IsRewriteRule};
@@ -39,15 +39,32 @@ impl Model for Lemmas {
 }
 
 impl Lemmas {
-    /// The rules as lemmas.
-    pub fn of(alloc: Global, rules: Vec<Rule>) -> Result<Lemmas, AllocError>
-        requires rewrite { AllByRecursion IsRewriteRule rules.items }
-        requires few { length rules.items < 2 ^ 32 }
-        ensures { IfOk result (λ l. l ≡ rules.items) }
+    /// No lemmas.
+    pub fn new(alloc: Global) -> Lemmas
+        ensures { result ≡ [] }
     {
-        let lefts = left_sides(alloc, rules.as_slice())?;
-        let index = RuleIndex::of(alloc, lefts)?;
-        Ok(Lemmas { rules, index })
+        Lemmas {
+            rules: Vec::new(alloc),
+            index: RuleIndex::new(alloc),
+        }
+    }
+
+    /// Puts a rule last. After want of memory the lemmas are as before.
+    pub fn push(&mut self, rule: Rule) -> Result<(), AllocError>
+        requires rewrite { IsRewriteRule rule }
+        requires few { length self.old + 1 < 2 ^ 32 }
+        ensures added { OnOk result (self.new ≡ self.old ++ rule ∷ []) }
+        ensures err { OnErr result (self.new ≡ self.old) }
+    {
+        let left = rule.left.share()?;
+        self.rules.push(rule)?;
+        match self.index.add(&left) {
+            Ok(()) => Ok(()),
+            Err(fault) => {
+                let _last = self.rules.pop();
+                Err(fault)
+            }
+        }
     }
 
     /// Whether there are none.
@@ -89,16 +106,6 @@ impl Lemmas {
             right,
         }))
     }
-}
-
-fn left_sides(alloc: Global, rules: &[Rule]) -> Result<Vec<Term>, AllocError>
-    ensures { IfOk result (λ v. v.items ≡ map left_of rules.now) }
-{
-    let mut lefts = Vec::with_capacity(alloc, rules.len())?;
-    for rule in rules {
-        lefts.push(rule.left.share()?)?;
-    }
-    Ok(lefts)
 }
 
 fn rule_number(name: RuleName) -> u32

@@ -14,7 +14,7 @@ map_append f (x ∷ xs) ys = ap (λ r. f x ∷ r) (map_append f xs ys)
 pub joins-returns-then-same-clause-exact : goal.joins-returns-then-same-clause-exact
 joins-returns-then-same-clause-exact t c = (
   [],
-  joined_same c.args.self.now.gamma.now c.args.self.now.hyps.now c.args.path.now.items c.args.a.now c.args.b.now (c.same.ensures.0 c.if-same.true),
+  joined_same c.args.self.now.gamma.now c.args.self.now.hyps.now.all c.args.path.now.items c.args.a.now c.args.b.now (c.same.ensures.0 c.if-same.true),
   nil_joints (plain_uses c.args.uses.now.items),
 )
 
@@ -23,7 +23,7 @@ joins-returns-in-Some-clause-exact t c =
     let j : HypothesisUse = plain_use c.in-Some.one in
     let used = rw (c.in-Some.is, c.as_slice.ensures) at c.in_ok-one.ensures in (
       j ∷ [],
-      joined_used c.args.self.now.gamma.now c.args.self.now.hyps.now c.args.path.now.items c.args.a.now c.args.b.now j
+      joined_used c.args.self.now.gamma.now c.args.self.now.hyps.now.all c.args.path.now.items c.args.a.now c.args.b.now j
           (not_same c.same.result c.args.a.now c.args.b.now c.same.ensures c.if-same.false) (sym used),
       ap plain_uses c.in_ok-push.ensures.items ∙ map_append plain_use c.args.uses.now.items (c.in-Some.one ∷ []),
     )
@@ -40,26 +40,26 @@ pub joins-returns-else-sort-other_sort-clause-exact : goal.joins-returns-else-so
 joins-returns-else-sort-other_sort-clause-exact t c =
     let x = c.in-Application-Application in
     let none = rw (c.in_default.is, c.as_slice.ensures) at c.in_ok-one.ensures in
-    let e = joined_all c.args.self.now.gamma.now c.args.self.now.hyps.now c.args.path.now.items c.args.a.now c.args.b.now x.op x.sort x.other_op x.other_sort
+    let e = joined_all c.args.self.now.gamma.now c.args.self.now.hyps.now.all c.args.path.now.items c.args.a.now c.args.b.now x.op x.sort x.other_op x.other_sort
     (trees_of x.args.now) (trees_of x.others.now) x.ensures.value x.ensures'.value (not_same c.same.result c.args.a.now c.args.b.now c.same.ensures c.if-same.false) (sym none)
     c.if-op-other_op.false c.if-sort-other_sort.false in
     rw e c.all_join.ensures.exact
 
 pub all_join-returns-then-args-others-clause-exact : goal.all_join-returns-then-args-others-clause-exact
 all_join-returns-then-args-others-clause-exact t c =
-    all_joined_lengths c.args.self.now.gamma.now c.args.self.now.hyps.now c.args.op c.args.path.now.items 0 c.args.args.now c.args.others.now c.if-args-others.true
+    all_joined_lengths c.args.self.now.gamma.now c.args.self.now.hyps.now.all c.args.op c.args.path.now.items 0 c.args.args.now c.args.others.now c.if-args-others.true
 
 pub all_join-loop-i-preserved-then-same : goal.all_join-loop-i-preserved-then-same
 all_join-loop-i-preserved-then-same t c = record {
   path = c.loop-i.invariant.path;
-  going = going_same c.args.self.now.gamma.now c.args.self.now.hyps.now c.args.op c.args.path.now.items c.args.args.now c.args.others.now
+  going = going_same c.args.self.now.gamma.now c.args.self.now.hyps.now.all c.args.op c.args.path.now.items c.args.args.now c.args.others.now
       (plain_uses c.args.uses.now.items) (plain_uses c.loop-i.uses.items) c.loop-i.i c.index-args-i.result c.index-others-i.result c.loop-i.invariant.going c.loop-i-test.true c.index-args-i.is
       c.index-others-i.is (c.same.ensures.0 c.if-same.true);
 }
 
 pub all_join-returns-then-not-has_place-clause-exact : goal.all_join-returns-then-not-has_place-clause-exact
 all_join-returns-then-not-has_place-clause-exact t c =
-    going_no_place c.args.self.now.gamma.now c.args.self.now.hyps.now c.args.op c.args.path.now.items c.args.args.now c.args.others.now
+    going_no_place c.args.self.now.gamma.now c.args.self.now.hyps.now.all c.args.op c.args.path.now.items c.args.args.now c.args.others.now
     (plain_uses c.args.uses.now.items) (plain_uses c.loop-i.uses.items) c.loop-i.i c.index-args-i.result c.index-others-i.result c.loop-i.invariant.going c.loop-i-test.true c.index-args-i.is
     c.index-others-i.is
     (not_same c.same.result c.index-args-i.result c.index-others-i.result c.same.ensures c.if-same.false) (sym c.has_place.ensures ∙ c.if-not-has_place.true)
@@ -71,7 +71,7 @@ all_join-joins_at-requires t c =
 pub all_join-returns-then-not-branch-clause-exact : goal.all_join-returns-then-not-branch-clause-exact
 all_join-returns-then-not-branch-clause-exact t c =
     let j = rw (c.if-not-branch.true, c.loop-i.invariant.path) at c.in_ok-joins_at.ensures.exact in
-    going_none c.args.self.now.gamma.now c.args.self.now.hyps.now c.args.op c.args.path.now.items c.args.args.now c.args.others.now
+    going_none c.args.self.now.gamma.now c.args.self.now.hyps.now.all c.args.op c.args.path.now.items c.args.args.now c.args.others.now
     (plain_uses c.args.uses.now.items) (plain_uses c.loop-i.uses.items) c.loop-i.i c.index-args-i.result c.index-others-i.result c.loop-i.invariant.going c.loop-i-test.true c.index-args-i.is
     c.index-others-i.is
     (not_same c.same.result c.index-args-i.result c.index-others-i.result c.same.ensures c.if-same.false) (sym c.has_place.ensures ∙ c.if-not-has_place.false) j
@@ -81,7 +81,7 @@ all_join-loop-i-preserved t c =
     let j = rw (c.if-not-branch.false, c.loop-i.invariant.path) at c.in_ok-joins_at.ensures.exact in
     record {
       path = c.in_ok-joins_at.ensures.path ∙ c.loop-i.invariant.path;
-      going = going_on c.args.self.now.gamma.now c.args.self.now.hyps.now c.args.op c.args.path.now.items c.args.args.now c.args.others.now
+      going = going_on c.args.self.now.gamma.now c.args.self.now.hyps.now.all c.args.op c.args.path.now.items c.args.args.now c.args.others.now
           (plain_uses c.args.uses.now.items) (plain_uses c.loop-i.uses.items) (plain_uses c.joins_at.new.uses.items) c.loop-i.i c.index-args-i.result c.index-others-i.result c.loop-i.invariant.going c.loop-i-test.true c.index-args-i.is
           c.index-others-i.is
           (not_same c.same.result c.index-args-i.result c.index-others-i.result c.same.ensures c.if-same.false) (sym c.has_place.ensures ∙ c.if-not-has_place.false) j;

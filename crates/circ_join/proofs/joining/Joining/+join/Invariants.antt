@@ -16,5 +16,5 @@ decreases-joins_at l = 3 * depth_of l.arg.now + 1
 abbrev pub invariant-all_join-loop-i : goal.invariant-all_join-loop-i
 invariant-all_join-loop-i l = record {
   path : l.path.items ≡ l.fn.path.items;
-  going : Going l.self.gamma.now l.self.hyps.now l.op l.fn.path.items l.args l.others (plain_uses l.fn.uses.items) (plain_uses l.uses.items) l.i;
+  going : Going l.self.gamma.now l.self.hyps.now.all l.op l.fn.path.items l.args l.others (plain_uses l.fn.uses.items) (plain_uses l.uses.items) l.i;
 }
