@@ -259,8 +259,41 @@ fn at_end(alloc: Global, rule: &Rule, from: usize, end: usize) -> Result<Few, Al
     }
 }
 
-// The rows of a rule's symbols from a place on, over the tokens from `from` up to `end`. The edges
-// are those from `from` to places before `end`; the found ones go to `end`.
+// The rows of the symbols of a rule from a place on, over the tokens from `from` up to `end`. The
+// edges are those from `from` to places before `end`; the found ones go to `end`.
+fn rows_of(
+    alloc: Global,
+    tokens: &[u32],
+    rule: &Rule,
+    symbols: &[Symbol],
+    number: usize,
+    place: usize,
+    from: usize,
+    end: usize,
+    edges: &[Edge],
+    found: &[Edge],
+    columns: &[Column],
+) -> Result<Few, AllocError>
+    requires inside { end ≤ length tokens.now }
+    requires edges { AreSmall edges.now }
+    requires found { AreSmall found.now }
+    requires columns { AreSmallColumns columns.now }
+    ensures { IfOk result (λ v. Enough (In v) (MadeBy tokens.now rule.now symbols.now number place
+        from end edges.now found.now columns.now)) }
+{
+    match symbols {
+        [] => at_end(alloc, rule, from, end),
+        [Symbol::Word(word), ..] => after_word(tokens, number, place, *word, from, end, columns),
+        [Symbol::Hole { sort, below }] => holes(
+            alloc, rule, number, place, *sort, *below, end, found, columns,
+        ),
+        [Symbol::Hole { sort, below }, ..] => holes(
+            alloc, rule, number, place, *sort, *below, end, edges, columns,
+        ),
+    }
+}
+
+// The rows of a rule's symbols from a place on.
 pub fn rows_from(
     alloc: Global,
     tokens: &[u32],
@@ -282,16 +315,8 @@ pub fn rows_from(
         (drop place rule.now.symbols.items) number place from end edges.now found.now
         columns.now)) }
 {
-    match &rule.symbols[place..] {
-        [] => at_end(alloc, rule, from, end),
-        [Symbol::Word(word), ..] => after_word(tokens, number, place, *word, from, end, columns),
-        [Symbol::Hole { sort, below }] => {
-            Ok(holes(
-                alloc, rule, number, place, *sort, *below, end, found, columns,
-            )?)
-        }
-        [Symbol::Hole { sort, below }, ..] => holes(
-            alloc, rule, number, place, *sort, *below, end, edges, columns,
-        ),
-    }
+    let symbols = &rule.symbols[place..];
+    rows_of(
+        alloc, tokens, rule, symbols, number, place, from, end, edges, found, columns,
+    )
 }

@@ -18,5 +18,6 @@ pub mod WellSorted
 pub mod TakenBack
 pub mod Cut
 pub mod FormWords
+pub mod FromLeft
 pub mod Printed
 pub mod Parameters

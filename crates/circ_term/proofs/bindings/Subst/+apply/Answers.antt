@@ -1,10 +1,11 @@
-use Rattle.std.proofs.Common.{◌≡◌, arith, sym, ap, ◌∙◌, length}
-use Rattle.circ_term.specs.Tree.{trees_of, args_of}
+use Rattle.std.proofs.Common.{◌≡◌, ◌+◌, ◌++◌, ◌∷◌, [], drop, length, arith, sym, ap, ◌∙◌, append_assoc}
+use Rattle.circ_term.specs.Tree.{trees_of, list_of, args_of}
 use Rattle.circ_term.proofs.Trees.{trees_of-list_of}
+use Rattle.circ_term.specs.Limits.{first_limits, or_else}
 use Rattle.circ_term.specs.Substitution.{instances}
 use Rattle.circ_term.specs.Subst.{substitution_of}
 use Rattle.circ_term.proofs.Instances.{instance-is_ground, length-instances}
-use Rattle.circ_term.proofs.Within.{depth_at}
+use Rattle.circ_term.proofs.Within.{depth_at, drop_read}
 use Rattle.circ_term.proofs.bindings.Subst.+apply.Goals as goal
 
 pub apply-returns-then-is_ground : goal.apply-returns-then-is_ground
@@ -25,3 +26,18 @@ apply-returns-in-Ok t c =
 
 pub apply_all-apply-requires : goal.apply_all-apply-requires
 apply_all-apply-requires t c = (omega (arith, depth_at c.args.terms.now c.loop-term.term-index c.term-item.result (omega arith) c.term-item.is), tt)
+
+pub apply_all-loop-term-preserved : goal.apply_all-loop-term-preserved
+apply_all-loop-term-preserved t c =
+    let at = c.loop-term in
+    let out = at.made.items in
+    let rest = instances (substitution_of c.args.self.now) (trees_of (drop (at.term-index + 1) c.args.terms.now)) in
+    let next = drop_read c.args.terms.now at.term-index c.term-item.result c.loop-term-test.true c.term-item.is in
+    let made = rw next at at.invariant.made in
+    let limits = rw next at at.invariant.limits in
+    record {
+      made =
+          ap (λ ts. ts ++ list_of rest) c.in_ok-push-in-Ok.ensures.items ∙ append_assoc out (c.in-Ok.term ∷ []) (list_of rest)
+          ∙ ap (λ u. out ++ u ∷ list_of rest) c.in-Ok.ensures.0 ∙ made;
+      limits = ap (λ o. or_else o (first_limits rest)) (sym c.in-Ok.ensures.1) ∙ limits;
+    }

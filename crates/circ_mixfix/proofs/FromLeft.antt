@@ -1,0 +1,33 @@
+-- Lists that are read from the left, one item more.
+use Rattle.std.proofs.Common.{◌≡◌, ◌<◌, ◌+◌, ◌++◌, ℕ, zero, suc, List, [], ◌∷◌, length, map, get_or, drop, append_assoc, sym, subst, arith}
+use Rattle.std.proofs.lemmas.List.{drop_more}
+use Rattle.circ_chart.specs.declared.grammar.Rule.{Rule}
+use Rattle.circ_chart.specs.declared.grammar.Symbol as chart_symbol
+use Rattle.circ_theory.specs.Signature.{Signature}
+use Rattle.circ_mixfix.specs.Symbols.{Symbol}
+use Rattle.circ_mixfix.specs.Coding.{IsSymbol, AreSymbols, HaveNumbers, AreBelow, AddsRule, AddsRules}
+
+pub next_symbol : {X : Type 0} (g : X → Symbol) (ws : List (List ℕ)) (xs : List X) (i : ℕ) (d : X) (c : chart_symbol.Symbol) (out new : List chart_symbol.Symbol)
+    → i < length xs → IsSymbol ws (g (get_or xs i d)) c → new ≡ out ++ c ∷ []
+    → ((cs : List chart_symbol.Symbol) → AreSymbols ws (map g (drop i xs)) cs → AreSymbols ws (map g xs) (out ++ cs))
+    → (cs : List chart_symbol.Symbol) → AreSymbols ws (map g (drop (i + 1) xs)) cs → AreSymbols ws (map g xs) (new ++ cs)
+next_symbol {X} g ws xs i d c out new within is made all cs rest =
+    let P : List X → Type 0 = λ ys. AreSymbols ws (map g ys) (c ∷ cs) in
+    rw (made, append_assoc) (all (c ∷ cs) (subst P (sym (drop_more xs i d within)) (is, rest)))
+
+pub numbers_rest : {X : Type 0} (g : X → Symbol) (ws : List (List ℕ)) (xs : List X) (i : ℕ) → i < length xs → HaveNumbers ws (map g (drop i xs))
+    → HaveNumbers ws (map g (drop (i + 1) xs))
+numbers_rest g ws [] i within h = absurd (omega arith)
+numbers_rest g ws (x ∷ xs) zero within h = h.1
+numbers_rest g ws (x ∷ xs) (suc i) within h = let e : suc i + 1 ≡ suc (i + 1) = omega arith in rw e (numbers_rest g ws xs i (omega arith) h)
+
+pub below_rest : {X : Type 0} (g : X → Symbol) (xs : List X) (i : ℕ) → i < length xs → AreBelow (map g (drop i xs)) → AreBelow (map g (drop (i + 1) xs))
+below_rest g [] i within h = absurd (omega arith)
+below_rest g (x ∷ xs) zero within h = h.1
+below_rest g (x ∷ xs) (suc i) within h = let e : suc i + 1 ≡ suc (i + 1) = omega arith in rw e (below_rest g xs i (omega arith) h)
+
+pub next_rules : (sig : Signature) (ws : List (List ℕ)) (fs : List ℕ) (i d : ℕ) (first old mid : List Rule) → i < length fs → AddsRule sig ws (get_or fs i d) old mid
+    → ((new : List Rule) → AddsRules sig ws (drop i fs) old new → AddsRules sig ws fs first new)
+    → (new : List Rule) → AddsRules sig ws (drop (i + 1) fs) mid new → AddsRules sig ws fs first new
+next_rules sig ws fs i d first old mid within one all new rest =
+    let P : List ℕ → Type 0 = λ gs. AddsRules sig ws gs old new in all new (subst P (sym (drop_more fs i d within)) (mid, one, rest))
