@@ -25,10 +25,9 @@ fn is_given(given: &Subst, number: u32, sort: u32, term: &Term) -> bool {
 // Whether the second of two left sides, of another sort than the first, is found for a variable,
 // and its own variable is given that one.
 fn second_left_is_found(alloc: Global) -> Result<bool, AllocError> {
-    let mut lefts = Vec::new(alloc);
-    lefts.push(Term::var(0, 1))?;
-    lefts.push(Term::var(0, 0))?;
-    let index = RuleIndex::of(alloc, lefts)?;
+    let mut index = RuleIndex::new(alloc);
+    index.add(&Term::var(0, 1))?;
+    index.add(&Term::var(0, 0))?;
     match index.first(0, &Term::var(5, 0))? {
         Some((number, given)) => Ok(number == 1 && is_given(&given, 0, 0, &Term::var(5, 0))),
         None => Ok(false),

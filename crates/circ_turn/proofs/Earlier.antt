@@ -1,4 +1,4 @@
--- A turn on a goal leaves the goals of earlier blocks.
+-- A turn on a goal leaves the goals of earlier blocks, and the end of a block puts its own behind them.
 use Rattle.std.proofs.Common.{◌≡◌, ℕ, ◌+◌, ◌<◌, Bool, true, false, ◌||◌, ◌==◌, if◌then◌else◌, List, [], ◌∷◌, ◌++◌, map, length, Option, Some, None, Result, Ok, Err, refl, ap, sym, ◌∙◌, arith}
 use Rattle.std.specs.Prelude.{nat_le}
 use Rattle.std.proofs.lemmas.Bool.{eqb-true}
@@ -9,11 +9,11 @@ use Rattle.circ_theory.specs.declared.parts.Goal.{Goal}
 use Rattle.circ_special.specs.declared.place.Place.{Place}
 use Rattle.circ_proof.specs.Plain.{WhyOf, Same_why, Split_why}
 use Rattle.circ_proof.specs.Goals.{goal}
-use Rattle.circ_proof.specs.Rules.{ProofStep, Simplify, Reduce, Derive, derivatives_on}
+use Rattle.circ_proof.specs.Rules.{ProofStep, Simplify, Reduce, Derive, Done, derivatives_on}
 use Rattle.circ_proof.specs.Proof.{step_limit, split_limit}
 use Rattle.circ_plain_search.specs.BlockRules.{block_rules}
 use Rattle.circ_plain_search.specs.Joining.{HypothesisUse, use_link, and_then, put_all, joined}
-use Rattle.circ_plain_search.specs.Search.{Limits, Standing, Ending, Sides, chain_with, chained, has_links, normal_sides, split_cases, or_end, spent, record_step, reduced, goals_limit, unless_past, derive_turn, simplified, hidden_turn, visible_turn, open_turn, swept_sides, pass_turn, join_turn, sides_turn, goal_turn, with_sides, next_goal, turn, turn_at, is_deep_step}
+use Rattle.circ_plain_search.specs.Search.{Limits, Standing, Ending, Sides, chain_with, chained, has_links, normal_sides, split_cases, or_end, spent, record_step, reduced, goals_limit, unless_past, derive_turn, simplified, hidden_turn, visible_turn, open_turn, swept_sides, pass_turn, join_turn, sides_turn, goal_turn, with_sides, next_goal, with_this, begun, next_block, done_turn, start, turn, turn_at, is_deep_step}
 
 record Through {A B E : Type 0} (r : Result A E) (f : A → Result B E) (b : B) : Type 0 where
   pub value : A
@@ -97,6 +97,22 @@ module _ (th : Theory) (l : Limits) where
       let x : Through (or_end l st (normal_sides th (block_rules th st.earlier) [] g.left g.right st.budget))
       (λ n. sides_turn th G l (with_sides st rest n) (goal n.left n.right) rest) y = through _ _ y e in
       join_keeps G (with_sides st rest x.value) y (goal x.value.left x.value.right) rest (joined G st.hypotheses [] x.value.left x.value.right) x.last
+
+-- the next block has the goals of this one behind those of earlier blocks
+pub done_earlier : (th : Theory) (l : Limits) (st y : Standing) → done_turn th l st ≡ Ok y → y.earlier ≡ st.earlier ++ st.goals
+done_earlier th l st y e =
+    let x : Through (record_step th l st Done) (λ z. next_block z z.later) y = through _ _ y e in
+    let z = if_false (nat_le step_limit st.made) (spent l st) (Ok (record st { steps = st.steps ++ Done ∷ []; made = st.made + 1; deep = st.deep || is_deep_step th st.hypotheses Done })) x.value x.first in
+    let same : record st { steps = st.steps ++ Done ∷ []; made = st.made + 1; deep = st.deep || is_deep_step th st.hypotheses Done } ≡ x.value = same_Ok _ x.value z in
+    go x.value x.value.later x.last ∙ ap (λ s. s.earlier ++ s.goals) (sym same)
+  where
+    go : (x : Standing) (bs : List (List Goal)) → next_block x bs ≡ Ok y → y.earlier ≡ x.earlier ++ x.goals
+    go x [] e = absurd (cc)
+    go x (b ∷ bs) e = ap (λ s. s.earlier) (sym (same_Ok (begun (with_this x) (x.earlier ++ x.goals) b bs x.budget x.derives x.made x.deep) y e))
+
+pub start_earlier : (l : Limits) (bs : List (List Goal)) → (start l bs).earlier ≡ []
+start_earlier l [] = refl
+start_earlier l (b ∷ bs) = refl
 
 pub turn_goal : (th : Theory) (G : List Place) (l : Limits) (st : Standing) (g : Goal) (rest : List Goal) → st.queue ≡ g ∷ rest → turn th G l st ≡ goal_turn th G l st g rest
 turn_goal th G l st g rest e = ap (turn_at th G l st) e

@@ -15,10 +15,10 @@ plain_limits l = record { steps = l.steps; derives = l.derives }
 abbrev pub standing : State → Standing
 standing s = record {
   finished = plain_term_blocks s.finished.items;
-  earlier = s.earlier.items;
+  earlier = s.hyps.earlier;
   goals = s.goals.items;
   later = map (λ v. v.items) s.later.now;
-  hypotheses = s.hyps;
+  hypotheses = s.hyps.all;
   queue = s.queue.items;
   chain = plain_term_chain s.chain;
   steps = plain_term_steps s.steps.items;

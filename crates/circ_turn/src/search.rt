@@ -55,7 +55,7 @@ impl<'a> Search<'a> {
         normal_goals_are_ready();
         what_comes_reaches();
         turns_end();
-        let mut rules = BlockRules::of(self.alloc, self.theory, state.earlier.as_slice())?;
+        let mut rules = BlockRules::new(self.alloc, self.theory)?;
         loop {
             match self.turn(&mut rules, state) {
                 Ok(true) => {}
@@ -68,12 +68,12 @@ impl<'a> Search<'a> {
     // One turn: the first goal of the queue is looked at, or, where there is none, the block is
     // finished. False where every goal is done.
     fn turn(&self, rules: &mut BlockRules<'a>, state: &mut State<'_>) -> Result<bool, End>
-        requires rules { IsRulesOf self.now.theory.now state.old.earlier.items rules.old }
+        requires rules { IsRulesOf self.now.theory.now state.old.hyps.earlier rules.old }
         requires small { IsSmall (standing state.old) }
         requires ready { (g : TheGoal) (rest : List TheGoal) (n : Sides)
             → state.old.queue.items ≡ g ∷ rest
             → normal_sides self.now.theory.now
-            (block_rules self.now.theory.now state.old.earlier.items) []
+            (block_rules self.now.theory.now state.old.hyps.earlier) []
             g.left g.right state.old.budget ≡ Ok n
             → IsReady self.now.theory.now (goal n.left n.right) }
         requires next { (y : Standing) → turn self.now.theory.now self.now.gamma.now
@@ -81,7 +81,7 @@ impl<'a> Search<'a> {
         ensures exact { GoesOrDone (turn self.now.theory.now self.now.gamma.now
             (plain_limits self.now.limits) (standing state.old)) (standing state.new) result }
         ensures rules { IfOk result (λ b. OnTrue b
-            (IsRulesOf self.now.theory.now state.new.earlier.items rules.new)) }
+            (IsRulesOf self.now.theory.now state.new.hyps.earlier rules.new)) }
     {
         match state.queue.front() {
             Some(_) => match self.goal_turn(rules, state) {
@@ -90,7 +90,7 @@ impl<'a> Search<'a> {
             },
             None => match self.done_turn(state) {
                 Ok(true) => {
-                    *rules = BlockRules::of(self.alloc, self.theory, state.earlier.as_slice())?;
+                    rules.next_block(self.alloc, self.theory, state.hyps.earlier())?;
                     Ok(true)
                 }
                 Ok(false) => Ok(false),

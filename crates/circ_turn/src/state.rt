@@ -22,13 +22,11 @@ use std::mem;
 pub struct State<'a> {
     /// The blocks that are finished.
     pub finished: Vec<TermBlock>,
-    /// Their goals.
-    pub earlier: Vec<Goal>,
     /// The goals of this block.
     pub goals: Vec<Goal>,
     /// Those of the blocks to come.
     pub later: &'a [Vec<Goal>],
-    /// The hypotheses.
+    /// The hypotheses, the goals of the finished blocks among them.
     pub hyps: Hypotheses,
     /// The goals that are left.
     pub queue: VecDeque<Goal>,
@@ -60,7 +58,6 @@ impl<'a> State<'a> {
     {
         let mut state = State {
             finished: Vec::new(alloc),
-            earlier: Vec::new(alloc),
             goals: Vec::new(alloc),
             later: &[],
             hyps: Hypotheses::new(alloc),
@@ -116,7 +113,7 @@ impl<'a> State<'a> {
     pub(crate) fn next_goal(&mut self, alloc: Global)
         requires { self.old.taken ≤ 100000 }
         ensures { standing self.new
-            ≡ next_goal self.old.hyps (drop 1 self.old.queue.items) (standing self.old) }
+            ≡ next_goal self.old.hyps.all (drop 1 self.old.queue.items) (standing self.old) }
     {
         let _hand = self.queue.pop_front();
         self.chain = no_links(alloc);

@@ -14,10 +14,10 @@ use crate::end::End;
 use crate::search::Search;
 use crate::state::{State, share_queue};
 use circ_block::{derivatives_on, is_deep_step};
-use circ_join::{Hypotheses, Stop};
+use circ_join::Stop;
 use circ_numbering::TermBlock;
 use circ_record::{TermChain, TermStep, TermWhy};
-use circ_rewrite::{share_goals, share_goals_to};
+use circ_rewrite::share_goals;
 use circ_theory::Goal;
 use std::alloc::AllocError;
 use std::collections::VecDeque;
@@ -111,7 +111,7 @@ impl Search<'_> {
         requires finished { length state.old.finished.items ≤ 100000 }
         requires taken { state.old.taken ≤ 100000 }
         requires derives { state.old.derives ≤ 100000 }
-        requires hyps { length state.old.hyps ≤ 100000 }
+        requires hyps { length state.old.hyps.all ≤ 100000 }
         ensures { GoesTo (hidden_turn self.now.theory.now (plain_limits self.now.limits)
             (standing state.old) goal.now (drop 1 state.old.queue.items))
             (standing state.new) result }
@@ -144,7 +144,7 @@ impl Search<'_> {
         requires finished { length state.old.finished.items ≤ 100000 }
         requires taken { state.old.taken ≤ 100000 }
         requires derives { state.old.derives ≤ 100000 }
-        requires hyps { length state.old.hyps ≤ 100000 }
+        requires hyps { length state.old.hyps.all ≤ 100000 }
         ensures { GoesTo (derive_turn self.now.theory.now (plain_limits self.now.limits)
             (standing state.old) goal.now (drop 1 state.old.queue.items))
             (standing state.new) result }
@@ -173,9 +173,9 @@ impl Search<'_> {
     ) -> Result<(), AllocError>
         requires taken { state.old.taken ≤ 100000 }
         requires derives { state.old.derives ≤ 100000 }
-        requires hyps { length state.old.hyps ≤ 100000 }
+        requires hyps { length state.old.hyps.all ≤ 100000 }
         ensures { OnOk result (standing state.new
-            ≡ next_goal (state.old.hyps ++ goal.now ∷ [])
+            ≡ next_goal (state.old.hyps.all ++ goal.now ∷ [])
             (drop 1 state.old.queue.items ++ derived.items)
             (record (standing state.old) { derives = state.old.derives + 1 })) }
     {
@@ -199,11 +199,13 @@ impl Search<'_> {
             Err(end) => return Err(end),
             Ok(()) => {}
         }
-        self.finish(state)?;
         match state.later.split_first() {
-            None => Ok(false),
+            None => {
+                self.finish(state)?;
+                Ok(false)
+            }
             Some((block, later)) => {
-                self.begin(state, block.as_slice())?;
+                self.next_block(state, block.as_slice())?;
                 state.later = later;
                 Ok(true)
             }
@@ -214,30 +216,32 @@ impl Search<'_> {
     fn finish(&self, state: &mut State<'_>) -> Result<(), AllocError>
         ensures { OnOk result (standing state.new ≡ record (standing state.old) {
           finished = with_this (standing state.old);
-          earlier = state.old.earlier.items ++ state.old.goals.items;
           goals = [];
           steps = [];
         }) }
     {
-        share_goals_to(&mut state.earlier, state.goals.as_slice())?;
         let goals = mem::replace(&mut state.goals, Vec::new(self.alloc));
         let steps = mem::replace(&mut state.steps, Vec::new(self.alloc));
         state.finished.push(TermBlock { goals, steps })?;
         Ok(())
     }
 
-    // A block with these goals begins.
-    fn begin(&self, state: &mut State<'_>, block: &[Goal]) -> Result<(), AllocError>
-        requires few { length state.old.earlier.items ≤ 100000 }
+    // The block is finished, and one with these goals begins.
+    fn next_block(&self, state: &mut State<'_>, block: &[Goal]) -> Result<(), AllocError>
+        requires few { length state.old.hyps.earlier + length state.old.goals.items ≤ 100000 }
         ensures { OnOk result (standing state.new ≡ record (standing state.old) {
-          hypotheses = state.old.earlier.items;
+          finished = with_this (standing state.old);
+          earlier = state.old.hyps.earlier ++ state.old.goals.items;
           goals = block.now;
+          hypotheses = state.old.hyps.earlier ++ state.old.goals.items;
           queue = block.now;
           chain = no_links;
+          steps = [];
           taken = 0;
         }) }
     {
-        state.hyps = Hypotheses::of(self.alloc, state.earlier.as_slice())?;
+        state.hyps.finish_block(state.goals.as_slice())?;
+        self.finish(state)?;
         state.goals = share_goals(self.alloc, block)?;
         state.queue = share_queue(self.alloc, block)?;
         let _chain = state.take_chain(self.alloc);

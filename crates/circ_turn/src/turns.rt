@@ -33,19 +33,19 @@ impl Search<'_> {
         rules: &mut BlockRules<'_>,
         state: &mut State<'_>,
     ) -> Result<(), End>
-        requires rules { IsRulesOf self.now.theory.now state.old.earlier.items rules.old }
+        requires rules { IsRulesOf self.now.theory.now state.old.hyps.earlier rules.old }
         requires small { IsSmall (standing state.old) }
         requires ready { (g : TheGoal) (rest : List TheGoal) (n : TheSides)
             → state.old.queue.items ≡ g ∷ rest
             → normal_sides self.now.theory.now
-            (block_rules self.now.theory.now state.old.earlier.items) []
+            (block_rules self.now.theory.now state.old.hyps.earlier) []
             g.left g.right state.old.budget ≡ Ok n
             → IsReady self.now.theory.now (goal n.left n.right) }
         ensures exact { (g : TheGoal) (rest : List TheGoal) → state.old.queue.items ≡ g ∷ rest
             → GoesTo (goal_turn self.now.theory.now self.now.gamma.now
             (plain_limits self.now.limits) (standing state.old) g rest)
             (standing state.new) result }
-        ensures rules { IsRulesOf self.now.theory.now state.old.earlier.items rules.new }
+        ensures rules { IsRulesOf self.now.theory.now state.old.hyps.earlier rules.new }
     {
         let Some(hand) = state.queue.front() else {
             return Ok(());
@@ -77,14 +77,14 @@ impl Search<'_> {
         state: &mut State<'_>,
         goal: &Goal,
     ) -> Result<(), End>
-        requires rules { IsRulesOf self.now.theory.now state.old.earlier.items rules.old }
+        requires rules { IsRulesOf self.now.theory.now state.old.hyps.earlier rules.old }
         requires some { 0 < length state.old.queue.items }
         requires small { IsSmall (standing state.old) }
         requires ready { IsReady self.now.theory.now goal.now }
         ensures exact { GoesTo (sides_turn self.now.theory.now self.now.gamma.now
             (plain_limits self.now.limits) (standing state.old) goal.now
             (drop 1 state.old.queue.items)) (standing state.new) result }
-        ensures rules { IsRulesOf self.now.theory.now state.old.earlier.items rules.new }
+        ensures rules { IsRulesOf self.now.theory.now state.old.hyps.earlier rules.new }
     {
         let joining = Joining {
             alloc: self.alloc,
@@ -127,14 +127,14 @@ impl Search<'_> {
         state: &mut State<'_>,
         goal: &Goal,
     ) -> Result<(), End>
-        requires rules { IsRulesOf self.now.theory.now state.old.earlier.items rules.old }
+        requires rules { IsRulesOf self.now.theory.now state.old.hyps.earlier rules.old }
         requires some { 0 < length state.old.queue.items }
         requires small { IsSmall (standing state.old) }
         requires ready { IsReady self.now.theory.now goal.now }
         ensures exact { GoesTo (pass_turn self.now.theory.now self.now.gamma.now
             (plain_limits self.now.limits) (standing state.old) goal.now
             (drop 1 state.old.queue.items)) (standing state.new) result }
-        ensures rules { IsRulesOf self.now.theory.now state.old.earlier.items rules.new }
+        ensures rules { IsRulesOf self.now.theory.now state.old.hyps.earlier rules.new }
     {
         let mut budget = state.budget;
         match self.swept_sides(&rules.lemmas, goal, &mut budget) {
@@ -183,13 +183,13 @@ impl Search<'_> {
         state: &mut State<'_>,
         goal: &Goal,
     ) -> Result<(), End>
-        requires rules { IsRulesOf self.now.theory.now state.old.earlier.items rules.old }
+        requires rules { IsRulesOf self.now.theory.now state.old.hyps.earlier rules.old }
         requires small { IsSmall (standing state.old) }
         requires ready { IsReady self.now.theory.now goal.now }
         ensures exact { GoesTo (open_turn self.now.theory.now
             (plain_limits self.now.limits) (standing state.old) goal.now
             (drop 1 state.old.queue.items)) (standing state.new) result }
-        ensures rules { IsRulesOf self.now.theory.now state.old.earlier.items rules.new }
+        ensures rules { IsRulesOf self.now.theory.now state.old.hyps.earlier rules.new }
     {
         if self.theory.is_hidden(goal.left.sort()) {
             self.hidden_turn(state, goal)
@@ -205,12 +205,12 @@ impl Search<'_> {
         state: &mut State<'_>,
         goal: &Goal,
     ) -> Result<(), End>
-        requires rules { IsRulesOf self.now.theory.now state.old.earlier.items rules.old }
+        requires rules { IsRulesOf self.now.theory.now state.old.hyps.earlier rules.old }
         requires small { IsSmall (standing state.old) }
         ensures exact { GoesTo (visible_turn self.now.theory.now
             (plain_limits self.now.limits) (standing state.old) goal.now
             (drop 1 state.old.queue.items)) (standing state.new) result }
-        ensures rules { IsRulesOf self.now.theory.now state.old.earlier.items rules.new }
+        ensures rules { IsRulesOf self.now.theory.now state.old.hyps.earlier rules.new }
     {
         let splitting = Splitting {
             alloc: self.alloc,

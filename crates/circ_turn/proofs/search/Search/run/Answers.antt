@@ -1,12 +1,19 @@
-use Rattle.std.proofs.Common.{subst}
+use Rattle.std.proofs.Common.{◌≡◌, List, [], ap, sym, ◌∙◌, subst}
+use Rattle.circ_theory.specs.declared.parts.Goal.{Goal}
 use Rattle.circ_plain_search.specs.Coming.{Comes, here, further}
 use Rattle.circ_plain_search.specs.Search.{Standing, Ending, Reaches, ends, turn, All_done}
+use Rattle.circ_block.specs.Rules.{IsRulesOf}
 use Rattle.circ_turn.specs.Standing.{standing, plain_limits}
+use Rattle.circ_turn.proofs.Earlier.{start_earlier}
 use Rattle.circ_turn.proofs.Turning.{is_end}
 use Rattle.circ_turn.proofs.search.Search.run.Goals as goal
 
 pub loop-rules-init : goal.loop-rules-init
-loop-rules-init c = record { comes = here; rules = rw c.as_slice.ensures.value at c.in_ok-rules.ensures }
+loop-rules-init c =
+    let l = plain_limits c.args.self.now.limits in
+    let none : (standing c.args.state.now).earlier ≡ [] = ap (λ x. x.earlier) c.requires.start.start ∙ start_earlier l c.requires.start.blocks in
+    let P : List Goal → Type 0 = λ E. IsRulesOf c.args.self.now.theory.now E c.in_ok-rules.rules in
+    record { comes = here; rules = subst P (sym none) c.in_ok-rules.ensures }
 
 pub turn-requires-clause-ready : goal.turn-requires-clause-ready
 turn-requires-clause-ready c = λ g rest n q e.

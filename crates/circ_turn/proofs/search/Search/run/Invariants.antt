@@ -8,7 +8,7 @@ use Rattle.circ_turn.proofs.search.Search.run.Given as goal
 abbrev pub invariant-loop-rules : goal.invariant-loop-rules
 invariant-loop-rules l = record {
   comes : Comes l.self.theory.now l.self.gamma.now (plain_limits l.self.limits) (standing l.fn.state) (standing l.state);
-  rules : IsRulesOf l.self.theory.now l.state.earlier.items l.rules;
+  rules : IsRulesOf l.self.theory.now l.state.hyps.earlier l.rules;
 }
 
 abbrev pub decreases-loop-rules : goal.decreases-loop-rules
