@@ -4,23 +4,23 @@ use Rattle.std.specs.Coded.{Coded, code_by, coded×, coded_list}
 use Rattle.circ_term.specs.Tree.{Tree}
 use Rattle.circ_theory.specs.declared.parts.Goal.{Goal}
 use Rattle.circ_theory.specs.declared.way.Way.{Way}
-use Rattle.circ_rewrite.specs.Code.{goal_code}
 use Rattle.circ_theory.specs.declared.way.Way.TheVariants.{Forth, Back}
+use Rattle.circ_rewrite.specs.Code.{goal_code}
 
 -- the goals of earlier blocks, and all hypotheses, which begin with them
-pub record Held : Type 0 where
+pub record BlockHypotheses : Type 0 where
   pub earlier : List Goal
   pub all : List Goal
 
-abbrev pub held : (earlier all : List Goal) → Held
-held E H = record { earlier = E; all = H }
+abbrev pub hypotheses_with : (earlier all : List Goal) → BlockHypotheses
+hypotheses_with E H = record { earlier = E; all = H }
 
-abbrev pub held_code : Coded Held
-held_code = code_by (List Goal × List Goal) (coded× (coded_list goal_code) (coded_list goal_code)) (λ h. (h.earlier, h.all)) (λ p. held p.0 p.1) (λ _. refl)
+abbrev pub hypotheses_code : Coded BlockHypotheses
+hypotheses_code = code_by (List Goal × List Goal) (coded× (coded_list goal_code) (coded_list goal_code)) (λ h. (h.earlier, h.all)) (λ p. hypotheses_with p.0 p.1) (λ _. refl)
 
 -- of these hypotheses so many are goals of earlier blocks
-abbrev pub held_in : (goals : List Goal) → (count : ℕ) → Held
-held_in H n = held (take n H) H
+abbrev pub hypotheses_in : (goals : List Goal) → (count : ℕ) → BlockHypotheses
+hypotheses_in H n = hypotheses_with (take n H) H
 
 -- a goal's two sides, as an index has them
 abbrev pub both_sides : Goal → Tree × Tree

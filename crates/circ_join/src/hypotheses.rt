@@ -2,7 +2,7 @@
 ghost use Rattle.std.specs.Prelude.{◌≡◌, ◌<◌, ◌+◌, ◌^◌, [], ◌∷◌, ◌++◌, length, map};
 ghost use Rattle.std.specs.Prelude.{IfOk, OnOk, OnErr};
 ghost use Rattle.circ_index.specs.Finding.{FindsFirstPair};
-ghost use Rattle.circ_join.specs.Hypotheses.{both_sides, held};
+ghost use Rattle.circ_join.specs.Hypotheses.{both_sides, hypotheses_with};
 
 use circ_index::PairIndex;
 use circ_term::{Subst, Term};
@@ -22,13 +22,14 @@ pub struct Hypotheses {
 
 impl Model for Hypotheses {
     ghost use Rattle.std.specs.Prelude.{length};
-    ghost use Rattle.circ_join.specs.Hypotheses.{Held, held_code, held_in, IsIndexed};
+    ghost use Rattle.circ_join.specs.Hypotheses.{BlockHypotheses, hypotheses_code};
+    ghost use Rattle.circ_join.specs.Hypotheses.{hypotheses_in, IsIndexed};
 
-    ghost Value = { Held };
+    ghost Value = { BlockHypotheses };
 
-    ghost coded = { held_code };
+    ghost coded = { hypotheses_code };
 
-    ghost view = { λ a. held_in a.goals.items (length a.earlier) };
+    ghost view = { λ a. hypotheses_in a.goals.items (length a.earlier) };
 
     ghost invariant = { λ a. IsIndexed a.goals.items a.earlier a.own };
 }
@@ -36,7 +37,7 @@ impl Model for Hypotheses {
 impl Hypotheses {
     /// No hypotheses.
     pub fn new(alloc: Global) -> Hypotheses
-        ensures { result ≡ held [] [] }
+        ensures { result ≡ hypotheses_with [] [] }
     {
         Hypotheses {
             alloc,
@@ -50,26 +51,17 @@ impl Hypotheses {
     pub fn push(&mut self, goal: &Goal) -> Result<(), AllocError>
         requires few { length self.old.all + 1 < 2 ^ 31 }
         ensures added { OnOk result
-            (self.new ≡ held self.old.earlier (self.old.all ++ goal.now ∷ [])) }
+            (self.new ≡ hypotheses_with self.old.earlier (self.old.all ++ goal.now ∷ [])) }
         ensures err { OnErr result (self.new ≡ self.old) }
     {
-        let left = goal.left.share()?;
-        let right = goal.right.share()?;
-        self.goals.push(Goal { left, right })?;
-        match self.own.add(&goal.left, &goal.right) {
-            Ok(()) => Ok(()),
-            Err(fault) => {
-                let _last = self.goals.pop();
-                Err(fault)
-            }
-        }
+        push_indexed(&mut self.goals, &mut self.own, goal)
     }
 
     /// The block is finished: its own hypotheses go, and these goals, which are its own, come
     /// behind those of earlier blocks. After want of memory some of them may be missing.
     pub fn finish_block(&mut self, goals: &[Goal]) -> Result<(), AllocError>
         requires few { length self.old.earlier + length goals.now < 2 ^ 31 }
-        ensures { OnOk result (self.new ≡ held (self.old.earlier ++ goals.now)
+        ensures { OnOk result (self.new ≡ hypotheses_with (self.old.earlier ++ goals.now)
             (self.old.earlier ++ goals.now)) }
     {
         self.forget_own();
@@ -81,7 +73,7 @@ impl Hypotheses {
 
     // The hypotheses of the block itself go.
     fn forget_own(&mut self)
-        ensures { self.new ≡ held self.old.earlier self.old.earlier }
+        ensures { self.new ≡ hypotheses_with self.old.earlier self.old.earlier }
     {
         self.goals.truncate(self.earlier.len());
         self.own = PairIndex::new(self.alloc);
@@ -91,19 +83,10 @@ impl Hypotheses {
     fn push_earlier(&mut self, goal: &Goal) -> Result<(), AllocError>
         requires none { self.old.all ≡ self.old.earlier }
         requires few { length self.old.earlier + 1 < 2 ^ 31 }
-        ensures { OnOk result (self.new ≡ held (self.old.earlier ++ goal.now ∷ [])
+        ensures { OnOk result (self.new ≡ hypotheses_with (self.old.earlier ++ goal.now ∷ [])
             (self.old.earlier ++ goal.now ∷ [])) }
     {
-        let left = goal.left.share()?;
-        let right = goal.right.share()?;
-        self.goals.push(Goal { left, right })?;
-        match self.earlier.add(&goal.left, &goal.right) {
-            Ok(()) => Ok(()),
-            Err(fault) => {
-                let _last = self.goals.pop();
-                Err(fault)
-            }
-        }
+        push_indexed(&mut self.goals, &mut self.earlier, goal)
     }
 
     /// The hypotheses, in their order.
@@ -134,6 +117,26 @@ impl Hypotheses {
                 }
                 None => Ok(None),
             },
+        }
+    }
+}
+
+// Puts a goal last, and its sides last in the index. After want of memory both are as before.
+fn push_indexed(goals: &mut Vec<Goal>, index: &mut PairIndex, goal: &Goal) -> Result<(), AllocError>
+    requires few { length index.old + 1 < 2 ^ 31 }
+    ensures goals { OnOk result (goals.new.items ≡ goals.old.items ++ goal.now ∷ []) }
+    ensures index { OnOk result (index.new ≡ index.old ++ both_sides goal.now ∷ []) }
+    ensures same_goals { OnErr result (goals.new.items ≡ goals.old.items) }
+    ensures same_index { OnErr result (index.new ≡ index.old) }
+{
+    let left = goal.left.share()?;
+    let right = goal.right.share()?;
+    goals.push(Goal { left, right })?;
+    match index.add(&goal.left, &goal.right) {
+        Ok(()) => Ok(()),
+        Err(fault) => {
+            let _last = goals.pop();
+            Err(fault)
         }
     }
 }
