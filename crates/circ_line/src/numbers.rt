@@ -44,7 +44,7 @@ fn digits_at(start: u64, bytes: &[u8]) -> Option<(u64, &[u8])>
     let mut rest = bytes;
     while let [b, more @ ..] = rest {
         if !b.is_ascii_digit() {
-            break;
+            return Some((number, rest));
         }
         number = 10 * number + (*b - b'0') as u64;
         if number >= NUMBERS {

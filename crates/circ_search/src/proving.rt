@@ -18,11 +18,15 @@ use circ_numbering::{NumberFault, numbered};
 use circ_plain_search::laws::proved_is_accepted;
 use circ_proof::Proof;
 use circ_record::{TermLink, term_links};
+use circ_replay::MOST_TERMS;
 use circ_rewrite::Trace;
 use circ_special::Gamma;
 use circ_theory::{Goal, Theory};
 use circ_turn::{End, Limits, Search, State};
 use std::alloc::{AllocError, Global};
+
+// How many terms a table has that has one too many.
+const LONG_TABLE_TERMS: u64 = MOST_TERMS as u64 + 1;
 
 /// Searches a proof of the blocks of goals, each with the goals of those before it as lemmas,
 /// within the limits.
@@ -121,7 +125,9 @@ fn found(
 {
     match needed_proof(alloc, theory, gamma, traces, state) {
         Ok(proof) => Ok(Found::Proved { proof }),
-        Err(NumberFault::LongTable) => Ok(Found::LongTable { terms: 16_777_217 }),
+        Err(NumberFault::LongTable) => Ok(Found::LongTable {
+            terms: LONG_TABLE_TERMS,
+        }),
         Err(NumberFault::Memory) => Err(AllocError),
     }
 }
