@@ -1,10 +1,16 @@
 -- Lists that are read from the left, one item more.
-use Rattle.std.proofs.Common.{◌≡◌, ◌<◌, ◌+◌, ◌++◌, ℕ, zero, suc, List, [], ◌∷◌, length, map, get_or, drop, append_assoc, sym, subst, arith}
+use Rattle.std.proofs.Common.{◌≡◌, ◌<◌, ◌+◌, ◌++◌, ℕ, zero, suc, List, [], ◌∷◌, length, map, get_or, drop, Bool, true, false, nat_eq, append_assoc, refl, ap, sym, ◌∙◌, subst, arith}
 use Rattle.std.proofs.lemmas.List.{drop_more}
+use Rattle.std.specs.Prelude.{if◌then◌else◌}
+use Rattle.std.specs.Cmp.Lexicographic.{pointwise}
+use Rattle.circ_term.proofs.Within.{drop_read}
 use Rattle.circ_chart.specs.declared.grammar.Rule.{Rule}
 use Rattle.circ_chart.specs.declared.grammar.Symbol as chart_symbol
+use Rattle.circ_chart.specs.declared.grammar.Variable as chart_variable
 use Rattle.circ_theory.specs.Signature.{Signature}
 use Rattle.circ_mixfix.specs.Symbols.{Symbol}
+use Rattle.circ_mixfix.specs.Answers.{declared_by}
+use Rattle.circ_mixfix.specs.Variables.{variables_named}
 use Rattle.circ_mixfix.specs.Coding.{IsSymbol, AreSymbols, HaveNumbers, AreBelow, AddsRule, AddsRules}
 
 pub next_symbol : {X : Type 0} (g : X → Symbol) (ws : List (List ℕ)) (xs : List X) (i : ℕ) (d : X) (c : chart_symbol.Symbol) (out new : List chart_symbol.Symbol)
@@ -31,3 +37,24 @@ pub next_rules : (sig : Signature) (ws : List (List ℕ)) (fs : List ℕ) (i d :
     → (new : List Rule) → AddsRules sig ws (drop (i + 1) fs) mid new → AddsRules sig ws fs first new
 next_rules sig ws fs i d first old mid within one all new rest =
     let P : List ℕ → Type 0 = λ gs. AddsRules sig ws gs old new in all new (subst P (sym (drop_more fs i d within)) (mid, one, rest))
+
+named_split : (v : List ℕ × ℕ) (vs : List (List ℕ × ℕ)) (k : ℕ) (w : List ℕ)
+    → variables_named (declared_by (v ∷ vs)) k w ≡ variables_named (declared_by (v ∷ [])) k w ++ variables_named (declared_by vs) k w
+named_split v vs k w = go (pointwise nat_eq v.0 w)
+  where
+    x : chart_variable.Variable
+    x = record { word = k; number = k; sort = v.1 }
+
+    go : (b : Bool) → (if b then x ∷ variables_named (declared_by vs) k w else variables_named (declared_by vs) k w)
+        ≡ (if b then x ∷ [] else []) ++ variables_named (declared_by vs) k w
+    go true = refl
+    go false = refl
+
+pub next_named : (vs : List (List ℕ × ℕ)) (i : ℕ) (v : List ℕ × ℕ) (k : ℕ) (w : List ℕ) (first out new : List chart_variable.Variable) → i < length vs → v ≡ get_or vs i v
+    → new ≡ out ++ variables_named (declared_by (v ∷ [])) k w → out ++ variables_named (declared_by (drop i vs)) k w ≡ first
+    → new ++ variables_named (declared_by (drop (i + 1) vs)) k w ≡ first
+next_named vs i v k w first out new within read made all =
+    let rest = variables_named (declared_by (drop (i + 1) vs)) k w in
+    ap (λ xs. xs ++ rest) made ∙ append_assoc out (variables_named (declared_by (v ∷ [])) k w) rest
+    ∙ ap (λ xs. out ++ xs) (sym (named_split v (drop (i + 1) vs) k w))
+    ∙ ap (λ us. out ++ variables_named (declared_by us) k w) (sym (drop_read vs i v within read)) ∙ all

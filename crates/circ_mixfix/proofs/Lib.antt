@@ -15,7 +15,6 @@ pub mod NumberNames
 pub mod Kept
 pub mod Telling
 pub mod WellSorted
-pub mod TakenBack
 pub mod Cut
 pub mod FormWords
 pub mod FromLeft

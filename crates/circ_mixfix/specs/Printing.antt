@@ -1,5 +1,5 @@
 -- Terms as they are printed.
-use Rattle.std.specs.Prelude.{◌≡◌, ℕ, List, [], ◌∷◌, ◌++◌, Bool, false, Option, Some, None, codes, decimal, unwrap_or, ◌==◌, ◌&&◌, if◌then◌else◌}
+use Rattle.std.specs.Prelude.{ℕ, List, [], ◌∷◌, ◌++◌, Bool, false, Option, Some, None, codes, decimal, unwrap_or, ◌==◌, ◌&&◌, if◌then◌else◌}
 use Rattle.std.specs.List.{slice_get}
 use Rattle.circ_term.specs.Tree.{Tree, Trees, Var, App, none, more}
 use Rattle.circ_theory.specs.Signature.{Signature, Operator}
@@ -64,12 +64,3 @@ abbrev mutual
 
 abbrev pub text_of_pair : Signature → Pair → List ℕ
 text_of_pair sig p = text_of_term sig false p.left ++ codes " = " ++ text_of_term sig false p.right
-
--- the text begins with this one
-pub record Extends (front text : List ℕ) : Type 0 where
-  pub rest : List ℕ
-  pub is : text ≡ front ++ rest
-
--- what the old text begins with, the new one begins with
-abbrev pub Keeps : List ℕ → List ℕ → Type 0
-Keeps old new = (front : List ℕ) → Extends front old → Extends front new

@@ -9,7 +9,7 @@ ghost use Rattle.circ_mixfix.specs.Printed.{IsPrintable, IsSpelling, IsPairSpell
 ghost use Rattle.circ_mixfix.specs.Printing.{further, joined, piece_text, left_behind, filled};
 ghost use Rattle.circ_mixfix.specs.Printing.{arguments_text, application_text, operator_text};
 ghost use Rattle.circ_mixfix.specs.Printing.{printed_name, text_of_term, texts_of_terms};
-ghost use Rattle.circ_mixfix.specs.Printing.{text_of_pair, Keeps};
+ghost use Rattle.circ_mixfix.specs.Printing.{text_of_pair};
 
 use circ_term::{Kind, Term};
 use circ_theory::{OpDecl, Piece, Theory};
@@ -18,14 +18,12 @@ use std::alloc::{AllocError, Global};
 
 fn put(out: &mut Vec<u8>, text: &[u8]) -> Result<(), AllocError>
     ensures text { OnOk result (out.new.items ≡ out.old.items ++ text.now) }
-    ensures keeps { Keeps out.old.items out.new.items }
 {
     out.extend_from_slice(text)
 }
 
 fn put_number(out: &mut Vec<u8>, number: u32) -> Result<(), AllocError>
     ensures text { OnOk result (out.new.items ≡ out.old.items ++ decimal number) }
-    ensures keeps { Keeps out.old.items out.new.items }
 {
     let mut buffer = Buffer::new();
     put(out, buffer.format(number).as_bytes())
@@ -33,7 +31,6 @@ fn put_number(out: &mut Vec<u8>, number: u32) -> Result<(), AllocError>
 
 fn put_name(out: &mut Vec<u8>, hole: bool, number: u32) -> Result<(), AllocError>
     ensures text { OnOk result (out.new.items ≡ out.old.items ++ printed_name hole number) }
-    ensures keeps { Keeps out.old.items out.new.items }
 {
     if hole && number == 0 {
         return put(out, b"*");
@@ -52,7 +49,6 @@ fn put_variable(
     ensures text { OnOk result (out.new.items ≡ out.old.items ++
         (printed_name hole number ++ codes ":" ++ unwrap_or
         (slice_get theory.now.signature.sorts sort) [])) }
-    ensures keeps { Keeps out.old.items out.new.items }
 {
     put_name(out, hole, number)?;
     put(out, b":")?;
@@ -66,7 +62,6 @@ fn put_variable(
 fn put_term(out: &mut Vec<u8>, theory: &Theory, hole: bool, term: &Term) -> Result<(), AllocError>
     ensures text { OnOk result (out.new.items ≡ out.old.items ++ text_of_term theory.now.signature
         hole term.now) }
-    ensures keeps { Keeps out.old.items out.new.items }
 {
     match term.kind() {
         Kind::Variable { number, sort } => put_variable(out, theory, hole, number, sort),
@@ -87,7 +82,6 @@ fn put_application(
 ) -> Result<(), AllocError>
     ensures text { OnOk result (out.new.items ≡ out.old.items ++ application_text
         (operator_of decl.now) (texts_of_terms theory.now.signature hole (trees_of args.now))) }
-    ensures keeps { Keeps out.old.items out.new.items }
 {
     let pieces = decl.form.pieces();
     if decl.form.has_hole() {
@@ -110,7 +104,6 @@ fn put_pieces(
 ) -> Result<(), AllocError>
     ensures text { OnOk result (out.new.items ≡ out.old.items ++ joined (codes " ")
         (filled pieces.now (texts_of_terms theory.now.signature hole (trees_of args.now)))) }
-    ensures keeps { Keeps out.old.items out.new.items }
 {
     let Some((first, others)) = pieces.split_first() else {
         return Ok(());
@@ -129,7 +122,6 @@ fn put_further_pieces(
 ) -> Result<(), AllocError>
     ensures text { OnOk result (out.new.items ≡ out.old.items ++ further (codes " ")
         (filled pieces.now (texts_of_terms theory.now.signature hole (trees_of args.now)))) }
-    ensures keeps { Keeps out.old.items out.new.items }
 {
     let mut rest = args;
     for piece in pieces {
@@ -154,7 +146,6 @@ fn put_piece<'a>(
         left_behind piece.now (texts_of_terms theory.now.signature hole (trees_of args.now))) }
     ensures shallow { IfOk result (λ r. depths_of (trees_of r.now) ≤ depths_of
         (trees_of args.now)) }
-    ensures keeps { Keeps out.old.items out.new.items }
 {
     match piece {
         Piece::Word(word) => {
@@ -180,7 +171,6 @@ fn put_arguments(
 ) -> Result<(), AllocError>
     ensures text { OnOk result (out.new.items ≡ out.old.items ++ arguments_text
         (texts_of_terms theory.now.signature hole (trees_of args.now))) }
-    ensures keeps { Keeps out.old.items out.new.items }
 {
     let Some((first, others)) = args.split_first() else {
         return Ok(());
@@ -200,7 +190,6 @@ fn put_further_arguments(
 ) -> Result<(), AllocError>
     ensures text { OnOk result (out.new.items ≡ out.old.items ++ further (codes ", ")
         (texts_of_terms theory.now.signature hole (trees_of args.now))) }
-    ensures keeps { Keeps out.old.items out.new.items }
 {
     for arg in args {
         put(out, b", ")?;
@@ -212,30 +201,32 @@ fn put_further_arguments(
 fn put_pair(out: &mut Vec<u8>, theory: &Theory, left: &Term, right: &Term) -> Result<(), AllocError>
     ensures text { OnOk result (out.new.items ≡ out.old.items ++ text_of_pair theory.now.signature
         (record { left = left.now; right = right.now })) }
-    ensures keeps { Keeps out.old.items out.new.items }
 {
     put_term(out, theory, false, left)?;
     put(out, b" = ")?;
     put_term(out, theory, false, right)
 }
 
-// The text of a term, with a hole where it is a derivative's.
-fn print_as(theory: &Theory, hole: bool, term: &Term, out: &mut Vec<u8>) -> Result<(), AllocError>
+// Appends the text of a term, with a hole where it is a derivative's. The text is made first, so
+// that nothing is appended where memory runs out.
+fn print_as(
+    alloc: Global,
+    theory: &Theory,
+    hole: bool,
+    term: &Term,
+    out: &mut Vec<u8>,
+) -> Result<(), AllocError>
     ensures text { OnOk result (out.new.items ≡ out.old.items ++ text_of_term theory.now.signature
         hole term.now) }
     ensures err { OnErr result (out.new.items ≡ out.old.items) }
 {
-    let before = out.len();
-    match put_term(out, theory, hole, term) {
-        Ok(()) => Ok(()),
-        Err(fault) => {
-            out.truncate(before);
-            Err(fault)
-        }
-    }
+    let mut text = Vec::new(alloc);
+    put_term(&mut text, theory, hole, term)?;
+    out.extend_from_slice(&text)
 }
 
 fn print_sides(
+    alloc: Global,
     theory: &Theory,
     left: &Term,
     right: &Term,
@@ -245,14 +236,9 @@ fn print_sides(
         (record { left = left.now; right = right.now })) }
     ensures err { OnErr result (out.new.items ≡ out.old.items) }
 {
-    let start = out.len();
-    match put_pair(out, theory, left, right) {
-        Ok(()) => Ok(()),
-        Err(fault) => {
-            out.truncate(start);
-            Err(fault)
-        }
-    }
+    let mut text = Vec::new(alloc);
+    put_pair(&mut text, theory, left, right)?;
+    out.extend_from_slice(&text)
 }
 
 /// Appends the text of a term. A variable of number n and sort X is `Vn:X`. An operator without
@@ -260,7 +246,7 @@ fn print_sides(
 /// operator with holes is its pieces joined by one space, with the arguments in the holes, in
 /// parentheses. After want of memory the bytes are as before.
 pub fn print(
-    _alloc: Global,
+    alloc: Global,
     theory: &Theory,
     term: &Term,
     out: &mut Vec<u8>,
@@ -272,13 +258,13 @@ pub fn print(
         IsWellSorted theory.now.signature term.now → IsSpelling theory.now.signature false term.now }
 {
     theory.known();
-    print_as(theory, false, term, out)
+    print_as(alloc, theory, false, term, out)
 }
 
 /// Appends the text of a derivative's term, as `print` does of a term, but with `*:X` for the hole,
 /// which is variable 0.
 pub fn print_derivative(
-    _alloc: Global,
+    alloc: Global,
     theory: &Theory,
     term: &Term,
     out: &mut Vec<u8>,
@@ -290,13 +276,13 @@ pub fn print_derivative(
         IsWellSorted theory.now.signature term.now → IsSpelling theory.now.signature true term.now }
 {
     theory.known();
-    print_as(theory, true, term, out)
+    print_as(alloc, theory, true, term, out)
 }
 
 /// Appends the text of a pair: the texts of its sides, joined by ` = `. After want of memory the
 /// bytes are as before.
 pub fn print_pair(
-    _alloc: Global,
+    alloc: Global,
     theory: &Theory,
     left: &Term,
     right: &Term,
@@ -311,5 +297,5 @@ pub fn print_pair(
         IsPairSpelling theory.now.signature (record { left = left.now; right = right.now }) }
 {
     theory.known();
-    print_sides(theory, left, right, out)
+    print_sides(alloc, theory, left, right, out)
 }

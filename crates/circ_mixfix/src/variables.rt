@@ -1,6 +1,6 @@
 //! Variables of the chart, for the tokens that are variables.
 ghost use Rattle.std.specs.Prelude.{◌≡◌, ◌↔◌, ◌⊎◌, ◌≤◌, ◌<◌, ◌+◌, ◌++◌, ◌∷◌, ◌^◌, ◌==◌, length};
-ghost use Rattle.std.specs.Prelude.{codes, IsTrue, IfOk, OnOk, Some};
+ghost use Rattle.std.specs.Prelude.{[], codes, IsTrue, IfOk, OnOk, Some};
 ghost use Rattle.std.specs.List.{slice_get, list_any};
 ghost use Rattle.std.specs.Option.{option_map};
 ghost use Rattle.circ_mixfix.specs.Answers.{declared_by};
@@ -32,6 +32,27 @@ pub struct Scope<'a> {
     pub hole: bool,
 }
 
+// Adds a variable for a declared one, if that has this name.
+fn push_one(
+    out: &mut Vec<Variable>,
+    var: &(Text, u32),
+    word: u32,
+    name: &[u8],
+) -> Result<(), AllocError>
+    ensures { OnOk result (out.new.items ≡ out.old.items ++ variables_named
+        (declared_by (var.now ∷ [])) word name.now) }
+{
+    if var.0.bytes() != name {
+        return Ok(());
+    }
+    out.push(Variable {
+        word,
+        number: word,
+        sort: var.1,
+    })?;
+    Ok(())
+}
+
 // Adds a variable for each declared one of this name.
 fn push_listed(
     out: &mut Vec<Variable>,
@@ -43,13 +64,7 @@ fn push_listed(
         word name.now) }
 {
     for var in vars {
-        if var.0.bytes() == name {
-            out.push(Variable {
-                word,
-                number: word,
-                sort: var.1,
-            })?;
-        }
+        push_one(out, var, word, name)?;
     }
     Ok(())
 }

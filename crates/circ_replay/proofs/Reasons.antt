@@ -1,8 +1,11 @@
 -- When a goal holds by a recorded reason.
 use Rattle.std.proofs.Common.{◌≡◌, ◌↔◌, ◌<◌, ◌≤◌, ◌+◌, max, IsTrue, ℕ, Bool, List, [], ◌∷◌, length, drop, get_or, zero, suc}
 use Rattle.std.proofs.Common.{Some, None, Result, Ok, Err, IfOk, refl, ap, sym, subst, ◌∙◌, arith}
+use Rattle.std.proofs.lemmas.List.{drop_more}
 use Rattle.circ_term.specs.Tree.{Tree, sort_of}
+use Rattle.circ_term.proofs.Within.{drop_read}
 use Rattle.circ_theory.specs.Theory.{Pair, pair_with, CaseList}
+use Rattle.circ_theory.specs.Derivable.{is_case}
 use Rattle.circ_theory.specs.Observing.{cases_of, case_list}
 use Rattle.circ_theory.specs.Rewriting.{named}
 use Rattle.circ_theory.specs.WellFormed.{IsWellFormed}
@@ -10,7 +13,7 @@ use Rattle.circ_theory.specs.declared.parts.Goal.{Goal}
 use Rattle.circ_proof.specs.declared.links.Why.{Why}
 use Rattle.circ_proof.specs.Plain.{ChainOf, WhyOf, WhysOf, Same_why, Split_why, no_why, more_whys, map_whys, plain_why, plain_whys}
 use Rattle.circ_proof.specs.Goals.{sides}
-use Rattle.circ_proof.specs.Link.{Setting, Leads}
+use Rattle.circ_proof.specs.Link.{Setting, assuming, Leads, resolved_why}
 use Rattle.circ_proof.specs.Justified.{Justified, EachJustified, ChainLeads, AllOfWhy, AllOfWhys}
 use Rattle.circ_proof.proofs.Leading.{one_chain}
 use Rattle.circ_proof.proofs.Cases.{cases_listed, listed_cases, no_cases}
@@ -64,6 +67,18 @@ each_counted c q u l (k ∷ ks) f (w ∷ ws) r = ap suc (each_counted c q u l ks
 -- each case from one on has its reason
 abbrev pub EachFrom : Setting → Goal → (term : Tree) → (constants : List ℕ) → (table : List Tree) → List Why → ℕ → Type 0
 EachFrom c g u ks table ws i = EachJustified c (sides g) u (case_list (sort_of u) ks) (drop i ks) (map_whys (named table) (plain_whys (drop i ws)))
+
+-- those from one case on are that case's and those from the next one on
+pub each_parts : (c : Setting) (g : Goal) (u : Tree) (ks : List ℕ) (table : List Tree) (ws : List Why) (i : ℕ) (w : Why) → i < length ks → i < length ws → w ≡ get_or ws i w
+    → EachFrom c g u ks table ws i
+    ↔ (Justified (assuming c (is_case u (case_list (sort_of u) ks) (get_or ks i 0))) (sides g) (resolved_why table (plain_why w)) × EachFrom c g u ks table ws (i + 1))
+each_parts c g u ks table ws i w more within read =
+    let l = case_list (sort_of u) ks in
+    let P : List ℕ → Type 0 = λ xs. EachJustified c (sides g) u l xs (map_whys (named table) (plain_whys (drop i ws))) in
+    let Q : List Why → Type 0 = λ ys. EachJustified c (sides g) u l (get_or ks i 0 ∷ drop (i + 1) ks) (map_whys (named table) (plain_whys ys)) in
+    let e = drop_more ks i 0 more in
+    let f = drop_read ws i w within read in
+    (λ h. subst Q f (subst P e h), λ h. subst P (sym e) (subst Q (sym f) h))
 
 -- a property of the terms of all reasons is one of each
 pub each_why : (P : ℕ → Type 0) (ws : List Why) (i : ℕ) (w : Why) → AllOfWhys P (plain_whys ws) → i < length ws → w ≡ get_or ws i w

@@ -2,3 +2,4 @@ mod Steps
 mod SortMarks
 mod Texts
 mod AttributeWords
+pub mod TakenBack

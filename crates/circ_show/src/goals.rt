@@ -1,6 +1,6 @@
 //! Goals as text.
 ghost use Rattle.std.specs.Prelude.{◌≡◌, ◌++◌, map, OnOk, OnErr};
-ghost use Rattle.circ_mixfix.specs.Printing.{Keeps};
+ghost use Rattle.circ_show.specs.Keeps.{Keeps};
 ghost use Rattle.circ_show.specs.GoalsText.{plain_goal, pair_line, pair_lines, goal_lines};
 
 use circ_mixfix::print_pair;

@@ -1,6 +1,6 @@
 //! The relation that a proof builds, as text: what each of its blocks derived.
 ghost use Rattle.std.specs.Prelude.{◌≡◌, ◌++◌, map, OnOk, OnErr};
-ghost use Rattle.circ_mixfix.specs.Printing.{Keeps};
+ghost use Rattle.circ_show.specs.Keeps.{Keeps};
 ghost use Rattle.circ_show.specs.GoalsText.{plain_goal, block_lines, relation_lines};
 
 use crate::goals::put_pairs;

@@ -1,6 +1,6 @@
 use Rattle.std.proofs.Common.{◌≡◌, ◌≤◌, ◌++◌, ◌+◌, ◌*◌, drop, codes}
 use Rattle.circ_term.specs.Tree.{trees_of, depth_of, depths_of}
-use Rattle.circ_mixfix.specs.Printing.{further, filled, texts_of_terms, Keeps}
+use Rattle.circ_mixfix.specs.Printing.{further, filled, texts_of_terms}
 use Rattle.circ_mixfix.proofs.printing.+print.Given as goal
 
 abbrev pub decreases-put_term : goal.decreases-put_term
@@ -29,12 +29,10 @@ invariant-put_further_pieces-loop-piece l = record {
   text : l.out.items ++ further (codes " ") (filled (drop l.piece-index l.pieces) (texts_of_terms l.theory.signature l.hole (trees_of l.rest)))
       ≡ l.fn.out.items ++ further (codes " ") (filled l.pieces (texts_of_terms l.theory.signature l.hole (trees_of l.args)));
   shallow : depths_of (trees_of l.rest) ≤ depths_of (trees_of l.args);
-  keeps : Keeps l.fn.out.items l.out.items;
 }
 
 abbrev pub invariant-put_further_arguments-loop-arg : goal.invariant-put_further_arguments-loop-arg
 invariant-put_further_arguments-loop-arg l = record {
   text : l.out.items ++ further (codes ", ") (texts_of_terms l.theory.signature l.hole (trees_of (drop l.arg-index l.args)))
       ≡ l.fn.out.items ++ further (codes ", ") (texts_of_terms l.theory.signature l.hole (trees_of l.args));
-  keeps : Keeps l.fn.out.items l.out.items;
 }

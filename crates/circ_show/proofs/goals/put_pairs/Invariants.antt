@@ -1,5 +1,5 @@
 use Rattle.std.proofs.Common.{◌≡◌, ◌++◌, map, drop}
-use Rattle.circ_mixfix.specs.Printing.{Keeps}
+use Rattle.circ_show.specs.Keeps.{Keeps}
 use Rattle.circ_show.specs.GoalsText.{pair_lines, plain_goal}
 use Rattle.circ_show.proofs.goals.put_pairs.Given as goal
 

@@ -1,5 +1,5 @@
 use Rattle.std.proofs.Common.{◌≡◌, ◌+◌, ◌++◌, map, drop}
-use Rattle.circ_mixfix.specs.Printing.{Keeps}
+use Rattle.circ_show.specs.Keeps.{Keeps}
 use Rattle.circ_show.specs.GoalsText.{plain_goal, relation_lines}
 use Rattle.circ_show.proofs.relation.put_blocks.Given as goal
 

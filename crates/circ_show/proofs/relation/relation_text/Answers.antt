@@ -1,4 +1,4 @@
-use Rattle.circ_mixfix.proofs.TakenBack.{taken_back}
+use Rattle.circ_show.proofs.TakenBack.{taken_back}
 use Rattle.circ_show.proofs.relation.relation_text.Goals as goal
 
 pub returns-in-Err-clause-err : goal.returns-in-Err-clause-err

@@ -1,16 +1,20 @@
-use Rattle.std.proofs.Common.{◌≡◌, ◌<◌, ◌∙◌, ℕ, Some, None, Bool, IsTrue, ◌↔◌, length, map, ap, sym, subst, arith}
-use Rattle.circ_term.specs.Tree.{Tree, sort_of}
+use Rattle.std.proofs.Common.{◌≡◌, ◌<◌, ◌∙◌, ℕ, ◌∷◌, [], ◌++◌, List, Some, None, Bool, IsTrue, ◌↔◌, length, map, take, get_or, refl, ap, sym, subst, arith}
+use Rattle.std.proofs.Math.Seq.{take-append_seam}
+use Rattle.std.proofs.lemmas.List.{map-append}
+use Rattle.circ_term.specs.Tree.{Tree, App, none, sort_of}
 use Rattle.circ_theory.specs.Rewriting.{named}
 use Rattle.circ_theory.specs.Theory.{Pair}
+use Rattle.circ_theory.specs.declared.parts.Goal.{Goal}
 use Rattle.circ_theory.specs.Observing.{cases_of, case_list}
 use Rattle.circ_theory.proofs.Rewriting.{named_at}
 use Rattle.circ_proof.specs.Plain.{WhyOf, map_whys, plain_why, plain_whys, plain_chain}
 use Rattle.circ_proof.specs.Goals.{sides}
+use Rattle.circ_proof.specs.Goals as goals
 use Rattle.circ_proof.specs.Link.{Setting, resolved_chain, resolved_why}
 use Rattle.circ_proof.specs.Justified.{Justified, EachJustified, IsWhyInTable}
 use Rattle.circ_replay.specs.Sources.{setting_of}
 use Rattle.circ_replay.proofs.Whys.{split_plain}
-use Rattle.circ_replay.proofs.Reasons.{why_depth, whys_depth, depth_at, each_why, each_counted, unlisted_split, stuck_split, split_tells, if_tells}
+use Rattle.circ_replay.proofs.Reasons.{why_depth, whys_depth, depth_at, each_why, each_parts, each_counted, unlisted_split, stuck_split, split_tells, if_tells}
 use Rattle.circ_replay.proofs.following.Sources.+justify.Goals as goal
 
 pub each_justified-is_justified-requires : goal.each_justified-is_justified-requires
@@ -95,3 +99,23 @@ is_justified-returns-in-Some-2-clause-exact t c =
 
 pub is_justified-returns-in-Same-clause-exact : goal.is_justified-returns-in-Same-clause-exact
 is_justified-returns-in-Same-clause-exact t c = rw c.in-Same.is (rw c.as_slice.ensures.value at c.meets.ensures)
+
+pub each_justified-loop-i-preserved : goal.each_justified-loop-i-preserved
+each_justified-loop-i-preserved t c =
+    let at = c.loop-i in
+    let self = c.args.self.now in
+    let old = c.args.assumptions.now.items in
+    let why = c.index-whys-i.result in
+    let ks = c.args.constants.now in
+    let x : Goal = goals.goal c.args.term.now (App (get_or ks at.i 0) (sort_of c.args.term.now) none) in
+    let put = c.in_ok-assume.ensures ∙ ap (λ gs. gs ++ x ∷ []) at.invariant.same in
+    let seen = ap (map sides) put ∙ map-append sides old (x ∷ []) in
+    let P : List Pair → Type 0 = λ ps. Justified (setting_of self ps) (sides c.args.goal.now) (resolved_why self.table.now (plain_why why)) in
+    let holds = subst P seen ((rw c.if-not-justified.false at c.in_ok-justified.ensures.exact).0 refl) in
+    let parts = each_parts (setting_of self (map sides old)) c.args.goal.now c.args.term.now ks self.table.now c.args.whys.now at.i why (omega arith) c.loop-i-test.true c.index-whys-i.is in
+    record {
+      same =
+          c.truncate.ensures.items ∙ ap (take c.len-count.result) (c.in_ok-justified.ensures.same ∙ put)
+          ∙ ap (λ n. take n (old ++ x ∷ [])) (c.len-count.ensures ∙ c.args.assumptions.now.ok.0) ∙ take-append_seam old (x ∷ []);
+      rest = (λ h. at.invariant.rest.0 (parts.1 (holds, h)), λ h. (parts.0 (at.invariant.rest.1 h)).1);
+    }

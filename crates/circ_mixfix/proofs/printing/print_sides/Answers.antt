@@ -1,5 +1,0 @@
-use Rattle.circ_mixfix.proofs.TakenBack.{taken_back}
-use Rattle.circ_mixfix.proofs.printing.print_sides.Goals as goal
-
-pub returns-in-Err-clause-err : goal.returns-in-Err-clause-err
-returns-in-Err-clause-err c = let e = taken_back c.args.out.now.items c.put_pair.new.out.items c.put_pair.ensures.keeps in cc
