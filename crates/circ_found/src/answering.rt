@@ -15,15 +15,18 @@ use crate::ending::{Ending, Stored};
 use crate::texts::{proved_text, stuck_text};
 use circ_file::encode;
 use circ_file::laws::texts_decode;
-use circ_files::{MOST_BYTES, Status, push_counted, push_spent};
+use circ_files::{MOST_BYTES, STORED_FILE, Status, push_counted, push_spent};
 use circ_plain_search::laws::proved_is_accepted;
 use circ_proof::Proof;
 use circ_search::{Found, Limits, prove};
 use circ_theory::{Goal, Theory};
 use std::alloc::{AllocError, Global};
 
-/// The number of the proof among the files of a run: the theory and the script come first.
-const PROOF_FILE: u8 = 3;
+/// The most steps that a run gives a search.
+pub const GREATEST_STEPS: u64 = 1_000_000;
+
+/// The most derivations that a run gives a search.
+pub const GREATEST_DERIVES: u64 = 10_000;
 
 /// How the search for a proof of these blocks of goals ends. The proof's text is to be stored under
 /// this name.
@@ -119,10 +122,10 @@ fn too_long<'a>(alloc: Global, count: u64) -> Result<Ending<'a>, AllocError>
         ending (status.TooLong 3 count) (too_long_text 3) None) }
 {
     let mut text = Vec::new(alloc);
-    push_counted(&mut text, b"too long: file ", u64::from(PROOF_FILE), b"\n")?;
+    push_counted(&mut text, b"too long: file ", u64::from(STORED_FILE), b"\n")?;
     Ok(unstored(
         Status::TooLong {
-            file: PROOF_FILE,
+            file: STORED_FILE,
             count,
         },
         text,

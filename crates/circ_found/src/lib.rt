@@ -8,7 +8,7 @@ mod ending;
 mod script_goals;
 mod texts;
 
-pub use answering::search;
+pub use answering::{GREATEST_DERIVES, GREATEST_STEPS, search};
 pub use ending::{Ending, Stored};
 pub use script_goals::searchable;
 pub use texts::push_counts;

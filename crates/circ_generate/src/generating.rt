@@ -16,8 +16,8 @@ use crate::chain::{chain_script, chain_theory};
 use circ_check::{Verdict, check};
 use circ_file::laws::texts_decode;
 use circ_file::{FileFault, decode};
-use circ_files::{Status, push_counted, push_unreadable};
-use circ_found::{Ending, push_counts, search, searchable};
+use circ_files::{SCRIPT_FILE, Status, THEORY_FILE, push_counted, push_unreadable};
+use circ_found::{Ending, GREATEST_DERIVES, GREATEST_STEPS, push_counts, search, searchable};
 use circ_plain_search::laws::proved_is_accepted;
 use circ_proof::Proof;
 use circ_read::{Cause, ReadFault, read_theory};
@@ -47,7 +47,7 @@ fn chain<'a>(alloc: Global, number: u64) -> Result<Ending<'a>, AllocError>
                 number: place,
                 cause,
             },
-        ) => unread(alloc, 1, place, cause),
+        ) => unread(alloc, THEORY_FILE, place, cause),
         Err(ReadFault::Memory) => Err(AllocError),
     }
 }
@@ -69,7 +69,7 @@ fn with_theory<'a>(
                 number: place,
                 cause,
             },
-        ) => unread(alloc, 2, place, cause),
+        ) => unread(alloc, SCRIPT_FILE, place, cause),
         Err(ReadFault::Memory) => Err(AllocError),
     }
 }
@@ -90,8 +90,8 @@ fn with_script<'a>(
     searchable(theory, script);
     proved_is_accepted();
     let limits = Limits {
-        steps: 1_000_000,
-        derives: 10_000,
+        steps: GREATEST_STEPS,
+        derives: GREATEST_DERIVES,
     };
     let Ending {
         status,

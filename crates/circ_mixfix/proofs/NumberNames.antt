@@ -13,7 +13,7 @@ use Rattle.circ_theory.specs.Theory.{pair_with}
 use Rattle.circ_theory.specs.Variables.{Variable, is_variable, seen, seen_in, seen_in_all}
 use Rattle.circ_theory.specs.Renumbering.{renumbering, renumbered}
 use Rattle.circ_mixfix.specs.Named as named
-use Rattle.circ_mixfix.specs.Named.{Named, NamedList, NamedVariable, is_named, numbered, all_numbered, place_from}
+use Rattle.circ_mixfix.specs.Named.{NamedVariable, is_named, numbered, all_numbered, place_from}
 use Rattle.circ_mixfix.specs.Readings.{without_hole, numbers_of, reading_of}
 use Rattle.circ_mixfix.specs.Coding.{text_at, named_by, all_named_by}
 use Rattle.circ_mixfix.specs.WordLists.{BeginAlike}

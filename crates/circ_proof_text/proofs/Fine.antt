@@ -7,7 +7,7 @@ use Rattle.circ_theory.specs.Theory.{Theory}
 use Rattle.circ_proof.specs.Plain.{LinkOf, Equation_link, Hypothesis_link, Assumption_link, Content_link, ChainOf}
 use Rattle.circ_proof.specs.Plain.{WhyOf, WhysOf, Same_why, Split_why, no_why, more_whys}
 use Rattle.circ_proof.specs.Table.{term_limit}
-use Rattle.circ_proof.specs.Proof.{IsNumber, IsPath, IsLinkFor, AreLinksFor, IsChainFor, IsWhyFor, AreWhysFor, split_limit}
+use Rattle.circ_proof.specs.Proof.{IsNumber, IsLinkFor, AreLinksFor, IsChainFor, IsWhyFor, AreWhysFor}
 use Rattle.circ_line.specs.Line.{Line, same_line, split_line}
 use Rattle.circ_line.specs.Text.{IsInRange, AreNumbers, IsLinkInRange}
 use Rattle.circ_proof.specs.Counting.{why_count}

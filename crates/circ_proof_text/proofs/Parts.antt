@@ -8,7 +8,7 @@ use Rattle.circ_theory.specs.Theory.{Theory}
 use Rattle.circ_proof.specs.Plain.{LinkOf}
 use Rattle.circ_proof.specs.Rules.{ProofStep, Simplify, Reduce, Derive, Done}
 use Rattle.circ_proof.specs.Proof.{Block, Proof, goal_of, IsEnded, IsBlockFor, ProofFor}
-use Rattle.circ_grammar.specs.Parts.{PartOf, Head_part, Certificate_part, Goals_part, Step_part, Done_part}
+use Rattle.circ_grammar.specs.Parts.{Head_part, Certificate_part, Goals_part, Step_part, Done_part}
 use Rattle.circ_grammar.specs.Parts as grammar
 use Rattle.circ_grammar.specs.Now.{with_table}
 use Rattle.circ_proof_text.specs.ProofText.{without_done, block_numbers, place_numbers, numbers_of}

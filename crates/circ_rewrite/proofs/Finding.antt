@@ -1,24 +1,18 @@
 -- What is due at a root, as the code looks for it.
-use Rattle.std.proofs.Common.{◌≡◌, ℕ, ◌+◌, ◌<◌, Bool, true, false, List, [], ◌∷◌, map, length, drop, get_or, Some, None, refl, ap, sym, ◌∙◌}
+use Rattle.std.proofs.Common.{◌≡◌, ℕ, Bool, true, false, List, [], Some, None, refl, ap, sym, ◌∙◌}
 use Rattle.circ_term.specs.Tree.{Tree, Var, App, operator_number}
 use Rattle.circ_term.specs.Order.{is_same}
-use Rattle.circ_term.specs.Substitution.{Substitution, KeepsSorts, instance}
-use Rattle.circ_term.specs.Subst.{Bound, bound_cmp, substitution_of}
+use Rattle.circ_term.specs.Substitution.{Substitution, KeepsSorts}
 use Rattle.circ_term.proofs.Order.{same_here}
-use Rattle.circ_term.proofs.Within.{drop_read}
-use Rattle.std.specs.List.Sorted.{IsStrictlySortedBy}
 use Rattle.std.proofs.lemmas.Option.{same_Some}
-use Rattle.circ_match.specs.Matcher.{IsMatcher, Makes, has_variable}
-use Rattle.circ_match.proofs.Variables.{instance-variable}
+use Rattle.circ_match.specs.Matcher.{Makes}
 use Rattle.circ_theory.specs.Signature.{Signature}
 use Rattle.circ_theory.specs.declared.parts.Goal.{Goal}
 use Rattle.circ_aci.specs.Canonical.{canonical_under}
-use Rattle.circ_rewrite.specs.Replacement.{Replacement, By_rule, By_assumption, By_content}
-use Rattle.circ_rewrite.specs.Matching.{matching}
-use Rattle.circ_rewrite.specs.Due.{assumption_due, assumed, content_due, rule_due, rule_variables, terms_by, ruled, due_under, IsRewriteRule}
+use Rattle.circ_rewrite.specs.Replacement.{Replacement, By_content}
+use Rattle.circ_rewrite.specs.Due.{assumed, content_due, rule_due, ruled, due_under}
 use Rattle.circ_rewrite.specs.declared.parts.Rule.{Rule}
-use Rattle.circ_rewrite.proofs.MatchingFacts.{is_same_term, matches-instance, no_match, matcher_agrees}
-use Rattle.circ_rewrite.proofs.RuleTerms.{terms_of_rule}
+use Rattle.circ_rewrite.proofs.MatchingFacts.{is_same_term, no_match}
 
 differs : (s t : Tree) → (s ≡ t → ⊥) → is_same s t ≡ false
 differs s t h = go (is_same s t) refl

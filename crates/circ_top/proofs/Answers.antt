@@ -14,7 +14,8 @@ use Rattle.circ_top.specs.Answer.{Succeeds, Comes, RefusesCommand, DueAnswer, no
 use Rattle.circ_top.specs.Causes.{AtFile, HasLongProof, IsPastLimit, IsReadFault, IsUnwritten, FailsToPut, IsWriteFault, IsQuietRun}
 use Rattle.circ_top.specs.Check.{report_text, refused, accepted, Accepts, Rejects, FilesRead}
 use Rattle.circ_top.specs.Command.{Command, Check, Prove, Show, Contexts, Reduce, Library, Generate, Asks, IsNotStored, stored_name}
-use Rattle.circ_top.specs.Prove.{IsSearched, search_limits, StoresProof}
+use Rattle.circ_search.specs.Plain.{plain_limits}
+use Rattle.circ_top.specs.Prove.{IsSearched, StoresProof}
 use Rattle.circ_top.specs.Delivery.{Prints, Delivers, whole, write_failed, memory_wanted, text_wanted}
 use Rattle.circ_files.specs.Files.{Held, IsUnread, IsTooLong, IsFileFault}
 use Rattle.circ_found.specs.Ending.{Stored, ending}
@@ -25,7 +26,7 @@ use Rattle.circ_files.specs.Texts.{refused_text}
 use Rattle.circ_top.specs.Refusals.{refusal_text}
 use Rattle.circ_files.specs.TheoryFile.{TheoryRefusal}
 use Rattle.circ_top.specs.declared.request.Report.{Report}
-use Rattle.circ_top.specs.declared.words.Limits.{Limits}
+use Rattle.circ_turn.specs.declared.search.Limits.{Limits}
 use Rattle.circ_files.specs.declared.status.Status.{Status}
 use Rattle.circ_files.specs.declared.status.Status.TheVariants as status
 use Rattle.circ_top.proofs.CheckOutcomes.{check_not_ok, check_refused, unread_check, past_check, unwritten_check}
@@ -96,7 +97,7 @@ module _ (before : ShelfState) where
 
   pub work_end : (c : Command) (s : Status) (text : List ℕ) (stored : Option Stored) → Comes c s text stored before → IsSearchEnd s
   work_end (Check report theory proof) s text stored a = ok_end s a.0
-  work_end (Prove limits theory script proof) s text stored a = search_end a.th (search_limits limits) proof (blocks_of a.sc) s text stored a.ends
+  work_end (Prove limits theory script proof) s text stored a = search_end a.th (plain_limits limits) proof (blocks_of a.sc) s text stored a.ends
   work_end (Show theory) s text stored a = ok_end s a.0
   work_end (Contexts budget theory) s text stored a = ok_end s a.0
   work_end (Reduce budget theory script) s text stored a = ok_end s a.0
@@ -138,8 +139,8 @@ module _ (before : ShelfState) where
       → stored_name c ≡ Some x.name
   work_name (Check report theory proof) s text stored x a e = nothing_stored stored x a.1.1 e
   work_name (Prove limits theory script proof) s text stored x a e =
-      let P : Option Stored → Type 0 = λ y. SearchEnds a.th (search_limits limits) proof (blocks_of a.sc) (ending s text y) in
-      ap Some (sym (search_name a.th (search_limits limits) proof (blocks_of a.sc) s text x (subst P e a.ends)))
+      let P : Option Stored → Type 0 = λ y. SearchEnds a.th (plain_limits limits) proof (blocks_of a.sc) (ending s text y) in
+      ap Some (sym (search_name a.th (plain_limits limits) proof (blocks_of a.sc) s text x (subst P e a.ends)))
   work_name (Show theory) s text stored x a e = nothing_stored stored x a.1.1 e
   work_name (Contexts budget theory) s text stored x a e = nothing_stored stored x a.1.1 e
   work_name (Reduce budget theory script) s text stored x a e = nothing_stored stored x a.1.1 e
@@ -206,8 +207,8 @@ module _ (words : List (List ℕ)) (before after : ShelfState) (start end : Sink
       let s = answers_succeed q e in
       let P : Command → Type 0 = λ c. Succeeds c s.text s.stored before in
       let a = subst P (same_command words s.command (Prove limits theory script proof) s.asks i) s.succeeds in
-      let ok = search_ok a.th (search_limits limits) proof (blocks_of a.sc) s.text s.stored a.ends in
-      let says = found a.th a.takes_theory.well_formed (blocks_of a.sc) a.searchable (search_limits limits) ok.p ok.search in
+      let ok = search_ok a.th (plain_limits limits) proof (blocks_of a.sc) s.text s.stored a.ends in
+      let says = found a.th a.takes_theory.well_formed (blocks_of a.sc) a.searchable (plain_limits limits) ok.p ok.search in
       let H : Option Stored → Type 0 = λ x. HoldsAfter x before after in
       let T : List ℕ → Type 0 = λ x. Prints x start end in
       let held = subst H ok.stored_is s.held in

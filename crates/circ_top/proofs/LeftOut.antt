@@ -26,7 +26,8 @@ use Rattle.circ_top.specs.Outcome.{Outcome, usage, command}
 use Rattle.circ_files.specs.ProofFile.{ProofRefusal}
 use Rattle.circ_top.specs.Reduce.{reduced, results_text, not_reduced, all_reduced}
 use Rattle.circ_top.specs.Reduce as reduce
-use Rattle.circ_top.specs.Prove.{search_limits, searched}
+use Rattle.circ_search.specs.Plain.{plain_limits}
+use Rattle.circ_top.specs.Prove.{searched}
 use Rattle.circ_top.specs.Prove as prove
 use Rattle.circ_top.specs.Contexts.{not_listed, listed}
 use Rattle.circ_show.specs.PlacesText.{place_lines}
@@ -41,7 +42,7 @@ use Rattle.circ_top.specs.Refusals.{usage_text, refusal_text}
 use Rattle.circ_files.specs.TheoryFile.{TheoryRefusal}
 use Rattle.circ_files.specs.declared.files.TheConstants.{MOST_BYTES}
 use Rattle.circ_top.specs.declared.request.Report.{Report}
-use Rattle.circ_top.specs.declared.words.Limits.{Limits}
+use Rattle.circ_turn.specs.declared.search.Limits.{Limits}
 use Rattle.circ_files.specs.declared.status.Status.{Status}
 use Rattle.circ_files.specs.declared.status.Status.TheVariants as status
 use Rattle.circ_top.proofs.Ends.{forms_or_end}
@@ -129,7 +130,7 @@ module _ (reads : (bytes : List ℕ) → ReadOrRefused bytes) (proofs : ProofsDe
       → HoldsFilesOf held (Prove limits theory script proof) → ⊥
   no_prove limits theory script proof i h = file_decides held 1 theory TheoryRefusal ReadsAs h.0 reads
       (λ th rt. file_decides held 2 script (ScriptRefusal th job.Prove) (ReadsAsScript th job.Prove) h.1 (scripts th job.Prove)
-      (λ q rq. searches th (blocks_of q) (search_limits limits)
+      (λ q rq. searches th (blocks_of q) (plain_limits limits)
       (λ f x. let e : Ending = found_ending th.signature proof f in none_is e.status e.text e.stored
       (command (Prove limits theory script proof) e.status e.text e.stored i
       (searched e.status e.text e.stored th q rt rq (record { found = f; search = x; is = refl })))))

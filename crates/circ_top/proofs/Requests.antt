@@ -12,7 +12,7 @@ use Rattle.circ_top.specs.Words.{circ_app, IsBudget, Finds, FindsNothing}
 use Rattle.circ_top.specs.declared.request.Report.{Report}
 use Rattle.circ_top.specs.declared.request.Report.TheVariants.{Goals, Relation}
 use Rattle.circ_top.specs.declared.request.Request.{Request}
-use Rattle.circ_top.specs.declared.words.Limits.{Limits}
+use Rattle.circ_turn.specs.declared.search.Limits.{Limits}
 
 other_length : (given : List (List ℕ)) (a b c : List ℕ) → given ≡ a ∷ b ∷ [] → given ≡ c ∷ [] → ⊥
 other_length given a b c e f = let never : 2 ≡ 1 = ap length (sym e ∙ f) in omega (arith, never)

@@ -4,7 +4,7 @@ use Rattle.std.specs.Str.Parse.{ParsesUnsigned}
 use Rattle.std.proofs.lemmas.Fmt.{parse-decimal}
 use Rattle.clap.specs.Walk.{Row, all_of, first_of}
 use Rattle.circ_top.specs.Words.{IsNoNumber, IsBudget, IsNoBudget, Finds, FindsNothing}
-use Rattle.circ_top.specs.declared.words.Limits.{Limits}
+use Rattle.circ_turn.specs.declared.search.Limits.{Limits}
 
 -- a text that does not parse, or parses as another number, is no number within the limit
 pub not_parsed : {E : Type 0} (text : List ℕ) (most : ℕ) (e : E) (r : Result ℕ E) → most < 2 ^ 64 → ParsesUnsigned 64 10 text r → r ≡ Err e

@@ -8,7 +8,7 @@ use Rattle.circ_top.specs.declared.request.Report.{Report}
 use Rattle.circ_top.specs.declared.request.Report.TheVariants.{Goals, Relation}
 use Rattle.circ_top.specs.declared.request.Request.{Request}
 use Rattle.circ_top.specs.declared.request.Request.TheVariants as request
-use Rattle.circ_top.specs.declared.words.Limits.{Limits}
+use Rattle.circ_turn.specs.declared.search.Limits.{Limits}
 
 -- the command that gives a report
 abbrev pub report_name : Report → List ℕ

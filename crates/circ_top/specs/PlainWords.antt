@@ -1,6 +1,6 @@
 -- Words that are taken as they stand.
 use Rattle.std.specs.Prelude.{◌≡◌, ℕ, List, ◌∷◌}
-use Rattle.circ_top.specs.declared.words.Limits.{Limits}
+use Rattle.circ_turn.specs.declared.search.Limits.{Limits}
 
 -- The word does not begin with `-` (45).
 abbrev pub IsPlainWord : List ℕ → Type 0

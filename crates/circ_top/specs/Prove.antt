@@ -9,7 +9,6 @@ use Rattle.circ_proof_text.specs.ProofText.{proof_text}
 use Rattle.circ_script.specs.Script.{Script}
 use Rattle.circ_script.specs.declared.job.Job.TheVariants as job
 use Rattle.circ_plain_search.specs.PlainSearch.{AreSearchable}
-use Rattle.circ_plain_search.specs.Search.{Limits}
 use Rattle.circ_files.specs.Files.{Held, RefusesFile}
 use Rattle.circ_files.specs.ScriptFile.{ReadsScript, TakesScript, ScriptRefusal, IsScriptFault}
 use Rattle.circ_files.specs.TheoryFile.{ReadsTheory, TakesTheory, TheoryRefusal, IsTheoryFault}
@@ -17,30 +16,28 @@ use Rattle.circ_files.specs.declared.status.Status.{Status}
 use Rattle.circ_found.specs.Ending.{Stored, Ending, ending}
 use Rattle.circ_found.specs.Answering.{blocks_of, proved_text, SearchEnds}
 use Rattle.circ_top.specs.Command.{Prove}
+use Rattle.circ_search.specs.Plain.{plain_limits}
 use Rattle.circ_top.specs.Delivery.{Prints}
 use Rattle.circ_top.specs.Refusals.{refusal_text}
-use Rattle.circ_top.specs.declared.words.Limits.{Limits as Budgets}
-
-abbrev pub search_limits : Budgets → Limits
-search_limits l = record { steps = l.steps; derives = l.derives }
+use Rattle.circ_turn.specs.declared.search.Limits.{Limits}
 
 -- The outcome, with its text and what is stored: the theory file refuses the command; or this reads, and the script file refuses it; or both read, and the
 -- search ends so.
-pub data ProveOutcome (held : Held) (limits : Budgets) (theory script name : List ℕ) : Status → (text : List ℕ) → (stored : Option Stored) → Type 0 where
+pub data ProveOutcome (held : Held) (limits : Limits) (theory script name : List ℕ) : Status → (text : List ℕ) → (stored : Option Stored) → Type 0 where
   no_theory : (s : Status) → RefusesFile held 1 theory TheoryRefusal s
       → ProveOutcome held limits theory script name s (refusal_text (Prove limits theory script name) s) None
   no_script : (s : Status) (th : Theory) → ReadsTheory held theory th → RefusesFile held 2 script (ScriptRefusal th job.Prove) s
       → ProveOutcome held limits theory script name s (refusal_text (Prove limits theory script name) s) None
   searched : (s : Status) (text : List ℕ) (stored : Option Stored) (th : Theory) (sc : Script) → ReadsTheory held theory th
-      → ReadsScript held script th job.Prove sc → SearchEnds th (search_limits limits) name (blocks_of sc) (ending s text stored)
+      → ReadsScript held script th job.Prove sc → SearchEnds th (plain_limits limits) name (blocks_of sc) (ending s text stored)
       → ProveOutcome held limits theory script name s text stored
 
 -- The two files read, the script's goals can be searched, and the search ends so.
-pub record IsSearched (limits : Budgets) (theory script name : List ℕ) (e : Ending) (before : ShelfState) : Type 0 where
+pub record IsSearched (limits : Limits) (theory script name : List ℕ) (e : Ending) (before : ShelfState) : Type 0 where
   pub th : Theory
   pub sc : Script
   pub searchable : AreSearchable th (blocks_of sc)
-  pub ends : SearchEnds th (search_limits limits) name (blocks_of sc) e
+  pub ends : SearchEnds th (plain_limits limits) name (blocks_of sc) e
   pub takes_theory : TakesTheory theory th before
   pub takes_script : TakesScript script th job.Prove sc before
 

@@ -4,7 +4,7 @@ use Rattle.std.specs.Prelude.{◌≡◌, ◌≤◌, ℕ, List, Option, Some, Non
 use Rattle.clap.specs.Lexer.{usize_max}
 use Rattle.clap.specs.Simple.{App, new_app, new_rule, with_rule}
 use Rattle.clap.specs.Walk.{Row, Rule, all_of, first_of}
-use Rattle.circ_top.specs.declared.words.Limits.{Limits}
+use Rattle.circ_turn.specs.declared.search.Limits.{Limits}
 
 abbrev pub steps_rule : Rule
 steps_rule = record (new_rule (codes "steps")) { long = Some (codes "steps") }

@@ -8,14 +8,11 @@ ghost use Rattle.circ_files.specs.Quiet.{IsQuietCall};
 
 use crate::incoming::Incoming;
 use crate::request::Report;
-use circ_files::{Status, take_into, take_theory};
+use circ_files::{CHECKED_FILE, Status, take_into, take_theory};
 use circ_outer::Shelf;
 use circ_proof_text::laws::one_answer;
 use circ_theory::Theory;
 use std::alloc::Global;
-
-/// The number of a proof among the files of a run: the theory is the first.
-pub(crate) const PROOF_FILE: u8 = 2;
 
 /// The report of a proof that is accepted, or the answer in its place.
 pub(crate) fn check<S: Shelf>(
@@ -57,7 +54,7 @@ fn check_proof<S: Shelf>(
     ensures quiet { IsQuietCall (S.state shelf.old) (S.state shelf.new) result }
     ensures frame { ShelfFrame (S.state shelf.old) (S.state shelf.new) }
 {
-    if let Err(status) = take_into(alloc, shelf, PROOF_FILE, name, incoming) {
+    if let Err(status) = take_into(alloc, shelf, CHECKED_FILE, name, incoming) {
         return Err(status);
     }
     theory.known();

@@ -8,7 +8,7 @@ ghost use Rattle.circ_theory.specs.declared.parts.Goal.{Goal};
 ghost use Rattle.circ_proof.specs.Proof.{Proof};
 ghost use Rattle.circ_proof.specs.Accepted.{Derives, FirstFail};
 ghost use Rattle.circ_top.specs.declared.request.Report.{Report};
-ghost use Rattle.circ_top.specs.declared.words.Limits.{Limits};
+ghost use Rattle.circ_turn.specs.declared.search.Limits.{Limits};
 ghost use Rattle.circ_top.specs.Command.{Check, Prove, Asks, IsNotStored, IsReport};
 ghost use Rattle.circ_top.specs.Command.{plain_request};
 ghost use Rattle.circ_files.specs.Texts.{refused_text};
@@ -223,10 +223,7 @@ fn generated<'a>(alloc: Global, number: u16) -> Result<Ending<'a>, Status>
     ensures comes { IfOk result (λ e. Generates number (plain_ending e)) }
     ensures memory { IfErr result (λ s. s ≡ Status.Memory) }
 {
-    match generate(alloc, number) {
-        Ok(ending) => Ok(ending),
-        Err(_) => Err(Status::Memory),
-    }
+    Ok(generate(alloc, number)?)
 }
 
 /// The text of a command that prints it alone, or the answer in its place.

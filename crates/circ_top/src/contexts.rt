@@ -31,10 +31,7 @@ pub(crate) fn contexts<S: Shelf>(
         Ok(theory) => theory,
         Err(status) => return Err(status),
     };
-    match listed(alloc, &theory, budget) {
-        Ok(text) => Ok(text),
-        Err(_) => Err(Status::Memory),
-    }
+    Ok(listed(alloc, &theory, budget)?)
 }
 
 /// The lines of a theory's greatest special set.

@@ -12,11 +12,10 @@ ghost use Rattle.circ_found.specs.Answering.{all_goal_lines};
 ghost use Rattle.circ_top.specs.Incoming.{goals_among, HasRead, HasTaken, Judges};
 ghost use Rattle.circ_top.specs.Incoming.{RefusesBytes};
 
-use crate::check::PROOF_FILE;
 use crate::request::Report;
 use circ_check::Checker;
 use circ_file::{FileFault, FileReader};
-use circ_files::{Intake, Status};
+use circ_files::{CHECKED_FILE, Intake, Status};
 use circ_read::Cause;
 use circ_show::{goals_text, relation_text};
 use circ_table::Part;
@@ -63,16 +62,8 @@ impl<'a> Incoming<'a> {
             return Err(Status::Refused { step });
         }
         let goals = self.goals.as_slice();
-        match reported(
-            self.alloc,
-            report,
-            self.theory,
-            goals,
-            self.checker.derived(),
-        ) {
-            Ok(text) => Ok(text),
-            Err(_) => Err(Status::Memory),
-        }
+        let derived = self.checker.derived();
+        Ok(reported(self.alloc, report, self.theory, goals, derived)?)
     }
 
     // Takes the parts that the reader has made.
@@ -173,12 +164,12 @@ fn refusal(fault: FileFault) -> Status
 {
     match fault {
         FileFault::Line { number } => Status::Unreadable {
-            file: PROOF_FILE,
+            file: CHECKED_FILE,
             place: number,
             cause: Cause::Line,
         },
         FileFault::Limit { number } => Status::Unreadable {
-            file: PROOF_FILE,
+            file: CHECKED_FILE,
             place: number,
             cause: Cause::LineLimit,
         },

@@ -10,8 +10,5 @@ pub(crate) fn library(alloc: Global, text: &[u8]) -> Result<Vec<u8>, Status>
     ensures given { IfOk result (λ v. v.items ≡ text.now) }
     ensures refused { IfErr result RefusesLibrary }
 {
-    match Vec::from_slice(alloc, text) {
-        Ok(copy) => Ok(copy),
-        Err(_) => Err(Status::Memory),
-    }
+    Ok(Vec::from_slice(alloc, text)?)
 }

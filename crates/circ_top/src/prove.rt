@@ -5,13 +5,12 @@ ghost use Rattle.circ_files.specs.Quiet.{IsQuietCall};
 ghost use Rattle.circ_found.specs.Ending.{plain_ending};
 ghost use Rattle.circ_top.specs.Prove.{IsSearched, RefusesProve};
 
-use crate::words::Limits;
 use circ_files::{Status, take_script, take_theory};
 use circ_found::{Ending, search, searchable};
 use circ_outer::Shelf;
 use circ_script::Job;
 use circ_script::laws::scripts_are_fit;
-use circ_search::Limits as SearchLimits;
+use circ_search::Limits;
 use std::alloc::Global;
 
 /// How the search for a proof of a script's goals ends, with the proof's text to be stored under
@@ -40,13 +39,6 @@ pub(crate) fn prove<'a, S: Shelf>(
         Err(status) => return Err(status),
     };
     scripts_are_fit();
-    let limits = SearchLimits {
-        steps: limits.steps,
-        derives: limits.derives,
-    };
     searchable(&theory, &script);
-    match search(alloc, &theory, script.blocks.as_slice(), &limits, name) {
-        Ok(ending) => Ok(ending),
-        Err(_) => Err(Status::Memory),
-    }
+    Ok(search(alloc, &theory, script.blocks.as_slice(), &limits, name)?)
 }

@@ -59,10 +59,7 @@ fn reduce_terms(
         Ok(results) => results,
         Err(fault) => return Err(end(fault, budget)),
     };
-    match results_text(alloc, theory, results.as_slice(), budget - left) {
-        Ok(text) => Ok(text),
-        Err(_) => Err(Status::Memory),
-    }
+    Ok(results_text(alloc, theory, results.as_slice(), budget - left)?)
 }
 
 /// The answer where a term has no normal form: if the budget is spent, the whole budget.

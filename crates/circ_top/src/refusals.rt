@@ -4,9 +4,8 @@ ghost use Rattle.circ_files.specs.Quiet.{HasText};
 ghost use Rattle.circ_top.specs.Command.{plain_request};
 ghost use Rattle.circ_top.specs.Refusals.{place_text, refusal_text, usage_text};
 
-use crate::check::PROOF_FILE;
 use crate::request::Request;
-use circ_files::{Status, push_counted, push_spent, push_unreadable};
+use circ_files::{CHECKED_FILE, Status, push_counted, push_spent, push_unreadable};
 use std::alloc::{AllocError, Global};
 
 /// The text of a command's refusal: nothing for the answers that have a text of their own, or
@@ -61,7 +60,7 @@ fn place_words(request: &Request<'_>, file: u8) -> &'static [u8]
     ensures { result.now ≡ place_text (plain_request request.now) file }
 {
     match request {
-        Request::Check { .. } if file == PROOF_FILE => b", line ",
+        Request::Check { .. } if file == CHECKED_FILE => b", line ",
         _ => b", statement ",
     }
 }

@@ -4,9 +4,16 @@ ghost use Rattle.std.specs.Prelude.{string_bytes, decimal};
 ghost use Rattle.circ_top.specs.Command.{Generate, Asks, IsCommand, IsNoCommand, IsNoneOfTable};
 ghost use Rattle.circ_top.specs.Command.{report_name, IsNoReport, plain_request};
 
-use crate::words::{Limits, Words, found, is_word, matches, number};
+use crate::words::{Words, found, is_word, matches, number};
 use circ_lib::lookup;
+use circ_search::Limits;
 use std::alloc::{AllocError, Global};
+
+/// The fewest streams of a chain.
+const LEAST_STREAMS: u64 = 2;
+
+/// The most streams of a chain.
+const MOST_STREAMS: u64 = 1_000;
 
 /// What is printed of an accepted proof.
 #[derive(Clone, Copy, PartialEq, Eq)]
@@ -127,8 +134,8 @@ fn chain_of<'a>(word: &str) -> Option<Request<'a>>
         (λ r. (n : ℕ) × (plain_request r ≡ Generate n) × (2 ≤ n) × (n ≤ 1000)
         × (word.now ≡ decimal n)) }
 {
-    let number = number(word, 1_000)?;
-    if number < 2 {
+    let number = number(word, MOST_STREAMS)?;
+    if number < LEAST_STREAMS {
         return None;
     }
     Some(Request::Generate {

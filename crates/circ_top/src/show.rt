@@ -24,10 +24,7 @@ pub(crate) fn show<S: Shelf>(alloc: Global, shelf: &mut S, theory: &str) -> Resu
         Ok(theory) => theory,
         Err(status) => return Err(status),
     };
-    match shown(alloc, &theory) {
-        Ok(text) => Ok(text),
-        Err(_) => Err(Status::Memory),
-    }
+    Ok(shown(alloc, &theory)?)
 }
 
 /// The text of a theory.

@@ -9,29 +9,18 @@ ghost use Rattle.circ_top.specs.Words.{steps_rule, derives_rule, command_rule, w
 ghost use Rattle.circ_top.specs.Words.{circ_app, IsBudget, IsNoBudget, IsNoNumber};
 ghost use Rattle.circ_top.specs.Words.{Finds, FindsNothing};
 
+use circ_found::{GREATEST_DERIVES, GREATEST_STEPS};
+use circ_search::Limits;
 use clap::error::ErrorKind;
 use clap::{Arg, ArgMatches, Command};
 use itoa::Buffer;
 use std::alloc::{AllocError, Global};
 
 /// The steps that a search may make where the words do not say it.
-const STEPS: u64 = 100_000;
-
-/// The most steps that the words may say.
-const MOST_STEPS: u64 = 1_000_000;
+const USUAL_STEPS: u64 = 100_000;
 
 /// The derivations that a search may make where the words do not say it.
-const DERIVES: u64 = 256;
-
-/// The most derivations that the words may say.
-const MOST_DERIVES: u64 = 10_000;
-
-/// How many steps and derivations a search may make.
-#[derive(Clone, Copy)]
-pub(crate) struct Limits {
-    pub steps: u64,
-    pub derives: u64,
-}
+const USUAL_DERIVES: u64 = 256;
 
 /// What the words of a run say: the limits, the command's name, and the words that it takes.
 #[derive(Clone, Copy)]
@@ -67,8 +56,8 @@ pub(crate) fn found<'m, 'a>(matches: &'m ArgMatches<'a>) -> Option<Words<'m, 'a>
         (λ w. Finds (rows_of (found_of matches.now)) w.limits w.name.now
         (map (λ x. x.now) w.given.now)) }
 {
-    let steps = budget(matches.get_str("steps"), STEPS, MOST_STEPS)?;
-    let derives = budget(matches.get_str("derives"), DERIVES, MOST_DERIVES)?;
+    let steps = budget(matches.get_str("steps"), USUAL_STEPS, GREATEST_STEPS)?;
+    let derives = budget(matches.get_str("derives"), USUAL_DERIVES, GREATEST_DERIVES)?;
     let name = matches.get_str("command")?;
     let given = matches.get_strs("words")?;
     let limits = Limits { steps, derives };
