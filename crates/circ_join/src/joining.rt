@@ -92,8 +92,8 @@ impl Joining<'_> {
         uses: &mut Vec<HypothesisUse>,
     ) -> Result<bool, AllocError>
         requires narrow { length args.now ≤ 65536 }
-        ensures exact { Joins (all_joined self.now.gamma.now self.now.hyps.now.all op path.old.items 0
-            (trees_of args.now) (trees_of others.now))
+        ensures exact { Joins (all_joined self.now.gamma.now self.now.hyps.now.all op
+            path.old.items 0 (trees_of args.now) (trees_of others.now))
             (plain_uses uses.old.items) (plain_uses uses.new.items) result }
         ensures path { OnOk result (path.new.items ≡ path.old.items) }
     {

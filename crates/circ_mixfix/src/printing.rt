@@ -255,7 +255,8 @@ pub fn print(
         false term.now) }
     ensures err { OnErr result (out.new.items ≡ out.old.items) }
     ensures spelled { IsPrintable theory.now.signature →
-        IsWellSorted theory.now.signature term.now → IsSpelling theory.now.signature false term.now }
+        IsWellSorted theory.now.signature term.now
+        → IsSpelling theory.now.signature false term.now }
 {
     theory.known();
     print_as(alloc, theory, false, term, out)

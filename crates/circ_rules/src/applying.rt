@@ -58,7 +58,8 @@ impl Basis<'_> {
     // The first goal is replaced by what the chain leads to.
     fn simplify(&self, state: &mut State, chain: &Chain) -> Result<bool, AllocError>
         requires basis_sorted { IsSortedBasis self.now }
-        requires in_table { AllOfChain (λ n. n < length self.now.table.now) (plain_chain chain.now) }
+        requires in_table { AllOfChain (λ n. n < length self.now.table.now)
+            (plain_chain chain.now) }
         requires state_sorted { IsSortedState self.now.theory.now (plain_state state.old) }
         ensures exact { IfOk result (Applies self.now.theory.now self.now.gamma.now
             (Simplify (resolved_chain self.now.table.now (plain_chain chain.now)))

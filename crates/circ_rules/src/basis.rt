@@ -35,7 +35,8 @@ impl Basis<'_> {
         term: &Term,
     ) -> Result<Option<Term>, AllocError>
         requires basis_sorted { IsSortedBasis self.now }
-        requires in_table { AllOfLinks (λ n. n < length self.now.table.now) (plain_links links.now) }
+        requires in_table { AllOfLinks (λ n. n < length self.now.table.now)
+            (plain_links links.now) }
         requires hyps_sorted { AreSortedGoals self.now.theory.now hyps.now }
         requires term_sorted { IsWellSorted self.now.theory.now.signature term.now }
         ensures exact { IfOk result (FollowsAll (setting_of self.now hyps.now)
@@ -64,7 +65,8 @@ impl Basis<'_> {
         goal: &Goal,
     ) -> Result<Option<Goal>, AllocError>
         requires basis_sorted { IsSortedBasis self.now }
-        requires in_table { AllOfChain (λ n. n < length self.now.table.now) (plain_chain chain.now) }
+        requires in_table { AllOfChain (λ n. n < length self.now.table.now)
+            (plain_chain chain.now) }
         requires hyps_sorted { AreSortedGoals self.now.theory.now hyps.now }
         requires goal_sorted { IsWellSortedGoal self.now.theory.now goal.now }
         ensures exact { IfOk result (FollowsChain (setting_of self.now hyps.now)

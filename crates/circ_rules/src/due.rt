@@ -78,7 +78,8 @@ pub fn certify_next(
 impl Basis<'_> {
     fn certify_next(&self, due: &mut Due, links: &[Link]) -> Result<bool, AllocError>
         requires basis_sorted { IsSortedBasis self.now }
-        requires in_table { AllOfLinks (λ n. n < length self.now.table.now) (plain_links links.now) }
+        requires in_table { AllOfLinks (λ n. n < length self.now.table.now)
+            (plain_links links.now) }
         requires places { AllByRecursion (IsPlace self.now.theory.now) self.now.gamma.now }
         ensures exact { IfOk result (CertifiesNext self.now.theory.now self.now.gamma.now
             due.old due.new (links_of self.now links.now)) }
