@@ -14,7 +14,7 @@ ghost use Rattle.circ_file.specs.Writing.{Writes, lines_of_step};
 ghost use Rattle.circ_file.specs.Encoding.{IsProof};
 
 use crate::numbering::put_table;
-use crate::writing::{put_lent_line, put_line};
+use crate::writing::{put_lent_line, put_line, put_made_line};
 use circ_line::{LentLine, Line};
 use circ_replay::{Chain, Link, Why};
 use circ_rules::{Block, Proof, Step};
@@ -51,7 +51,7 @@ fn put_places(places: &[Place], out: &mut Vec<u8>) -> Result<(), AllocError>
 {
     for place in places {
         let arg = place.arg as u32;
-        put_line(&Line::Place { op: place.op, arg }, out)?;
+        put_made_line(Line::Place { op: place.op, arg }, out)?;
     }
     Ok(())
 }
@@ -95,7 +95,7 @@ fn put_goals(names: &[(u32, u32)], out: &mut Vec<u8>) -> Result<(), AllocError>
 {
     for (left, right) in names {
         let (left, right) = (*left, *right);
-        put_line(&Line::Goal { left, right }, out)?;
+        put_made_line(Line::Goal { left, right }, out)?;
     }
     Ok(())
 }
@@ -145,7 +145,7 @@ fn put_why(why: &Why, out: &mut Vec<u8>) -> Result<(), AllocError>
         Why::Split { chain, term, whys } => {
             let (term, count) = (*term, whys.len() as u32);
             put_chain(chain, out)?;
-            put_line(&Line::Split { term, count }, out)?;
+            put_made_line(Line::Split { term, count }, out)?;
             put_whys(whys.as_slice(), out)
         }
     }

@@ -14,7 +14,7 @@ use crate::counts::Counts;
 use crate::machine::Machine;
 use crate::table::ReadTable;
 use crate::taken::Taken;
-use crate::{MOST_ENTRIES, MOST_SPLITS, MOST_PROOF_STEPS};
+use crate::{MOST_ENTRIES, MOST_PROOF_STEPS, MOST_SPLITS};
 use circ_line::{Line, TableLine, read_line};
 use circ_theory::Theory;
 use std::alloc::{AllocError, Global};

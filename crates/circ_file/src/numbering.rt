@@ -11,7 +11,7 @@ ghost use Rattle.circ_proof_text.specs.TableText.{entry_of, entries_of};
 ghost use Rattle.circ_file.specs.Writing.{Writes};
 ghost use Rattle.circ_file.specs.Numbering.{IsNumbering};
 
-use crate::writing::{put_lent_line, put_line};
+use crate::writing::{put_lent_line, put_made_line};
 use circ_line::{LentLine, Line, TableLine};
 use circ_replay::TableBuilder;
 use circ_term::{Kind, Term};
@@ -65,7 +65,7 @@ impl Numbering {
         match term.kind() {
             Kind::Variable { number, sort } => {
                 let line = TableLine::Variable { number, sort };
-                put_line(&Line::Table { line }, out)
+                put_made_line(Line::Table { line }, out)
             }
             Kind::Application { op, args, .. } => {
                 let args = self.numbers_of(args)?;

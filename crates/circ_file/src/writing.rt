@@ -17,6 +17,14 @@ pub(crate) fn put_line(line: &Line, out: &mut Vec<u8>) -> Result<(), AllocError>
     Ok(())
 }
 
+/// Appends a line that is made for it.
+pub(crate) fn put_made_line(line: Line, out: &mut Vec<u8>) -> Result<(), AllocError>
+    ensures { OnOk result (Writes out.old.items out.new.items
+        (λ later. plain_line line ∷ later)) }
+{
+    put_line(&line, out)
+}
+
 /// Appends a line whose parts are lent.
 pub(crate) fn put_lent_line(line: LentLine, out: &mut Vec<u8>) -> Result<(), AllocError>
     ensures { OnOk result (Writes out.old.items out.new.items
