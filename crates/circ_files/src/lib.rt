@@ -14,6 +14,6 @@ mod theory_file;
 pub use files::{MOST_BYTES, PIECE, take_file, take_into};
 pub use intake::Intake;
 pub use script_file::take_script;
-pub use status::Status;
+pub use status::{CHECKED_FILE, SCRIPT_FILE, STORED_FILE, Status, THEORY_FILE};
 pub use texts::{push_counted, push_numbered, push_spent, push_unreadable};
 pub use theory_file::take_theory;

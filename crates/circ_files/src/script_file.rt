@@ -6,7 +6,7 @@ ghost use Rattle.circ_files.specs.Quiet.{IsQuietCall};
 ghost use Rattle.circ_files.specs.ScriptFile.{TakesScript, IsScriptFault};
 
 use crate::files::take_file;
-use crate::status::Status;
+use crate::status::{SCRIPT_FILE, Status};
 use circ_outer::Shelf;
 use circ_read::ReadFault;
 use circ_script::laws::read_in_one_way;
@@ -31,7 +31,7 @@ pub fn take_script<S: Shelf>(
     ensures quiet { IsQuietCall (S.state shelf.old) (S.state shelf.new) result }
     ensures frame { ShelfFrame (S.state shelf.old) (S.state shelf.new) }
 {
-    let bytes = match take_file(alloc, shelf, 2, name) {
+    let bytes = match take_file(alloc, shelf, SCRIPT_FILE, name) {
         Ok(bytes) => bytes,
         Err(status) => return Err(status),
     };
@@ -39,7 +39,7 @@ pub fn take_script<S: Shelf>(
     match read_script(alloc, theory, bytes.as_slice(), job) {
         Ok(script) => Ok(script),
         Err(ReadFault::Statement { number, cause }) => Err(Status::Unreadable {
-            file: 2,
+            file: SCRIPT_FILE,
             place: number,
             cause,
         }),

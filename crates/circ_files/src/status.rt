@@ -3,6 +3,19 @@ ghost use Rattle.std.specs.Prelude.{◌≡◌};
 ghost use Rattle.circ_files.specs.Status.{number_of};
 
 use circ_read::Cause;
+use std::alloc::AllocError;
+
+/// The number of the theory among the files of a run.
+pub const THEORY_FILE: u8 = 1;
+
+/// The number of a script that is read.
+pub const SCRIPT_FILE: u8 = 2;
+
+/// The number of a proof that is read and checked.
+pub const CHECKED_FILE: u8 = 2;
+
+/// The number of a proof that is to be stored.
+pub const STORED_FILE: u8 = 3;
 
 /// How a run of the program ended. File 1 is the theory, file 2 the proof or script that is read,
 /// and file 3 the proof that is to be stored.
@@ -58,6 +71,17 @@ pub enum Status {
     TooDeep {
         depth: u64,
     },
+}
+
+impl From<AllocError> for Status {
+    ghost use Rattle.std.specs.Prelude.{◌≡◌};
+    ghost use Rattle.circ_files.specs.declared.status.Status.TheVariants.{Memory};
+
+    ghost from_gives = { λ _ status. status ≡ Memory };
+
+    fn from(_: AllocError) -> Status {
+        Status::Memory
+    }
 }
 
 impl Status {

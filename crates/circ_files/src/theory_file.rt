@@ -5,7 +5,7 @@ ghost use Rattle.circ_files.specs.Quiet.{IsQuietCall};
 ghost use Rattle.circ_files.specs.TheoryFile.{TakesTheory, IsTheoryFault};
 
 use crate::files::take_file;
-use crate::status::Status;
+use crate::status::{Status, THEORY_FILE};
 use circ_outer::Shelf;
 use circ_read::laws::read_in_one_way;
 use circ_read::{ReadFault, read_theory};
@@ -19,7 +19,7 @@ pub fn take_theory<S: Shelf>(alloc: Global, shelf: &mut S, name: &str) -> Result
     ensures quiet { IsQuietCall (S.state shelf.old) (S.state shelf.new) result }
     ensures frame { ShelfFrame (S.state shelf.old) (S.state shelf.new) }
 {
-    let bytes = match take_file(alloc, shelf, 1, name) {
+    let bytes = match take_file(alloc, shelf, THEORY_FILE, name) {
         Ok(bytes) => bytes,
         Err(status) => return Err(status),
     };
@@ -30,7 +30,7 @@ pub fn take_theory<S: Shelf>(alloc: Global, shelf: &mut S, name: &str) -> Result
             Ok(theory)
         }
         Err(ReadFault::Statement { number, cause }) => Err(Status::Unreadable {
-            file: 1,
+            file: THEORY_FILE,
             place: number,
             cause,
         }),

@@ -28,8 +28,8 @@ put_why-put_whys-requires t c =
     let same = ap (λ ws. whys_depth (plain_whys ws)) c.as_slice.ensures.value in
     (omega arith, rw c.as_slice.ensures.value (c.requires.0, c.requires.1 - 1, fits.4))
 
-pub put_why-returns-in_ok-put_made_line : goal.put_why-returns-in_ok-put_made_line
-put_why-returns-in_ok-put_made_line t c =
+pub put_why-returns-in_ok-put_made_line-in-Split : goal.put_why-returns-in_ok-put_made_line-in-Split
+put_why-returns-in_ok-put_made_line-in-Split t c =
     let e = ap plain_why c.in-Split.is ∙ split_plain c.in-Split.chain c.in-Split.term c.in-Split.whys in
     let whys = plain_whys c.in-Split.whys.items in
     let counted : c.len.result ≡ why_count whys = omega (arith, count-whys c.in-Split.whys.items) in
@@ -37,7 +37,7 @@ put_why-returns-in_ok-put_made_line t c =
     (λ w later.
     w later
     ∙ ap (λ ws. c.put_made_line.new.out.items ++ file_text (whys_lines (plain_whys ws) later)) c.as_slice.ensures.value
-    ∙ c.in_ok-put_made_line.ensures (whys_lines whys later)
+    ∙ c.in_ok-put_made_line-in-Split.ensures (whys_lines whys later)
     ∙ ap (λ n. c.put_chain-in-Split.new.out.items ++ file_text (split_line c.in-Split.term n ∷ whys_lines whys later)) counted
     ∙ c.in_ok-put_chain-in-Split.ensures (split_line c.in-Split.term (why_count whys) ∷ whys_lines whys later)
     ∙ ap (λ v. c.args.out.now.items ++ file_text (why_lines v later)) (sym e))
