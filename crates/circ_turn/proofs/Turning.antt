@@ -193,16 +193,21 @@ each_front Q h P a p g rest e =
     first : (R : List Goal) (h g : Goal) (xs ys : List Goal) → R ≡ h ∷ xs → R ≡ g ∷ ys → h ≡ g
     first R h g xs ys a b = let z = sym a ∙ b in cc
 
-pub goal_turn_goes : {X : Type 0} (th : Theory) (G : List Place) (l : Limits) (st mid : Standing) (g : Goal) (rest : List Goal) (n : Sides) (q : Goal) (Q : List Goal) (new : Standing)
-    (r : Result X End) → normal_sides th (block_rules th st.earlier) [] g.left g.right st.budget ≡ Ok n → mid ≡ with_sides st rest n → q ≡ goal n.left n.right → Q ≡ mid.queue
-    → GoesTo (sides_turn th G l mid q (drop 1 Q)) new r → GoesTo (goal_turn th G l st g rest) new r
-goal_turn_goes {X = X} th G l st mid g rest n q Q new r e m same queue h =
+pub normal_turn_goes : {X : Type 0} (th : Theory) (G : List Place) (l : Limits) (st mid : Standing) (rest : List Goal) (n : Sides) (q : Goal) (Q : List Goal) (new : Standing)
+    (r : Result X End) → mid ≡ with_sides st rest n → q ≡ goal n.left n.right → Q ≡ mid.queue
+    → GoesTo (sides_turn th G l mid q (drop 1 Q)) new r → GoesTo (sides_turn th G l (with_sides st rest n) (goal n.left n.right) rest) new r
+normal_turn_goes {X = X} th G l st mid rest n q Q new r m same queue h =
     let tail : drop 1 Q ≡ rest = ap (drop 1) (queue ∙ ap (λ x. x.queue) m) in
     let P : List Goal → Type 0 = λ x. GoesTo {X = X} (sides_turn th G l mid q x) new r in
     let N : Goal → Type 0 = λ x. GoesTo {X = X} (sides_turn th G l mid x rest) new r in
     let M : Standing → Type 0 = λ x. GoesTo {X = X} (sides_turn th G l x (goal n.left n.right) rest) new r in
-    goes_same (goal_turn th G l st g rest) (sides_turn th G l (with_sides st rest n) (goal n.left n.right) rest) new r (goal_goes th G l st g rest n e)
-    (subst M m (subst N same (subst P tail h)))
+    subst M m (subst N same (subst P tail h))
+
+pub goal_turn_goes : {X : Type 0} (th : Theory) (G : List Place) (l : Limits) (st : Standing) (g : Goal) (rest : List Goal) (n : Sides) (new : Standing)
+    (r : Result X End) → normal_sides th (block_rules th st.earlier) [] g.left g.right st.budget ≡ Ok n
+    → GoesTo (sides_turn th G l (with_sides st rest n) (goal n.left n.right) rest) new r → GoesTo (goal_turn th G l st g rest) new r
+goal_turn_goes th G l st g rest n new r e h =
+    goes_same (goal_turn th G l st g rest) (sides_turn th G l (with_sides st rest n) (goal n.left n.right) rest) new r (goal_goes th G l st g rest n e) h
 
 -- the ending that is told is such
 pub is_end : {A : Type 0} (R : Ending → Type 0) (r : Result A Ending) (e : End) → ((x : Ending) → r ≡ Err x → R x) → Ends r e → IsEnd R e

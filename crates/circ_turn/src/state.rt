@@ -1,8 +1,8 @@
 //! Where a search stands.
 
-ghost use Rattle.std.specs.Prelude.{◌≡◌, ◌<◌, ◌≤◌, length, drop, map, ℕ, IfOk, OnOk};
+ghost use Rattle.std.specs.Prelude.{◌≡◌, ◌<◌, ◌≤◌, [], ◌∷◌, length, drop, map, false, ℕ, IfOk, OnOk};
 ghost use Rattle.circ_plain_search.specs.Search.{no_links, next_goal, with_sides, sides_with};
-ghost use Rattle.circ_plain_search.specs.Search.{start};
+ghost use Rattle.circ_plain_search.specs.Search.{chained, start};
 ghost use Rattle.circ_record.specs.Plain.{plain_term_chain};
 ghost use Rattle.circ_turn.specs.Standing.{standing, unlinked, limits_with, Keeps};
 
@@ -56,12 +56,49 @@ impl<'a> State<'a> {
         ensures { (derives : ℕ) → IfOk result (λ s. standing s
             ≡ start (limits_with budget derives) (map (λ v. v.items) blocks.now)) }
     {
-        let mut state = State {
+        match blocks.split_first() {
+            None => {
+                let (goals, queue) = (Vec::new(alloc), VecDeque::new(alloc));
+                Ok(State::at(alloc, goals, queue, &[], budget))
+            }
+            Some((first, later)) => {
+                let goals = share_goals(alloc, first.as_slice())?;
+                let queue = share_queue(alloc, first.as_slice())?;
+                Ok(State::at(alloc, goals, queue, later, budget))
+            }
+        }
+    }
+
+    // Before the first step.
+    fn at(
+        alloc: Global,
+        goals: Vec<Goal>,
+        queue: VecDeque<Goal>,
+        later: &'a [Vec<Goal>],
+        budget: u64,
+    ) -> State<'a>
+        ensures { standing result ≡ record {
+          finished = [];
+          earlier = [];
+          goals = goals.items;
+          later = map (λ v. v.items) later.now;
+          hypotheses = [];
+          queue = queue.items;
+          chain = no_links;
+          steps = [];
+          taken = 0;
+          budget = budget;
+          derives = 0;
+          made = 0;
+          deep = false;
+        } }
+    {
+        State {
             finished: Vec::new(alloc),
-            goals: Vec::new(alloc),
-            later: &[],
+            goals,
+            later,
             hyps: Hypotheses::new(alloc),
-            queue: VecDeque::new(alloc),
+            queue,
             chain: no_links(alloc),
             steps: Vec::new(alloc),
             taken: 0,
@@ -69,13 +106,7 @@ impl<'a> State<'a> {
             derives: 0,
             made: 0,
             deep: false,
-        };
-        if let Some((first, later)) = blocks.split_first() {
-            state.goals = share_goals(alloc, first.as_slice())?;
-            state.queue = share_queue(alloc, first.as_slice())?;
-            state.later = later;
         }
-        Ok(state)
     }
 
     // The goal in hand has these sides now, to which these links have led.
@@ -86,18 +117,21 @@ impl<'a> State<'a> {
             (sides_with sides.left sides.right (plain_term_chain sides.chain) budget)) }
     {
         let Sides { left, right, chain } = sides;
-        let hand = Goal { left, right };
-        let TermChain {
-            left: mut lefts,
-            right: mut rights,
-        } = chain;
-        self.chain.left.append(&mut lefts)?;
-        self.chain.right.append(&mut rights)?;
+        self.set_hand(Goal { left, right }, budget);
+        append(&mut self.chain, chain)
+    }
+
+    fn set_hand(&mut self, hand: Goal, budget: u64)
+        requires { 0 < length self.old.queue.items }
+        ensures { standing self.new ≡ record (standing self.old) {
+          queue = hand ∷ drop 1 self.old.queue.items;
+          budget = budget;
+        } }
+    {
         if let Some(first) = self.queue.front_mut() {
             *first = hand;
         }
         self.budget = budget;
-        Ok(())
     }
 
     // The chain, which has no links afterwards.
@@ -119,6 +153,20 @@ impl<'a> State<'a> {
         self.chain = no_links(alloc);
         self.taken += 1;
     }
+}
+
+// Puts the links of a chain behind those of another.
+fn append(chain: &mut TermChain, more: TermChain) -> Result<(), AllocError>
+    ensures { OnOk result (plain_term_chain chain.new
+        ≡ chained (plain_term_chain chain.old) (plain_term_chain more)) }
+{
+    let TermChain {
+        mut left,
+        mut right,
+    } = more;
+    chain.left.append(&mut left)?;
+    chain.right.append(&mut right)?;
+    Ok(())
 }
 
 // A chain without links.

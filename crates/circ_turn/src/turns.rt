@@ -1,17 +1,20 @@
 //! The turns of a search.
-ghost use Rattle.std.specs.Prelude.{◌≡◌, ◌<◌, ◌∷◌, [], List, length, drop, Some, Ok};
+ghost use Rattle.std.specs.Prelude.{◌≡◌, ◌<◌, ◌∷◌, [], List, length, drop, Some, Ok, IfOk};
 ghost use Rattle.circ_theory.specs.declared.parts.Goal.{Goal as TheGoal};
 ghost use Rattle.circ_proof.specs.Goals.{goal};
 ghost use Rattle.circ_plain_search.specs.BlockRules.{block_rules, hidden_lemmas};
 ghost use Rattle.circ_plain_search.specs.Coming.{IsReady, IsSmall};
+ghost use Rattle.circ_plain_search.specs.Joining.{put_counted};
 ghost use Rattle.circ_plain_search.specs.Search.{goal_turn, sides_turn, join_turn, pass_turn};
 ghost use Rattle.circ_plain_search.specs.Search.{open_turn, visible_turn, swept_sides};
+ghost use Rattle.circ_plain_search.specs.Search.{pass_uses, with_sides, sides_with};
 ghost use Rattle.circ_plain_search.specs.Search.{normal_sides, Sides as TheSides};
 ghost use Rattle.circ_block.specs.Rules.{IsRulesOf};
 ghost use Rattle.circ_join.specs.Uses.{plain_uses};
+ghost use Rattle.circ_record.specs.Plain.{plain_term_chain};
 ghost use Rattle.circ_split.specs.Answers.{GivesSides};
 ghost use Rattle.circ_turn.specs.Standing.{standing, plain_limits};
-ghost use Rattle.circ_turn.specs.Ending.{GoesTo};
+ghost use Rattle.circ_turn.specs.Ending.{GoesTo, Sweeps};
 
 use crate::end::End;
 use crate::search::Search;
@@ -21,10 +24,12 @@ use circ_block::BlockRules;
 use circ_join::{
     HypothesisUse, Joining, Lemmas, Passing, Stop, lemma_links, put_all, use_all, use_links,
 };
-use circ_record::{TermChain, TermWhy};
+use circ_record::{TermChain, TermLink, TermWhy};
 use circ_rewrite::share_goal;
 use circ_split::{Sides, Splitting, normal_sides};
+use circ_term::Term;
 use circ_theory::Goal;
+use std::alloc::AllocError;
 
 impl Search<'_> {
     // One goal: both sides are normalised, and then it is looked at.
@@ -59,15 +64,33 @@ impl Search<'_> {
             &mut budget,
         ) {
             Err(stop) => Err(self.end(state, stop)),
-            Ok(sides) => {
-                let goal = Goal {
-                    left: sides.left.share()?,
-                    right: sides.right.share()?,
-                };
-                state.set_sides(sides, budget)?;
-                self.sides_turn(rules, state, &goal)
-            }
+            Ok(sides) => self.normal_turn(rules, state, sides, budget),
         }
+    }
+
+    // The goal in hand has these sides now, in normal form.
+    fn normal_turn(
+        &self,
+        rules: &mut BlockRules<'_>,
+        state: &mut State<'_>,
+        sides: Sides,
+        budget: u64,
+    ) -> Result<(), End>
+        requires rules { IsRulesOf self.now.theory.now state.old.hyps.earlier rules.old }
+        requires some { 0 < length state.old.queue.items }
+        requires small { IsSmall (standing state.old) }
+        requires ready { IsReady self.now.theory.now (goal sides.left sides.right) }
+        ensures exact { GoesTo (sides_turn self.now.theory.now self.now.gamma.now
+            (plain_limits self.now.limits)
+            (with_sides (standing state.old) (drop 1 state.old.queue.items)
+            (sides_with sides.left sides.right (plain_term_chain sides.chain) budget))
+            (goal sides.left sides.right) (drop 1 state.old.queue.items))
+            (standing state.new) result }
+        ensures rules { IsRulesOf self.now.theory.now state.old.hyps.earlier rules.new }
+    {
+        let goal = goal_of(&sides)?;
+        state.set_sides(sides, budget)?;
+        self.sides_turn(rules, state, &goal)
     }
 
     // A goal whose sides are in normal form.
@@ -149,30 +172,52 @@ impl Search<'_> {
         }
     }
 
+    // A lemma pass over both sides, the left one first.
     fn swept_sides(&self, lemmas: &Lemmas, goal: &Goal, budget: &mut u64) -> Result<Sides, Stop>
         ensures { (E : List TheGoal) → lemmas.now ≡ hidden_lemmas self.now.theory.now 0 E
             → GivesSides (swept_sides self.now.theory.now self.now.gamma.now E
             goal.now.left goal.now.right budget.old) budget.new result }
+    {
+        let (left, lefts) = match self.swept_side(lemmas, &goal.left, budget) {
+            Err(stop) => return Err(stop),
+            Ok(swept) => swept,
+        };
+        match self.swept_side(lemmas, &goal.right, budget) {
+            Err(stop) => Err(stop),
+            Ok((right, rights)) => {
+                let chain = TermChain {
+                    left: lefts,
+                    right: rights,
+                };
+                Ok(Sides { left, right, chain })
+            }
+        }
+    }
+
+    // A lemma pass over one side: the term that it makes, and its links.
+    fn swept_side(
+        &self,
+        lemmas: &Lemmas,
+        term: &Term,
+        budget: &mut u64,
+    ) -> Result<(Term, Vec<TermLink>), Stop>
+        ensures { (E : List TheGoal) → lemmas.now ≡ hidden_lemmas self.now.theory.now 0 E
+            → Sweeps (put_counted budget.old term.now
+            (pass_uses self.now.theory.now self.now.gamma.now E term.now))
+            (pass_uses self.now.theory.now self.now.gamma.now E term.now) budget.new result }
     {
         let passing = Passing {
             alloc: self.alloc,
             gamma: self.gamma,
             lemmas,
         };
-        let uses = passing.pass(&goal.left)?;
-        let others = passing.pass(&goal.right)?;
-        match use_all(self.alloc, &goal.left, uses.as_slice(), budget) {
+        let uses = passing.pass(term)?;
+        match use_all(self.alloc, term, uses.as_slice(), budget) {
             Err(stop) => Err(stop),
-            Ok(left) => match use_all(self.alloc, &goal.right, others.as_slice(), budget) {
-                Err(stop) => Err(stop),
-                Ok(right) => {
-                    let chain = TermChain {
-                        left: lemma_links(self.alloc, uses)?,
-                        right: lemma_links(self.alloc, others)?,
-                    };
-                    Ok(Sides { left, right, chain })
-                }
-            },
+            Ok(made) => {
+                let links = lemma_links(self.alloc, uses)?;
+                Ok((made, links))
+            }
         }
     }
 
@@ -226,4 +271,13 @@ impl Search<'_> {
             }
         }
     }
+}
+
+// The sides as a goal.
+fn goal_of(sides: &Sides) -> Result<Goal, AllocError>
+    ensures { IfOk result (λ g. g ≡ goal sides.now.left sides.now.right) }
+{
+    let left = sides.left.share()?;
+    let right = sides.right.share()?;
+    Ok(Goal { left, right })
 }

@@ -10,15 +10,12 @@ use Rattle.circ_turn.specs.Standing.{standing, plain_limits}
 use Rattle.circ_turn.proofs.Turning.{each_front, goal_turn_goes, part_ends}
 use Rattle.circ_turn.proofs.search.Search.goal_turn.Goals as goal
 
-pub sides_turn-requires-clause-ready : goal.sides_turn-requires-clause-ready
-sides_turn-requires-clause-ready c =
+pub normal_turn-requires-clause-ready : goal.normal_turn-requires-clause-ready
+normal_turn-requires-clause-ready c =
     let Q : List Goal = c.args.state.now.queue.items in
     let front : Q ≡ c.in-Some.hand.now ∷ drop 1 Q = drop_read Q 0 c.in-Some.hand.now c.in-Some.ensures.item.3.0 c.in-Some.ensures.lookup in
     let h = rw (c.in-Ok.is, c.requires.rules.plain) at c.normal_sides.ensures.exact in
-    let n : Sides = sides_with c.in-Ok.sides.left c.in-Ok.sides.right (plain_term_chain c.in-Ok.sides.chain) c.normal_sides.new.budget in
-    let same = ap (λ x. goal_with x c.in_ok-share-in-Ok-2.field-0) c.in_ok-share-in-Ok.ensures.same ∙ ap (goal_with c.in-Ok.sides.left) c.in_ok-share-in-Ok-2.ensures.same in
-    let P : Goal → Type 0 = IsReady c.args.self.now.theory.now in
-    subst P (sym same) (c.requires.ready c.in-Some.hand.now (drop 1 Q) n front h)
+    c.requires.ready c.in-Some.hand.now (drop 1 Q) (sides_with c.in-Ok.sides.left c.in-Ok.sides.right (plain_term_chain c.in-Ok.sides.chain) c.normal_sides.new.budget) front h
 
 pub returns-in-Err-clause-exact : goal.returns-in-Err-clause-exact
 returns-in-Err-clause-exact c =
@@ -29,16 +26,14 @@ returns-in-Err-clause-exact c =
     (λ g rest. Ends (goal_turn c.args.self.now.theory.now c.args.self.now.gamma.now (plain_limits c.args.self.now.limits) (standing c.args.state.now) g rest) c.end.result) front
     (rw c.end.ensures (part_ends (plain_limits c.args.self.now.limits) (standing c.args.state.now) c.in-Err.stop _ _ h))
 
-pub returns-in_ok-set_sides-in-Ok-clause-exact : goal.returns-in_ok-set_sides-in-Ok-clause-exact
-returns-in_ok-set_sides-in-Ok-clause-exact c =
+pub returns-in-Ok-clause-exact : goal.returns-in-Ok-clause-exact
+returns-in-Ok-clause-exact c =
     let Q : List Goal = c.args.state.now.queue.items in
     let front : Q ≡ c.in-Some.hand.now ∷ drop 1 Q = drop_read Q 0 c.in-Some.hand.now c.in-Some.ensures.item.3.0 c.in-Some.ensures.lookup in
     let h = rw (c.in-Ok.is, c.requires.rules.plain) at c.normal_sides.ensures.exact in
     let n : Sides = sides_with c.in-Ok.sides.left c.in-Ok.sides.right (plain_term_chain c.in-Ok.sides.chain) c.normal_sides.new.budget in
-    let same = ap (λ x. goal_with x c.in_ok-share-in-Ok-2.field-0) c.in_ok-share-in-Ok.ensures.same ∙ ap (goal_with c.in-Ok.sides.left) c.in_ok-share-in-Ok-2.ensures.same in
     each_front Q c.in-Some.hand.now
-    (λ g rest. GoesTo (goal_turn c.args.self.now.theory.now c.args.self.now.gamma.now (plain_limits c.args.self.now.limits) (standing c.args.state.now) g rest) (standing c.sides_turn.new.state)
-    c.sides_turn.result) front
-    (goal_turn_goes c.args.self.now.theory.now c.args.self.now.gamma.now (plain_limits c.args.self.now.limits) (standing c.args.state.now) (standing c.set_sides.new.self) c.in-Some.hand.now (drop 1 Q) n
-    (goal_with c.in_ok-share-in-Ok.field-0 c.in_ok-share-in-Ok-2.field-0) c.set_sides.new.self.queue.items (standing c.sides_turn.new.state) c.sides_turn.result h
-    c.in_ok-set_sides-in-Ok.ensures same refl c.sides_turn.ensures.exact)
+    (λ g rest. GoesTo (goal_turn c.args.self.now.theory.now c.args.self.now.gamma.now (plain_limits c.args.self.now.limits) (standing c.args.state.now) g rest) (standing c.normal_turn.new.state)
+    c.normal_turn.result) front
+    (goal_turn_goes c.args.self.now.theory.now c.args.self.now.gamma.now (plain_limits c.args.self.now.limits) (standing c.args.state.now) c.in-Some.hand.now (drop 1 Q) n
+    (standing c.normal_turn.new.state) c.normal_turn.result h c.normal_turn.ensures.exact)

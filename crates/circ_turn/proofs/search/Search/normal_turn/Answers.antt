@@ -1,0 +1,21 @@
+use Rattle.std.proofs.Common.{◌≡◌, drop, List, sym, subst, refl}
+use Rattle.circ_theory.specs.declared.parts.Goal.{Goal}
+use Rattle.circ_proof.specs.Goals.{goal as goal_with}
+use Rattle.circ_plain_search.specs.Coming.{IsReady}
+use Rattle.circ_plain_search.specs.Search.{sides_with, Sides}
+use Rattle.circ_record.specs.Plain.{plain_term_chain}
+use Rattle.circ_turn.specs.Standing.{standing, plain_limits}
+use Rattle.circ_turn.proofs.Turning.{normal_turn_goes}
+use Rattle.circ_turn.proofs.search.Search.normal_turn.Goals as goal
+
+pub sides_turn-requires-clause-ready : goal.sides_turn-requires-clause-ready
+sides_turn-requires-clause-ready c =
+    let P : Goal → Type 0 = IsReady c.args.self.now.theory.now in
+    subst P (sym c.in_ok-goal.ensures) c.requires.ready
+
+pub returns-in_ok-set_sides-in-Ok-clause-exact : goal.returns-in_ok-set_sides-in-Ok-clause-exact
+returns-in_ok-set_sides-in-Ok-clause-exact c =
+    let n : Sides = sides_with c.args.sides.left c.args.sides.right (plain_term_chain c.args.sides.chain) c.args.budget in
+    normal_turn_goes c.args.self.now.theory.now c.args.self.now.gamma.now (plain_limits c.args.self.now.limits) (standing c.args.state.now) (standing c.set_sides.new.self)
+    (drop 1 c.args.state.now.queue.items) n c.in_ok-goal.goal c.set_sides.new.self.queue.items (standing c.sides_turn.new.state) c.sides_turn.result
+    c.in_ok-set_sides-in-Ok.ensures c.in_ok-goal.ensures refl c.sides_turn.ensures.exact
