@@ -1,8 +1,6 @@
-use Rattle.std.proofs.Common.{◌≡◌, ◌∷◌, List, drop, sym, ap, subst, refl, ◌∙◌}
+use Rattle.std.proofs.Common.{◌≡◌, ◌∷◌, List, drop}
 use Rattle.circ_term.proofs.Within.{drop_read}
 use Rattle.circ_theory.specs.declared.parts.Goal.{Goal}
-use Rattle.circ_proof.specs.Goals.{goal as goal_with}
-use Rattle.circ_plain_search.specs.Coming.{IsReady}
 use Rattle.circ_plain_search.specs.Search.{goal_turn, sides_with, Sides}
 use Rattle.circ_record.specs.Plain.{plain_term_chain}
 use Rattle.circ_turn.specs.Ending.{GoesTo, Ends}

@@ -1,6 +1,5 @@
-use Rattle.std.proofs.Common.{◌≡◌, drop, List, sym, subst, refl}
+use Rattle.std.proofs.Common.{drop, sym, subst, refl}
 use Rattle.circ_theory.specs.declared.parts.Goal.{Goal}
-use Rattle.circ_proof.specs.Goals.{goal as goal_with}
 use Rattle.circ_plain_search.specs.Coming.{IsReady}
 use Rattle.circ_plain_search.specs.Search.{sides_with, Sides}
 use Rattle.circ_record.specs.Plain.{plain_term_chain}
@@ -13,9 +12,9 @@ sides_turn-requires-clause-ready c =
     let P : Goal → Type 0 = IsReady c.args.self.now.theory.now in
     subst P (sym c.in_ok-goal.ensures) c.requires.ready
 
-pub returns-in_ok-set_sides-in-Ok-clause-exact : goal.returns-in_ok-set_sides-in-Ok-clause-exact
-returns-in_ok-set_sides-in-Ok-clause-exact c =
+pub returns-in_ok-set_sides-clause-exact : goal.returns-in_ok-set_sides-clause-exact
+returns-in_ok-set_sides-clause-exact c =
     let n : Sides = sides_with c.args.sides.left c.args.sides.right (plain_term_chain c.args.sides.chain) c.args.budget in
     normal_turn_goes c.args.self.now.theory.now c.args.self.now.gamma.now (plain_limits c.args.self.now.limits) (standing c.args.state.now) (standing c.set_sides.new.self)
     (drop 1 c.args.state.now.queue.items) n c.in_ok-goal.goal c.set_sides.new.self.queue.items (standing c.sides_turn.new.state) c.sides_turn.result
-    c.in_ok-set_sides-in-Ok.ensures c.in_ok-goal.ensures refl c.sides_turn.ensures.exact
+    c.in_ok-set_sides.ensures c.in_ok-goal.ensures refl c.sides_turn.ensures.exact
