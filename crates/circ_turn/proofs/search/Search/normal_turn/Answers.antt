@@ -12,8 +12,8 @@ sides_turn-requires-clause-ready c =
     let P : Goal → Type 0 = IsReady c.args.self.now.theory.now in
     subst P (sym c.in_ok-goal.ensures) c.requires.ready
 
-pub returns-in_ok-set_sides-clause-exact : goal.returns-in_ok-set_sides-clause-exact
-returns-in_ok-set_sides-clause-exact c =
+pub returns-clause-exact : goal.returns-clause-exact
+returns-clause-exact c =
     let n : Sides = sides_with c.args.sides.left c.args.sides.right (plain_term_chain c.args.sides.chain) c.args.budget in
     normal_turn_goes c.args.self.now.theory.now c.args.self.now.gamma.now (plain_limits c.args.self.now.limits) (standing c.args.state.now) (standing c.set_sides.new.self)
     (drop 1 c.args.state.now.queue.items) n c.in_ok-goal.goal c.set_sides.new.self.queue.items (standing c.sides_turn.new.state) c.sides_turn.result
