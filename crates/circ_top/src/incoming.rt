@@ -62,8 +62,16 @@ impl<'a> Incoming<'a> {
             return Err(Status::Refused { step });
         }
         let goals = self.goals.as_slice();
-        let derived = self.checker.derived();
-        Ok(reported(self.alloc, report, self.theory, goals, derived)?)
+        match reported(
+            self.alloc,
+            report,
+            self.theory,
+            goals,
+            self.checker.derived(),
+        ) {
+            Ok(text) => Ok(text),
+            Err(_) => Err(Status::Memory),
+        }
     }
 
     // Takes the parts that the reader has made.

@@ -40,5 +40,8 @@ pub(crate) fn prove<'a, S: Shelf>(
     };
     scripts_are_fit();
     searchable(&theory, &script);
-    Ok(search(alloc, &theory, script.blocks.as_slice(), &limits, name)?)
+    match search(alloc, &theory, script.blocks.as_slice(), &limits, name) {
+        Ok(ending) => Ok(ending),
+        Err(_) => Err(Status::Memory),
+    }
 }
