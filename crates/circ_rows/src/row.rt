@@ -44,15 +44,6 @@ fn count(status: &Status) -> u64 {
     }
 }
 
-/// Appends the words of a line.
-fn push_line(alloc: Global, line: &str, words: &mut Vec<String>) -> Result<(), AllocError> {
-    for part in line.split_ascii_whitespace() {
-        let word = String::from_str(alloc, part)?;
-        words.push(word)?;
-    }
-    Ok(())
-}
-
 impl<'a> Row<'a> {
     /// A row of no part.
     pub fn new(alloc: Global) -> Row<'a> {
@@ -133,23 +124,17 @@ impl<'a> Row<'a> {
 
     /// The program's name, and the words behind it.
     fn words(&self, alloc: Global) -> Result<Vec<String>, AllocError> {
-        let program = String::from_str(alloc, "circ")?;
-        let mut words = vec![in alloc; program]?;
+        let mut words = vec![in alloc; String::from_str(alloc, "circ")?]?;
         let line = self.last("circ").map_or("", |part| part.name);
-        push_line(alloc, line, &mut words)?;
-        self.push_words(alloc, &mut words)?;
-        Ok(words)
-    }
-
-    /// Appends the words of the parts that hold one.
-    fn push_words(&self, alloc: Global, words: &mut Vec<String>) -> Result<(), AllocError> {
+        for word in line.split_ascii_whitespace() {
+            words.push(String::from_str(alloc, word)?)?;
+        }
         for part in &self.parts {
             if part.kind == "word" {
-                let word = String::from_str(alloc, part.name)?;
-                words.push(word)?;
+                words.push(String::from_str(alloc, part.name)?)?;
             }
         }
-        Ok(())
+        Ok(words)
     }
 
     /// The files that the program finds, and the calls that fail.
