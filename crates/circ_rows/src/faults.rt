@@ -140,7 +140,7 @@ fn fail_each(
 ) -> io::Result<()> {
     let mut calls: Option<Calls> = None;
     for call in 1..=MOST_CALLS {
-        let came = came(rt.alloc(), row, pace, device, call)?;
+        let came = run_failing(rt.alloc(), row, pace, device, call)?;
         let (ended, next) = join(calls, call, came);
         print_calls(rt, device, bytes, ended)?;
         calls = Some(next);
@@ -186,7 +186,7 @@ fn print_calls(
 }
 
 /// What comes of a row where a call of a device fails.
-fn came(
+fn run_failing(
     alloc: Global,
     row: &Row<'_>,
     pace: Pace,
@@ -196,25 +196,26 @@ fn came(
     let words = row.words(alloc)?;
     let mut shelf = row.shelf(alloc, pace.pieces.max(1))?;
     let mut sink = MemorySink::new(alloc, pace.writes.max(1));
-    match device {
-        Device::Shelf => shelf.fail_at(call)?,
-        Device::Sink => sink.fail_at(call)?,
-    }
+    let planned = match device {
+        Device::Shelf => shelf.fail_at(call),
+        Device::Sink => sink.fail_at(call),
+    };
+    planned?;
     let status = circ(alloc, &words, &mut shelf, &mut sink);
     let taken = match device {
         Device::Shelf => None,
         Device::Sink => Some(call.saturating_sub(1).saturating_mul(pace.writes as u64)),
     };
-    let mut came = Came {
+    let came = Came {
         number: status.number(),
         count: count(&status),
         has_fault: shelf.faults() > 0 || sink.faults() > 0,
-        printed: printed(row, sink.bytes(), taken),
-        stored: stored(row, &shelf),
+        printed: printed_text(row, sink.bytes(), taken),
+        stored: stored_files(row, &shelf),
         then_whole: false,
     };
-    came.then_whole = is_whole_again(alloc, row, &words, &mut shelf)?;
-    Ok(came)
+    let then_whole = is_whole_again(alloc, row, &words, &mut shelf)?;
+    Ok(Came { then_whole, ..came })
 }
 
 /// Whether a run on this shelf comes out whole.
@@ -230,11 +231,11 @@ fn is_whole_again(
         Some(_) => Stored::Whole,
         None => Stored::Nothing,
     };
-    Ok(row.is_answered(u64::from(status.number()), sink.bytes()) && stored(row, shelf) == want)
+    Ok(row.is_answered(u64::from(status.number()), sink.bytes()) && stored_files(row, shelf) == want)
 }
 
 /// What was printed, where the calls of the sink before the one that failed took so many bytes.
-fn printed(row: &Row<'_>, text: &[u8], taken: Option<u64>) -> Printed {
+fn printed_text(row: &Row<'_>, text: &[u8], taken: Option<u64>) -> Printed {
     let whole = row.last("prints").map_or(b"".as_slice(), |part| part.text.as_bytes());
     if text == whole {
         return Printed::Whole;
@@ -247,7 +248,7 @@ fn printed(row: &Row<'_>, text: &[u8], taken: Option<u64>) -> Printed {
 }
 
 /// What the files hold, beside what they held before.
-fn stored(row: &Row<'_>, shelf: &MemoryShelf) -> Stored {
+fn stored_files(row: &Row<'_>, shelf: &MemoryShelf) -> Stored {
     let target = row.last("stores");
     let mut changed = 0u64;
     for part in &row.parts {
