@@ -1,28 +1,26 @@
 //! The program `circ` over real files and standard output.
 #![tactic(auto)]
 
-mod streams;
-
 use circ_outer::{HostShelf, HostSink};
 use circ_top::{Status, circ};
 use std::env;
 use std::io::ErrorKind;
 use std::process::ExitCode;
-use streams::{Output, say};
+use std::str;
 
 /// The number with which the program ends where the system does not give its words.
 const NO_WORDS: u8 = 14;
 
 /// Says on standard error what no text on standard output can say. The name is that of the file
 /// that was not read or not stored; without one it is the text that was not written.
-fn complain(rt: &HostRuntime, status: &Status, name: Option<&[u8]>) {
-    let name = name.unwrap_or(b"standard output");
-    match status {
-        Status::ReadFault { .. } => say(rt, [b"circ: read fault: ", name, b"\n"]),
-        Status::WriteFault { .. } => say(rt, [b"circ: write fault: ", name, b"\n"]),
-        Status::Memory => say(rt, [b"circ: out of memory", b"", b"\n"]),
-        _ => {}
-    }
+fn complain(rt: &impl Eprint, status: &Status, name: Option<&[u8]>) {
+    let name = str::from_utf8(name.unwrap_or(b"standard output")).unwrap_or("");
+    let _ = match status {
+        Status::ReadFault { .. } => eprintln!(rt; "circ: read fault: {name}"),
+        Status::WriteFault { .. } => eprintln!(rt; "circ: write fault: {name}"),
+        Status::Memory => eprintln!(rt; "circ: out of memory"),
+        _ => Ok(()),
+    };
 }
 
 /// The words of the command line, or the number with which the program ends.
@@ -31,7 +29,7 @@ fn words(rt: &HostRuntime) -> Result<Vec<String>, u8> {
         Ok(args) => args.collect(rt.alloc()).map_err(|_| out_of_memory(rt)),
         Err(error) if error.kind() == ErrorKind::OutOfMemory => Err(out_of_memory(rt)),
         Err(_) => {
-            say(rt, [b"circ: no words", b"", b"\n"]);
+            let _ = eprintln!(rt; "circ: no words");
             Err(NO_WORDS)
         }
     }
@@ -48,7 +46,7 @@ fn run(rt: &HostRuntime) -> u8 {
         Err(number) => return number,
     };
     let mut shelf = HostShelf::new(*rt);
-    let mut sink = HostSink::new(Output { rt: *rt });
+    let mut sink = HostSink::new(*rt);
     let status = circ(rt.alloc(), &words, &mut shelf, &mut sink);
     complain(rt, &status, shelf.failed_name());
     status.number()
