@@ -7,6 +7,7 @@
 //! must, what came follows its name.
 #![tactic(auto)]
 
+mod faults;
 mod part;
 mod row;
 
@@ -38,6 +39,9 @@ const TABLES: [&str; 21] = [
     "rows-changed-contexts",
     "rows-changed-proofs",
 ];
+
+/// The table of which each call of the outside fails in turn.
+const FAULTS: &str = "rows-each-call";
 
 /// What ends a row and begins the next.
 const NEXT: &str = "\n\n== row ";
@@ -75,5 +79,7 @@ fn main(rt: HostRuntime) -> io::Result<()> {
         let table = fs::read_to_string(&rt, name)?;
         run_table(&rt, table.as_str())?;
     }
-    Ok(())
+    println!(rt; "{FAULTS}")?;
+    let table = fs::read_to_string(&rt, FAULTS)?;
+    faults::run_table(&rt, table.as_str())
 }

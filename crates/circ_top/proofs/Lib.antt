@@ -24,3 +24,4 @@ pub mod StoredProofs
 pub mod NoFaults
 pub mod TheoryTexts
 pub mod LeftOut
+pub mod SecondProves

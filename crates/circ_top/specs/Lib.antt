@@ -17,3 +17,4 @@ pub mod Answer
 pub mod Causes
 pub mod InMemory
 pub mod Complete
+pub mod SecondProve
