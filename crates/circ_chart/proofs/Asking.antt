@@ -455,8 +455,8 @@ pub keeps_none : (P : Tree → Type 0) → ((t : Tree) → P t → ⊥) → Keep
 keeps_none P n = record { apart = tt; enough = enough_all (In Empty) P (λ t h. absurd h) (λ t h. absurd (n t h)) }
 
 -- nothing is split at a place where the hole has no term, or what is behind it no row
-pub no_first : (g : Grammar) (ts : List ℕ) (op sort s b : ℕ) (ps : List Symbol) (i j m : ℕ) → Enough (In Empty) (Reads g ts b s i m) → KeepsTerms Empty (SplitAt g ts op sort s b ps i j m)
-no_first g ts op sort s b ps i j m e = keeps_none (SplitAt g ts op sort s b ps i j m) (λ z h. none_of (Reads g ts b s i m) e h.first h.reads)
+pub no_first : (g : Grammar) (ts : List ℕ) (op sort s b : ℕ) (ps : List Symbol) (i j m : ℕ) → ((t : Tree) → Reads g ts b s i m t → ⊥) → KeepsTerms Empty (SplitAt g ts op sort s b ps i j m)
+no_first g ts op sort s b ps i j m n = keeps_none (SplitAt g ts op sort s b ps i j m) (λ z h. n h.first h.reads)
 
 pub no_rest : (g : Grammar) (ts : List ℕ) (op sort s b : ℕ) (ps : List Symbol) (i j m : ℕ) → Enough (In Empty) (RowsOf g ts op sort ps m j) → KeepsTerms Empty (SplitAt g ts op sort s b ps i j m)
 no_rest g ts op sort s b ps i j m e = keeps_none (SplitAt g ts op sort s b ps i j m)

@@ -9,6 +9,8 @@ pub mod Small
 pub mod Steps
 pub mod Places
 pub mod Asked
+pub mod Ends
+pub mod May
 pub mod Reader
 pub mod Tops
 pub mod Sorts

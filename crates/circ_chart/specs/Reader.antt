@@ -15,12 +15,14 @@ use Rattle.circ_chart.specs.Reads.{Reads}
 use Rattle.circ_chart.specs.Rows.{RowsOf}
 use Rattle.circ_chart.specs.Ways.{InParentheses, ByRule, AnyByRule, SplitAt}
 use Rattle.circ_chart.specs.Places.{HaveTables}
+use Rattle.circ_chart.specs.May.{IsClosed}
 use Rattle.circ_chart.specs.Asked.{AreAnswers}
 
--- each rule has a word, the tables are those of the rules, and what is kept is right
+-- each rule has a word, the tables are those of the rules, the sets of ends leave out nothing, and what is kept is right
 pub record IsReady (r : Reader) (m : Memo) : Type 0 where
   pub words : HaveWords r.grammar.now
   pub tables : HaveTables r.tokens.now r.grammar.now.rules.items r.tables.now
+  pub starts : IsClosed r.grammar.now r.tokens.now r.starts.now
   pub memo : AreAnswers r.grammar.now r.tokens.now m.entries.items
 
 -- the part is of a rule of the grammar

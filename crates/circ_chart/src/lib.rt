@@ -8,14 +8,19 @@
 #![tactic(auto)]
 
 mod asked;
+mod closed;
+mod ends;
 mod few;
+mod fill;
 mod grammar;
 mod memo;
 mod places;
+mod reached;
 mod reader;
 mod readings;
 mod rows;
 mod sorts;
+mod starts;
 mod steps;
 mod usable;
 mod variables;

@@ -1,6 +1,7 @@
 //! What ranges of tokens spell, asked only of the ranges that a longer reading would use.
 ghost use Rattle.std.specs.Prelude.{◌≡◌, ◌≤◌, ◌<◌, ◌+◌, ◌∷◌, ◌↔◌, length};
 ghost use Rattle.std.specs.Prelude.{IfOk, OnOk, IsTrue};
+ghost use Rattle.circ_term.specs.Tree.{Tree};
 ghost use Rattle.circ_chart.specs.declared.grammar.Symbol.TheVariants.{Word};
 ghost use Rattle.circ_chart.specs.Few.{Or};
 ghost use Rattle.circ_chart.specs.Members.{In, IsApart, KeepsTerms};
@@ -17,6 +18,7 @@ use crate::grammar::{Grammar, Rule};
 use crate::memo::{Memo, Question, has_none, keep, recalled};
 use crate::places::{Tables, can_span, next_at, table_at};
 use crate::rows::{no_symbols, products};
+use crate::starts::{Starts, may_spell};
 use crate::steps::{Step, are_words, step_at};
 use crate::variables::variables_over;
 use crate::{CLOSING, EVERY, OPENING};
@@ -33,6 +35,8 @@ pub struct Reader<'a> {
     pub tokens: &'a [u32],
     /// Where the words behind holes stand next.
     pub tables: &'a [Tables],
+    /// Where terms may end.
+    pub starts: &'a [Starts],
 }
 
 // Whether the rule has terms of the sort and of a precedence below the bound.
@@ -62,6 +66,9 @@ impl Reader<'_> {
         ensures terms { IfOk result (λ v. KeepsTerms v (TermsOver self.now wanted from to)) }
         ensures ready { OnOk result (IsReady self.now memo.new) }
     {
+        if !may_spell(self.starts, wanted.sort as usize, from, to) {
+            return Ok(Few::Empty);
+        }
         let question = Question::OfTerm {
             sort: wanted.sort,
             below: wanted.below,
@@ -74,6 +81,17 @@ impl Reader<'_> {
         let copy = shared(&few)?;
         keep(self.alloc, memo, question, from, to, copy)?;
         Ok(few)
+    }
+
+    // Whether it is known that the range has no such terms.
+    fn is_known_none(&self, memo: &Memo, wanted: Wanted, from: usize, to: usize) -> bool
+        requires { IsReady self.now memo.now }
+        ensures { IsTrue result → (t : Tree) → TermsOver self.now wanted from to t → ⊥ }
+    {
+        if !may_spell(self.starts, wanted.sort as usize, from, to) {
+            return true;
+        }
+        has_none(memo, wanted, from, to)
     }
 
     #[cycle(read)]
@@ -435,7 +453,7 @@ impl Reader<'_> {
             (SplitOver self.now gap.entry from middle to)) }
         ensures ready { OnOk result (IsReady self.now memo.new) }
     {
-        if has_none(memo, gap.wanted, from, middle) {
+        if self.is_known_none(memo, gap.wanted, from, middle) {
             return Ok(Few::Empty);
         }
         let next = Part {

@@ -3,18 +3,25 @@ use Rattle.std.proofs.lemmas.List.{length-drop}
 use Rattle.std.proofs.lemmas.Option.{slice_get_read}
 use Rattle.circ_chart.specs.declared.grammar.Rule.{Rule}
 use Rattle.circ_chart.specs.declared.memo.Question.TheVariants.{OfTerm, OfRow}
-use Rattle.circ_chart.specs.declared.few.Few.TheVariants.{Empty}
 use Rattle.circ_chart.specs.Few.{Or}
 use Rattle.circ_chart.specs.Members.{In, KeepsTerms}
 use Rattle.circ_chart.specs.Rows.{RowsOf}
-use Rattle.circ_chart.specs.Reader.{RulesOver, RuleOver, SplitOver, symbols_of, behind}
+use Rattle.circ_chart.specs.Reader.{TermsOver, RulesOver, RuleOver, SplitOver, symbols_of, behind}
 use Rattle.circ_chart.proofs.Sizes.{small_rows}
+use Rattle.circ_chart.proofs.May.{may_reads}
 use Rattle.circ_chart.proofs.Memory.{listed_answer}
 use Rattle.circ_chart.proofs.Tables.{next_skips}
-use Rattle.circ_chart.proofs.Asking.{small_terms, found_ways, last_found, with_enough, rule_terms, no_last, no_last_term, going_first, going_on, going_full, going_end, short_parentheses, no_tokens, kept_word, rule_step, rules_full, rules_end, no_first, no_rest, split_kept, rule_passed, before_kept, before_none}
+use Rattle.circ_chart.proofs.Asking.{keeps_none, small_terms, found_ways, last_found, with_enough, rule_terms, no_last, no_last_term, going_first, going_on, going_full, going_end, short_parentheses, no_tokens, kept_word, rule_step, rules_full, rules_end, no_first, no_rest, split_kept, rule_passed, before_kept, before_none}
 use Rattle.circ_chart.proofs.reader.Reader.+read.Goals as goal
 
 -- terms
+pub terms-returns-then-not-may_spell-clause-terms : goal.terms-returns-then-not-may_spell-clause-terms
+terms-returns-then-not-may_spell-clause-terms t c =
+    let a = c.args in
+    let r = a.self.now in
+    keeps_none (TermsOver r a.wanted a.from a.to)
+    (λ x h. c.may_spell.ensures c.if-not-may_spell.true (may_reads r.grammar.now r.tokens.now r.starts.now a.wanted.below a.wanted.sort a.from a.to x h c.requires.ready.starts c.requires.ready.words))
+
 pub terms-returns-in-Some-clause-terms : goal.terms-returns-in-Some-clause-terms
 terms-returns-in-Some-clause-terms t c =
     let a = c.args in
@@ -28,6 +35,7 @@ terms-returns-clause-ready t c =
     record {
       words = q.ready.words;
       tables = q.ready.tables;
+      starts = q.ready.starts;
       memo = c.in_ok-keep.ensures r.grammar.now r.tokens.now q.ready.memo (rw (c.in_ok-copy.ensures) (q.terms));
     }
 
@@ -194,6 +202,7 @@ kept_splits-returns-clause-ready t c =
     record {
       words = q.ready.words;
       tables = q.ready.tables;
+      starts = q.ready.starts;
       memo = c.in_ok-keep.ensures r.grammar.now r.tokens.now q.ready.memo (λ x e.
           let z : Some p.rule.now ≡ Some x = sym c.requires.rule ∙ e in
           let f : p.rule.now ≡ x = cc z in
@@ -275,14 +284,13 @@ new_splits-returns-clause-rows t c =
     c.loop-middle-test.false c.loop-middle.invariant.going
 
 -- a split at one place
-pub split-returns-then-has_none-clause-rows : goal.split-returns-then-has_none-clause-rows
-split-returns-then-has_none-clause-rows t c =
+pub split-returns-then-is_known_none-clause-rows : goal.split-returns-then-is_known_none-clause-rows
+split-returns-then-is_known_none-clause-rows t c =
     let a = c.args in
     let r = a.self.now in
     let x = a.gap in
     let q = x.part.rule.now in
-    no_first r.grammar.now r.tokens.now q.op q.sort x.wanted.sort x.wanted.below (behind x.part) a.from a.to a.middle
-    (listed_answer r.grammar.now r.tokens.now a.memo.now.entries.items (OfTerm x.wanted.sort x.wanted.below) a.from a.middle Empty c.requires.ready.memo (c.has_none.ensures c.if-has_none.true)).enough
+    no_first r.grammar.now r.tokens.now q.op q.sort x.wanted.sort x.wanted.below (behind x.part) a.from a.to a.middle (c.is_known_none.ensures c.if-is_known_none.true)
 
 pub split-returns-in-Empty-clause-rows : goal.split-returns-in-Empty-clause-rows
 split-returns-in-Empty-clause-rows t c =
