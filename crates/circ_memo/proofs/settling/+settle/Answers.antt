@@ -421,3 +421,30 @@ turn-returns-in-Ok-Some-clause-kept t c =
       named = named_later a.nodes c.advance.new.nodes c.args.here i.0 g (named_later c.args.store.now.nodes a.nodes c.args.here i.0 c.settle_args.ensures.extends.grows i.1);
       way = way_kept_later a.entries.items a.nodes c.advance.new.nodes g c.args.here i.0 c.in-Ok.way.ready c.in-Ok.way.count (c.in-Ok.ensures.kept i.0 i.1);
     }
+
+pub settle-loop-stop-init : goal.settle-loop-stop-init
+settle-loop-stop-init t c =
+    let i = c.requires.inside in
+    rw c.new-steps.ensures.items (record {
+      store = c.requires.store;
+      extends = extends_self c.args.store.now;
+      way = (i.0, i.0, i.1, i.1, refl, i.2);
+      linked = refl;
+      count = omega arith;
+      below = omega arith;
+    })
+
+pub settle-turn-requires : goal.settle-turn-requires
+settle-turn-requires t c =
+    let i = c.loop-stop.invariant in
+    let w = i.way in
+    (omega (arith, i.below), (i.store, ((w.1, w.3, w.5), omega (arith, i.count, c.requires.fits))))
+
+pub settle-loop-stop-smaller : goal.settle-loop-stop-smaller
+settle-loop-stop-smaller t c =
+    let w = c.loop-stop.invariant.way in
+    let stepped = rw c.in-Ok-Stepped.field-0-is at (c.in-Ok-Stepped.ensures.turns w.1 w.3) in
+    omega (arith, stepped.2)
+
+pub turn-settle_args-requires : goal.turn-settle_args-requires
+turn-settle_args-requires t c = (omega arith, (c.requires.store, (c.requires.inside, c.requires.fits)))
