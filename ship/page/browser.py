@@ -10,7 +10,7 @@ import tempfile
 class Browser:
     """One page in a Chromium of its own."""
 
-    def __init__(self, program="chromium"):
+    def __init__(self, program="chromium", words=()):
         if not shutil.which(program):
             raise SystemExit(f"there is no {program}: apt-get install chromium")
         self.profile = tempfile.mkdtemp(prefix="circ-page-")
@@ -23,9 +23,9 @@ class Browser:
             os.dup2(13, 3)
             os.dup2(14, 4)
 
-        words = ["--headless", "--no-sandbox", "--disable-gpu", "--remote-debugging-pipe", "--hide-scrollbars",
-                 f"--user-data-dir={self.profile}", "about:blank"]
-        self.process = subprocess.Popen([program, *words], close_fds=False, preexec_fn=place, stderr=subprocess.DEVNULL)
+        always = ["--headless", "--no-sandbox", "--disable-gpu", "--remote-debugging-pipe", "--hide-scrollbars",
+                  f"--user-data-dir={self.profile}"]
+        self.process = subprocess.Popen([program, *always, *words, "about:blank"], close_fds=False, preexec_fn=place, stderr=subprocess.DEVNULL)
         os.close(asked)
         os.close(answering)
         self.number = 0
