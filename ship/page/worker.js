@@ -33,7 +33,7 @@ function call({ exports }, words, files, room) {
 onmessage = async ({ data: { module, words, files } }) => {
   try {
     const began = performance.now();
-    let room = { text: 1 << 22, proof: 1 << 22 };
+    let room = { text: 2 ** 20 - 16, proof: 2 ** 20 - 16 };
     let answer = call(await WebAssembly.instantiate(module), words, files, room);
     if (answer.lengths.text > room.text || answer.lengths.proof > room.proof) {
       // What did not fit is asked for again, with room enough.
