@@ -35,7 +35,7 @@ pub struct Lengths {
 
 /// A run of the program that is over: its answer, its files and its text.
 #[derive(Drop)]
-struct Run {
+struct Ended {
     status: Status,
     shelf: SureShelf,
     sink: SureSink,
@@ -95,7 +95,7 @@ fn run(
     theory: &[u8],
     goals: &[u8],
     proof: &[u8],
-) -> Result<Run, AllocError>
+) -> Result<Ended, AllocError>
     ensures { IfOk result (λ r. RunsPage (lines_of words.now) theory.now goals.now proof.now
         r.status (shelf_state r.shelf) (sink_state r.sink)) }
 {
@@ -103,7 +103,7 @@ fn run(
     let mut shelf = shelf_of(alloc, theory, goals, proof)?;
     let mut sink = SureSink::new(alloc, PIECE);
     let status = circ(alloc, &words, &mut shelf, &mut sink);
-    Ok(Run {
+    Ok(Ended {
         status,
         shelf,
         sink,

@@ -10,14 +10,16 @@ pub returns : goal.returns
 returns c =
     let e = c.in_ok-words.ensures in
     let said = c.circ-status.ensures in
+    let before = shelf_state c.in_ok-shelf.shelf in
+    let start = sink_state c.new-sink.result in
     record {
-      before = shelf_state c.in_ok-shelf.shelf;
-      start = sink_state c.new-sink.result;
+      before = before;
+      start = start;
       held = c.in_ok-shelf.ensures;
       nothing = c.new-sink.ensures.written;
       due = due_moved e said.answers;
       outcome =
-        outcome_moved e
+        outcome_moved before (shelf_state c.circ-status.new.shelf) start (sink_state c.circ-status.new.out) c.circ-status.result e
         (λ h. sure_outcome _ _ _ _ _ c.circ-status.result refl (λ n f. always_read _ _ _ _ _ n never_rose h (said.read_fault n f))
           (λ n f. always_written _ _ _ _ _ n never_rose never_rose (said.write_fault n f)) (said.outcome refl));
       accepted = λ r t p a. said.accepted r t p (asks_moved (Check r t p) e a);
