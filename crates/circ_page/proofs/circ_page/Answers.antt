@@ -33,8 +33,8 @@ returns c =
       text_bytes = written_of run.sink;
       proof_bytes = file_bytes (holds_of run.shelf (codes "proof"));
       comes =
-        number_moved (sym c.number.ensures)
-        (ran run.status (shelf_state run.shelf) (sink_state run.sink) (run_moved c.in-Ok.ensures.cases.0 c.in-Ok-run.ensures));
+          number_moved (sym c.number.ensures)
+          (ran run.status (shelf_state run.shelf) (sink_state run.sink) (run_moved c.in-Ok.ensures.cases.0 c.in-Ok-run.ensures));
       text_handed = handed_moved c.bytes.ensures c.hand_out-lengths.ensures;
       proof_handed = handed_moved c.proof_in.ensures c.hand_out-lengths-2.ensures;
     }

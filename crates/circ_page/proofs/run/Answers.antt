@@ -19,8 +19,8 @@ returns c =
       nothing = c.new-sink.ensures.written;
       due = due_moved e said.answers;
       outcome =
-        outcome_moved before (shelf_state c.circ-status.new.shelf) start (sink_state c.circ-status.new.out) c.circ-status.result e
-        (λ h. sure_outcome _ _ _ _ _ c.circ-status.result refl (λ n f. always_read _ _ _ _ _ n never_rose h (said.read_fault n f))
+          outcome_moved before (shelf_state c.circ-status.new.shelf) start (sink_state c.circ-status.new.out) c.circ-status.result e
+          (λ h. sure_outcome _ _ _ _ _ c.circ-status.result refl (λ n f. always_read _ _ _ _ _ n never_rose h (said.read_fault n f))
           (λ n f. always_written _ _ _ _ _ n never_rose never_rose (said.write_fault n f)) (said.outcome refl));
       accepted = λ r t p a. said.accepted r t p (asks_moved (Check r t p) e a);
       proved = λ l t g p a. said.proved l t g p (asks_moved (Prove l t g p) e a);
