@@ -15,7 +15,7 @@ use std::alloc::{AllocError, Global};
 use std::{fs, io};
 
 /// The tables, in the order in which they are run.
-const TABLES: [&str; 21] = [
+const TABLES: [&str; 22] = [
     "rows-words",
     "rows-faults",
     "rows-causes",
@@ -37,6 +37,7 @@ const TABLES: [&str; 21] = [
     "rows-content",
     "rows-changed-contexts",
     "rows-changed-proofs",
+    "rows-automata",
 ];
 
 /// What ends a row and begins the next.
