@@ -7,7 +7,10 @@ pub mod Numerals
 pub mod Wording
 pub mod Inverting
 pub mod Marks
-pub mod Repeats
+pub mod Distinct
 pub mod RowTexts
 pub mod Texts
 pub mod Once
+pub mod RowSteps
+pub mod Repeating
+pub mod Places

@@ -3,16 +3,30 @@ use Rattle.std.specs.Prelude.{◌≡◌, ℕ, ◌<◌, ◌||◌, zero, suc, List
 use Rattle.std.specs.List.{list_any}
 use Rattle.std.proofs.Common.{sym, ◌∙◌, ap, subst, arith}
 use Rattle.std.proofs.lemmas.List.{same_lists}
+use Rattle.std.proofs.lemmas.Bool.{eqb-true, eqb-false}
 use Rattle.circ_auto.specs.Parts.{marked}
 use Rattle.circ_auto.proofs.Keeping.{length_set}
 use Rattle.circ_auto.proofs.Ending.{length_unseen}
 
+get_set_same : (bs : List Bool) (s : ℕ) → s < length bs → get_or (slice_set bs s true) s false ≡ true
+get_set_same [] s l = absurd (omega (arith, l))
+get_set_same (b ∷ bs) zero l = refl
+get_set_same (b ∷ bs) (suc s) l = get_set_same bs s (omega (arith, l))
+
+get_set_other : (bs : List Bool) (t s : ℕ) → (t ≡ s → ⊥) → get_or (slice_set bs t true) s false ≡ get_or bs s false
+get_set_other [] t s other = refl
+get_set_other (b ∷ bs) zero zero other = absurd (other refl)
+get_set_other (b ∷ bs) zero (suc s) other = refl
+get_set_other (b ∷ bs) (suc t) zero other = refl
+get_set_other (b ∷ bs) (suc t) (suc s) other = get_set_other bs t s (λ e. other (ap suc e))
+
 get_set_or : (bs : List Bool) (t s : ℕ) → s < length bs → get_or (slice_set bs t true) s false ≡ (nat_eq t s || get_or bs s false)
-get_set_or [] t s l = absurd (omega (arith, l))
-get_set_or (b ∷ bs) zero zero l = refl
-get_set_or (b ∷ bs) zero (suc s) l = refl
-get_set_or (b ∷ bs) (suc t) zero l = refl
-get_set_or (b ∷ bs) (suc t) (suc s) l = get_set_or bs t s (omega (arith, l))
+get_set_or bs t s l = go (nat_eq t s) refl (eqb-true t s) (eqb-false t s)
+  where
+    go : (c : Bool) → nat_eq t s ≡ c → (c ≡ true → t ≡ s) → (c ≡ false → t ≡ s → ⊥) → get_or (slice_set bs t true) s false ≡ (nat_eq t s || get_or bs s false)
+    go true e is other =
+        rw e (ap (λ x. get_or (slice_set bs x true) s false) (is refl) ∙ get_set_same bs s l)
+    go false e is other = rw e (get_set_other bs t s (other refl))
 
 pub length_marked : (ss : List ℕ) (bs : List Bool) → length (marked bs ss) ≡ length bs
 length_marked [] bs = refl

@@ -79,7 +79,7 @@ pub rows_give : (k n rows s : ℕ) (ws : List Word) (ts : List ℕ) (r : List Wo
 rows_give k n zero s ws ts r e =
     let same : ◌≡◌ {A = List ℕ × List Word} ([], ws) (ts, r) = ok_same ([], ws) (ts, r) e in
     let P : List ℕ × List Word → Type 0 = λ p. RowsThen k n zero s ws p.0 p.1 in
-    subst P same (record { words = refl; count = refl; below = tt })
+    subst P same (record { words = refl; count = omega arith; below = tt })
 rows_give k n (suc rows) s ws ts r e =
     let a = both (or_shape (6 + s) (row_in k n s ws)) (λ r. followed (rows_part k n rows (s + 1) r.1) (λ t. Ok (r.0 ++ t.0, t.1))) (ts, r) e in
     let row = row_gives k n s ws a.value.0 a.value.1 (some_there (6 + s) (row_in k n s ws) a.value a.first) in
@@ -104,7 +104,7 @@ all_taken n (suc k) [] a = (tt, tt)
 all_taken n (suc k) (t ∷ ts) a = let h = all_taken n k ts a.1 in ((a.0, h.0), h.1)
 
 cut_lengths : (k m : ℕ) (ts : List ℕ) → length ts ≡ k + m → (length (take k ts) ≡ k) × (length (drop k ts) ≡ m)
-cut_lengths zero m ts e = (refl, e)
+cut_lengths zero m ts e = (refl, omega (arith, e))
 cut_lengths (suc k) m [] e = absurd (omega (arith, e))
 cut_lengths (suc k) m (t ∷ ts) e = let h = cut_lengths k m ts (omega (arith, e)) in (ap suc h.0, h.1)
 

@@ -6,6 +6,7 @@ use Rattle.std.proofs.Common.{sym, ◌∙◌, ap, subst, arith}
 use Rattle.std.proofs.lemmas.Bool.{eqb-true, eqb-false, ltb-true, ltb-false, lt-ltb, le-ltb}
 use Rattle.circ_statement.specs.Words.{Word, is_name, are_names}
 use Rattle.circ_auto.specs.declared.fault.AutoCause.{AutoCause}
+use Rattle.circ_auto.specs.declared.fault.AutoCause.TheVariants.{Shape, Limit}
 use Rattle.circ_auto.specs.Machine.{Machine, states, IsMachine, AreAllDifferent}
 use Rattle.circ_auto.specs.Reading.{after, front_of, names_in, number_in, numbers_in, is_none_left, are_below}
 use Rattle.circ_auto.specs.Parts.{Part, or_shape, unless_refused, followed, head_in, repeat_after, repeated_or_many, letters_cause, letters_part, states_cause, states_part, start_in, accept_in, rows_part, end_in, marked, Opening, opening, closing, automaton_of}
@@ -15,7 +16,7 @@ use Rattle.circ_auto.proofs.Wording.{after_gives, after_again, front_gives, none
 use Rattle.circ_auto.proofs.Inverting.{ok_same, both, some_there, no_cause, both_some, if_some, if_given}
 use Rattle.circ_auto.proofs.Marks.{length_marked, marked_listed, marks_are}
 use Rattle.circ_auto.proofs.Ending.{length_unseen}
-use Rattle.circ_auto.proofs.Repeats.{none_repeats, repeats_none, all_lack_none}
+use Rattle.circ_auto.proofs.Distinct.{none_repeats, repeats_none, all_lack_none}
 use Rattle.circ_auto.proofs.RowTexts.{rows_give, rows_again}
 
 record HeadThen (ws r : List Word) : Type 0 where
@@ -56,8 +57,6 @@ letters_allowed (w ∷ ws) l few d =
     ap (λ o. repeated_or_many o (length (w ∷ ws))) (repeats_none [] (w ∷ ws) (all_lack_none (w ∷ ws)) d)
     ∙ ap (λ t. if t then Some (many (length (w ∷ ws))) else None) (le-ltb 64 (length (w ∷ ws)) few)
   where
-    use Rattle.circ_auto.specs.declared.fault.AutoCause.TheVariants.{Limit}
-
     many : ℕ → AutoCause
     many n = Limit n
 
@@ -96,16 +95,17 @@ record IsCount (n : ℕ) : Type 0 where
 states_good : (n : ℕ) → states_cause n ≡ None → IsCount n
 states_good n e = go (n == 0) (eqb-false n 0) (nat_lt 1000 n) (ltb-false 1000 n) e
   where
-    use Rattle.circ_auto.specs.declared.fault.AutoCause.TheVariants.{Shape, Limit}
-
     go : (t : Bool) → (t ≡ false → n ≡ 0 → ⊥) → (u : Bool) → (u ≡ false → n ≤ 1000) → (if t then Some Shape else if u then Some (Limit n) else None) ≡ None → IsCount n
     go true h u k e = absurd (cc)
     go false h true k e = absurd (cc)
     go false h false k e = let no : n ≡ 0 → ⊥ = h refl in record { some = omega (arith, no); few = k refl }
 
 states_allowed : (n : ℕ) → 0 < n → n ≤ 1000 → states_cause n ≡ None
-states_allowed zero l few = absurd (omega (arith, l))
-states_allowed (suc n) l few = rw (le-ltb 1000 (suc n) few) refl
+states_allowed n l few = go (n == 0) refl (eqb-true n 0)
+  where
+    go : (t : Bool) → (n == 0) ≡ t → (t ≡ true → n ≡ 0) → states_cause n ≡ None
+    go true f is = let z : n ≡ 0 = is refl in absurd (omega (arith, l, z))
+    go false f is = rw (f, le-ltb 1000 n few) refl
 
 states_give : (ws : List Word) (n : ℕ) (r : List Word) → states_part ws ≡ Ok (n, r) → StatesThen ws n r
 states_give ws n r e =
@@ -307,3 +307,31 @@ read_of_text ws m t =
     let w : IsOpening o = record { some_letters = i.letters; few_letters = i.few_letters; different = i.different; few_states = i.few_states; start = i.start } in
     ap automaton_of t.text ∙ ap (λ p. followed p closing) (opening_again t.name o t.is_name t.are_names w)
     ∙ closing_again o m t.accepted w refl refl refl refl t.are_states t.accepts i.rows i.targets
+
+-- what the code's parts give is within the limits
+pub opening_within : (a b c : List Word) (ls letters r q : List Word) (n s : ℕ) (rest : List Word) → letters_part a ≡ Ok (ls, r) → states_part b ≡ Ok (n, q)
+    → start_in n c ≡ Some (s, rest) → letters ≡ ls → IsOpening (record { letters = letters; states = n; start = s; ahead = rest })
+opening_within a b c ls letters r q n s rest l m t e =
+    let x = letters_give a ls r l in
+    let y = states_give b n q m in
+    let z = start_gives n c s rest t in
+    record { some_letters = rw e x.are.some; few_letters = rw e x.are.few; different = rw e x.are.different; few_states = y.few; start = z.below }
+
+pub closing_within : (o : Opening) (ss : List ℕ) (q : List Word) (ts : List ℕ) (r : List Word) → IsOpening o → accept_in o.states o.ahead ≡ Some (ss, q)
+    → rows_part (length o.letters) o.states o.states 0 q ≡ Ok (ts, r)
+    → IsMachine (record { letters = o.letters; start = o.start; accepting = marked (replicate o.states false) ss; targets = ts })
+closing_within o ss q ts r w a e =
+    let rows = rows_give (length o.letters) o.states o.states 0 q ts r e in
+    let count : length (marked (replicate o.states false) ss) ≡ o.states = length_marked ss (replicate o.states false) ∙ length_unseen o.states in
+    record {
+      letters = w.some_letters;
+      few_letters = w.few_letters;
+      different = w.different;
+      few_states = omega (arith, count, w.few_states);
+      start = omega (arith, count, w.start);
+      rows = rw count rows.count;
+      targets = rw count rows.below;
+    }
+
+pub listed_below : (n : ℕ) (ws : List Word) (ss : List ℕ) (r : List Word) → accept_in n ws ≡ Some (ss, r) → are_below n ss ≡ true
+listed_below n ws ss r e = all_below n ss (accept_gives n ws ss r e).below

@@ -1,5 +1,5 @@
 -- What is read from the left is what stands there.
-use Rattle.std.specs.Prelude.{◌≡◌, ℕ, ◌+◌, ◌^◌, ◌<◌, ◌==◌, ◌||◌, not, nat_lt, List, [], ◌∷◌, ◌++◌, refl, map, Option, Some, None, Bool, true, false, if◌then◌else◌, decimal, codes}
+use Rattle.std.specs.Prelude.{◌≡◌, ℕ, ◌+◌, ◌^◌, ◌<◌, ◌≤◌, ◌==◌, ◌||◌, not, nat_lt, List, [], ◌∷◌, ◌++◌, refl, map, Option, Some, None, Bool, true, false, if◌then◌else◌, decimal, codes}
 use Rattle.std.specs.List.{AllByRecursion, list_all}
 use Rattle.std.specs.Option.{option_map, option_and_then}
 use Rattle.std.specs.Cmp.Lexicographic.{bytes_decides}
@@ -17,10 +17,10 @@ pub word_itself : (w : Word) → is_word w w ≡ true
 word_itself w = (bytes_decides w w).1 refl
 
 pub other_word : (v w : Word) → (v ≡ w → ⊥) → is_word v w ≡ false
-other_word v w no = go (is_word v w) refl
+other_word v w differ = go (is_word v w) refl
   where
     go : (t : Bool) → is_word v w ≡ t → is_word v w ≡ false
-    go true e = absurd (no (same_word v w e))
+    go true e = absurd (differ (same_word v w e))
     go false e = e
 
 pub after_gives : (v : Word) (ws r : List Word) → after v ws ≡ Some r → ws ≡ v ∷ r
@@ -56,47 +56,48 @@ pub record NamesThen (ws ns r : List Word) : Type 0 where
 
 pub names_give : (ws ns r : List Word) → names_in ws ≡ Some (ns, r) → NamesThen ws ns r
 names_give [] ns r e = absurd (cc)
-names_give (w ∷ ws) ns r e = go (is_word w (codes ".")) (is_name w) (same_word w (codes ".")) refl (names_in ws) refl e
+names_give (w ∷ ws) ns r e = go (λ xs q f. names_give ws xs q f) (is_word w (codes ".")) (is_name w) (same_word w (codes ".")) refl (names_in ws) refl e
   where
-    go : (t u : Bool) → (t ≡ true → w ≡ codes ".") → is_name w ≡ u → (o : Option (List Word × List Word)) → names_in ws ≡ o
-        → (if t then Some ([], ws) else if u then option_map (λ p. (w ∷ p.0, p.1)) o else None) ≡ Some (ns, r) → NamesThen (w ∷ ws) ns r
-    go true u is n o f e =
+    go : ((xs q : List Word) → names_in ws ≡ Some (xs, q) → NamesThen ws xs q) → (t u : Bool) → (t ≡ true → w ≡ codes ".") → is_name w ≡ u → (o : Option (List Word × List Word)) → names_in ws ≡ o
+        → if◌then◌else◌ {A = Option (List Word × List Word)} t (Some ([], ws)) (if u then option_map {U = List Word × List Word} (λ p. (w ∷ p.0, p.1)) o else None)
+        ≡ Some (ns, r) → NamesThen (w ∷ ws) ns r
+    go ih true u is n o f e =
         let s : ◌≡◌ {A = List Word × List Word} ([], ws) (ns, r) = same_Some ([], ws) (ns, r) e in
         let P : List Word × List Word → Type 0 = λ p. NamesThen (w ∷ ws) p.0 p.1 in
         subst P s (record { words = ap (λ x. x ∷ ws) (is refl); are_names = refl })
-    go false false is n o f e = absurd (cc)
-    go false true is n None f e = absurd (cc)
-    go false true is n (Some p) f e =
-        let h = names_give ws p.0 p.1 f in
+    go ih false false is n o f e = absurd (cc)
+    go ih false true is n None f e = absurd (cc)
+    go ih false true is n (Some p) f e =
+        let h = ih p.0 p.1 f in
         let s : ◌≡◌ {A = List Word × List Word} (w ∷ p.0, p.1) (ns, r) = same_Some (w ∷ p.0, p.1) (ns, r) e in
         let P : List Word × List Word → Type 0 = λ q. NamesThen (w ∷ ws) q.0 q.1 in
         subst P s (record { words = ap (λ x. w ∷ x) h.words; are_names = rw n h.are_names })
 
 pub names_again : (ns r : List Word) → are_names ns ≡ true → names_in (ns ++ codes "." ∷ r) ≡ Some (ns, r)
 names_again [] r e = refl
-names_again (w ∷ ns) r e = go (is_name w) refl e
+names_again (w ∷ ns) r e = go (λ f. names_again ns r f) (is_name w) refl e
   where
-    go : (t : Bool) → is_name w ≡ t → are_names (w ∷ ns) ≡ true → names_in (w ∷ (ns ++ codes "." ∷ r)) ≡ Some (w ∷ ns, r)
-    go false n e = absurd (let z = rw n at e in cc)
-    go true n e = let rest : are_names ns ≡ true = rw n at e in rw (name_no_stop w n, n, names_again ns r rest) refl
+    go : (are_names ns ≡ true → names_in (ns ++ codes "." ∷ r) ≡ Some (ns, r)) → (t : Bool) → is_name w ≡ t → are_names (w ∷ ns) ≡ true → names_in (w ∷ (ns ++ codes "." ∷ r)) ≡ Some (w ∷ ns, r)
+    go ih false n e = absurd (let z = rw n at e in cc)
+    go ih true n e = let rest : are_names ns ≡ true = rw n at e in rw (n, name_no_stop w n, ih rest) refl
 
 pub record NumbersThen (ws : List Word) (ns : List ℕ) (r : List Word) : Type 0 where
   pub words : ws ≡ map decimal ns ++ codes "." ∷ r
 
 pub numbers_give : (ws : List Word) (ns : List ℕ) (r : List Word) → numbers_in ws ≡ Some (ns, r) → NumbersThen ws ns r
 numbers_give [] ns r e = absurd (cc)
-numbers_give (w ∷ ws) ns r e = go (is_word w (codes ".")) (same_word w (codes ".")) (numeral w) refl (numbers_in ws) refl e
+numbers_give (w ∷ ws) ns r e = go (λ xs q f. numbers_give ws xs q f) (is_word w (codes ".")) (same_word w (codes ".")) (numeral w) refl (numbers_in ws) refl e
   where
-    go : (t : Bool) → (t ≡ true → w ≡ codes ".") → (m : Option ℕ) → numeral w ≡ m → (o : Option (List ℕ × List Word)) → numbers_in ws ≡ o
-        → (if t then Some ([], ws) else option_and_then (λ n. option_map (λ p. (n ∷ p.0, p.1)) o) m) ≡ Some (ns, r) → NumbersThen (w ∷ ws) ns r
-    go true is m k o f e =
+    go : ((xs : List ℕ) (q : List Word) → numbers_in ws ≡ Some (xs, q) → NumbersThen ws xs q) → (t : Bool) → (t ≡ true → w ≡ codes ".") → (m : Option ℕ) → numeral w ≡ m → (o : Option (List ℕ × List Word)) → numbers_in ws ≡ o
+        → (if t then Some ([], ws) else option_and_then {U = List ℕ × List Word} (λ n. option_map (λ p. (n ∷ p.0, p.1)) o) m) ≡ Some (ns, r) → NumbersThen (w ∷ ws) ns r
+    go ih true is m k o f e =
         let s : ◌≡◌ {A = List ℕ × List Word} ([], ws) (ns, r) = same_Some ([], ws) (ns, r) e in
         let P : List ℕ × List Word → Type 0 = λ p. NumbersThen (w ∷ ws) p.0 p.1 in
         subst P s (record { words = ap (λ x. x ∷ ws) (is refl) })
-    go false is None k o f e = absurd (cc)
-    go false is (Some n) k None f e = absurd (cc)
-    go false is (Some n) k (Some p) f e =
-        let h = (numbers_give ws p.0 p.1 f).words in
+    go ih false is None k o f e = absurd (cc)
+    go ih false is (Some n) k None f e = absurd (cc)
+    go ih false is (Some n) k (Some p) f e =
+        let h = (ih p.0 p.1 f).words in
         let d = (numeral_gives w n k).0 in
         let s : ◌≡◌ {A = List ℕ × List Word} (n ∷ p.0, p.1) (ns, r) = same_Some (n ∷ p.0, p.1) (ns, r) e in
         let P : List ℕ × List Word → Type 0 = λ q. NumbersThen (w ∷ ws) q.0 q.1 in
@@ -113,7 +114,7 @@ number_gives [] n r e = absurd (cc)
 number_gives (w ∷ ws) n r e = go (numeral w) refl (after (codes ".") ws) refl e
   where
     go : (m : Option ℕ) → numeral w ≡ m → (o : Option (List Word)) → after (codes ".") ws ≡ o
-        → option_and_then (λ k. option_map (λ rest. (k, rest)) o) m ≡ Some (n, r) → w ∷ ws ≡ decimal n ∷ codes "." ∷ r
+        → option_and_then {U = ℕ × List Word} (λ k. option_map (λ rest. (k, rest)) o) m ≡ Some (n, r) → w ∷ ws ≡ decimal n ∷ codes "." ∷ r
     go None k o f e = absurd (cc)
     go (Some m) k None f e = absurd (cc)
     go (Some m) k (Some q) f e =
@@ -127,11 +128,11 @@ number_again n r l = rw (numeral_again n l) refl
 
 pub below_all : (k : ℕ) (ns : List ℕ) → are_below k ns ≡ true → AllByRecursion (λ n. n < k) ns
 below_all k [] e = tt
-below_all k (n ∷ ns) e = go (nat_lt n k) (ltb-true n k) refl e
+below_all k (n ∷ ns) e = go (λ f. below_all k ns f) (nat_lt n k) (ltb-true n k) refl e
   where
-    go : (t : Bool) → (t ≡ true → n < k) → nat_lt n k ≡ t → are_below k (n ∷ ns) ≡ true → AllByRecursion (λ m. m < k) (n ∷ ns)
-    go false l f e = absurd (let z = rw f at e in cc)
-    go true l f e = let rest : are_below k ns ≡ true = rw f at e in (l refl, below_all k ns rest)
+    go : (are_below k ns ≡ true → AllByRecursion (λ m. m < k) ns) → (t : Bool) → (t ≡ true → n < k) → nat_lt n k ≡ t → are_below k (n ∷ ns) ≡ true → AllByRecursion (λ m. m < k) (n ∷ ns)
+    go ih false l f e = absurd (let z = rw f at e in cc)
+    go ih true l f e = let rest : are_below k ns ≡ true = rw f at e in (l refl, ih rest)
 
 pub all_below : (k : ℕ) (ns : List ℕ) → AllByRecursion (λ n. n < k) ns → are_below k ns ≡ true
 all_below k [] all = refl

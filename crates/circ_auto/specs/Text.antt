@@ -23,11 +23,11 @@ row_words k (suc rows) s ts behind =
 abbrev pub automaton_words : (name : Word) (accepted : List ℕ) → Machine → List Word
 automaton_words name accepted m =
     codes "automaton" ∷ name ∷ codes "is"
-    ∷ codes "letters" ∷ m.letters ++ codes "."
+    ∷ codes "letters" ∷ m.letters ++ (codes "."
     ∷ codes "states" ∷ decimal (states m) ∷ codes "."
     ∷ codes "start" ∷ decimal m.start ∷ codes "."
-    ∷ codes "accept" ∷ map decimal accepted ++ codes "."
-    ∷ row_words (length m.letters) (states m) 0 m.targets (codes "endautomaton" ∷ [])
+    ∷ (codes "accept" ∷ map decimal accepted ++ (codes "."
+    ∷ row_words (length m.letters) (states m) 0 m.targets (codes "endautomaton" ∷ []))))
 
 -- These words are a text of the automaton. Its accepting states may be listed in any order, and more than once.
 pub record IsTextOf (words : List Word) (m : Machine) : Type 0 where

@@ -34,19 +34,27 @@ pub(crate) fn all_of<'b, 'a>(tokens: &'b Tokens<'a>) -> Ahead<'b, 'a>
 
 /// The first word, and those behind it.
 pub(crate) fn front_of<'b, 'a>(words: Ahead<'b, 'a>) -> Option<(&'a [u8], Ahead<'b, 'a>)>
-    ensures { option_map (λ r. (r.0.now, r.1)) result ≡ front_of words }
+    ensures { option_map (λ r. (r.0.now, r.1)) result ≡ front_of words.entry }
 {
-    let word = words.tokens.token(words.at)?;
-    let rest = Ahead {
-        tokens: words.tokens,
-        at: words.at + 1,
-    };
-    Some((word, rest))
+    let at = words.at;
+    if at == words.tokens.count() {
+        return None;
+    }
+    match words.tokens.token(at) {
+        Some(word) => {
+            let rest = Ahead {
+                tokens: words.tokens,
+                at: at + 1,
+            };
+            Some((word, rest))
+        }
+        None => None,
+    }
 }
 
 /// The words behind this first word.
 pub(crate) fn after<'b, 'a>(words: Ahead<'b, 'a>, text: &[u8]) -> Option<Ahead<'b, 'a>>
-    ensures { result ≡ after text.now words }
+    ensures { result ≡ after text.now words.entry }
 {
     let (word, rest) = front_of(words)?;
     if is_word(word, text) {
@@ -58,7 +66,7 @@ pub(crate) fn after<'b, 'a>(words: Ahead<'b, 'a>, text: &[u8]) -> Option<Ahead<'
 
 /// Whether no word is left.
 pub(crate) fn is_none_left(words: Ahead<'_, '_>) -> bool
-    ensures { result ≡ is_none_left words }
+    ensures { result ≡ is_none_left words.entry }
 {
     front_of(words).is_none()
 }

@@ -46,11 +46,11 @@ pub(crate) fn names_in<'b, 'a>(
     words: Ahead<'b, 'a>,
 ) -> Result<Option<(Vec<&'a [u8]>, Ahead<'b, 'a>)>, AllocError>
     ensures { IfOk result (λ o.
-        option_map (λ r. (map (λ w. w.now) r.0.items, r.1)) o ≡ names_in words) }
+        option_map (λ r. (map (λ w. w.now) r.0.items, r.1)) o ≡ names_in words.entry) }
 {
     let mut names = Vec::new(alloc);
-    let mut words = words;
-    while let Some((word, rest)) = front_of(words) {
+    let mut left = words;
+    while let Some((word, rest)) = front_of(left) {
         if is_word(word, b".") {
             return Ok(Some((names, rest)));
         }
@@ -58,7 +58,7 @@ pub(crate) fn names_in<'b, 'a>(
             return Ok(None);
         }
         names.push(word)?;
-        words = rest;
+        left = rest;
     }
     Ok(None)
 }
@@ -69,11 +69,11 @@ pub(crate) fn numbers_in<'b, 'a>(
     words: Ahead<'b, 'a>,
 ) -> Result<Option<(Vec<u32>, Ahead<'b, 'a>)>, AllocError>
     ensures { IfOk result (λ o.
-        option_map (λ r. (r.0.items, r.1)) o ≡ numbers_in words) }
+        option_map (λ r. (r.0.items, r.1)) o ≡ numbers_in words.entry) }
 {
     let mut numbers = Vec::new(alloc);
-    let mut words = words;
-    while let Some((word, rest)) = front_of(words) {
+    let mut left = words;
+    while let Some((word, rest)) = front_of(left) {
         if is_word(word, b".") {
             return Ok(Some((numbers, rest)));
         }
@@ -81,14 +81,14 @@ pub(crate) fn numbers_in<'b, 'a>(
             return Ok(None);
         };
         numbers.push(number)?;
-        words = rest;
+        left = rest;
     }
     Ok(None)
 }
 
 /// One number, a stop, and the words behind it.
 pub(crate) fn number_in<'b, 'a>(words: Ahead<'b, 'a>) -> Option<(u32, Ahead<'b, 'a>)>
-    ensures { option_map (λ r. (r.0, r.1)) result ≡ number_in words }
+    ensures { option_map (λ r. (r.0, r.1)) result ≡ number_in words.entry }
 {
     let (word, rest) = front_of(words)?;
     let number = numeral(word)?;

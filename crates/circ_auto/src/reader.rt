@@ -41,10 +41,10 @@ fn byte_fault(fault: LexFault) -> AutoFault
 }
 
 fn automaton_of(alloc: Global, words: Ahead<'_, '_>) -> Result<Automaton, AutoFault>
-    ensures { GivesPart (λ m. m) result (automaton_of words) }
+    ensures { GivesPart (λ m. m) result (automaton_of words.entry) }
 {
-    match opening(alloc, words) {
-        Ok(opening) => closing(alloc, opening),
+    match read_opening(alloc, words) {
+        Ok(opening) => read_closing(alloc, opening),
         Err(fault) => Err(fault),
     }
 }
@@ -58,8 +58,8 @@ struct Opening<'b, 'a> {
     ahead: Ahead<'b, 'a>,
 }
 
-fn opening<'b, 'a>(alloc: Global, words: Ahead<'b, 'a>) -> Result<Opening<'b, 'a>, AutoFault>
-    ensures gives { GivesPart opening_of result (opening words) }
+fn read_opening<'b, 'a>(alloc: Global, words: Ahead<'b, 'a>) -> Result<Opening<'b, 'a>, AutoFault>
+    ensures gives { GivesPart opening_of result (opening words.entry) }
     ensures within { IfOk result (λ o. IsOpening (opening_of o)) }
 {
     let Some(words) = head_in(words) else {
@@ -96,9 +96,9 @@ fn copies(alloc: Global, texts: &[&[u8]]) -> Result<Vec<Vec<u8>>, AllocError>
 }
 
 /// The automaton of an opening and the words behind it.
-fn closing(alloc: Global, opening: Opening<'_, '_>) -> Result<Automaton, AutoFault>
+fn read_closing(alloc: Global, opening: Opening<'_, '_>) -> Result<Automaton, AutoFault>
     requires { IsOpening (opening_of opening) }
-    ensures { GivesPart (λ m. m) result (closing (opening_of opening)) }
+    ensures { GivesPart (λ m. m) result (closing (opening_of opening.entry)) }
 {
     let Opening {
         letters,

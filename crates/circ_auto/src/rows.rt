@@ -1,6 +1,7 @@
 //! The rows of an automaton's text.
-ghost use Rattle.std.specs.Prelude.{◌≡◌, IfOk};
-ghost use Rattle.std.specs.Option.{option_map};
+ghost use Rattle.std.specs.Prelude.{◌≡◌, IfOk, codes};
+ghost use Rattle.std.specs.Option.{option_map, option_and_then};
+ghost use Rattle.circ_auto.specs.Reading.{after};
 ghost use Rattle.circ_auto.specs.Parts.{behind_state, row_in, rows_part};
 ghost use Rattle.circ_auto.specs.Gives.{GivesPart};
 
@@ -21,21 +22,21 @@ pub(crate) fn rows<'b, 'a>(
     states: u32,
 ) -> Result<(Vec<u32>, Ahead<'b, 'a>), AutoFault>
     ensures { GivesPart (λ r. (r.0.items, r.1)) result
-        (rows_part letters states states 0 words) }
+        (rows_part letters states states 0 words.entry) }
 {
     let mut targets = Vec::new(alloc);
-    let mut words = words;
+    let mut left = words;
     for state in 0..states {
-        match row_in(alloc, words, letters, states, state) {
+        match row_in(alloc, left, letters, states, state) {
             Ok(Some((row, rest))) => {
                 targets.extend_from_slice(row.as_slice())?;
-                words = rest;
+                left = rest;
             }
             Ok(None) => return Err(shape(FIRST_ROW + u64::from(state))),
             Err(_) => return Err(AutoFault::Memory),
         }
     }
-    Ok((targets, words))
+    Ok((targets, left))
 }
 
 /// The targets of the row of a state, and the words behind it.
@@ -47,7 +48,7 @@ fn row_in<'b, 'a>(
     state: u32,
 ) -> Result<Option<(Vec<u32>, Ahead<'b, 'a>)>, AllocError>
     ensures { IfOk result (λ o.
-        option_map (λ r. (r.0.items, r.1)) o ≡ row_in letters states state words) }
+        option_map (λ r. (r.0.items, r.1)) o ≡ row_in letters states state words.entry) }
 {
     let Some(words) = row_head(words, state) else {
         return Ok(None);
@@ -64,7 +65,7 @@ fn row_in<'b, 'a>(
 
 /// The words behind the head of the row of a state.
 fn row_head<'b, 'a>(words: Ahead<'b, 'a>, state: u32) -> Option<Ahead<'b, 'a>>
-    ensures { result ≡ option_and_then (behind_state state) (after (codes "from") words) }
+    ensures { result ≡ option_and_then (behind_state state) (after (codes "from") words.entry) }
 {
     let words = after(words, b"from")?;
     let (number, words) = front_of(words)?;

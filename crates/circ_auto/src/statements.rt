@@ -1,7 +1,9 @@
 //! The statements of an automaton's text but the rows, and its end.
-ghost use Rattle.std.specs.Prelude.{◌≡◌, ◌<◌, ◌≤◌, IfOk, IfSome, map, true, false, replicate};
+ghost use Rattle.std.specs.Prelude.{◌≡◌, ℕ, List, IfOk, Some, None, map, true, false, replicate};
+ghost use Rattle.std.specs.Prelude.{if◌then◌else◌};
+ghost use Rattle.std.specs.Option.{option_map};
 ghost use Rattle.circ_auto.specs.Reading.{are_below};
-ghost use Rattle.circ_auto.specs.Parts.{or_shape, head_in, letters_cause, letters_part, states_cause, states_part};
+ghost use Rattle.circ_auto.specs.Parts.{unless_refused, head_in, letters_cause, letters_part, states_cause, states_part};
 ghost use Rattle.circ_auto.specs.Parts.{start_in, accept_in, end_in, marked};
 ghost use Rattle.circ_auto.specs.Gives.{GivesPart};
 ghost use Rattle.circ_auto.specs.declared.fault.AutoFault.TheVariants.{Statement};
@@ -34,7 +36,7 @@ pub(crate) fn shape(number: u64) -> AutoFault
 
 /// The words behind the head.
 pub(crate) fn head_in<'b, 'a>(words: Ahead<'b, 'a>) -> Option<Ahead<'b, 'a>>
-    ensures { result ≡ head_in words }
+    ensures { result ≡ head_in words.entry }
 {
     let words = after(words, b"automaton")?;
     let (name, words) = front_of(words)?;
@@ -49,7 +51,7 @@ pub(crate) fn letters<'b, 'a>(
     alloc: Global,
     words: Ahead<'b, 'a>,
 ) -> Result<(Vec<&'a [u8]>, Ahead<'b, 'a>), AutoFault>
-    ensures { GivesPart (λ r. (map (λ w. w.now) r.0.items, r.1)) result (letters_part words) }
+    ensures { GivesPart (λ r. (map (λ w. w.now) r.0.items, r.1)) result (letters_part words.entry) }
 {
     let Some(words) = after(words, b"letters") else {
         return Err(shape(LETTERS));
@@ -67,9 +69,10 @@ fn checked<'b, 'a>(
     letters: Vec<&'a [u8]>,
     words: Ahead<'b, 'a>,
 ) -> Result<(Vec<&'a [u8]>, Ahead<'b, 'a>), AutoFault>
-    ensures { GivesPart (λ r. (map (λ w. w.now) r.0.items, r.1)) result
-        (unless_refused 2 (letters_cause (map (λ w. w.now) letters.items))
-        (map (λ w. w.now) letters.items, words)) }
+    ensures { GivesPart {B = List (List ℕ) × List (List ℕ)}
+        (λ r. (map (λ w. w.now) r.0.items, r.1)) result
+        (unless_refused 2 (letters_cause (map (λ w. w.now) letters.entry.items))
+        (map (λ w. w.now) letters.entry.items, words.entry)) }
 {
     match letters_cause(alloc, letters.as_slice()) {
         Ok(None) => Ok((letters, words)),
@@ -104,7 +107,7 @@ fn letters_cause(alloc: Global, letters: &[&[u8]]) -> Result<Option<AutoCause>, 
 
 /// The number of states, and the words behind its statement.
 pub(crate) fn states<'b, 'a>(words: Ahead<'b, 'a>) -> Result<(u32, Ahead<'b, 'a>), AutoFault>
-    ensures { GivesPart (λ r. (r.0, r.1)) result (states_part words) }
+    ensures { GivesPart (λ r. (r.0, r.1)) result (states_part words.entry) }
 {
     let Some(words) = after(words, b"states") else {
         return Err(shape(STATES));
@@ -137,7 +140,7 @@ fn states_cause(count: u32) -> Option<AutoCause>
 
 /// The state at which the automaton starts, and the words behind its statement.
 pub(crate) fn start_in<'b, 'a>(words: Ahead<'b, 'a>, states: u32) -> Option<(u32, Ahead<'b, 'a>)>
-    ensures { option_map (λ r. (r.0, r.1)) result ≡ start_in states words }
+    ensures { option_map (λ r. (r.0, r.1)) result ≡ start_in states words.entry }
 {
     let words = after(words, b"start")?;
     let (start, words) = number_in(words)?;
@@ -154,7 +157,7 @@ pub(crate) fn accept_in<'b, 'a>(
     words: Ahead<'b, 'a>,
     states: u32,
 ) -> Result<Option<(Vec<u32>, Ahead<'b, 'a>)>, AllocError>
-    ensures { IfOk result (λ o. option_map (λ r. (r.0.items, r.1)) o ≡ accept_in states words) }
+    ensures { IfOk result (λ o. option_map (λ r. (r.0.items, r.1)) o ≡ accept_in states words.entry) }
 {
     let Some(words) = after(words, b"accept") else {
         return Ok(None);
@@ -183,7 +186,7 @@ pub(crate) fn marked(alloc: Global, states: u32, listed: &[u32]) -> Result<Vec<b
 
 /// Whether the words are the end and nothing else.
 pub(crate) fn is_end(words: Ahead<'_, '_>) -> bool
-    ensures { (if result then Some tt else None) ≡ end_in words }
+    ensures { (if result then Some tt else None) ≡ end_in words.entry }
 {
     match after(words, b"endautomaton") {
         Some(rest) => is_none_left(rest),

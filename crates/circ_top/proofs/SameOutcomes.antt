@@ -65,7 +65,7 @@ compares_alike m n (Some v) None a b = absurd (a.0.differs (b v a.0.word))
 compares_alike m n (Some v) (Some w) a b =
     let same : length v ≡ length w = omega (arith, a.1 w b.0, b.1 v a.0) in
     let P : ℕ → Type 0 = λ k. IsLike (status.Differ (length v)) (compared_text m (Some v)) (status.Differ k) (compared_text m (Some w)) in
-    subst P same (another_word (letters_of m v) (letters_of m w) (length v) (length-map _ v) (length-map _ w ∙ sym same))
+    subst P same (another_word (letters_of m v) (letters_of m w) (length v) (length-map v _) (length-map w _ ∙ sym same))
 
 module _ (first second : List ℕ) (before after : ShelfState) where
   pub same_not_ok : (s : Status) → RefusesSame first second before after s → s ≡ status.Ok → ⊥
