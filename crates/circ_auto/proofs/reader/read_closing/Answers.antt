@@ -1,4 +1,4 @@
-use Rattle.std.proofs.Common.{◌≡◌, List, Bool, false, replicate, length, map, sym, ◌∙◌, subst, ap}
+use Rattle.std.proofs.Common.{◌≡◌, List, Bool, false, replicate, length, map, sym, subst, arith}
 use Rattle.std.proofs.lemmas.List.{length-map}
 use Rattle.circ_auto.specs.Machine.{IsMachine}
 use Rattle.circ_auto.specs.Parts.{marked, rows_part}
@@ -11,7 +11,9 @@ of-requires c =
     let o = opening_of c.args.opening in
     let marks : c.in_ok-accepting.accepting.items ≡ marked (replicate c.args.opening.states false) c.in-Some.accepted.items = rw c.as_slice.ensures.value at c.in_ok-accepting.ensures in
     let P : List Bool → Type 0 = λ bs. IsMachine (record { letters = o.letters; start = o.start; accepting = bs; targets = c.in-Ok.targets.0.items }) in
-    let count : c.len.result ≡ length (map (λ w. w.items) c.args.opening.letters.items) = c.len.ensures ∙ sym (length-map c.args.opening.letters.items _) in
+    let ls = c.args.opening.letters in
+    let same : length (map (λ w. w.items) ls.items) ≡ length ls.items = length-map ls.items (λ w. w.items) in
+    let count : c.len.result ≡ length (map (λ w. w.items) ls.items) = omega (arith, c.len.ensures, ls.ok.0, same) in
     subst P (sym marks)
     (closing_within o c.in-Some.accepted.items c.in-Some.ahead c.in-Ok.targets.0.items c.in-Ok.targets.1 c.requires
     (sym (rw c.in-Some.is at c.in_ok-accepted.ensures)) (rw count at c.in-Ok.ensures))
