@@ -3,8 +3,8 @@ ghost use Rattle.std.specs.Prelude.{◌≡◌, ◌<◌, ◌≤◌, ◌↔◌, Is
 ghost use Rattle.std.specs.List.{slice_get};
 ghost use Rattle.circ_auto.specs.Graph.{IsWord};
 ghost use Rattle.circ_auto.specs.Inside.{parts_of};
-ghost use Rattle.circ_auto.specs.Machine.{states, target, is_accepting, arrives, accepts, IsMachine};
-
+ghost use Rattle.circ_auto.specs.Machine.{states, target, is_accepting, arrives, accepts};
+ghost use Rattle.circ_auto.specs.Machine.{IsMachine};
 ghost use Rattle.circ_auto.specs.declared.TheConstants.{MOST_LETTERS, MOST_STATES};
 
 use std::marker::Model;

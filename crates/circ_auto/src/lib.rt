@@ -2,7 +2,8 @@
 //! cause why they read as none, and [`compare`] says whether two automata accept the same words.
 //!
 //! What bytes read as, what the first cause is and which words are accepted is defined in `specs`;
-//! [`laws`] states what is proved of these notions. `docs/automata.md` has the rules in plain words.
+//! [`laws`] states what is proved of these notions. `docs/automata.md` has the rules in plain
+//! words.
 #![tactic(auto)]
 
 mod ahead;

@@ -1,7 +1,8 @@
 //! Numbers, and lists of words up to a stop.
 ghost use Rattle.std.specs.Prelude.{◌≡◌, ◌<◌, ◌^◌, IfOk, map};
 ghost use Rattle.std.specs.Option.{option_map};
-ghost use Rattle.circ_auto.specs.Reading.{numeral, digits_on, names_in, numbers_in, number_in, are_below};
+ghost use Rattle.circ_auto.specs.Reading.{numeral, digits_on, names_in, numbers_in, number_in};
+ghost use Rattle.circ_auto.specs.Reading.{are_below};
 
 use crate::ahead::{Ahead, after, front_of, is_word};
 use circ_statement::is_name;

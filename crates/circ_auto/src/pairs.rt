@@ -4,7 +4,8 @@ ghost use Rattle.circ_auto.specs.Graph.{IsClosedGraph, FindsGoal};
 ghost use Rattle.circ_auto.specs.Machine.{Compares};
 ghost use Rattle.circ_auto.specs.Pairs.{pairs};
 ghost use Rattle.circ_auto.specs.Search.{IsAt};
-ghost use Rattle.circ_auto.specs.Knows.{graph_of, Knows, TakesLetter, Expands, Searches, EndsAtGoal, found_word};
+ghost use Rattle.circ_auto.specs.Knows.{graph_of, Knows, TakesLetter, Expands, Searches};
+ghost use Rattle.circ_auto.specs.Knows.{EndsAtGoal, found_word};
 
 use crate::automaton::Automaton;
 use crate::visits::{Visit, Walk};
@@ -59,8 +60,14 @@ impl<'a> Walk<'a> {
         if left { !right } else { right }
     }
 
-    /// TakesLetter the step by a letter from the visit at the head. Some: the visit to which it leads is a goal.
-    fn take_step(&mut self, head: u32, visit: Visit, letter: u32) -> Result<Option<Visit>, AllocError>
+    /// Takes the step by a letter from the visit at the head. Some: the visit to which it leads is a
+    /// goal.
+    fn take_step(
+        &mut self,
+        head: u32,
+        visit: Visit,
+        letter: u32,
+    ) -> Result<Option<Visit>, AllocError>
         requires knows { Knows self.old head letter }
         requires visit { IsAt self.old.visits.items head visit }
         requires letter { letter < (graph_of self.old).letters }
@@ -171,7 +178,8 @@ fn begin<'a>(
     })
 }
 
-/// Whether two automata over the same letters accept the same words, and else a shortest word that exactly one accepts.
+/// Whether two automata over the same letters accept the same words, and else a shortest word that
+/// exactly one accepts: the first by the order of the letters.
 pub fn compare(
     alloc: Global,
     first: &Automaton,

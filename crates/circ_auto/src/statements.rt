@@ -3,7 +3,8 @@ ghost use Rattle.std.specs.Prelude.{◌≡◌, ℕ, List, IfOk, Some, None, map,
 ghost use Rattle.std.specs.Prelude.{if◌then◌else◌};
 ghost use Rattle.std.specs.Option.{option_map};
 ghost use Rattle.circ_auto.specs.Reading.{are_below};
-ghost use Rattle.circ_auto.specs.Parts.{unless_refused, head_in, letters_cause, letters_part, states_cause, states_part};
+ghost use Rattle.circ_auto.specs.Parts.{unless_refused, head_in, letters_cause, letters_part};
+ghost use Rattle.circ_auto.specs.Parts.{states_cause, states_part};
 ghost use Rattle.circ_auto.specs.Parts.{start_in, accept_in, end_in, marked};
 ghost use Rattle.circ_auto.specs.Gives.{GivesPart};
 ghost use Rattle.circ_auto.specs.declared.fault.AutoFault.TheVariants.{Statement};
@@ -157,7 +158,8 @@ pub(crate) fn accept_in<'b, 'a>(
     words: Ahead<'b, 'a>,
     states: u32,
 ) -> Result<Option<(Vec<u32>, Ahead<'b, 'a>)>, AllocError>
-    ensures { IfOk result (λ o. option_map (λ r. (r.0.items, r.1)) o ≡ accept_in states words.entry) }
+    ensures { IfOk result (λ o.
+        option_map (λ r. (r.0.items, r.1)) o ≡ accept_in states words.entry) }
 {
     let Some(words) = after(words, b"accept") else {
         return Ok(None);

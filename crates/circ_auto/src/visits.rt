@@ -8,7 +8,8 @@ use crate::automaton::Automaton;
 pub struct Visit {
     /// The pair's number.
     pub point: u32,
-    /// The place, in the list of visits, of the visit that it was reached from. The first visit has none, and 0 here.
+    /// The place, in the list of visits, of the visit that it was reached from. The first visit has
+    /// none, and 0 here.
     pub parent: u32,
     /// The letter by which it was reached.
     pub letter: u32,

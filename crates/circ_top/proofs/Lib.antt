@@ -11,6 +11,7 @@ pub mod Agreeing
 pub mod CheckOutcomes
 pub mod SameOutcomes
 pub mod SameDecides
+pub mod SameFiles
 pub mod ShowOutcomes
 pub mod ContextsOutcomes
 pub mod Ends

@@ -1,5 +1,5 @@
 //! The command `same`: two automata are compared.
-ghost use Rattle.std.specs.Prelude.{◌≡◌, ◌∷◌, ◌++◌, None, IfOk, IfErr, OnOk, codes, flat_map, unwrap_or};
+ghost use Rattle.std.specs.Prelude.{◌≡◌, [], ◌∷◌, ◌++◌, None, IfOk, IfErr, OnOk, unwrap_or};
 ghost use Rattle.std.specs.List.{slice_get};
 ghost use Rattle.circ_outer.specs.Shelf.{ShelfFrame};
 ghost use Rattle.circ_auto.specs.Text.{ReadsAsAutomaton};
@@ -47,10 +47,11 @@ pub(crate) fn same<'a, S: Shelf>(
         Ok(first) => first,
         Err(status) => return Err(status),
     };
-    match take_second(alloc, shelf, second, &first) {
-        Ok(second) => Ok(compared(alloc, &first, &second)?),
-        Err(status) => Err(status),
-    }
+    let second = match take_second(alloc, shelf, second, &first) {
+        Ok(second) => second,
+        Err(status) => return Err(status),
+    };
+    Ok(compared(alloc, &first, &second)?)
 }
 
 /// The automaton that a file reads as, or why there is none.
@@ -102,7 +103,8 @@ fn take_second<S: Shelf>(
     name: &str,
     first: &Automaton,
 ) -> Result<Automaton, Status>
-    ensures takes { IfOk result (λ n. TakesAs (ReadsOver first.now) name.now n (S.state shelf.old)) }
+    ensures takes { IfOk result (λ n.
+        TakesAs (ReadsOver first.now) name.now n (S.state shelf.old)) }
     ensures letters { IfOk result (λ n. n.letters ≡ first.now.letters) }
     ensures fault { IfErr result
         (IsFileFault 2 name.now (SecondRefusal first.now)
@@ -136,20 +138,20 @@ fn compared<'a>(
         IsComparedIn first.now second.now e.status e.text.items) }
     ensures stored { IfOk result (λ e. plain_stored e.stored ≡ None) }
 {
-    let (status, text) = match compare(alloc, first, second)? {
-        Compared::Same => (Status::Ok, Vec::from_slice(alloc, b"same\n")?),
-        Compared::Differ { word } => (
-            Status::Differ {
+    match compare(alloc, first, second)? {
+        Compared::Same => Ok(Ending {
+            status: Status::Ok,
+            text: Vec::from_slice(alloc, b"same\n")?,
+            stored: None,
+        }),
+        Compared::Differ { word } => Ok(Ending {
+            status: Status::Differ {
                 length: word.len() as u64,
             },
-            differ_text(alloc, first, word.as_slice())?,
-        ),
-    };
-    Ok(Ending {
-        status,
-        text,
-        stored: None,
-    })
+            text: differ_text(alloc, first, word.as_slice())?,
+            stored: None,
+        }),
+    }
 }
 
 /// The line of a word in which two automata differ.
