@@ -16,7 +16,7 @@ use std::alloc::{AllocError, Global};
 use std::{fs, io};
 
 /// The tables, in the order in which they are run.
-const TABLES: [&str; 21] = [
+const TABLES: [&str; 22] = [
     "rows-words",
     "rows-faults",
     "rows-causes",
@@ -38,6 +38,7 @@ const TABLES: [&str; 21] = [
     "rows-content",
     "rows-changed-contexts",
     "rows-changed-proofs",
+    "rows-automata",
 ];
 
 /// The table of which each call of the outside fails in turn.

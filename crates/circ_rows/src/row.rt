@@ -40,6 +40,7 @@ pub fn count(status: &Status) -> u64 {
         | Status::ReadFault { count }
         | Status::WriteFault { count } => *count,
         Status::Stuck { goal, .. } => *goal,
+        Status::Differ { length } => *length,
         _ => 0,
     }
 }

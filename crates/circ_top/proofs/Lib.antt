@@ -9,6 +9,9 @@ pub mod Proofs
 pub mod Refused
 pub mod Agreeing
 pub mod CheckOutcomes
+pub mod SameOutcomes
+pub mod SameDecides
+pub mod SameFiles
 pub mod ShowOutcomes
 pub mod ContextsOutcomes
 pub mod Ends

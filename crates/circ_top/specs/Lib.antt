@@ -8,6 +8,7 @@ pub mod CheckProof
 pub mod Incoming
 pub mod Storing
 pub mod Prove
+pub mod Same
 pub mod Show
 pub mod Contexts
 pub mod Library

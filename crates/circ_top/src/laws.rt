@@ -30,6 +30,7 @@ ghost use Rattle.circ_top.specs.InMemory.{HoldsFiles};
 ghost use Rattle.circ_top.specs.PlainWords.{IsPlainWord, usual_limits};
 ghost use Rattle.circ_files.specs.declared.files.TheConstants.{MOST_BYTES, PIECE};
 
+use circ_auto::laws::read_or_refused as automata_read_or_refused;
 use circ_plain_search::laws::some_answer;
 use circ_proof_text::laws::{
     nothing_left_out as nothing_left_out_of_texts, one_answer, text_reads_back,
@@ -65,6 +66,7 @@ pub fn nothing_left_out()
 {
     read_or_refused();
     scripts_read_or_refused();
+    automata_read_or_refused();
     nothing_left_out_of_texts();
     nothing_left_out_of_proofs();
     some_answer();
