@@ -3,8 +3,8 @@
 //! comes. The last call of a line that ends with no fault is not made.
 //!
 //! A row has the parts of other rows. Its `stores` names the file that the command stores, which
-//! holds another text before. Behind each run the same words are run once more on the same shelf,
-//! which must come out whole.
+//! holds another text before. Behind each run with a fault the same words are run once more on the
+//! same shelf, which must come out whole.
 use crate::NEXT;
 use crate::row::{Row, count};
 use circ_outer::{MemoryShelf, MemorySink, Shelf, Sink};
@@ -70,7 +70,7 @@ struct Came {
     has_fault: bool,
     printed: Printed,
     stored: Stored,
-    /// Whether the run behind it came out whole.
+    /// Whether there was a fault, and the run behind it came out whole.
     then_whole: bool,
 }
 
@@ -104,8 +104,12 @@ impl fmt::Display for Came {
             Stored::Whole => "stores all",
             Stored::Another => "STORES ANOTHER TEXT",
         };
-        let then = if self.then_whole { "then all" } else { "THEN NOT ALL" };
-        write!(f, "{}, counts {}, {printed}, {stored}, {then}", self.number, self.count)
+        let then = match (self.has_fault, self.then_whole) {
+            (false, _) => "",
+            (true, true) => ", then all",
+            (true, false) => ", THEN NOT ALL",
+        };
+        write!(f, "{}, counts {}, {printed}, {stored}{then}", self.number, self.count)
     }
 }
 
@@ -214,7 +218,7 @@ fn run_failing(
         stored: stored_files(row, &shelf),
         then_whole: false,
     };
-    let then_whole = is_whole_again(alloc, row, &words, &mut shelf)?;
+    let then_whole = came.has_fault && is_whole_again(alloc, row, &words, &mut shelf)?;
     Ok(Came { then_whole, ..came })
 }
 
