@@ -35,15 +35,17 @@ module _ (m n : Machine) (none : (o : Option (List ℕ)) → Compares m n o → 
   -- the words below a length are accepted by both or by neither: else one of them is a shortest
   all_alike : (k : ℕ) (w : List ℕ) → length w < k → IsWord (length m.letters) w → accepts m w ≡ accepts n w
   all_alike zero w l i = absurd (omega (arith, l))
-  all_alike (suc k) w l i = go (same_or_not (accepts m w) (accepts n w))
+  all_alike (suc k) w l i = go (λ v less d. all_alike k v (omega (arith, l, less)) d) (same_or_not (accepts m w) (accepts n w))
     where
-      least : (v : List ℕ) → Differs m n v → (length v < length w) ⊎ (length w ≤ length v) → length w ≤ length v
-      least v d (inl less) = absurd (d.differs (all_alike k v (omega (arith, l, less)) d.word))
-      least v d (inr more) = more
+      least : ((v : List ℕ) → length v < length w → IsWord (length m.letters) v → accepts m v ≡ accepts n v)
+          → (v : List ℕ) → Differs m n v → (length v < length w) ⊎ (length w ≤ length v) → length w ≤ length v
+      least ih v d (inl less) = absurd (d.differs (ih v less d.word))
+      least ih v d (inr more) = more
 
-      go : (accepts m w ≡ accepts n w) ⊎ (accepts m w ≡ accepts n w → ⊥) → accepts m w ≡ accepts n w
-      go (inl e) = e
-      go (inr not) = absurd (none (Some w) (record { word = i; differs = not }, λ v d. least v d (less_or_not (length v) (length w))))
+      go : ((v : List ℕ) → length v < length w → IsWord (length m.letters) v → accepts m v ≡ accepts n v)
+          → (accepts m w ≡ accepts n w) ⊎ (accepts m w ≡ accepts n w → ⊥) → accepts m w ≡ accepts n w
+      go ih (inl e) = e
+      go ih (inr other) = absurd (none (Some w) (record { word = i; differs = other }, λ v d. least ih v d (less_or_not (length v) (length w))))
 
   pub compared_decides : ⊥
   compared_decides = none None (λ w i. all_alike (length w + 1) w (omega arith) i)

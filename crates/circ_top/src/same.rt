@@ -1,5 +1,6 @@
 //! The command `same`: two automata are compared.
 ghost use Rattle.std.specs.Prelude.{◌≡◌, [], ◌∷◌, ◌++◌, None, IfOk, IfErr, OnOk, unwrap_or};
+ghost use Rattle.std.specs.Prelude.{flat_map};
 ghost use Rattle.std.specs.List.{slice_get};
 ghost use Rattle.circ_outer.specs.Shelf.{ShelfFrame};
 ghost use Rattle.circ_auto.specs.Text.{ReadsAsAutomaton};
@@ -159,11 +160,24 @@ fn differ_text(alloc: Global, automaton: &Automaton, word: &[u32]) -> Result<Vec
     ensures { IfOk result (λ v. v.items ≡ differ_text (letters_of automaton.now word.now)) }
 {
     let mut out = Vec::from_slice(alloc, b"differ:")?;
-    for letter in word {
-        push_letter(&mut out, automaton, *letter)?;
-    }
-    out.push(b'\n')?;
+    push_letters(&mut out, automaton, word)?;
+    out.extend_from_slice(b"\n")?;
     Ok(out)
+}
+
+/// Appends letters with a space before each.
+fn push_letters(
+    out: &mut Vec<u8>,
+    automaton: &Automaton,
+    word: &[u32],
+) -> Result<(), AllocError>
+    ensures { OnOk result (out.new.items ≡ out.old.items
+        ++ flat_map (λ w. 32 ∷ w) (letters_of automaton.now word.now)) }
+{
+    for letter in word {
+        push_letter(out, automaton, *letter)?;
+    }
+    Ok(())
 }
 
 /// Appends a space and a letter.

@@ -18,7 +18,7 @@ returns-in-Ok-read_automaton-clause-takes g c =
 pub returns-in-Err-Statement-clause-fault : goal.returns-in-Err-Statement-clause-fault
 returns-in-Err-Statement-clause-fault g c =
     let bytes = c.in-Ok.bytes.items in
-    let first = rw c.as_slice.ensures.value at c.in-Err-Statement.ensures.gives in
+    let first = rw (c.as_slice.ensures.value, c.in-Err-Statement.field-0-is) at c.in-Err-Statement.ensures.gives in
     let refused : AutomatonRefusal c.in-Err-Statement.number c.cause_of.result bytes = (c.in-Err-Statement.cause, (first, c.cause_of.ensures)) in
     (
       refl,

@@ -1,4 +1,4 @@
-use Rattle.std.proofs.Common.{refl}
+use Rattle.std.proofs.Common.{◌≡◌, true, false, refl, sym, ◌∙◌}
 use Rattle.circ_top.proofs.SameFiles.{second_file_fault, taken_over, other_letters_fault}
 use Rattle.circ_top.proofs.same.take_second.Goals as goal
 
@@ -12,6 +12,7 @@ returns-then-same_letters-clause-takes g c =
 pub returns-then-same_letters-clause-letters : goal.returns-then-same_letters-clause-letters
 returns-then-same_letters-clause-letters g c = c.if-same_letters.ensures.0 refl
 
-pub returns-clause-fault : goal.returns-clause-fault
-returns-clause-fault g c =
-    other_letters_fault c.args.name.now c.args.first.now c.in-Ok.second _ _ c.in-Ok.ensures.takes (λ e. c.if-same_letters.ensures.1 e)
+pub returns-else-same_letters-clause-fault : goal.returns-else-same_letters-clause-fault
+returns-else-same_letters-clause-fault g c =
+    other_letters_fault c.args.name.now c.args.first.now c.in-Ok.second _ _ c.in-Ok.ensures.takes (λ e.
+    let never : true ≡ false = sym (c.same_letters.ensures.1 e) ∙ c.if-same_letters.false in cc)
