@@ -25,7 +25,8 @@ class Browser:
 
         always = ["--headless", "--no-sandbox", "--disable-gpu", "--remote-debugging-pipe", "--hide-scrollbars",
                   f"--user-data-dir={self.profile}"]
-        self.process = subprocess.Popen([program, *always, *words, "about:blank"], close_fds=False, preexec_fn=place, stderr=subprocess.DEVNULL)
+        self.process = subprocess.Popen([program, *always, *words, "about:blank"],
+                                        close_fds=False, preexec_fn=place, stderr=subprocess.DEVNULL)
         os.close(asked)
         os.close(answering)
         self.number = 0
