@@ -17,6 +17,7 @@ const meanings = [
   'A file was not written',
   'Out of memory',
   'A term is too large',
+  'They differ',
 ];
 
 // A text box. What was stored or opened is kept as bytes, until someone edits it; where it is long,
