@@ -9,24 +9,24 @@ use Rattle.circ_proof.specs.Proof.{Block, Proof}
 use Rattle.circ_plain_search.specs.Numbering.{block_terms, links_terms, numbered_links, numbered_proof, table_for}
 use Rattle.circ_numbering.specs.Plain.{plain_term_blocks, plain_term_certificates}
 use Rattle.circ_numbering.proofs.Requests.{first_fails, second_fails, both_asked, later_too}
-use Rattle.circ_numbering.proofs.blocks.numbered.Goals as goal
+use Rattle.circ_numbering.proofs.blocks.numbered_by.Goals as goal
 
 pub returns-in-Err : goal.returns-in-Err
 returns-in-Err c =
     first_fails [] (flat_map block_terms (plain_term_blocks c.args.blocks.now)) (flat_map links_terms (plain_term_certificates c.args.certificates.now))
-    c.in-Err.fault (rw c.new-table.ensures at c.in-Err.ensures)
+    c.in-Err.fault (rw c.requires at c.in-Err.ensures)
 
 pub returns-in-Err-named_certificates : goal.returns-in-Err-named_certificates
 returns-in-Err-named_certificates c =
     second_fails [] c.named_blocks.new.table (flat_map block_terms (plain_term_blocks c.args.blocks.now))
-    (flat_map links_terms (plain_term_certificates c.args.certificates.now)) c.in-Err-named_certificates.fault (rw c.new-table.ensures at c.in-Ok.ensures.0)
+    (flat_map links_terms (plain_term_certificates c.args.certificates.now)) c.in-Err-named_certificates.fault (rw c.requires at c.in-Ok.ensures.0)
     c.in-Err-named_certificates.ensures
 
 pub returns : goal.returns
 returns c =
     let bs = plain_term_blocks c.args.blocks.now in
     let cs = plain_term_certificates c.args.certificates.now in
-    let blocks = rw c.new-table.ensures at c.in-Ok.ensures in
+    let blocks = rw c.requires at c.in-Ok.ensures in
     let links = c.in-Ok-named_certificates.ensures in
     let here = grows_self c.named_certificates.new.table in
     let all : c.named_certificates.new.table ≡ table_for cs bs =

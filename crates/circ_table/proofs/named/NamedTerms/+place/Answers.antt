@@ -54,3 +54,14 @@ build-requires-clause-args m c = λ t e.
     let P : List ℕ → Type 0 = λ ms. Gathered table c.args.number ms c.loop-arg.args.items in
     gathered_all table c.args.number c.loop-arg.args.items t (subst P (drop_all c.loop-arg.arg-index ns c.loop-arg-test.false) c.loop-arg.invariant.gathered)
     (ap (λ ts. slice_get ts c.args.number) (sym same) ∙ e)
+
+pub returns-in_err-place-clause-grows : goal.returns-in_err-place-clause-grows
+returns-in_err-place-clause-grows m c =
+    grows_more c.args.self.now.1 c.loop-arg.self.1 c.place.new.self.1 c.loop-arg.invariant.grows c.place.ensures.grows
+
+pub returns-in_err-share_to-clause-grows : goal.returns-in_err-share_to-clause-grows
+returns-in_err-share_to-clause-grows m c =
+    grows_more c.args.self.now.1 c.loop-arg.self.1 c.place.new.self.1 c.loop-arg.invariant.grows c.place.ensures.grows
+
+pub returns-clause-grows : goal.returns-clause-grows
+returns-clause-grows m c = grows_more c.args.self.now.1 c.loop-arg.self.1 c.put.new.self.1 c.loop-arg.invariant.grows c.put.ensures.grows
