@@ -3,10 +3,9 @@
 
 use circ_outer::{HostShelf, HostSink};
 use circ_top::{Status, circ};
-use std::env;
 use std::io::ErrorKind;
 use std::process::ExitCode;
-use std::str;
+use std::{env, str};
 
 /// The number with which the program ends where the system does not give its words.
 const NO_WORDS: u8 = 14;

@@ -66,7 +66,10 @@ fn links_lead_where_they_did(rt: HostRuntime) -> Result<(), Fail> {
         shelf.put(second.as_str(), text.as_bytes())?;
         assert_holds(&rt, path.as_str(), text)?;
         assert_eq!(rt; fs::read_link(&rt, first.as_str())?.as_str(), "p");
-        assert_eq!(rt; fs::read_link(&rt, second.as_str())?.as_str(), first.as_str());
+        assert_eq!(rt;
+            fs::read_link(&rt, second.as_str())?.as_str(),
+            first.as_str()
+        );
         assert_eq!(rt; files_in(&rt, folder.as_str())?, 3);
     }
     let around = format!(in rt.alloc(); "{folder}/around")?;
@@ -96,7 +99,12 @@ fn what_is_left_of_a_killed_put_is_no_hindrance(rt: HostRuntime) -> Result<(), F
 fn a_put_that_fails_leaves_what_was_there(rt: HostRuntime) -> Result<(), Fail> {
     let folder = new_folder(&rt, "fails")?;
     let path = format!(in rt.alloc(); "{folder}/p")?;
-    for refused in [Refused::Open, Refused::Write, Refused::Sync, Refused::Rename] {
+    for refused in [
+        Refused::Open,
+        Refused::Write,
+        Refused::Sync,
+        Refused::Rename,
+    ] {
         let files = RefusingFiles {
             rt: rt.clone()?,
             refused,

@@ -109,7 +109,11 @@ impl fmt::Display for Came {
             (true, true) => ", then all",
             (true, false) => ", THEN NOT ALL",
         };
-        write!(f, "{}, counts {}, {printed}, {stored}{then}", self.number, self.count)
+        write!(
+            f,
+            "{}, counts {}, {printed}, {stored}{then}",
+            self.number, self.count
+        )
     }
 }
 
@@ -235,12 +239,17 @@ fn is_whole_again(
         Some(_) => Stored::Whole,
         None => Stored::Nothing,
     };
-    Ok(row.is_answered(u64::from(status.number()), sink.bytes()) && stored_files(row, shelf) == want)
+    Ok(
+        row.is_answered(u64::from(status.number()), sink.bytes())
+            && stored_files(row, shelf) == want,
+    )
 }
 
 /// What was printed, where the calls of the sink before the one that failed took so many bytes.
 fn printed_text(row: &Row<'_>, text: &[u8], taken: Option<u64>) -> Printed {
-    let whole = row.last("prints").map_or(b"".as_slice(), |part| part.text.as_bytes());
+    let whole = row
+        .last("prints")
+        .map_or(b"".as_slice(), |part| part.text.as_bytes());
     if text == whole {
         return Printed::Whole;
     }

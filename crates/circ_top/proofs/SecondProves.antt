@@ -89,9 +89,9 @@ module _ (words second : List (List ℕ)) (before after : ShelfState) (a : AsksA
       → Outcome words before.holds s text stored ↔ Outcome second after.holds s text stored
   same_outcome kept s text stored = (
     comes_too before.holds after.holds a.limits a.theory a.script a.second_theory a.second_script a.proof to_theory to_script words second a.asks a.asks_again
-    s text stored,
+        s text stored,
     comes_too after.holds before.holds a.limits a.second_theory a.second_script a.theory a.script a.proof (sym to_theory) (sym to_script) second words
-    a.asks_again a.asks s text stored
+        a.asks_again a.asks s text stored,
   )
     where
       to_theory : after.holds a.second_theory ≡ before.holds a.theory
