@@ -12,6 +12,7 @@ pub mod CheckOutcomes
 pub mod SameOutcomes
 pub mod SameDecides
 pub mod SameFiles
+pub mod SameTexts
 pub mod ShowOutcomes
 pub mod ContextsOutcomes
 pub mod Ends

@@ -1,5 +1,5 @@
 -- The two files of `same`, one after the other.
-use Rattle.std.proofs.Common.{◌≡◌, ℕ, List, ◌∙◌, refl, sym, inl, inr, true}
+use Rattle.std.proofs.Common.{◌≡◌, ℕ, List, ◌∙◌, refl, sym, subst, inl, inr, true}
 use Rattle.circ_outer.specs.Shelf.{ShelfState, ShelfFrame}
 use Rattle.circ_auto.specs.Machine.{Machine}
 use Rattle.circ_auto.specs.Text.{ReadsAsAutomaton}
@@ -8,7 +8,7 @@ use Rattle.circ_files.specs.Files.{IsFileFault}
 use Rattle.circ_files.specs.declared.status.Status.{Status}
 use Rattle.circ_files.specs.declared.status.Status.TheVariants as status
 use Rattle.circ_files.proofs.FileFaults.{moved}
-use Rattle.circ_top.specs.Same.{AutomatonRefusal, ReadsOver, SecondRefusal, TakesAs}
+use Rattle.circ_top.specs.Same.{AutomatonRefusal, ReadsOver, SecondRefusal, TakesAs, RefusesSame, first_fault}
 
 -- a fault of an automaton's file is one of the second file
 pub second_file_fault : (name : List ℕ) (m : Machine) (before after : ShelfState) (s : Status) → IsFileFault 2 name AutomatonRefusal before after s
@@ -62,3 +62,10 @@ taken_since Reads name m before middle f t = record {
     λ n x. r.1 n (moved middle.holds before.holds name (λ bytes. Reads bytes n) (sym (f.holds name)) x),
   );
 }
+
+-- want of memory refuses it
+pub memory_refuses : (first second : List ℕ) (before after : ShelfState) (s : Status) → s ≡ status.Memory → RefusesSame first second before after s
+memory_refuses first second before after s e =
+    let P : Status → Type 0 = RefusesSame first second before after in subst P (sym e) (first_fault status.Memory tt)
+
+pub ruleset refusing = (memory_refuses)

@@ -30,6 +30,7 @@ const SECOND_FILE: u8 = 2;
 const LETTERS: u64 = 2;
 
 /// What comparing the automata of two files gives, or the answer in its place.
+#[tactic(auto, using(crate::proofs::SameFiles::refusing))]
 pub(crate) fn same<'a, S: Shelf>(
     alloc: Global,
     shelf: &mut S,
@@ -129,6 +130,7 @@ fn take_second<S: Shelf>(
 }
 
 /// What comparing two automata gives, with its text.
+#[tactic(auto, using(crate::proofs::SameTexts::comparing))]
 fn compared<'a>(
     alloc: Global,
     first: &Automaton,

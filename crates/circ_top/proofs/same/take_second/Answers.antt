@@ -14,5 +14,5 @@ returns-then-same_letters-clause-letters g c = c.if-same_letters.ensures.0 refl
 
 pub returns-else-same_letters-clause-fault : goal.returns-else-same_letters-clause-fault
 returns-else-same_letters-clause-fault g c =
-    other_letters_fault c.args.name.now c.args.first.now c.in-Ok.second _ _ c.in-Ok.ensures.takes (λ e.
+    other_letters_fault c.args.name.now c.args.first.now c.in-Ok.second _ (g.S.Shelf.state c.args.shelf.now) c.in-Ok.ensures.takes (λ e.
     let never : true ≡ false = sym (c.same_letters.ensures.1 e) ∙ c.if-same_letters.false in cc)
