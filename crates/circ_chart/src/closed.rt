@@ -13,7 +13,8 @@ use crate::starts::{Starts, ends_at, width_at};
 use crate::steps::{Step, step_at};
 use crate::{CLOSING, OPENING};
 
-// Whether the ends of a first hole that may be `place` have those behind it too.
+// Whether a term of the sort may end at each of these ends, wherever a first hole begins that may
+// end at the place.
 fn is_hole_closed(starts: &[Starts], hole: usize, sort: usize, ends: Ends, place: usize) -> bool
     ensures { IsTrue result → (i : ℕ) → i < place → Has (ends_at starts.now hole i) place
         → Keeps ends (ends_at starts.now sort i) }
@@ -29,6 +30,7 @@ fn is_hole_closed(starts: &[Starts], hole: usize, sort: usize, ends: Ends, place
     true
 }
 
+// Whether the sets have what a rule that begins with a word adds to them at the place.
 fn is_word_rule_closed(tokens: &[u32], starts: &[Starts], rule: &Rule, place: usize) -> bool
     ensures { IsTrue result → (j : ℕ) → MayRow tokens.now starts.now rule.now.symbols.items place j
         → Has (ends_at starts.now rule.now.sort place) j }
@@ -40,7 +42,7 @@ fn is_word_rule_closed(tokens: &[u32], starts: &[Starts], rule: &Rule, place: us
     are_within(ends, ends_at(starts, rule.sort as usize, place))
 }
 
-// The same for a rule that begins with a hole of this sort, which ends at the place.
+// The same of a rule that begins with a hole of this sort, which ends at the place.
 fn is_hole_rule_closed(
     tokens: &[u32],
     starts: &[Starts],
@@ -60,6 +62,7 @@ fn is_hole_rule_closed(
     is_hole_closed(starts, hole, rule.sort as usize, ends, place)
 }
 
+// The same of any rule.
 fn is_rule_closed(tokens: &[u32], starts: &[Starts], rule: &Rule, place: usize) -> bool
     ensures { IsTrue result → RuleClosed tokens.now starts.now rule.now.sort rule.now.symbols.items
         place }
@@ -87,6 +90,7 @@ fn are_rules_closed(tokens: &[u32], starts: &[Starts], rules: &[Rule], place: us
     true
 }
 
+// Whether the sets have the variable, if it stands at the place.
 fn is_variable_closed(tokens: &[u32], starts: &[Starts], variable: &Variable, place: usize) -> bool
     ensures { IsTrue result → IsToken tokens.now place variable.now.word
         → Has (ends_at starts.now variable.now.sort place) (place + 1) }
@@ -134,6 +138,7 @@ fn is_pair_closed(starts: &[Starts], opened: usize, closed: usize) -> bool
     true
 }
 
+// The same of a parenthesis at the place and each that closes one.
 fn are_parentheses_closed(tokens: &[u32], starts: &[Starts], place: usize) -> bool
     requires { length tokens.now ≤ most_tokens }
     ensures { IsTrue result → ParenthesesClosed tokens.now starts.now place }
@@ -155,6 +160,7 @@ fn are_parentheses_closed(tokens: &[u32], starts: &[Starts], place: usize) -> bo
     true
 }
 
+// Whether nothing is missing at the place.
 fn is_closed_at(tokens: &[u32], starts: &[Starts], grammar: &Grammar, place: usize) -> bool
     requires { length tokens.now ≤ most_tokens }
     ensures { IsTrue result → ClosedAt grammar.now tokens.now starts.now place }

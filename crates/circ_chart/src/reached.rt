@@ -38,6 +38,7 @@ fn after_word(tokens: &[u32], reached: Ends, word: u32, low: usize) -> Ends
     out
 }
 
+// With the ends of the hole's terms that begin at this place, if it is reached.
 fn past_hole(out: Ends, starts: &[Starts], reached: Ends, sort: usize, place: usize) -> Ends
     ensures stay { Keeps out result }
     ensures here { Has reached place → Keeps (ends_at starts.now sort place) result }
