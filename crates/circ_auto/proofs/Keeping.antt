@@ -260,9 +260,11 @@ pub step_new : (g : Graph) (visits : List Visit) (seen : List Bool) (head x : �
     → Searched g (visits ++ n ∷ []) (slice_set seen n.point true) head (x + 1) × IsAt (visits ++ n ∷ []) head h
 step_new g visits seen head x h n good ok at letter point parent by depth goal new =
     let at_all = get_front visits (n ∷ []) head h at in
-    let ok_all = pushed g visits seen head x h n good ok at letter point parent by depth goal new in
-    (one_more g (visits ++ n ∷ []) (slice_set seen n.point true) head x h ok_all at_all
-    (record { place = length visits; visit = n; there = get_last visits n; point = point; depth = omega (arith, depth) }), at_all)
+    let ok_all = pushed g visits seen head x h n good ok at letter point parent by depth goal new in (
+      one_more g (visits ++ n ∷ []) (slice_set seen n.point true) head x h ok_all at_all
+          (record { place = length visits; visit = n; there = get_last visits n; point = point; depth = omega (arith, depth) }),
+      at_all,
+    )
 
 -- the steps at the head that are done may be forgotten
 pub forgotten : (g : Graph) (visits : List Visit) (seen : List Bool) (head x : ℕ) → Searched g visits seen head x → Searched g visits seen head 0

@@ -74,8 +74,8 @@ pub pairs_closed : (m n : Machine) → IsMachine m → IsMachine n → length n.
 pairs_closed m n a b e = record {
   start = omega (arith, mul-add-lt m.start (states n) n.start (states m) a.start b.start);
   step = λ p x l k. below (target m (p / states n) x) (target n (p % states n) x)
-    (target_below m a (p / states n) x (div_below p (states n) (states m) some l) k)
-    (target_below n b (p % states n) x (mod_below p (states n) some) (omega (arith, k, e)));
+      (target_below m a (p / states n) x (div_below p (states n) (states m) some l) k)
+      (target_below n b (p % states n) x (mod_below p (states n) some) (omega (arith, k, e)));
 }
   where
     some : 0 < states n

@@ -189,13 +189,13 @@ after_head a = followed (letters_part a) (λ l. followed (states_part l.1) (λ n
 pub opening_gives : (ws : List Word) (o : Opening) → opening ws ≡ Ok o → OpeningThen ws o
 opening_gives ws o e =
     let a = both (or_shape 1 (head_in ws)) (λ a. followed (letters_part a) (λ l. followed (states_part l.1) (λ n. followed (or_shape 4 (start_in n.0 n.1)) (λ s.
-        Ok (record { letters = l.0; states = n.0; start = s.0; ahead = s.1 }))))) o e in
+    Ok (record { letters = l.0; states = n.0; start = s.0; ahead = s.1 }))))) o e in
     let b = both (letters_part a.value) (λ l. followed (states_part l.1) (λ n. followed (or_shape 4 (start_in n.0 n.1)) (λ s.
-        Ok (record { letters = l.0; states = n.0; start = s.0; ahead = s.1 })))) o a.second in
+    Ok (record { letters = l.0; states = n.0; start = s.0; ahead = s.1 })))) o a.second in
     let c = both (states_part b.value.1) (λ n. followed (or_shape 4 (start_in n.0 n.1)) (λ s.
-        Ok (record { letters = b.value.0; states = n.0; start = s.0; ahead = s.1 }))) o b.second in
+    Ok (record { letters = b.value.0; states = n.0; start = s.0; ahead = s.1 }))) o b.second in
     let d = both (or_shape 4 (start_in c.value.0 c.value.1)) (λ s.
-        Ok (record { letters = b.value.0; states = c.value.0; start = s.0; ahead = s.1 })) o c.second in
+    Ok (record { letters = b.value.0; states = c.value.0; start = s.0; ahead = s.1 })) o c.second in
     let head = head_gives ws a.value (some_there 1 (head_in ws) a.value a.first) in
     let letters = letters_give a.value b.value.0 b.value.1 b.first in
     let count = states_give b.value.1 c.value.0 c.value.1 c.first in
@@ -210,16 +210,22 @@ opening_gives ws o e =
       is_name = head.is_name;
       are_names = letters.are_names;
       within = record {
-        some_letters = letters.are.some; few_letters = letters.are.few; different = letters.are.different; few_states = count.few; start = start.below;
+        some_letters = letters.are.some;
+        few_letters = letters.are.few;
+        different = letters.are.different;
+        few_states = count.few;
+        start = start.below;
       };
     })
 
 pub opening_again : (name : Word) (o : Opening) → is_name name ≡ true → are_names o.letters ≡ true → IsOpening o → opening (opening_words name o) ≡ Ok o
 opening_again name o is are w =
-    rw (head_again name (codes "letters" ∷ o.letters ++ codes "." ∷ codes "states" ∷ decimal o.states ∷ codes "." ∷ codes "start" ∷ decimal o.start ∷ codes "." ∷ o.ahead) is,
-    letters_again o.letters (codes "states" ∷ decimal o.states ∷ codes "." ∷ codes "start" ∷ decimal o.start ∷ codes "." ∷ o.ahead) are w.some_letters w.few_letters w.different,
-    states_again o.states (codes "start" ∷ decimal o.start ∷ codes "." ∷ o.ahead) (omega (arith, w.start)) w.few_states,
-    start_again o.states o.start o.ahead w.start w.few_states) refl
+    rw (
+      head_again name (codes "letters" ∷ o.letters ++ codes "." ∷ codes "states" ∷ decimal o.states ∷ codes "." ∷ codes "start" ∷ decimal o.start ∷ codes "." ∷ o.ahead) is,
+      letters_again o.letters (codes "states" ∷ decimal o.states ∷ codes "." ∷ codes "start" ∷ decimal o.start ∷ codes "." ∷ o.ahead) are w.some_letters w.few_letters w.different,
+      states_again o.states (codes "start" ∷ decimal o.start ∷ codes "." ∷ o.ahead) (omega (arith, w.start)) w.few_states,
+      start_again o.states o.start o.ahead w.start w.few_states,
+    ) refl
 
 pub record ClosingThen (o : Opening) (m : Machine) : Type 0 where
   pub accepted : List ℕ
@@ -237,9 +243,9 @@ closing_gives o m e =
     let k = length o.letters in
     let n = o.states in
     let a = both (or_shape 5 (accept_in n o.ahead)) (λ f. followed (rows_part k n n 0 f.1) (λ t. followed (or_shape (6 + n) (end_in t.1)) (λ e.
-        Ok (record { letters = o.letters; start = o.start; accepting = marked (replicate n false) f.0; targets = t.0 })))) m e in
+    Ok (record { letters = o.letters; start = o.start; accepting = marked (replicate n false) f.0; targets = t.0 })))) m e in
     let b = both (rows_part k n n 0 a.value.1) (λ t. followed (or_shape (6 + n) (end_in t.1)) (λ e.
-        Ok (record { letters = o.letters; start = o.start; accepting = marked (replicate n false) a.value.0; targets = t.0 }))) m a.second in
+    Ok (record { letters = o.letters; start = o.start; accepting = marked (replicate n false) a.value.0; targets = t.0 }))) m a.second in
     let made : Machine = record { letters = o.letters; start = o.start; accepting = marked (replicate n false) a.value.0; targets = b.value.0 } in
     let c = both (or_shape (6 + n) (end_in b.value.1)) (λ e. Ok made) m b.second in
     let accept = accept_gives n o.ahead a.value.0 a.value.1 (some_there 5 (accept_in n o.ahead) a.value a.first) in
@@ -266,10 +272,15 @@ pub closing_again : (o : Opening) (m : Machine) (accepted : List ℕ) → IsOpen
     → AllByRecursion (λ s. s < states m) accepted → ((s : ℕ) → s < states m → get_or m.accepting s false ≡ list_any (λ t. nat_eq t s) accepted)
     → length m.targets ≡ states m * length m.letters → AllByRecursion (λ t. t < states m) m.targets → closing o ≡ Ok m
 closing_again o m ss w letters start count ahead below accepts rows targets =
-    rw (ahead, sym letters, sym start, sym count,
-    accept_again (states m) ss (row_words (length m.letters) (states m) 0 m.targets (codes "endautomaton" ∷ [])) few below,
-    rows_again (length m.letters) (states m) (states m) 0 m.targets (codes "endautomaton" ∷ []) few (omega (arith, few)) rows targets,
-    marks_are (states m) ss m.accepting refl accepts) refl
+    rw (
+      ahead,
+      sym letters,
+      sym start,
+      sym count,
+      accept_again (states m) ss (row_words (length m.letters) (states m) 0 m.targets (codes "endautomaton" ∷ [])) few below,
+      rows_again (length m.letters) (states m) (states m) 0 m.targets (codes "endautomaton" ∷ []) few (omega (arith, few)) rows targets,
+      marks_are (states m) ss m.accepting refl accepts,
+    ) refl
   where
     few : states m ≤ 1000
     few = omega (arith, w.few_states, count)

@@ -180,11 +180,7 @@ fn begin<'a>(
 
 /// Whether two automata over the same letters accept the same words, and else a shortest word that
 /// exactly one accepts: the first by the order of the letters.
-pub fn compare(
-    alloc: Global,
-    first: &Automaton,
-    second: &Automaton,
-) -> Result<Compared, AllocError>
+pub fn compare(alloc: Global, first: &Automaton, second: &Automaton) -> Result<Compared, AllocError>
     requires { second.now.letters ≡ first.now.letters }
     ensures { IfOk result (λ c. Compares first.now second.now (found_word c)) }
 {

@@ -9,8 +9,9 @@ use crate::ahead::{Ahead, all_of};
 use crate::automaton::Automaton;
 use crate::fault::{AutoCause, AutoFault};
 use crate::rows::{FIRST_ROW, rows};
-use crate::statements::{ACCEPT, HEAD, START, accept_in, head_in, is_end, letters, marked, shape};
-use crate::statements::{start_in, states};
+use crate::statements::{
+    ACCEPT, HEAD, START, accept_in, head_in, is_end, letters, marked, shape, start_in, states,
+};
 use circ_lexer::{LexFault, Tokens};
 use std::alloc::{AllocError, Global};
 

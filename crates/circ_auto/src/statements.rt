@@ -20,9 +20,13 @@ use std::alloc::{AllocError, Global};
 
 // The numbers of the statements.
 pub(crate) const HEAD: u64 = 1;
+
 const LETTERS: u64 = 2;
+
 const STATES: u64 = 3;
+
 pub(crate) const START: u64 = 4;
+
 pub(crate) const ACCEPT: u64 = 5;
 
 /// The statement of this number has not its form.

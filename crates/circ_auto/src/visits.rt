@@ -26,4 +26,3 @@ pub(crate) struct Walk<'a> {
     pub(crate) seen: Vec<bool>,
     ghost same_letters: { length second.now.letters ≡ length first.now.letters },
 }
-

@@ -168,11 +168,7 @@ fn differ_text(alloc: Global, automaton: &Automaton, word: &[u32]) -> Result<Vec
 }
 
 /// Appends letters with a space before each.
-fn push_letters(
-    out: &mut Vec<u8>,
-    automaton: &Automaton,
-    word: &[u32],
-) -> Result<(), AllocError>
+fn push_letters(out: &mut Vec<u8>, automaton: &Automaton, word: &[u32]) -> Result<(), AllocError>
     ensures { OnOk result (out.new.items ≡ out.old.items
         ++ flat_map (λ w. 32 ∷ w) (letters_of automaton.now word.now)) }
 {

@@ -19,8 +19,7 @@ pub returns-in-Err-Statement-clause-fault : goal.returns-in-Err-Statement-clause
 returns-in-Err-Statement-clause-fault g c =
     let bytes = c.in-Ok.bytes.items in
     let first = rw (c.as_slice.ensures.value, c.in-Err-Statement.field-0-is) at c.in-Err-Statement.ensures.gives in
-    let refused : AutomatonRefusal c.in-Err-Statement.number c.cause_of.result bytes = (c.in-Err-Statement.cause, (first, c.cause_of.ensures)) in
-    (
+    let refused : AutomatonRefusal c.in-Err-Statement.number c.cause_of.result bytes = (c.in-Err-Statement.cause, (first, c.cause_of.ensures)) in (
       refl,
       record { bytes = bytes; short = c.in-Ok.ensures.short; are = refused },
       λ t. record { bytes = bytes; bytes_are = c.in-Ok.ensures.content t; short = c.in-Ok.ensures.short; are = refused },
