@@ -22,5 +22,6 @@ pub mod Casing
 pub mod Noting
 pub mod Linear
 pub mod Observers
+pub mod Conditions
 pub mod Ground
 pub mod Derived

@@ -8,18 +8,20 @@ ghost use Rattle.circ_theory.specs.declared.forms.FormFault.TheVariants.{NoWord,
 ghost use Rattle.circ_theory.specs.declared.TheConstants.{MOST_SORTS, MOST_VARS, MOST_OPS};
 ghost use Rattle.circ_theory.specs.declared.TheConstants.{MOST_EQUATIONS, MOST_DERIVATIVES};
 ghost use Rattle.circ_theory.specs.declared.TheConstants.{MOST_ARGS, MOST_PARAMS, MOST_CASES};
+ghost use Rattle.circ_theory.specs.declared.TheConstants.{MOST_CONDITIONS};
 ghost use Rattle.circ_theory.specs.Limits.{sort_limit, variable_limit, operator_limit};
 ghost use Rattle.circ_theory.specs.Limits.{equation_limit, derivative_limit};
 ghost use Rattle.circ_theory.specs.Limits.{argument_limit, parameter_limit, constant_limit};
+ghost use Rattle.circ_theory.specs.Limits.{condition_limit};
 ghost use Rattle.circ_theory.specs.Form.{pieces_of, form_fault};
 ghost use Rattle.circ_theory.specs.Signature.{IsWellSorted, IsSubstitution};
 ghost use Rattle.circ_theory.specs.Theory.{Theory, Pair, Within, instance_pair};
 ghost use Rattle.circ_theory.specs.Variables.{IsInOrder};
-ghost use Rattle.circ_theory.specs.Derivable.{Derivable};
+ghost use Rattle.circ_theory.specs.Derivable.{Derivable, Gives};
 ghost use Rattle.circ_theory.specs.Experiment.{Fits, on, BehavesFrom};
 ghost use Rattle.circ_theory.specs.WellFormed.{IsWellFormed};
 ghost use Rattle.circ_theory.specs.Examples.{bits, zero_bit, negation, streams, head};
-ghost use Rattle.circ_theory.specs.Examples.{swapped, on_variables, pair};
+ghost use Rattle.circ_theory.specs.Examples.{swapped, on_variables, plain_goal};
 
 /// An instance of what is derivable is derivable from the instances of the premises.
 pub fn derivable_instances()
@@ -32,6 +34,12 @@ pub fn derivable_instances()
 pub fn more_premises()
     ensures { (th : Theory) (H K : List Pair) (s t : Tree)
         → Within H K → Derivable th H s t → Derivable th K s t }
+{}
+
+/// Premises that follow from others may be cut.
+pub fn premises_cut()
+    ensures { (th : Theory) (H K : List Pair) (s t : Tree)
+        → Gives th H K → Derivable th H s t → Derivable th K s t }
 {}
 
 /// Well-sorted terms of one sort that are derivable from one another behave alike, whatever their
@@ -60,8 +68,8 @@ pub fn swap_at_once()
 
 /// Variables are numbered by first occurrence, the left side first.
 pub fn numbered_left_first()
-    ensures in_order { IsInOrder (pair (on_variables 0 1) (on_variables 1 0)) }
-    ensures out_of_order { IsInOrder (pair (on_variables 1 0) (on_variables 0 1)) → ⊥ }
+    ensures in_order { IsInOrder (plain_goal (on_variables 0 1) (on_variables 1 0)) }
+    ensures out_of_order { IsInOrder (plain_goal (on_variables 1 0) (on_variables 0 1)) → ⊥ }
 {}
 
 /// A form is cut at its holes, and each bracket is a word by itself.
@@ -84,4 +92,5 @@ pub fn limits_are_stated()
     ensures arguments { MOST_ARGS ≡ argument_limit }
     ensures parameters { MOST_PARAMS ≡ parameter_limit }
     ensures constants { MOST_CASES ≡ constant_limit }
+    ensures conditions { MOST_CONDITIONS ≡ condition_limit }
 {}

@@ -12,6 +12,7 @@ mod fresh;
 pub mod laws;
 mod observing;
 mod order;
+mod pairs;
 mod parts;
 mod renumber;
 mod theories;
@@ -19,9 +20,10 @@ mod way;
 
 pub use fault::TheoryFault;
 pub use forms::{Form, FormFault, Piece, Text};
-pub use fresh::{above, fresh_after};
+pub use fresh::{above, fresh_after, fresh_in};
 pub use observing::parameters_in_order;
 pub use order::in_order;
+pub use pairs::{Pair, Pairs};
 pub use parts::{Equation, Goal, OpDecl, Script, Side};
 pub use renumber::{Occurring, gather, renumbered};
 pub use theories::{Theory, Vars};
@@ -47,6 +49,9 @@ pub const MOST_ARGS: usize = 16;
 
 /// The most parameters of a derivative.
 pub const MOST_PARAMS: usize = 8;
+
+/// The most conditions of an equation or a goal.
+pub const MOST_CONDITIONS: usize = 8;
 
 /// The most constants of a case list.
 pub const MOST_CASES: usize = 64;

@@ -1,5 +1,6 @@
 //! Parts of theories and of what is proved in them.
 use crate::forms::Form;
+use crate::pairs::Pairs;
 use circ_term::Term;
 
 /// Where an operator whose form begins and ends with a hole groups.
@@ -34,20 +35,24 @@ pub struct OpDecl {
     pub idem: bool,
 }
 
-/// An equation of a theory: two terms of one sort.
+/// An equation of a theory: two terms of one sort, and the conditions under which they are equal.
 #[derive(Drop)]
 pub struct Equation {
     /// The left side.
     pub left: Term,
     /// The right side.
     pub right: Term,
+    /// The conditions: at most 8 pairs of visible sorts.
+    pub conds: Pairs,
     /// Whether it may be used as a rewrite rule. One that may not still counts in derivations.
     pub exec: bool,
 }
 
-/// What is to be proved: two terms of one sort.
+/// What is to be proved: two terms of one sort, under conditions.
 #[derive(Drop)]
 pub struct Goal {
+    /// The conditions: at most 8 pairs of visible sorts.
+    pub conds: Pairs,
     /// The left side.
     pub left: Term,
     /// The right side.

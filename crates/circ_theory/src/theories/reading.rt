@@ -5,7 +5,7 @@ ghost use Rattle.std.specs.List.{slice_get};
 ghost use Rattle.std.specs.Option.{option_copied, option_map, option_map_or};
 ghost use Rattle.circ_theory.specs.Limits.{sort_limit, variable_limit, operator_limit};
 ghost use Rattle.circ_theory.specs.Limits.{equation_limit, derivative_limit};
-ghost use Rattle.circ_theory.specs.Theory.{pair_of, declared, IsHidden};
+ghost use Rattle.circ_theory.specs.Theory.{goal_of, declared, IsHidden};
 ghost use Rattle.circ_theory.specs.Variables.{sorts_of};
 ghost use Rattle.circ_theory.specs.Operators.{operator_of, ops_by_word};
 ghost use Rattle.circ_theory.specs.Adding.{sort_number, var_number, op_of_form};
@@ -119,7 +119,7 @@ impl Theory {
         ensures equation { option_map (λ l. l.now.equation) result ≡
             slice_get self.now.equations n }
         ensures sorts { IfSome result (λ l.
-            l.now.sorts.items ≡ sorts_of (pair_of l.now.equation)) }
+            l.now.sorts.items ≡ sorts_of (goal_of l.now.equation)) }
         ensures few { IfSome result (λ l. length l.now.sorts.items ≤ 2 ^ 32) }
         ensures rule { IfSome result (λ l. l.now.rule ≡ is_rule l.now.equation) }
     {
@@ -140,7 +140,7 @@ impl Theory {
     pub fn equation_sorts(&self, n: u32) -> Option<&[u32]>
         ensures few { IfSome result (λ sorts. length sorts.now ≤ 2 ^ 32) }
         ensures exact { option_copied result ≡ option_map
-            (λ e. sorts_of (pair_of e)) (slice_get self.now.equations n) }
+            (λ e. sorts_of (goal_of e)) (slice_get self.now.equations n) }
     {
         match self.listed(n) {
             Some(listed) => Some(listed.sorts.as_slice()),
@@ -149,7 +149,7 @@ impl Theory {
     }
 
     /// Whether an equation is a rewrite rule: it may be used as one, its left side is no variable,
-    /// and each variable of its right side is in its left side. False where there is no such
+    /// and each variable of its right side and its conditions is in its left side. False where there is no such
     /// equation.
     pub fn is_rule(&self, equation: u32) -> bool
         ensures { result ≡ option_map_or is_rule (slice_get self.now.equations equation) false }
