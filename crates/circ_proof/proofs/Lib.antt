@@ -1,4 +1,6 @@
 pub mod Tables
+pub mod Members
+pub mod Rows
 pub mod Leading
 pub mod Cases
 pub mod Running
