@@ -1,6 +1,6 @@
 -- How deep conditions of links stand inside one another.
 use Rattle.std.specs.Prelude.{ℕ, ◌+◌, max, List, [], ◌∷◌}
-use Rattle.circ_proof.specs.Plain.{LinkOf, LinksOf, ChainsOf, Equation_link, Hypothesis_link, Assumption_link, Content_link, no_link, more_links, no_chain, more_chains}
+use Rattle.circ_proof.specs.Plain.{LinkOf, LinksOf, ChainsOf, ChainOf, Equation_link, Hypothesis_link, Assumption_link, Content_link, no_link, more_links, no_chain, more_chains}
 
 -- the most conditions of links inside one another
 abbrev pub nesting_limit : ℕ
@@ -24,3 +24,6 @@ abbrev mutual
 abbrev pub links_nesting : {T : Type 0} → List (LinkOf T) → ℕ
 links_nesting [] = 0
 links_nesting (l ∷ ls) = max (link_nesting l) (links_nesting ls)
+
+abbrev pub chain_nesting : {T : Type 0} → ChainOf T → ℕ
+chain_nesting c = max (links_nesting c.left) (links_nesting c.right)

@@ -28,7 +28,9 @@ pub fn fresh_in(goal: &Goal) -> u32
     sides.max(above_pairs(goal.conds.as_slice())) as u32
 }
 
-fn above_pairs(pairs: &[Pair]) -> u64
+/// One above the greatest variable number of the pairs' terms, 0 where there is no variable. Takes
+/// no memory.
+pub fn above_pairs(pairs: &[Pair]) -> u64
     ensures exact { result ≡ above_pairs (map plain_pair pairs.now) }
     ensures within { result ≤ 2 ^ 32 }
 {

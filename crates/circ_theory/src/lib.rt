@@ -20,7 +20,7 @@ mod way;
 
 pub use fault::TheoryFault;
 pub use forms::{Form, FormFault, Piece, Text};
-pub use fresh::{above, fresh_after, fresh_in};
+pub use fresh::{above, above_pairs, fresh_after, fresh_in};
 pub use observing::parameters_in_order;
 pub use order::in_order;
 pub use pairs::{Pair, Pairs};

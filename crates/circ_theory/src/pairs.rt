@@ -1,5 +1,5 @@
 //! Pairs of terms, and lists of them.
-ghost use Rattle.std.specs.Prelude.{◌≡◌, ◌∷◌, ◌++◌, ◌==◌, [], length, map};
+ghost use Rattle.std.specs.Prelude.{◌≡◌, ◌∷◌, ◌++◌, ◌==◌, [], length, map, IfOk};
 ghost use Rattle.std.specs.Result.{OnOk, OnErr};
 ghost use Rattle.std.specs.Option.{option_map};
 ghost use Rattle.std.specs.List.{slice_get, list_any};
@@ -72,12 +72,31 @@ impl Pairs {
         self.items.get(n)
     }
 
+    /// The same pairs, whose terms are shared.
+    pub fn share(&self, alloc: Global) -> Result<Pairs, AllocError>
+        ensures { IfOk result (λ pairs. pairs ≡ self.now) }
+    {
+        shared(alloc, self.as_slice())
+    }
+
     /// The pairs, in order.
     pub fn as_slice(&self) -> &[Pair]
         ensures { map plain_pair result.now ≡ self.now }
     {
         self.items.as_slice()
     }
+}
+
+fn shared(alloc: Global, pairs: &[Pair]) -> Result<Pairs, AllocError>
+    ensures { IfOk result (λ made. made ≡ map plain_pair pairs.now) }
+{
+    let mut made = Pairs::new(alloc);
+    for pair in pairs {
+        let left = pair.left.share()?;
+        let right = pair.right.share()?;
+        made.push(Pair { left, right })?;
+    }
+    Ok(made)
 }
 
 // Whether one of the pairs is of this sort.
