@@ -1,7 +1,10 @@
 //! Parts of theories and of what is proved in them.
+ghost use Rattle.std.specs.Prelude.{◌≡◌, IfOk};
+
 use crate::forms::Form;
 use crate::pairs::Pairs;
 use circ_term::Term;
+use std::alloc::{AllocError, Global};
 
 /// Where an operator whose form begins and ends with a hole groups.
 #[derive(Clone, Copy, PartialEq, Eq, Debug)]
@@ -57,6 +60,18 @@ pub struct Goal {
     pub left: Term,
     /// The right side.
     pub right: Term,
+}
+
+impl Goal {
+    /// The same goal, whose terms are shared.
+    pub fn share(&self, alloc: Global) -> Result<Goal, AllocError>
+        ensures { IfOk result (λ goal. goal ≡ self.now) }
+    {
+        let conds = self.conds.share(alloc)?;
+        let left = self.left.share()?;
+        let right = self.right.share()?;
+        Ok(Goal { conds, left, right })
+    }
 }
 
 /// What a script asks for.
