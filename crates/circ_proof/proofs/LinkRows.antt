@@ -18,6 +18,10 @@ pub all_of_row : {T : Type 0} (P : T → Type 0) (ls : List (LinkOf T)) → AllO
 all_of_row P [] a = tt
 all_of_row P (l ∷ ls) a = (a.0, all_of_row P ls a.1)
 
+pub row_of_all : {T : Type 0} (P : T → Type 0) (ls : List (LinkOf T)) → AllOfLinks P ls → AllOfRow P (row_of ls)
+row_of_all P [] a = tt
+row_of_all P (l ∷ ls) a = (a.0, row_of_all P ls a.1)
+
 pub row_depth : {T : Type 0} (ls : List (LinkOf T)) → row_nesting (row_of ls) ≡ links_nesting ls
 row_depth [] = refl
 row_depth (l ∷ ls) = ap (max (link_nesting l)) (row_depth ls)

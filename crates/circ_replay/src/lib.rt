@@ -10,8 +10,9 @@ mod justifying;
 mod rewriting;
 mod substitution;
 mod table;
+mod usage;
 mod variables;
 
 pub use following::{follow, follow_all};
-pub use justifying::follow_why;
+pub use justifying::{constant_of, follow_why};
 pub use table::TableBuilder;
