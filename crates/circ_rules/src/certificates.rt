@@ -132,7 +132,7 @@ impl Basis<'_> {
         let Some(first) = start_term(self.alloc, self.theory, start, derivative)? else {
             return Ok(false);
         };
-        let Some(last) = self.follow_all(&[], links, &first)? else {
+        let Some(last) = self.follow_all(&[], &[], links, &first)? else {
             return Ok(false);
         };
         Ok(guarded(self.theory, self.gamma, &last, 0, start.sort))

@@ -6,8 +6,9 @@ ghost use Rattle.std.specs.Option.{IfSome, option_map, option_map_or};
 ghost use Rattle.circ_term.specs.Tree.{sort_of};
 ghost use Rattle.circ_theory.specs.Experiment.{derived};
 ghost use Rattle.circ_theory.specs.Fresh.{given_parameters, variables_from, FitSome};
-ghost use Rattle.circ_proof.specs.Goals.{IsWellSortedGoal};
-ghost use Rattle.circ_proof.specs.Rules.{IsSortedState, Derive, fresh_in};
+ghost use Rattle.circ_theory.specs.Fresh.{fresh_in};
+ghost use Rattle.circ_theory.specs.Theory.{IsWellSortedGoal};
+ghost use Rattle.circ_proof.specs.Rules.{IsSortedState, Derive};
 ghost use Rattle.circ_proof.specs.PlainProof.{plain_state};
 ghost use Rattle.circ_rules.specs.Answers.{Applies, Gives};
 ghost use Rattle.circ_rules.specs.Deriving.{IsWithin, AreInstances, IsDerivativeOn};
@@ -16,7 +17,7 @@ ghost use Rattle.circ_rules.specs.Deriving.{AreDerivativesOn, moved};
 use crate::basis::Basis;
 use circ_proof::State;
 use circ_term::{Term, TermFault};
-use circ_theory::{Goal, Theory, above};
+use circ_theory::{Goal, Theory, above, above_pairs};
 use std::alloc::{AllocError, Global};
 use std::collections::VecDeque;
 
@@ -98,7 +99,7 @@ impl Basis<'_> {
     }
 
     // The derivative of this number on both sides of the goal, with the terms of `params` for its
-    // parameters. None where a side passes a limit.
+    // parameters, under the goal's conditions. None where a side passes a limit.
     fn both_sides(
         &self,
         derivative: u32,
@@ -118,7 +119,8 @@ impl Basis<'_> {
         let Some(right) = instance(self.alloc, self.theory, derivative, params, &goal.right)? else {
             return Ok(None);
         };
-        Ok(Some(Goal { left, right }))
+        let conds = goal.conds.share(self.alloc)?;
+        Ok(Some(Goal { conds, left, right }))
     }
 
     // The derivatives of the goal. None where one passes a limit.
@@ -128,7 +130,7 @@ impl Basis<'_> {
             (option_map (λ q. q.items) o)) }
     {
         let sort = goal.left.sort();
-        let fresh = above(&goal.left).max(above(&goal.right));
+        let fresh = fresh_in(goal);
         let mut derived = VecDeque::new(self.alloc);
         for derivative in 0..self.theory.derivative_count() {
             if self.takes(derivative, sort) {
@@ -164,6 +166,15 @@ impl Basis<'_> {
             None => Ok(false),
         }
     }
+}
+
+// One above the greatest variable number of the goal, its conditions among it.
+fn fresh_in(goal: &Goal) -> u64
+    ensures exact { result ≡ fresh_in goal.now }
+    ensures within { result ≤ 2 ^ 32 }
+{
+    let sides = above(&goal.left).max(above(&goal.right));
+    sides.max(above_pairs(goal.conds.as_slice()))
 }
 
 // The first goal becomes the last hypothesis, and what was derived from it the last goals.
