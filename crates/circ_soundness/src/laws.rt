@@ -15,8 +15,9 @@ ghost use Rattle.circ_soundness.specs.GateExample.{first_step, tails_step, if_x,
 ghost use Rattle.circ_soundness.specs.GateExample.{x, s};
 ghost use Rattle.circ_soundness.specs.Example.{twins, twins_alike, twins_bare, first, second};
 
-/// Where a proof that fits a well-formed theory is accepted, each goal of each block behaves: on
-/// its two sides each fitting experiment gives results that are derivable from the goal's conditions.
+/// Where a proof that fits a well-formed theory is accepted, each goal of each block behaves: each
+/// fitting experiment gives on its two sides results that are derivable from the goal's
+/// conditions.
 pub fn goals_behave()
     ensures { (th : Theory) → IsWellFormed th → (p : Proof) → ProofFor th p → Accepted th p →
         (b : Block) → Contains p.blocks b → (g : Goal) → Contains b.goals g →
