@@ -45,6 +45,7 @@ module _ (held later : Held) (old new : List ℕ) (same : later new ≡ held old
   refuses_too file N status.Memory r = absurd r
   refuses_too file N (status.TooBig n) r = absurd r
   refuses_too file N (status.TooDeep n) r = absurd r
+  refuses_too file N (status.Differ n) r = absurd r
 
 -- a refusal's text is the same for any names
 same_text : (k : Limits) (t s p u v q : List ℕ) (x : Status) → refusal_text (Prove k t s p) x ≡ refusal_text (Prove k u v q) x
@@ -60,6 +61,7 @@ same_text k t s p u v q (status.WriteFault n) = refl
 same_text k t s p u v q status.Memory = refl
 same_text k t s p u v q (status.TooBig n) = refl
 same_text k t s p u v q (status.TooDeep n) = refl
+same_text k t s p u v q (status.Differ n) = refl
 
 module _ (held later : Held) (k : Limits) (theory script other next name : List ℕ) (a : later other ≡ held theory) (b : later next ≡ held script) where
   proves_too : (s : Status) (text : List ℕ) (stored : Option Stored) → ProveOutcome held k theory script name s text stored
