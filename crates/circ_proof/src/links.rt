@@ -26,8 +26,8 @@ pub enum Link<T = u32> {
         /// A chain for each condition, from its two sides to one term.
         conds: Vec<Chain<T>>,
     },
-    /// By an assumption, as it stands: a condition of the goal, or one of a case split. Those of the
-    /// goal are counted first.
+    /// By an assumption, as it stands: a condition of the goal, or one of a case split. Those of
+    /// the goal are counted first.
     Assumption {
         number: u32,
         way: Way,

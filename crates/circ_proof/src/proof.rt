@@ -45,8 +45,8 @@ pub struct Block {
 /// A proof. Its links name terms by their numbers in its table.
 #[derive(Drop)]
 pub struct Proof {
-    /// The version of its text, 1 or 2. In version 1 no goal and no link has conditions, and no step
-    /// is `Cases`.
+    /// The version of its text, 1 or 2. In version 1 no goal and no link has conditions, and no
+    /// step is `Cases`.
     pub version: u8,
     /// Terms, each after its arguments. Links, splits and goals name them.
     pub table: Vec<Term>,

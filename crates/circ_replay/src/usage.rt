@@ -106,8 +106,8 @@ impl Sources<'_> {
         term: &Term,
     ) -> Result<Option<Use>, AllocError>
         requires { AllByRecursion (λ n. n < length self.now.table.now) terms.now }
-        ensures { (A : List PlainPair) (cs : ChainsOf Tree) → IfOk result (Uses (setting_of self.now A)
-            (Equation_link number way path.now
+        ensures { (A : List PlainPair) (cs : ChainsOf Tree) → IfOk result (Uses
+            (setting_of self.now A) (Equation_link number way path.now
             (map (named self.now.table.now) terms.now) cs) term.now) }
     {
         self.theory.known();
@@ -133,8 +133,8 @@ impl Sources<'_> {
         term: &Term,
     ) -> Result<Option<Use>, AllocError>
         requires { AllByRecursion (λ n. n < length self.now.table.now) terms.now }
-        ensures { (A : List PlainPair) (cs : ChainsOf Tree) → IfOk result (Uses (setting_of self.now A)
-            (Hypothesis_link number way path.now
+        ensures { (A : List PlainPair) (cs : ChainsOf Tree) → IfOk result (Uses
+            (setting_of self.now A) (Hypothesis_link number way path.now
             (map (named self.now.table.now) terms.now) cs) term.now) }
     {
         let Some(hypothesis) = goal_at(self.hyps, number) else {
