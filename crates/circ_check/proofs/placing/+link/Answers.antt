@@ -1,8 +1,10 @@
 use Rattle.std.proofs.Common.{◌≡◌, ◌<◌, ◌∙◌, ℕ, List, length, get_or, ap, sym, subst, arith}
+use Rattle.circ_term.specs.Tree.{Tree}
 use Rattle.circ_proof.specs.Plain.{LinkOf, plain_link, plain_links, plain_chain, plain_chains}
 use Rattle.circ_proof.specs.Nesting.{links_nesting, chains_nesting, link_nesting}
 use Rattle.circ_proof.specs.Link.{AllOfLink}
 use Rattle.circ_proof.specs.declared.links.Link.{Link}
+use Rattle.circ_proof.specs.declared.links.Link as links
 use Rattle.circ_proof.specs.declared.links.Chain.{Chain}
 use Rattle.circ_proof.proofs.Rows.{equation_plain, hypothesis_plain}
 use Rattle.circ_replay.proofs.Meeting.{link_at, chain_at, each_chain}
@@ -128,3 +130,51 @@ place_link-place_chains-requires t c =
     let P : LinkOf ℕ → Type 0 = AllOfLink (λ n. n < length c.args.named.now.0) in
     let d = ap link_nesting e in
     rw (x.conds-is, c.place_numbers.ensures.table) (omega (arith, d), (subst P e c.requires).1)
+
+pub place_link-place_chains-requires-in-Hypothesis : goal.place_link-place_chains-requires-in-Hypothesis
+place_link-place_chains-requires-in-Hypothesis t c =
+    let x = c.in-Hypothesis in
+    let e = ap plain_link x.is ∙ hypothesis_plain x.number x.way x.path x.terms x.conds in
+    let P : LinkOf ℕ → Type 0 = AllOfLink (λ n. n < length c.args.named.now.0) in
+    let d = ap link_nesting e in
+    rw (x.conds-is, c.place_numbers-in-Hypothesis.ensures.table) (omega (arith, d), (subst P e c.requires).1)
+
+pub place_link-returns-in_ok-place_numbers-in-Equation-clause-placed : goal.place_link-returns-in_ok-place_numbers-in-Equation-clause-placed
+unfolding links.out-Link denote.Hole.Carrier.out
+place_link-returns-in_ok-place_numbers-in-Equation-clause-placed t c =
+    let x = c.in-Equation in
+    let table : List Tree = c.args.named.now.0 in
+    let numbers = c.place_numbers.new in
+    let chains = c.place_chains.new in
+    let first = rw x.terms-is at c.in_ok-place_numbers-in-Equation.ensures.placed in
+    let rest = rw (x.conds-is, c.place_numbers.ensures.table) at c.place_chains.ensures.placed in
+    rw x.is
+    (on_ok c.place_chains.result
+    (equation_link_placed table numbers.named.1 chains.named.1 x.number x.way x.path x.terms numbers.numbers x.conds chains.chains first
+    c.place_chains.ensures.grows)
+    rest)
+
+pub place_link-returns-in_ok-place_numbers-in-Hypothesis-clause-placed : goal.place_link-returns-in_ok-place_numbers-in-Hypothesis-clause-placed
+unfolding links.out-Link denote.Hole.Carrier.out
+place_link-returns-in_ok-place_numbers-in-Hypothesis-clause-placed t c =
+    let x = c.in-Hypothesis in
+    let table : List Tree = c.args.named.now.0 in
+    let numbers = c.place_numbers-in-Hypothesis.new in
+    let chains = c.place_chains-in-Hypothesis.new in
+    let first = rw x.terms-is at c.in_ok-place_numbers-in-Hypothesis.ensures.placed in
+    let rest = rw (x.conds-is, c.place_numbers-in-Hypothesis.ensures.table) at c.place_chains-in-Hypothesis.ensures.placed in
+    rw x.is
+    (on_ok c.place_chains-in-Hypothesis.result
+    (hypothesis_link_placed table numbers.named.1 chains.named.1 x.number x.way x.path x.terms numbers.numbers x.conds chains.chains first
+    c.place_chains-in-Hypothesis.ensures.grows)
+    rest)
+
+pub place_link-returns-in_ok-term-in-Content-clause-placed : goal.place_link-returns-in_ok-term-in-Content-clause-placed
+unfolding links.out-Link denote.Hole.Carrier.out
+place_link-returns-in_ok-term-in-Content-clause-placed t c =
+    let x = c.in-Content in
+    let table : List Tree = c.args.named.now.0 in
+    let term = c.in_ok-term-in-Content in
+    let terms = c.place.new.self.1 in
+    let number = number_placed table terms x.term term.field-0 (rw x.term-is at term.ensures.placed) term.ensures.there in
+    rw x.is (content_placed table terms x.op x.path.items x.term term.field-0 number)
