@@ -13,6 +13,15 @@ pub struct Spelling {
     pub side: Side,
 }
 
+/// The two sides of an equals sign.
+#[derive(Clone, Copy)]
+pub struct Sides {
+    /// The tokens before it.
+    pub left: Span,
+    /// The tokens behind it.
+    pub right: Span,
+}
+
 /// A statement. Places and spans count tokens from 0.
 #[derive(Drop)]
 pub enum Statement {
@@ -38,10 +47,11 @@ pub enum Statement {
         names: Span,
         sort: usize,
     },
-    /// An equation between two terms. One that is not `exec` is no rewrite rule.
+    /// An equation between two terms, under conditions. One that is not `exec` is no rewrite rule.
     Equation {
         left: Span,
         right: Span,
+        conds: Vec<Sides>,
         exec: bool,
     },
     /// A derivative, a term with a hole.
