@@ -1,4 +1,4 @@
-//! Tests of the libraries' calls that the program does not make, so that no row of it shows them.
+//! Tests of those calls of the libraries that the program does not make, so that no row shows them.
 #![tactic(auto)]
 
 #[cfg(test)]

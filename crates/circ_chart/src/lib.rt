@@ -3,16 +3,27 @@
 //! A [`Grammar`] has rules, whose symbols are words and holes for terms, and tokens that are
 //! variables. What a token list spells is defined in `specs`, as a relation between lists and
 //! terms. [`read_each_sort`] finds for each sort whether a list spells no term, only one, or
-//! several, by a chart of all its ranges.
+//! several. It asks only for the ranges that a reading of the whole list would use, and keeps each
+//! answer.
 #![tactic(auto)]
 
-mod chart;
+mod asked;
+mod closed;
+mod ends;
 mod few;
 mod fill;
-mod found;
 mod grammar;
+mod memo;
+mod places;
+mod reached;
+mod reader;
 mod readings;
+mod rows;
+mod sorts;
+mod starts;
+mod steps;
 mod usable;
+mod variables;
 
 pub use grammar::{Grammar, Rule, Symbol, Variable};
 pub use readings::read_each_sort;

@@ -1,5 +1,8 @@
 //! The checker of proofs: whether every certificate certifies what is due, and every step is an
 //! instance of its rule, and what the Derive steps of an accepted proof derived.
+//!
+//! [`check`] and [`derived`] take a whole proof, a [`Checker`] one that comes part by part. What
+//! accepted means is defined in circ_proof (`Accepted`), and circ_soundness says what it is worth.
 #![tactic(auto)]
 
 mod checker;

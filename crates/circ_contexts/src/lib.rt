@@ -1,6 +1,7 @@
 //! The greatest special set of a theory, with the certificates of its places.
 //!
-//! `GreatestSpecialSet` of circ_plain_search says which set that is; its laws are proved there.
+//! [`special_contexts`] finds it. `GreatestSpecialSet` of circ_plain_search says which set that is;
+//! its laws are proved there.
 #![tactic(auto)]
 
 mod candidates;

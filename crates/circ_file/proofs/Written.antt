@@ -3,6 +3,7 @@ use Rattle.std.specs.Prelude.{◌≡◌, ℕ, ◌+◌, ◌<◌, ◌≤◌, zero,
 use Rattle.std.specs.List.{AllByRecursion}
 use Rattle.std.proofs.Common.{ap, sym, subst, ◌∙◌, arith, append_assoc, drop, get_or}
 use Rattle.std.proofs.lemmas.List.{drop_all}
+use Rattle.std.proofs.lemmas.Option.{slice_get-get_or, get_or_from_slice_get}
 use Rattle.circ_term.proofs.Within.{drop_read}
 use Rattle.circ_proof.specs.Plain.{plain_why, plain_whys}
 use Rattle.circ_proof.specs.declared.links.Why.{Why}
@@ -44,6 +45,10 @@ module _ {A : Type 0} (f : List A → List Line → List Line) (g : A → List L
       ap (λ ls. new ++ file_text ls) (sym (none later))
       ∙ ap (λ ys. new ++ file_text (f ys later)) (sym (drop_all i xs h))
       ∙ so_far later
+
+-- an element of a list, read with any other value for what lies past its end
+pub item_at : {A : Type 0} (xs : List A) (i : ℕ) (d : A) → i < length xs → get_or xs i d ≡ get_or xs i (get_or xs i d)
+item_at xs i d h = sym (get_or_from_slice_get xs i (get_or xs i d) (get_or xs i d) (slice_get-get_or xs i d h))
 
 -- the steps of a block, of which the last and no other is Done
 pub ended_lines : (ss : List (ProofStep ℕ)) → IsEnded ss → (k : List Line) → lines_of lines_of_step ss k ≡ lines_of step_lines (without_done ss) (done_line ∷ k)

@@ -3,3 +3,4 @@ pub mod Joined
 pub mod FileFaults
 pub mod Readings
 pub mod Scripts
+pub mod Pieces

@@ -1,5 +1,5 @@
 -- The texts of answers.
-use Rattle.std.specs.Prelude.{ℕ, List, [], ◌++◌, codes, decimal}
+use Rattle.std.specs.Prelude.{ℕ, List, [], ◌∷◌, ◌++◌, codes, decimal, flat_map}
 use Rattle.circ_read.specs.declared.cause.Cause.{Cause}
 use Rattle.circ_read.specs.declared.cause.Cause.TheVariants as cause
 
@@ -63,3 +63,7 @@ too_big_text n = codes "too big: " ++ decimal n ++ codes " nodes\n"
 
 abbrev pub too_deep_text : (depth : ℕ) → List ℕ
 too_deep_text n = codes "too deep: " ++ decimal n ++ codes " levels\n"
+
+-- a word, with a space before each of its letters
+abbrev pub differ_text : List (List ℕ) → List ℕ
+differ_text letters = codes "differ:" ++ flat_map (λ w. 32 ∷ w) letters ++ codes "\n"

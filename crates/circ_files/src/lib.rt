@@ -1,7 +1,8 @@
 //! The files that a run takes from a shelf, and how the run ends.
 //!
 //! [`take_into`] and [`take_file`] take a whole file in pieces, [`take_theory`] and [`take_script`]
-//! what it reads as. [`Status`] says how a run ended, whose texts are put together here.
+//! what it reads as. [`Status`] says how a run ended; its number is the exit status of the program.
+//! The texts of these answers are put together here.
 #![tactic(auto)]
 
 mod files;

@@ -71,6 +71,11 @@ pub enum Status {
     TooDeep {
         depth: u64,
     },
+    /// Two automata do not accept the same words, and the length of a shortest word on which they
+    /// differ.
+    Differ {
+        length: u64,
+    },
 }
 
 impl From<AllocError> for Status {
@@ -101,6 +106,7 @@ impl Status {
             Status::WriteFault { .. } => 8,
             Status::Memory => 9,
             Status::TooBig { .. } | Status::TooDeep { .. } => 10,
+            Status::Differ { .. } => 11,
         }
     }
 }

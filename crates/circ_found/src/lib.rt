@@ -1,5 +1,8 @@
-//! What is answered where a proof was searched for: the status, its text, and the text of the
-//! proof, which is to be stored.
+//! What is answered after a search: the status, its text, and the text of the proof that is to be
+//! stored.
+//!
+//! [`search`] searches for a proof of goals and gives the [`Ending`]; [`searchable`] says that the
+//! goals of a script can be searched for.
 #![tactic(auto)]
 
 mod answering;

@@ -1,8 +1,9 @@
-//! The text of one line of a proof file, both ways: [`read_line`] gives the one line that bytes are
-//! the text of, [`write_line`] appends the text of a line, and [`write_lent_line`] that of one whose
-//! parts are lent. What order lines have is not told here.
+//! The text of one line of a proof file, read and written.
 //!
-//! Contracts see a line as plain data (`Line` of specs/), in which numbers stand for terms.
+//! [`read_line`] gives the one line that bytes are the text of, [`write_line`] appends the text of
+//! a line, and [`write_lent_line`] that of a line whose parts are lent. Contracts see a line as
+//! plain data (`Line` of specs/), in which numbers stand for terms. In what order lines stand is
+//! said in circ_grammar.
 #![tactic(auto)]
 
 mod fields;

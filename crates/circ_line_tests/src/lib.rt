@@ -1,4 +1,4 @@
-//! Tests of circ_line: no clause says that its calls do not want memory where there is enough.
+//! Tests of circ_line: no clause says that its calls do not run out of memory if there is enough.
 #![tactic(auto)]
 
 #[cfg(test)]

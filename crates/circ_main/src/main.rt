@@ -3,18 +3,20 @@
 
 use circ_outer::{HostShelf, HostSink};
 use circ_top::{Status, circ};
-use std::env;
 use std::io::ErrorKind;
 use std::process::ExitCode;
+use std::{env, str};
 
 /// The number with which the program ends where the system does not give its words.
 const NO_WORDS: u8 = 14;
 
-/// Says on standard error what no text on standard output can say.
-fn complain(rt: &impl Eprint, status: &Status) {
+/// Says on standard error what no text on standard output can say. The name is that of the file
+/// that was not read or not stored; without one it is the text that was not written.
+fn complain(rt: &impl Eprint, status: &Status, name: Option<&[u8]>) {
+    let name = str::from_utf8(name.unwrap_or(b"standard output")).unwrap_or("");
     let _ = match status {
-        Status::ReadFault { .. } => eprintln!(rt; "circ: read fault"),
-        Status::WriteFault { .. } => eprintln!(rt; "circ: write fault"),
+        Status::ReadFault { .. } => eprintln!(rt; "circ: read fault: {name}"),
+        Status::WriteFault { .. } => eprintln!(rt; "circ: write fault: {name}"),
         Status::Memory => eprintln!(rt; "circ: out of memory"),
         _ => Ok(()),
     };
@@ -33,7 +35,7 @@ fn words(rt: &HostRuntime) -> Result<Vec<String>, u8> {
 }
 
 fn out_of_memory(rt: &HostRuntime) -> u8 {
-    complain(rt, &Status::Memory);
+    complain(rt, &Status::Memory, None);
     Status::Memory.number()
 }
 
@@ -45,7 +47,7 @@ fn run(rt: &HostRuntime) -> u8 {
     let mut shelf = HostShelf::new(*rt);
     let mut sink = HostSink::new(*rt);
     let status = circ(rt.alloc(), &words, &mut shelf, &mut sink);
-    complain(rt, &status);
+    complain(rt, &status, shelf.failed_name());
     status.number()
 }
 

@@ -1,5 +1,5 @@
 //! Finished blocks, and the proof that they make.
-ghost use Rattle.std.specs.Prelude.{◌≡◌, flat_map, map, IfOk};
+ghost use Rattle.std.specs.Prelude.{◌≡◌, [], flat_map, map, IfOk};
 ghost use Rattle.circ_proof.specs.PlainProof.{plain_block, plain_certificates, plain_proof};
 ghost use Rattle.circ_plain_search.specs.Numbering.{goal_terms, goal_name, links_terms};
 ghost use Rattle.circ_plain_search.specs.Numbering.{block_terms, numbered_block, numbered_links};
@@ -42,11 +42,26 @@ pub fn numbered(
         (plain_term_certificates certificates.now) (plain_term_blocks blocks.now)) result }
 {
     let mut table = TableBuilder::new(alloc);
-    let blocks = match named_blocks(alloc, &mut table, blocks) {
+    numbered_by(alloc, &mut table, gamma, certificates, blocks)
+}
+
+// The same, by a table that is still empty.
+fn numbered_by(
+    alloc: Global,
+    table: &mut TableBuilder,
+    gamma: Gamma,
+    certificates: &[Vec<TermLink>],
+    blocks: &[TermBlock],
+) -> Result<Proof, NumberFault>
+    requires { table.old ≡ [] }
+    ensures { GivesProof plain_proof (proof_with gamma
+        (plain_term_certificates certificates.now) (plain_term_blocks blocks.now)) result }
+{
+    let blocks = match named_blocks(alloc, table, blocks) {
         Ok(blocks) => blocks,
         Err(fault) => return Err(fault),
     };
-    let certificates = match named_certificates(alloc, &mut table, certificates) {
+    let certificates = match named_certificates(alloc, table, certificates) {
         Ok(certificates) => certificates,
         Err(fault) => return Err(fault),
     };

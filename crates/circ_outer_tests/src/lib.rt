@@ -2,4 +2,8 @@
 #![tactic(auto)]
 
 #[cfg(test)]
+mod refusing;
+#[cfg(test)]
+mod storing;
+#[cfg(test)]
 mod tests;

@@ -8,7 +8,7 @@
 //!
 //! `Leads` says where a link leads, `Justified` what a reason shows, `StepOf` what a step does by
 //! the rules of circular coinduction, `Certified` what a certificate shows, `ProofFor` when a proof
-//! fits a theory, `Accepted` and `FirstFail` what it comes to. This crate has no code.
+//! fits a theory, `Accepted` and `FirstFail` what it comes to. The crate has no code but its types.
 #![tactic(auto)]
 
 mod links;

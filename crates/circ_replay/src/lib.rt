@@ -1,8 +1,10 @@
-//! What a proof records of rewriting: links, chains of links, why a goal holds, and the table whose
-//! numbers stand in them for terms. [`follow`] and [`follow_why`] say what they come to.
+//! Recorded rewriting, followed: where the links of a proof lead, and whether a goal holds by its
+//! recorded reason.
 //!
-//! Contracts see a link as plain data in which numbers stand for terms, or the terms themselves
-//! (`LinkOf`), and so chains and whys. A [`TableBuilder`] is seen as the list of its terms.
+//! [`follow`] gives the term that a link leads to, [`follow_all`] goes through links one after
+//! another, and [`follow_why`] decides whether a reason justifies a goal, in each case of its
+//! splits. What they answer is defined in circ_proof (`Leads`, `Justified`). [`TableBuilder`] makes
+//! the table whose numbers stand in links for terms; it is seen as the list of its terms.
 #![tactic(auto)]
 
 mod following;

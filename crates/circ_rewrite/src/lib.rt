@@ -1,10 +1,10 @@
 //! Normal forms: what they are, and the types that speak of them.
 //!
-//! What the normal form of a term is under rules and assumptions is defined in `specs`, by the first
-//! place at which a replacement is due, and says nothing of the order of the work. Here are the
-//! types of rules, of the [`Trace`] of each replacement, and of what comes of normalising;
-//! [`theory_rules`] lists the rules of a theory, and [`share_goals`] gives goals once more.
-//! [`laws`] states what is proved of normal forms.
+//! What the normal form of a term is under rules and assumptions is defined in `specs` (`norm`), by
+//! the first place at which a replacement is due, and not by the order of the work; circ_memo finds
+//! normal forms. Here are the types of rules, of the [`Trace`] of each replacement, and of what
+//! comes of normalising; [`theory_rules`] lists the rules of a theory, and [`share_goals`] gives
+//! goals once more. [`laws`] states what is proved of normal forms.
 #![tactic(auto)]
 
 mod fault;

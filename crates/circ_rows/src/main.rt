@@ -7,6 +7,7 @@
 //! must, what came follows its name.
 #![tactic(auto)]
 
+mod faults;
 mod part;
 mod row;
 
@@ -15,7 +16,7 @@ use std::alloc::{AllocError, Global};
 use std::{fs, io};
 
 /// The tables, in the order in which they are run.
-const TABLES: [&str; 21] = [
+const TABLES: [&str; 22] = [
     "rows-words",
     "rows-faults",
     "rows-causes",
@@ -37,7 +38,11 @@ const TABLES: [&str; 21] = [
     "rows-content",
     "rows-changed-contexts",
     "rows-changed-proofs",
+    "rows-automata",
 ];
+
+/// The table of which each call of the outside fails in turn.
+const FAULTS: &str = "rows-each-call";
 
 /// What ends a row and begins the next.
 const NEXT: &str = "\n\n== row ";
@@ -75,5 +80,7 @@ fn main(rt: HostRuntime) -> io::Result<()> {
         let table = fs::read_to_string(&rt, name)?;
         run_table(&rt, table.as_str())?;
     }
-    Ok(())
+    println!(rt; "{FAULTS}")?;
+    let table = fs::read_to_string(&rt, FAULTS)?;
+    faults::run_table(&rt, table.as_str())
 }

@@ -30,16 +30,17 @@ const MOST: u64 = 65_536;
 /// A row of a table. Of two parts of a kind the later counts, where only one can.
 #[derive(Drop)]
 pub struct Row<'a> {
-    parts: Vec<Part<'a>>,
+    pub parts: Vec<Part<'a>>,
 }
 
 /// The number that the answer carries and the printed text does not show.
-fn count(status: &Status) -> u64 {
+pub fn count(status: &Status) -> u64 {
     match status {
         Status::TooLong { count, .. }
         | Status::ReadFault { count }
         | Status::WriteFault { count } => *count,
         Status::Stuck { goal, .. } => *goal,
+        Status::Differ { length } => *length,
         _ => 0,
     }
 }
@@ -104,7 +105,7 @@ impl<'a> Row<'a> {
     }
 
     /// The last part of this kind.
-    fn last(&self, kind: &str) -> Option<&Part<'a>> {
+    pub fn last(&self, kind: &str) -> Option<&Part<'a>> {
         let mut last = None;
         for part in &self.parts {
             if part.kind == kind {
@@ -123,7 +124,7 @@ impl<'a> Row<'a> {
     }
 
     /// The program's name, and the words behind it.
-    fn words(&self, alloc: Global) -> Result<Vec<String>, AllocError> {
+    pub fn words(&self, alloc: Global) -> Result<Vec<String>, AllocError> {
         let mut words = vec![in alloc; String::from_str(alloc, "circ")?]?;
         let line = self.last("circ").map_or("", |part| part.name);
         for word in line.split_ascii_whitespace() {
@@ -138,7 +139,7 @@ impl<'a> Row<'a> {
     }
 
     /// The files that the program finds, and the calls that fail.
-    fn shelf(&self, alloc: Global, most: usize) -> Result<MemoryShelf, AllocError>
+    pub fn shelf(&self, alloc: Global, most: usize) -> Result<MemoryShelf, AllocError>
         requires { 0 < most }
     {
         let mut shelf = MemoryShelf::new(alloc, most);
@@ -189,7 +190,7 @@ impl<'a> Row<'a> {
     }
 
     /// Whether an answer of this number and this text is the one that must come.
-    fn is_answered(&self, number: u64, text: &[u8]) -> bool {
+    pub fn is_answered(&self, number: u64, text: &[u8]) -> bool {
         let mut is = false;
         for part in &self.parts {
             match part.kind {
@@ -204,7 +205,7 @@ impl<'a> Row<'a> {
 
 impl<'a> Part<'a> {
     /// Whether a name holds what it must, where the part says it.
-    fn is_kept(&self, shelf: &MemoryShelf) -> bool {
+    pub fn is_kept(&self, shelf: &MemoryShelf) -> bool {
         match self.kind {
             "stores" => shelf.get(self.name) == Some(self.text.as_bytes()),
             "lacks" => shelf.get(self.name).is_none(),

@@ -1,9 +1,9 @@
-//! Proofs, and the rules of circular coinduction by which their steps go.
+//! The rules of circular coinduction, done: the steps of a proof, and its certificates.
 //!
-//! Contracts see a state, a step, a block and a proof as plain data (`plain_state`, `plain_step`,
-//! `plain_block`, `plain_proof` of specs/). `ProofFor` says when a proof fits a theory, `StepOf`
-//! what a step does, `Certified` what a certificate shows, `Accepted` and `FirstFail` what a proof
-//! comes to.
+//! [`apply`] does one step by its rule, Simplify, Reduce, Derive or Done, or leaves the state as it
+//! was. [`admit`] goes over the certificates of a special set, [`certify_next`] takes them one by
+//! one, and [`start_term`] gives the term at which one starts. What a step does and what a
+//! certificate shows is defined in circ_proof (`StepOf`, `Certified`).
 #![tactic(auto)]
 
 mod admitting;

@@ -1,9 +1,9 @@
 //! Theories and goals as text.
 //!
-//! [`theory_text`] appends a whole theory, [`goals_text`] the goals of a proof, [`contexts_text`] a
-//! special set. [`unobserved`]
-//! tells a hidden sort that no experiment fits: of such a sort every pair behaves, so the text of a
-//! theory ends with a line for each.
+//! [`theory_text`] appends a whole theory, [`goals_text`] the goals of a proof, [`relation_text`]
+//! what its blocks derived, and [`contexts_text`] a special set. [`unobserved`] tells whether no
+//! experiment fits a hidden sort: of such a sort every pair behaves, so the text of a theory ends
+//! with a line for each.
 #![tactic(auto)]
 
 mod attributes;

@@ -1,8 +1,9 @@
 //! Special sets of places, special paths, and guarded variables.
 //!
-//! A [`Gamma`] is a list of places in increasing order. [`Gamma::of`] takes only arguments of hidden
-//! sort of operators of hidden sort. A path in a term is special where each step on it goes to a
-//! place of the set. [`guarded`] is the test of the terms to which a set's certificates lead.
+//! A [`Gamma`] is a list of places in increasing order. [`Gamma::of`] takes only arguments of
+//! hidden sort of operators of hidden sort. A path in a term is special if each step on it goes to
+//! a place of the set ([`Gamma::on_path`]). [`guarded`] is the test of the terms to which a set's
+//! certificates lead. The greatest special set of a theory is found in circ_contexts.
 #![tactic(auto)]
 
 mod fitting;

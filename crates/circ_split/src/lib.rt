@@ -1,4 +1,4 @@
-//! Both sides of a goal in normal form, and the splits of a goal into cases.
+//! Both sides of a goal in normal form, and the splits of a visible goal into cases.
 //!
 //! [`normal_sides`] normalises two sides. [`Splitting::split_cases`] splits them on the first open
 //! subterm, and each case again, with eight splits inside one another at most.

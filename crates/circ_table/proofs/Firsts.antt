@@ -1,11 +1,11 @@
 -- Terms by their least numbers: they stay when a table grows, and a term has one.
-use Rattle.std.specs.Prelude.{◌≡◌, ℕ, zero, suc, ◌<◌, ◌==◌, Bool, true, false, ◌||◌, if◌then◌else◌, List, [], ◌∷◌, ◌++◌, length, take, replicate, slice_set, Option, Some, None, refl}
+use Rattle.std.specs.Prelude.{◌≡◌, ℕ, zero, suc, ◌+◌, ◌<◌, ◌==◌, Bool, true, false, ◌||◌, if◌then◌else◌, List, [], ◌∷◌, ◌++◌, length, take, drop, replicate, slice_set, Option, Some, None, refl}
 use Rattle.std.specs.List.{slice_get, AllByRecursion}
 use Rattle.std.specs.Option.{option_and_then, option_map}
-use Rattle.std.proofs.Common.{ap, sym, subst, ◌∙◌, arith, get_or}
+use Rattle.std.proofs.Common.{ap, sym, subst, ◌∙◌, arith, append_assoc, get_or}
 use Rattle.std.proofs.lemmas.Bool.{eqb-true, eq-eqb}
-use Rattle.std.proofs.lemmas.List.{get_or-take}
-use Rattle.std.proofs.lemmas.Option.{same_Some, slice_get_within, get_or_from_slice_get}
+use Rattle.std.proofs.lemmas.List.{get_or-take, drop_more}
+use Rattle.std.proofs.lemmas.Option.{same_Some, slice_get_within, slice_get_read, get_or_from_slice_get}
 use Rattle.circ_term.specs.Tree.{Tree, Var, trees_of}
 use Rattle.circ_term.specs.Limits.{or_else, first_limits, IsWithinLimits}
 use Rattle.circ_term.specs.Order.{is_same}
@@ -139,6 +139,19 @@ picked_firsts table (n ∷ ns) ts e =
 pub firsts_length : (table : List Tree) (ns : List ℕ) (ts : List Tree) → firsts_at table ns ≡ Some ts → length ts ≡ length ns
 firsts_length table [] ts e = ap length (sym (same_Some [] ts e))
 firsts_length table (n ∷ ns) ts e = let p = firsts_next table n ns ts e in ap length p.4 ∙ ap suc (firsts_length table ns p.1 p.3)
+
+-- one more is picked
+pub picked_next : (table : List Tree) (ns : List ℕ) (i : ℕ) (u : Tree) (copy new all : List Tree) → i < length ns → get_or ns i 0 < length table
+    → u ≡ get_or table (get_or ns i 0) u → new ≡ copy ++ u ∷ [] → copy ++ picked table (drop i ns) ≡ all → new ++ picked table (drop (i + 1) ns) ≡ all
+picked_next table ns i u copy new all within there read put so_far =
+    let n = get_or ns i 0 in
+    let rest = picked table (drop (i + 1) ns) in
+    let first : get_or table n (Var 0 0) ≡ u = get_or_from_slice_get table n u (Var 0 0) (slice_get_read table (length table) n u refl there read) in
+    ap (λ ts. ts ++ rest) put
+    ∙ append_assoc copy (u ∷ []) rest
+    ∙ ap (λ t. copy ++ t ∷ rest) (sym first)
+    ∙ ap (λ ms. copy ++ picked table ms) (sym (drop_more ns i 0 within))
+    ∙ so_far
 
 pub picked_take : (table : List Tree) (m : ℕ) (ns : List ℕ) → AllByRecursion (λ n. n < m) ns → picked (take m table) ns ≡ picked table ns
 picked_take table m [] h = refl

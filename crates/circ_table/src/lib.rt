@@ -1,6 +1,8 @@
 //! The table of a proof that is read, as numbers: for each term its root, with the numbers of its
-//! arguments. A term is built where it is asked for. A [`Part`] is what a reader hands out of a
-//! proof, the table first.
+//! arguments.
+//!
+//! Lines are added to an [`OpenTable`], which is closed into a [`Table`]; [`NamedTerms`] builds the
+//! terms that are asked for. A [`Part`] is what a reader hands out of a proof, the table first.
 #![tactic(auto)]
 
 mod hash_chains;

@@ -13,7 +13,7 @@ use Rattle.circ_plain_search.specs.Search.{Limits as SearchLimits}
 use Rattle.circ_top.specs.Answer.{Succeeds, Comes, RefusesCommand, DueAnswer, no_command, work_done, refusal, words_unread, AnswersDue, Succeeded}
 use Rattle.circ_top.specs.Causes.{AtFile, HasLongProof, IsPastLimit, IsReadFault, IsUnwritten, FailsToPut, IsWriteFault, IsQuietRun}
 use Rattle.circ_top.specs.Check.{report_text, refused, accepted, Accepts, Rejects, FilesRead}
-use Rattle.circ_top.specs.Command.{Command, Check, Prove, Show, Contexts, Reduce, Library, Generate, Asks, IsNotStored, stored_name}
+use Rattle.circ_top.specs.Command.{Command, Check, Prove, Show, Contexts, Reduce, Same, Library, Generate, Asks, IsNotStored, stored_name}
 use Rattle.circ_search.specs.Plain.{plain_limits}
 use Rattle.circ_top.specs.Prove.{IsSearched, StoresProof}
 use Rattle.circ_top.specs.Delivery.{Prints, Delivers, whole, write_failed, memory_wanted, text_wanted}
@@ -37,6 +37,8 @@ use Rattle.circ_generate.specs.Generating.{Generates}
 use Rattle.circ_top.proofs.GenerateOutcomes.{generates_end}
 use Rattle.circ_top.proofs.Searches.{IsSearchEnd, search_end, search_name, search_ok}
 use Rattle.circ_top.proofs.ReduceOutcomes.{reduce_not_ok, reduce_not_refused, unread_reduce, past_reduce, unwritten_reduce}
+use Rattle.circ_top.specs.Same.{IsCompared}
+use Rattle.circ_top.proofs.SameOutcomes.{same_not_ok, same_not_refused, unread_same, past_same, unwritten_same, compared_end}
 use Rattle.circ_top.proofs.Agreeing.{DueIs, outcome, nothing_read, no_memory_left}
 use Rattle.circ_top.proofs.Requests.{same_command}
 
@@ -47,6 +49,7 @@ module _ (before after : ShelfState) where
   command_not_ok (Show theory) s r e = file_fault_not_ok 1 theory TheoryRefusal before after s e r
   command_not_ok (Contexts budget theory) s r e = file_fault_not_ok 1 theory TheoryRefusal before after s e r
   command_not_ok (Reduce budget theory script) s r e = reduce_not_ok budget theory script before after s r e
+  command_not_ok (Same first second) s r e = same_not_ok first second before after s r e
   command_not_ok (Library text) s r e = let never : status.Memory ≡ status.Ok = sym r ∙ e in cc
   command_not_ok (Generate k) s r e = let never : status.Memory ≡ status.Ok = sym r ∙ e in cc
 
@@ -60,6 +63,7 @@ module _ (before after : ShelfState) where
   unread_command (Show theory) s n r e = let P : Status → Type 0 = IsFileFault 1 theory TheoryRefusal before after in subst P e r
   unread_command (Contexts budget theory) s n r e = let P : Status → Type 0 = IsFileFault 1 theory TheoryRefusal before after in subst P e r
   unread_command (Reduce budget theory script) s n r e = unread_reduce budget theory script before after s n r e
+  unread_command (Same first second) s n r e = unread_same first second before after s n r e
   unread_command (Library text) s n r e = absurd (let never : status.Memory ≡ status.ReadFault n = sym r ∙ e in cc)
   unread_command (Generate k) s n r e = absurd (let never : status.Memory ≡ status.ReadFault n = sym r ∙ e in cc)
 
@@ -71,6 +75,7 @@ module _ (before after : ShelfState) where
   past_command (Contexts budget theory) s file n r e =
       let P : Status → Type 0 = IsFileFault 1 theory TheoryRefusal before after in let x = subst P e r in (sym x.0, x.1)
   past_command (Reduce budget theory script) s file n r e = past_reduce budget theory script before after s file n r e
+  past_command (Same first second) s file n r e = past_same first second before after s file n r e
   past_command (Library text) s file n r e = absurd (let never : status.Memory ≡ status.TooLong file n = sym r ∙ e in cc)
   past_command (Generate k) s file n r e = absurd (let never : status.Memory ≡ status.TooLong file n = sym r ∙ e in cc)
 
@@ -80,6 +85,7 @@ module _ (before after : ShelfState) where
   unwritten_command (Show theory) s n r e = let P : Status → Type 0 = IsFileFault 1 theory TheoryRefusal before after in subst P e r
   unwritten_command (Contexts budget theory) s n r e = let P : Status → Type 0 = IsFileFault 1 theory TheoryRefusal before after in subst P e r
   unwritten_command (Reduce budget theory script) s n r e = unwritten_reduce budget theory script before after s n r e
+  unwritten_command (Same first second) s n r e = unwritten_same first second before after s n r e
   unwritten_command (Library text) s n r e = let never : status.Memory ≡ status.WriteFault n = sym r ∙ e in cc
   unwritten_command (Generate k) s n r e = let never : status.Memory ≡ status.WriteFault n = sym r ∙ e in cc
 
@@ -101,6 +107,7 @@ module _ (before : ShelfState) where
   work_end (Show theory) s text stored a = ok_end s a.0
   work_end (Contexts budget theory) s text stored a = ok_end s a.0
   work_end (Reduce budget theory script) s text stored a = ok_end s a.0
+  work_end (Same first second) s text stored a = (compared_end a.0.compared.word s a.0.compared.status_is).0
   work_end (Library given) s text stored a = ok_end s a.0
   work_end (Generate k) s text stored a = (generates_end k (ending s text stored) a).0
 
@@ -116,6 +123,7 @@ module _ (before : ShelfState) where
   work_succeeds (Show theory) s text stored a e = a.1
   work_succeeds (Contexts budget theory) s text stored a e = a.1
   work_succeeds (Reduce budget theory script) s text stored a e = a.1
+  work_succeeds (Same first second) s text stored a e = let P : Status → Type 0 = λ x. IsCompared first second x text before × (stored ≡ None) in subst P e a
   work_succeeds (Library given) s text stored a e = a.1
   work_succeeds (Generate k) s text stored a e = let P : Status → Type 0 = λ x. Generates k (ending x text stored) in subst P e a
 
@@ -128,6 +136,7 @@ module _ (before : ShelfState) where
   work_past (Show theory) s text stored file n a e = let never : status.Ok ≡ status.TooLong file n = sym a.0 ∙ e in cc
   work_past (Contexts budget theory) s text stored file n a e = let never : status.Ok ≡ status.TooLong file n = sym a.0 ∙ e in cc
   work_past (Reduce budget theory script) s text stored file n a e = let never : status.Ok ≡ status.TooLong file n = sym a.0 ∙ e in cc
+  work_past (Same first second) s text stored file n a e = absurd ((compared_end a.0.compared.word s a.0.compared.status_is).1 file n e)
   work_past (Library given) s text stored file n a e = let never : status.Ok ≡ status.TooLong file n = sym a.0 ∙ e in cc
   work_past (Generate k) s text stored file n a e = let P : Status → Type 0 = λ x. Generates k (ending x text stored) in (text, stored, subst P e a)
 
@@ -144,6 +153,7 @@ module _ (before : ShelfState) where
   work_name (Show theory) s text stored x a e = nothing_stored stored x a.1.1 e
   work_name (Contexts budget theory) s text stored x a e = nothing_stored stored x a.1.1 e
   work_name (Reduce budget theory script) s text stored x a e = nothing_stored stored x a.1.1 e
+  work_name (Same first second) s text stored x a e = nothing_stored stored x a.1 e
   work_name (Library given) s text stored x a e = nothing_stored stored x a.1.1 e
   work_name (Generate k) s text stored x a e = nothing_stored stored x (generates_end k (ending s text stored) a).1 e
 
@@ -241,6 +251,7 @@ module _ (words : List (List ℕ)) (before after : ShelfState) (start end : Sink
       rejects (Show theory) s i f e p q = absurd (command_not_refused before after theory s n f e)
       rejects (Contexts budget theory) s i f e p q = absurd (command_not_refused before after theory s n f e)
       rejects (Reduce budget theory script) s i f e p q = absurd (reduce_not_refused budget theory script before after s n f e)
+      rejects (Same first second) s i f e p q = absurd (same_not_refused first second before after s n f e)
       rejects (Library text) s i f e p q = absurd (let never : status.Memory ≡ status.Refused n = sym f ∙ e in cc)
       rejects (Generate k) s i f e p q = absurd (let never : status.Memory ≡ status.Refused n = sym f ∙ e in cc)
 

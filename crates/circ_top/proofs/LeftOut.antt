@@ -14,7 +14,7 @@ use Rattle.circ_script.specs.ReadsAsScript.{ReadsAsScript, ScriptOrCause}
 use Rattle.circ_script.specs.declared.job.Job.{Job}
 use Rattle.circ_script.specs.declared.job.Job.TheVariants as job
 use Rattle.circ_top.specs.Check.{report_text, no_theory, no_proof, refused, accepted}
-use Rattle.circ_top.specs.Command.{Command, Check, Prove, Show, Contexts, Reduce, Library, Generate, Asks}
+use Rattle.circ_top.specs.Command.{Command, Check, Prove, Show, Contexts, Reduce, Same, Library, Generate, Asks}
 use Rattle.circ_files.specs.Files.{Held, Refusal, RefusesFile, Holds}
 use Rattle.circ_top.specs.InMemory.{HoldsFilesOf, HoldsFiles}
 use Rattle.circ_plain_search.specs.Numbering.{Found}
@@ -27,6 +27,9 @@ use Rattle.circ_files.specs.ProofFile.{ProofRefusal}
 use Rattle.circ_top.specs.Reduce.{reduced, results_text, not_reduced, all_reduced}
 use Rattle.circ_top.specs.Reduce as reduce
 use Rattle.circ_search.specs.Plain.{plain_limits}
+use Rattle.circ_auto.specs.Text.{ReadsAsAutomaton}
+use Rattle.circ_top.specs.Same.{AutomatonRefusal, SecondRefusal, ReadsOver, compared_status, compared_text, no_first, no_second, compared}
+use Rattle.circ_top.proofs.SameDecides.{AutomataDecided, first_decides, second_decides, compared_decides}
 use Rattle.circ_top.specs.Prove.{searched}
 use Rattle.circ_top.specs.Prove as prove
 use Rattle.circ_top.specs.Contexts.{not_listed, listed}
@@ -92,6 +95,7 @@ no_fault_left th bytes h (Limit_fault n) f = h n cause.LineLimit f
 
 module _ (reads : (bytes : List ℕ) → ReadOrRefused bytes) (proofs : ProofsDecided)
     (scripts : (th : Theory) (job : Job) (bytes : List ℕ) → ScriptOrCause th job bytes)
+    (automata : AutomataDecided)
     (searches : (th : Theory) (blocks : List (List Goal)) (limits : SearchLimits) → ((f : Found) → PlainSearch th blocks limits f → ⊥) → ⊥) (words : List (List ℕ)) (held : Held)
     (none_is : (s : Status) (text : List ℕ) (stored : Option Stored) → Outcome words held s text stored → ⊥) where
   no_check : (report : Report) (theory proof : List ℕ) → Asks words (Check report theory proof) → HoldsFilesOf held (Check report theory proof) → ⊥
@@ -125,6 +129,17 @@ module _ (reads : (bytes : List ℕ) → ReadOrRefused bytes) (proofs : ProofsDe
       (command (Reduce budget theory script) s text None i (reduce.no_script s th rt x, refl))))
       (λ s x. let text : List ℕ = refusal_text (Reduce budget theory script) s in none_is s text None
       (command (Reduce budget theory script) s text None i (reduce.no_theory s x, refl)))
+
+  no_same : (first second : List ℕ) → Asks words (Same first second) → HoldsFilesOf held (Same first second) → ⊥
+  no_same first second i h = file_decides held 1 first AutomatonRefusal ReadsAsAutomaton h.0 (first_decides automata)
+      (λ m rm. file_decides held 2 second (SecondRefusal m) (ReadsOver m) h.1 (second_decides automata m)
+      (λ n rn. compared_decides m n
+      (λ o c. none_is (compared_status o) (compared_text m o) None
+      (command (Same first second) (compared_status o) (compared_text m o) None i (compared m n o rm rn c, refl))))
+      (λ s x. let text : List ℕ = refusal_text (Same first second) s in none_is s text None
+      (command (Same first second) s text None i (no_second s m rm x, refl))))
+      (λ s x. let text : List ℕ = refusal_text (Same first second) s in none_is s text None
+      (command (Same first second) s text None i (no_first s x, refl)))
 
   no_prove : (limits : Limits) (theory script proof : List ℕ) → Asks words (Prove limits theory script proof)
       → HoldsFilesOf held (Prove limits theory script proof) → ⊥
@@ -165,6 +180,7 @@ module _ (reads : (bytes : List ℕ) → ReadOrRefused bytes) (proofs : ProofsDe
   no_command_left (Contexts budget theory) i h = no_contexts budget theory i h
   no_command_left (Generate n) i h = no_generate n i
   no_command_left (Reduce budget theory script) i h = no_reduce budget theory script i h
+  no_command_left (Same first second) i h = no_same first second i h
   no_command_left (Library text) i h = none_is status.Ok text None (command (Library text) status.Ok text None i ((refl, refl), refl))
 
   pub nothing_left : HoldsFiles words held → ⊥

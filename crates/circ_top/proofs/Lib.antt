@@ -9,6 +9,10 @@ pub mod Proofs
 pub mod Refused
 pub mod Agreeing
 pub mod CheckOutcomes
+pub mod SameOutcomes
+pub mod SameDecides
+pub mod SameFiles
+pub mod SameTexts
 pub mod ShowOutcomes
 pub mod ContextsOutcomes
 pub mod Ends
@@ -24,3 +28,4 @@ pub mod StoredProofs
 pub mod NoFaults
 pub mod TheoryTexts
 pub mod LeftOut
+pub mod SecondProves

@@ -7,7 +7,7 @@ use Rattle.clap.specs.Faults.{fault_of}
 use Rattle.clap.specs.Simple.{matches_of}
 use Rattle.clap.specs.Walk.{Row, first_of}
 use Rattle.circ_lib.specs.Library.{library_text}
-use Rattle.circ_top.specs.Command.{Command, Library, Generate, IsCommand, check, prove, show, contexts, reduce, library, generate, IsNoneOfTable, report_name, Asks, IsNoCommand, plain_request}
+use Rattle.circ_top.specs.Command.{Command, Library, Generate, IsCommand, check, prove, show, contexts, reduce, same, library, generate, IsNoneOfTable, report_name, Asks, IsNoCommand, plain_request}
 use Rattle.circ_top.specs.Words.{circ_app, IsBudget, Finds, FindsNothing}
 use Rattle.circ_top.specs.declared.request.Report.{Report}
 use Rattle.circ_top.specs.declared.request.Report.TheVariants.{Goals, Relation}
@@ -50,6 +50,13 @@ no_report : (r : Report) (n : List ℕ) → n ≡ report_name r → n ≡ codes 
 no_report Goals n e f = let never : 5 ≡ 6 = ap length (sym e ∙ f) in omega (arith, never)
 no_report Relation n e f = let never : 8 ≡ 6 = ap length (sym e ∙ f) in omega (arith, never)
 
+no_report_same : (r : Report) (n : List ℕ) → n ≡ report_name r → n ≡ codes "same" → ⊥
+no_report_same Goals n e f = let never : 5 ≡ 4 = ap length (sym e ∙ f) in omega (arith, never)
+no_report_same Relation n e f = let never : 8 ≡ 4 = ap length (sym e ∙ f) in omega (arith, never)
+
+no_reduce_same : (n : List ℕ) → n ≡ codes "reduce" → n ≡ codes "same" → ⊥
+no_reduce_same n e f = let never : 6 ≡ 4 = ap length (sym e ∙ f) in omega (arith, never)
+
 same_report : (r s : Report) → report_name r ≡ report_name s → r ≡ s
 same_report Goals Goals e = refl
 same_report Goals Relation e = let never : 5 ≡ 8 = ap length e in absurd (omega (arith, never))
@@ -76,6 +83,21 @@ same_of_table k n given _ _ (check r t p e i) (prove u v w f j) = absurd (three_
 same_of_table k n given _ _ (prove u v w f j) (check r t p e i) = absurd (three_not_two given u v w t p j i)
 same_of_table k n given _ _ (reduce t p e i) (prove u v w f j) = absurd (three_not_two given u v w t p j i)
 same_of_table k n given _ _ (prove u v w f j) (reduce t p e i) = absurd (three_not_two given u v w t p j i)
+same_of_table k n given _ _ (same t p e i) (same u v f j) = let a = sym i ∙ j in cc
+same_of_table k n given _ _ (same t p e i) (check r u v f j) = absurd (no_report_same r n f e)
+same_of_table k n given _ _ (check r u v f j) (same t p e i) = absurd (no_report_same r n f e)
+same_of_table k n given _ _ (same t p e i) (reduce u v f j) = absurd (no_reduce_same n f e)
+same_of_table k n given _ _ (reduce u v f j) (same t p e i) = absurd (no_reduce_same n f e)
+same_of_table k n given _ _ (same t p e i) (prove u v w f j) = absurd (three_not_two given u v w t p j i)
+same_of_table k n given _ _ (prove u v w f j) (same t p e i) = absurd (three_not_two given u v w t p j i)
+same_of_table k n given _ _ (same t p e i) (show u f j) = absurd (other_length given t p u i j)
+same_of_table k n given _ _ (show u f j) (same t p e i) = absurd (other_length given t p u i j)
+same_of_table k n given _ _ (same t p e i) (contexts u f j) = absurd (other_length given t p u i j)
+same_of_table k n given _ _ (contexts u f j) (same t p e i) = absurd (other_length given t p u i j)
+same_of_table k n given _ _ (same t p e i) (library u text f j m) = absurd (other_length given t p u i j)
+same_of_table k n given _ _ (library u text f j m) (same t p e i) = absurd (other_length given t p u i j)
+same_of_table k n given _ _ (same t p e i) (generate m few most f j) = absurd (other_length given t p (decimal m) i j)
+same_of_table k n given _ _ (generate m few most f j) (same t p e i) = absurd (other_length given t p (decimal m) i j)
 same_of_table k n given _ _ (show t e i) (prove u v w f j) = absurd (three_not_one given u v w t j i)
 same_of_table k n given _ _ (prove u v w f j) (show t e i) = absurd (three_not_one given u v w t j i)
 same_of_table k n given _ _ (library t x e i m) (prove u v w f j) = absurd (three_not_one given u v w t j i)
@@ -129,6 +151,7 @@ module _ (k : Limits) (name word : List ℕ) (named : name ≡ codes "generate")
   no_chain h _ (show t e i) = no_generate_show name named e
   no_chain h _ (contexts t e i) = no_generate_contexts name named e
   no_chain h _ (reduce t p e i) = other_length (word ∷ []) t p word i refl
+  no_chain h _ (same t p e i) = other_length (word ∷ []) t p word i refl
   no_chain h _ (library t x e i m) = no_generate_library name named e
   no_chain h _ (generate n few most e i) = let same : word ≡ decimal n = cc in h n few most same
 

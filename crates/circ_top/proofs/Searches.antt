@@ -15,7 +15,7 @@ use Rattle.circ_files.specs.declared.status.Status.TheVariants as status
 use Rattle.circ_found.specs.Ending.{Stored, stored_as, Ending, ending}
 use Rattle.circ_found.specs.Answering.{proved_text, found_ending, SearchEnds}
 
--- the answers with which a search, or a chain, can end
+-- the answers with which a search, a chain or a comparison can end
 abbrev pub IsSearchEnd : Status → Type 0
 IsSearchEnd status.Ok = Unit {0}
 IsSearchEnd (status.TooLong f n) = Unit {0}
@@ -24,6 +24,7 @@ IsSearchEnd (status.Stuck b g) = Unit {0}
 IsSearchEnd (status.Spent r d s) = Unit {0}
 IsSearchEnd (status.TooBig n) = Unit {0}
 IsSearchEnd (status.TooDeep n) = Unit {0}
+IsSearchEnd (status.Differ n) = Unit {0}
 IsSearchEnd _ = ⊥
 
 -- there is one search of given goals

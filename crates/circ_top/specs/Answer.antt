@@ -5,12 +5,13 @@ use Rattle.circ_outer.specs.Sink.{SinkState}
 use Rattle.circ_top.specs.Contexts.{IsListed}
 use Rattle.circ_generate.specs.Generating.{Generates}
 use Rattle.circ_top.specs.Check.{IsAccepted, RefusesCheck}
-use Rattle.circ_top.specs.Command.{Command, Check, Prove, Show, Contexts, Reduce, Library, Generate, Asks, IsNoCommand}
+use Rattle.circ_top.specs.Command.{Command, Check, Prove, Show, Contexts, Reduce, Same, Library, Generate, Asks, IsNoCommand}
 use Rattle.circ_top.specs.Delivery.{Prints}
 use Rattle.circ_found.specs.Ending.{ending}
 use Rattle.circ_top.specs.Library.{RefusesLibrary}
 use Rattle.circ_top.specs.Prove.{IsSearched, RefusesProve}
 use Rattle.circ_top.specs.Reduce.{IsReduced, RefusesReduce}
+use Rattle.circ_top.specs.Same.{IsCompared, RefusesSame}
 use Rattle.circ_top.specs.Show.{IsShown}
 use Rattle.circ_found.specs.Ending.{Stored}
 use Rattle.circ_top.specs.Storing.{HoldsAfter, Ends}
@@ -27,12 +28,14 @@ Succeeds (Prove limits theory script proof) text stored before =
 Succeeds (Show theory) text stored before = IsShown theory text before × (stored ≡ None)
 Succeeds (Contexts budget theory) text stored before = IsListed budget theory text before × (stored ≡ None)
 Succeeds (Reduce budget theory script) text stored before = IsReduced budget theory script text before × (stored ≡ None)
+Succeeds (Same first second) text stored before = IsCompared first second status.Ok text before × (stored ≡ None)
 Succeeds (Library given) text stored before = (text ≡ given) × (stored ≡ None)
 Succeeds (Generate n) text stored before = Generates n (ending status.Ok text stored)
 
 -- how a command's work ends; a search may end with other statuses too
 abbrev pub Comes : Command → Status → (text : List ℕ) → (stored : Option Stored) → (before : ShelfState) → Type 0
 Comes (Prove limits theory script proof) s text stored before = IsSearched limits theory script proof (ending s text stored) before
+Comes (Same first second) s text stored before = IsCompared first second s text before × (stored ≡ None)
 Comes (Generate n) s text stored before = Generates n (ending s text stored)
 Comes c s text stored before = (s ≡ status.Ok) × Succeeds c text stored before
 
@@ -43,6 +46,7 @@ RefusesCommand (Prove limits theory script proof) before after s = RefusesProve 
 RefusesCommand (Show theory) before after s = IsTheoryFault theory before after s
 RefusesCommand (Contexts budget theory) before after s = IsTheoryFault theory before after s
 RefusesCommand (Reduce budget theory script) before after s = RefusesReduce budget theory script before after s
+RefusesCommand (Same first second) before after s = RefusesSame first second before after s
 RefusesCommand (Library given) before after s = RefusesLibrary s
 RefusesCommand (Generate n) before after s = s ≡ status.Memory
 

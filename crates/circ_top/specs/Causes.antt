@@ -4,7 +4,7 @@ use Rattle.circ_outer.specs.Count.{Rose}
 use Rattle.circ_outer.specs.Shelf.{ShelfState, Struck, PutFrame, IsQuiet}
 use Rattle.circ_outer.specs.Sink.{SinkState}
 use Rattle.circ_theory.specs.Theory.{Theory}
-use Rattle.circ_top.specs.Command.{Command, Check, Prove, Show, Contexts, Reduce, Library, Generate, Asks, stored_name}
+use Rattle.circ_top.specs.Command.{Command, Check, Prove, Show, Contexts, Reduce, Same, Library, Generate, Asks, stored_name}
 use Rattle.circ_top.specs.Delivery.{Prints, PrintsPart, PrintsFront}
 use Rattle.circ_files.specs.Files.{IsUnread, IsTooLong}
 use Rattle.circ_files.specs.Like.{IsLike}
@@ -12,6 +12,7 @@ use Rattle.circ_found.specs.Ending.{ending}
 use Rattle.circ_generate.specs.Generating.{Generates}
 use Rattle.circ_top.specs.Outcome.{Outcome}
 use Rattle.circ_top.specs.Prove.{IsSearched}
+use Rattle.circ_top.specs.Same.{AtAutomaton}
 use Rattle.circ_found.specs.Ending.{Stored}
 use Rattle.circ_top.specs.Storing.{HoldsAfter}
 use Rattle.circ_files.specs.TheoryFile.{TakesTheory}
@@ -63,6 +64,7 @@ AtFile before (Prove limits theory script proof) P = AtEither before theory scri
 AtFile before (Show theory) P = P 1 theory
 AtFile before (Contexts budget theory) P = P 1 theory
 AtFile before (Reduce budget theory script) P = AtEither before theory script P
+AtFile before (Same first second) P = AtAutomaton before first second P
 AtFile before (Library text) P = ⊥
 AtFile before (Generate n) P = ⊥
 

@@ -19,14 +19,15 @@ abbrev pub IsNoReport : (name : List ℕ) → Type 0
 IsNoReport name = (r : Report) → name ≡ report_name r → ⊥
 
 -- Files go by their names. A proof is checked, and its goals are reported or the whole relation that it builds. A proof of a script's goals is searched for,
--- within limits, and stored. The places of the greatest special set are listed, and the terms of a script are reduced, by so many replacements at most. The
--- library's text is that of a name that it knows. A chain of so many streams is made and proved.
+-- within limits, and stored. The places of the greatest special set are listed, and the terms of a script are reduced, by so many replacements at most. Two
+-- automata are compared. The library's text is that of a name that it knows. A chain of so many streams is made and proved.
 pub data Command : Type 0 where
   Check : (report : Report) (theory proof : List ℕ) → Command
   Prove : (limits : Limits) → (theory script proof : List ℕ) → Command
   Show : (theory : List ℕ) → Command
   Contexts : (budget : ℕ) → (theory : List ℕ) → Command
   Reduce : (budget : ℕ) → (theory script : List ℕ) → Command
+  Same : (first second : List ℕ) → Command
   Library : (text : List ℕ) → Command
   Generate : (number : ℕ) → Command
 
@@ -40,6 +41,7 @@ pub data IsCommand (limits : Limits) (name : List ℕ) (given : List (List ℕ))
   contexts : (theory : List ℕ) → name ≡ codes "contexts" → given ≡ theory ∷ [] → IsCommand limits name given (Contexts limits.steps theory)
   reduce : (theory script : List ℕ) → name ≡ codes "reduce" → given ≡ theory ∷ script ∷ []
       → IsCommand limits name given (Reduce limits.steps theory script)
+  same : (first second : List ℕ) → name ≡ codes "same" → given ≡ first ∷ second ∷ [] → IsCommand limits name given (Same first second)
   library : (theory text : List ℕ) → name ≡ codes "library" → given ≡ theory ∷ [] → library_text theory ≡ Some text
       → IsCommand limits name given (Library text)
   generate : (number : ℕ) → 2 ≤ number → number ≤ 1000 → name ≡ codes "generate" → given ≡ decimal number ∷ []
@@ -67,12 +69,14 @@ stored_name (Prove limits theory script proof) = Some proof
 stored_name (Show theory) = None
 stored_name (Contexts budget theory) = None
 stored_name (Reduce budget theory script) = None
+stored_name (Same first second) = None
 stored_name (Library text) = None
 stored_name (Generate n) = None
 
--- a command that stores nothing, and whose work ends with 0 or is refused
+-- a command that stores nothing, and whose work has status 0 or is refused
 abbrev pub IsReport : Command → Type 0
 IsReport (Prove limits theory script proof) = ⊥
+IsReport (Same first second) = ⊥
 IsReport (Generate n) = ⊥
 IsReport c = Unit {0}
 
@@ -87,5 +91,6 @@ plain_request (request.Prove limits theory script proof) = Prove limits theory.n
 plain_request (request.Show theory) = Show theory.now
 plain_request (request.Contexts budget theory) = Contexts budget theory.now
 plain_request (request.Reduce budget theory script) = Reduce budget theory.now script.now
+plain_request (request.Same first second) = Same first.now second.now
 plain_request (request.Library text) = Library text.now
 plain_request (request.Generate n) = Generate n

@@ -8,6 +8,7 @@ pub mod CheckProof
 pub mod Incoming
 pub mod Storing
 pub mod Prove
+pub mod Same
 pub mod Show
 pub mod Contexts
 pub mod Library
@@ -17,3 +18,4 @@ pub mod Answer
 pub mod Causes
 pub mod InMemory
 pub mod Complete
+pub mod SecondProve

@@ -33,7 +33,9 @@ use crate::prove::prove;
 use crate::reduce::reduce;
 use crate::refusals::{refusal, usage};
 use crate::request::{Request, asked};
+use crate::same::same;
 use crate::show::show;
+use circ_auto::laws::read_in_one_way as automata_read_in_one_way;
 use circ_files::Status;
 use circ_found::{Ending, Stored};
 use circ_generate::generate;
@@ -48,8 +50,9 @@ use std::alloc::Global;
 
 /// The program: `words` are its name and then a command with what it takes, which is
 /// `check THEORY PROOF`, `relation THEORY PROOF`, `prove THEORY SCRIPT PROOF`, `show THEORY`,
-/// `contexts THEORY`, `reduce THEORY SCRIPT`, `library NAME` or `generate NUMBER`. The options
-/// `--steps N` and `--derives N` may stand before, behind or between them. The files are taken
+/// `contexts THEORY`, `reduce THEORY SCRIPT`, `same FIRST SECOND`, `library NAME` or
+/// `generate NUMBER`. The options `--steps N` and `--derives N` may stand before, behind or between
+/// them. The files are taken
 /// from the shelf, to which `prove` stores the proof, and the text of the answer is written to the
 /// sink, whole.
 pub fn circ<S: Shelf, K: Sink>(
@@ -139,6 +142,7 @@ pub fn circ<S: Shelf, K: Sink>(
 {
     read_in_one_way();
     scripts_read_in_one_way();
+    automata_read_in_one_way();
     printed_in_one_way();
     one_answer();
     one_verdict();
@@ -206,6 +210,7 @@ fn run<'a, S: Shelf>(
             script,
             proof,
         } => prove(alloc, shelf, *limits, theory, script, proof),
+        Request::Same { first, second } => same(alloc, shelf, first, second),
         Request::Generate { number } => generated(alloc, *number),
         _ => match report(alloc, request, shelf) {
             Ok(text) => Ok(Ending {

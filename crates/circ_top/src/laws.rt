@@ -1,5 +1,7 @@
 //! Laws on the definitions behind the clauses of `circ`.
-ghost use Rattle.std.specs.Prelude.{◌≡◌, ◌≤◌, ℕ, List, [], ◌∷◌, length, Option, Some, codes};
+ghost use Rattle.std.specs.Prelude.{◌≡◌, ◌≤◌, ◌↔◌, ℕ, List, [], ◌∷◌, length, Option, Some, codes};
+ghost use Rattle.circ_outer.specs.Shelf.{ShelfState};
+ghost use Rattle.circ_outer.specs.Sink.{SinkState};
 ghost use Rattle.circ_term.specs.declared.TheConstants.{MOST_NODES, MOST_DEPTH};
 ghost use Rattle.circ_term.specs.declared.TheConstants.{MOST_ARGS as MOST_TERM_ARGS};
 ghost use Rattle.circ_theory.specs.declared.TheConstants.{MOST_SORTS, MOST_VARS, MOST_OPS};
@@ -19,12 +21,16 @@ ghost use Rattle.circ_found.specs.Ending.{Stored};
 ghost use Rattle.circ_top.specs.Outcome.{Outcome};
 ghost use Rattle.circ_top.specs.declared.request.Report.{Report};
 ghost use Rattle.circ_top.specs.Command.{Command, Check, IsCommand, Asks, IsNoCommand};
+ghost use Rattle.circ_top.specs.Command.{IsNotStored};
+ghost use Rattle.circ_top.specs.Causes.{IsNotPut};
+ghost use Rattle.circ_top.specs.SecondProve.{AsksAgain};
 ghost use Rattle.circ_top.specs.Complete.{HasOutcome};
 ghost use Rattle.circ_files.specs.Files.{Held};
 ghost use Rattle.circ_top.specs.InMemory.{HoldsFiles};
 ghost use Rattle.circ_top.specs.PlainWords.{IsPlainWord, usual_limits};
 ghost use Rattle.circ_files.specs.declared.files.TheConstants.{MOST_BYTES, PIECE};
 
+use circ_auto::laws::read_or_refused as automata_read_or_refused;
 use circ_plain_search::laws::some_answer;
 use circ_proof_text::laws::{
     nothing_left_out as nothing_left_out_of_texts, one_answer, text_reads_back,
@@ -60,6 +66,7 @@ pub fn nothing_left_out()
 {
     read_or_refused();
     scripts_read_or_refused();
+    automata_read_or_refused();
     nothing_left_out_of_texts();
     nothing_left_out_of_proofs();
     some_answer();
@@ -80,6 +87,23 @@ pub fn stored_proofs_are_accepted()
     one_verdict();
     text_reads_back();
 }
+
+/// What a second `prove` on the same shelf comes to, from a theory and a script of the same bytes
+/// under names other than that of the proof: what the first came to. So it is behind a first whose
+/// proof the outside failed to store (`IsNotPut` of the clause `write_fault` of `circ`), and behind
+/// any other, as the clause `holds` says what the files hold then.
+pub fn second_proves_come_to_the_same()
+    ensures not_put { (words second : List (List ℕ)) (before after : ShelfState) →
+        AsksAgain words second before.holds → (start end : SinkState) (n : ℕ) →
+        IsNotPut words before after start end n →
+        (s : Status) (text : List ℕ) (stored : Option Stored) →
+        Outcome words before.holds s text stored ↔ Outcome second after.holds s text stored }
+    ensures any { (words second : List (List ℕ)) (before after : ShelfState) →
+        AsksAgain words second before.holds →
+        ((n : List ℕ) → IsNotStored words n → after.holds n ≡ before.holds n) →
+        (s : Status) (text : List ℕ) (stored : Option Stored) →
+        Outcome words before.holds s text stored ↔ Outcome second after.holds s text stored }
+{}
 
 /// Words that do not begin with `-` are taken as they stand, and behind `--` so is every word. No
 /// words ask for nothing.

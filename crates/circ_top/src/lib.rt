@@ -11,6 +11,7 @@ mod prove;
 mod reduce;
 mod refusals;
 mod request;
+mod same;
 mod show;
 pub mod sure;
 mod words;

@@ -58,6 +58,11 @@ pub(crate) enum Request<'a> {
         theory: &'a str,
         script: &'a str,
     },
+    /// The automata of two files are compared.
+    Same {
+        first: &'a str,
+        second: &'a str,
+    },
     /// A chain of so many streams is made and proved.
     Generate {
         number: u16,
@@ -156,6 +161,9 @@ fn of_two<'a>(words: &Words<'_, 'a>, first: &'a str, second: &'a str) -> Option<
             theory: first,
             script: second,
         });
+    }
+    if is_word(words.name, b"same") {
+        return Some(Request::Same { first, second });
     }
     let Some(report) = report_of(words.name) else {
         return None;

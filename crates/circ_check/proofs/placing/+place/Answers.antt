@@ -95,3 +95,16 @@ place_whys-returns-clause-placed t c =
     (subst Q same
     (whys_placed c.args.named.now.0 l.named.1 l.why-index c.deref_mut-why-items.result.now l.why-items l.invariant.done
     (omega (arith, l.auto.why-items, c.loop-why-test.false))))
+
+pub place_why-returns-in_err-term-in-Split-clause-grows : goal.place_why-returns-in_err-term-in-Split-clause-grows
+place_why-returns-in_err-term-in-Split-clause-grows t c =
+    let first = c.place_chain-in-Split in
+    grows_more c.args.named.now.1 first.new.named.1 c.place.new.self.1 first.ensures.grows c.place.ensures.grows
+
+pub place_why-returns-in_ok-term-in-Split-clause-grows : goal.place_why-returns-in_ok-term-in-Split-clause-grows
+place_why-returns-in_ok-term-in-Split-clause-grows t c =
+    let old = c.args.named.now.1 in
+    let first = c.place_chain-in-Split in
+    let mid = c.place.new.self.1 in
+    let terms = grows_more old first.new.named.1 mid first.ensures.grows c.place.ensures.grows in
+    grows_more old mid c.place_whys.new.named.1 terms c.place_whys.ensures.grows

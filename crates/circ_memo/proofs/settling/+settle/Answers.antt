@@ -6,7 +6,7 @@ use Rattle.circ_memo.specs.Working.{IsStore, Extends}
 use Rattle.circ_memo.specs.declared.store.Store.{Store}
 use Rattle.circ_memo.proofs.Arguments.{arg_at, arg_is, arg_inside, arg_measure, arg_small, passing_still, passing_stops, variable_way, within_of}
 use Rattle.circ_memo.proofs.Forms.{kept_later, passing_later, way_later, are_passed_later}
-use Rattle.circ_memo.proofs.Telling.{way_kept_later, linked_on, number_more, has_passed_later, passed_stays, passed_next, passed_all}
+use Rattle.circ_memo.proofs.Telling.{stays_self, way_kept_later, linked_on, number_more, has_passed_later, passed_stays, passed_next, passed_all}
 use Rattle.circ_memo.proofs.Stepping.{are_passed_in, passed_on, passed_chain, count_on, stops_on, way_stops}
 use Rattle.circ_memo.proofs.Stores.{store_later, store_kept, extends_self, extends_on, extends_by, are_linked_extends, depth_named_is}
 use Rattle.circ_memo.proofs.settling.+settle.Goals.{turn-After-keep_settled, settle-After-keep_steps}
@@ -421,3 +421,62 @@ turn-returns-in-Ok-Some-clause-kept t c =
       named = named_later a.nodes c.advance.new.nodes c.args.here i.0 g (named_later c.args.store.now.nodes a.nodes c.args.here i.0 c.settle_args.ensures.extends.grows i.1);
       way = way_kept_later a.entries.items a.nodes c.advance.new.nodes g c.args.here i.0 c.in-Ok.way.ready c.in-Ok.way.count (c.in-Ok.ensures.kept i.0 i.1);
     }
+
+pub settle-loop-stop-init : goal.settle-loop-stop-init
+settle-loop-stop-init t c =
+    let i = c.requires.inside in
+    rw c.new-steps.ensures.items (record {
+      store = c.requires.store;
+      extends = extends_self c.args.store.now;
+      way = (i.0, i.0, i.1, i.1, refl, i.2);
+      linked = refl;
+      count = omega arith;
+      below = omega arith;
+    })
+
+pub settle-turn-requires : goal.settle-turn-requires
+settle-turn-requires t c =
+    let i = c.loop-stop.invariant in
+    let w = i.way in
+    (omega (arith, i.below), (i.store, ((w.1, w.3, w.5), omega (arith, i.count, c.requires.fits))))
+
+pub settle-loop-stop-smaller : goal.settle-loop-stop-smaller
+settle-loop-stop-smaller t c =
+    let w = c.loop-stop.invariant.way in
+    let stepped = rw c.in-Ok-Stepped.field-0-is at (c.in-Ok-Stepped.ensures.turns w.1 w.3) in
+    omega (arith, stepped.2)
+
+pub turn-settle_args-requires : goal.turn-settle_args-requires
+turn-settle_args-requires t c = (omega arith, (c.requires.store, (c.requires.inside, c.requires.fits)))
+
+pub settle_arg-returns-in-Err-Outgrows-clause-extends : goal.settle_arg-returns-in-Err-Outgrows-clause-extends
+settle_arg-returns-in-Err-Outgrows-clause-extends t c =
+    let mid = c.settle.new.store in
+    extends_on c.args.store.now mid _ c.settle.ensures.extends (extends_by mid _ c.outgrow.ensures.grows (stays_self mid.entries.items))
+
+pub settle_args-returns-in-Err-clause-extends : goal.settle_args-returns-in-Err-clause-extends
+settle_args-returns-in-Err-clause-extends t c =
+    extends_on c.args.store.now c.loop-place.store c.settle_arg.new.store c.loop-place.invariant.extends c.settle_arg.ensures.extends
+
+pub settle_args-returns-clause-extends : goal.settle_args-returns-clause-extends
+settle_args-returns-clause-extends t c =
+    let mid = c.loop-place.store in
+    extends_on c.args.store.now mid _ c.loop-place.invariant.extends (extends_by mid _ c.finish.ensures.grows (stays_self mid.entries.items))
+
+pub turn-returns-in-Err-advance-clause-extends : goal.turn-returns-in-Err-advance-clause-extends
+turn-returns-in-Err-advance-clause-extends t c =
+    let mid = c.settle_args.new.store in
+    extends_on c.args.store.now mid _ c.settle_args.ensures.extends (extends_by mid _ c.advance.ensures.grows (stays_self mid.entries.items))
+
+pub turn-returns-in-Ok-Some-clause-extends : goal.turn-returns-in-Ok-Some-clause-extends
+turn-returns-in-Ok-Some-clause-extends t c =
+    let mid = c.settle_args.new.store in
+    extends_on c.args.store.now mid _ c.settle_args.ensures.extends (extends_by mid _ c.advance.ensures.grows (stays_self mid.entries.items))
+
+pub settle-returns-in-Err-clause-extends : goal.settle-returns-in-Err-clause-extends
+settle-returns-in-Err-clause-extends t c =
+    extends_on c.args.store.now c.loop-stop.store c.turn.new.store c.loop-stop.invariant.extends c.turn.ensures.extends
+
+pub settle-returns-in_err-push-in-Ok-Stepped-clause-extends : goal.settle-returns-in_err-push-in-Ok-Stepped-clause-extends
+settle-returns-in_err-push-in-Ok-Stepped-clause-extends t c =
+    extends_on c.args.store.now c.loop-stop.store c.turn.new.store c.loop-stop.invariant.extends c.turn.ensures.extends

@@ -3,6 +3,7 @@ use Rattle.circ_top.proofs.Answers.{read_outcome, accepted_read_outcome}
 use Rattle.circ_files.proofs.Readings.{ReadsOnce, reads_once}
 use Rattle.circ_top.proofs.Proofs.{ProofsOnce, proofs_come_once}
 use Rattle.circ_files.proofs.Scripts.{ScriptsOnce, scripts_once}
+use Rattle.circ_top.proofs.SameOutcomes.{AutomataOnce, automata_once}
 use Rattle.circ_top.proofs.Outcomes.{answers_outcome, answers_come, answers_memory}
 use Rattle.circ_top.proofs.command.circ.Goals as goal
 
@@ -31,7 +32,9 @@ returns-clause-complete g c = λ t.
     c.one_verdict.ensures.one_failure c.one_verdict.ensures.one_relation in
     let scripts : ScriptsOnce = scripts_once c.read_in_one_way-2.ensures.either c.read_in_one_way-2.ensures.number
     c.read_in_one_way-2.ensures.cause c.read_in_one_way-2.ensures.script in
-    answers_come once proofs scripts c.one_answer-2.ensures c.printed_in_one_way.ensures _ _ _ t _ _ c.answer.result (rw c.as_slice.ensures.value at c.answer.ensures.answers)
+    let automata : AutomataOnce = automata_once c.read_in_one_way-3.ensures.automaton c.read_in_one_way-3.ensures.either c.read_in_one_way-3.ensures.number
+    c.read_in_one_way-3.ensures.cause in
+    answers_come once proofs scripts automata c.one_answer-2.ensures c.printed_in_one_way.ensures _ _ _ t _ _ c.answer.result (rw c.as_slice.ensures.value at c.answer.ensures.answers)
 
 pub returns-clause-first_failure : goal.returns-clause-first_failure
 returns-clause-first_failure g c = λ t report th p n f fail.
@@ -41,7 +44,9 @@ returns-clause-first_failure g c = λ t report th p n f fail.
     c.one_verdict.ensures.one_failure c.one_verdict.ensures.one_relation in
     let scripts : ScriptsOnce = scripts_once c.read_in_one_way-2.ensures.either c.read_in_one_way-2.ensures.number
     c.read_in_one_way-2.ensures.cause c.read_in_one_way-2.ensures.script in
-    answers_come once proofs scripts c.one_answer-2.ensures c.printed_in_one_way.ensures _ _ _ t _ _ c.answer.result (rw c.as_slice.ensures.value at c.answer.ensures.answers) _ _ _
+    let automata : AutomataOnce = automata_once c.read_in_one_way-3.ensures.automaton c.read_in_one_way-3.ensures.either c.read_in_one_way-3.ensures.number
+    c.read_in_one_way-3.ensures.cause in
+    answers_come once proofs scripts automata c.one_answer-2.ensures c.printed_in_one_way.ensures _ _ _ t _ _ c.answer.result (rw c.as_slice.ensures.value at c.answer.ensures.answers) _ _ _
     (read_outcome _ _ report th p n f fail)
 
 pub returns-clause-accepted_text : goal.returns-clause-accepted_text
@@ -52,7 +57,9 @@ returns-clause-accepted_text g c = λ t report th p derived f d.
     c.one_verdict.ensures.one_failure c.one_verdict.ensures.one_relation in
     let scripts : ScriptsOnce = scripts_once c.read_in_one_way-2.ensures.either c.read_in_one_way-2.ensures.number
     c.read_in_one_way-2.ensures.cause c.read_in_one_way-2.ensures.script in
-    answers_come once proofs scripts c.one_answer-2.ensures c.printed_in_one_way.ensures _ _ _ t _ _ c.answer.result (rw c.as_slice.ensures.value at c.answer.ensures.answers) _ _ _
+    let automata : AutomataOnce = automata_once c.read_in_one_way-3.ensures.automaton c.read_in_one_way-3.ensures.either c.read_in_one_way-3.ensures.number
+    c.read_in_one_way-3.ensures.cause in
+    answers_come once proofs scripts automata c.one_answer-2.ensures c.printed_in_one_way.ensures _ _ _ t _ _ c.answer.result (rw c.as_slice.ensures.value at c.answer.ensures.answers) _ _ _
     (accepted_read_outcome _ _ report th p derived f d)
 
 pub returns-clause-file_limit : goal.returns-clause-file_limit
@@ -72,7 +79,9 @@ returns-clause-memory g c = λ e t.
     c.one_verdict.ensures.one_failure c.one_verdict.ensures.one_relation in
     let scripts : ScriptsOnce = scripts_once c.read_in_one_way-2.ensures.either c.read_in_one_way-2.ensures.number
     c.read_in_one_way-2.ensures.cause c.read_in_one_way-2.ensures.script in
-    answers_memory once proofs scripts c.one_answer-2.ensures c.printed_in_one_way.ensures _ _ _ t _ _ c.answer.result (rw c.as_slice.ensures.value at c.answer.ensures.answers)
+    let automata : AutomataOnce = automata_once c.read_in_one_way-3.ensures.automaton c.read_in_one_way-3.ensures.either c.read_in_one_way-3.ensures.number
+    c.read_in_one_way-3.ensures.cause in
+    answers_memory once proofs scripts automata c.one_answer-2.ensures c.printed_in_one_way.ensures _ _ _ t _ _ c.answer.result (rw c.as_slice.ensures.value at c.answer.ensures.answers)
 
 pub returns-clause-holds : goal.returns-clause-holds
 returns-clause-holds g c = answers_hold _ _ _ _ _ c.answer.result (rw c.as_slice.ensures.value at c.answer.ensures.answers)

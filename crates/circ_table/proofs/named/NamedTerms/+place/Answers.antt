@@ -1,9 +1,10 @@
-use Rattle.std.proofs.Common.{◌≡◌, ◌∙◌, List, length, refl, ap, sym, subst, arith, get_or}
+use Rattle.std.proofs.Common.{◌≡◌, ◌∙◌, ℕ, List, length, refl, ap, sym, subst, arith, get_or}
 use Rattle.std.specs.List.{slice_get}
+use Rattle.std.proofs.lemmas.List.{drop_all}
 use Rattle.std.proofs.lemmas.Option.{slice_get_read, slice_get-get_or, get_or_from_slice_get}
 use Rattle.circ_term.specs.Tree.{Tree}
 use Rattle.circ_table.specs.Table.{firsts_at}
-use Rattle.circ_table.proofs.Naming.{Gathered, gathered_none, gathered_more, grows_self, grows_more}
+use Rattle.circ_table.proofs.Naming.{Gathered, gathered_none, gathered_more, gathered_all, grows_self, grows_more, all_at}
 use Rattle.circ_table.proofs.named.NamedTerms.+place.Goals as goal
 
 pub loop-arg-init : goal.loop-arg-init
@@ -39,3 +40,28 @@ loop-arg-preserved m c =
       grows = grows_more c.args.self.now.1 at.self.1 c.place.new.self.1 at.invariant.grows c.in_ok-place.ensures.grows;
       gathered = gathered_more table c.args.number ns i n at.args.items c.share_to.new.list.items u c.loop-arg-test.true read named c.in_ok-share_to.ensures.put at.invariant.gathered;
     }
+
+pub place-requires : goal.place-requires
+place-requires m c =
+    let below = all_at c.args.number c.args-numbers.result.now c.loop-arg.arg-index c.args-numbers.ensures.before c.loop-arg-test.true in
+    (omega (arith, below, c.decreases), omega (arith, below, c.requires, ap length c.loop-arg.invariant.table))
+
+pub build-requires-clause-args : goal.build-requires-clause-args
+build-requires-clause-args m c = λ t e.
+    let table = c.args.self.now.0 in
+    let ns = c.args-numbers.result.now in
+    let same : c.in_ok-table.table ≡ table = c.in_ok-table.ensures ∙ ap (λ x. x.0) c.self.view_is in
+    let P : List ℕ → Type 0 = λ ms. Gathered table c.args.number ms c.loop-arg.args.items in
+    gathered_all table c.args.number c.loop-arg.args.items t (subst P (drop_all c.loop-arg.arg-index ns c.loop-arg-test.false) c.loop-arg.invariant.gathered)
+    (ap (λ ts. slice_get ts c.args.number) (sym same) ∙ e)
+
+pub returns-in_err-place-clause-grows : goal.returns-in_err-place-clause-grows
+returns-in_err-place-clause-grows m c =
+    grows_more c.args.self.now.1 c.loop-arg.self.1 c.place.new.self.1 c.loop-arg.invariant.grows c.place.ensures.grows
+
+pub returns-in_err-share_to-clause-grows : goal.returns-in_err-share_to-clause-grows
+returns-in_err-share_to-clause-grows m c =
+    grows_more c.args.self.now.1 c.loop-arg.self.1 c.place.new.self.1 c.loop-arg.invariant.grows c.place.ensures.grows
+
+pub returns-clause-grows : goal.returns-clause-grows
+returns-clause-grows m c = grows_more c.args.self.now.1 c.loop-arg.self.1 c.put.new.self.1 c.loop-arg.invariant.grows c.put.ensures.grows

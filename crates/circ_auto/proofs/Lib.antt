@@ -1,0 +1,16 @@
+pub mod Shortest
+pub mod Keeping
+pub mod Word
+pub mod Ending
+pub mod Product
+pub mod Numerals
+pub mod Wording
+pub mod Inverting
+pub mod Marks
+pub mod Distinct
+pub mod RowTexts
+pub mod Texts
+pub mod Once
+pub mod RowSteps
+pub mod Repeating
+pub mod Places

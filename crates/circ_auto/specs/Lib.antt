@@ -1,0 +1,10 @@
+pub mod Graph
+pub mod Machine
+pub mod Inside
+pub mod Pairs
+pub mod Search
+pub mod Knows
+pub mod Reading
+pub mod Parts
+pub mod Text
+pub mod Gives

@@ -1,0 +1,20 @@
+use Rattle.circ_chart.specs.declared.memo.Question.TheVariants.{OfTerm}
+use Rattle.circ_chart.specs.declared.few.Few.TheVariants.{Empty}
+use Rattle.circ_chart.specs.Reads.{Reads}
+use Rattle.circ_chart.proofs.May.{may_reads}
+use Rattle.circ_chart.proofs.Memory.{listed_answer}
+use Rattle.circ_chart.proofs.Asking.{none_of}
+use Rattle.circ_chart.proofs.reader.Reader.is_known_none.Goals as goal
+
+pub returns-then-not-may_spell : goal.returns-then-not-may_spell
+returns-then-not-may_spell c =
+    let a = c.args in
+    let r = a.self.now in
+    λ e x h. c.may_spell.ensures c.if-not-may_spell.true (may_reads r.grammar.now r.tokens.now r.starts.now a.wanted.below a.wanted.sort a.from a.to x h c.requires.starts c.requires.words)
+
+pub returns : goal.returns
+returns c =
+    let a = c.args in
+    let r = a.self.now in
+    λ e x h. none_of (Reads r.grammar.now r.tokens.now a.wanted.below a.wanted.sort a.from a.to)
+    (listed_answer r.grammar.now r.tokens.now a.memo.now.entries.items (OfTerm a.wanted.sort a.wanted.below) a.from a.to Empty c.requires.memo (c.has_none.ensures e)).enough x h

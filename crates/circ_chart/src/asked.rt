@@ -1,0 +1,25 @@
+//! What is asked of ranges of tokens.
+
+use crate::grammar::Rule;
+
+/// The terms of a sort, of a precedence below `below`: those that fit a hole.
+#[derive(Clone, Copy)]
+pub struct Wanted {
+    pub sort: u32,
+    pub below: u8,
+}
+
+/// The symbols of a rule from one of its places on. The rule stands in the grammar at `number`.
+#[derive(Clone, Copy)]
+pub struct Part<'a> {
+    pub rule: &'a Rule,
+    pub number: usize,
+    pub place: usize,
+}
+
+/// Symbols of a rule that begin with a hole and go on.
+#[derive(Clone, Copy)]
+pub struct Gap<'a> {
+    pub part: Part<'a>,
+    pub wanted: Wanted,
+}

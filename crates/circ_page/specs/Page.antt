@@ -1,0 +1,61 @@
+-- What a page is answered.
+use Rattle.std.specs.Prelude.{◌≡◌, ◌≢◌, ◌++◌, ℕ, List, [], Option, Some, None, length, take, drop, codes, true}
+use Rattle.std.specs.Str.{IsUtf8}
+use Rattle.std.specs.Str.Lines.{lines as lines_of}
+use Rattle.circ_outer.specs.Shelf.{ShelfState}
+use Rattle.circ_outer.specs.Sink.{SinkState}
+use Rattle.circ_files.specs.declared.status.Status.{Status}
+use Rattle.circ_files.specs.declared.status.Status.TheVariants as status
+use Rattle.circ_files.specs.Status.{number_of}
+use Rattle.circ_top.specs.Command.{Check, Prove, Asks}
+use Rattle.circ_top.specs.Check.{Accepts}
+use Rattle.circ_top.specs.Prove.{StoresProof}
+use Rattle.circ_top.specs.InMemory.{HoldsFiles, Appends}
+use Rattle.circ_top.specs.Answer.{AnswersDue}
+
+-- what a file holds, and nothing where there is none
+abbrev pub file_bytes : Option (List ℕ) → List ℕ
+file_bytes (Some bytes) = bytes
+file_bytes None = []
+
+-- The shelf tells, and holds the three files that the page passed, and no other.
+pub record HoldsPage (theory goals proof : List ℕ) (s : ShelfState) : Type 0 where
+  pub tells : s.tells ≡ true
+  pub theory_held : s.holds (codes "theory") ≡ Some theory
+  pub goals_held : s.holds (codes "goals") ≡ Some goals
+  pub proof_held : s.holds (codes "proof") ≡ Some proof
+  pub no_other : (n : List ℕ) → n ≢ codes "theory" → n ≢ codes "goals" → n ≢ codes "proof" → s.holds n ≡ None
+
+-- A run of the program with these words over the files of the page, from an empty sink: its answer is due; it is the outcome, with its text and what it stores,
+-- or want of memory, where the files are there that the words name; and 0 says of a check and of a search what the program's own clauses say.
+pub record RunsPage (words : List (List ℕ)) (theory goals proof : List ℕ) (answer : Status) (after : ShelfState) (end : SinkState) : Type 0 where
+  pub before : ShelfState
+  pub start : SinkState
+  pub held : HoldsPage theory goals proof before
+  pub nothing : start.written ≡ []
+  pub due : AnswersDue words before after start end answer
+  pub outcome : HoldsFiles words before.holds → Appends words before after start end answer
+  pub accepted : (report : _) (t p : List ℕ) → Asks words (Check report t p) → answer ≡ status.Ok → Accepts report t p before after start end
+  pub proved : (limits : _) (t g p : List ℕ) → Asks words (Prove limits t g p) → answer ≡ status.Ok → StoresProof t g p before after start end
+
+-- As many of the bytes as there was room for were moved to the front of a buffer, and the count says how many there are.
+pub record HandsOut (bytes room filled : List ℕ) (count : ℕ) : Type 0 where
+  pub counted : count ≡ length bytes
+  pub moved : filled ≡ take (length room) bytes ++ drop (length bytes) room
+
+-- What comes of a question, with its number, its text and the proof that is held then: its words are no text; or memory ran out before the program ran; or the
+-- program ran, with the words that stand one a line.
+pub data ComesOfPage (words theory goals proof : List ℕ) : (number : ℕ) → (text stored : List ℕ) → Type 0 where
+  no_words : ¬ (IsUtf8 words) → ComesOfPage words theory goals proof 3 [] []
+  no_memory : ComesOfPage words theory goals proof 9 [] []
+  ran : (answer : Status) (after : ShelfState) (end : SinkState) → RunsPage (lines_of words) theory goals proof answer after end
+      → ComesOfPage words theory goals proof (number_of answer) end.written (file_bytes (after.holds (codes "proof")))
+
+-- What a page is answered: the number of what comes, whose text and proof are handed out.
+pub record AnswersPage (words theory goals proof : List ℕ) (number : ℕ)
+    (text_room text : List ℕ) (text_count : ℕ) (proof_room stored : List ℕ) (proof_count : ℕ) : Type 0 where
+  pub text_bytes : List ℕ
+  pub proof_bytes : List ℕ
+  pub comes : ComesOfPage words theory goals proof number text_bytes proof_bytes
+  pub text_handed : HandsOut text_bytes text_room text text_count
+  pub proof_handed : HandsOut proof_bytes proof_room stored proof_count
