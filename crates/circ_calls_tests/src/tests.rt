@@ -19,7 +19,8 @@ use circ_replay::{TableBuilder, follow, follow_all, follow_why};
 use circ_show::unobserved;
 use circ_special::Gamma;
 use circ_term::{Path, Subst, Term, TermFault};
-use circ_theory::{Form, FormFault, Goal, Text, Theory, in_order, parameters_in_order};
+use circ_form::{Form, FormFault, Text};
+use circ_theory::{Goal, Theory, in_order, parameters_in_order};
 use circ_top::sure::circ_in_memory;
 use std::alloc::{AllocError, Global};
 

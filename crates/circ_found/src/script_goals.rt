@@ -8,7 +8,8 @@ ghost use Rattle.circ_script.specs.declared.job.Job.TheVariants.{Prove};
 ghost use Rattle.circ_found.specs.Answering.{blocks_of};
 ghost use Rattle.circ_found.specs.Searchable.{IsWithinGoal, AreWithin};
 
-use circ_theory::{Goal, Script, Theory};
+use circ_script::Script;
+use circ_theory::{Goal, Theory};
 
 /// What is read as a script for a proof can be searched: its terms are within the limits, as every
 /// term is.

@@ -22,10 +22,10 @@ use circ_plain_search::laws::proved_is_accepted;
 use circ_proof::Proof;
 use circ_read::{Cause, ReadFault, read_theory};
 use circ_script::laws::scripts_are_fit;
-use circ_script::{Job, read_script};
+use circ_script::{Job, Script, read_script};
 use circ_search::Limits;
 use circ_soundness::one_verdict;
-use circ_theory::{Script, Theory};
+use circ_theory::Theory;
 use std::alloc::{AllocError, Global};
 
 /// What comes of the chain of the streams from 0 to this number.

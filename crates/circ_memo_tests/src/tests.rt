@@ -8,7 +8,8 @@ use circ_index::{PairIndex, RuleIndex};
 use circ_memo::Memo;
 use circ_rewrite::{RewriteFault, Rule, RuleName};
 use circ_term::{Subst, Term, TermFault};
-use circ_theory::{Form, OpDecl, Side, Theory, TheoryFault};
+use circ_form::Form;
+use circ_theory::{OpDecl, Side, Theory, TheoryFault};
 use itoa::Buffer;
 use std::alloc::{AllocError, Global};
 

@@ -3,14 +3,15 @@ use Rattle.std.proofs.Common.{◌≡◌, ◌++◌, ℕ, List, [], ◌∷◌, len
 use Rattle.std.specs.List.{list_any}
 use Rattle.std.proofs.lemmas.Option.{slice_get_within}
 use Rattle.circ_term.specs.Tree.{Tree, sort_of}
-use Rattle.circ_theory.specs.declared.forms.Piece.{Piece}
-use Rattle.circ_theory.specs.declared.forms.Piece.TheVariants as piece
+use Rattle.circ_form.specs.declared.forms.Piece.{Piece}
+use Rattle.circ_form.specs.declared.forms.Piece.TheVariants as piece
 use Rattle.circ_theory.specs.declared.parts.Side.{Side}
 use Rattle.circ_theory.specs.Signature as signature
 use Rattle.circ_theory.specs.Signature.{Signature, Operator, IsSort, IsWellSorted}
 use Rattle.circ_theory.specs.Theory.{Theory, Declared, pair_with, IsWellSortedPair}
 use Rattle.circ_theory.specs.WellFormed.{IsWellFormed}
-use Rattle.circ_theory.specs.Operators.{IsOperator, is_hole_piece, hole_count}
+use Rattle.circ_form.specs.Form.{is_hole_piece, hole_count}
+use Rattle.circ_theory.specs.Operators.{IsOperator}
 use Rattle.circ_mixfix.specs.Named.{Named, NamedList, no_terms, terms, numbered, all_numbered, place_from, seen_in}
 use Rattle.circ_mixfix.specs.Symbols.{Symbol, Word, Hole, every, inner_symbols, form_symbols, more_arguments, arguments, symbols_of}
 use Rattle.circ_mixfix.specs.Spells.{IsVariable, a_declared_one, a_written_one, the_hole, Spells, SpellsSymbols, in_parentheses, a_variable, an_operator, no_symbol, a_word, a_hole}

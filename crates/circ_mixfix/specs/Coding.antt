@@ -7,7 +7,7 @@ use Rattle.circ_chart.specs.declared.grammar.Rule.{Rule}
 use Rattle.circ_chart.specs.declared.grammar.Variable as chart_variable
 use Rattle.circ_chart.specs.declared.grammar.Symbol as chart_symbol
 use Rattle.circ_chart.specs.declared.grammar.Symbol.TheVariants as chart
-use Rattle.circ_theory.specs.Form.{first_word}
+use Rattle.circ_form.specs.Form.{first_word}
 use Rattle.circ_theory.specs.Signature.{Signature, Operator}
 use Rattle.circ_theory.specs.Theory.{Declared}
 use Rattle.circ_mixfix.specs.Named.{Named, NamedList, Variable, Applied, no_terms, terms}

@@ -12,7 +12,8 @@ ghost use Rattle.circ_mixfix.specs.Printing.{printed_name, text_of_term, texts_o
 ghost use Rattle.circ_mixfix.specs.Printing.{text_of_pair};
 
 use circ_term::{Kind, Term};
-use circ_theory::{OpDecl, Piece, Theory};
+use circ_form::Piece;
+use circ_theory::{OpDecl, Theory};
 use itoa::Buffer;
 use std::alloc::{AllocError, Global};
 

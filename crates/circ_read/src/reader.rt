@@ -13,7 +13,8 @@ use crate::statement::add_statement;
 use crate::text::{Head, read_head};
 use circ_lexer::Tokens;
 use circ_statement::Statement;
-use circ_theory::{Text, Theory};
+use circ_form::Text;
+use circ_theory::Theory;
 use std::alloc::{AllocError, Global};
 
 /// The theory that the bytes read as. A fault has the number of the statement with the first

@@ -16,7 +16,8 @@ use crate::sorts::add_sorts;
 use crate::variables::add_variables;
 use circ_lexer::{Span, Tokens};
 use circ_statement::{Statement, StatementFault, statement as read_statement};
-use circ_theory::{Text, Theory};
+use circ_form::Text;
+use circ_theory::Theory;
 use std::alloc::Global;
 
 /// The statement that the tokens of a span are, without the stop that ends it. A statement that is

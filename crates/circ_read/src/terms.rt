@@ -6,7 +6,8 @@ ghost use Rattle.circ_read.specs.Steps.{IsNoReading};
 
 use crate::cause::{Cause, Fault, because};
 use circ_mixfix::{ParseFault, Reading, print_derivative, print_pair};
-use circ_theory::{Text, Theory};
+use circ_form::Text;
+use circ_theory::Theory;
 use std::alloc::{AllocError, Global};
 
 // The cause that a fault of reading terms is.

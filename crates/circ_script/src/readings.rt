@@ -6,7 +6,8 @@ ghost use Rattle.circ_script.specs.Steps.{IsUnread};
 
 use circ_mixfix::{ParseFault, Reading, print, print_pair};
 use circ_read::{Cause, Fault, because};
-use circ_theory::{Text, Theory};
+use circ_form::Text;
+use circ_theory::Theory;
 use std::alloc::{AllocError, Global};
 
 // The cause that a fault of reading terms is.

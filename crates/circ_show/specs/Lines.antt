@@ -3,14 +3,14 @@ use Rattle.std.specs.Prelude.{ℕ, ◌-◌, List, [], ◌∷◌, ◌++◌, Bool,
 use Rattle.std.specs.List.{slice_get}
 use Rattle.std.specs.Option.{option_map_or}
 use Rattle.circ_term.specs.Tree.{Tree}
-use Rattle.circ_theory.specs.declared.forms.Piece.{Piece}
+use Rattle.circ_form.specs.declared.forms.Piece.{Piece}
 use Rattle.circ_theory.specs.declared.parts.Side.{Side}
 use Rattle.circ_theory.specs.declared.parts.Side.TheVariants.{Neither, Left, Right}
 use Rattle.circ_theory.specs.declared.parts.Equation.{Equation}
-use Rattle.circ_theory.specs.Form.{text_of}
+use Rattle.circ_form.specs.Form.{text_of}
 use Rattle.circ_theory.specs.Signature.{Signature, Operator}
 use Rattle.circ_theory.specs.Theory.{Theory, Declared, pair_of}
-use Rattle.circ_theory.specs.Operators.{is_hole_piece, has_hole}
+use Rattle.circ_form.specs.Form.{is_hole_piece, has_hole}
 use Rattle.circ_theory.specs.Observing.{cases_of}
 use Rattle.circ_mixfix.specs.Printing.{joined, text_of_term, text_of_pair}
 

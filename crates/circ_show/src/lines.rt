@@ -1,7 +1,7 @@
 //! The lines of a theory's text.
 ghost use Rattle.std.specs.Prelude.{◌≡◌, ◌++◌, codes, flat_map, OnOk};
 ghost use Rattle.std.specs.Option.{option_copied};
-ghost use Rattle.circ_theory.specs.Form.{text_of};
+ghost use Rattle.circ_form.specs.Form.{text_of};
 ghost use Rattle.circ_theory.specs.Theory.{declared};
 ghost use Rattle.circ_theory.specs.Operators.{operator_of};
 ghost use Rattle.circ_show.specs.Lines.{spaced_word, spaced_sort, spaced_form, sort_name, theory_line, sort_line, declaration, op_line, var_line, equation_line, derivative_line, cases_line, unobserved_line};
@@ -9,7 +9,8 @@ ghost use Rattle.circ_show.specs.Lines.{spaced_word, spaced_sort, spaced_form, s
 use crate::attributes::put_attributes;
 use circ_mixfix::{print_derivative, print_pair};
 use circ_term::Term;
-use circ_theory::{Equation, OpDecl, Piece, Theory};
+use circ_form::Piece;
+use circ_theory::{Equation, OpDecl, Theory};
 use std::alloc::{AllocError, Global};
 
 pub fn put_head(out: &mut Vec<u8>, name: &[u8]) -> Result<(), AllocError>

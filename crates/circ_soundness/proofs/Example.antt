@@ -5,8 +5,8 @@ use Rattle.std.proofs.lemmas.Option.{same_Some}
 use Rattle.circ_term.specs.Tree.{Tree, Var, App, sort_of}
 use Rattle.circ_term.specs.Substitution.{Substitution, instance}
 use Rattle.circ_term.proofs.Paths.{nowhere}
-use Rattle.circ_theory.specs.declared.forms.Piece.TheVariants.{Word}
-use Rattle.circ_theory.specs.Form.{IsForm}
+use Rattle.circ_form.specs.declared.forms.Piece.TheVariants.{Word}
+use Rattle.circ_form.specs.Form.{IsForm}
 use Rattle.circ_theory.specs.Signature.{IsWellSorted}
 use Rattle.circ_theory.specs.Theory.{Pair, goal, goal_of, Derivative, IsHidden, IsVisible, IsWellSortedGoal}
 use Rattle.circ_theory.specs.Variables.{IsInOrder, variables_of, sorted, FitVariables, given}

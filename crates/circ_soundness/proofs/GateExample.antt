@@ -3,11 +3,11 @@ use Rattle.std.proofs.Common.{◌≡◌, ◌<◌, ◌≤◌, ℕ, List, [], ◌�
 use Rattle.std.specs.List.{AllByRecursion, Contains, slice_get}
 use Rattle.std.proofs.lemmas.Option.{same_Some}
 use Rattle.circ_term.specs.Tree.{Tree, sort_of}
-use Rattle.circ_theory.specs.declared.forms.Piece.TheVariants.{Word}
+use Rattle.circ_form.specs.declared.forms.Piece.TheVariants.{Word}
 use Rattle.circ_theory.specs.declared.way.Way.TheVariants.{Forth}
 use Rattle.circ_theory.specs.declared.parts.Equation.{Equation}
 use Rattle.circ_theory.specs.declared.parts.Goal.{Goal}
-use Rattle.circ_theory.specs.Form.{IsForm}
+use Rattle.circ_form.specs.Form.{IsForm}
 use Rattle.circ_theory.specs.Signature.{Operator, IsWellSorted}
 use Rattle.circ_theory.specs.Theory.{Pair, pair_with, goal, goal_of, CaseList, Derivative, IsHidden, IsVisible, IsCondition, IsWellSortedGoal}
 use Rattle.circ_theory.specs.Variables.{IsInOrder}

@@ -6,8 +6,8 @@ use Rattle.std.specs.Char.{is_ascii_digit}
 use Rattle.std.specs.Option.{option_map, option_and_then}
 use Rattle.circ_lexer.specs.TokenList.{TokenList, tokens_in, IsWithin}
 use Rattle.circ_lexer.specs.declared.tokens.Span.{Span}
-use Rattle.circ_theory.specs.declared.forms.Piece.{Piece}
-use Rattle.circ_theory.specs.Form.{pieces_of, form_fault}
+use Rattle.circ_form.specs.declared.forms.Piece.{Piece}
+use Rattle.circ_form.specs.Form.{pieces_of, form_fault}
 use Rattle.circ_statement.specs.declared.attributes.Attribute.{Attribute}
 use Rattle.circ_statement.specs.declared.attributes.Attribute.TheVariants.{Prec, ToLeft, ToRight, Assoc, Comm, Idem}
 use Rattle.circ_statement.specs.declared.attributes.Attributes.{Attributes}

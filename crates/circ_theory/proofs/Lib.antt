@@ -7,7 +7,6 @@ pub mod Behaviour
 pub mod Numbering
 pub mod Renumbering
 pub mod Rewriting
-pub mod Cutting
 pub mod Lists
 pub mod Growing
 pub mod Keys

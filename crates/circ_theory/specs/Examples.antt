@@ -2,7 +2,7 @@
 use Rattle.std.specs.Prelude.{ℕ, List, [], ◌∷◌, ◌==◌, if◌then◌else◌, codes, true, false}
 use Rattle.circ_term.specs.Tree.{Tree, Var, App, none, more}
 use Rattle.circ_term.specs.Substitution.{Substitution}
-use Rattle.circ_theory.specs.declared.forms.Piece.TheVariants.{Word}
+use Rattle.circ_form.specs.declared.forms.Piece.TheVariants.{Word}
 use Rattle.circ_theory.specs.declared.parts.Side.TheVariants.{Neither}
 use Rattle.circ_theory.specs.Signature.{Operator}
 use Rattle.circ_theory.specs.declared.parts.Goal.{Goal}

@@ -9,7 +9,7 @@ use Rattle.circ_theory.specs.declared.theories.OpKey.{OpKey}
 use Rattle.circ_theory.specs.declared.theories.Listed.{Listed}
 use Rattle.circ_theory.specs.declared.theories.Observer.{Observer}
 use Rattle.circ_theory.specs.declared.theories.Parts.{Parts}
-use Rattle.circ_theory.specs.Form.{text_of, IsForm}
+use Rattle.circ_form.specs.Form.{text_of, IsForm}
 use Rattle.circ_theory.specs.Signature.{Operator}
 use Rattle.circ_theory.specs.Theory.{Theory, declared, goal_of}
 use Rattle.circ_theory.specs.Variables.{sorts_of}

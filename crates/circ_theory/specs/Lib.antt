@@ -1,5 +1,4 @@
 pub mod Limits
-pub mod Form
 pub mod Signature
 pub mod Pair
 pub mod Pairs

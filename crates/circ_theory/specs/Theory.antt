@@ -35,6 +35,10 @@ pub record Theory : Type 0 where
   pub derivatives : List Derivative
   pub cases : List CaseList
 
+-- no equation has conditions
+abbrev pub HasNoConditions : Theory → Type 0
+HasNoConditions th = (e : Equation) → Contains th.equations e → e.conds ≡ []
+
 -- f applied to two terms, where both arguments and the result have one sort
 abbrev pub twice : (op sort : ℕ) → Tree → Tree → Tree
 twice f k s t = App f k (more s (more t none))

@@ -3,8 +3,8 @@
 ghost use Rattle.std.specs.Prelude.{◌≡◌, ℕ, List, [], ◌∷◌, codes, Some, None, map};
 ghost use Rattle.circ_term.specs.Tree.{Tree, Var, App, none, more, sort_of};
 ghost use Rattle.circ_term.specs.Substitution.{Substitution, instance};
-ghost use Rattle.circ_theory.specs.declared.forms.Piece.TheVariants.{Hole, Word};
-ghost use Rattle.circ_theory.specs.declared.forms.FormFault.TheVariants.{NoWord, BadWord};
+ghost use Rattle.circ_form.specs.declared.forms.Piece.TheVariants.{Hole, Word};
+ghost use Rattle.circ_form.specs.declared.forms.FormFault.TheVariants.{NoWord, BadWord};
 ghost use Rattle.circ_theory.specs.declared.TheConstants.{MOST_SORTS, MOST_VARS, MOST_OPS};
 ghost use Rattle.circ_theory.specs.declared.TheConstants.{MOST_EQUATIONS, MOST_DERIVATIVES};
 ghost use Rattle.circ_theory.specs.declared.TheConstants.{MOST_ARGS, MOST_PARAMS, MOST_CASES};
@@ -13,7 +13,7 @@ ghost use Rattle.circ_theory.specs.Limits.{sort_limit, variable_limit, operator_
 ghost use Rattle.circ_theory.specs.Limits.{equation_limit, derivative_limit};
 ghost use Rattle.circ_theory.specs.Limits.{argument_limit, parameter_limit, constant_limit};
 ghost use Rattle.circ_theory.specs.Limits.{condition_limit};
-ghost use Rattle.circ_theory.specs.Form.{pieces_of, form_fault};
+ghost use Rattle.circ_form.specs.Form.{pieces_of, form_fault};
 ghost use Rattle.circ_theory.specs.Signature.{IsWellSorted, IsSubstitution};
 ghost use Rattle.circ_theory.specs.Theory.{Theory, Pair, Within, instance_pair};
 ghost use Rattle.circ_theory.specs.Variables.{IsInOrder};
@@ -70,16 +70,6 @@ pub fn swap_at_once()
 pub fn numbered_left_first()
     ensures in_order { IsInOrder (plain_goal (on_variables 0 1) (on_variables 1 0)) }
     ensures out_of_order { IsInOrder (plain_goal (on_variables 1 0) (on_variables 0 1)) → ⊥ }
-{}
-
-/// A form is cut at its holes, and each bracket is a word by itself.
-pub fn forms_are_cut()
-    ensures plus { pieces_of (codes "_+_") ≡ Hole ∷ Word (codes "+") ∷ Hole ∷ [] }
-    ensures brackets { pieces_of (codes "a[_]")
-        ≡ Word (codes "a") ∷ Word (codes "[") ∷ Hole ∷ Word (codes "]") ∷ [] }
-    ensures no_word { form_fault (codes "__") ≡ Some NoWord }
-    ensures bad_word { form_fault (codes "_=_") ≡ Some BadWord }
-    ensures good { form_fault (codes "_==_") ≡ None }
 {}
 
 /// The limits of the code are those that the definitions state.

@@ -7,7 +7,6 @@
 
 mod adding;
 mod fault;
-mod forms;
 mod fresh;
 pub mod laws;
 mod observing;
@@ -19,12 +18,11 @@ mod theories;
 mod way;
 
 pub use fault::TheoryFault;
-pub use forms::{Form, FormFault, Piece, Text};
 pub use fresh::{above, above_pairs, fresh_after, fresh_in};
 pub use observing::parameters_in_order;
 pub use order::in_order;
 pub use pairs::{Pair, Pairs};
-pub use parts::{Equation, Goal, OpDecl, Script, Side};
+pub use parts::{Equation, Goal, OpDecl, Side};
 pub use renumber::{Occurring, gather, renumbered};
 pub use theories::{Theory, Vars};
 pub use way::Way;

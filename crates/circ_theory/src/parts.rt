@@ -1,7 +1,7 @@
 //! Parts of theories and of what is proved in them.
 ghost use Rattle.std.specs.Prelude.{◌≡◌, IfOk};
 
-use crate::forms::Form;
+use circ_form::Form;
 use crate::pairs::Pairs;
 use circ_term::Term;
 use std::alloc::{AllocError, Global};
@@ -72,13 +72,4 @@ impl Goal {
         let right = self.right.share()?;
         Ok(Goal { conds, left, right })
     }
-}
-
-/// What a script asks for.
-#[derive(Drop)]
-pub struct Script {
-    /// The goals, in the blocks that are proved one after another.
-    pub blocks: Vec<Vec<Goal>>,
-    /// The terms to be reduced.
-    pub terms: Vec<Term>,
 }

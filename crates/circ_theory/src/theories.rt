@@ -9,7 +9,7 @@ mod faults;
 mod reading;
 mod terms;
 
-use crate::forms::Text;
+use circ_form::Text;
 use crate::parts::{Equation, OpDecl};
 use circ_term::Term;
 use indexmap::{IndexMap, IndexSet};

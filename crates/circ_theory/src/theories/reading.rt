@@ -5,7 +5,7 @@ ghost use Rattle.std.specs.List.{slice_get};
 ghost use Rattle.std.specs.Option.{option_copied, option_map, option_map_or};
 ghost use Rattle.circ_theory.specs.Limits.{sort_limit, variable_limit, operator_limit};
 ghost use Rattle.circ_theory.specs.Limits.{equation_limit, derivative_limit};
-ghost use Rattle.circ_theory.specs.Theory.{goal_of, declared, IsHidden};
+ghost use Rattle.circ_theory.specs.Theory.{goal_of, declared, IsHidden, HasNoConditions};
 ghost use Rattle.circ_theory.specs.Variables.{sorts_of};
 ghost use Rattle.circ_theory.specs.Operators.{operator_of, ops_by_word};
 ghost use Rattle.circ_theory.specs.Adding.{sort_number, var_number, op_of_form};
@@ -16,7 +16,7 @@ ghost use Rattle.circ_theory.specs.Observing.{parameter_sorts_in};
 ghost use Rattle.circ_theory.specs.Fresh.{parameter_sorts};
 
 use super::{Listed, Observer, OpKey, Theory};
-use crate::forms::Form;
+use circ_form::Form;
 use crate::parts::{Equation, OpDecl};
 use circ_term::Term;
 use std::alloc::AllocError;
@@ -134,6 +134,13 @@ impl Theory {
             Some(listed) => Some(&listed.equation),
             None => None,
         }
+    }
+
+    /// Whether an equation has conditions. It looks at each of them in turn.
+    pub fn has_conditions(&self) -> bool
+        ensures { (result ≡ false) ↔ HasNoConditions self.now }
+    {
+        self.parts.equations.iter().any(|listed| listed.equation.conds.len() > 0)
     }
 
     /// The sorts of an equation's variables, by the variables' numbers.

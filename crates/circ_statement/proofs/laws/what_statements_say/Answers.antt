@@ -1,6 +1,6 @@
 use Rattle.std.proofs.Common.{◌≡◌, ◌<◌, ℕ, zero, suc, [], ◌∷◌, true, false, codes, Some, inr, refl, ap, ◌∙◌, arith}
 use Rattle.std.proofs.lemmas.Option.{same_Some}
-use Rattle.circ_theory.specs.declared.forms.Piece.TheVariants.{Hole, Word as OneWord}
+use Rattle.circ_form.specs.declared.forms.Piece.TheVariants.{Hole, Word as OneWord}
 use Rattle.circ_theory.specs.declared.parts.Side.TheVariants.{Neither, Right}
 use Rattle.circ_statement.specs.declared.attributes.Attribute.TheVariants.{Prec, Assoc}
 use Rattle.circ_statement.specs.Words.{Word}

@@ -1,5 +1,5 @@
 use Rattle.std.proofs.Common.{◌≡◌, ◌++◌, length}
-use Rattle.circ_theory.specs.Form.{pieces_of}
+use Rattle.circ_form.specs.Form.{pieces_of}
 use Rattle.circ_theory.proofs.forms.cut.Given as goal
 
 abbrev pub invariant-loop-rest : goal.invariant-loop-rest

@@ -5,10 +5,10 @@ use Rattle.std.specs.List.{list_any, position_or_len, position}
 use Rattle.std.proofs.lemmas.List.Sums.{prefix_len-le-length}
 use Rattle.std.proofs.lemmas.Grind.{common_steps}
 use Rattle.std.proofs.lemmas.Bool.{eqb-true}
-use Rattle.circ_theory.specs.declared.forms.Piece.{Piece}
-use Rattle.circ_theory.specs.declared.forms.Piece.TheVariants.{Hole, Word}
-use Rattle.circ_theory.specs.Form.{is_hole, is_bracket, is_special, starts_with_bracket, before, pieces_of, text_of, piece_of, is_word, is_bad_piece}
-use Rattle.circ_theory.specs.Form.{form_fault}
+use Rattle.circ_form.specs.declared.forms.Piece.{Piece}
+use Rattle.circ_form.specs.declared.forms.Piece.TheVariants.{Hole, Word}
+use Rattle.circ_form.specs.Form.{is_hole, is_bracket, is_special, starts_with_bracket, before, pieces_of, text_of, piece_of, is_word, is_bad_piece}
+use Rattle.circ_form.specs.Form.{form_fault}
 
 text_of-before : (b : ℕ) (ps : List Piece) → text_of (before b ps) ≡ b ∷ text_of ps
 text_of-before b [] = refl

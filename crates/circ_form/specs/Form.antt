@@ -1,13 +1,13 @@
 -- An operator's form: its text, cut into words and holes.
 use Rattle.std.specs.Prelude.{◌≡◌, ℕ, List, [], ◌∷◌, ◌++◌, Bool, true, false, ◌==◌, ◌||◌, nat_lt, nat_eq, codes, if◌then◌else◌, Option, Some, None}
 use Rattle.std.specs.Prelude.{Result, Ok, Err, refl}
-use Rattle.std.specs.List.{list_any}
+use Rattle.std.specs.List.{list_any, count_by}
 use Rattle.std.specs.Coded.{Coded, code_by, coded_ℕ, coded_list, coded_option}
 use Rattle.std.specs.Cmp.Lexicographic.{pointwise}
-use Rattle.circ_theory.specs.declared.forms.Piece.{Piece}
-use Rattle.circ_theory.specs.declared.forms.Piece.TheVariants.{Hole, Word}
-use Rattle.circ_theory.specs.declared.forms.FormFault.{FormFault}
-use Rattle.circ_theory.specs.declared.forms.FormFault.TheVariants.{NoWord, BadWord, Memory}
+use Rattle.circ_form.specs.declared.forms.Piece.{Piece}
+use Rattle.circ_form.specs.declared.forms.Piece.TheVariants.{Hole, Word}
+use Rattle.circ_form.specs.declared.forms.FormFault.{FormFault}
+use Rattle.circ_form.specs.declared.forms.FormFault.TheVariants.{NoWord, BadWord, Memory}
 
 -- _
 abbrev pub is_hole : ℕ → Bool
@@ -88,6 +88,22 @@ first_word (Word w ∷ ps) = w
 -- a text that is one piece
 abbrev pub piece_of : List ℕ → Piece
 piece_of w = if pointwise nat_eq w (95 ∷ []) then Hole else Word w
+
+abbrev pub is_same_piece : Piece → Piece → Bool
+is_same_piece Hole Hole = true
+is_same_piece Hole (Word w) = false
+is_same_piece (Word v) Hole = false
+is_same_piece (Word v) (Word w) = pointwise nat_eq v w
+
+abbrev pub is_hole_piece : Piece → Bool
+is_hole_piece Hole = true
+is_hole_piece (Word w) = false
+
+abbrev pub has_hole : List Piece → Bool
+has_hole ps = list_any is_hole_piece ps
+
+abbrev pub hole_count : List Piece → ℕ
+hole_count ps = count_by is_hole_piece ps
 
 -- how a proof tells pieces apart
 abbrev pub word_of : Piece → Option (List ℕ)

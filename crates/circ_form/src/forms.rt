@@ -1,10 +1,10 @@
 //! Texts, and the forms in which operators are written.
 ghost use Rattle.std.specs.Prelude.{◌≡◌, ◌≤◌, ◌<◌, ◌∷◌, IfOk, length, take, drop, position};
 ghost use Rattle.std.specs.List.{list_any};
-ghost use Rattle.circ_theory.specs.Form.{is_special, is_word, is_bad_byte, is_reserved};
-ghost use Rattle.circ_theory.specs.Form.{is_bad_word, is_bad_piece, first_word, pieces_of, text_of};
-ghost use Rattle.circ_theory.specs.Form.{piece_of, IsForm, ReadsForm};
-ghost use Rattle.circ_theory.specs.Operators.{has_hole};
+ghost use Rattle.circ_form.specs.Form.{is_special, is_word, is_bad_byte, is_reserved};
+ghost use Rattle.circ_form.specs.Form.{is_bad_word, is_bad_piece, first_word, pieces_of, text_of};
+ghost use Rattle.circ_form.specs.Form.{piece_of, IsForm, ReadsForm};
+ghost use Rattle.circ_form.specs.Form.{has_hole};
 
 use std::alloc::{AllocError, AllocFailed, Global};
 use std::marker::Model;
@@ -60,8 +60,8 @@ pub struct Form {
 
 impl Model for Form {
     ghost use Rattle.std.specs.Prelude.{List};
-    ghost use Rattle.circ_theory.specs.declared.forms.Piece.{Piece};
-    ghost use Rattle.circ_theory.specs.Form.{form_code, IsForm};
+    ghost use Rattle.circ_form.specs.declared.forms.Piece.{Piece};
+    ghost use Rattle.circ_form.specs.Form.{form_code, IsForm};
 
     ghost Value = { List Piece };
 
@@ -88,7 +88,7 @@ pub enum FormFault {
 
 impl From<AllocError> for FormFault {
     ghost use Rattle.std.specs.Prelude.{◌≡◌};
-    ghost use Rattle.circ_theory.specs.declared.forms.FormFault.TheVariants.{Memory};
+    ghost use Rattle.circ_form.specs.declared.forms.FormFault.TheVariants.{Memory};
 
     ghost from_gives = { λ _ e. e ≡ Memory };
 
@@ -99,7 +99,7 @@ impl From<AllocError> for FormFault {
 
 impl<T: Drop> From<AllocFailed<T>> for FormFault {
     ghost use Rattle.std.specs.Prelude.{◌≡◌};
-    ghost use Rattle.circ_theory.specs.declared.forms.FormFault.TheVariants.{Memory};
+    ghost use Rattle.circ_form.specs.declared.forms.FormFault.TheVariants.{Memory};
 
     ghost from_gives = { λ _ e. e ≡ Memory };
 
@@ -169,7 +169,8 @@ impl Form {
         })
     }
 
-    pub(crate) fn spell(&self, alloc: Global) -> Result<Vec<u8>, AllocError>
+    /// The same as bytes.
+    pub fn spell(&self, alloc: Global) -> Result<Vec<u8>, AllocError>
         ensures { IfOk result (λ v. v.items ≡ text_of self.now) }
     {
         let mut bytes = Vec::new(alloc);
