@@ -71,7 +71,7 @@ impl<'a> Checker<'a> {
             alloc,
             theory,
             named: NamedTerms::of(alloc, Table::empty(alloc)),
-            gamma: no_places(alloc, theory),
+            gamma: Gamma::empty(alloc),
             due: Due::all(),
             state: no_state(alloc),
             known: VecDeque::new(alloc),
@@ -279,15 +279,6 @@ fn no_state(alloc: Global) -> State
     State {
         hyps: Vec::new(alloc),
         goals: VecDeque::new(alloc),
-    }
-}
-
-fn no_places(alloc: Global, theory: &Theory) -> Gamma
-    ensures { result ≡ [] }
-{
-    match Gamma::of(theory, Vec::new(alloc)) {
-        Some(gamma) => gamma,
-        None => unreachable!(),
     }
 }
 

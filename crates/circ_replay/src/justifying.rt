@@ -17,8 +17,8 @@ ghost use Rattle.circ_replay.specs.Sources.{setting_of};
 use crate::usage::Sources;
 use circ_proof::Why;
 use circ_special::Gamma;
-use circ_term::{Term, TermFault};
-use circ_theory::{Goal, Pair, Theory};
+use circ_term::Term;
+use circ_theory::{Goal, Pair, Theory, constant_of};
 use std::alloc::{AllocError, Global};
 
 /// Whether the goal holds by the reason, with its conditions as assumptions: each of its links
@@ -146,16 +146,4 @@ fn assume(
     let right = constant_of(alloc, constant, term.sort())?;
     assumptions.push(Pair { left, right })?;
     Ok(())
-}
-
-/// The constant with this operator number and sort.
-pub fn constant_of(alloc: Global, constant: u32, sort: u32) -> Result<Term, AllocError>
-    ensures { IfOk result (λ t. t ≡ App constant sort none) }
-{
-    match Term::app(alloc, constant, sort, Vec::new(alloc)) {
-        Ok(term) => Ok(term),
-        Err(TermFault::Memory) => Err(AllocError),
-        Err(TermFault::TooBig { .. }) => unreachable!(),
-        Err(TermFault::TooDeep { .. }) => unreachable!(),
-    }
 }

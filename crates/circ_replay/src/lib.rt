@@ -16,5 +16,5 @@ mod usage;
 mod variables;
 
 pub use following::{follow, follow_all};
-pub use justifying::{constant_of, follow_why};
+pub use justifying::follow_why;
 pub use table::TableBuilder;

@@ -14,9 +14,8 @@ ghost use Rattle.circ_rules.specs.Splitting.{put_first};
 
 use crate::basis::Basis;
 use circ_proof::State;
-use circ_replay::constant_of;
 use circ_term::Term;
-use circ_theory::{Goal, MOST_CONDITIONS, Pair};
+use circ_theory::{Goal, MOST_CONDITIONS, Pair, constant_of};
 use std::alloc::{AllocError, Global};
 
 impl Basis<'_> {

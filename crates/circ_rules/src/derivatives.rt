@@ -17,23 +17,9 @@ ghost use Rattle.circ_rules.specs.Deriving.{AreDerivativesOn, moved};
 use crate::basis::Basis;
 use circ_proof::State;
 use circ_term::{Term, TermFault};
-use circ_theory::{Goal, Theory, above, above_pairs};
+use circ_theory::{Goal, Theory, above, above_pairs, variables_from};
 use std::alloc::{AllocError, Global};
 use std::collections::VecDeque;
-
-// Variables of these sorts, numbered from `first`.
-pub(crate) fn variables(alloc: Global, first: u64, sorts: &[u32]) -> Result<Vec<Term>, AllocError>
-    requires { first + length sorts.now ≤ 2 ^ 32 }
-    ensures { IfOk result (λ v. v.items ≡ variables_from first sorts.now) }
-{
-    let mut made = Vec::with_capacity(alloc, sorts.len())?;
-    let mut next = first;
-    for sort in sorts {
-        made.push(Term::var(next as u32, *sort))?;
-        next += 1;
-    }
-    Ok(made)
-}
 
 // The derivative of this number on a term, with the terms of `params` for its parameters. None
 // where that passes a limit.
@@ -58,17 +44,6 @@ pub(crate) fn instance(
 }
 
 impl Basis<'_> {
-    // Whether the hole of the derivative of this number has the sort.
-    pub(crate) fn takes(&self, derivative: u32, sort: u32) -> bool
-        ensures { result ≡ option_map_or (λ d. d.hole == sort)
-            (slice_get self.now.theory.now.derivatives derivative) false }
-    {
-        match self.theory.hole_sort(derivative) {
-            Some(hole) => hole == sort,
-            None => false,
-        }
-    }
-
     // The derivative of this number on both sides of the goal, with fresh parameters: the greatest
     // variable number of the goal is below `fresh`. None where a term or a parameter's number
     // passes a limit.
@@ -94,7 +69,7 @@ impl Basis<'_> {
         if fresh + sorts.len() as u64 > 1 << 32 {
             return Ok(None);
         }
-        let params = variables(self.alloc, fresh, sorts)?;
+        let params = variables_from(self.alloc, fresh, sorts)?;
         self.both_sides(derivative, params.as_slice(), goal)
     }
 
@@ -133,7 +108,7 @@ impl Basis<'_> {
         let fresh = fresh_in(goal);
         let mut derived = VecDeque::new(self.alloc);
         for derivative in 0..self.theory.derivative_count() {
-            if self.takes(derivative, sort) {
+            if self.theory.takes(derivative, sort) {
                 match self.derivative_on(derivative, goal, fresh)? {
                     Some(goal) => derived.push_back(goal)?,
                     None => return Ok(None),

@@ -6,6 +6,7 @@
 #![tactic(auto)]
 
 mod adding;
+mod building;
 mod fault;
 mod fresh;
 pub mod laws;
@@ -17,6 +18,7 @@ mod renumber;
 mod theories;
 mod way;
 
+pub use building::{constant_of, variables_from};
 pub use fault::TheoryFault;
 pub use fresh::{above, above_pairs, fresh_after, fresh_in};
 pub use observing::parameters_in_order;

@@ -1,5 +1,5 @@
 //! The calls that read a theory's parts.
-ghost use Rattle.std.specs.Prelude.{◌≡◌, ◌↔◌, ◌≤◌, ◌^◌, false, IsTrue};
+ghost use Rattle.std.specs.Prelude.{◌≡◌, ◌↔◌, ◌≤◌, ◌^◌, ◌==◌, false, IsTrue};
 ghost use Rattle.std.specs.Prelude.{IfOk, IfSome, length};
 ghost use Rattle.std.specs.List.{slice_get};
 ghost use Rattle.std.specs.Option.{option_copied, option_map, option_map_or};
@@ -201,6 +201,17 @@ impl Theory {
         match self.observer(n) {
             Some(observer) => Some(observer.hole),
             None => None,
+        }
+    }
+
+    /// Whether the derivative of this number takes terms of the sort: its hole has it.
+    pub fn takes(&self, derivative: u32, sort: u32) -> bool
+        ensures { result ≡ option_map_or (λ d. d.hole == sort)
+            (slice_get self.now.derivatives derivative) false }
+    {
+        match self.hole_sort(derivative) {
+            Some(hole) => hole == sort,
+            None => false,
         }
     }
 

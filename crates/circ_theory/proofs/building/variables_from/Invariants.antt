@@ -1,6 +1,6 @@
 use Rattle.std.proofs.Common.{◌≡◌, ◌+◌, ◌++◌, drop}
 use Rattle.circ_theory.specs.Fresh.{variables_from}
-use Rattle.circ_rules.proofs.derivatives.variables.Given as goal
+use Rattle.circ_theory.proofs.building.variables_from.Given as goal
 
 abbrev pub invariant-loop-sort : goal.invariant-loop-sort
 invariant-loop-sort l = record {
