@@ -1,5 +1,5 @@
 -- What is due at the root of a term: the first that applies of an assumption with the term as its left side, the canonical form where
--- it is another term, and a rule whose left side matches. At a variable only an assumption applies.
+-- it is another term, and a rule whose left side matches. At a variable only an assumption applies. Rules have no conditions here.
 use Rattle.std.specs.Prelude.{◌≡◌, ℕ, ◌+◌, true, List, [], ◌∷◌, map, if◌then◌else◌, Option, Some, None, is_some}
 use Rattle.std.specs.List.{AllByRecursion}
 use Rattle.std.specs.Option.{option_or}
@@ -44,7 +44,7 @@ rule_variables r = sorted (variables_of (rule_goal r))
 abbrev pub terms_by : Substitution → List Variable → List Tree
 terms_by σ vs = map (λ v. σ v.number v.sort) vs
 
--- the instance of the right side, where the left side matches and the rule has no conditions
+-- the instance of the right side, where the left side matches; the rule has no conditions
 abbrev pub rule_due : Rule → Tree → Option Replacement
 rule_due r t =
     if matches r.left t
