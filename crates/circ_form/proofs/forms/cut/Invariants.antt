@@ -1,6 +1,6 @@
 use Rattle.std.proofs.Common.{◌≡◌, ◌++◌, length}
 use Rattle.circ_form.specs.Form.{pieces_of}
-use Rattle.circ_theory.proofs.forms.cut.Given as goal
+use Rattle.circ_form.proofs.forms.cut.Given as goal
 
 abbrev pub invariant-loop-rest : goal.invariant-loop-rest
 invariant-loop-rest l = l.pieces.items ++ pieces_of l.rest ≡ pieces_of l.text

@@ -1,6 +1,6 @@
 use Rattle.std.proofs.Common.{sym, ◌∙◌, ap, length, unwrap_or}
 use Rattle.circ_form.proofs.Cutting.{cut_first}
-use Rattle.circ_theory.proofs.forms.piece_len.Goals as goal
+use Rattle.circ_form.proofs.forms.piece_len.Goals as goal
 
 pub returns-clause-cut : goal.returns-clause-cut
 returns-clause-cut c =

@@ -1,7 +1,7 @@
 use Rattle.std.proofs.Common.{ap, ◌∙◌}
 use Rattle.circ_form.specs.Form.{pieces_of, form_fault}
 use Rattle.circ_form.proofs.Cutting.{text_of-pieces_of, no_fault}
-use Rattle.circ_theory.proofs.forms.Form.read.Goals as goal
+use Rattle.circ_form.proofs.forms.Form.read.Goals as goal
 
 pub invariant_of-result : goal.invariant_of-result
 invariant_of-result c =

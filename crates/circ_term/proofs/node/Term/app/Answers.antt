@@ -25,7 +25,9 @@ loop-arg-preserved c =
           ∙ ap (λ b. c.loop-arg.is_ground && (b && rest)) c.is_ground-is_ground.ensures
           ∙ without_variable;
       fingerprint =
-          ap (λ k. fingerprint_after (mixed c.loop-arg.fingerprint k) (trees_of (drop (c.loop-arg.arg-index + 1) c.deref-arg-items.result.now))) c.fingerprint.ensures
+          ap (λ h. fingerprint_after h (trees_of (drop (c.loop-arg.arg-index + 1) c.deref-arg-items.result.now))) c.mixed-fingerprint.ensures
+          ∙ ap (λ k. fingerprint_after (mixed c.loop-arg.fingerprint k) (trees_of (drop (c.loop-arg.arg-index + 1) c.deref-arg-items.result.now)))
+          c.fingerprint.ensures
           ∙ rw e at c.loop-arg.invariant.fingerprint;
       few = omega arith;
       depth_small = omega arith;
