@@ -1,20 +1,23 @@
 -- Equations with conditions: when one may be added, and the sorts of conditions that are kept.
-use Rattle.std.proofs.Common.{◌≡◌, ◌≤◌, ◌<◌, ℕ, Bool, true, false, ◌==◌, ◌||◌, nat_eq, if◌then◌else◌, List, [], ◌∷◌, ◌++◌, map, find, length, Option, Some, None}
+use Rattle.std.proofs.Common.{◌≡◌, ◌≤◌, ◌<◌, ◌↔◌, ℕ, zero, suc, nat_lt, Bool, true, false, ◌==◌, ◌||◌, nat_eq, if◌then◌else◌, List, [], ◌∷◌, ◌++◌, map, find, length, Option, Some, None}
 use Rattle.std.proofs.Common.{refl, ap, sym, subst, ◌∙◌, arith}
 use Rattle.std.specs.List.{list_any, Contains}
 use Rattle.std.specs.Option.{option_map}
 use Rattle.std.proofs.lemmas.Bool.{eqb-true}
+use Rattle.std.proofs.lemmas.Bool.Decides.{nat_tests}
 use Rattle.std.proofs.lemmas.List.Folds.{list_any-append}
 use Rattle.indexmap.specs.IndexSet.{insert_key}
 use Rattle.circ_term.specs.Tree.{sort_of}
 use Rattle.circ_theory.specs.declared.fault.TheoryFault.TheVariants.{NotVisible}
 use Rattle.circ_theory.specs.declared.parts.Equation.{Equation}
 use Rattle.circ_theory.specs.Limits.{equation_limit, condition_limit}
-use Rattle.circ_theory.specs.Theory.{Theory, Pair, AreConditions, AreWellSortedPairs, IsVisible}
+use Rattle.circ_theory.specs.Theory.{Theory, Pair, AreConditions, AreWellSortedPairs, IsVisible, HasNoConditions}
 use Rattle.circ_theory.specs.Adding.{count_fault, long_fault, is_hidden, hidden_condition, equation_fault}
 use Rattle.circ_theory.specs.Observing.{has_condition_of}
+use Rattle.circ_theory.specs.Rule.{is_conditional}
 use Rattle.circ_theory.proofs.Faults.{option_or_none, option_map_none, find_none, room_left}
-use Rattle.circ_theory.proofs.Casing.{hidden_tells}
+use Rattle.circ_theory.proofs.Casing.{hidden_tells, contains_first}
+use Rattle.circ_theory.proofs.Weakening.{in_rest}
 use Rattle.circ_theory.proofs.Filling.{any_inserted}
 use Rattle.circ_theory.proofs.Observers.{short_by}
 
@@ -82,3 +85,30 @@ first_hidden th p ps s e h = let hides : is_hidden th (sort_of p.left) ≡ true 
 pub not_kept : (known kept : Bool) → (known ≡ true → kept ≡ true) → kept ≡ false → false ≡ known
 not_kept true kept f e = absurd (let z = f refl in cc)
 not_kept false kept f e = refl
+
+-- a theory without conditions is one in which no equation has one
+no_conds : (E : List Pair) → nat_lt 0 (length E) ≡ false → E ≡ []
+no_conds [] e = refl
+no_conds (p ∷ ps) e = absurd (grind (arith, nat_tests, e))
+
+any_none : {X : Type 0} (p : X → Bool) (xs : List X) → list_any p xs ≡ false → (x : X) → Contains xs x → p x ≡ false
+any_none p [] e x c = absurd (omega (arith, c.1))
+any_none p (y ∷ ys) e x c = go (p y) refl (λ f d. any_none p ys f x d) c
+  where
+    go : (b : Bool) → p y ≡ b → (list_any p ys ≡ false → Contains ys x → p x ≡ false) → Contains (y ∷ ys) x → p x ≡ false
+    go true f ih c = absurd (let z = rw f at e in cc)
+    go false f ih (zero, h, g) = ap p (sym g) ∙ f
+    go false f ih (suc k, h, g) = ih (rw f at e) (k, omega arith, g)
+
+conds_of_none : (es : List Equation) → list_any is_conditional es ≡ false → (e : Equation) → Contains es e → e.conds ≡ []
+conds_of_none es none e c = no_conds e.conds (any_none is_conditional es none e c)
+
+none_by : (es : List Equation) → ((e : Equation) → Contains es e → e.conds ≡ []) → list_any is_conditional es ≡ false
+none_by [] h = refl
+none_by (e ∷ es) h =
+    let first : is_conditional e ≡ false = ap (λ E. nat_lt 0 (length E)) (h e (contains_first e es)) in
+    ap (λ b. b || list_any is_conditional es) first ∙ none_by es (λ d c. h d (in_rest e d es c))
+
+pub without_conditions : (th : Theory) → (list_any is_conditional th.equations ≡ false) ↔ HasNoConditions th
+without_conditions th = (conds_of_none th.equations, none_by th.equations)
+

@@ -2,11 +2,9 @@
 use Rattle.std.specs.Prelude.{◌≡◌, ℕ, ◌+◌, ◌≤◌, if◌then◌else◌, List, [], ◌∷◌, Bool, true, false, ◌==◌, ◌&&◌, ◌||◌, not, nat_eq, length}
 use Rattle.std.specs.List.{list_any, count_by, Contains}
 use Rattle.std.specs.Cmp.Lexicographic.{pointwise}
-use Rattle.circ_form.specs.declared.forms.Piece.{Piece}
-use Rattle.circ_form.specs.declared.forms.Piece.TheVariants.{Hole, Word}
 use Rattle.circ_theory.specs.declared.parts.OpDecl.{OpDecl}
 use Rattle.circ_theory.specs.Limits.{argument_limit}
-use Rattle.circ_form.specs.Form.{IsForm, first_word}
+use Rattle.circ_form.specs.Form.{IsForm, first_word, is_same_piece, hole_count}
 use Rattle.circ_theory.specs.Signature.{Signature, Operator, IsSort}
 
 -- the operator that a declaration declares

@@ -1,5 +1,5 @@
 -- Which equations are rewrite rules.
-use Rattle.std.specs.Prelude.{Bool, ◌&&◌, ◌++◌, is_some}
+use Rattle.std.specs.Prelude.{Bool, ◌&&◌, ◌++◌, is_some, nat_lt, length}
 use Rattle.std.specs.List.{list_any, list_all}
 use Rattle.circ_term.specs.Tree.{operator_number}
 use Rattle.circ_theory.specs.declared.parts.Equation.{Equation}
@@ -14,3 +14,7 @@ is_bound g = list_all (λ v. list_any (is_variable v) (occurrences g.left)) (occ
 -- A rule may be used as one, its left side is no variable, and each variable of its right side and its conditions is in its left side.
 abbrev pub is_rule : Equation → Bool
 is_rule e = e.exec && is_some (operator_number e.left) && is_bound (goal_of e)
+
+-- an equation with a condition
+abbrev pub is_conditional : Equation → Bool
+is_conditional e = nat_lt 0 (length e.conds)

@@ -1,7 +1,7 @@
 //! The calls that read a theory's parts.
 ghost use Rattle.std.specs.Prelude.{◌≡◌, ◌↔◌, ◌≤◌, ◌^◌, ◌==◌, false, IsTrue};
 ghost use Rattle.std.specs.Prelude.{IfOk, IfSome, length};
-ghost use Rattle.std.specs.List.{slice_get};
+ghost use Rattle.std.specs.List.{slice_get, list_any};
 ghost use Rattle.std.specs.Option.{option_copied, option_map, option_map_or};
 ghost use Rattle.circ_theory.specs.Limits.{sort_limit, variable_limit, operator_limit};
 ghost use Rattle.circ_theory.specs.Limits.{equation_limit, derivative_limit};
@@ -10,7 +10,7 @@ ghost use Rattle.circ_theory.specs.Variables.{sorts_of};
 ghost use Rattle.circ_theory.specs.Operators.{operator_of, ops_by_word};
 ghost use Rattle.circ_theory.specs.Adding.{sort_number, var_number, op_of_form};
 ghost use Rattle.circ_theory.specs.Names.{AreDifferent, names_of};
-ghost use Rattle.circ_theory.specs.Rule.{is_rule};
+ghost use Rattle.circ_theory.specs.Rule.{is_rule, is_conditional};
 ghost use Rattle.circ_theory.specs.Observing.{derivative_with, cases_of, is_hidden};
 ghost use Rattle.circ_theory.specs.Observing.{parameter_sorts_in};
 ghost use Rattle.circ_theory.specs.Fresh.{parameter_sorts};
@@ -140,7 +140,7 @@ impl Theory {
     pub fn has_conditions(&self) -> bool
         ensures { (result ≡ false) ↔ HasNoConditions self.now }
     {
-        self.parts.equations.iter().any(|listed| listed.equation.conds.len() > 0)
+        has_conditions(self.parts.equations.as_slice())
     }
 
     /// The sorts of an equation's variables, by the variables' numbers.
@@ -270,4 +270,13 @@ impl Theory {
             None => Ok(None),
         }
     }
+}
+
+// Whether one of the equations has a condition.
+fn has_conditions(equations: &[Listed]) -> bool
+    ensures { result ≡ list_any (λ l. is_conditional l.equation) equations.now }
+{
+    equations
+        .iter()
+        .any(|listed| listed.equation.conds.len() > 0)
 }
