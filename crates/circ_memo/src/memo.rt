@@ -99,8 +99,8 @@ impl<'a> Memo<'a> {
         work.means.push(rule)
     }
 
-    /// Puts these assumptions in place of those before, and forgets all normal forms. If it runs out
-    /// of memory there are no assumptions.
+    /// Puts these assumptions in place of those before, and forgets all normal forms. If it runs
+    /// out of memory there are no assumptions.
     pub fn assume(&mut self, assumptions: &[Pair]) -> Result<(), AllocError>
         requires { length assumptions.now < 2 ^ 32 }
         ensures theory { self.new.theory ≡ self.old.theory }
@@ -114,8 +114,8 @@ impl<'a> Memo<'a> {
     }
 
     /// The normal form of a term, without its traces. The budget falls by one for each replacement,
-    /// whether it is made or known. After a limit is passed it holds what was left, and where memory
-    /// ran out no more than before.
+    /// whether it is made or known. After a limit is passed it holds what was left, and where
+    /// memory ran out no more than before.
     pub fn value(&mut self, term: &Term, budget: &mut u64) -> Result<Term, RewriteFault>
         ensures exact { AnswersValue result budget.new (norm self.old.theory.signature
             self.old.rules self.old.assumptions budget.old term.now) }

@@ -94,7 +94,8 @@ pub fn a_budget_is_spent()
 /// A budget can be just enough, and with none a term in which nothing is due has its normal form.
 pub fn a_budget_is_enough()
     ensures just { norm sums (f_is ∷ []) [] 1 (f a)
-        ≡ Normal_form a (record { path = []; reason = By_rule (Equation 0) (a ∷ []) no_pass } ∷ []) 0 }
+        ≡ Normal_form a (
+        record { path = []; reason = By_rule (Equation 0) (a ∷ []) no_pass } ∷ []) 0 }
     ensures nothing { norm sums (f_is ∷ []) [] 0 (g a) ≡ Normal_form (g a) [] 0 }
 {}
 

@@ -60,8 +60,8 @@ pub fn share_rules(alloc: Global, rules: &[Rule]) -> Result<Vec<Rule>, AllocErro
 #[cycle(trace)]
 #[derive(Drop)]
 pub enum Trace {
-    /// By a rule. The terms are those that the variables of its sides and its conditions were given,
-    /// in the order of the variables' numbers and then their sorts.
+    /// By a rule. The terms are those that the variables of its sides and its conditions were
+    /// given, in the order of the variables' numbers and then their sorts.
     Rewrite {
         name: RuleName,
         path: Path,
