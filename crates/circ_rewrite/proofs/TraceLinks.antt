@@ -1,5 +1,7 @@
 -- Traces as links, one after the other: what is done and what is left, which is nested no deeper.
-use Rattle.std.proofs.Common.{◌≡◌, ◌≤◌, ◌+◌, max, ℕ, List, [], ◌∷◌, ◌++◌, map, refl, ap, sym, ◌∙◌, arith, append_assoc, append-nil}
+use Rattle.std.proofs.Common.{◌≡◌, ◌≤◌, ◌<◌, ◌+◌, ◌*◌, max, ℕ, List, [], ◌∷◌, ◌++◌, length, map, refl, ap, sym, ◌∙◌, arith, append-nil}
+use Rattle.std.specs.declared.vec.IntoIter.{IntoIter}
+use Rattle.std.specs.Vec.Iter.{into_iter_len, into_iter_items}
 use Rattle.circ_term.specs.Tree.{Tree}
 use Rattle.circ_proof.specs.Plain.{LinkOf, LinksOf, ChainOf, ChainsOf, more_links, more_chains, row_of, chains_of}
 use Rattle.circ_proof.specs.Nesting.{link_nesting, row_nesting, chains_nesting, links_nesting}
@@ -27,28 +29,37 @@ chains_are [] = refl
 chains_are (p ∷ ps) = λ i.
     more_chains (row_is (plain_traces p.left.items) i) (row_is (plain_traces p.right.items) i) (chains_are ps i)
 
--- both sides of a chain are nested less deep than the chains that it is one of
-pub left_nested : (c : ChainOf Tree) (cs : List (ChainOf Tree)) → links_nesting c.left + 1 ≤ chains_nested (c ∷ cs)
-left_nested c cs = let d = row_depth c.left in omega (arith, d)
+-- both sides of a pass are nested less deep than the passes that it is one of
+pub left_falls : (p : Pass) (left rest whole : List Pass) → left ≡ p ∷ rest → chains_nested (map chain_by left) ≤ chains_nested (map chain_by whole)
+    → 4 * links_nesting (map link_of (plain_traces p.left.items)) + 2 < 4 * chains_nested (map chain_by whole)
+left_falls p left rest whole e h =
+    let d = row_depth (map link_of (plain_traces p.left.items)) in
+    let n = ap (λ ps. chains_nested (map chain_by ps)) e in
+    omega (arith, h, n, d)
 
-pub right_nested : (c : ChainOf Tree) (cs : List (ChainOf Tree)) → links_nesting c.right + 1 ≤ chains_nested (c ∷ cs)
-right_nested c cs = let d = row_depth c.right in omega (arith, d)
+pub right_falls : (p : Pass) (left rest whole : List Pass) → left ≡ p ∷ rest → chains_nested (map chain_by left) ≤ chains_nested (map chain_by whole)
+    → 4 * links_nesting (map link_of (plain_traces p.right.items)) + 2 < 4 * chains_nested (map chain_by whole)
+right_falls p left rest whole e h =
+    let d = row_depth (map link_of (plain_traces p.right.items)) in
+    let n = ap (λ ps. chains_nested (map chain_by ps)) e in
+    omega (arith, h, n, d)
 
 pub rule_nested : (n : RuleName) (path : List ℕ) (terms : List Tree) (cs : ChainsOf Tree) → link_nesting (rule_link n path terms cs) ≡ chains_nesting cs
 rule_nested (name.Equation n) path terms cs = refl
 rule_nested (name.Lemma n) path terms cs = refl
 
--- what is done and what is left are the whole
+-- what is done and what is left are the whole, and what is left is nested no deeper
 pub record IsDoneInPart {Y : Type 0} (nested : List Y → ℕ) (done left whole : List Y) : Type 0 where
   pub parts : done ++ left ≡ whole
   pub least : nested left ≤ nested whole
 
-pub part_begins : {Y : Type 0} (nested : List Y → ℕ) (whole : List Y) → IsDoneInPart nested [] whole whole
-part_begins nested whole = record { parts = refl; least = omega arith }
+none_long : {X : Type 0} (xs : List X) → length xs ≡ 0 → xs ≡ []
+none_long [] e = refl
+none_long (x ∷ xs) e = absurd (omega (arith, e))
 
-pub part_on : {Y : Type 0} (nested : List Y → ℕ) (done left whole : List Y) (y : Y) → nested left ≤ nested (y ∷ left) → IsDoneInPart nested done (y ∷ left) whole
-    → IsDoneInPart nested (done ++ y ∷ []) left whole
-part_on nested done left whole y less h = record { parts = append_assoc done (y ∷ []) left ∙ h.parts; least = omega (arith, less, h.least) }
-
-pub part_ends : {Y : Type 0} (nested : List Y → ℕ) (done whole : List Y) → IsDoneInPart nested done [] whole → done ≡ whole
-part_ends nested done whole h = sym (append-nil done) ∙ h.parts
+-- nothing is left
+pub all_done : {X Y Z : Type 0} (nested : List Y → ℕ) (f : X → Y) (done : List Y) (it : IntoIter X Z) (whole : List X) → into_iter_len it ≡ 0
+    → IsDoneInPart nested done (map f (into_iter_items it)) (map f whole) → done ≡ map f whole
+all_done nested f done it whole e h =
+    let none = none_long it.rest.items (sym it.rest.ok.0 ∙ e) in
+    sym (append-nil done) ∙ sym (ap (λ xs. done ++ map f xs) none) ∙ h.parts
