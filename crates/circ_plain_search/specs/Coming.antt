@@ -1,10 +1,9 @@
 -- Where the search comes to, turn by turn, and what is known of each such standing.
-use Rattle.std.specs.Prelude.{◌≡◌, ◌≤◌, ◌+◌, ◌^◌, List, length, Ok}
-use Rattle.circ_theory.specs.Theory.{Theory}
+use Rattle.std.specs.Prelude.{◌≡◌, ◌≤◌, ◌+◌, ◌^◌, List, [], length, Ok}
+use Rattle.circ_theory.specs.Theory.{Theory, IsWellSortedGoal}
 use Rattle.circ_theory.specs.declared.parts.Goal.{Goal}
 use Rattle.circ_special.specs.declared.place.Place.{Place}
-use Rattle.circ_proof.specs.Goals.{IsWellSortedGoal}
-use Rattle.circ_proof.specs.Rules.{fresh_in}
+use Rattle.circ_theory.specs.Fresh.{fresh_in}
 use Rattle.circ_proof.specs.Proof.{step_limit}
 use Rattle.circ_plain_search.specs.Search.{Limits, Standing, turn}
 
@@ -22,7 +21,8 @@ pub record IsSmall (st : Standing) : Type 0 where
   pub derives : st.derives ≤ st.made
   pub made : st.made ≤ step_limit
 
--- A goal whose derivatives can be made: it is well-sorted, and there is room for the numbers of parameters.
+-- A goal whose derivatives can be made: it is well-sorted and has no conditions, and there is room for the numbers of parameters.
 pub record IsReady (th : Theory) (g : Goal) : Type 0 where
   pub sorted : IsWellSortedGoal th g
+  pub no_conds : g.conds ≡ []
   pub numbers : fresh_in g + 8 ≤ 2 ^ 32
