@@ -49,7 +49,7 @@ impl Lemmas {
         }
     }
 
-    /// Puts a rule last. After want of memory the lemmas are as before.
+    /// Puts a rule last. If it runs out of memory the lemmas are as before.
     pub fn push(&mut self, rule: Rule) -> Result<(), AllocError>
         requires rewrite { IsRewriteRule rule }
         requires few { length self.old + 1 < 2 ^ 32 }

@@ -5,13 +5,13 @@ ghost use Rattle.circ_proof.specs.Plain.{map_link, map_chain};
 ghost use Rattle.circ_proof.specs.Link.{terms_of};
 ghost use Rattle.circ_proof.specs.Table.{number_in};
 ghost use Rattle.circ_plain_search.specs.Numbering.{links_terms, chain_terms, numbered_links};
-ghost use Rattle.circ_record.specs.Plain.{plain_term_link, plain_term_links, plain_term_chain};
+ghost use Rattle.circ_proof.specs.Plain.{plain_link, plain_links, plain_chain};
 ghost use Rattle.circ_numbering.specs.Asking.{Asks};
 ghost use Rattle.circ_numbering.specs.declared.fault.NumberFault.TheVariants.{Memory};
 
 use crate::fault::NumberFault;
 use circ_proof::{Chain, Link};
-use circ_record::{TermChain, TermLink};
+use circ_proof::{Chain, Link};
 use circ_replay::TableBuilder;
 use circ_term::{Path, Term};
 use std::alloc::Global;
@@ -51,11 +51,11 @@ pub(crate) fn numbers(
 pub(crate) fn links(
     alloc: Global,
     table: &mut TableBuilder,
-    recorded: &[TermLink],
+    recorded: &[Link<Term>],
 ) -> Result<Vec<Link>, NumberFault>
-    ensures { Asks table.old table.new (links_terms (plain_term_links recorded.now))
+    ensures { Asks table.old table.new (links_terms (plain_links recorded.now))
         (λ t v. plain_links v.items
-        ≡ numbered_links t (plain_term_links recorded.now)) result }
+        ≡ numbered_links t (plain_links recorded.now)) result }
 {
     let mut links = Vec::with_capacity(alloc, recorded.len())?;
     for one in recorded {
@@ -67,12 +67,12 @@ pub(crate) fn links(
     Ok(links)
 }
 
-fn link(alloc: Global, table: &mut TableBuilder, recorded: &TermLink) -> Result<Link, NumberFault>
-    ensures { Asks table.old table.new (terms_of (plain_term_link recorded.now))
-        (λ t x. plain_link x ≡ map_link (number_in t) (plain_term_link recorded.now)) result }
+fn link(alloc: Global, table: &mut TableBuilder, recorded: &Link<Term>) -> Result<Link, NumberFault>
+    ensures { Asks table.old table.new (terms_of (plain_link recorded.now))
+        (λ t x. plain_link x ≡ map_link (number_in t) (plain_link recorded.now)) result }
 {
     match recorded {
-        TermLink::Equation {
+        Link::Equation {
             number,
             way,
             path,
@@ -83,7 +83,7 @@ fn link(alloc: Global, table: &mut TableBuilder, recorded: &TermLink) -> Result<
             path: copied(alloc, path)?,
             terms: numbers(alloc, table, terms.as_slice())?,
         }),
-        TermLink::Hypothesis {
+        Link::Hypothesis {
             number,
             way,
             path,
@@ -94,12 +94,12 @@ fn link(alloc: Global, table: &mut TableBuilder, recorded: &TermLink) -> Result<
             path: copied(alloc, path)?,
             terms: numbers(alloc, table, terms.as_slice())?,
         }),
-        TermLink::Assumption { number, way, path } => Ok(Link::Assumption {
+        Link::Assumption { number, way, path } => Ok(Link::Assumption {
             number: *number,
             way: *way,
             path: copied(alloc, path)?,
         }),
-        TermLink::Content { op, path, term } => Ok(Link::Content {
+        Link::Content { op, path, term } => Ok(Link::Content {
             op: *op,
             path: copied(alloc, path)?,
             term: number(table, term)?,
@@ -118,11 +118,11 @@ fn copied(alloc: Global, path: &Path) -> Result<Path, NumberFault>
 pub(crate) fn chain(
     alloc: Global,
     table: &mut TableBuilder,
-    recorded: &TermChain,
+    recorded: &Chain<Term>,
 ) -> Result<Chain, NumberFault>
-    ensures { Asks table.old table.new (chain_terms (plain_term_chain recorded.now))
+    ensures { Asks table.old table.new (chain_terms (plain_chain recorded.now))
         (λ t x. plain_chain x
-        ≡ map_chain (number_in t) (plain_term_chain recorded.now)) result }
+        ≡ map_chain (number_in t) (plain_chain recorded.now)) result }
 {
     let left = match links(alloc, table, recorded.left.as_slice()) {
         Ok(left) => left,

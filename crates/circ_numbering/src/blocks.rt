@@ -12,7 +12,7 @@ use crate::asking::{links, number};
 use crate::fault::NumberFault;
 use crate::whys::steps;
 use circ_proof::{Block, Link, Proof};
-use circ_record::{TermLink, TermStep};
+use circ_proof::{Link, Step};
 use circ_replay::TableBuilder;
 use circ_rewrite::share_goals;
 use circ_special::Gamma;
@@ -26,7 +26,7 @@ pub struct TermBlock {
     /// The goals.
     pub goals: Vec<Goal>,
     /// The steps. The last is `Done`.
-    pub steps: Vec<TermStep>,
+    pub steps: Vec<Step<Term>>,
 }
 
 /// The proof of these blocks, with this special set and its certificates. Its table has the terms
@@ -35,7 +35,7 @@ pub struct TermBlock {
 pub fn numbered(
     alloc: Global,
     gamma: Gamma,
-    certificates: &[Vec<TermLink>],
+    certificates: &[Vec<Link<Term>>],
     blocks: &[TermBlock],
 ) -> Result<Proof, NumberFault>
     ensures { GivesProof plain_proof (proof_with gamma
@@ -50,7 +50,7 @@ fn numbered_by(
     alloc: Global,
     table: &mut TableBuilder,
     gamma: Gamma,
-    certificates: &[Vec<TermLink>],
+    certificates: &[Vec<Link<Term>>],
     blocks: &[TermBlock],
 ) -> Result<Proof, NumberFault>
     requires { table.old ≡ [] }
@@ -161,7 +161,7 @@ fn name(table: &mut TableBuilder, goal: &Goal) -> Result<(u32, u32), NumberFault
 fn named_certificates(
     alloc: Global,
     table: &mut TableBuilder,
-    recorded: &[Vec<TermLink>],
+    recorded: &[Vec<Link<Term>>],
 ) -> Result<Vec<Vec<Link>>, NumberFault>
     ensures { Asks table.old table.new
         (flat_map links_terms (plain_term_certificates recorded.now))

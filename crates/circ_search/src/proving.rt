@@ -17,7 +17,8 @@ use circ_contexts::special_contexts;
 use circ_numbering::{NumberFault, numbered};
 use circ_plain_search::laws::proved_is_accepted;
 use circ_proof::{MOST_TERMS, Proof};
-use circ_record::{TermLink, term_links};
+use circ_proof::Link;
+use circ_rewrite::links_of;
 use circ_rewrite::Trace;
 use circ_special::Gamma;
 use circ_theory::{Goal, Theory};
@@ -163,13 +164,13 @@ fn needed_proof(
     }
 }
 
-fn certificates(alloc: Global, traces: Vec<Vec<Trace>>) -> Result<Vec<Vec<TermLink>>, AllocError>
+fn certificates(alloc: Global, traces: Vec<Vec<Trace>>) -> Result<Vec<Vec<Link<Term>>>, AllocError>
     ensures { IfOk result (λ v. plain_term_certificates v.items
         ≡ map (map link_of) (plain_lists traces.items)) }
 {
     let mut certificates = Vec::with_capacity(alloc, traces.len())?;
     for links in traces {
-        certificates.push(term_links(alloc, links)?)?;
+        certificates.push(links_of(alloc, links)?)?;
     }
     Ok(certificates)
 }

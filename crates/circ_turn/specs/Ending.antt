@@ -3,7 +3,7 @@ use Rattle.std.specs.Prelude.{◌≡◌, ℕ, ◌+◌, ◌-◌, Bool, true, fals
 use Rattle.circ_term.specs.Tree.{Tree}
 use Rattle.circ_plain_search.specs.Joining.{Stop as PlainStop, HypothesisUse, use_link}
 use Rattle.circ_plain_search.specs.Search.{Limits, Standing, Ending, All_done, Is_stuck, Is_spent, Is_too_big, Is_too_deep}
-use Rattle.circ_record.specs.Plain.{plain_term_links}
+use Rattle.circ_proof.specs.Plain.{plain_links}
 use Rattle.circ_record.specs.declared.links.TermLink.{TermLink}
 use Rattle.circ_join.specs.Stopping.{Stops}
 use Rattle.circ_join.specs.declared.stop.Stop.{Stop}
@@ -63,5 +63,5 @@ RunEnds R st (Err e) = IsEnd R e
 
 -- a lemma pass over a side: the term that these uses make, with their links and what is left of the budget
 abbrev pub Sweeps : {A : Type 0} → Result (Tree × ℕ) PlainStop → List HypothesisUse → (left : ℕ) → Result (Tree × Vec TermLink A) Stop → Type 0
-Sweeps r us left (Ok s) = (r ≡ Ok (s.0, left)) × (plain_term_links s.1.items ≡ map use_link us)
+Sweeps r us left (Ok s) = (r ≡ Ok (s.0, left)) × (plain_links s.1.items ≡ map use_link us)
 Sweeps r us left (Err e) = Stops r e

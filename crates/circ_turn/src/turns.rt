@@ -11,7 +11,7 @@ ghost use Rattle.circ_plain_search.specs.Search.{pass_uses, with_sides, sides_wi
 ghost use Rattle.circ_plain_search.specs.Search.{normal_sides, Sides as TheSides};
 ghost use Rattle.circ_block.specs.Rules.{IsRulesOf};
 ghost use Rattle.circ_join.specs.Uses.{plain_uses};
-ghost use Rattle.circ_record.specs.Plain.{plain_term_chain};
+ghost use Rattle.circ_proof.specs.Plain.{plain_chain};
 ghost use Rattle.circ_split.specs.Answers.{GivesSides};
 ghost use Rattle.circ_turn.specs.Standing.{standing, plain_limits};
 ghost use Rattle.circ_turn.specs.Ending.{GoesTo, Sweeps};
@@ -24,7 +24,7 @@ use circ_block::BlockRules;
 use circ_join::{
     HypothesisUse, Joining, Lemmas, Passing, Stop, lemma_links, put_all, use_all, use_links,
 };
-use circ_record::{TermChain, TermLink, TermWhy};
+use circ_proof::{Chain, Link, Why};
 use circ_rewrite::share_goal;
 use circ_split::{Sides, Splitting, normal_sides};
 use circ_term::Term;
@@ -83,7 +83,7 @@ impl Search<'_> {
         ensures exact { GoesTo (sides_turn self.now.theory.now self.now.gamma.now
             (plain_limits self.now.limits)
             (with_sides (standing state.old) (drop 1 state.old.queue.items)
-            (sides_with sides.left sides.right (plain_term_chain sides.chain) budget))
+            (sides_with sides.left sides.right (plain_chain sides.chain) budget))
             (goal sides.left sides.right) (drop 1 state.old.queue.items))
             (standing state.new) result }
         ensures rules { IsRulesOf self.now.theory.now state.old.hyps.earlier rules.new }
@@ -140,7 +140,7 @@ impl Search<'_> {
         let mut links = use_links(self.alloc, uses)?;
         let mut chain = state.take_chain(self.alloc);
         chain.left.append(&mut links)?;
-        self.reduced(state, TermWhy::same(chain))
+        self.reduced(state, Why::same(chain))
     }
 
     // A lemma pass over both sides. Where a replacement was made, the goal goes on.
@@ -185,7 +185,7 @@ impl Search<'_> {
         match self.swept_side(lemmas, &goal.right, budget) {
             Err(stop) => Err(stop),
             Ok((right, rights)) => {
-                let chain = TermChain {
+                let chain = Chain {
                     left: lefts,
                     right: rights,
                 };
@@ -200,7 +200,7 @@ impl Search<'_> {
         lemmas: &Lemmas,
         term: &Term,
         budget: &mut u64,
-    ) -> Result<(Term, Vec<TermLink>), Stop>
+    ) -> Result<(Term, Vec<Link<Term>>), Stop>
         ensures { (E : List TheGoal) → lemmas.now ≡ hidden_lemmas self.now.theory.now 0 E
             → Sweeps (put_counted budget.old term.now
             (pass_uses self.now.theory.now self.now.gamma.now E term.now))
@@ -267,7 +267,7 @@ impl Search<'_> {
             Ok(cases) => {
                 state.budget = budget;
                 let chain = state.take_chain(self.alloc);
-                self.reduced(state, TermWhy::split(chain, cases.term, cases.whys))
+                self.reduced(state, Why::split(chain, cases.term, cases.whys))
             }
         }
     }
