@@ -1,16 +1,14 @@
 //! Terms and links, with their numbers in a table.
-ghost use Rattle.std.specs.Prelude.{◌≡◌, ◌∷◌, [], map, IfOk, IfErr};
-ghost use Rattle.circ_proof.specs.Plain.{plain_link, plain_links, plain_chain};
-ghost use Rattle.circ_proof.specs.Plain.{map_link, map_chain};
-ghost use Rattle.circ_proof.specs.Link.{terms_of};
+ghost use Rattle.std.specs.Prelude.{◌≡◌, ◌∷◌, ◌++◌, [], map, IfOk, IfErr};
+ghost use Rattle.circ_proof.specs.Plain.{plain_link, plain_links, plain_chain, plain_chains};
+ghost use Rattle.circ_proof.specs.Plain.{map_link, map_chain, map_chains};
+ghost use Rattle.circ_proof.specs.Link.{terms_of, chains_terms};
 ghost use Rattle.circ_proof.specs.Table.{number_in};
 ghost use Rattle.circ_plain_search.specs.Numbering.{links_terms, chain_terms, numbered_links};
-ghost use Rattle.circ_proof.specs.Plain.{plain_link, plain_links, plain_chain};
 ghost use Rattle.circ_numbering.specs.Asking.{Asks};
 ghost use Rattle.circ_numbering.specs.declared.fault.NumberFault.TheVariants.{Memory};
 
 use crate::fault::NumberFault;
-use circ_proof::{Chain, Link};
 use circ_proof::{Chain, Link};
 use circ_replay::TableBuilder;
 use circ_term::{Path, Term};
@@ -48,6 +46,7 @@ pub(crate) fn numbers(
 }
 
 /// Links with numbers.
+#[cycle(link)]
 pub(crate) fn links(
     alloc: Global,
     table: &mut TableBuilder,
@@ -67,6 +66,7 @@ pub(crate) fn links(
     Ok(links)
 }
 
+#[cycle(link)]
 fn link(alloc: Global, table: &mut TableBuilder, recorded: &Link<Term>) -> Result<Link, NumberFault>
     ensures { Asks table.old table.new (terms_of (plain_link recorded.now))
         (λ t x. plain_link x ≡ map_link (number_in t) (plain_link recorded.now)) result }
@@ -77,23 +77,33 @@ fn link(alloc: Global, table: &mut TableBuilder, recorded: &Link<Term>) -> Resul
             way,
             path,
             terms,
-        } => Ok(Link::Equation {
-            number: *number,
-            way: *way,
-            path: copied(alloc, path)?,
-            terms: numbers(alloc, table, terms.as_slice())?,
-        }),
+            conds,
+        } => match given(alloc, table, path, terms.as_slice(), conds.as_slice()) {
+            Ok(given) => Ok(Link::Equation {
+                number: *number,
+                way: *way,
+                path: given.path,
+                terms: given.terms,
+                conds: given.conds,
+            }),
+            Err(fault) => Err(fault),
+        },
         Link::Hypothesis {
             number,
             way,
             path,
             terms,
-        } => Ok(Link::Hypothesis {
-            number: *number,
-            way: *way,
-            path: copied(alloc, path)?,
-            terms: numbers(alloc, table, terms.as_slice())?,
-        }),
+            conds,
+        } => match given(alloc, table, path, terms.as_slice(), conds.as_slice()) {
+            Ok(given) => Ok(Link::Hypothesis {
+                number: *number,
+                way: *way,
+                path: given.path,
+                terms: given.terms,
+                conds: given.conds,
+            }),
+            Err(fault) => Err(fault),
+        },
         Link::Assumption { number, way, path } => Ok(Link::Assumption {
             number: *number,
             way: *way,
@@ -107,14 +117,63 @@ fn link(alloc: Global, table: &mut TableBuilder, recorded: &Link<Term>) -> Resul
     }
 }
 
-fn copied(alloc: Global, path: &Path) -> Result<Path, NumberFault>
-    ensures items { IfOk result (λ p. p.items ≡ path.now.items) }
-    ensures err { IfErr result (λ e. e ≡ Memory) }
+// What a link by an equation or a hypothesis is given: where it is used, its terms, and the chains
+// of its conditions.
+#[derive(Drop)]
+struct Given {
+    path: Path,
+    terms: Vec<u32>,
+    conds: Vec<Chain>,
+}
+
+#[cycle(link)]
+fn given(
+    alloc: Global,
+    table: &mut TableBuilder,
+    path: &Path,
+    terms: &[Term],
+    conds: &[Chain<Term>],
+) -> Result<Given, NumberFault>
+    ensures { Asks table.old table.new (terms.now ++ chains_terms (plain_chains conds.now))
+        (λ t g. (g.path.items ≡ path.now.items)
+        × (g.terms.items ≡ map (number_in t) terms.now)
+        × (plain_chains g.conds.items
+        ≡ map_chains (number_in t) (plain_chains conds.now))) result }
 {
-    Ok(Path::from_slice(alloc, path.as_slice())?)
+    let path = copied(alloc, path)?;
+    let terms = match numbers(alloc, table, terms) {
+        Ok(terms) => terms,
+        Err(fault) => return Err(fault),
+    };
+    match chains(alloc, table, conds) {
+        Ok(conds) => Ok(Given { path, terms, conds }),
+        Err(fault) => Err(fault),
+    }
+}
+
+// The chains of conditions with numbers.
+#[cycle(link)]
+fn chains(
+    alloc: Global,
+    table: &mut TableBuilder,
+    recorded: &[Chain<Term>],
+) -> Result<Vec<Chain>, NumberFault>
+    ensures { Asks table.old table.new (chains_terms (plain_chains recorded.now))
+        (λ t v. plain_chains v.items
+        ≡ map_chains (number_in t) (plain_chains recorded.now)) result }
+{
+    let mut chains = Vec::with_capacity(alloc, recorded.len())?;
+    for one in recorded {
+        match chain(alloc, table, one) {
+            Ok(chain) => chains.push(chain)?,
+            Err(fault) => return Err(fault),
+        }
+    }
+    Ok(chains)
 }
 
 /// A chain with numbers.
+#[cycle(link)]
 pub(crate) fn chain(
     alloc: Global,
     table: &mut TableBuilder,
@@ -132,4 +191,11 @@ pub(crate) fn chain(
         Ok(right) => Ok(Chain { left, right }),
         Err(fault) => Err(fault),
     }
+}
+
+fn copied(alloc: Global, path: &Path) -> Result<Path, NumberFault>
+    ensures items { IfOk result (λ p. p.items ≡ path.now.items) }
+    ensures err { IfErr result (λ e. e ≡ Memory) }
+{
+    Ok(Path::from_slice(alloc, path.as_slice())?)
 }

@@ -6,15 +6,13 @@ ghost use Rattle.circ_proof.specs.PlainProof.{plain_step, plain_steps};
 ghost use Rattle.circ_proof.specs.Rules.{map_step};
 ghost use Rattle.circ_plain_search.specs.Numbering.{why_terms, whys_terms, step_terms};
 ghost use Rattle.circ_plain_search.specs.Numbering.{numbered_steps};
-ghost use Rattle.circ_proof.specs.Plain.{plain_why, plain_whys};
-ghost use Rattle.circ_proof.specs.PlainProof.{plain_step, plain_steps};
 ghost use Rattle.circ_numbering.specs.Asking.{Asks};
 
 use crate::asking::{chain, number};
 use crate::fault::NumberFault;
 use circ_proof::{Step, Why};
-use circ_proof::{Step, Why};
 use circ_replay::TableBuilder;
+use circ_term::Term;
 use std::alloc::Global;
 
 /// Steps with numbers.
@@ -51,6 +49,10 @@ fn step(alloc: Global, table: &mut TableBuilder, recorded: &Step<Term>) -> Resul
             Err(fault) => Err(fault),
         },
         Step::Derive => Ok(Step::Derive),
+        Step::Cases { term } => match number(table, term) {
+            Ok(term) => Ok(Step::Cases { term }),
+            Err(fault) => Err(fault),
+        },
         Step::Done => Ok(Step::Done),
     }
 }

@@ -1,11 +1,10 @@
 use Rattle.std.proofs.Common.{◌∙◌, ℕ, List, map, ap}
 use Rattle.std.specs.Prelude.{flat_map}
-use Rattle.circ_proof.specs.PlainProof.{plain_steps}
-use Rattle.circ_proof.specs.Proof.{Block}
+use Rattle.circ_proof.specs.PlainProof.{plain_names, plain_steps}
+use Rattle.circ_proof.specs.Proof.{GoalNames, Block}
 use Rattle.circ_proof.specs.Rules.{ProofStep}
 use Rattle.circ_theory.specs.declared.parts.Goal.{Goal}
 use Rattle.circ_plain_search.specs.Numbering.{goal_terms, goal_name, step_terms}
-use Rattle.circ_proof.specs.PlainProof.{plain_steps}
 use Rattle.circ_numbering.proofs.Requests.{first_fails, second_fails, both_asked, later_too}
 use Rattle.circ_numbering.proofs.blocks.named_block.Goals as goal
 
@@ -27,8 +26,8 @@ returns-in-Ok-steps c =
     let names = rw c.as_slice-2.ensures.value at c.in-Ok.ensures in
     let steps = rw c.as_slice-3.ensures.value at c.in-Ok-steps.ensures in
     let goals = rw c.as_slice.ensures.value at c.in_ok-goals.ensures in
-    let A : List Goal → Block = λ gs. record { goals = gs; names = c.in-Ok.names.items; steps = plain_steps c.in-Ok-steps.steps.items } in
-    let B : List (ℕ × ℕ) → List (ProofStep ℕ) → Block = λ n s. record { goals = r.goals.items; names = n; steps = s } in (
+    let A : List Goal → Block = λ gs. record { goals = gs; names = map plain_names c.in-Ok.names.items; steps = plain_steps c.in-Ok-steps.steps.items } in
+    let B : List GoalNames → List (ProofStep ℕ) → Block = λ n s. record { goals = r.goals.items; names = n; steps = s } in (
       both_asked c.args.table.now c.names.new.table c.steps.new.table (flat_map goal_terms r.goals.items) (flat_map step_terms (plain_steps r.steps.items))
           names.0 steps.0,
       λ table a.

@@ -3,7 +3,6 @@ use Rattle.circ_plain_search.specs.Numbering.{asked_for}
 use Rattle.circ_numbering.specs.Asking.{IsFaultOf}
 use Rattle.circ_proof.specs.Plain.{plain_links}
 use Rattle.circ_plain_search.specs.Numbering.{links_terms, numbered_links}
-use Rattle.circ_proof.specs.Plain.{plain_links}
 use Rattle.circ_numbering.proofs.Walks.{walk_fails, walk_on, walk_asked, walk_named, flat_seen, map_seen}
 use Rattle.circ_numbering.proofs.blocks.named_certificates.Goals as goal
 

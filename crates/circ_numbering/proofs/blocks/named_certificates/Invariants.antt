@@ -1,7 +1,6 @@
 use Rattle.std.proofs.Common.{drop}
 use Rattle.circ_proof.specs.Plain.{plain_links}
 use Rattle.circ_plain_search.specs.Numbering.{links_terms, numbered_links}
-use Rattle.circ_proof.specs.Plain.{plain_links}
 use Rattle.circ_numbering.proofs.Walks.{IsOnItsWay}
 use Rattle.circ_numbering.proofs.blocks.named_certificates.Given as goal
 

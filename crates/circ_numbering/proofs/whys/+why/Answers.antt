@@ -2,11 +2,9 @@ use Rattle.std.proofs.Common.{◌∙◌, ℕ, [], ◌∷◌, ap, sym, subst}
 use Rattle.circ_plain_search.specs.Numbering.{asked_for}
 use Rattle.circ_numbering.specs.Asking.{IsFaultOf}
 use Rattle.std.proofs.Common.{arith}
-use Rattle.circ_proof.specs.Plain.{ChainOf, plain_why, plain_whys, map_why, map_chain, Same_why, Split_why}
+use Rattle.circ_proof.specs.Plain.{ChainOf, plain_why, plain_whys, map_why, map_chain, Same_why, Split_why, plain_chain}
 use Rattle.circ_proof.specs.Table.{number_in}
-use Rattle.circ_replay.proofs.Whys as numbered
 use Rattle.circ_plain_search.specs.Numbering.{why_terms, chain_terms, whys_terms}
-use Rattle.circ_proof.specs.Plain.{plain_why, plain_chain, plain_whys}
 use Rattle.circ_proof.proofs.Rows.{split_plain}
 use Rattle.circ_numbering.proofs.Requests.{first_fails, second_fails, both_asked, later_too}
 use Rattle.circ_numbering.proofs.Reasons.{depth_of_why, depth_of_whys, depth_in, whys_flat, whys_named}
@@ -82,7 +80,7 @@ why-returns-in-Ok-whys t c =
           let b = later_too c.number.new.table c.whys.new.table (whys_terms ws) table whys.0 a in
           let d = later_too c.chain-in-Split.new.table c.number.new.table (c.in-Split.term ∷ []) table c.in-Ok-number.ensures.0 b in
           let here : ChainOf ℕ = map_chain (number_in table) (plain_chain c.in-Split.recorded) in
-          numbered.split_plain chain term c.in-Ok-whys.whys
+          split_plain chain term c.in-Ok-whys.whys
           ∙ ap (λ x. Split_why x term (plain_whys c.in-Ok-whys.whys.items)) (c.in-Ok-chain.ensures.1 table d)
           ∙ ap (λ n. Split_why here n (plain_whys c.in-Ok-whys.whys.items)) (c.in-Ok-number.ensures.1 table b)
           ∙ ap (Split_why here (number_in table c.in-Split.term)) (whys.1 table a),

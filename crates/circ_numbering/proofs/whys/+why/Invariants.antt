@@ -1,8 +1,7 @@
 use Rattle.std.proofs.Common.{◌+◌, ◌*◌, drop}
-use Rattle.circ_proof.specs.Plain.{plain_why, map_why}
+use Rattle.circ_proof.specs.Plain.{plain_why, map_why, plain_whys}
 use Rattle.circ_proof.specs.Table.{number_in}
 use Rattle.circ_plain_search.specs.Numbering.{why_terms}
-use Rattle.circ_proof.specs.Plain.{plain_why, plain_whys}
 use Rattle.circ_numbering.proofs.Reasons.{depth_of_why, depth_of_whys}
 use Rattle.circ_numbering.proofs.Walks.{IsOnItsWay}
 use Rattle.circ_numbering.proofs.whys.+why.Given as goal

@@ -3,7 +3,6 @@ use Rattle.circ_proof.specs.Table.{number_in}
 use Rattle.circ_proof.specs.PlainProof.{plain_step}
 use Rattle.circ_proof.specs.Rules.{map_step}
 use Rattle.circ_plain_search.specs.Numbering.{step_terms}
-use Rattle.circ_proof.specs.PlainProof.{plain_step}
 use Rattle.circ_numbering.proofs.Walks.{IsOnItsWay}
 use Rattle.circ_numbering.proofs.whys.steps.Given as goal
 
