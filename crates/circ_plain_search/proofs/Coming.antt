@@ -17,7 +17,7 @@ use Rattle.circ_plain_search.specs.Coming.{Comes, here, further, IsSmall, IsRead
 use Rattle.circ_plain_search.proofs.Splits.{normal_sides_led}
 use Rattle.circ_plain_search.proofs.Derived.{FineGoal, goal_sorted}
 use Rattle.circ_plain_search.proofs.Runs.{bound, all_steps, goals_of, BlocksRun, EndsDone, Ran, Held, Opened}
-use Rattle.circ_plain_search.proofs.Turns.{turn_good, rules_here, unconditional_here, sides_held}
+use Rattle.circ_plain_search.proofs.Turns.{turn_good, rules_here, bare_here, unconditional_here, sides_held}
 use Rattle.circ_plain_search.proofs.Ends.{start_opened}
 use Rattle.circ_plain_search.proofs.Accepting.{blocks_given, fine_blocks}
 
@@ -118,8 +118,8 @@ module _ (th : Theory) (wf : IsWellFormed th) (G : List Place) (l : Limits) (blo
   comes_good a _ here = start_good a
   comes_good a _ (further st next c t) = turn_good th wf a.no_conditions G l blocks st next (comes_good a st c) t
 
-  small_if : (st : Standing) (Q : List Goal) → Ran th G blocks st Q → IsSmall st
-  small_if st Q r =
+  small_if : HasNoConditions th → (st : Standing) (Q : List Goal) → Ran th G blocks st Q → IsSmall st
+  small_if none st Q r =
       let c = ran_counted th G blocks st Q r in
       let taken = r.taken in
       let counted = r.counted in
@@ -131,14 +131,15 @@ module _ (th : Theory) (wf : IsWellFormed th) (G : List Place) (l : Limits) (blo
         taken = omega (arith, taken, counted, small);
         derives = r.few;
         made = r.small;
+        no_conds = bare_here th wf none G l blocks st Q r;
       }
 
-  opened_small : (st : Standing) (Q : List Goal) → Opened th G blocks st Q → IsSmall st
-  opened_small st [] o = small_if st [] o
-  opened_small st (g ∷ rest) o = small_if st (o.0 ∷ rest) o.1.ran
+  opened_small : HasNoConditions th → (st : Standing) (Q : List Goal) → Opened th G blocks st Q → IsSmall st
+  opened_small none st [] o = small_if none st [] o
+  opened_small none st (g ∷ rest) o = small_if none st (o.0 ∷ rest) o.1.ran
 
   pub standing_small : AreSearchable th blocks → (st : Standing) → Comes th G l (start l blocks) st → IsSmall st
-  standing_small a st c = opened_small st st.queue (comes_good a st c)
+  standing_small a st c = opened_small a.no_conditions st st.queue (comes_good a st c)
 
   ready_if : (st : Standing) (Q : List Goal) (g : Goal) → Ran th G blocks st Q → FineGoal th (bound st) g → IsReady th g
   ready_if st Q g r f =

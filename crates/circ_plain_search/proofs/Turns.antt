@@ -107,7 +107,7 @@ module _ (th : Theory) (wf : IsWellFormed th) (none : HasNoConditions th) (G : L
   each_bare [] f = tt
   each_bare (g ∷ gs) f = (f zero g refl, each_bare gs (λ n h e. f (suc n) h e))
 
-  bare_here : (st : Standing) (Q : List Goal) → Ran th G blocks st Q → HaveNoConditions st.earlier
+  pub bare_here : (st : Standing) (Q : List Goal) → Ran th G blocks st Q → HaveNoConditions st.earlier
   bare_here st Q r = each_bare st.earlier (λ n g e. all_at (λ h. h.conds ≡ []) st.hypotheses n g r.bare (r.begins n g e))
 
   pub unconditional_here : (st : Standing) (Q : List Goal) → Ran th G blocks st Q → AreUnconditional (block_rules th st.earlier)

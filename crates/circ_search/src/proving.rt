@@ -16,11 +16,10 @@ use crate::found::Found;
 use circ_contexts::special_contexts;
 use circ_numbering::{NumberFault, numbered};
 use circ_plain_search::laws::proved_is_accepted;
-use circ_proof::{MOST_TERMS, Proof};
-use circ_proof::Link;
-use circ_rewrite::links_of;
-use circ_rewrite::Trace;
+use circ_proof::{Link, MOST_TERMS, Proof};
+use circ_rewrite::{Trace, links_of};
 use circ_special::Gamma;
+use circ_term::Term;
 use circ_theory::{Goal, Theory};
 use circ_turn::{End, Limits, Search, State};
 use std::alloc::{AllocError, Global};
@@ -71,7 +70,7 @@ fn search_with(
         limits: *limits,
     };
     match search.run(&mut state) {
-        Ok(()) => found(alloc, theory, gamma, traces, &state),
+        Ok(()) => found(alloc, gamma, traces, &state),
         Err(end) => ended(end),
     }
 }
@@ -113,7 +112,6 @@ fn ended(end: End) -> Result<Found, AllocError>
 // What is found where every goal is done.
 fn found(
     alloc: Global,
-    theory: &Theory,
     gamma: Gamma,
     traces: Vec<Vec<Trace>>,
     state: &State<'_>,
@@ -123,7 +121,7 @@ fn found(
         (All_done (plain_term_blocks state.now.finished.items) state.now.derives state.now.made
         state.now.deep)) }
 {
-    match needed_proof(alloc, theory, gamma, traces, state) {
+    match needed_proof(alloc, gamma, traces, state) {
         Ok(proof) => Ok(Found::Proved { proof }),
         Err(NumberFault::LongTable) => Ok(Found::LongTable {
             terms: LONG_TABLE_TERMS,
@@ -136,7 +134,6 @@ fn found(
 // hypothesis at a path that is not empty, and no places otherwise.
 fn needed_proof(
     alloc: Global,
-    theory: &Theory,
     gamma: Gamma,
     traces: Vec<Vec<Trace>>,
     state: &State<'_>,
@@ -157,7 +154,7 @@ fn needed_proof(
     } else {
         numbered(
             alloc,
-            no_places(alloc, theory),
+            Gamma::empty(alloc),
             &[],
             state.finished.as_slice(),
         )
@@ -173,14 +170,4 @@ fn certificates(alloc: Global, traces: Vec<Vec<Trace>>) -> Result<Vec<Vec<Link<T
         certificates.push(links_of(alloc, links)?)?;
     }
     Ok(certificates)
-}
-
-// The special set without places.
-fn no_places(alloc: Global, theory: &Theory) -> Gamma
-    ensures { result ≡ [] }
-{
-    match Gamma::of(theory, Vec::new(alloc)) {
-        Some(gamma) => gamma,
-        None => unreachable!(),
-    }
 }

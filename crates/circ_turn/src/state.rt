@@ -1,6 +1,6 @@
 //! Where a search stands.
-
-ghost use Rattle.std.specs.Prelude.{◌≡◌, ◌<◌, ◌≤◌, [], ◌∷◌, length, drop, map, false, ℕ, IfOk, OnOk};
+ghost use Rattle.std.specs.Prelude.{◌≡◌, ◌<◌, ◌≤◌, [], ◌∷◌, length, drop, map, false, ℕ};
+ghost use Rattle.std.specs.Prelude.{IfOk, OnOk};
 ghost use Rattle.circ_plain_search.specs.Search.{no_links, next_goal, with_sides, sides_with};
 ghost use Rattle.circ_plain_search.specs.Search.{chained, start};
 ghost use Rattle.circ_proof.specs.Plain.{plain_chain};
@@ -9,9 +9,10 @@ ghost use Rattle.circ_turn.specs.Standing.{standing, unlinked, limits_with, Keep
 use circ_join::Hypotheses;
 use circ_numbering::TermBlock;
 use circ_proof::{Chain, Step};
-use circ_rewrite::{share_goal, share_goals};
+use circ_rewrite::share_goals;
 use circ_split::Sides;
-use circ_theory::Goal;
+use circ_term::Term;
+use circ_theory::{Goal, Pairs};
 use std::alloc::{AllocError, Global};
 use std::collections::VecDeque;
 use std::mem;
@@ -110,14 +111,20 @@ impl<'a> State<'a> {
     }
 
     // The goal in hand has these sides now, to which these links have led.
-    pub(crate) fn set_sides(&mut self, sides: Sides, budget: u64) -> Result<(), AllocError>
+    pub(crate) fn set_sides(
+        &mut self,
+        alloc: Global,
+        sides: Sides,
+        budget: u64,
+    ) -> Result<(), AllocError>
         requires { 0 < length self.old.queue.items }
         ensures { OnOk result (standing self.new
             ≡ with_sides (standing self.old) (drop 1 self.old.queue.items)
             (sides_with sides.left sides.right (plain_chain sides.chain) budget)) }
     {
         let Sides { left, right, chain } = sides;
-        self.set_hand(Goal { left, right }, budget);
+        let conds = Pairs::new(alloc);
+        self.set_hand(Goal { conds, left, right }, budget);
         append(&mut self.chain, chain)
     }
 
@@ -185,7 +192,7 @@ pub(crate) fn share_queue(alloc: Global, goals: &[Goal]) -> Result<VecDeque<Goal
 {
     let mut queue = VecDeque::new(alloc);
     for goal in goals {
-        queue.push_back(share_goal(goal)?)?;
+        queue.push_back(goal.share(alloc)?)?;
     }
     Ok(queue)
 }

@@ -1,6 +1,7 @@
 //! Steps that are recorded.
 ghost use Rattle.std.specs.Prelude.{◌≡◌, ◌<◌, ◌≤◌, ◌+◌, ◌++◌, ◌∷◌, []};
 ghost use Rattle.std.specs.Prelude.{length, drop, Ok, OnOk};
+ghost use Rattle.circ_plain_search.specs.BlockRules.{HaveNoConditions};
 ghost use Rattle.circ_plain_search.specs.Coming.{IsReady, IsSmall};
 ghost use Rattle.circ_plain_search.specs.Search.{record_step, reduced, simplified, derive_turn};
 ghost use Rattle.circ_plain_search.specs.Search.{hidden_turn, done_turn, next_goal, with_this};
@@ -19,6 +20,7 @@ use circ_join::Stop;
 use circ_numbering::TermBlock;
 use circ_proof::{Chain, Step, Why};
 use circ_rewrite::share_goals;
+use circ_term::Term;
 use circ_theory::Goal;
 use std::alloc::AllocError;
 use std::collections::VecDeque;
@@ -172,6 +174,7 @@ impl Search<'_> {
         goal: &Goal,
         derived: VecDeque<Goal>,
     ) -> Result<(), AllocError>
+        requires plain { goal.now.conds ≡ [] }
         requires taken { state.old.taken ≤ 100000 }
         requires derives { state.old.derives ≤ 100000 }
         requires hyps { length state.old.hyps.all ≤ 100000 }
@@ -230,6 +233,7 @@ impl Search<'_> {
     // The block is finished, and one with these goals begins.
     fn next_block(&self, state: &mut State<'_>, block: &[Goal]) -> Result<(), AllocError>
         requires few { length state.old.hyps.earlier + length state.old.goals.items ≤ 100000 }
+        requires plain { HaveNoConditions state.old.goals.items }
         ensures { OnOk result (standing state.new ≡ record (standing state.old) {
           finished = with_this (standing state.old);
           earlier = state.old.hyps.earlier ++ state.old.goals.items;
