@@ -17,7 +17,7 @@ use Rattle.circ_proof.specs.Plain.{LinkOf, map_link}
 use Rattle.circ_proof.specs.Link.{AllOfLinks}
 use Rattle.circ_rewrite.specs.Links.{link_of}
 use Rattle.circ_proof.specs.Table.{term_limit}
-use Rattle.circ_proof.specs.Rules.{state, ProofStep, Simplify, Reduce, Derive, Done, StepsOf}
+use Rattle.circ_proof.specs.Rules.{state, ProofStep, Simplify, Reduce, Derive, Cases, Done, StepsOf}
 use Rattle.circ_proof.specs.Proof.{Proof, AreLinksFor, IsPlainLink, ProofFor, step_limit}
 use Rattle.circ_proof.specs.Accepted.{BlocksDerive, Accepted}
 use Rattle.circ_proof.specs.Certified.{due, AreCertified}
@@ -69,6 +69,7 @@ open_fits : (s : ProofStep Tree) → IsOpenStep s → FitsStep s
 open_fits (Simplify c) o = tt
 open_fits (Reduce w) o = o
 open_fits Derive o = tt
+open_fits (Cases u) o = o
 open_fits Done o = tt
 
 steps_fit : (b : ProvedBlock) → EndsDone b → AllByRecursion FitsStep b.steps
