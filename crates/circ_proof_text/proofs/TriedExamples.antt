@@ -1,6 +1,6 @@
 -- The texts of examples.
 use Rattle.std.specs.Prelude.{◌≡◌, ℕ, List, [], ◌∷◌, ◌++◌, codes, refl, Some, map}
-use Rattle.std.proofs.Common.{sym, ◌∙◌, ap, arith}
+use Rattle.std.proofs.Common.{sym, ◌∙◌, ap, arith, inl}
 use Rattle.circ_theory.specs.Examples.{streams}
 use Rattle.circ_proof.specs.Proof.{ProofFor}
 use Rattle.circ_line.specs.Line.{Line, Variable_line, table_line, head_line}
@@ -55,6 +55,7 @@ sums_written = texts_are sums_lines (proof_lines (numbers_of sums)) refl
 
 pub itself_fits : ProofFor streams itself
 itself_fits = record {
+  version = inl (refl, record { certificates = tt; blocks = (record { names = (refl, tt); steps = (tt, ((tt, tt), (tt, tt))) }, tt) });
   sorted = (omega arith, tt);
   within = (refl, tt);
   entries = (omega arith, tt);
@@ -66,7 +67,7 @@ itself_fits = record {
   blocks = (
     record {
       some_goal = λ e. absurd (cc);
-      names = (record { left = omega arith; right = omega arith; same_sort = refl }, tt);
+      names = (record { left = omega arith; right = omega arith; same_sort = refl; conds = tt; few_conds = omega arith }, tt);
       goals = refl;
       steps = (tt, ((tt, tt), (tt, tt)));
       ended = ((λ e. absurd (cc)), ((λ e. absurd (cc)), refl));
@@ -79,7 +80,7 @@ itself_fits = record {
 -- The second line of these bytes names a sort that there is not, whatever comes later.
 pub no_sort : (later : List ℕ) → FirstCause streams (codes "circproof 1\nv 0 2\n" ++ later) (Line_fault 2)
 no_sort later =
-    let head : StandsFor streams (codes "circproof 1\n") [] (after_line streams nothing_read head_line Tabling)
-    = takes_line streams [] (codes "circproof 1") [] nothing_read head_line Tabling (starts streams) tt refl refl refl refl in
-    faults_check streams (codes "circproof 1\n") (codes "v 0 2") later [] (after_line streams nothing_read head_line Tabling)
+    let head : StandsFor streams (codes "circproof 1\n") [] (after_line streams nothing_read (head_line 1) Tabling)
+    = takes_line streams [] (codes "circproof 1") [] nothing_read (head_line 1) Tabling (starts streams) (omega arith, omega arith) (line_gives (codes "circproof 1") (head_line 1) refl).0 refl refl refl in
+    faults_check streams (codes "circproof 1\n") (codes "v 0 2") later [] (after_line streams nothing_read (head_line 1) Tabling)
     (table_line (Variable_line 0 2)) head (omega arith, (omega arith, tt)) (line_gives (codes "v 0 2") (table_line (Variable_line 0 2)) refl).0 refl

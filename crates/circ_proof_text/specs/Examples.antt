@@ -3,10 +3,11 @@ use Rattle.std.specs.Prelude.{ℕ, List, [], ◌∷◌, ◌++◌, codes}
 use Rattle.circ_term.specs.Tree.{Tree, Var, App, none, more}
 use Rattle.circ_theory.specs.declared.way.Way.TheVariants.{Forth}
 use Rattle.circ_special.specs.Special.{place}
-use Rattle.circ_proof.specs.Plain.{LinkOf, Equation_link, Hypothesis_link, WhyOf, Same_why}
-use Rattle.circ_proof.specs.Goals.{goal}
+use Rattle.circ_proof.specs.Plain.{LinkOf, Equation_link, Hypothesis_link, no_chain, WhyOf, Same_why}
+use Rattle.circ_theory.specs.Theory.{goal}
 use Rattle.circ_proof.specs.Rules.{Reduce, Derive, Done}
 use Rattle.circ_proof.specs.Proof.{Proof}
+use Rattle.circ_grammar.specs.Machine.{goal_names}
 
 abbrev pub by_links : (left right : List (LinkOf ℕ)) → WhyOf ℕ
 by_links ls rs = Same_why (record { left = ls; right = rs })
@@ -25,15 +26,16 @@ zipped = App 8 1 (more (on_stream 7 stream) (more (on_stream 7 (on_stream 4 stre
 -- zip(odd(S), odd(tl(S))) = S
 abbrev pub zips : Proof
 zips = record {
+  version = 1;
   table = stream ∷ on_stream 7 stream ∷ on_stream 4 stream ∷ on_stream 7 (on_stream 4 stream) ∷ zipped ∷ [];
   places = [];
   certificates = [];
   blocks = record {
-    goals = goal zipped stream ∷ [];
-    names = (4, 0) ∷ [];
+    goals = goal [] zipped stream ∷ [];
+    names = goal_names 4 0 ∷ [];
     steps = Derive
-        ∷ Reduce (by_links (Equation_link 9 Forth [] (1 ∷ 3 ∷ []) ∷ Equation_link 7 Forth [] (0 ∷ []) ∷ []) [])
-        ∷ Reduce (by_links (Equation_link 10 Forth [] (1 ∷ 3 ∷ []) ∷ Equation_link 8 Forth (1 ∷ []) (0 ∷ []) ∷ Hypothesis_link 0 Forth [] (2 ∷ []) ∷ []) [])
+        ∷ Reduce (by_links (Equation_link 9 Forth [] (1 ∷ 3 ∷ []) no_chain ∷ Equation_link 7 Forth [] (0 ∷ []) no_chain ∷ []) [])
+        ∷ Reduce (by_links (Equation_link 10 Forth [] (1 ∷ 3 ∷ []) no_chain ∷ Equation_link 8 Forth (1 ∷ []) (0 ∷ []) no_chain ∷ Hypothesis_link 0 Forth [] (2 ∷ []) no_chain ∷ []) [])
         ∷ Done ∷ [];
   } ∷ [];
 }
@@ -50,16 +52,17 @@ zips_text =
 
 abbrev pub sums : Proof
 sums = record {
+  version = 1;
   table = Var 1 1 ∷ Var 0 1 ∷ on_stream 10 (Var 0 1) ∷ on_stream 11 (Var 0 1) ∷ [];
   places = place 9 1 ∷ [];
-  certificates = (Equation_link 11 Forth [] (0 ∷ 1 ∷ []) ∷ []) ∷ (Equation_link 12 Forth [] (0 ∷ 1 ∷ []) ∷ []) ∷ [];
+  certificates = (Equation_link 11 Forth [] (0 ∷ 1 ∷ []) no_chain ∷ []) ∷ (Equation_link 12 Forth [] (0 ∷ 1 ∷ []) no_chain ∷ []) ∷ [];
   blocks = record {
-    goals = goal (on_stream 10 (Var 0 1)) (on_stream 11 (Var 0 1)) ∷ [];
-    names = (2, 3) ∷ [];
+    goals = goal [] (on_stream 10 (Var 0 1)) (on_stream 11 (Var 0 1)) ∷ [];
+    names = goal_names 2 3 ∷ [];
     steps = Derive
-        ∷ Reduce (by_links (Equation_link 13 Forth [] (1 ∷ []) ∷ []) (Equation_link 15 Forth [] (1 ∷ []) ∷ []))
-        ∷ Reduce (by_links (Equation_link 14 Forth [] (1 ∷ []) ∷ Hypothesis_link 0 Forth (1 ∷ []) (1 ∷ []) ∷ [])
-        (Equation_link 16 Forth [] (1 ∷ []) ∷ []))
+        ∷ Reduce (by_links (Equation_link 13 Forth [] (1 ∷ []) no_chain ∷ []) (Equation_link 15 Forth [] (1 ∷ []) no_chain ∷ []))
+        ∷ Reduce (by_links (Equation_link 14 Forth [] (1 ∷ []) no_chain ∷ Hypothesis_link 0 Forth (1 ∷ []) (1 ∷ []) no_chain ∷ [])
+        (Equation_link 16 Forth [] (1 ∷ []) no_chain ∷ []))
         ∷ Done ∷ [];
   } ∷ [];
 }
@@ -76,10 +79,11 @@ sums_text =
 -- a proof for a theory in which sort 1 has a derivative: a variable of this sort is itself
 abbrev pub itself : Proof
 itself = record {
+  version = 1;
   table = stream ∷ [];
   places = [];
   certificates = [];
-  blocks = record { goals = goal stream stream ∷ []; names = (0, 0) ∷ []; steps = Derive ∷ Reduce (by_links [] []) ∷ Done ∷ [] } ∷ [];
+  blocks = record { goals = goal [] stream stream ∷ []; names = goal_names 0 0 ∷ []; steps = Derive ∷ Reduce (by_links [] []) ∷ Done ∷ [] } ∷ [];
 }
 
 -- seven splits inside one another, each of which wants two whys
