@@ -10,11 +10,11 @@ use Rattle.circ_proof_text.specs.ProofText.{proof_text}
 use Rattle.circ_plain_search.specs.Numbering.{Found, Proved, LongTable, Stuck, Spent, TooBig, TooDeep}
 use Rattle.circ_plain_search.specs.PlainSearch.{PlainSearch, AreSearchable, IsProofOf}
 use Rattle.circ_plain_search.specs.Search.{Limits}
-use Rattle.circ_read.specs.ReadsAs.{ReadsAs}
 use Rattle.circ_script.specs.ReadsAsScript.{ReadsAsScript}
 use Rattle.circ_script.specs.Script.{Script}
 use Rattle.circ_script.specs.declared.job.Job.TheVariants.{Prove}
 use Rattle.circ_files.specs.Texts.{too_long_text}
+use Rattle.circ_files.specs.TheoryFile.{ReadsAsPlain}
 use Rattle.circ_files.proofs.FileFaults.{if_ok}
 use Rattle.circ_files.specs.declared.status.Status.TheVariants as status
 use Rattle.circ_found.specs.Answering.{blocks_of, proved_text, found_ending, SearchEnds}
@@ -98,7 +98,7 @@ module _ (law : (th : Theory) → IsWellFormed th → (blocks : List (List Goal)
   accepted_text x bytes some same =
       let c = chain_proof x some in let P : List ℕ → Type 0 = λ b. IsAcceptedText th b c.p in (c.p, subst P (sym same) c.accepted)
 
-  module _ (rt : ReadsAs (chain_theory n) th) (rs : ReadsAsScript th Prove (chain_script n) sc) where
+  module _ (rt : ReadsAsPlain (chain_theory n) th) (rs : ReadsAsScript th Prove (chain_script n) sc) where
     pub none_generates : e.stored ≡ None → Generates n e
     none_generates none = searched e th sc s.found rt rs s.search (unstored_ending th.signature n s.found e s.is none)
 

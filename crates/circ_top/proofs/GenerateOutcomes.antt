@@ -5,7 +5,7 @@ use Rattle.circ_theory.specs.Theory.{Theory}
 use Rattle.circ_proof.specs.Proof.{Proof}
 use Rattle.circ_proof_text.specs.ProofText.{proof_text}
 use Rattle.circ_read.specs.declared.cause.Cause.{Cause}
-use Rattle.circ_read.specs.ReadsAs.{ReadsAs}
+use Rattle.circ_files.specs.TheoryFile.{ReadsAsPlain}
 use Rattle.circ_script.specs.ReadsAsScript.{ReadsAsScript}
 use Rattle.circ_script.specs.Refusing.{FirstScriptCause}
 use Rattle.circ_script.specs.Script.{Script}
@@ -15,7 +15,7 @@ use Rattle.circ_plain_search.specs.PlainSearch.{PlainSearch}
 use Rattle.circ_files.specs.Like.{IsLikeCause, IsLike, itself}
 use Rattle.circ_files.specs.Texts.{too_long_text}
 use Rattle.circ_files.specs.declared.status.Status.TheVariants as status
-use Rattle.circ_files.proofs.Readings.{ReadsOnce}
+use Rattle.circ_files.proofs.Readings.{ReadsPlainOnce}
 use Rattle.circ_files.proofs.Scripts.{ScriptsOnce}
 use Rattle.circ_found.specs.Answering.{blocks_of}
 use Rattle.circ_found.specs.Ending.{Ending, ending}
@@ -64,14 +64,14 @@ by_equations d e x y a b l = let P : Ending → Type 0 = λ z. AreLike z e in le
 unread_like : (n file p q : ℕ) (c d : Cause) → p ≡ q → IsLikeCause c d → AreLike (unread_ending file p c) (unread_ending file q d)
 unread_like n file p q c d e l = (unreadable_like (Generate n) file file p q c d refl e l, refl)
 
-module _ (once : ReadsOnce) (scripts : ScriptsOnce) (searches : SearchesOnce) (n : ℕ) where
+module _ (once : ReadsPlainOnce) (scripts : ScriptsOnce) (searches : SearchesOnce) (n : ℕ) where
   -- the second outcome where the theory text reads as this
   data Fixed (th : Theory) (e : Ending) : Type 0 where
     script_refused : (place : ℕ) (c : Cause) → FirstScriptCause th job.Prove (chain_script n) place c → e ≡ unread_ending 2 place c → Fixed th e
     ends : (sc : Script) (f : Found) → ReadsAsScript th job.Prove (chain_script n) sc → PlainSearch th (blocks_of sc) greatest_limits f
         → e ≡ chain_ending th.signature n f → Fixed th e
 
-  fixed : (th : Theory) (e : Ending) → ReadsAs (chain_theory n) th → Generates n e → Fixed th e
+  fixed : (th : Theory) (e : Ending) → ReadsAsPlain (chain_theory n) th → Generates n e → Fixed th e
   fixed th e r (no_theory _ place c f is) = absurd (once.either (chain_theory n) th place c r f)
   fixed th e r (no_script _ u place c s f is) =
       let same : u ≡ th = once.theory (chain_theory n) th u r s in

@@ -48,8 +48,8 @@ pub data CheckOutcome (held : Held) (report : Report) (theory proof : List ℕ) 
 pub record Proves (report : Report) (th : Theory) (p : Proof) (text : List ℕ) : Type 0 where
   pub derived : List (List Goal)
   pub accepted : Derives th p derived
-  pub behave : (b : Block) → Contains p.blocks b → (g : Goal) → Contains b.goals g → Behaves th g.left g.right
-  pub derived_behave : (ds : List Goal) → Contains derived ds → (g : Goal) → Contains ds g → Behaves th g.left g.right
+  pub behave : (b : Block) → Contains p.blocks b → (g : Goal) → Contains b.goals g → Behaves th g
+  pub derived_behave : (ds : List Goal) → Contains derived ds → (g : Goal) → Contains ds g → Behaves th g
   pub text_is : text ≡ report_text report th.signature p derived
 
 -- The two files read, and the proof is accepted, with this text.

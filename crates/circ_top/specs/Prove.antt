@@ -11,7 +11,7 @@ use Rattle.circ_script.specs.declared.job.Job.TheVariants as job
 use Rattle.circ_plain_search.specs.PlainSearch.{AreSearchable}
 use Rattle.circ_files.specs.Files.{Held, RefusesFile}
 use Rattle.circ_files.specs.ScriptFile.{ReadsScript, TakesScript, ScriptRefusal, IsScriptFault}
-use Rattle.circ_files.specs.TheoryFile.{ReadsTheory, TakesTheory, TheoryRefusal, IsTheoryFault}
+use Rattle.circ_files.specs.TheoryFile.{ReadsPlainTheory, TakesPlainTheory, PlainTheoryRefusal, IsPlainTheoryFault}
 use Rattle.circ_files.specs.declared.status.Status.{Status}
 use Rattle.circ_found.specs.Ending.{Stored, Ending, ending}
 use Rattle.circ_found.specs.Answering.{blocks_of, proved_text, SearchEnds}
@@ -24,11 +24,11 @@ use Rattle.circ_turn.specs.declared.search.Limits.{Limits}
 -- The outcome, with its text and what is stored: the theory file refuses the command; or this reads, and the script file refuses it; or both read, and the
 -- search ends so.
 pub data ProveOutcome (held : Held) (limits : Limits) (theory script name : List ℕ) : Status → (text : List ℕ) → (stored : Option Stored) → Type 0 where
-  no_theory : (s : Status) → RefusesFile held 1 theory TheoryRefusal s
+  no_theory : (s : Status) → RefusesFile held 1 theory PlainTheoryRefusal s
       → ProveOutcome held limits theory script name s (refusal_text (Prove limits theory script name) s) None
-  no_script : (s : Status) (th : Theory) → ReadsTheory held theory th → RefusesFile held 2 script (ScriptRefusal th job.Prove) s
+  no_script : (s : Status) (th : Theory) → ReadsPlainTheory held theory th → RefusesFile held 2 script (ScriptRefusal th job.Prove) s
       → ProveOutcome held limits theory script name s (refusal_text (Prove limits theory script name) s) None
-  searched : (s : Status) (text : List ℕ) (stored : Option Stored) (th : Theory) (sc : Script) → ReadsTheory held theory th
+  searched : (s : Status) (text : List ℕ) (stored : Option Stored) (th : Theory) (sc : Script) → ReadsPlainTheory held theory th
       → ReadsScript held script th job.Prove sc → SearchEnds th (plain_limits limits) name (blocks_of sc) (ending s text stored)
       → ProveOutcome held limits theory script name s text stored
 
@@ -38,13 +38,13 @@ pub record IsSearched (limits : Limits) (theory script name : List ℕ) (e : End
   pub sc : Script
   pub searchable : AreSearchable th (blocks_of sc)
   pub ends : SearchEnds th (plain_limits limits) name (blocks_of sc) e
-  pub takes_theory : TakesTheory theory th before
+  pub takes_theory : TakesPlainTheory theory th before
   pub takes_script : TakesScript script th job.Prove sc before
 
 -- Why there is no search: the theory file is at fault; or it reads, and the script file is at fault.
 pub data RefusesProve (theory script : List ℕ) (before after : ShelfState) : Status → Type 0 where
-  theory_fault : (s : Status) → IsTheoryFault theory before after s → RefusesProve theory script before after s
-  script_fault : (s : Status) (th : Theory) → TakesTheory theory th before → IsScriptFault script th job.Prove before after s
+  theory_fault : (s : Status) → IsPlainTheoryFault theory before after s → RefusesProve theory script before after s
+  script_fault : (s : Status) (th : Theory) → TakesPlainTheory theory th before → IsScriptFault script th job.Prove before after s
       → RefusesProve theory script before after s
 
 -- Status 0 of `prove`: the two files read, and the named file holds the text of an accepted proof of exactly the script's goals, where the shelf tells.
@@ -53,7 +53,7 @@ pub record StoresProof (theory script name : List ℕ) (before after : ShelfStat
   pub th : Theory
   pub sc : Script
   pub p : Proof
-  pub takes_theory : TakesTheory theory th before
+  pub takes_theory : TakesPlainTheory theory th before
   pub takes_script : TakesScript script th job.Prove sc before
   pub proof_for : ProofFor th p
   pub accepted : Accepted th p

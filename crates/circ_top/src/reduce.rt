@@ -7,7 +7,7 @@ ghost use Rattle.circ_top.specs.Reduce.{reduced, Reduces, Ends, Results, FaultEn
 ghost use Rattle.circ_top.specs.Reduce.{result_line, results_text, IsReduced, RefusesReduce};
 ghost use Rattle.circ_top.specs.Reduce.{fault_status};
 
-use circ_files::{Status, push_numbered, take_script, take_theory};
+use circ_files::{Status, push_numbered, take_script, take_plain_theory};
 use circ_memo::Memo;
 use circ_mixfix::print;
 use circ_outer::Shelf;
@@ -33,7 +33,7 @@ pub(crate) fn reduce<S: Shelf>(
     ensures quiet { IsQuietCall (S.state shelf.old) (S.state shelf.new) result }
     ensures frame { ShelfFrame (S.state shelf.old) (S.state shelf.new) }
 {
-    let mut theory = match take_theory(alloc, shelf, theory) {
+    let mut theory = match take_plain_theory(alloc, shelf, theory) {
         Ok(theory) => theory,
         Err(status) => return Err(status),
     };
