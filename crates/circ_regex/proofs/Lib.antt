@@ -11,5 +11,4 @@ pub mod Finish
 pub mod Within
 pub mod Once
 pub mod Parts
-pub mod Unconditional
 pub mod Meaning

@@ -66,129 +66,74 @@ steady_at : (σ : Substitution) → IsSubstitution LANG.signature σ → (n : �
 unfolding LANG
 steady_at σ h n w = let at_bit = h n bit_sort (omega arith) in sym (steady (σ n bit_sort) at_bit.1 at_bit.0 w)
 
+-- one behind the other: a pair written without parentheses
+infixr 4 ◌▹◌
+◌▹◌ : {A B : Type 0} → A → B → A × B
+p ▹ q = (p, q)
+
 bits_are_true : AllByRecursion IsTrueEquation bit_equations
-bits_are_true = (
-  (λ σ h. same_words _ _ (λ w. steady_at σ h 0 w)),
-  (
-    (λ σ h. refl),
-    (
-      (λ σ h. same_words _ _ (λ w. or_false (language_of (σ 0 bit_sort) []) ∙ steady_at σ h 0 w)),
-      (
-        (λ σ h. same_words _ _ (λ w. or_true (language_of (σ 0 bit_sort) []))),
-        (
-          (λ σ h. refl),
-          (
-            (λ σ h. same_words _ _ (λ w. steady_at σ h 0 w)),
-            (
-              (λ σ h. same_words _ _ (λ w. and_false (language_of (σ 0 bit_sort) []))),
-              ((λ σ h. same_words _ _ (λ w. and_true (language_of (σ 0 bit_sort) []) ∙ steady_at σ h 0 w)), tt),
-            ),
-          ),
-        ),
-      ),
-    ),
-  ),
-)
+bits_are_true =
+    (λ σ h. same_words _ _ (λ w. steady_at σ h 0 w))
+    ▹ (λ σ h. refl)
+    ▹ (λ σ h. same_words _ _ (λ w. or_false (language_of (σ 0 bit_sort) []) ∙ steady_at σ h 0 w))
+    ▹ (λ σ h. same_words _ _ (λ w. or_true (language_of (σ 0 bit_sort) [])))
+    ▹ (λ σ h. refl)
+    ▹ (λ σ h. same_words _ _ (λ w. steady_at σ h 0 w))
+    ▹ (λ σ h. same_words _ _ (λ w. and_false (language_of (σ 0 bit_sort) [])))
+    ▹ (λ σ h. same_words _ _ (λ w. and_true (language_of (σ 0 bit_sort) []) ∙ steady_at σ h 0 w))
+    ▹ tt
 
 units_are_true : AllByRecursion IsTrueEquation unit_equations
-units_are_true = (
-  (λ σ h. refl),
-  (
-    (λ σ h. same_words _ _ (λ w. or_false (language_of (σ 0 lang_sort) w))),
-    (
-      (λ σ h. same_words _ _ (λ w. nothing_first (language_of (σ 0 lang_sort)) w)),
-      (
-        (λ σ h. same_words _ _ (λ w. nothing_last (language_of (σ 0 lang_sort)) w)),
-        (
-          (λ σ h. same_words _ _ (λ w. empty_first (language_of (σ 0 lang_sort)) w)),
-          (
-            (λ σ h. same_words _ _ (λ w. empty_last (language_of (σ 0 lang_sort)) w)),
-            (
-              (λ σ h. refl),
-              ((λ σ h. refl), tt),
-            ),
-          ),
-        ),
-      ),
-    ),
-  ),
-)
+units_are_true =
+    (λ σ h. refl)
+    ▹ (λ σ h. same_words _ _ (λ w. or_false (language_of (σ 0 lang_sort) w)))
+    ▹ (λ σ h. same_words _ _ (λ w. nothing_first (language_of (σ 0 lang_sort)) w))
+    ▹ (λ σ h. same_words _ _ (λ w. nothing_last (language_of (σ 0 lang_sort)) w))
+    ▹ (λ σ h. same_words _ _ (λ w. empty_first (language_of (σ 0 lang_sort)) w))
+    ▹ (λ σ h. same_words _ _ (λ w. empty_last (language_of (σ 0 lang_sort)) w))
+    ▹ (λ σ h. refl)
+    ▹ (λ σ h. refl)
+    ▹ tt
 
 accs_are_true : AllByRecursion IsTrueEquation acc_equations
-accs_are_true = (
-  (λ σ h. refl),
-  (
-    (λ σ h. refl),
-    (
-      (λ σ h. refl),
-      (
-        (λ σ h. refl),
-        (
-          (λ σ h. refl),
-          (
-            (λ σ h. refl),
-            (
-              (λ σ h. refl),
-              ((λ σ h. refl), tt),
-            ),
-          ),
-        ),
-      ),
-    ),
-  ),
-)
+accs_are_true =
+    (λ σ h. refl)
+    ▹ (λ σ h. refl)
+    ▹ (λ σ h. refl)
+    ▹ (λ σ h. refl)
+    ▹ (λ σ h. refl)
+    ▹ (λ σ h. refl)
+    ▹ (λ σ h. refl)
+    ▹ (λ σ h. refl)
+    ▹ tt
 
 -- the product behind a letter
 product_behind : (x : Letter) (L M : Language) (w : List Letter) → concatenated L M (x ∷ w) ≡ (concatenated (quotient x L) M w || (L [] && M (x ∷ w)))
 product_behind x L M w = or_swap (L [] && M (x ∷ w)) (concatenated (quotient x L) M w)
 
 das_are_true : AllByRecursion IsTrueEquation da_equations
-das_are_true = (
-  (λ σ h. refl),
-  (
-    (λ σ h. refl),
-    (
-      (λ σ h. refl),
-      (
-        (λ σ h. refl),
-        (
-          (λ σ h. refl),
-          (
-            (λ σ h. same_words _ _ (λ w. product_behind letter_a (language_of (σ 0 lang_sort)) (language_of (σ 1 lang_sort)) w)),
-            (
-              (λ σ h. same_words _ _ (λ w. iterated-concatenated (language_of (σ 0 lang_sort)) (quotient letter_a (language_of (σ 0 lang_sort))) w)),
-              ((λ σ h. refl), tt),
-            ),
-          ),
-        ),
-      ),
-    ),
-  ),
-)
+das_are_true =
+    (λ σ h. refl)
+    ▹ (λ σ h. refl)
+    ▹ (λ σ h. refl)
+    ▹ (λ σ h. refl)
+    ▹ (λ σ h. refl)
+    ▹ (λ σ h. same_words _ _ (λ w. product_behind letter_a (language_of (σ 0 lang_sort)) (language_of (σ 1 lang_sort)) w))
+    ▹ (λ σ h. same_words _ _ (λ w. iterated-concatenated (language_of (σ 0 lang_sort)) (quotient letter_a (language_of (σ 0 lang_sort))) w))
+    ▹ (λ σ h. refl)
+    ▹ tt
 
 dbs_are_true : AllByRecursion IsTrueEquation db_equations
-dbs_are_true = (
-  (λ σ h. refl),
-  (
-    (λ σ h. refl),
-    (
-      (λ σ h. refl),
-      (
-        (λ σ h. refl),
-        (
-          (λ σ h. refl),
-          (
-            (λ σ h. same_words _ _ (λ w. product_behind letter_b (language_of (σ 0 lang_sort)) (language_of (σ 1 lang_sort)) w)),
-            (
-              (λ σ h. same_words _ _ (λ w. iterated-concatenated (language_of (σ 0 lang_sort)) (quotient letter_b (language_of (σ 0 lang_sort))) w)),
-              ((λ σ h. refl), tt),
-            ),
-          ),
-        ),
-      ),
-    ),
-  ),
-)
+dbs_are_true =
+    (λ σ h. refl)
+    ▹ (λ σ h. refl)
+    ▹ (λ σ h. refl)
+    ▹ (λ σ h. refl)
+    ▹ (λ σ h. refl)
+    ▹ (λ σ h. same_words _ _ (λ w. product_behind letter_b (language_of (σ 0 lang_sort)) (language_of (σ 1 lang_sort)) w))
+    ▹ (λ σ h. same_words _ _ (λ w. iterated-concatenated (language_of (σ 0 lang_sort)) (quotient letter_b (language_of (σ 0 lang_sort))) w))
+    ▹ (λ σ h. refl)
+    ▹ tt
 
 all_append : {X : Type 0} (P : X → Type 0) (xs ys : List X) → AllByRecursion P xs → AllByRecursion P ys → AllByRecursion P (xs ++ ys)
 all_append P [] ys front rest = rest

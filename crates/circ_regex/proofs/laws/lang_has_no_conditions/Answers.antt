@@ -1,5 +1,8 @@
-use Rattle.circ_regex.proofs.Unconditional.{no_conditions}
+use Rattle.std.proofs.Common.{refl}
+use Rattle.circ_theory.proofs.Conditions.{without_conditions}
+use Rattle.circ_regex.specs.Lang.{LANG}
 use Rattle.circ_regex.proofs.laws.lang_has_no_conditions.Goals as goal
 
 pub returns : goal.returns
-returns c = no_conditions
+unfolding LANG
+returns c = (without_conditions LANG).0 refl
