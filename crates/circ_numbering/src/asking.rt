@@ -78,13 +78,13 @@ fn link(alloc: Global, table: &mut TableBuilder, recorded: &Link<Term>) -> Resul
             path,
             terms,
             conds,
-        } => match given(alloc, table, path, terms.as_slice(), conds.as_slice()) {
-            Ok(given) => Ok(Link::Equation {
+        } => match numbered_parts(alloc, table, path, terms.as_slice(), conds.as_slice()) {
+            Ok(parts) => Ok(Link::Equation {
                 number: *number,
                 way: *way,
-                path: given.path,
-                terms: given.terms,
-                conds: given.conds,
+                path: parts.path,
+                terms: parts.terms,
+                conds: parts.conds,
             }),
             Err(fault) => Err(fault),
         },
@@ -94,13 +94,13 @@ fn link(alloc: Global, table: &mut TableBuilder, recorded: &Link<Term>) -> Resul
             path,
             terms,
             conds,
-        } => match given(alloc, table, path, terms.as_slice(), conds.as_slice()) {
-            Ok(given) => Ok(Link::Hypothesis {
+        } => match numbered_parts(alloc, table, path, terms.as_slice(), conds.as_slice()) {
+            Ok(parts) => Ok(Link::Hypothesis {
                 number: *number,
                 way: *way,
-                path: given.path,
-                terms: given.terms,
-                conds: given.conds,
+                path: parts.path,
+                terms: parts.terms,
+                conds: parts.conds,
             }),
             Err(fault) => Err(fault),
         },
@@ -120,20 +120,20 @@ fn link(alloc: Global, table: &mut TableBuilder, recorded: &Link<Term>) -> Resul
 // What a link by an equation or a hypothesis is given: where it is used, its terms, and the chains
 // of its conditions.
 #[derive(Drop)]
-struct Given {
+struct Parts {
     path: Path,
     terms: Vec<u32>,
     conds: Vec<Chain>,
 }
 
 #[cycle(link)]
-fn given(
+fn numbered_parts(
     alloc: Global,
     table: &mut TableBuilder,
     path: &Path,
     terms: &[Term],
     conds: &[Chain<Term>],
-) -> Result<Given, NumberFault>
+) -> Result<Parts, NumberFault>
     ensures { Asks table.old table.new (terms.now ++ chains_terms (plain_chains conds.now))
         (λ t g. (g.path.items ≡ path.now.items)
         × (g.terms.items ≡ map (number_in t) terms.now)
@@ -146,7 +146,7 @@ fn given(
         Err(fault) => return Err(fault),
     };
     match chains(alloc, table, conds) {
-        Ok(conds) => Ok(Given { path, terms, conds }),
+        Ok(conds) => Ok(Parts { path, terms, conds }),
         Err(fault) => Err(fault),
     }
 }

@@ -74,23 +74,23 @@ chain-returns-in-Ok-links t c =
           ∙ ap (C (numbered_links table (plain_links r.left.items))) (right.1 table a),
     )
 
-pub given-returns-in-Err : goal.given-returns-in-Err
-given-returns-in-Err t c =
+pub numbered_parts-returns-in-Err : goal.numbered_parts-returns-in-Err
+numbered_parts-returns-in-Err t c =
     first_fails c.args.table.now c.args.terms.now (chains_terms (plain_chains c.args.conds.now)) c.in-Err.fault c.in-Err.ensures
 
-pub given-returns-in-Err-chains : goal.given-returns-in-Err-chains
-given-returns-in-Err-chains t c =
+pub numbered_parts-returns-in-Err-chains : goal.numbered_parts-returns-in-Err-chains
+numbered_parts-returns-in-Err-chains t c =
     second_fails c.args.table.now c.numbers.new.table c.args.terms.now (chains_terms (plain_chains c.args.conds.now)) c.in-Err-chains.fault
     c.in-Ok.ensures.0 c.in-Err-chains.ensures
 
-pub given-returns-in-Ok-chains : goal.given-returns-in-Ok-chains
-given-returns-in-Ok-chains t c =
+pub numbered_parts-returns-in-Ok-chains : goal.numbered_parts-returns-in-Ok-chains
+numbered_parts-returns-in-Ok-chains t c =
     let cs = chains_terms (plain_chains c.args.conds.now) in (
       both_asked c.args.table.now c.numbers.new.table c.chains.new.table c.args.terms.now cs c.in-Ok.ensures.0 c.in-Ok-chains.ensures.0,
       λ table a. (
-          c.in_ok-path.ensures.items,
-          c.in-Ok.ensures.1 table (later_too c.numbers.new.table c.chains.new.table cs table c.in-Ok-chains.ensures.0 a),
-          c.in-Ok-chains.ensures.1 table a,
+        c.in_ok-path.ensures.items,
+        c.in-Ok.ensures.1 table (later_too c.numbers.new.table c.chains.new.table cs table c.in-Ok-chains.ensures.0 a),
+        c.in-Ok-chains.ensures.1 table a,
       ),
     )
 
@@ -101,3 +101,55 @@ links-link-requires t c =
 pub chains-chain-requires : goal.chains-chain-requires
 chains-chain-requires t c =
     let d = chain_in c.args.recorded.now c.loop-one.one-index c.one-item.result c.loop-one-test.true c.one-item.is in omega (arith, d)
+
+pub link-numbered_parts-requires : goal.link-numbered_parts-requires
+link-numbered_parts-requires t c =
+    let x = c.in-Equation in
+    let e = ap link_nesting (ap plain_link x.is ∙ equation_plain x.number x.way x.path x.terms x.conds) in
+    let same = ap (λ cs. chains_nesting (plain_chains cs)) c.as_slice-in-Equation.ensures.value in
+    omega (arith, e, same)
+
+pub link-numbered_parts-requires-in-Hypothesis : goal.link-numbered_parts-requires-in-Hypothesis
+link-numbered_parts-requires-in-Hypothesis t c =
+    let x = c.in-Hypothesis in
+    let e = ap link_nesting (ap plain_link x.is ∙ hypothesis_plain x.number x.way x.path x.terms x.conds) in
+    let same = ap (λ cs. chains_nesting (plain_chains cs)) c.as_slice-in-Hypothesis-2.ensures.value in
+    omega (arith, e, same)
+
+pub link-returns-in-Err : goal.link-returns-in-Err
+link-returns-in-Err t c =
+    let x = c.in-Equation in
+    let e = ap plain_link x.is ∙ equation_plain x.number x.way x.path x.terms x.conds in
+    rw e (rw (c.as_slice.ensures.value, c.as_slice-in-Equation.ensures.value) at c.in-Err.ensures)
+
+pub link-returns-in-Err-numbered_parts : goal.link-returns-in-Err-numbered_parts
+link-returns-in-Err-numbered_parts t c =
+    let x = c.in-Hypothesis in
+    let e = ap plain_link x.is ∙ hypothesis_plain x.number x.way x.path x.terms x.conds in
+    rw e (rw (c.as_slice-in-Hypothesis.ensures.value, c.as_slice-in-Hypothesis-2.ensures.value) at c.in-Err-numbered_parts.ensures)
+
+pub link-returns-in-Ok : goal.link-returns-in-Ok
+link-returns-in-Ok t c =
+    let x = c.in-Equation in
+    let e = ap plain_link x.is ∙ equation_plain x.number x.way x.path x.terms x.conds in
+    let r = rw (c.as_slice.ensures.value, c.as_slice-in-Equation.ensures.value) at c.in-Ok.ensures in
+    let p = c.in-Ok.parts in
+    rw e (
+      r.0,
+      λ table a.
+          let g = r.1 table a in
+          equation_plain x.number x.way p.path p.terms p.conds ∙ (λ i. Equation_link x.number x.way (g.0 i) (g.1 i) (g.2 i)),
+    )
+
+pub link-returns-in-Ok-numbered_parts : goal.link-returns-in-Ok-numbered_parts
+link-returns-in-Ok-numbered_parts t c =
+    let x = c.in-Hypothesis in
+    let e = ap plain_link x.is ∙ hypothesis_plain x.number x.way x.path x.terms x.conds in
+    let r = rw (c.as_slice-in-Hypothesis.ensures.value, c.as_slice-in-Hypothesis-2.ensures.value) at c.in-Ok-numbered_parts.ensures in
+    let p = c.in-Ok-numbered_parts.parts in
+    rw e (
+      r.0,
+      λ table a.
+          let g = r.1 table a in
+          hypothesis_plain x.number x.way p.path p.terms p.conds ∙ (λ i. Hypothesis_link x.number x.way (g.0 i) (g.1 i) (g.2 i)),
+    )

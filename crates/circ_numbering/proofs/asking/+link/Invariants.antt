@@ -13,8 +13,8 @@ decreases-links l = 5 * links_nesting (plain_links l.recorded.now) + 3
 abbrev pub decreases-link : goal.decreases-link
 decreases-link l = 5 * link_nesting (plain_link l.recorded.now) + 2
 
-abbrev pub decreases-given : goal.decreases-given
-decreases-given l = 5 * chains_nesting (plain_chains l.conds.now) + 1
+abbrev pub decreases-numbered_parts : goal.decreases-numbered_parts
+decreases-numbered_parts l = 5 * chains_nesting (plain_chains l.conds.now) + 1
 
 abbrev pub decreases-chains : goal.decreases-chains
 decreases-chains l = 5 * chains_nesting (plain_chains l.recorded.now)
