@@ -2,7 +2,7 @@
 use Rattle.std.specs.Prelude.{◌≡◌, List, [], ◌∷◌, ◌++◌, true, ◌&&◌, ◌⊎◌, ◌↔◌, refl}
 use Rattle.std.proofs.Common.{ap, sym, subst, ◌∙◌, inl, inr}
 use Rattle.circ_theory.specs.Experiment.{BehavesFrom}
-use Rattle.circ_regex.specs.Matches.{Letter, letter_a, letter_b, Expression, no_word, empty_word, one_letter, either, in_turn, any_number, Repeats, no_part, one_more_part, Cut, Matches}
+use Rattle.circ_regex.specs.Matches.{Letter, a_letter, b_letter, Expression, no_word, empty_word, one_letter, either_of, in_turn, any_number, Repeats, no_part, one_more_part, Cut, Matches}
 use Rattle.circ_regex.specs.Languages.{Language, empty_word_only, letter_only, quotient, concatenated, iterated_from, iterated}
 use Rattle.circ_regex.specs.Lang.{LANG}
 use Rattle.circ_regex.specs.Member.{language_of, letter_term, expression_term}
@@ -72,24 +72,24 @@ empty_is (x ∷ w) e = absurd (cc)
 
 letter_is : (x : Letter) (w : List Letter) → Has (letter_only x) w → w ≡ x ∷ []
 letter_is x [] e = absurd (cc)
-letter_is letter_a (letter_a ∷ w) e = ap (λ z. letter_a ∷ z) (empty_is w e)
-letter_is letter_a (letter_b ∷ w) e = absurd (cc)
-letter_is letter_b (letter_a ∷ w) e = absurd (cc)
-letter_is letter_b (letter_b ∷ w) e = ap (λ z. letter_b ∷ z) (empty_is w e)
+letter_is a_letter (a_letter ∷ w) e = ap (λ z. a_letter ∷ z) (empty_is w e)
+letter_is a_letter (b_letter ∷ w) e = absurd (cc)
+letter_is b_letter (a_letter ∷ w) e = absurd (cc)
+letter_is b_letter (b_letter ∷ w) e = ap (λ z. b_letter ∷ z) (empty_is w e)
 
 letter_words : (x : Letter) (w : List Letter) → language_of (letter_term x) w ≡ letter_only x w
-letter_words letter_a w = refl
-letter_words letter_b w = refl
+letter_words a_letter w = refl
+letter_words b_letter w = refl
 
 letter_itself : (x : Letter) → Has (letter_only x) (x ∷ [])
-letter_itself letter_a = refl
-letter_itself letter_b = refl
+letter_itself a_letter = refl
+letter_itself b_letter = refl
 
 pub has_matches : (e : Expression) (w : List Letter) → Has (language_of (expression_term e)) w → Matches e w
 has_matches no_word w h = absurd (cc)
 has_matches empty_word w h = empty_is w h
 has_matches (one_letter x) w h = letter_is x w (sym (letter_words x w) ∙ h)
-has_matches (either e f) w h =
+has_matches (either_of e f) w h =
     go (or_either (language_of (expression_term e) w) (language_of (expression_term f) w) h) (has_matches e w) (has_matches f w)
   where
     go : ((language_of (expression_term e) w ≡ true) ⊎ (language_of (expression_term f) w ≡ true))
@@ -107,8 +107,8 @@ matches_has no_word w m = absurd m
 matches_has empty_word w m = let P : List Letter → Type 0 = Has empty_word_only in subst P (sym m) refl
 matches_has (one_letter x) w m =
     let P : List Letter → Type 0 = Has (letter_only x) in letter_words x w ∙ subst P (sym m) (letter_itself x)
-matches_has (either e f) w (inl m) = first_or (language_of (expression_term e) w) (language_of (expression_term f) w) (matches_has e w m)
-matches_has (either e f) w (inr m) = second_or (language_of (expression_term e) w) (language_of (expression_term f) w) (matches_has f w m)
+matches_has (either_of e f) w (inl m) = first_or (language_of (expression_term e) w) (language_of (expression_term f) w) (matches_has e w m)
+matches_has (either_of e f) w (inr m) = second_or (language_of (expression_term e) w) (language_of (expression_term f) w) (matches_has f w m)
 matches_has (in_turn e f) w m =
     cut_product (language_of (expression_term e)) (language_of (expression_term f)) w (m.0, m.1, m.2, matches_has e m.0 m.3, matches_has f m.1 m.4)
 matches_has (any_number e) w m =

@@ -2,7 +2,7 @@
 use Rattle.std.specs.Prelude.{◌≡◌, ℕ, zero, suc, List, [], ◌∷◌, ◌++◌, Option, Some, None, replicate, refl}
 use Rattle.std.specs.Option.{option_and_then}
 use Rattle.std.proofs.Common.{ap, sym, subst, ◌∙◌, append_assoc, append-nil}
-use Rattle.circ_regex.specs.Matches.{Expression, either, in_turn, any_number}
+use Rattle.circ_regex.specs.Matches.{Expression, either_of, in_turn, any_number}
 use Rattle.circ_regex.specs.Grammar.{Rank, sum_rank, product_rank, factor_rank, atom_rank, starred, SpellsExpression, one_product, more_products, one_factor, more_factors, with_stars, by_a, by_b, by_zero, by_one, grouped}
 use Rattle.circ_regex.specs.Frames.{Frame, Frames, frame_with, frames_with, nested, on_byte, on_bytes, whole_sum, expression_read}
 
@@ -32,7 +32,7 @@ pub record Sum (s : List ℕ) (e : Expression) (ps : List Expression) (outer : L
   pub last : Expression
   pub before : List Expression
   pub sums : List Expression
-  pub is : nested either (nested in_turn last before) sums ≡ e
+  pub is : nested either_of (nested in_turn last before) sums ≡ e
   pub runs : on_bytes s (frames_with (frame_with ps []) outer) ≡ Some (frames_with (frame_with (sums ++ ps) (last ∷ before)) outer)
 
 abbrev pub Reads : Rank → List ℕ → Expression → Type 0
@@ -45,7 +45,7 @@ pub star_bytes : (n : ℕ) (e : Expression) (ps fs : List Expression) (outer : L
 star_bytes zero e ps fs outer = refl
 star_bytes (suc n) e ps fs outer = star_bytes n (any_number e) ps fs outer
 
-pub one_more_product : (s t : List ℕ) (e f : Expression) (ps : List Expression) (outer : List Frame) → Product s e ps [] outer → Reads sum_rank t f → Sum (s ++ 43 ∷ t) (either e f) ps outer
+pub one_more_product : (s t : List ℕ) (e f : Expression) (ps : List Expression) (outer : List Frame) → Product s e ps [] outer → Reads sum_rank t f → Sum (s ++ 43 ∷ t) (either_of e f) ps outer
 one_more_product s t e f ps outer p later =
     let q = later (e ∷ ps) outer in
     let P : Expression → Type 0 = λ x. on_bytes t (frames_with (frame_with (x ∷ ps) []) outer) ≡ Some (frames_with (frame_with (q.sums ++ e ∷ ps) (q.last ∷ q.before)) outer) in
@@ -54,7 +54,7 @@ one_more_product s t e f ps outer p later =
       last = q.last;
       before = q.before;
       sums = q.sums ++ e ∷ [];
-      is = nested-last either (nested in_turn q.last q.before) e q.sums ∙ ap (either e) q.is;
+      is = nested-last either_of (nested in_turn q.last q.before) e q.sums ∙ ap (either_of e) q.is;
       runs = bytes-append s (43 ∷ t) (frames_with (frame_with ps []) outer) (frames_with (frame_with ps (p.last ∷ p.before ++ [])) outer) p.runs
           ∙ subst P (sym plus) q.runs
           ∙ ap (λ zs. Some (frames_with (frame_with zs (q.last ∷ q.before)) outer)) (sym (append_assoc q.sums (e ∷ []) ps));
@@ -83,7 +83,7 @@ spelled_reads by_zero = λ ps fs outer. refl
 spelled_reads by_one = λ ps fs outer. refl
 spelled_reads (grouped {s = s} {e = e} d) = λ ps fs outer.
     let q = spelled_reads d [] (frame_with ps fs ∷ outer) in
-    let whole_sum : nested either (nested in_turn q.last q.before) (q.sums ++ []) ≡ e = ap (nested either (nested in_turn q.last q.before)) (append-nil q.sums) ∙ q.is in
+    let whole_sum : nested either_of (nested in_turn q.last q.before) (q.sums ++ []) ≡ e = ap (nested either_of (nested in_turn q.last q.before)) (append-nil q.sums) ∙ q.is in
     bytes-append s (41 ∷ []) (frames_with (frame_with [] []) (frame_with ps fs ∷ outer)) (frames_with (frame_with (q.sums ++ []) (q.last ∷ q.before)) (frame_with ps fs ∷ outer)) q.runs
     ∙ ap (λ x. Some (frames_with (frame_with ps (x ∷ fs)) outer)) whole_sum
 
@@ -91,4 +91,4 @@ spelled_reads (grouped {s = s} {e = e} d) = λ ps fs outer.
 pub complete : (s : List ℕ) (e : Expression) → SpellsExpression sum_rank s e → expression_read s ≡ Some e
 complete s e d =
     let q = spelled_reads d [] [] in
-    ap (λ o. option_and_then (λ st. whole_sum st.outer st.now) o) q.runs ∙ ap Some (ap (nested either (nested in_turn q.last q.before)) (append-nil q.sums) ∙ q.is)
+    ap (λ o. option_and_then (λ st. whole_sum st.outer st.now) o) q.runs ∙ ap Some (ap (nested either_of (nested in_turn q.last q.before)) (append-nil q.sums) ∙ q.is)

@@ -3,7 +3,7 @@ use Rattle.std.specs.Prelude.{◌≡◌, ℕ, zero, suc, List, [], ◌∷◌, �
 use Rattle.std.specs.Option.{option_and_then}
 use Rattle.std.proofs.Common.{ap, sym, subst, ◌∙◌, append_assoc, append-nil, eqb-true}
 use Rattle.std.proofs.lemmas.Option.{same_Some}
-use Rattle.circ_regex.specs.Matches.{letter_a, letter_b, Expression, no_word, empty_word, one_letter, either, in_turn, any_number}
+use Rattle.circ_regex.specs.Matches.{a_letter, b_letter, Expression, no_word, empty_word, one_letter, either_of, in_turn, any_number}
 use Rattle.circ_regex.specs.Grammar.{sum_rank, product_rank, factor_rank, atom_rank, starred, SpellsExpression, one_product, more_products, one_factor, more_factors, with_stars, by_a, by_b, by_zero, by_one, grouped}
 use Rattle.circ_regex.specs.Frames.{Frame, Frames, frame_with, frames_with, empty_frame, no_frames, nested, with_factor, frame_sum, on_star, on_plus, on_open, into_outer, on_close, on_mark, atom_of, on_atom, on_byte, on_bytes, whole_sum, expression_read}
 
@@ -39,12 +39,12 @@ factors_spell (f ∷ fs) t s x h d =
 pub some_factors : (f : Expression) (fs : List Expression) (bs : List ℕ) → Factors (f ∷ fs) bs → SpellsExpression product_rank bs (nested in_turn f fs)
 some_factors f fs bs h = let P : List ℕ → Type 0 = λ z. SpellsExpression product_rank z (nested in_turn f fs) in subst P (sym h.2) (factors_spell fs h.0 h.1 f h.4 (one_factor h.3))
 
-pub sums_spell : (ps : List Expression) (t s : List ℕ) (x : Expression) → Sums ps t → SpellsExpression sum_rank s x → SpellsExpression sum_rank (t ++ s) (nested either x ps)
+pub sums_spell : (ps : List Expression) (t s : List ℕ) (x : Expression) → Sums ps t → SpellsExpression sum_rank s x → SpellsExpression sum_rank (t ++ s) (nested either_of x ps)
 sums_spell [] t s x h d = let P : List ℕ → Type 0 = λ z. SpellsExpression sum_rank (z ++ s) x in subst P (sym h) d
 sums_spell (p ∷ ps) t s x h d =
-    let P : List ℕ → Type 0 = λ z. SpellsExpression sum_rank z (nested either (either p x) ps) in
+    let P : List ℕ → Type 0 = λ z. SpellsExpression sum_rank z (nested either_of (either_of p x) ps) in
     subst P (ap (λ z. h.0 ++ z) (sym (append_assoc h.1 (43 ∷ []) s)) ∙ sym (append_assoc h.0 (h.1 ++ 43 ∷ []) s) ∙ ap (λ z. z ++ s) (sym h.2))
-    (sums_spell ps h.0 (h.1 ++ 43 ∷ s) (either p x) h.4 (more_products h.3 d))
+    (sums_spell ps h.0 (h.1 ++ 43 ∷ s) (either_of p x) h.4 (more_products h.3 d))
 
 -- a frame that is closed spells its sum
 pub frame_spells : (ps fs : List Expression) (bs : List ℕ) (e : Expression) → InFrame (frame_with ps fs) bs → frame_sum ps fs ≡ Some e → SpellsExpression sum_rank bs e
@@ -52,7 +52,7 @@ frame_spells ps [] bs e h c = absurd (cc)
 frame_spells ps (f ∷ fs) bs e h c =
     let P : List ℕ → Type 0 = λ z. SpellsExpression sum_rank z e in
     let Q : Expression → Type 0 = λ x. SpellsExpression sum_rank (h.0 ++ h.1) x in
-    subst P (sym h.2) (subst Q (same_Some (nested either (nested in_turn f fs) ps) e c) (sums_spell ps h.0 h.1 (nested in_turn f fs) h.3 (one_product (some_factors f fs h.1 h.4))))
+    subst P (sym h.2) (subst Q (same_Some (nested either_of (nested in_turn f fs) ps) e c) (sums_spell ps h.0 h.1 (nested in_turn f fs) h.3 (one_product (some_factors f fs h.1 h.4))))
 
 starred-any_number : (n : ℕ) (e : Expression) → starred n (any_number e) ≡ any_number (starred n e)
 starred-any_number zero e = refl
@@ -160,15 +160,15 @@ atom_spelled k e = first (k == 97) refl
     third true same made = is 48 no_word same by_zero made
     third false same made = fourth (k == 49) refl made
 
-    second : (v : Bool) → (k == 98) ≡ v → (if v then Some (one_letter letter_b) else if k == 48 then Some no_word else if k == 49 then Some empty_word else None) ≡ Some e
+    second : (v : Bool) → (k == 98) ≡ v → (if v then Some (one_letter b_letter) else if k == 48 then Some no_word else if k == 49 then Some empty_word else None) ≡ Some e
         → SpellsExpression atom_rank (k ∷ []) e
-    second true same made = is 98 (one_letter letter_b) same by_b made
+    second true same made = is 98 (one_letter b_letter) same by_b made
     second false same made = third (k == 48) refl made
 
     first : (v : Bool) → (k == 97) ≡ v
-        → (if v then Some (one_letter letter_a) else if k == 98 then Some (one_letter letter_b) else if k == 48 then Some no_word else if k == 49 then Some empty_word else None) ≡ Some e
+        → (if v then Some (one_letter a_letter) else if k == 98 then Some (one_letter b_letter) else if k == 48 then Some no_word else if k == 49 then Some empty_word else None) ≡ Some e
         → SpellsExpression atom_rank (k ∷ []) e
-    first true same made = is 97 (one_letter letter_a) same by_a made
+    first true same made = is 97 (one_letter a_letter) same by_a made
     first false same made = second (k == 98) refl made
 
 mark_in : (k : ℕ) (st st' : Frames) (bs : List ℕ) → InState st bs → on_mark k st ≡ Some st' → InState st' (bs ++ k ∷ [])

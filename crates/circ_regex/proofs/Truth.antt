@@ -10,7 +10,7 @@ use Rattle.circ_theory.specs.declared.parts.Goal.{Goal}
 use Rattle.circ_theory.specs.Signature.{Operator, IsWellSorted, IsSubstitution}
 use Rattle.circ_theory.specs.Operators.{has_mark}
 use Rattle.circ_theory.specs.Theory.{goal_of, IsEquation, listed, associative, commutative, idempotent}
-use Rattle.circ_regex.specs.Matches.{Letter, letter_a, letter_b}
+use Rattle.circ_regex.specs.Matches.{Letter, a_letter, b_letter}
 use Rattle.circ_regex.specs.Languages.{Language, quotient, concatenated}
 use Rattle.circ_regex.specs.Lang.{LangOp, op_zero, op_one, op_or, op_and, op_acc, op_da, op_db, op_empty, op_eps, op_a, op_b, op_star, op_product, op_sum, op_when}
 use Rattle.circ_regex.specs.Lang.{lang_ops, lang_operator, bit_sort, lang_sort, LANG, bit_equations, unit_equations, acc_equations, da_equations, db_equations, lang_equations}
@@ -118,8 +118,8 @@ das_are_true =
     ▹ (λ σ h. refl)
     ▹ (λ σ h. refl)
     ▹ (λ σ h. refl)
-    ▹ (λ σ h. same_words _ _ (λ w. product_behind letter_a (language_of (σ 0 lang_sort)) (language_of (σ 1 lang_sort)) w))
-    ▹ (λ σ h. same_words _ _ (λ w. iterated-concatenated (language_of (σ 0 lang_sort)) (quotient letter_a (language_of (σ 0 lang_sort))) w))
+    ▹ (λ σ h. same_words _ _ (λ w. product_behind a_letter (language_of (σ 0 lang_sort)) (language_of (σ 1 lang_sort)) w))
+    ▹ (λ σ h. same_words _ _ (λ w. iterated-concatenated (language_of (σ 0 lang_sort)) (quotient a_letter (language_of (σ 0 lang_sort))) w))
     ▹ (λ σ h. refl)
     ▹ tt
 
@@ -130,8 +130,8 @@ dbs_are_true =
     ▹ (λ σ h. refl)
     ▹ (λ σ h. refl)
     ▹ (λ σ h. refl)
-    ▹ (λ σ h. same_words _ _ (λ w. product_behind letter_b (language_of (σ 0 lang_sort)) (language_of (σ 1 lang_sort)) w))
-    ▹ (λ σ h. same_words _ _ (λ w. iterated-concatenated (language_of (σ 0 lang_sort)) (quotient letter_b (language_of (σ 0 lang_sort))) w))
+    ▹ (λ σ h. same_words _ _ (λ w. product_behind b_letter (language_of (σ 0 lang_sort)) (language_of (σ 1 lang_sort)) w))
+    ▹ (λ σ h. same_words _ _ (λ w. iterated-concatenated (language_of (σ 0 lang_sort)) (quotient b_letter (language_of (σ 0 lang_sort))) w))
     ▹ (λ σ h. refl)
     ▹ tt
 

@@ -4,7 +4,7 @@ use Rattle.std.specs.Option.{option_and_then}
 use Rattle.circ_regex.specs.declared.regex.Regex.{Regex}
 use Rattle.circ_regex.specs.declared.reader.Open.{Open}
 use Rattle.circ_regex.specs.declared.reader.Reader.{Reader}
-use Rattle.circ_regex.specs.Matches.{letter_a, letter_b, Expression, no_word, empty_word, one_letter, either, in_turn, any_number, plain_regex}
+use Rattle.circ_regex.specs.Matches.{a_letter, b_letter, Expression, no_word, empty_word, one_letter, either_of, in_turn, any_number, plain_regex}
 
 -- the products before a plus, and the factors of the product that is being read, the latest first
 pub record Frame : Type 0 where
@@ -40,7 +40,7 @@ with_factor e st = frames_with (frame_with st.now.products (e ∷ st.now.factors
 -- the sum of a frame
 abbrev pub frame_sum : (products factors : List Expression) → Option Expression
 frame_sum ps [] = None
-frame_sum ps (f ∷ fs) = Some (nested either (nested in_turn f fs) ps)
+frame_sum ps (f ∷ fs) = Some (nested either_of (nested in_turn f fs) ps)
 
 -- what the bytes * + ( ) do
 abbrev pub on_star : (products factors : List Expression) → List Frame → Option Frames
@@ -72,8 +72,8 @@ on_mark k st =
 -- the expression that the byte is by itself: a b 0 1
 abbrev pub atom_of : ℕ → Option Expression
 atom_of k =
-    if k == 97 then Some (one_letter letter_a)
-    else if k == 98 then Some (one_letter letter_b)
+    if k == 97 then Some (one_letter a_letter)
+    else if k == 98 then Some (one_letter b_letter)
     else if k == 48 then Some no_word
     else if k == 49 then Some empty_word
     else None

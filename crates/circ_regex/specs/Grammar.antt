@@ -3,7 +3,7 @@ use Rattle.std.specs.Prelude.{◌≡◌, ℕ, ◌<◌, ◌≤◌, zero, suc, Lis
 use Rattle.circ_regex.specs.declared.regex.Regex.{Regex}
 use Rattle.circ_regex.specs.declared.fault.RegexFault.{RegexFault}
 use Rattle.circ_regex.specs.declared.fault.RegexFault.TheVariants.{Limit, Shape, Memory}
-use Rattle.circ_regex.specs.Matches.{letter_a, letter_b, Expression, no_word, empty_word, one_letter, either, in_turn, any_number, plain_regex}
+use Rattle.circ_regex.specs.Matches.{a_letter, b_letter, Expression, no_word, empty_word, one_letter, either_of, in_turn, any_number, plain_regex}
 
 -- the most bytes of an expression
 abbrev pub byte_limit : ℕ
@@ -26,13 +26,13 @@ starred (suc n) e = starred n (any_number e)
 pub data SpellsExpression : Rank → List ℕ → Expression → Type 0 where
   one_product : {s : List ℕ} {e : Expression} → SpellsExpression product_rank s e → SpellsExpression sum_rank s e
   more_products : {s t : List ℕ} {e f : Expression} → SpellsExpression product_rank s e → SpellsExpression sum_rank t f
-      → SpellsExpression sum_rank (s ++ 43 ∷ t) (either e f)
+      → SpellsExpression sum_rank (s ++ 43 ∷ t) (either_of e f)
   one_factor : {s : List ℕ} {e : Expression} → SpellsExpression factor_rank s e → SpellsExpression product_rank s e
   more_factors : {s t : List ℕ} {e f : Expression} → SpellsExpression factor_rank s e → SpellsExpression product_rank t f
       → SpellsExpression product_rank (s ++ t) (in_turn e f)
   with_stars : {s : List ℕ} {e : Expression} (n : ℕ) → SpellsExpression atom_rank s e → SpellsExpression factor_rank (s ++ replicate n 42) (starred n e)
-  by_a : SpellsExpression atom_rank (97 ∷ []) (one_letter letter_a)
-  by_b : SpellsExpression atom_rank (98 ∷ []) (one_letter letter_b)
+  by_a : SpellsExpression atom_rank (97 ∷ []) (one_letter a_letter)
+  by_b : SpellsExpression atom_rank (98 ∷ []) (one_letter b_letter)
   by_zero : SpellsExpression atom_rank (48 ∷ []) no_word
   by_one : SpellsExpression atom_rank (49 ∷ []) empty_word
   grouped : {s : List ℕ} {e : Expression} → SpellsExpression sum_rank s e → SpellsExpression atom_rank (40 ∷ s ++ 41 ∷ []) e

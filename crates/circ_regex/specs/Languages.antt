@@ -1,6 +1,6 @@
 -- Languages as tests on words, and what the operators of LANG make of them.
 use Rattle.std.specs.Prelude.{List, [], ◌∷◌, Bool, true, false, ◌&&◌, ◌||◌}
-use Rattle.circ_regex.specs.Matches.{Letter, letter_a, letter_b}
+use Rattle.circ_regex.specs.Matches.{Letter, a_letter, b_letter}
 
 abbrev pub Language : Type 0
 Language = List Letter → Bool
@@ -13,10 +13,10 @@ empty_word_only [] = true
 empty_word_only (x ∷ w) = false
 
 abbrev pub is_same_letter : Letter → Letter → Bool
-is_same_letter letter_a letter_a = true
-is_same_letter letter_a letter_b = false
-is_same_letter letter_b letter_a = false
-is_same_letter letter_b letter_b = true
+is_same_letter a_letter a_letter = true
+is_same_letter a_letter b_letter = false
+is_same_letter b_letter a_letter = false
+is_same_letter b_letter b_letter = true
 
 abbrev pub letter_only : Letter → Language
 letter_only x [] = false

@@ -71,10 +71,10 @@ with_ops th [] = th
 with_ops th (o ∷ os) = with_ops (with_op th o) os
 
 -- the theory with more equations, whose sides stand one after another
-abbrev pub with_sides : Theory → List Tree → Theory
-with_sides th [] = th
-with_sides th (t ∷ []) = th
-with_sides th (t ∷ u ∷ ts) = with_sides (with_equation th (rule_with t u)) ts
+abbrev pub with_rules : Theory → List Tree → Theory
+with_rules th [] = th
+with_rules th (t ∷ []) = th
+with_rules th (t ∷ u ∷ ts) = with_rules (with_equation th (rule_with t u)) ts
 
 abbrev pub equation_sides : List Equation → List Tree
 equation_sides [] = []
@@ -93,7 +93,7 @@ with_lang_observers th =
     with_cases (with_derivative (with_derivative (with_derivative th (acc_term (lang_var 0))) (da_term (lang_var 0))) (db_term (lang_var 0))) bit_sort (0 ∷ 1 ∷ [])
 
 abbrev pub with_group : Theory → List Equation → Theory
-with_group th es = with_sides th (equation_sides es)
+with_group th es = with_rules th (equation_sides es)
 
 unfoldable pub with_lang_equations : Theory → Theory
 with_lang_equations th =

@@ -4,24 +4,24 @@ use Rattle.circ_regex.specs.declared.regex.Regex.{Regex}
 use Rattle.circ_regex.specs.declared.regex.Regex.TheVariants.{Empty, Eps, A, B, Sum', Product', Star'}
 
 pub data Letter : Type 0 where
-  letter_a : Letter
-  letter_b : Letter
+  a_letter : Letter
+  b_letter : Letter
 
 -- an expression without its pointers: 0, 1, a letter, a sum, a product, a star
 pub data Expression : Type 0 where
   no_word : Expression
   empty_word : Expression
   one_letter : Letter → Expression
-  either : Expression → Expression → Expression
+  either_of : Expression → Expression → Expression
   in_turn : Expression → Expression → Expression
   any_number : Expression → Expression
 
 abbrev pub plain_regex : Regex → Expression
 plain_regex Empty = no_word
 plain_regex Eps = empty_word
-plain_regex A = one_letter letter_a
-plain_regex B = one_letter letter_b
-plain_regex (Sum' p e q f) = either (plain_regex e) (plain_regex f)
+plain_regex A = one_letter a_letter
+plain_regex B = one_letter b_letter
+plain_regex (Sum' p e q f) = either_of (plain_regex e) (plain_regex f)
 plain_regex (Product' p e q f) = in_turn (plain_regex e) (plain_regex f)
 plain_regex (Star' p e) = any_number (plain_regex e)
 
@@ -39,6 +39,6 @@ abbrev pub Matches : Expression → List Letter → Type 0
 Matches no_word w = ⊥
 Matches empty_word w = w ≡ []
 Matches (one_letter x) w = w ≡ x ∷ []
-Matches (either e f) w = Matches e w ⊎ Matches f w
+Matches (either_of e f) w = Matches e w ⊎ Matches f w
 Matches (in_turn e f) w = Cut (Matches e) (Matches f) w
 Matches (any_number e) w = Repeats (Matches e) w

@@ -4,7 +4,7 @@ ghost use Rattle.circ_term.specs.Tree.{Tree};
 ghost use Rattle.circ_theory.specs.Adding.{with_op, with_equation};
 ghost use Rattle.circ_theory.specs.Observing.{with_derivative};
 ghost use Rattle.circ_regex.specs.Lang.{LANG, on_term, lang_var, rule_with};
-ghost use Rattle.circ_regex.specs.Making.{row_operator, coded_terms, with_ops, with_sides};
+ghost use Rattle.circ_regex.specs.Making.{row_operator, coded_terms, with_ops, with_rules};
 ghost use Rattle.circ_regex.specs.Making.{with_lang_sorts, with_lang_ops, with_lang_observers};
 ghost use Rattle.circ_regex.specs.Making.{with_lang_equations, with_lang_parts};
 
@@ -305,7 +305,7 @@ fn add_equations(
     text: &[u8],
 ) -> Result<(), TheoryFault>
     ensures { OnOk result ((ts : List Tree) → coded_terms rows.now text.now ≡ Some ts →
-        theory.new ≡ with_sides theory.old ts) }
+        theory.new ≡ with_rules theory.old ts) }
 {
     let mut sides = terms(alloc, rows, text)?;
     while let Some(left) = sides.pop() {

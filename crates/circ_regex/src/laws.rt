@@ -1,5 +1,6 @@
 //! What is proved of LANG and of expressions. The functions do nothing: a law is a contract.
 ghost use Rattle.std.specs.Prelude.{◌≡◌, ◌↔◌, ℕ, List, [], ◌∷◌, true, false, ◌&&◌, ◌||◌};
+ghost use Rattle.std.specs.Prelude.{codes};
 ghost use Rattle.circ_term.specs.Tree.{Tree, sort_of};
 ghost use Rattle.circ_term.specs.Limits.{IsWithinLimits};
 ghost use Rattle.circ_term.specs.Substitution.{Substitution, instance};
@@ -8,8 +9,9 @@ ghost use Rattle.circ_theory.specs.Signature.{IsSubstitution, IsWellSorted};
 ghost use Rattle.circ_theory.specs.Theory.{IsEquation, HasNoConditions, goal};
 ghost use Rattle.circ_theory.specs.Derivable.{Derivable};
 ghost use Rattle.circ_theory.specs.Experiment.{Behaves};
-ghost use Rattle.circ_regex.specs.Matches.{Letter, letter_a, letter_b, Expression, Matches};
-ghost use Rattle.circ_regex.specs.Matches.{Cut, Repeats};
+ghost use Rattle.circ_regex.specs.Matches.{Letter, a_letter, b_letter, Expression, Matches};
+ghost use Rattle.circ_regex.specs.Matches.{Cut, Repeats, no_word, empty_word, one_letter};
+ghost use Rattle.circ_regex.specs.Matches.{either_of, in_turn, any_number};
 ghost use Rattle.circ_regex.specs.Grammar.{IsTextOfRegex, byte_limit};
 ghost use Rattle.circ_regex.specs.Lang.{LANG, lang_sort, or_term, and_term, acc_term, da_term};
 ghost use Rattle.circ_regex.specs.Lang.{db_term, star_term, product_term, sum_term, when_term};
@@ -21,6 +23,29 @@ use crate::MOST_BYTES;
 pub fn read_in_one_way()
     ensures { (bytes : List ℕ) (e f : Expression) →
         IsTextOfRegex bytes e → IsTextOfRegex bytes f → e ≡ f }
+{}
+
+/// Examples: what some bytes spell. A sum and a product nest to the right, and a star binds tightest.
+pub fn texts_as_examples()
+    ensures sum { IsTextOfRegex (codes "a+b+1")
+        (either_of (one_letter a_letter) (either_of (one_letter b_letter) empty_word)) }
+    ensures product { IsTextOfRegex (codes "ab0")
+        (in_turn (one_letter a_letter) (in_turn (one_letter b_letter) no_word)) }
+    ensures star { IsTextOfRegex (codes "ab*") (in_turn (one_letter a_letter)
+        (any_number (one_letter b_letter))) }
+    ensures group { IsTextOfRegex (codes "(ab)*") (any_number
+        (in_turn (one_letter a_letter) (one_letter b_letter))) }
+    ensures blank { (e : Expression) → IsTextOfRegex (codes "a b") e → ⊥ }
+    ensures empty { (e : Expression) → IsTextOfRegex [] e → ⊥ }
+{}
+
+/// Examples: which words `a*` and `a*b` match.
+pub fn words_as_examples()
+    ensures star { Matches (any_number (one_letter a_letter)) (a_letter ∷ a_letter ∷ []) }
+    ensures empty { Matches (any_number (one_letter a_letter)) [] }
+    ensures product { Matches (in_turn (any_number (one_letter a_letter)) (one_letter b_letter))
+        (a_letter ∷ b_letter ∷ []) }
+    ensures other { Matches (any_number (one_letter a_letter)) (a_letter ∷ b_letter ∷ []) → ⊥ }
 {}
 
 /// The term of an expression is well-sorted in LANG.
@@ -50,9 +75,9 @@ pub fn words_by_operators()
     ensures star { (t : Tree) (w : List Letter) →
         (HasWord (star_term t) w ↔ Repeats (HasWord t) w) }
     ensures behind_a { (t : Tree) (w : List Letter) →
-        member (da_term t) w ≡ member t (letter_a ∷ w) }
+        member (da_term t) w ≡ member t (a_letter ∷ w) }
     ensures behind_b { (t : Tree) (w : List Letter) →
-        member (db_term t) w ≡ member t (letter_b ∷ w) }
+        member (db_term t) w ≡ member t (b_letter ∷ w) }
     ensures under { (x t : Tree) (w : List Letter) →
         member (when_term x t) w ≡ (value x && member t w) }
 {}

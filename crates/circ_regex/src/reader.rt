@@ -1,7 +1,7 @@
 //! Reading expressions: one pass over the bytes, with a frame for each open parenthesis.
 ghost use Rattle.std.specs.Prelude.{◌≡◌, [], Some, OnOk, IfOk};
 ghost use Rattle.std.specs.Option.{option_map};
-ghost use Rattle.circ_regex.specs.Matches.{plain_regex, either, in_turn};
+ghost use Rattle.circ_regex.specs.Matches.{plain_regex, either_of, in_turn};
 ghost use Rattle.circ_regex.specs.Grammar.{ReadsRegex};
 ghost use Rattle.circ_regex.specs.Frames.{nested, with_factor, frame_sum, on_star, on_plus};
 ghost use Rattle.circ_regex.specs.Frames.{on_open, on_close, on_mark, on_byte, atom_of};
@@ -30,7 +30,7 @@ struct Reader {
 // The sum of what stands before and of the last product. Takes all that stands before.
 fn nest_sum(alloc: Global, last: Regex, before: &mut Vec<Regex>) -> Result<Regex, AllocError>
     ensures sum { IfOk result (λ e. plain_regex e ≡
-        nested either (plain_regex last) (plain_stack before.old.items)) }
+        nested either_of (plain_regex last) (plain_stack before.old.items)) }
     ensures taken { OnOk result (before.new.items ≡ []) }
 {
     let mut whole = last;
