@@ -21,9 +21,9 @@ use Rattle.circ_join.specs.declared.stop.Stop.TheVariants as stop
 use Rattle.circ_split.specs.Answers.{case_answer, onto}
 
 -- a case that is assumed last
-pub with_case : (as : List PairOfTerms) (p : PairOfTerms) (bs : List PairOfTerms) (x : Pair) → bs ≡ as ++ p ∷ [] → plain_pair p ≡ x
-    → map plain_pair bs ≡ map plain_pair as ++ x ∷ []
-with_case as p bs x e f = ap (map plain_pair) e ∙ map_append plain_pair as (p ∷ []) ∙ ap (λ y. map plain_pair as ++ y ∷ []) f
+pub with_case : (old : List PairOfTerms) (p : PairOfTerms) (new : List PairOfTerms) (x : Pair) → new ≡ old ++ p ∷ [] → plain_pair p ≡ x
+    → map plain_pair new ≡ map plain_pair old ++ x ∷ []
+with_case old p new x e f = ap (map plain_pair) e ∙ map_append plain_pair old (p ∷ []) ∙ ap (λ y. map plain_pair old ++ y ∷ []) f
 
 -- what an `and_then` that is Ok went through
 record Through {A B E : Type 0} (r : Result A E) (f : A → Result B E) (b : B) : Type 0 where

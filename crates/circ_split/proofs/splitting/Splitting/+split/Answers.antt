@@ -2,6 +2,7 @@ use Rattle.std.proofs.Common.{◌++◌, ◌+◌, ◌-◌, ◌∷◌, [], List, O
 use Rattle.circ_proof.specs.Plain.{Split_why}
 use Rattle.circ_plain_search.specs.Joining.{and_then}
 use Rattle.circ_plain_search.specs.Search.{Sides, sides_with, reason_with, each_case, split_cases, open_cases, constants_of}
+use Rattle.circ_term.specs.Tree.{Tree}
 use Rattle.circ_theory.specs.Pairs.{plain_pair}
 use Rattle.circ_proof.specs.Plain.{plain_chain}
 use Rattle.circ_proof.proofs.Rows.{split_plain}
@@ -70,12 +71,12 @@ each_case-returns-clause-exact t c =
 
 pub one_case-returns-in-Err-clause-exact : goal.one_case-returns-in-Err-clause-exact
 one_case-returns-in-Err-clause-exact t c =
-    let a = with_case c.args.assumptions.now.items c.in_ok-case.case c.push.new.assumptions.items _ c.in_ok-push.ensures.items c.in_ok-case.ensures in
+    let a = with_case c.args.assumptions.now.items c.in_ok-case.case _ _ c.in_ok-push.ensures.items c.in_ok-case.ensures in
     rw a at c.in-Err.ensures.exact
 
 pub one_case-returns-in-Ok-clause-exact : goal.one_case-returns-in-Ok-clause-exact
 one_case-returns-in-Ok-clause-exact t c =
-    let a = with_case c.args.assumptions.now.items c.in_ok-case.case c.push.new.assumptions.items _ c.in_ok-push.ensures.items c.in_ok-case.ensures in
+    let a = with_case c.args.assumptions.now.items c.in_ok-case.case _ _ c.in_ok-push.ensures.items c.in_ok-case.ensures in
     rw a at c.in-Ok.ensures.exact
 
 pub split_with-returns-then-room-eq0-clause-exact : goal.split_with-returns-then-room-eq0-clause-exact
