@@ -4,11 +4,11 @@ ghost use Rattle.std.specs.List.{AllByRecursion};
 ghost use Rattle.circ_term.specs.Tree.{App, none};
 ghost use Rattle.circ_rewrite.specs.Due.{IsRewriteRule, AreUnconditional};
 
+use circ_form::Form;
 use circ_index::{PairIndex, RuleIndex};
 use circ_memo::Memo;
 use circ_rewrite::{RewriteFault, Rule, RuleName};
 use circ_term::{Subst, Term, TermFault};
-use circ_form::Form;
 use circ_theory::{OpDecl, Pairs, Side, Theory, TheoryFault};
 use itoa::Buffer;
 use std::alloc::{AllocError, Global};
