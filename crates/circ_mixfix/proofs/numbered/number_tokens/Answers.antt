@@ -3,7 +3,7 @@ use Rattle.circ_lexer.specs.TokenList.{tokens_in}
 use Rattle.circ_mixfix.specs.Coding.{AllBelow}
 use Rattle.circ_mixfix.proofs.TokenNumbers.{numbers_kept}
 use Rattle.circ_mixfix.proofs.WordLists.{begin_kept}
-use Rattle.circ_mixfix.proofs.numbered.number_by.Goals as goal
+use Rattle.circ_mixfix.proofs.numbered.number_tokens.Goals as goal
 
 pub grammar-requires-clause-begin : goal.grammar-requires-clause-begin
 grammar-requires-clause-begin c =
@@ -26,7 +26,6 @@ returns-clause-numbered c =
     let Q : ℕ → Type 0 = λ k. AllBelow k ns in
     let a = numbers_kept ws old _ ms left n.grows m.numbers in
     rw c.in_ok-new.ensures.ok (record {
-      texts = new;
       count = count;
       begin = begin_kept old new count g.grows (begin_kept ws old _ n.grows (begin_kept c.add_first.new.words ws _ m.grows c.in_ok-add_first.ensures.begin));
       grammar = g.grammar;
