@@ -66,7 +66,7 @@ mutual
       let b = all_seen_more qs (seen_in q vs) in
       (a.0 ++ b.0, b.1 ∙ ap (λ us. us ++ b.0) a.1 ∙ append_assoc vs a.0 b.0)
 
-list_seen_more : (qs : List Named) (vs : List NamedVariable) → (ws : List NamedVariable) × (seen_in_list qs vs ≡ vs ++ ws)
+pub list_seen_more : (qs : List Named) (vs : List NamedVariable) → (ws : List NamedVariable) × (seen_in_list qs vs ≡ vs ++ ws)
 list_seen_more [] vs = ([], sym (append-nil vs))
 list_seen_more (q ∷ qs) vs =
     let a = seen_more q vs in
@@ -94,6 +94,22 @@ pub number_stays : (q : Named) (vs more_seen : List NamedVariable) → numbered 
 number_stays q vs more_seen =
     let P : List NamedVariable → Type 0 = λ us. numbered (place_from 0 (us ++ more_seen)) q ≡ numbered (place_from 0 us) q in
     subst P (append-nil (seen_in q vs)) (numbers_stay q vs [] more_seen)
+
+list_numbers_stay : (qs : List Named) (vs rest more_seen : List NamedVariable)
+    → map (numbered (place_from 0 ((seen_in_list qs vs ++ rest) ++ more_seen))) qs ≡ map (numbered (place_from 0 (seen_in_list qs vs ++ rest))) qs
+list_numbers_stay [] vs rest more_seen = refl
+list_numbers_stay (q ∷ qs) vs rest more_seen =
+    let b = list_seen_more qs (seen_in q vs) in
+    let whole : seen_in_list qs (seen_in q vs) ++ rest ≡ seen_in q vs ++ (b.0 ++ rest) = ap (λ us. us ++ rest) b.1 ∙ append_assoc (seen_in q vs) b.0 rest in
+    let P : List NamedVariable → Type 0 = λ us. numbered (place_from 0 (us ++ more_seen)) q ≡ numbered (place_from 0 us) q in
+    let long : List ℕ → ℕ → ℕ = place_from 0 ((seen_in_list qs (seen_in q vs) ++ rest) ++ more_seen) in
+    let short : List ℕ → ℕ → ℕ = place_from 0 (seen_in_list qs (seen_in q vs) ++ rest) in
+    ap (λ t. t ∷ map (numbered long) qs) (subst P (sym whole) (numbers_stay q vs (b.0 ++ rest) more_seen)) ∙ ap (λ ts. numbered short q ∷ ts) (list_numbers_stay qs (seen_in q vs) rest more_seen)
+
+pub list_stays : (qs : List Named) (vs more_seen : List NamedVariable) → map (numbered (place_from 0 (seen_in_list qs vs ++ more_seen))) qs ≡ map (numbered (place_from 0 (seen_in_list qs vs))) qs
+list_stays qs vs more_seen =
+    let P : List NamedVariable → Type 0 = λ us. map (numbered (place_from 0 (us ++ more_seen))) qs ≡ map (numbered (place_from 0 us)) qs in
+    subst P (append-nil (seen_in_list qs vs)) (list_numbers_stay qs vs [] more_seen)
 
 -- the variables of names by their places, by their sorts
 abbrev sorts_seen : List NamedVariable → List ℕ

@@ -1,9 +1,10 @@
 -- A list of two token lists is read as a pair.
-use Rattle.std.proofs.Common.{◌≡◌, ◌≤◌, ◌<◌, ◌+◌, ◌-◌, ◌++◌, ℕ, zero, suc, List, [], ◌∷◌, map, length, drop, get_or, Bool, true, false, nat_lt, Option, Some, None, Result, Ok, Err, sym, ◌∙◌, ap, subst, refl, arith}
+use Rattle.std.proofs.Common.{◌≡◌, ◌≤◌, ◌<◌, ◌+◌, ◌-◌, ◌++◌, ℕ, zero, suc, List, [], ◌∷◌, map, length, drop, get_or, Bool, true, false, nat_lt, nat_eq, Option, Some, None, Result, Ok, Err, sym, ◌∙◌, ap, subst, refl, arith}
 use Rattle.std.specs.Prelude.{IfOk}
 use Rattle.std.specs.Option.{option_or}
 use Rattle.std.specs.List.{AllByRecursion, Contains}
-use Rattle.std.proofs.lemmas.List.{drop_more, drop-map}
+use Rattle.std.proofs.lemmas.List.{drop_more, drop-map, drop_all, length-map}
+use Rattle.std.proofs.lemmas.Bool.{eqb-true, eqb-false}
 use Rattle.circ_term.specs.Tree.{Tree}
 use Rattle.circ_lexer.specs.TokenList.{TokenList, tokens_of, tokens_in, IsWithin}
 use Rattle.circ_lexer.specs.declared.tokens.Span.{Span}
@@ -17,7 +18,10 @@ use Rattle.circ_mixfix.specs.Found.{sides_of_pairs, AreTwosSorted, AreTwosInOrde
 use Rattle.circ_mixfix.specs.declared.few.Reading.{Reading}
 use Rattle.circ_mixfix.specs.declared.parse.ParseFault.{ParseFault}
 use Rattle.circ_mixfix.specs.declared.parse.ParseFault.TheVariants.{TooLong, NoParse, Ambiguous, Memory}
+use Rattle.circ_mixfix.specs.Choices.{HaveChosen, ReadsOn}
+use Rattle.circ_mixfix.specs.declared.choices.Choices.{Choices}
 use Rattle.circ_mixfix.proofs.TokenNumbers.{range_length}
+use Rattle.circ_mixfix.proofs.Twos.{odd}
 
 -- the same answer by another name
 pub gives_through : (r : Result Reading ParseFault) (a b : Option ℕ) (P Q : List Tree → Type 0) → a ≡ b → ((ts : List Tree) → P ts → Q ts) → ((ts : List Tree) → Q ts → P ts)
@@ -76,6 +80,35 @@ module _ (ts : TokenList) where
   -- how many tokens a span has is counted from its ends
   pub count_is : (s : Span) (o : Option ℕ) → IsWithin ts s → o ≡ too_many (s.to - s.from) → long_count (tokens_in ts s) ≡ o
   count_is s o w e = ap too_many (range_length (tokens_of ts) s.from s.to w.within) ∙ sym e
+
+-- the lists of the next two spans
+lists_two : (ts : TokenList) (spans : List Span) (i : ℕ) (d : Span) → i + 2 ≤ length spans
+    → drop i (lists_in ts spans) ≡ tokens_in ts (get_or spans i d) ∷ tokens_in ts (get_or spans (i + 1) d) ∷ drop (i + 2) (lists_in ts spans)
+lists_two ts spans i d l =
+    let e : i + 1 + 1 ≡ i + 2 = omega arith in
+    lists_more ts spans i d (omega arith)
+    ∙ ap (λ z. tokens_in ts (get_or spans i d) ∷ z) (lists_more ts spans (i + 1) d (omega arith) ∙ ap (λ n. tokens_in ts (get_or spans (i + 1) d) ∷ drop n (lists_in ts spans)) e)
+
+pub chosen_two : (sig : Signature) (vars : List Declared) (ts : TokenList) (spans : List Span) (i : ℕ) (d : Span) (c : Choices) → i + 2 ≤ length spans
+    → HaveChosen sig vars (lists_in ts spans) (drop i (lists_in ts spans)) c
+    → HaveChosen sig vars (lists_in ts spans) (tokens_in ts (get_or spans i d) ∷ tokens_in ts (get_or spans (i + 1) d) ∷ drop (i + 2) (lists_in ts spans)) c
+chosen_two sig vars ts spans i d c l h = subst (λ z. HaveChosen sig vars (lists_in ts spans) z c) (lists_two ts spans i d l) h
+
+-- where fewer than two spans are left
+pub read_up : (sig : Signature) (vars : List Declared) (ts : TokenList) (spans : List Span) (i : ℕ) (d : Span) (c : Choices) → i ≤ length spans → length spans < i + 2
+    → HaveChosen sig vars (lists_in ts spans) (drop i (lists_in ts spans)) c → ReadsOn sig vars (lists_in ts spans) [] c (nat_eq i (length spans))
+read_up sig vars ts spans i d c l m h = go (nat_eq i (length spans)) refl
+  where
+    go : (b : Bool) → nat_eq i (length spans) ≡ b → ReadsOn sig vars (map (tokens_in ts) spans) [] c b
+    go true e =
+        let n = length-map spans (tokens_in ts) in
+        let q = eqb-true i (length spans) e in
+        subst (λ z. HaveChosen sig vars (map (tokens_in ts) spans) z c) (drop_all i (map (tokens_in ts) spans) (omega arith)) h
+    go false e =
+        let n = length-map spans (tokens_in ts) in
+        let q = eqb-false i (length spans) e in
+        let last = lists_more ts spans i d (omega arith) ∙ ap (λ z. tokens_in ts (get_or spans i d) ∷ z) (drop_all (i + 1) (map (tokens_in ts) spans) (omega arith)) in
+        odd sig vars (map (tokens_in ts) spans) (tokens_in ts (get_or spans i d)) c (subst (λ z. HaveChosen sig vars (map (tokens_in ts) spans) z c) last h)
 
 pub long_pair : (left right : List (List ℕ)) → first_long (left ∷ right ∷ []) ≡ option_or (long_count left) (long_count right)
 long_pair left right = ap (option_or (long_count left)) (go (long_count right))

@@ -1,5 +1,7 @@
 -- Pairs of token lists, read one after another.
 use Rattle.std.proofs.Common.{◌≡◌, ◌≢◌, ◌⊎◌, ◌+◌, ◌++◌, ℕ, zero, suc, List, [], ◌∷◌, map, length, Bool, true, false, ◌||◌, inl, inr, sym, ◌∙◌, ap, subst, refl, arith, append_assoc, append-nil}
+use Rattle.std.specs.Prelude.{Result, Ok, Err, IfOk}
+use Rattle.std.specs.declared.alloc.AllocError.{AllocError}
 use Rattle.std.proofs.lemmas.List.{length-append}
 use Rattle.circ_term.specs.Tree.{Tree, trees_of}
 use Rattle.circ_chart.specs.Few.{Enough, Differ, Or}
@@ -14,7 +16,7 @@ use Rattle.circ_mixfix.specs.Symbols.{every}
 use Rattle.circ_mixfix.specs.Readings.{SpellBoth, SpellTwos, numbered_list, ReadsTwos}
 use Rattle.circ_mixfix.specs.Coding.{named_by}
 use Rattle.circ_mixfix.specs.Found.{In, Image, KeepsReadings, AreTwosInOrder, sides_of_pairs}
-use Rattle.circ_mixfix.specs.Choices.{names_of, IsChoice, HaveNothing, first_in, last_in, is_two, is_some, AddsFound, IsAdded, KeepsSpelled, HaveChosen, ReadsOn}
+use Rattle.circ_mixfix.specs.Choices.{names_of, IsChoice, HaveNothing, first_in, last_in, is_two, is_some, AddsFound, IsAdded, KeepsSpelled, OneOf, HaveChosen, ReadsOn}
 use Rattle.circ_mixfix.specs.declared.few.Few.{Few}
 use Rattle.circ_mixfix.specs.declared.few.Few.TheVariants.{Empty, One, Two}
 use Rattle.circ_mixfix.specs.declared.few.Reading.{Reading}
@@ -96,10 +98,10 @@ module _ (sig : Signature) (vars : List Declared) where
   }
 
   module _ (l r : List (List ℕ)) (all rest : Lists) (ws : List (List ℕ)) (old new : Choices) where
-    Two_spelled : List Named → Type 0
+    abbrev Two_spelled : List Named → Type 0
     Two_spelled = SpellTwos sig vars (l ∷ r ∷ [])
 
-    names : List Tree → List Named
+    abbrev names : List Tree → List Named
     names = map (named_by ws)
 
     onward : (first fs : List Named) → Two_spelled fs → ((qs : List Named) → SpellTwos sig vars (l ∷ r ∷ rest) qs → SpellTwos sig vars all (first ++ qs))
@@ -193,6 +195,11 @@ module _ (sig : Signature) (vars : List Declared) where
         go (inl t) e = h.apart t (ends e).0
         go (inr t) e = w.differ t (ends e).1
 
+    pub added_if : (found : Few) (o : Result Bool AllocError) → KeepsSpelled sig vars l r ws found → IfOk o (IsAdded ws found old new) → HaveChosen sig vars all (l ∷ r ∷ rest) old
+        → IfOk o (ReadsOn sig vars all rest new)
+    added_if found (Ok b) k i h = added found b k i h
+    added_if found (Err e) k i h = tt
+
   -- an odd number of lists spells nothing
   pub odd : (all : Lists) (l : List (List ℕ)) (c : Choices) → HaveChosen sig vars all (l ∷ []) c → (ps : List Named) → SpellTwos sig vars all ps → ⊥
   odd all l c h ps t = (h.all_begin ps t).1
@@ -217,40 +224,35 @@ module _ (sig : Signature) (vars : List Declared) where
     no_more [] t = refl
     no_more (u ∷ us) t = absurd t
 
-    pub one_chosen : (a : Reading) → a.terms.items ≡ c.first.terms.items → c.differ ≡ false → KeepsReadings (One a) (ReadsTwos sig vars all)
-    one_chosen a e d = record { enough = enough_all (In (One a)) (ReadsTwos sig vars all) there back; ordered = tt }
-      where
-        there : (ts : List Tree) → ts ≡ a.terms.items → ReadsTwos sig vars all ts
-        there ts q = let P : List Tree → Type 0 = ReadsTwos sig vars all in subst P (sym (q ∙ e)) first_read
+    abbrev Either : List Tree → Type 0
+    Either = OneOf c.first.terms.items c.second.terms.items c.differ
 
-        back : (ts : List Tree) → ReadsTwos sig vars all ts → ts ≡ a.terms.items
-        back ts t =
-            let u = h.all_begin t.spelled t.spells in
-            t.are ∙ ap numbered_list (u.2 d ∙ ap (λ z. h.first ++ z) (no_more u.0 u.1) ∙ append-nil h.first) ∙ sym (read_choice c.first h.first h.is_first) ∙ sym e
+    abbrev Reads : List Tree → Type 0
+    Reads = ReadsTwos sig vars all
 
-    pub two_chosen : (found : Few) (a b : Reading) → a.terms.items ≡ c.first.terms.items → b.terms.items ≡ c.second.terms.items → c.differ ≡ true
-        → KeepsReadings found (Or (In (One a)) (λ ts. ts ≡ b.terms.items)) → KeepsReadings found (ReadsTwos sig vars all)
-    two_chosen found a b e f d k = record { enough = enough_chain (In found) Either (ReadsTwos sig vars all) k.enough (record { sound = there; enough = λ ts t. inr differ }); ordered = k.ordered }
-      where
-        Either : List Tree → Type 0
-        Either = Or (In (One a)) (λ ts. ts ≡ b.terms.items)
+    there : (ts : List Tree) → Either ts → Reads ts
+    there ts (inl q) = subst Reads (sym q) first_read
+    there ts (inr q) = subst Reads (sym q.1) second_read
 
-        P : List Tree → Type 0
-        P = ReadsTwos sig vars all
+    differ : c.differ ≡ true → Differ Either
+    differ d = record {
+      first = c.first.terms.items;
+      second = c.second.terms.items;
+      in_first = inl refl;
+      in_second = inr (d, refl);
+      apart = λ q. h.apart d (twos_apart all h.first h.second (place_from 0 (seen_in_list h.first [])) (place_from 0 (seen_in_list h.second [])) first_spells second_spells
+          (sym (read_choice c.first h.first h.is_first) ∙ q ∙ read_choice c.second h.second h.is_second));
+    }
 
-        there : (ts : List Tree) → Either ts → ReadsTwos sig vars all ts
-        there ts (inl q) = subst P (sym (q ∙ e)) first_read
-        there ts (inr q) = subst P (sym (q ∙ f)) second_read
+    enough : (ts : List Tree) → Reads ts → (b : Bool) → c.differ ≡ b → Either ts ⊎ Differ Either
+    enough ts t true d = inr (differ d)
+    enough ts t false d =
+        let u = h.all_begin t.spelled t.spells in
+        inl (inl (t.are ∙ ap numbered_list (u.2 d ∙ ap (λ z. h.first ++ z) (no_more u.0 u.1) ∙ append-nil h.first) ∙ sym (read_choice c.first h.first h.is_first)))
 
-        differ : Differ Either
-        differ = record {
-          first = a.terms.items;
-          second = b.terms.items;
-          in_first = inl refl;
-          in_second = inr refl;
-          apart = λ q. h.apart d (twos_apart all h.first h.second (place_from 0 (seen_in_list h.first [])) (place_from 0 (seen_in_list h.second [])) first_spells second_spells
-              (sym (read_choice c.first h.first h.is_first) ∙ sym e ∙ q ∙ f ∙ read_choice c.second h.second h.is_second));
-        }
+    -- the choices for all lists are enough
+    pub all_chosen : (found : Few) → KeepsReadings found Either → KeepsReadings found Reads
+    all_chosen found k = record { enough = enough_chain (In found) Either Reads k.enough (record { sound = there; enough = λ ts t. enough ts t c.differ refl }); ordered = k.ordered }
 
   -- nothing is read
   pub none_chosen : (all : Lists) → ((ps : List Named) → SpellTwos sig vars all ps → ⊥) → KeepsReadings Empty (ReadsTwos sig vars all)

@@ -15,7 +15,7 @@ use Rattle.circ_theory.specs.Operators.{IsOperator}
 use Rattle.circ_mixfix.specs.Named.{Named, NamedList, no_terms, terms, numbered, all_numbered, place_from, seen_in, seen_in_list}
 use Rattle.circ_mixfix.specs.Symbols.{Symbol, Word, Hole, every, inner_symbols, form_symbols, more_arguments, arguments, symbols_of}
 use Rattle.circ_mixfix.specs.Spells.{IsVariable, a_declared_one, a_written_one, the_hole, Spells, SpellsSymbols, in_parentheses, a_variable, an_operator, no_symbol, a_word, a_hole}
-use Rattle.circ_mixfix.specs.Readings.{numbers_of, ReadsOne, SpellTwos, ReadsTwos}
+use Rattle.circ_mixfix.specs.Readings.{numbers_of, ReadsOne, ReadsPair, SpellTwos, ReadsTwos}
 use Rattle.circ_mixfix.specs.Answers.{HaveSorts}
 use Rattle.circ_mixfix.specs.Found.{sides_of_pairs, AreTwosSorted}
 use Rattle.circ_mixfix.proofs.SymbolWords.{no_holes, some_hole, fits, one_more}
@@ -131,3 +131,12 @@ pub twos_sorted : (th : Theory) (vars : List Declared) (lists : List (List (List
 twos_sorted th vars lists ts f h r =
     let s = sorted_twos th vars f h (place_from 0 (seen_in_list r.spelled [])) lists r.spelled r.spells in
     (s.pairs, r.are ∙ s.are, contained_all (IsWellSortedPair th.signature) s.pairs s.sorted)
+
+pub pair_sorted : (th : Theory) (vars : List Declared) (left right : List (List ℕ)) (t u : Tree) → IsWellFormed th → HaveSorts th.signature vars → ReadsPair th.signature vars left right t u
+    → IsWellSortedPair th.signature (pair_with t u)
+pair_sorted th vars left right t u f h r =
+    let ν = place_from 0 (seen_in r.second (seen_in r.first [])) in
+    let a = spelled_sorted th vars false f h ν every r.sort left r.first r.spells_first in
+    let b = spelled_sorted th vars false f h ν every r.sort right r.second r.spells_second in
+    let P : Tree → Type 0 = IsWellSorted th.signature in
+    record { left = subst P (sym r.first_is) a.1; right = subst P (sym r.second_is) b.1; same_sort = ap sort_of r.second_is ∙ b.0 ∙ sym a.0 ∙ ap sort_of (sym r.first_is) }

@@ -1,5 +1,5 @@
 -- Choices of terms for pairs of token lists.
-use Rattle.std.specs.Prelude.{◌≡◌, ◌≢◌, ℕ, List, [], ◌∷◌, ◌++◌, map, Bool, true, false, ◌||◌}
+use Rattle.std.specs.Prelude.{◌≡◌, ◌≢◌, ◌⊎◌, ℕ, List, [], ◌∷◌, ◌++◌, map, Bool, true, false, ◌||◌}
 use Rattle.circ_term.specs.Tree.{Tree}
 use Rattle.circ_chart.specs.Few.{Enough}
 use Rattle.circ_theory.specs.Signature.{Signature}
@@ -63,6 +63,10 @@ pub record AddsFound (ws : List (List ℕ)) (found : Few) (old new : Choices) : 
 abbrev pub IsAdded : (texts : List (List ℕ)) → Few → (old new : Choices) → Bool → Type 0
 IsAdded ws found old new true = (is_some found ≡ true) × AddsFound ws found old new
 IsAdded ws found old new false = is_some found ≡ false
+
+-- the terms are the one choice, or the other where they differ
+abbrev pub OneOf : (first second : List Tree) → (differ : Bool) → List Tree → Type 0
+OneOf first second differ ts = (ts ≡ first) ⊎ ((differ ≡ true) × (ts ≡ second))
 
 -- what was found of one pair is enough of the terms that the two token lists spell, and different terms of the chart have different names
 pub record KeepsSpelled (sig : Signature) (vars : List Declared) (left right ws : List (List ℕ)) (found : Few) : Type 0 where

@@ -72,6 +72,12 @@ abbrev pub sides_of_pairs : List Pair → List Tree
 sides_of_pairs [] = []
 sides_of_pairs (p ∷ ps) = p.left ∷ p.right ∷ sides_of_pairs ps
 
+-- terms in twos, as pairs; the last of an odd number is left out
+abbrev pub pairs_of : List Tree → List Pair
+pairs_of [] = []
+pairs_of (t ∷ []) = []
+pairs_of (t ∷ u ∷ ts) = pair_with t u ∷ pairs_of ts
+
 -- the terms are pairs that are well-sorted, each of one sort
 abbrev pub AreTwosSorted : Signature → List Tree → Type 0
 AreTwosSorted sig ts = (ps : List Pair) × (ts ≡ sides_of_pairs ps) × AreWellSortedPairs sig ps

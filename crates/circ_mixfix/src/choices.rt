@@ -1,10 +1,7 @@
 //! Readings of several pairs of token lists: none, one, or two of several.
-ghost use Rattle.std.specs.Prelude.{[], ℕ, List, IfOk, OnOk};
-ghost use Rattle.circ_theory.specs.Signature.{Signature};
-ghost use Rattle.circ_theory.specs.Theory.{Declared};
-ghost use Rattle.circ_mixfix.specs.Choices.{IsAdded, IsNew, HaveNothing, Extends, HaveChosen};
+ghost use Rattle.std.specs.Prelude.{IfOk, OnOk};
+ghost use Rattle.circ_mixfix.specs.Choices.{IsAdded, IsNew, HaveNothing, Extends, OneOf};
 ghost use Rattle.circ_mixfix.specs.Found.{KeepsReadings};
-ghost use Rattle.circ_mixfix.specs.Readings.{ReadsTwos};
 
 use crate::few::{Few, Reading, with_reading};
 use crate::variable_names::{VariableName, push_numbered};
@@ -91,22 +88,13 @@ pub fn add<'a>(
     }
 }
 
-// The readings, where these are the choices for all pairs.
-pub fn chosen(choices: Choices<'_>) -> Few
-    ensures { (sig : Signature) (vars : List Declared) (lists : List (List (List ℕ))) →
-        HaveChosen sig vars lists [] choices → KeepsReadings result (ReadsTwos sig vars lists) }
+// The readings that the terms of two choices are, which are one where the choices do not differ.
+pub fn chosen(first: Vec<Term>, second: Vec<Term>, differ: bool) -> Few
+    ensures { KeepsReadings result (OneOf first.items second.items differ) }
 {
-    let Choices {
-        first,
-        second,
-        differ,
-    } = choices;
-    let found = Few::One(Reading { terms: first.terms });
+    let found = Few::One(Reading { terms: first });
     if !differ {
         return found;
     }
-    let other = Reading {
-        terms: second.terms,
-    };
-    with_reading(found, other)
+    with_reading(found, Reading { terms: second })
 }

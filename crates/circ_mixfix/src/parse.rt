@@ -184,7 +184,12 @@ fn read_list(
 {
     let mut choices = no_choices(alloc);
     if read_pairs(alloc, &mut choices, scope, tokens, spans)? {
-        Ok(chosen(choices))
+        let Choices {
+            first,
+            second,
+            differ,
+        } = choices;
+        Ok(chosen(first.terms, second.terms, differ))
     } else {
         Ok(Few::Empty)
     }

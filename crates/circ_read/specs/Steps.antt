@@ -1,5 +1,5 @@
 -- What the steps of the reader answer.
-use Rattle.std.specs.Prelude.{◌≡◌, ◌<◌, ◌≤◌, ◌+◌, ℕ, List, ◌∷◌, ◌++◌, Bool, true, false, drop, length, codes, nat_eq, Option, Some, None, Result, Ok, Err}
+use Rattle.std.specs.Prelude.{◌≡◌, ◌<◌, ◌≤◌, ◌+◌, ℕ, List, [], ◌∷◌, ◌++◌, Bool, true, false, drop, length, codes, nat_eq, Option, Some, None, Result, Ok, Err}
 use Rattle.std.specs.List.{slice_range, slice_get}
 use Rattle.std.specs.Option.{option_map_or}
 use Rattle.std.specs.Cmp.Lexicographic.{pointwise}
@@ -18,7 +18,9 @@ use Rattle.circ_theory.specs.Theory.{Theory}
 use Rattle.circ_statement.specs.declared.statements.Statement.{Statement}
 use Rattle.circ_statement.specs.Words.{is_name}
 use Rattle.circ_statement.specs.Statement.{IsStatement, IsLeftOut}
-use Rattle.circ_statement.specs.Said.{Said, said_of, LiesWithin, equation, derivative}
+use Rattle.circ_statement.specs.Said.{Said, SaidSides, said_of, LiesWithin, equation, derivative}
+use Rattle.circ_statement.specs.declared.statements.Sides.{Sides}
+use Rattle.circ_lexer.specs.declared.tokens.Span.{Span}
 use Rattle.circ_read.specs.declared.cause.ReadFault.{ReadFault}
 use Rattle.circ_read.specs.declared.cause.ReadFault.TheVariants as at
 use Rattle.circ_read.specs.Outcomes.{ComesTo}
@@ -104,8 +106,13 @@ FindsAll (Err (Because c)) o = o ≡ Err c
 FindsAll (Err Memory) o = Unit {0}
 
 -- what adding an equation comes to, and a derivative
-abbrev pub GivesEquation : Theory → (left right : List (List ℕ)) → (exec : Bool) → Result Theory Cause → Type 0
-GivesEquation th left right exec r = ComesTo th (equation left right exec) r
+abbrev pub GivesEquation : Theory → (left right : List (List ℕ)) → List SaidSides → (exec : Bool) → Result Theory Cause → Type 0
+GivesEquation th left right conds exec r = ComesTo th (equation left right conds exec) r
+
+-- the spans of conditions' sides, in order
+abbrev pub condition_spans : List Sides → List Span
+condition_spans [] = []
+condition_spans (s ∷ conds) = s.left ∷ s.right ∷ condition_spans conds
 
 abbrev pub GivesDerivative : Theory → List (List ℕ) → Result Theory Cause → Type 0
 GivesDerivative th term r = ComesTo th (derivative term) r

@@ -62,9 +62,12 @@ pub(crate) fn add_statement(
             add_operators(alloc, theory, tokens, forms, args, result, marks)
         }
         Statement::Variables { names, sort } => add_variables(theory, tokens, names, sort),
-        Statement::Equation { left, right, exec } => {
-            add_equation(alloc, theory, tokens, left, right, exec)
-        }
+        Statement::Equation {
+            left,
+            right,
+            conds,
+            exec,
+        } => add_equation(alloc, theory, tokens, left, right, &conds, exec),
         Statement::Derivative { term } => add_derivative(alloc, theory, tokens, term),
         Statement::Cases { sort, names } => add_cases(alloc, theory, tokens, sort, names),
     }
