@@ -1,18 +1,18 @@
 -- Names as the code keeps them.
-use Rattle.std.proofs.Common.{◌≡◌, ◌+◌, ◌++◌, ℕ, suc, List, [], ◌∷◌, map, drop, length, get_or, Bool, true, false, ◌==◌, ◌&&◌, nat_eq, cond, Result, Ok, Err, OnOk, sym, ◌∙◌, ap, subst, refl, arith, append_assoc, append-nil}
+use Rattle.std.proofs.Common.{◌≡◌, ◌+◌, ◌++◌, ℕ, List, [], ◌∷◌, map, Bool, true, false, ◌==◌, ◌&&◌, nat_eq, cond, Result, Ok, Err, OnOk, sym, ◌∙◌, ap, subst, refl, arith, append_assoc}
 use Rattle.std.specs.Prelude.{if◌then◌else◌}
 use Rattle.std.specs.List.{list_any, position_or_len}
 use Rattle.std.specs.Cmp.Lexicographic.{pointwise}
-use Rattle.std.proofs.lemmas.List.{map-append, drop_more}
+use Rattle.std.proofs.lemmas.List.{map-append}
 use Rattle.std.proofs.lemmas.List.Recursion.{is_position_or_len}
 use Rattle.std.specs.declared.alloc.AllocError.{AllocError}
 use Rattle.indexmap.specs.IndexSet.{insert_key}
-use Rattle.circ_term.specs.Tree.{Tree, Trees, more, trees_of}
+use Rattle.circ_term.specs.Tree.{Tree, more, trees_of}
 use Rattle.circ_theory.proofs.Lists.{list_any-map}
-use Rattle.circ_mixfix.specs.Named.{Named, Variable, NamedVariable, is_named, numbered, all_numbered, seen_in, seen_in_all, seen_in_list, place_from}
+use Rattle.circ_mixfix.specs.Named.{Named, NamedVariable, is_named, numbered, all_numbered, seen_in, seen_in_all, seen_in_list, place_from}
 use Rattle.circ_mixfix.specs.Coding.{named_by, all_named_by}
 use Rattle.circ_mixfix.specs.NamesSeen.{named_of, numbered_by}
-use Rattle.circ_mixfix.specs.Choices.{names_of, IsChoice, Extends}
+use Rattle.circ_mixfix.specs.Choices.{names_of, Extends}
 use Rattle.circ_mixfix.specs.declared.choices.Choice.{Choice}
 use Rattle.circ_mixfix.specs.declared.variable_names.VariableName.{VariableName}
 use Rattle.circ_mixfix.proofs.Naming.{seen_name, seen_more, number_stays, list_seen_more, list_stays}

@@ -1,5 +1,5 @@
 -- A list of two token lists is read as a pair.
-use Rattle.std.proofs.Common.{◌≡◌, ◌≤◌, ◌<◌, ◌+◌, ◌-◌, ◌++◌, ℕ, zero, suc, List, [], ◌∷◌, map, length, drop, get_or, Bool, true, false, nat_lt, nat_eq, Option, Some, None, Result, Ok, Err, sym, ◌∙◌, ap, subst, refl, arith}
+use Rattle.std.proofs.Common.{◌≡◌, ◌≤◌, ◌<◌, ◌+◌, ◌-◌, ℕ, zero, suc, List, [], ◌∷◌, map, length, drop, get_or, Bool, true, false, nat_lt, nat_eq, Option, Some, None, Result, Ok, Err, sym, ◌∙◌, ap, subst, refl, arith}
 use Rattle.std.specs.Prelude.{IfOk}
 use Rattle.std.specs.Option.{option_or}
 use Rattle.std.specs.List.{AllByRecursion, Contains}
@@ -9,12 +9,12 @@ use Rattle.circ_term.specs.Tree.{Tree}
 use Rattle.circ_lexer.specs.TokenList.{TokenList, tokens_of, tokens_in, IsWithin}
 use Rattle.circ_lexer.specs.declared.tokens.Span.{Span}
 use Rattle.circ_theory.specs.Signature.{Signature}
-use Rattle.circ_theory.specs.Theory.{Pair, pair_with, Declared, IsWellSortedPair}
+use Rattle.circ_theory.specs.Theory.{Pair, pair_with, Declared}
 use Rattle.circ_theory.specs.Variables.{AreNumberedFrom, seen_in_pairs}
 use Rattle.circ_mixfix.specs.Named.{Named, place_from, seen_in, numbered}
-use Rattle.circ_mixfix.specs.Readings.{SpellTwos, ReadsTwos, ReadsPair, numbered_list}
+use Rattle.circ_mixfix.specs.Readings.{SpellTwos, ReadsTwos, numbered_list}
 use Rattle.circ_mixfix.specs.Answers.{too_many, long_count, first_long, lists_in, ReadsBoth, GivesReading}
-use Rattle.circ_mixfix.specs.Found.{sides_of_pairs, AreTwosSorted, AreTwosInOrder, ArePairSorted, IsPairInOrder, terms_of}
+use Rattle.circ_mixfix.specs.Found.{sides_of_pairs, AreTwosSorted, AreTwosInOrder, ArePairSorted, IsPairInOrder}
 use Rattle.circ_mixfix.specs.declared.few.Reading.{Reading}
 use Rattle.circ_mixfix.specs.declared.parse.ParseFault.{ParseFault}
 use Rattle.circ_mixfix.specs.declared.parse.ParseFault.TheVariants.{TooLong, NoParse, Ambiguous, Memory}
@@ -125,9 +125,12 @@ module _ (sig : Signature) (vars : List Declared) (left right : List (List ℕ))
       go [] h e = absurd h
       go (q ∷ []) h e = absurd h
       go (q ∷ u ∷ []) h e =
-          let ν = place_from 0 (seen_in u (seen_in q [])) in
-          (numbered ν q, numbered ν u, e,
-            record { sort = h.0.sort; first = q; second = u; spells_first = h.0.spells_left; spells_second = h.0.spells_right; first_is = refl; second_is = refl })
+          let ν = place_from 0 (seen_in u (seen_in q [])) in (
+            numbered ν q,
+            numbered ν u,
+            e,
+            record { sort = h.0.sort; first = q; second = u; spells_first = h.0.spells_left; spells_second = h.0.spells_right; first_is = refl; second_is = refl },
+          )
       go (q ∷ u ∷ v ∷ qs) h e = absurd h.1
 
   pub pair_read : (ts : List Tree) → ReadsBoth sig vars left right ts → ReadsTwos sig vars (left ∷ right ∷ []) ts

@@ -1,5 +1,5 @@
 -- What the chart keeps of the terms of a token list is enough of its readings.
-use Rattle.std.proofs.Common.{◌≡◌, ℕ, List, [], Bool, false, sym, ◌∙◌, ap, subst, refl, arith}
+use Rattle.std.proofs.Common.{ℕ, List, [], Bool, sym, subst, refl, arith}
 use Rattle.circ_term.specs.Tree.{Tree}
 use Rattle.circ_chart.specs.declared.grammar.Grammar.{Grammar}
 use Rattle.circ_chart.specs.declared.TheConstants.{EVERY}

@@ -1,10 +1,10 @@
 -- Pairs of token lists, read one after another.
-use Rattle.std.proofs.Common.{◌≡◌, ◌≢◌, ◌⊎◌, ◌+◌, ◌++◌, ℕ, zero, suc, List, [], ◌∷◌, map, length, Bool, true, false, ◌||◌, inl, inr, sym, ◌∙◌, ap, subst, refl, arith, append_assoc, append-nil}
+use Rattle.std.proofs.Common.{◌≡◌, ◌≢◌, ◌⊎◌, ◌++◌, ℕ, List, [], ◌∷◌, map, length, Bool, true, false, ◌||◌, inl, inr, sym, ◌∙◌, ap, subst, refl, arith, append_assoc, append-nil}
 use Rattle.std.specs.Prelude.{Result, Ok, Err, IfOk}
 use Rattle.std.specs.declared.alloc.AllocError.{AllocError}
 use Rattle.std.proofs.lemmas.List.{length-append}
 use Rattle.circ_term.specs.Tree.{Tree, trees_of}
-use Rattle.circ_chart.specs.Few.{Enough, Differ, Or}
+use Rattle.circ_chart.specs.Few.{Differ}
 use Rattle.circ_chart.proofs.Sets.{enough_all, enough_chain}
 use Rattle.circ_theory.specs.Signature.{Signature}
 use Rattle.circ_theory.specs.Theory.{Pair, pair_with, Declared}
@@ -13,13 +13,12 @@ use Rattle.circ_theory.specs.Variables.{AreNumberedFrom}
 use Rattle.circ_theory.proofs.Numbering.{numbered_are}
 use Rattle.circ_mixfix.specs.Named.{Named, NamedVariable, numbered, seen_in, seen_in_list, place_from}
 use Rattle.circ_mixfix.specs.Symbols.{every}
-use Rattle.circ_mixfix.specs.Readings.{SpellBoth, SpellTwos, numbered_list, ReadsTwos}
+use Rattle.circ_mixfix.specs.Readings.{SpellTwos, numbered_list, ReadsTwos}
 use Rattle.circ_mixfix.specs.Coding.{named_by}
 use Rattle.circ_mixfix.specs.Found.{In, Image, KeepsReadings, AreTwosInOrder, sides_of_pairs}
-use Rattle.circ_mixfix.specs.Choices.{names_of, IsChoice, HaveNothing, first_in, last_in, is_two, is_some, AddsFound, IsAdded, KeepsSpelled, OneOf, HaveChosen, ReadsOn}
+use Rattle.circ_mixfix.specs.Choices.{names_of, IsChoice, HaveNothing, first_in, last_in, is_two, is_some, IsAdded, KeepsSpelled, OneOf, HaveChosen, ReadsOn}
 use Rattle.circ_mixfix.specs.declared.few.Few.{Few}
 use Rattle.circ_mixfix.specs.declared.few.Few.TheVariants.{Empty, One, Two}
-use Rattle.circ_mixfix.specs.declared.few.Reading.{Reading}
 use Rattle.circ_mixfix.specs.declared.choices.Choice.{Choice}
 use Rattle.circ_mixfix.specs.declared.choices.Choices.{Choices}
 use Rattle.circ_mixfix.proofs.Names.{spellings_apart}
@@ -183,10 +182,13 @@ module _ (sig : Signature) (vars : List Declared) where
         begin : (ps : List Named) → SpellTwos sig vars all ps → (qs : List Named) × SpellTwos sig vars rest qs × (new.differ ≡ false → ps ≡ (h.first ++ fs) ++ qs)
         begin ps t =
             let u = h.all_begin ps t in
-            let x = two_cut l r rest u.0 u.1 in
-            (x.back, x.spells_back, λ d.
-              let o = or_false old.differ (is_two found) (sym i.1.differ ∙ d) in
-              u.2 o.0 ∙ ap (λ z. h.first ++ z) (x.is ∙ ap (λ z. z ++ x.back) (w.only o.1 x.front x.spells_front)) ∙ sym (append_assoc h.first fs x.back))
+            let x = two_cut l r rest u.0 u.1 in (
+              x.back,
+              x.spells_back,
+              λ d.
+                  let o = or_false old.differ (is_two found) (sym i.1.differ ∙ d) in
+                  u.2 o.0 ∙ ap (λ z. h.first ++ z) (x.is ∙ ap (λ z. z ++ x.back) (w.only o.1 x.front x.spells_front)) ∙ sym (append_assoc h.first fs x.back),
+            )
 
         ends : h.first ++ fs ≡ h.second ++ gs → (h.first ≡ h.second) × (fs ≡ gs)
         ends e = append_same h.first h.second fs gs (two_long l r fs w.spells_first ∙ sym (two_long l r gs w.spells_last)) e

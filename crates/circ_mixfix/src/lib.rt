@@ -23,8 +23,10 @@ mod words;
 
 pub use circ_chart::{EVERY, MOST_TOKENS};
 pub use few::Reading;
-pub use parse::{ParseFault, parse_list, parse_list_declared, parse_one, parse_one_declared};
-pub use parse::{parse_pair, parse_pair_declared};
+pub use parse::{
+    ParseFault, parse_list, parse_list_declared, parse_one, parse_one_declared, parse_pair,
+    parse_pair_declared,
+};
 pub use printing::{print, print_derivative, print_goal, print_pair};
 
 // The number of the hole's name, which is the empty text, among the texts of tokens.

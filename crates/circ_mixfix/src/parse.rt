@@ -21,8 +21,8 @@ use crate::numbered::number_tokens;
 use crate::variables::{Declarations, Scope};
 use crate::words::Words;
 use circ_chart::read_each_sort;
-use circ_lexer::{Span, Tokens};
 use circ_form::Text;
+use circ_lexer::{Span, Tokens};
 use circ_theory::Theory;
 use std::alloc::{AllocError, Global};
 

@@ -12,8 +12,8 @@ ghost use Rattle.circ_mixfix.specs.Printing.{printed_name, text_of_term, texts_o
 ghost use Rattle.circ_mixfix.specs.Printing.{text_of_pair, text_under, text_of_goal};
 ghost use Rattle.circ_theory.specs.Pairs.{plain_pair};
 
-use circ_term::{Kind, Term};
 use circ_form::Piece;
+use circ_term::{Kind, Term};
 use circ_theory::{Goal, OpDecl, Pair, Theory};
 use itoa::Buffer;
 use std::alloc::{AllocError, Global};

@@ -1,4 +1,4 @@
-use Rattle.std.proofs.Common.{◌≡◌, None, sym}
+use Rattle.std.proofs.Common.{sym}
 use Rattle.circ_mixfix.specs.Answers.{lists_in}
 use Rattle.circ_mixfix.specs.Found.{AreTwosSorted, AreTwosInOrder}
 use Rattle.circ_mixfix.specs.Readings.{ReadsTwos}

@@ -1,4 +1,4 @@
-use Rattle.std.proofs.Common.{◌≡◌, Bool, [], List, subst}
+use Rattle.std.proofs.Common.{Bool, [], subst}
 use Rattle.circ_mixfix.specs.Answers.{lists_in}
 use Rattle.circ_mixfix.specs.Choices.{ReadsOn}
 use Rattle.circ_mixfix.specs.Variables.{vars_in}

@@ -1,4 +1,4 @@
-use Rattle.std.proofs.Common.{◌≡◌, ◌+◌, ◌≤◌, ◌<◌, Bool, ℕ, List, drop, length, subst, arith}
+use Rattle.std.proofs.Common.{◌+◌, Bool, drop, subst, arith}
 use Rattle.circ_lexer.specs.declared.tokens.Span.{Span}
 use Rattle.circ_mixfix.specs.Answers.{lists_in}
 use Rattle.circ_mixfix.specs.Choices.{ReadsOn}

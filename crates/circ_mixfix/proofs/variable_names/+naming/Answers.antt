@@ -1,6 +1,6 @@
 use Rattle.std.proofs.Common.{◌≡◌, ◌+◌, ◌++◌, [], List, map, drop, length, IfOk, ap, sym, subst, ◌∙◌, arith, append-nil}
 use Rattle.std.proofs.lemmas.List.{length-map, drop_all}
-use Rattle.circ_term.specs.Tree.{Tree, App, args_of, list_of, trees_of}
+use Rattle.circ_term.specs.Tree.{Tree, App, args_of, trees_of}
 use Rattle.circ_term.proofs.Trees.{list_of-trees_of}
 use Rattle.circ_term.proofs.Within.{depth_at}
 use Rattle.circ_mixfix.specs.Named.{NamedVariable, numbered, seen_in_all, place_from}
@@ -32,7 +32,7 @@ numbered-returns-in_ok-push_numbered-in-Application-clause-term t c =
     let seen = map named_of c.push_numbered.new.seen.keys in
     let out = c.in_ok-push_numbered-in-Application.ensures.terms ∙ ap (λ z. z ++ numbered_by ws seen args) c.in_ok-out-in-Application.ensures.items in
     let e = ap (λ z. App c.in-Application.op c.in-Application.sort (trees_of z)) out ∙ ap (App c.in-Application.op c.in-Application.sort) (numbered_row ws seen args)
-        ∙ ap (λ u. numbered (place_from 0 seen) (named_by ws u)) c.in-Application.ensures.value in
+    ∙ ap (λ u. numbered (place_from 0 seen) (named_by ws u)) c.in-Application.ensures.value in
     subst (λ u. IfOk c.application.result (λ t. t ≡ u)) e c.application.ensures
 
 pub push_numbered-loop-term-preserved : goal.push_numbered-loop-term-preserved

@@ -1,8 +1,8 @@
-use Rattle.std.proofs.Common.{◌≡◌, map, ap, sym, ◌∙◌}
+use Rattle.std.proofs.Common.{map, ap, sym, ◌∙◌}
 use Rattle.circ_mixfix.specs.NamesSeen.{named_of}
 use Rattle.circ_mixfix.specs.Named.{place_from}
 use Rattle.circ_mixfix.specs.declared.variable_names.VariableName.{VariableName}
-use Rattle.circ_mixfix.proofs.Naming.{place_seen, seen_name, named}
+use Rattle.circ_mixfix.proofs.Naming.{place_seen}
 use Rattle.circ_mixfix.proofs.NamesKept.{inserted, place_is}
 use Rattle.circ_mixfix.proofs.variable_names.number_of.Goals as goal
 
