@@ -58,7 +58,7 @@ pub pop_handed : (th : Theory) (x : List ℕ) (handed : List Part) (f : FileRead
 pop_handed th x handed f m o s p n g =
     let new : FileReader = with_machine f m in
     let same = ap (λ n. reading_with f.lines f.rest.items n (seen_of s.wanted new.reader) (queue_of m)) n
-    ∙ ap (λ ps. reading_with f.lines f.rest.items (now_of f.reader.machine) (seen_with (terms_in f.reader.table) ps.items f.reader.counts.certificates
+    ∙ ap (λ ps. reading_with f.lines f.rest.items (now_of f.reader.machine) (seen_with f.reader.counts.version (terms_in f.reader.table) ps.items f.reader.counts.certificates
     f.reader.counts.steps s.wanted) (queue_of m)) g in
     next_handed th x handed f new o s p same refl refl
 

@@ -1,7 +1,7 @@
 -- What a line gives that passes the checks and the limits.
-use Rattle.std.specs.Prelude.{◌≡◌, ℕ, ◌+◌, ◌≤◌, ◌||◌, nat_eq, Bool, true, false, cond, List, [], ◌∷◌, ◌++◌, length, refl, Some, None, is_some}
+use Rattle.std.specs.Prelude.{◌≡◌, ℕ, ◌+◌, ◌≤◌, ◌||◌, ◌&&◌, ◌==◌, nat_lt, nat_eq, Bool, true, false, cond, List, [], ◌∷◌, ◌++◌, length, refl, Some, None, is_some}
 use Rattle.std.proofs.Common.{sym, ◌∙◌, ap, subst, arith, inr}
-use Rattle.std.proofs.lemmas.Bool.{and_parts, ltb-true, ltb-false}
+use Rattle.std.proofs.lemmas.Bool.{and_parts, eqb-true, ltb-true, ltb-false}
 use Rattle.std.proofs.lemmas.Option.{same_Some, cond_some}
 use Rattle.circ_term.specs.Tree.{Tree}
 use Rattle.circ_theory.specs.Theory.{Theory}
@@ -9,25 +9,28 @@ use Rattle.circ_theory.specs.WellFormed.{IsWellFormed}
 use Rattle.circ_theory.proofs.Lists.{all_push}
 use Rattle.circ_special.specs.declared.place.Place.{Place}
 use Rattle.circ_special.specs.Special.{place, IsPlace, IsSet}
-use Rattle.circ_proof.specs.Plain.{LinkOf, WhyOf, Same_why, Split_why, no_why}
+use Rattle.circ_proof.specs.Plain.{LinkOf, ChainOf, no_chain, more_chains, chains_in, Equation_link, Hypothesis_link, Assumption_link, Content_link, WhyOf, Same_why, Split_why, no_why}
 use Rattle.circ_proof.specs.Table.{term_limit}
-use Rattle.circ_line.specs.Line.{TableLine, Line, head_line, table_line, place_line, certificate_line, block_line, goal_line, simplify_line, reduce_line, derive_line}
-use Rattle.circ_line.specs.Line.{done_line, same_line, split_line, left_line, right_line, end_line}
+use Rattle.circ_line.specs.Line.{TableLine, Line, head_line, table_line, place_line, certificate_line, block_line, goal_line, given_line, simplify_line}
+use Rattle.circ_line.specs.Line.{reduce_line, derive_line, cases_line, done_line, same_line, split_line, if_line, left_line, right_line, end_line}
 use Rattle.circ_proof.specs.Counting.{why_count}
-use Rattle.circ_grammar.proofs.Spelled.{option_map_some}
-use Rattle.circ_grammar.specs.Machine.{OpenSplit, empty, open_split, push_why, add_left, add_right}
-use Rattle.circ_grammar.specs.Now.{Now, Begin, Tabling, Placing, Certifying, Stepping, Simplifying, Reducing, Closed, Ended, next_now, give_why_now}
+use Rattle.circ_grammar.proofs.Spelled.{option_map_some, under_test}
+use Rattle.circ_grammar.specs.Machine.{OpenSplit, empty, open_split, push_why, add_left, add_right, in_last, in_right}
+use Rattle.circ_grammar.specs.Now.{Now, Begin, Tabling, Placing, Certifying, Stepping, Simplifying, Reducing, Joining, Closed, Ended, next_now, give_why_now}
+use Rattle.circ_grammar.specs.Now.{give_chain_now}
+use Rattle.circ_grammar.specs.Grammar.{is_bare, is_no_chain}
+use Rattle.circ_line.specs.Text.{IsInRange, IsLinkInRange}
 use Rattle.circ_grammar.specs.Now.{is_step, next_head, next_place, next_same, next_split, next_left, next_right, next_end}
 use Rattle.circ_proof.specs.Certified.{due}
 use Rattle.circ_proof.specs.Proof.{step_limit}
 use Rattle.circ_proof.proofs.FewPlaces.{place_low}
-use Rattle.circ_proof_text.specs.Checks.{Seen, after, is_next, is_place, with_term, is_full, is_too_large, passes_at, limit_at}
+use Rattle.circ_proof_text.specs.Checks.{Seen, after, is_next, is_place, with_term, is_full, is_too_large, is_condition, passes_at, limit_at}
 use Rattle.circ_proof_text.proofs.Places.{place_tells, increasing_push}
 use Rattle.circ_line.specs.Plain.{plain_line}
 use Rattle.circ_line.specs.declared.line.Line.{Line as CodeLine}
 use Rattle.circ_line.specs.declared.line.Line.TheVariants as line
 use Rattle.circ_file.specs.View.{places_with, IsReady, IsFree, IsKeptAt, IsKept, now_at, now_of, MachineTakes, Moves}
-use Rattle.circ_file.specs.Counting.{certificates_with, steps_with}
+use Rattle.circ_file.specs.Counting.{certificates_with, steps_with, version_with}
 use Rattle.circ_file.specs.Lines.{IsInStep, IsOther, IsReader, seen_of, Advances, Handles}
 use Rattle.circ_file.specs.Adding.{terms_in, is_open, AddsLine}
 use Rattle.circ_file.specs.declared.table.ReadTable.{ReadTable}
@@ -40,12 +43,20 @@ use Rattle.circ_file.specs.declared.machine.Mode.TheVariants as mode
 use Rattle.circ_file.proofs.Counted.{due_more}
 
 -- The numbers of a line that passes are ready to be used.
-pub ready_then : (th : Theory) (c : Seen) (l : Line) → IsWellFormed th → passes_at th c l ≡ true → IsReady l
-ready_then th c (place_line f i) w p =
+bare_in_range : (l : LinkOf ℕ) → IsLinkInRange l → is_bare l ≡ true
+bare_in_range (Equation_link n w p ts cs) r = ap is_no_chain r.2
+bare_in_range (Hypothesis_link n w p ts cs) r = ap is_no_chain r.2
+bare_in_range (Assumption_link n w p) r = refl
+bare_in_range (Content_link f p t) r = refl
+
+pub ready_then : (th : Theory) (c : Seen) (l : Line) → IsWellFormed th → IsInRange l → passes_at th c l ≡ true → IsReady l
+ready_then th c (left_line l) w r p = bare_in_range l r
+ready_then th c (right_line l) w r p = bare_in_range l r
+ready_then th c (place_line f i) w r p =
     let q = and_parts (is_next c.places (place f i)) (is_place th (place f i)) p in
     let low = place_low th (place f i) w ((place_tells th (place f i)).0 q.1) in
     omega (arith, low.arg)
-ready_then th c _ w p = tt
+ready_then th c _ w r p = tt
 
 pub set_then : (th : Theory) (c : Seen) (l : Line) → IsSet th c.places → passes_at th c l ≡ true → IsSet th (places_with c.places l)
 set_then th c (place_line f i) s p =
@@ -67,30 +78,48 @@ pub steps_then : (th : Theory) (c : Seen) (l : Line) → c.steps ≤ step_limit 
 steps_then th c simplify_line h p = ltb-false step_limit (c.steps + 1) p
 steps_then th c reduce_line h p = ltb-false step_limit (c.steps + 1) p
 steps_then th c derive_line h p = ltb-false step_limit (c.steps + 1) p
+steps_then th c (cases_line t) h p = ltb-false step_limit (c.steps + 1) p
 steps_then th c done_line h p = ltb-false step_limit (c.steps + 1) p
 steps_then th c _ h p = h
 
-abbrev pub seen_with : List Tree → List Place → (certificates steps : ℕ) → (wanted : List ℕ) → Seen
-seen_with ts gs n m w = record { terms = ts; places = gs; certificates = n; steps = m; wanted = w }
+-- the version is 1 where a first line passes
+pub version_then : (th : Theory) (c : Seen) (l : Line) → c.version ≤ 1 → passes_at th c l ≡ true → version_with c.version l ≤ 1
+version_then th c (head_line v) h p = omega (arith, eqb-true v 1 p)
+version_then th c _ h p = h
 
-same_seen : (c : Seen) (ts : List Tree) (gs : List Place) (n m : ℕ) → ts ≡ c.terms → gs ≡ c.places → n ≡ c.certificates → m ≡ c.steps → seen_with ts gs n m c.wanted ≡ c
-same_seen c ts gs n m a b e f =
-    ap (λ x. seen_with x gs n m c.wanted) a ∙ ap (λ x. seen_with c.terms x n m c.wanted) b
-    ∙ ap (λ x. seen_with c.terms c.places x m c.wanted) e ∙ ap (λ x. seen_with c.terms c.places c.certificates x c.wanted) f
+abbrev pub seen_with : (version : ℕ) → List Tree → List Place → (certificates steps : ℕ) → (wanted : List ℕ) → Seen
+seen_with v ts gs n m w = record { version = v; terms = ts; places = gs; certificates = n; steps = m; givens = 0; ifs = 0; wanted = w }
+
+same_seen : (c : Seen) (v : ℕ) (ts : List Tree) (gs : List Place) (n m : ℕ) → c.givens ≡ 0 → c.ifs ≡ 0 → v ≡ c.version → ts ≡ c.terms → gs ≡ c.places
+    → n ≡ c.certificates → m ≡ c.steps → seen_with v ts gs n m c.wanted ≡ c
+same_seen c v ts gs n m g i z a b e f =
+    ap (λ x. seen_with x ts gs n m c.wanted) z
+    ∙ ap (λ x. seen_with c.version x gs n m c.wanted) a ∙ ap (λ x. seen_with c.version c.terms x n m c.wanted) b
+    ∙ ap (λ x. seen_with c.version c.terms c.places x m c.wanted) e ∙ ap (λ x. seen_with c.version c.terms c.places c.certificates x c.wanted) f
+    ∙ ap (λ x. record c { givens = x; ifs = 0 }) (sym g) ∙ ap (λ x. record c { ifs = x }) (sym i)
 
 -- What is kept of a line is what it gives.
-pub seen_then : (th : Theory) (c : Seen) (l : Line) (ts : List Tree) (gs : List Place) (n m : ℕ) → IsOther l → ts ≡ c.terms → gs ≡ places_with c.places l
-    → n ≡ certificates_with c.certificates l → m ≡ steps_with c.steps l → seen_with ts gs n m (after th c l).wanted ≡ after th c l
-seen_then th c (table_line l) ts gs n m o a b e f = absurd o
-seen_then th c (place_line x y) ts gs n m o a b e f = same_seen (after th c (place_line x y)) ts gs n m a b e f
-seen_then th c certificate_line ts gs n m o a b e f = same_seen (after th c certificate_line) ts gs n m a b e f
-seen_then th c simplify_line ts gs n m o a b e f = same_seen (after th c simplify_line) ts gs n m a b e f
-seen_then th c reduce_line ts gs n m o a b e f = same_seen (after th c reduce_line) ts gs n m a b e f
-seen_then th c derive_line ts gs n m o a b e f = same_seen (after th c derive_line) ts gs n m a b e f
-seen_then th c done_line ts gs n m o a b e f = same_seen (after th c done_line) ts gs n m a b e f
-seen_then th c same_line ts gs n m o a b e f = same_seen (after th c same_line) ts gs n m a b e f
-seen_then th c (split_line x y) ts gs n m o a b e f = same_seen (after th c (split_line x y)) ts gs n m a b e f
-seen_then th c _ ts gs n m o a b e f = same_seen c ts gs n m a b e f
+pub seen_then : (th : Theory) (v n m : ℕ) (us : List Tree) (hs : List Place) (w : List ℕ) (l : Line) (u : ℕ) (ts : List Tree) (gs : List Place) (k j : ℕ)
+    → IsOther l → u ≡ version_with v l → ts ≡ us → gs ≡ places_with hs l → k ≡ certificates_with n l → j ≡ steps_with m l
+    → seen_with u ts gs k j (after th (seen_with v us hs n m w) l).wanted ≡ after th (seen_with v us hs n m w) l
+seen_then th v n m us hs w (table_line l) u ts gs k j o z a b e f = absurd o
+seen_then th v n m us hs w (goal_line x y) u ts gs k j o z a b e f = absurd o
+seen_then th v n m us hs w (given_line x y) u ts gs k j o z a b e f = absurd o
+seen_then th v n m us hs w (cases_line x) u ts gs k j o z a b e f = absurd o
+seen_then th v n m us hs w if_line u ts gs k j o z a b e f = absurd o
+seen_then th v n m us hs w (head_line x) u ts gs k j o z a b e f = same_seen (after th (seen_with v us hs n m w) (head_line x)) u ts gs k j refl refl z a b e f
+seen_then th v n m us hs w (place_line x y) u ts gs k j o z a b e f = same_seen (after th (seen_with v us hs n m w) (place_line x y)) u ts gs k j refl refl z a b e f
+seen_then th v n m us hs w certificate_line u ts gs k j o z a b e f = same_seen (after th (seen_with v us hs n m w) certificate_line) u ts gs k j refl refl z a b e f
+seen_then th v n m us hs w block_line u ts gs k j o z a b e f = same_seen (after th (seen_with v us hs n m w) block_line) u ts gs k j refl refl z a b e f
+seen_then th v n m us hs w simplify_line u ts gs k j o z a b e f = same_seen (after th (seen_with v us hs n m w) simplify_line) u ts gs k j refl refl z a b e f
+seen_then th v n m us hs w reduce_line u ts gs k j o z a b e f = same_seen (after th (seen_with v us hs n m w) reduce_line) u ts gs k j refl refl z a b e f
+seen_then th v n m us hs w derive_line u ts gs k j o z a b e f = same_seen (after th (seen_with v us hs n m w) derive_line) u ts gs k j refl refl z a b e f
+seen_then th v n m us hs w done_line u ts gs k j o z a b e f = same_seen (after th (seen_with v us hs n m w) done_line) u ts gs k j refl refl z a b e f
+seen_then th v n m us hs w same_line u ts gs k j o z a b e f = same_seen (after th (seen_with v us hs n m w) same_line) u ts gs k j refl refl z a b e f
+seen_then th v n m us hs w (split_line x y) u ts gs k j o z a b e f = same_seen (after th (seen_with v us hs n m w) (split_line x y)) u ts gs k j refl refl z a b e f
+seen_then th v n m us hs w (left_line x) u ts gs k j o z a b e f = same_seen (after th (seen_with v us hs n m w) (left_line x)) u ts gs k j refl refl z a b e f
+seen_then th v n m us hs w (right_line x) u ts gs k j o z a b e f = same_seen (after th (seen_with v us hs n m w) (right_line x)) u ts gs k j refl refl z a b e f
+seen_then th v n m us hs w end_line u ts gs k j o z a b e f = same_seen (after th (seen_with v us hs n m w) end_line) u ts gs k j refl refl z a b e f
 
 -- In a table nothing is asked of its terms.
 tabling_at : (k : Mode) (m : Machine) (ts us : List Tree) → now_at k m ≡ Tabling → IsKeptAt k ts m → IsKeptAt k us m
@@ -129,8 +158,16 @@ after_place Tabling m p t e = subst (λ n. IsInStep n t) (same_Some (Placing (p 
 after_place (Placing ps) m p t e = subst (λ n. IsInStep n t) (same_Some (Placing (ps ++ p ∷ [])) m e) tt
 after_place _ m p t e = absurd (cc)
 
+after_chain : (n m : Now) (c : ChainOf ℕ) (t : ReadTable) → give_chain_now n c ≡ Some m → IsInStep m t
+after_chain (Certifying ls) m c t e = let p = option_map_some Certifying (in_last ls c) m e in subst (λ n. IsInStep n t) p.2 tt
+after_chain (Simplifying d) m c t e = let p = option_map_some Simplifying (in_right d.left d.right c) m e in subst (λ n. IsInStep n t) p.2 tt
+after_chain (Reducing fs d) m c t e = let p = option_map_some (Reducing fs) (in_right d.left d.right c) m e in subst (λ n. IsInStep n t) p.2 tt
+after_chain (Joining k d) m c t e = let p = option_map_some (Joining k) (in_right d.left d.right c) m e in subst (λ n. IsInStep n t) p.2 tt
+after_chain _ m c t e = absurd (cc)
+
 after_same : (n m : Now) (t : ReadTable) → next_same n ≡ Some m → IsInStep m t
 after_same (Reducing fs c) m t e = subst (λ n. IsInStep n t) (same_Some (give_why_now fs (Same_why c)) m e) (after_given fs (Same_why c) t)
+after_same (Joining n c) m t e = after_chain n m c t e
 after_same _ m t e = absurd (cc)
 
 after_split : (n m : Now) (a k : ℕ) (t : ReadTable) → next_split n a k ≡ Some m → IsInStep m t
@@ -148,11 +185,13 @@ after_left : (n m : Now) (l : LinkOf ℕ) (t : ReadTable) → next_left n l ≡ 
 after_left (Certifying ls) m l t e = subst (λ n. IsInStep n t) (same_Some (Certifying (ls ++ l ∷ [])) m e) tt
 after_left (Simplifying c) m l t e = let p = option_map_some Simplifying (add_left c l) m e in subst (λ n. IsInStep n t) p.2 tt
 after_left (Reducing fs c) m l t e = let p = option_map_some (Reducing fs) (add_left c l) m e in subst (λ n. IsInStep n t) p.2 tt
+after_left (Joining k c) m l t e = let p = option_map_some (Joining k) (add_left c l) m e in subst (λ n. IsInStep n t) p.2 tt
 after_left _ m l t e = absurd (cc)
 
 after_right : (n m : Now) (l : LinkOf ℕ) (t : ReadTable) → next_right n l ≡ Some m → IsInStep m t
 after_right (Simplifying c) m l t e = subst (λ n. IsInStep n t) (same_Some (Simplifying (add_right c l)) m e) tt
 after_right (Reducing fs c) m l t e = subst (λ n. IsInStep n t) (same_Some (Reducing fs (add_right c l)) m e) tt
+after_right (Joining k c) m l t e = subst (λ n. IsInStep n t) (same_Some (Joining k (add_right c l)) m e) tt
 after_right _ m l t e = absurd (cc)
 
 after_end : (n m : Now) (t : ReadTable) → next_end n ≡ Some m → IsInStep m t
@@ -161,20 +200,23 @@ after_end _ m t e = absurd (cc)
 
 -- a line that asks nothing of the table
 free_step : (n m : Now) (l : Line) (t : ReadTable) → IsFree l → next_now n l ≡ Some m → IsInStep n t → IsInStep m t
-free_step n m head_line t o e s = after_head n m t e s
+free_step n m (head_line v) t o e s = after_head n m t e s
 free_step n m (table_line x) t o e s = absurd o
 free_step n m (place_line a b) t o e s = after_place n m (a, b) t e
 free_step n m certificate_line t o e s = absurd o
 free_step n m block_line t o e s = absurd o
 free_step n m (goal_line a b) t o e s = absurd o
+free_step n m (given_line a b) t o e s = absurd o
+free_step n m (cases_line a) t o e s = absurd o
+free_step n m if_line t o e s = absurd o
 free_step n m simplify_line t o e s = after_cond (is_step n) (Simplifying empty) m t e tt
 free_step n m reduce_line t o e s = after_cond (is_step n) (Reducing [] empty) m t e tt
 free_step n m derive_line t o e s = after_cond (is_step n) Stepping m t e tt
 free_step n m done_line t o e s = after_cond (is_step n) Closed m t e tt
 free_step n m same_line t o e s = after_same n m t e
 free_step n m (split_line a k) t o e s = after_split n m a k t e
-free_step n m (left_line l) t o e s = after_left n m l t e
-free_step n m (right_line l) t o e s = after_right n m l t e
+free_step n m (left_line l) t o e s = under_test (is_bare l) (next_left n l) m e (λ b e. after_left n m l t e)
+free_step n m (right_line l) t o e s = under_test (is_bare l) (next_right n l) m e (λ b e. after_right n m l t e)
 free_step n m end_line t o e s = after_end n m t e
 
 -- such a line is neither of the table nor a goal, and begins no certificate and no block
@@ -183,6 +225,9 @@ is_free line.Certificate f g o = absurd (f refl)
 is_free line.Block f g o = absurd (g refl)
 is_free (line.Table l) f g o = o
 is_free (line.Goal a b) f g o = o
+is_free (line.Given a b) f g o = o
+is_free (line.Cases t) f g o = o
+is_free line.If f g o = o
 is_free _ f g o = tt
 
 pub advanced : (b : Bool) (r : LineReader) (l : Line) (m : Machine) → IsReader r → IsFree l
@@ -206,6 +251,7 @@ reader_then r s k t n p a b = record {
   due = ap (λ x. x.due) n ∙ k.due ∙ ap (λ x. length (due x r.machine.places.items)) (sym t) ∙ ap (λ x. length (due s.theory.now x)) (sym p);
   certificates = subst (λ x. x.certificates ≤ x.due) (sym n) k.certificates;
   steps = subst (λ x. x.steps ≤ step_limit) (sym n) k.steps;
+  version = subst (λ x. x.version ≤ 1) (sym n) k.version;
 }
 
 -- What becomes of a table line is what becomes of it in the table.
@@ -221,7 +267,8 @@ table_handled w r s l Yes k t n m (u, f, within, us) b =
       next = m.next;
       passes = ap is_some f;
       within = ap (λ o. is_full term_limit (length c.terms) || is_too_large o) f ∙ within;
-      seen = same_seen (after th c (table_line l)) (terms_in s.table) s.machine.places.items s.counts.certificates s.counts.steps
+      seen = same_seen (after th c (table_line l)) s.counts.version (terms_in s.table) s.machine.places.items s.counts.certificates s.counts.steps
+          (ap (λ x. x.givens) e) (ap (λ x. x.ifs) e) (ap (λ x. x.version) n ∙ sym (ap (λ x. x.version) e))
           (us ∙ sym (ap (λ x. x.terms) e)) (m.places ∙ sym (ap (λ x. x.places) e))
           (ap (λ x. x.certificates) n ∙ sym (ap (λ x. x.certificates) e)) (ap (λ x. x.steps) n ∙ sym (ap (λ x. x.steps) e));
       queue = m.queue;
@@ -236,8 +283,8 @@ table_handled w r s l Limit k t n m (u, f, over) b =
 pub other_handled : (w : List ℕ) (r s : LineReader) (l : Line) → IsReader r → IsOther l → s.theory.now ≡ r.theory.now
     → passes_at r.theory.now (seen_of w r) l ≡ true → limit_at r.theory.now (seen_of w r) l ≡ false → Advances true r l s
     → s.counts.due ≡ length (due r.theory.now (places_with r.machine.places.items l)) → s.counts.certificates ≡ certificates_with r.counts.certificates l
-    → s.counts.steps ≡ steps_with r.counts.steps l → Handles Yes w r l s
-other_handled w r s l k o t p q (m, e, b) due_is certificates_are steps_are =
+    → s.counts.steps ≡ steps_with r.counts.steps l → s.counts.version ≡ version_with r.counts.version l → Handles Yes w r l s
+other_handled w r s l k o t p q (m, e, b) due_is certificates_are steps_are version_is =
     let th : Theory = r.theory.now in
     let places : s.machine.places.items ≡ places_with r.machine.places.items l = m.places in
     let few : r.counts.certificates ≤ length (due th r.machine.places.items) = omega (arith, k.certificates, k.due) in
@@ -245,7 +292,8 @@ other_handled w r s l k o t p q (m, e, b) due_is certificates_are steps_are =
       next = m.next;
       passes = p;
       within = q;
-      seen = seen_then th (seen_of w r) l (terms_in s.table) s.machine.places.items s.counts.certificates s.counts.steps o e places certificates_are steps_are;
+      seen = seen_then th r.counts.version r.counts.certificates r.counts.steps (terms_in r.table) r.machine.places.items w l s.counts.version (terms_in s.table)
+          s.machine.places.items s.counts.certificates s.counts.steps o version_is e places certificates_are steps_are;
       queue = m.queue;
       reader = record {
         kept = subst (λ ts. IsKept ts s.machine) (sym e) m.kept;
@@ -254,5 +302,22 @@ other_handled w r s l k o t p q (m, e, b) due_is certificates_are steps_are =
         due = due_is ∙ ap (λ x. length (due th x)) (sym places) ∙ ap (λ x. length (due x s.machine.places.items)) (sym t);
         certificates = omega (arith, certificates_then th (seen_of w r) l few p, certificates_are, due_is);
         steps = omega (arith, steps_then th (seen_of w r) l k.steps q, steps_are);
+        version = omega (arith, version_then th (seen_of w r) l k.version p, version_is);
       };
     }
+
+-- A line that version 1 leaves out fails the checks.
+abbrev pub IsNewLine : Line → Type 0
+IsNewLine (given_line a b) = Unit {0}
+IsNewLine (cases_line t) = Unit {0}
+IsNewLine if_line = Unit {0}
+IsNewLine _ = ⊥
+
+not_second : (v : ℕ) → v ≤ 1 → (v == 2) ≡ false
+not_second v h = grind arith
+
+pub new_line_fails : (w : List ℕ) (r s : LineReader) (l : Line) → IsReader r → IsNewLine l → Handles Refused w r l s
+new_line_fails w r s (given_line a b) k o = inr (ap (λ x. x && is_condition r.theory.now (terms_in r.table) a b) (not_second r.counts.version k.version))
+new_line_fails w r s (cases_line t) k o = inr (ap (λ x. x && nat_lt t (length (terms_in r.table))) (not_second r.counts.version k.version))
+new_line_fails w r s if_line k o = inr (not_second r.counts.version k.version)
+new_line_fails w r s _ k o = absurd o

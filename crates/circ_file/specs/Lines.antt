@@ -1,7 +1,7 @@
 -- What contracts see of a reader of whole lines, and what it does with the next one.
 use Rattle.std.specs.Prelude.{◌≡◌, ◌⊎◌, ◌≤◌, ℕ, Bool, true, false, List, ◌++◌, length, None, Some}
 use Rattle.circ_special.specs.Special.{IsSet}
-use Rattle.circ_line.specs.Line.{Line, table_line, goal_line}
+use Rattle.circ_line.specs.Line.{Line, table_line, goal_line, given_line, cases_line, if_line}
 use Rattle.circ_line.specs.Text.{line_text, IsInRange}
 use Rattle.circ_grammar.specs.Now.{Now, Begin, Tabling, Opened, next_now}
 use Rattle.circ_proof.specs.Certified.{due}
@@ -17,10 +17,13 @@ use Rattle.circ_file.specs.declared.lines.LineReader.{LineReader}
 -- What the lines so far have given, where the open splits want these numbers of whys.
 abbrev pub seen_of : (wanted : List ℕ) → LineReader → Seen
 seen_of wanted r = record {
+  version = r.counts.version;
   terms = terms_in r.table;
   places = r.machine.places.items;
   certificates = r.counts.certificates;
   steps = r.counts.steps;
+  givens = 0;
+  ifs = 0;
   wanted = wanted;
 }
 
@@ -39,11 +42,15 @@ pub record IsReader (r : LineReader) : Type 0 where
   pub due : r.counts.due ≡ length (due r.theory.now r.machine.places.items)
   pub certificates : r.counts.certificates ≤ r.counts.due
   pub steps : r.counts.steps ≤ step_limit
+  pub version : r.counts.version ≤ 1
 
--- a line that is not of the table, and no goal
+-- a line that is not of the table, no goal, and none that version 1 leaves out
 abbrev pub IsOther : Line → Type 0
 IsOther (table_line l) = ⊥
 IsOther (goal_line a b) = ⊥
+IsOther (given_line a b) = ⊥
+IsOther (cases_line t) = ⊥
+IsOther if_line = ⊥
 IsOther _ = Unit {0}
 
 -- The line is the next one, and the machine and the table are as after it, with the same terms; or it cannot come here.

@@ -8,7 +8,7 @@ ghost use Rattle.circ_special.specs.Special.{place};
 ghost use Rattle.circ_proof.specs.Certified.{derivatives_at, due};
 ghost use Rattle.circ_theory.specs.Fresh.{derivatives_of};
 ghost use Rattle.circ_file.specs.View.{places_with};
-ghost use Rattle.circ_file.specs.Counting.{certificates_with, steps_with};
+ghost use Rattle.circ_file.specs.Counting.{certificates_with, steps_with, version_with};
 
 use circ_line::Line;
 use circ_theory::Theory;
@@ -18,6 +18,8 @@ use circ_theory::Theory;
 pub(crate) struct Counts {
     /// How many certificates are due for the places.
     pub(crate) due: u64,
+    /// The version that the first line names, 0 before it.
+    pub(crate) version: u8,
     pub(crate) certificates: u64,
     pub(crate) steps: u64,
 }
@@ -27,9 +29,11 @@ impl Counts {
         ensures due { result.due ≡ 0 }
         ensures certificates { result.certificates ≡ 0 }
         ensures steps { result.steps ≡ 0 }
+        ensures version { result.version ≡ 0 }
     {
         Counts {
             due: 0,
+            version: 0,
             certificates: 0,
             steps: 0,
         }
@@ -45,12 +49,15 @@ impl Counts {
         ensures certificates { result.certificates ≡
             certificates_with self.certificates (plain_line line.now) }
         ensures steps { result.steps ≡ steps_with self.steps (plain_line line.now) }
+        ensures version { result.version ≡ version_with self.version (plain_line line.now) }
     {
         let mut counts = self;
         match line {
             Line::Place { op, .. } => counts.due += derivative_count_at(theory, *op),
+            Line::Head { version } => counts.version = *version,
             Line::Certificate => counts.certificates += 1,
-            Line::Simplify | Line::Reduce | Line::Derive | Line::Done => counts.steps += 1,
+            Line::Simplify | Line::Reduce | Line::Derive | Line::Cases { .. } | Line::Done =>
+                counts.steps += 1,
             _ => {}
         }
         counts

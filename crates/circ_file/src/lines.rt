@@ -1,6 +1,7 @@
 //! Whole lines, read one after the other.
 ghost use Rattle.std.specs.Prelude.{◌≡◌, ◌&&◌, List, ℕ, length, IfOk, []};
 ghost use Rattle.circ_line.specs.Line.{table_line, goal_line, certificate_line, block_line};
+ghost use Rattle.circ_line.specs.Text.{IsInRange};
 ghost use Rattle.circ_line.specs.Plain.{plain_line, plain_table_line};
 ghost use Rattle.circ_grammar.specs.Now.{Begin};
 ghost use Rattle.circ_special.specs.Special.{place};
@@ -64,6 +65,7 @@ impl<'a> LineReader<'a> {
 
     fn take(&mut self, line: Line) -> Result<Taken, AllocError>
         requires reader { IsReader self.old }
+        requires in_range { IsInRange (plain_line line) }
         ensures theory { self.new.theory.now ≡ self.old.theory.now }
         ensures taken { IfOk result (λ taken. (wanted : List ℕ) →
             length wanted ≡ splits_in (now_of self.old.machine) →
@@ -72,6 +74,7 @@ impl<'a> LineReader<'a> {
         match line {
             Line::Table { line } => self.take_table(&line),
             Line::Goal { left, right } => self.take_goal(left, right),
+            Line::Given { .. } | Line::Cases { .. } | Line::If => Ok(Taken::Line),
             line => self.take_other(line),
         }
     }
@@ -99,7 +102,7 @@ impl<'a> LineReader<'a> {
         if !self.machine.is_opened() {
             return Ok(Taken::Line);
         }
-        let Some(goal) = self.table.goal(left, right)? else {
+        let Some(goal) = self.table.goal(self.alloc, left, right)? else {
             return Ok(Taken::Line);
         };
         self.machine.put_goal(goal, left, right)?;
@@ -110,6 +113,7 @@ impl<'a> LineReader<'a> {
     fn take_other(&mut self, line: Line) -> Result<Taken, AllocError>
         requires reader { IsReader self.old }
         requires other { IsOther (plain_line line) }
+        requires in_range { IsInRange (plain_line line) }
         ensures theory { self.new.theory.now ≡ self.old.theory.now }
         ensures taken { IfOk result (λ taken. (wanted : List ℕ) →
             length wanted ≡ splits_in (now_of self.old.machine) →
@@ -188,6 +192,7 @@ impl<'a> LineReader<'a> {
             passes_at self.now.theory.now (seen_of wanted self.now) (plain_line line.now) }
     {
         match line {
+            Line::Head { version } => *version == 1,
             Line::Place { op, arg } => self.is_next_place(*op, *arg),
             Line::Certificate => self.counts.certificates < self.counts.due,
             Line::Block => self.counts.certificates == self.counts.due,

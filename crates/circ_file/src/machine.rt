@@ -13,7 +13,7 @@ ghost use Rattle.circ_file.specs.View.{IsKept, Moves, Pops};
 ghost use Rattle.circ_file.specs.declared.machine.Mode.TheVariants.{Opened};
 
 use crate::splits::OpenSplit;
-use circ_proof::{Chain, Link};
+use circ_proof::{Chain, GoalNames, Link};
 use circ_special::{Gamma, Place};
 use circ_table::{Part, Table};
 use circ_theory::{Goal, Theory};
@@ -48,7 +48,7 @@ pub(crate) struct Machine {
     /// The goals of a block.
     pub(crate) goals: Vec<Goal>,
     /// The numbers of their sides.
-    pub(crate) names: Vec<(u32, u32)>,
+    pub(crate) names: Vec<GoalNames>,
     /// The links of a Simplify, or of the innermost reason.
     pub(crate) chain: Chain,
     /// The splits that wait for reasons, the innermost last.
@@ -78,8 +78,8 @@ impl Machine {
     }
 
     pub(crate) fn on_head(&mut self) -> bool
-        ensures { (ts : List Tree) → IsKept ts self.old →
-            Moves result ts self.old head_line self.new }
+        ensures { (ts : List Tree) (v : ℕ) → IsKept ts self.old →
+            Moves result ts self.old (head_line v) self.new }
     {
         match self.mode {
             Mode::Begin => {

@@ -19,7 +19,7 @@ impl Machine {
             Moves taken ts self.old (plain_line line) self.new) }
     {
         match line {
-            Line::Head => Ok(self.on_head()),
+            Line::Head { .. } => Ok(self.on_head()),
             Line::Place { op, arg } => self.on_place(Place {
                 op,
                 arg: arg as u16,
@@ -32,6 +32,7 @@ impl Machine {
     // A line of a step or of a certificate.
     fn take_inside(&mut self, line: Line) -> Result<bool, AllocError>
         requires inside { IsInside (plain_line line) }
+        requires ready { IsReady (plain_line line) }
         ensures { IfOk result (λ taken. (ts : List Tree) → IsKept ts self.old →
             Moves taken ts self.old (plain_line line) self.new) }
     {

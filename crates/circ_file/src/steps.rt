@@ -6,14 +6,16 @@ ghost use Rattle.circ_line.specs.Line.{goal_line, simplify_line, reduce_line, de
 ghost use Rattle.circ_line.specs.Line.{done_line, same_line, split_line, left_line, right_line};
 ghost use Rattle.circ_grammar.specs.Machine.{empty};
 ghost use Rattle.circ_grammar.specs.Now.{is_step};
-ghost use Rattle.circ_proof.specs.Proof.{goal_of};
+ghost use Rattle.circ_proof.specs.Proof.{goal_at};
+ghost use Rattle.circ_grammar.specs.Grammar.{is_bare};
+ghost use Rattle.circ_grammar.specs.Machine.{goal_names};
 ghost use Rattle.circ_file.specs.Splits.{given, tops, now_given, parts_given};
 ghost use Rattle.circ_file.specs.View.{now_of, queue_of, shown_step_parts, IsKept, Moves, Begins};
 ghost use Rattle.circ_file.specs.declared.machine.Mode.TheVariants.{Opened};
 
 use crate::machine::{Machine, Mode, empty_chain};
 use crate::splits::{OpenSplit, give};
-use circ_proof::{Chain, Link, Step, Why};
+use circ_proof::{Chain, GoalNames, Link, Step, Why};
 use circ_table::Part;
 use circ_theory::Goal;
 use std::alloc::AllocError;
@@ -24,11 +26,12 @@ impl Machine {
     pub(crate) fn put_goal(&mut self, goal: Goal, left: u32, right: u32) -> Result<(), AllocError>
         requires { self.old.mode ≡ Opened }
         ensures { OnOk result ((ts : List Tree) → IsKept ts self.old →
-            goal ≡ goal_of ts (left, right) →
+            goal ≡ goal_at ts (goal_names left right) →
             Moves true ts self.old (goal_line left right) self.new) }
     {
         self.goals.push(goal)?;
-        self.names.push((left, right))?;
+        let conds = Vec::new(self.alloc);
+        self.names.push(GoalNames { conds, left, right })?;
         Ok(())
     }
 
@@ -82,6 +85,7 @@ impl Machine {
     }
 
     pub(crate) fn on_left(&mut self, link: Link) -> Result<bool, AllocError>
+        requires { is_bare (plain_link link) ≡ true }
         ensures { IfOk result (λ taken. (ts : List Tree) → IsKept ts self.old →
             Moves taken ts self.old (left_line (plain_link link)) self.new) }
     {
@@ -102,6 +106,7 @@ impl Machine {
     }
 
     pub(crate) fn on_right(&mut self, link: Link) -> Result<bool, AllocError>
+        requires { is_bare (plain_link link) ≡ true }
         ensures { IfOk result (λ taken. (ts : List Tree) → IsKept ts self.old →
             Moves taken ts self.old (right_line (plain_link link)) self.new) }
     {
