@@ -9,7 +9,7 @@ use Rattle.circ_proof.specs.Proof.{Block, Proof, steps_in}
 use Rattle.circ_proof.specs.Rules.{ProofStep, Derive}
 use Rattle.circ_proof_text.specs.ProofText.{proof_text}
 use Rattle.circ_script.specs.Script.{Script}
-use Rattle.circ_show.specs.GoalsText.{plain_goal, pair_lines, goal_lines}
+use Rattle.circ_show.specs.GoalsText.{pair_lines, goal_lines}
 use Rattle.circ_plain_search.specs.Numbering.{Found, Proved, LongTable, Stuck, Spent, TooBig, TooDeep}
 use Rattle.circ_plain_search.specs.PlainSearch.{PlainSearch}
 use Rattle.circ_plain_search.specs.Search.{Limits}
@@ -19,7 +19,7 @@ use Rattle.circ_found.specs.Ending.{stored_as, Ending, ending}
 
 -- the goals of lists of goals, one a line
 abbrev pub all_goal_lines : Signature → List (List Goal) → List ℕ
-all_goal_lines sig goals = flat_map (λ gs. goal_lines sig (map plain_goal gs)) goals
+all_goal_lines sig goals = flat_map (goal_lines sig) goals
 
 -- a goal of a script, as a goal
 abbrev pub made_goal : Pair → Goal
