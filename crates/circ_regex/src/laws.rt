@@ -25,7 +25,7 @@ pub fn read_in_one_way()
         IsTextOfRegex bytes e → IsTextOfRegex bytes f → e ≡ f }
 {}
 
-/// Examples: what some bytes spell. A sum and a product nest to the right, and a star binds tightest.
+/// Examples: what some bytes spell. Sums and products nest to the right, and a star binds tightest.
 pub fn texts_as_examples()
     ensures sum { IsTextOfRegex (codes "a+b+1")
         (either_of (one_letter a_letter) (either_of (one_letter b_letter) empty_word)) }
