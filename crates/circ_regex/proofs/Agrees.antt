@@ -2,7 +2,8 @@
 use Rattle.std.specs.Prelude.{◌≡◌, List, [], ◌∷◌, ◌++◌, true, ◌&&◌, ◌⊎◌, ◌↔◌, refl}
 use Rattle.std.proofs.Common.{ap, sym, subst, ◌∙◌, inl, inr}
 use Rattle.circ_theory.specs.Experiment.{BehavesFrom}
-use Rattle.circ_regex.specs.Matches.{Letter, a_letter, b_letter, Expression, no_word, empty_word, one_letter, either_of, in_turn, any_number, Repeats, no_part, one_more_part, Cut, Matches}
+use Rattle.circ_regex.specs.Matches.{Letter, a_letter, b_letter, Expression, no_word, empty_word, one_letter}
+use Rattle.circ_regex.specs.Matches.{either_of, in_turn, any_number, Repeats, no_part, one_more_part, Cut, Matches}
 use Rattle.circ_regex.specs.Languages.{Language, empty_word_only, letter_only, quotient, concatenated, iterated_from, iterated}
 use Rattle.circ_regex.specs.Lang.{LANG}
 use Rattle.circ_regex.specs.Member.{language_of, letter_term, expression_term}

@@ -3,7 +3,8 @@ use Rattle.std.specs.Prelude.{◌≡◌, ℕ, zero, suc, List, [], ◌∷◌, �
 use Rattle.std.specs.Option.{option_and_then}
 use Rattle.std.proofs.Common.{ap, sym, subst, ◌∙◌, append_assoc, append-nil}
 use Rattle.circ_regex.specs.Matches.{Expression, either_of, in_turn, any_number}
-use Rattle.circ_regex.specs.Grammar.{Rank, sum_rank, product_rank, factor_rank, atom_rank, starred, SpellsExpression, one_product, more_products, one_factor, more_factors, with_stars, by_a, by_b, by_zero, by_one, grouped}
+use Rattle.circ_regex.specs.Grammar.{Rank, sum_rank, product_rank, factor_rank, atom_rank, starred, SpellsExpression, one_product}
+use Rattle.circ_regex.specs.Grammar.{more_products, one_factor, more_factors, with_stars, by_a, by_b, by_zero, by_one, grouped}
 use Rattle.circ_regex.specs.Frames.{Frame, Frames, frame_with, frames_with, nested, on_byte, on_bytes, whole_sum, expression_read}
 
 pub bytes-append : (xs ys : List ℕ) (st st' : Frames) → on_bytes xs st ≡ Some st' → on_bytes (xs ++ ys) st ≡ on_bytes ys st'

@@ -5,7 +5,8 @@ use Rattle.std.proofs.Common.{ap, sym, subst, ◌∙◌, arith}
 use Rattle.circ_term.specs.Tree.{Tree, Trees, sort_of}
 use Rattle.circ_theory.specs.Signature.{IsWellSorted}
 use Rattle.circ_theory.specs.Theory.{Pair, CaseList}
-use Rattle.circ_theory.specs.Derivable.{Derivable, by_same, by_symmetry, by_chain, by_operator, by_equation, by_premise, by_cases, DerivableAll, no_args, more_args, is_case}
+use Rattle.circ_theory.specs.Derivable.{Derivable, by_same, by_symmetry, by_chain, by_operator, by_equation}
+use Rattle.circ_theory.specs.Derivable.{by_premise, by_cases, DerivableAll, no_args, more_args, is_case}
 use Rattle.circ_regex.specs.Lang.{lang_ops, bit_sort, bit_cases, LANG}
 use Rattle.circ_regex.specs.Member.{applied_op, language_of, languages_of}
 use Rattle.circ_regex.proofs.Words.{same_words}

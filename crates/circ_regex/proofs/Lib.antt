@@ -12,3 +12,5 @@ pub mod Within
 pub mod Once
 pub mod Parts
 pub mod Meaning
+pub mod Rules
+pub mod Evaluates

@@ -4,8 +4,10 @@ use Rattle.std.specs.Option.{option_and_then}
 use Rattle.std.proofs.Common.{ap, sym, subst, ◌∙◌, append_assoc, append-nil, eqb-true}
 use Rattle.std.proofs.lemmas.Option.{same_Some}
 use Rattle.circ_regex.specs.Matches.{a_letter, b_letter, Expression, no_word, empty_word, one_letter, either_of, in_turn, any_number}
-use Rattle.circ_regex.specs.Grammar.{sum_rank, product_rank, factor_rank, atom_rank, starred, SpellsExpression, one_product, more_products, one_factor, more_factors, with_stars, by_a, by_b, by_zero, by_one, grouped}
-use Rattle.circ_regex.specs.Frames.{Frame, Frames, frame_with, frames_with, empty_frame, no_frames, nested, with_factor, frame_sum, on_star, on_plus, on_open, into_outer, on_close, on_mark, atom_of, on_atom, on_byte, on_bytes, whole_sum, expression_read}
+use Rattle.circ_regex.specs.Grammar.{sum_rank, product_rank, factor_rank, atom_rank, starred, SpellsExpression, one_product, more_products}
+use Rattle.circ_regex.specs.Grammar.{one_factor, more_factors, with_stars, by_a, by_b, by_zero, by_one, grouped}
+use Rattle.circ_regex.specs.Frames.{Frame, Frames, frame_with, frames_with, empty_frame, no_frames, nested, with_factor, frame_sum, on_star}
+use Rattle.circ_regex.specs.Frames.{on_plus, on_open, into_outer, on_close, on_mark, atom_of, on_atom, on_byte, on_bytes, whole_sum, expression_read}
 
 -- the text of factors, the latest first
 abbrev pub Factors : List Expression → List ℕ → Type 0

@@ -22,12 +22,12 @@ abbrev pub spelling : List Letter → List Entry
 spelling [] = entry_with acc_term ∷ []
 spelling (x ∷ w) = letter_entry x ∷ spelling w
 
-on_spelling : (w : List Letter) (t : Tree) → language_of (on (spelling w) t) [] ≡ language_of t w
+pub on_spelling : (w : List Letter) (t : Tree) → language_of (on (spelling w) t) [] ≡ language_of t w
 on_spelling [] t = refl
 on_spelling (a_letter ∷ w) t = on_spelling w (da_term t)
 on_spelling (b_letter ∷ w) t = on_spelling w (db_term t)
 
-on_lang : (d : Derivative) → Contains LANG.derivatives d → lang_sort ≡ d.hole
+pub on_lang : (d : Derivative) → Contains LANG.derivatives d → lang_sort ≡ d.hole
 unfolding LANG
 on_lang d (zero, h, e) = ap (λ (x : Derivative). x.hole) e
 on_lang d (suc zero, h, e) = ap (λ (x : Derivative). x.hole) e

@@ -13,7 +13,8 @@ use Rattle.circ_theory.specs.Theory.{goal_of, IsEquation, listed, associative, c
 use Rattle.circ_regex.specs.Matches.{Letter, a_letter, b_letter}
 use Rattle.circ_regex.specs.Languages.{Language, quotient, concatenated}
 use Rattle.circ_regex.specs.Lang.{LangOp, op_zero, op_one, op_or, op_and, op_acc, op_da, op_db, op_empty, op_eps, op_a, op_b, op_star, op_product, op_sum, op_when}
-use Rattle.circ_regex.specs.Lang.{lang_ops, lang_operator, bit_sort, lang_sort, LANG, bit_equations, unit_equations, acc_equations, da_equations, db_equations, lang_equations}
+use Rattle.circ_regex.specs.Lang.{lang_ops, lang_operator, bit_sort, lang_sort, LANG}
+use Rattle.circ_regex.specs.Lang.{bit_equations, unit_equations, acc_equations, da_equations, db_equations, lang_equations}
 use Rattle.circ_regex.specs.Member.{operation, first_language, second_language, language_of, languages_of}
 use Rattle.circ_regex.proofs.Bools.{or_false, or_true, and_false, and_true, or_swap, or_group, or_twice}
 use Rattle.circ_regex.proofs.Words.{same_words, nothing_first, nothing_last, empty_first, empty_last, iterated-concatenated}

@@ -5,7 +5,8 @@ use Rattle.circ_term.specs.Tree.{size_of, depth_of}
 use Rattle.circ_term.specs.Limits.{IsWithinLimits}
 use Rattle.circ_term.proofs.Limits.{first_limit_none}
 use Rattle.circ_regex.specs.Matches.{Expression, any_number}
-use Rattle.circ_regex.specs.Grammar.{Rank, starred, SpellsExpression, one_product, more_products, one_factor, more_factors, with_stars, by_a, by_b, by_zero, by_one, grouped, IsTextOfRegex}
+use Rattle.circ_regex.specs.Grammar.{Rank, starred, SpellsExpression, one_product, more_products, one_factor, more_factors}
+use Rattle.circ_regex.specs.Grammar.{with_stars, by_a, by_b, by_zero, by_one, grouped, IsTextOfRegex}
 use Rattle.circ_regex.specs.Member.{expression_term}
 
 -- the term has at most twice as many nodes as there are bytes, less one, and is no deeper than there are bytes

@@ -4,7 +4,8 @@ use Rattle.std.specs.List.{slice_get}
 use Rattle.circ_term.specs.Tree.{Tree, Trees, Var, App, none, more}
 use Rattle.circ_regex.specs.Matches.{Letter, a_letter, b_letter, Expression, no_word, empty_word, one_letter, either_of, in_turn, any_number}
 use Rattle.circ_regex.specs.Languages.{Language, empty_language, empty_word_only, letter_only, concatenated, iterated}
-use Rattle.circ_regex.specs.Lang.{LangOp, op_zero, op_one, op_or, op_and, op_acc, op_da, op_db, op_empty, op_eps, op_a, op_b, op_star, op_product, op_sum, op_when, lang_ops}
+use Rattle.circ_regex.specs.Lang.{LangOp, op_zero, op_one, op_or, op_and, op_acc, op_da, op_db}
+use Rattle.circ_regex.specs.Lang.{op_empty, op_eps, op_a, op_b, op_star, op_product, op_sum, op_when, lang_ops}
 use Rattle.circ_regex.specs.Lang.{empty_term, eps_term, a_term, b_term, star_term, product_term, sum_term}
 
 -- What an operator makes of its arguments' languages. A bit is the language of all words where it is 1, and of none where it is 0.

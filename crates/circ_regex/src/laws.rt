@@ -119,6 +119,13 @@ pub fn expressions_that_behave_match()
         (w : List Letter) → (Matches e w ↔ Matches f w) }
 {}
 
+/// Where each word is matched by both or by neither, the terms of two expressions behave alike: the
+/// equations of LANG leave out no equality of expressions.
+pub fn expressions_that_match_behave()
+    ensures { (e f : Expression) → ((w : List Letter) → (Matches e w ↔ Matches f w)) →
+        Behaves LANG (goal [] (expression_term e) (expression_term f)) }
+{}
+
 /// The limit of the code is the one that the definitions state.
 pub fn limit_is_stated()
     ensures { MOST_BYTES ≡ byte_limit }

@@ -1,8 +1,8 @@
 //! Regular expressions over two letters, and the theory LANG of their languages: [`read_regex`]
 //! reads an expression, [`term_of`] gives its term, and [`lang_theory`] makes the theory.
 //!
-//! Which words an expression matches is defined in `specs`; [`laws`] states that two terms that
-//! behave alike in LANG belong to expressions that match the same words. `docs/regex.md` has the
+//! Which words an expression matches is defined in `specs`; [`laws`] states that the terms of two
+//! expressions behave alike in LANG exactly if both match the same words. `docs/regex.md` has the
 //! rules in plain words.
 #![tactic(auto)]
 
