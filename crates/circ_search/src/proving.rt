@@ -152,12 +152,7 @@ fn needed_proof(
             state.finished.as_slice(),
         )
     } else {
-        numbered(
-            alloc,
-            Gamma::empty(alloc),
-            &[],
-            state.finished.as_slice(),
-        )
+        numbered(alloc, Gamma::empty(alloc), &[], state.finished.as_slice())
     }
 }
 
