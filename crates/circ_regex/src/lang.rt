@@ -180,7 +180,7 @@ const DA_SIDES: &[u8] = b"deednedandbed+rs+drdsd;rs+;drsw?rdsd*r;dr*rdwxswxds";
 
 const DB_SIDES: &[u8] = b"DeeDneDaeDbnD+rs+DrDsD;rs+;Drsw?rDsD*r;Dr*rDwxswxDs";
 
-/// The theory LANG. Only want of memory keeps it from being made.
+/// The theory LANG. It fails only if it runs out of memory.
 pub fn lang_theory(alloc: Global) -> Result<Theory, AllocError>
     ensures { IfOk result (λ th. th ≡ LANG) }
 {
@@ -191,7 +191,7 @@ pub fn lang_theory(alloc: Global) -> Result<Theory, AllocError>
     }
 }
 
-// No other fault than want of memory comes, since the parts fit.
+// The parts fit, so that it fails only if it runs out of memory.
 fn add_parts(alloc: Global, theory: &mut Theory) -> Result<(), TheoryFault>
     ensures { OnOk result (theory.new ≡ with_lang_parts theory.old) }
 {
