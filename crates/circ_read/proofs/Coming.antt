@@ -11,7 +11,7 @@ use Rattle.circ_read.specs.declared.cause.Cause.TheVariants.{UnknownSort, NoPars
 use Rattle.circ_read.specs.declared.cause.Fault.{Fault}
 use Rattle.circ_read.specs.declared.cause.Fault.TheVariants.{Because, Memory}
 use Rattle.circ_read.specs.Causes.{cause_of}
-use Rattle.circ_read.specs.Adding.{AddsStatement, AddsAll, AddsEquation, AddsDerivative, first_fault, sort_numbers, constant_numbers, variable_fault, with_variable, operator_fault, with_operator, ReadsAlone, equation_lists, goal_terms, ReadsEquation, ReadsHole}
+use Rattle.circ_read.specs.Adding.{AddsStatement, AddsAll, AddsEquation, AddsDerivative, first_fault, sort_numbers, constant_numbers, variable_fault, with_variable, operator_fault, with_operator, ReadsAlone, equation_lists, ReadsEquation, ReadsHole}
 use Rattle.circ_read.proofs.GoalTerms.{goal_read}
 use Rattle.circ_mixfix.specs.Answers.{long_count, first_long}
 use Rattle.circ_read.specs.Refusing.{RefusesStatement, RefusesEquation, IsCauseOf, LacksOr, ReadsNotAlone, terms_text}

@@ -1,10 +1,11 @@
 -- Goals as the terms that were read for them.
-use Rattle.std.proofs.Common.{◌≡◌, ◌++◌, ℕ, List, [], ◌∷◌, map, Some, refl, sym, ap, ◌∙◌, subst}
+use Rattle.std.proofs.Common.{◌≡◌, ◌≤◌, ◌<◌, ◌+◌, ◌++◌, ℕ, List, [], ◌∷◌, map, drop, length, get_or, Some, refl, sym, ap, ◌∙◌, subst, arith, append-nil}
+use Rattle.std.proofs.lemmas.List.{drop_more, length-drop}
 use Rattle.std.specs.List.{AllByRecursion}
 use Rattle.circ_term.specs.Tree.{Tree}
 use Rattle.circ_lexer.specs.TokenList.{TokenList, tokens_in, IsWithin}
 use Rattle.circ_theory.specs.declared.parts.Goal.{Goal}
-use Rattle.circ_theory.specs.Theory.{Theory, Pair, pair_with, goal, IsWellSortedPair, AreWellSortedPairs}
+use Rattle.circ_theory.specs.Theory.{Theory, Pair, pair_with, goal, AreWellSortedPairs}
 use Rattle.circ_theory.specs.Signature.{Signature}
 use Rattle.circ_theory.specs.Variables.{IsInOrder, AreNumberedFrom, seen_in_pairs}
 use Rattle.circ_mixfix.specs.Named.{Named, numbered, place_from, seen_in_list}
@@ -60,7 +61,7 @@ condition_tokens ts (s ∷ conds) = ap (λ z. tokens_in ts s.left ∷ tokens_in 
 
 pub conditions_within : (ts : TokenList) (conds : List Sides) → AllByRecursion (λ s. IsWithin ts s.left × IsWithin ts s.right) conds → AllByRecursion (IsWithin ts) (condition_spans conds)
 conditions_within ts [] h = tt
-conditions_within ts (s ∷ conds) h = (h.0.0, h.0.1, conditions_within ts conds h.1)
+conditions_within ts (s ∷ conds) h = (h.0.0, (h.0.1, conditions_within ts conds h.1))
 
 -- what terms in twos are, as a goal
 module _ (ts : List Tree) (g : Goal) (is : goal_of_terms ts ≡ Some g) where
@@ -79,3 +80,20 @@ module _ (ts : List Tree) (g : Goal) (is : goal_of_terms ts ≡ Some g) where
 
   pub terms_in_order : AreTwosInOrder ts → IsInOrder g
   terms_in_order h = as_goal (λ ps. AreNumberedFrom 0 (seen_in_pairs ps [])) h.0 h.1 h.2
+
+-- fewer than two terms are no pair
+pub no_pairs : (ts : List Tree) → length ts < 2 → pairs_of ts ≡ []
+no_pairs [] l = refl
+no_pairs (t ∷ []) l = refl
+no_pairs (t ∷ u ∷ ts) l = absurd (omega arith)
+
+pub pairs_more : (ts : List Tree) (i : ℕ) (d : Tree) → i + 2 ≤ length ts → pairs_of (drop i ts) ≡ pair_with (get_or ts i d) (get_or ts (i + 1) d) ∷ pairs_of (drop (i + 2) ts)
+pairs_more ts i d l =
+    let e : i + 1 + 1 ≡ i + 2 = omega arith in
+    ap pairs_of (drop_more ts i d (omega arith) ∙ ap (λ z. get_or ts i d ∷ z) (drop_more ts (i + 1) d (omega arith) ∙ ap (λ n. get_or ts (i + 1) d ∷ drop n ts) e))
+
+-- all but fewer than two terms were taken
+pub pairs_all : (ts : List Tree) (i : ℕ) (ps : List Pair) → length ts < i + 2 → ps ++ pairs_of (drop i ts) ≡ pairs_of ts → ps ≡ pairs_of ts
+pairs_all ts i ps l e =
+    let n = length-drop i ts in
+    sym (append-nil ps) ∙ ap (λ z. ps ++ z) (sym (no_pairs (drop i ts) (omega arith))) ∙ e

@@ -11,9 +11,9 @@ use crate::library::add_text;
 use crate::names::{is_word, word};
 use crate::statement::add_statement;
 use crate::text::{Head, read_head};
+use circ_form::Text;
 use circ_lexer::Tokens;
 use circ_statement::Statement;
-use circ_form::Text;
 use circ_theory::Theory;
 use std::alloc::{AllocError, Global};
 

@@ -14,9 +14,9 @@ use crate::names::word;
 use crate::operators::{Marks, add_operators};
 use crate::sorts::add_sorts;
 use crate::variables::add_variables;
+use circ_form::Text;
 use circ_lexer::{Span, Tokens};
 use circ_statement::{Statement, StatementFault, statement as read_statement};
-use circ_form::Text;
 use circ_theory::Theory;
 use std::alloc::Global;
 
