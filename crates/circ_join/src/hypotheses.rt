@@ -61,8 +61,8 @@ impl Hypotheses {
     }
 
     /// The block is finished: its own hypotheses go, and these goals, which are its own and have no
-    /// conditions, come behind those of earlier blocks. If it runs out of memory some of them may be
-    /// missing.
+    /// conditions, come behind those of earlier blocks. If it runs out of memory some of them may
+    /// be missing.
     pub fn finish_block(&mut self, goals: &[Goal]) -> Result<(), AllocError>
         requires plain { HaveNoConditions goals.now }
         requires few { length self.old.earlier + length goals.now < 2 ^ 31 }

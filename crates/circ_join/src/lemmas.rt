@@ -56,15 +56,10 @@ impl Lemmas {
         ensures added { OnOk result (self.new ≡ self.old ++ rule ∷ []) }
         ensures err { OnErr result (self.new ≡ self.old) }
     {
-        let left = rule.left.share()?;
-        self.rules.push(rule)?;
-        match self.index.add(&left) {
-            Ok(()) => Ok(()),
-            Err(fault) => {
-                let _last = self.rules.pop();
-                Err(fault)
-            }
-        }
+        self.rules.reserve(1)?;
+        self.index.add(&rule.left)?;
+        self.rules.push_reserved(rule);
+        Ok(())
     }
 
     /// Whether there are none.

@@ -1,6 +1,7 @@
 //! Terms and links, with their numbers in a table.
 ghost use Rattle.std.specs.Prelude.{◌≡◌, ◌∷◌, ◌++◌, [], map, IfOk, IfErr};
 ghost use Rattle.circ_proof.specs.Plain.{plain_link, plain_links, plain_chain, plain_chains};
+ghost use Rattle.circ_proof.specs.Plain.{Equation_link, Hypothesis_link};
 ghost use Rattle.circ_proof.specs.Plain.{map_link, map_chain, map_chains};
 ghost use Rattle.circ_proof.specs.Link.{terms_of, chains_terms};
 ghost use Rattle.circ_proof.specs.Table.{number_in};
@@ -9,7 +10,7 @@ ghost use Rattle.circ_numbering.specs.Asking.{Asks};
 ghost use Rattle.circ_numbering.specs.declared.fault.NumberFault.TheVariants.{Memory};
 
 use crate::fault::NumberFault;
-use circ_proof::{Chain, Link};
+use circ_proof::{Chain, Link, Way};
 use circ_replay::TableBuilder;
 use circ_term::{Path, Term};
 use std::alloc::Global;
@@ -79,13 +80,7 @@ fn link(alloc: Global, table: &mut TableBuilder, recorded: &Link<Term>) -> Resul
             terms,
             conds,
         } => match numbered_parts(alloc, table, path, terms.as_slice(), conds.as_slice()) {
-            Ok(parts) => Ok(Link::Equation {
-                number: *number,
-                way: *way,
-                path: parts.path,
-                terms: parts.terms,
-                conds: parts.conds,
-            }),
+            Ok(parts) => Ok(equation_link(*number, *way, parts)),
             Err(fault) => Err(fault),
         },
         Link::Hypothesis {
@@ -95,13 +90,7 @@ fn link(alloc: Global, table: &mut TableBuilder, recorded: &Link<Term>) -> Resul
             terms,
             conds,
         } => match numbered_parts(alloc, table, path, terms.as_slice(), conds.as_slice()) {
-            Ok(parts) => Ok(Link::Hypothesis {
-                number: *number,
-                way: *way,
-                path: parts.path,
-                terms: parts.terms,
-                conds: parts.conds,
-            }),
+            Ok(parts) => Ok(hypothesis_link(*number, *way, parts)),
             Err(fault) => Err(fault),
         },
         Link::Assumption { number, way, path } => Ok(Link::Assumption {
@@ -124,6 +113,32 @@ struct Parts {
     path: Path,
     terms: Vec<u32>,
     conds: Vec<Chain>,
+}
+
+fn equation_link(number: u32, way: Way, parts: Parts) -> Link
+    ensures { plain_link result ≡ Equation_link number way parts.path.items parts.terms.items
+        (plain_chains parts.conds.items) }
+{
+    Link::Equation {
+        number,
+        way,
+        path: parts.path,
+        terms: parts.terms,
+        conds: parts.conds,
+    }
+}
+
+fn hypothesis_link(number: u32, way: Way, parts: Parts) -> Link
+    ensures { plain_link result ≡ Hypothesis_link number way parts.path.items parts.terms.items
+        (plain_chains parts.conds.items) }
+{
+    Link::Hypothesis {
+        number,
+        way,
+        path: parts.path,
+        terms: parts.terms,
+        conds: parts.conds,
+    }
 }
 
 #[cycle(link)]

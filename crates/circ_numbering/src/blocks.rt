@@ -1,7 +1,8 @@
 //! Finished blocks, and the proof that they make.
 ghost use Rattle.std.specs.Prelude.{◌≡◌, [], flat_map, map, IfOk};
 ghost use Rattle.circ_theory.specs.Pairs.{plain_pair};
-ghost use Rattle.circ_proof.specs.PlainProof.{plain_names, plain_block, plain_certificates, plain_proof};
+ghost use Rattle.circ_proof.specs.PlainProof.{plain_names, plain_block};
+ghost use Rattle.circ_proof.specs.PlainProof.{plain_certificates, plain_proof};
 ghost use Rattle.circ_plain_search.specs.Numbering.{side_terms, pair_name};
 ghost use Rattle.circ_plain_search.specs.Numbering.{goal_terms, goal_name, links_terms};
 ghost use Rattle.circ_plain_search.specs.Numbering.{block_terms, numbered_block, numbered_links};

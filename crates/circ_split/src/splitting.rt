@@ -116,7 +116,8 @@ impl Splitting<'_> {
         ensures exact { GivesWhys (each_case self.now.theory.now memo.old.rules
             (split_cases self.now.theory.now memo.old.rules room)
             (map plain_pair assumptions.old.items) term.now left.now right.now
-            (constants_of self.now.theory.now (sort_of term.now)) budget.old) term.now budget.new result }
+            (constants_of self.now.theory.now (sort_of term.now)) budget.old)
+            term.now budget.new result }
         ensures less { budget.new ≤ budget.old }
         ensures theory { memo.new.theory ≡ memo.old.theory }
         ensures rules { memo.new.rules ≡ memo.old.rules }

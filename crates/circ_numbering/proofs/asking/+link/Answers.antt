@@ -133,12 +133,11 @@ link-returns-in-Ok t c =
     let x = c.in-Equation in
     let e = ap plain_link x.is ∙ equation_plain x.number x.way x.path x.terms x.conds in
     let r = rw (c.as_slice.ensures.value, c.as_slice-in-Equation.ensures.value) at c.in-Ok.ensures in
-    let p = c.in-Ok.parts in
     rw e (
       r.0,
       λ table a.
           let g = r.1 table a in
-          equation_plain x.number x.way p.path p.terms p.conds ∙ (λ i. Equation_link x.number x.way (g.0 i) (g.1 i) (g.2 i)),
+          c.equation_link.ensures ∙ (λ i. Equation_link x.number x.way (g.0 i) (g.1 i) (g.2 i)),
     )
 
 pub link-returns-in-Ok-numbered_parts : goal.link-returns-in-Ok-numbered_parts
@@ -146,10 +145,9 @@ link-returns-in-Ok-numbered_parts t c =
     let x = c.in-Hypothesis in
     let e = ap plain_link x.is ∙ hypothesis_plain x.number x.way x.path x.terms x.conds in
     let r = rw (c.as_slice-in-Hypothesis.ensures.value, c.as_slice-in-Hypothesis-2.ensures.value) at c.in-Ok-numbered_parts.ensures in
-    let p = c.in-Ok-numbered_parts.parts in
     rw e (
       r.0,
       λ table a.
           let g = r.1 table a in
-          hypothesis_plain x.number x.way p.path p.terms p.conds ∙ (λ i. Hypothesis_link x.number x.way (g.0 i) (g.1 i) (g.2 i)),
+          c.hypothesis_link.ensures ∙ (λ i. Hypothesis_link x.number x.way (g.0 i) (g.1 i) (g.2 i)),
     )
