@@ -21,7 +21,7 @@ use Rattle.circ_script.specs.declared.job.Job.TheVariants.{Prove, Reduce}
 use Rattle.circ_script.specs.Script.{Script}
 use Rattle.circ_script.specs.Items.{Item, variables, goal, coinduction, reduce, IsFor}
 use Rattle.circ_script.specs.Drafts.{Draft, first_draft, script_of, AsksFor}
-use Rattle.circ_script.specs.Adding.{ReadsTerm, AddsItem, TakesItems, start, next}
+use Rattle.circ_script.specs.Adding.{ReadsTerm, AddsItem, bare_goal, TakesItems, start, next}
 use Rattle.circ_script.specs.ReadsAsScript.{ReadsAsScript}
 use Rattle.circ_script.specs.Fit.{IsFitGoal, IsFitTerm, IsFit, IsScriptFor}
 use Rattle.circ_script.specs.Steps.{IsButVariables}

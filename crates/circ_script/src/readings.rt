@@ -4,9 +4,9 @@ ghost use Rattle.circ_read.specs.declared.cause.Cause.TheVariants.{Ambiguous};
 ghost use Rattle.circ_script.specs.Refusing.{reading_text};
 ghost use Rattle.circ_script.specs.Steps.{IsUnread};
 
+use circ_form::Text;
 use circ_mixfix::{ParseFault, Reading, print, print_pair};
 use circ_read::{Cause, Fault, because};
-use circ_form::Text;
 use circ_theory::Theory;
 use std::alloc::{AllocError, Global};
 
