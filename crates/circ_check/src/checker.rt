@@ -310,11 +310,7 @@ fn begin_list(alloc: Global, lists: &mut Vec<Vec<Goal>>) -> Result<(), AllocErro
 }
 
 // What the step makes a hypothesis, if it holds.
-fn made_by(
-    alloc: Global,
-    step: &Step,
-    goals: &VecDeque<Goal>,
-) -> Result<Option<Goal>, AllocError>
+fn made_by(alloc: Global, step: &Step, goals: &VecDeque<Goal>) -> Result<Option<Goal>, AllocError>
     ensures { IfOk result (λ o. goals_in o ≡ made_by (plain_step step.now) goals.now.items) }
 {
     match step {

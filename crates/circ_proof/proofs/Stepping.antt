@@ -64,7 +64,7 @@ step_on_sorted th ok G (Cases u) a H (g ∷ gs) sh sg b r =
     subst (IsSortedState th) (sym r.3) (
       sh,
       sorted_append th (cases_on g u l) gs (cases_sorted th ok g (sorted_first th g gs sg) u a l (cases_listed th (sort_of u) r.0 r.1) refl)
-      (sorted_rest th g gs sg),
+          (sorted_rest th g gs sg),
     )
 step_on_sorted th ok G Done a H [] sh sg b r = subst (IsSortedState th) (sym r) (sh, sorted_none th)
 step_on_sorted th ok G Done a H (g ∷ gs) sh sg b r = absurd r

@@ -122,8 +122,7 @@ pub hypothesis_uses : {E : Type 0} (c : Setting) (number : ℕ) (g : Goal) (way 
 hypothesis_uses c number g way path terms t cs there special (Err f) h = tt
 hypothesis_uses c number g way path terms t cs there special (Ok (Some x)) h = record {
   leads = λ m.
-      let P : List Pair → Type 0 = λ ps. AllMeet c ps cs in
-      (
+      let P : List Pair → Type 0 = λ ps. AllMeet c ps cs in (
         record { hypothesis = g; listed = sym there; rewrites = h.0; special = special },
         conditions_lead c (by_terms g terms) g.conds cs h.1 (subst P h.2 m),
       );

@@ -75,7 +75,6 @@ cases_agree th n g u l cl wu e a σ i cs le fit =
     weaken th (a case there σ i cs le fit) (is_case (instance σ u) l k ∷ map (instance_pair σ) g.conds)
     (λ y d. last_first (instance_pair σ) g.conds (is_case u l k) y d))
 
-
 -- where hypotheses, and the goals after a step, agree, so do the goals before it
 step_agrees : (th : Theory) → IsWellFormed th → (G : List Place) (n : ℕ) → PlacesAgree th G n → (s : ProofStep Tree) → AllOfStep (IsWellSorted th.signature) s
     → (H gs : List Goal) (b : State) → AreSortedGoals th gs → StepOn th G s H gs b → HypothesesAgree th n H → HypothesesAgree th n b.hypotheses

@@ -110,11 +110,7 @@ fn cases(tokens: &Tokens<'_>, span: Span) -> Option<Statement>
     }
 }
 
-fn equation(
-    alloc: Global,
-    tokens: &Tokens<'_>,
-    span: Span,
-) -> Option<Statement>
+fn equation(alloc: Global, tokens: &Tokens<'_>, span: Span) -> Option<Statement>
     requires { IsWithin tokens.now span }
     ensures { GivesSaid result tokens.now (IsEquation (tokens_in tokens.now span)) }
 {

@@ -10,8 +10,8 @@ ghost use Rattle.circ_statement.specs.Reading.{GivesForm, GivesSpelling, GivesSp
 use crate::attributes::{Attributes, is_neither};
 use crate::places::{first_of, joined};
 use crate::{Spelling, StatementFault, USUAL_PRECEDENCE};
-use circ_lexer::{Span, Tokens};
 use circ_form::{Form, FormFault, Piece};
+use circ_lexer::{Span, Tokens};
 use circ_theory::Side;
 use std::alloc::Global;
 

@@ -1,6 +1,6 @@
 //! What a statement of a theory text says.
-use circ_lexer::Span;
 use circ_form::Form;
+use circ_lexer::Span;
 use circ_theory::Side;
 
 /// A form with the precedence and the side that its statement gives it.

@@ -20,6 +20,7 @@ use std::rc::Rc;
 
 // What fingerprints begin with.
 const VARIABLE: u32 = 1;
+
 const APPLICATION: u32 = 2;
 
 /// A variable, or an operator on terms. Two variables are the same where number and sort are equal.

@@ -1,9 +1,8 @@
 -- Equations with conditions: when one may be added, and the sorts of conditions that are kept.
-use Rattle.std.proofs.Common.{◌≡◌, ◌≤◌, ◌<◌, ◌↔◌, ℕ, zero, suc, nat_lt, Bool, true, false, ◌==◌, ◌||◌, nat_eq, if◌then◌else◌, List, [], ◌∷◌, ◌++◌, map, find, length, Option, Some, None}
-use Rattle.std.proofs.Common.{refl, ap, sym, subst, ◌∙◌, arith}
+use Rattle.std.proofs.Common.{◌≡◌, ◌≤◌, ◌<◌, ◌↔◌, ℕ, zero, suc, nat_lt, Bool, true, false, ◌==◌, ◌||◌, nat_eq, List, [], ◌∷◌, ◌++◌, find, length, Some, None}
+use Rattle.std.proofs.Common.{refl, ap, sym, ◌∙◌, arith}
 use Rattle.std.specs.List.{list_any, Contains}
 use Rattle.std.specs.Option.{option_map}
-use Rattle.std.proofs.lemmas.Bool.{eqb-true}
 use Rattle.std.proofs.lemmas.Bool.Decides.{nat_tests}
 use Rattle.std.proofs.lemmas.List.Folds.{list_any-append}
 use Rattle.indexmap.specs.IndexSet.{insert_key}
@@ -11,8 +10,8 @@ use Rattle.circ_term.specs.Tree.{sort_of}
 use Rattle.circ_theory.specs.declared.fault.TheoryFault.TheVariants.{NotVisible}
 use Rattle.circ_theory.specs.declared.parts.Equation.{Equation}
 use Rattle.circ_theory.specs.Limits.{equation_limit, condition_limit}
-use Rattle.circ_theory.specs.Theory.{Theory, Pair, AreConditions, AreWellSortedPairs, IsVisible, HasNoConditions}
-use Rattle.circ_theory.specs.Adding.{count_fault, long_fault, is_hidden, hidden_condition, equation_fault}
+use Rattle.circ_theory.specs.Theory.{Theory, Pair, AreConditions, AreWellSortedPairs, HasNoConditions}
+use Rattle.circ_theory.specs.Adding.{count_fault, is_hidden, hidden_condition, equation_fault}
 use Rattle.circ_theory.specs.Observing.{has_condition_of}
 use Rattle.circ_theory.specs.Rule.{is_conditional}
 use Rattle.circ_theory.proofs.Faults.{option_or_none, option_map_none, find_none, room_left}
@@ -111,4 +110,3 @@ none_by (e ∷ es) h =
 
 pub without_conditions : (th : Theory) → (list_any is_conditional th.equations ≡ false) ↔ HasNoConditions th
 without_conditions th = (conds_of_none th.equations, none_by th.equations)
-

@@ -7,7 +7,7 @@ use Rattle.circ_theory.specs.declared.parts.Equation.{Equation}
 use Rattle.circ_theory.specs.declared.parts.Goal.{Goal}
 use Rattle.circ_theory.specs.Limits.{sort_limit, variable_limit, operator_limit, equation_limit, condition_limit}
 use Rattle.circ_theory.specs.Signature.{Signature, Operator, IsSort, IsWellSorted, HaveSorts}
-use Rattle.circ_theory.specs.Theory.{Theory, Pair, Declared, Derivative, CaseList, IsHidden, IsVisible, IsWellSortedPair, IsWellSortedGoal, goal_of, sides}
+use Rattle.circ_theory.specs.Theory.{Theory, Pair, Declared, Derivative, CaseList, IsHidden, IsWellSortedPair, IsWellSortedGoal, goal_of, sides}
 use Rattle.circ_theory.specs.Variables.{IsInOrder}
 use Rattle.circ_theory.specs.Operators.{IsOperator}
 use Rattle.circ_theory.specs.WellFormed.{IsDerivative, IsCaseList, IsWellFormed}

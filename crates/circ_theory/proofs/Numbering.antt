@@ -1,7 +1,6 @@
 -- Variables that are numbered in order, by their sorts alone.
 use Rattle.std.proofs.Common.{◌≡◌, ◌≢◌, ◌≤◌, ◌↔◌, ℕ, ◌+◌, zero, suc, List, [], ◌∷◌, ◌++◌, map, length, Bool, true, false, ◌==◌, ◌&&◌, ◌||◌, nat_lt}
 use Rattle.std.proofs.Common.{if◌then◌else◌, Some, IsTrue, refl, ap, sym, subst, ◌∙◌, arith, length-append}
-use Rattle.std.proofs.lemmas.List.{length-map}
 use Rattle.std.specs.List.{list_any, slice_get}
 use Rattle.std.specs.Bool.{OnTrue}
 use Rattle.std.proofs.lemmas.Bool.{eqb-true, eqb-false, eq-eqb, and_parts}

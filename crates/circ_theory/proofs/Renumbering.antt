@@ -133,9 +133,10 @@ pairs_seen_more [] vs = ([], sym (append-nil vs))
 pairs_seen_more (p ∷ ps) vs =
     let a = seen_more p.left vs in
     let b = seen_more p.right (seen_in p.left vs) in
-    let c = pairs_seen_more ps (seen_in p.right (seen_in p.left vs)) in
-    (a.0 ++ (b.0 ++ c.0),
-      c.1 ∙ ap (λ us. us ++ c.0) (b.1 ∙ ap (λ us. us ++ b.0) a.1 ∙ append_assoc vs a.0 b.0) ∙ append_assoc vs (a.0 ++ b.0) c.0 ∙ ap (λ us. vs ++ us) (append_assoc a.0 b.0 c.0))
+    let c = pairs_seen_more ps (seen_in p.right (seen_in p.left vs)) in (
+      a.0 ++ (b.0 ++ c.0),
+      c.1 ∙ ap (λ us. us ++ c.0) (b.1 ∙ ap (λ us. us ++ b.0) a.1 ∙ append_assoc vs a.0 b.0) ∙ append_assoc vs (a.0 ++ b.0) c.0 ∙ ap (λ us. vs ++ us) (append_assoc a.0 b.0 c.0),
+    )
 
 -- a term whose variables are in front of the longer list
 one_in_order : (t : Tree) (vs whole : List Variable) (ws : List Variable) → whole ≡ seen_in t vs ++ ws

@@ -1,7 +1,6 @@
 -- Goals, and equations and hypotheses likewise: two sides that are to be equal under conditions (conditional equations).
 use Rattle.std.specs.Prelude.{List}
 use Rattle.circ_term.specs.Tree.{Tree}
-use Rattle.circ_term.specs.Substitution.{Substitution, instance}
 use Rattle.circ_theory.specs.Pair.{Pair, pair_with}
 use Rattle.circ_theory.specs.declared.parts.Equation.{Equation}
 use Rattle.circ_theory.specs.declared.parts.Goal.{Goal}

@@ -1,12 +1,12 @@
 -- What a term has to be for a derivative, and when derivatives and case lists are refused.
-use Rattle.std.specs.Prelude.{ℕ, List, [], ◌∷◌, ◌++◌, Bool, false, not, ◌==◌, ◌&&◌, ◌||◌, nat_eq, nat_lt, if◌then◌else◌, length, map, find, Option, Some}
+use Rattle.std.specs.Prelude.{ℕ, List, [], ◌∷◌, ◌++◌, Bool, false, not, ◌==◌, ◌&&◌, ◌||◌, nat_eq, if◌then◌else◌, length, map, find, Option, Some}
 use Rattle.std.specs.Prelude.{None, is_some}
 use Rattle.std.specs.List.{list_any, filter, slice_get}
 use Rattle.std.specs.Option.{option_map, option_map_or, option_or}
 use Rattle.circ_term.specs.Tree.{Tree, Trees, sort_of}
 use Rattle.circ_theory.specs.declared.fault.TheoryFault.{TheoryFault}
 use Rattle.circ_theory.specs.declared.fault.TheoryFault.TheVariants.{Twice, UnknownSort, IllSorted, NotLinear, HoleCount, NoConstant, NotVisible}
-use Rattle.circ_theory.specs.declared.fault.TheoryFault.TheVariants.{NowHidden, Limit}
+use Rattle.circ_theory.specs.declared.fault.TheoryFault.TheVariants.{NowHidden}
 use Rattle.circ_theory.specs.Limits.{derivative_limit, parameter_limit, constant_limit}
 use Rattle.circ_theory.specs.Signature.{Signature}
 use Rattle.circ_theory.specs.Theory.{Theory, Pair, Derivative, CaseList}

@@ -10,8 +10,8 @@ ghost use Rattle.circ_theory.specs.Observing.{first_or_zero, long_fault};
 ghost use Rattle.circ_theory.specs.Inside.{kept_under};
 
 use crate::fault::TheoryFault;
-use circ_form::Piece;
 use crate::parts::OpDecl;
+use circ_form::Piece;
 use circ_term::Term;
 use indexmap::IndexMap;
 use std::alloc::{AllocError, Global};

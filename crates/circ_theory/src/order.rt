@@ -15,12 +15,7 @@ use std::alloc::{AllocError, Global};
 /// Whether two terms and conditions are numbered in order: the variables have the numbers 0, 1 and
 /// so on by their first occurrence, the left term first, the conditions last. Costs as much as the
 /// terms have nodes.
-pub fn in_order(
-    alloc: Global,
-    left: &Term,
-    right: &Term,
-    conds: &Pairs,
-) -> Result<bool, AllocError>
+pub fn in_order(alloc: Global, left: &Term, right: &Term, conds: &Pairs) -> Result<bool, AllocError>
     ensures { IfOk result (λ b. IsTrue b ↔ IsInOrder (goal conds.now left.now right.now)) }
 {
     let mut sorts = Vec::new(alloc);

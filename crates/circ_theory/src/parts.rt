@@ -1,8 +1,8 @@
 //! Parts of theories and of what is proved in them.
 ghost use Rattle.std.specs.Prelude.{◌≡◌, IfOk};
 
-use circ_form::Form;
 use crate::pairs::Pairs;
+use circ_form::Form;
 use circ_term::Term;
 use std::alloc::{AllocError, Global};
 

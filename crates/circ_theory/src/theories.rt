@@ -9,8 +9,8 @@ mod faults;
 mod reading;
 mod terms;
 
-use circ_form::Text;
 use crate::parts::{Equation, OpDecl};
+use circ_form::Text;
 use circ_term::Term;
 use indexmap::{IndexMap, IndexSet};
 use std::alloc::{AllocError, Global};

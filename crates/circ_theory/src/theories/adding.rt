@@ -22,13 +22,13 @@ ghost use Rattle.circ_theory.specs.Observing.{AreParametersInOrder, derivative_f
 ghost use Rattle.circ_theory.specs.Observing.{with_derivative, cases_fault, with_cases};
 
 use super::{Listed, Observer, OpKey, Theory, Vars};
+use crate::MOST_SORTS;
 use crate::adding::{count_fault, is_rule_with, note_word};
 use crate::fault::TheoryFault;
 use crate::observing::first_repeated;
 use crate::order::{EquationVariables, equation_variables};
 use crate::pairs::{Pair, Pairs};
 use crate::parts::{Equation, OpDecl};
-use crate::MOST_SORTS;
 use circ_term::Term;
 use indexmap::{IndexMap, IndexSet};
 use std::alloc::{AllocError, Global};

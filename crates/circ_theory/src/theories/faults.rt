@@ -18,8 +18,10 @@ use crate::fault::TheoryFault;
 use crate::observing::{Slots, first_repeated, slots_of};
 use crate::pairs::{Pair, Pairs, has_condition_of};
 use crate::parts::OpDecl;
-use crate::{MOST_ARGS, MOST_CASES, MOST_CONDITIONS, MOST_DERIVATIVES, MOST_EQUATIONS};
-use crate::{MOST_OPS, MOST_PARAMS, MOST_VARS};
+use crate::{
+    MOST_ARGS, MOST_CASES, MOST_CONDITIONS, MOST_DERIVATIVES, MOST_EQUATIONS, MOST_OPS,
+    MOST_PARAMS, MOST_VARS,
+};
 use circ_term::{MOST_NODES, Term};
 use std::alloc::{AllocError, Global};
 

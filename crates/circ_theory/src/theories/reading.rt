@@ -16,8 +16,8 @@ ghost use Rattle.circ_theory.specs.Observing.{parameter_sorts_in};
 ghost use Rattle.circ_theory.specs.Fresh.{parameter_sorts};
 
 use super::{Listed, Observer, OpKey, Theory};
-use circ_form::Form;
 use crate::parts::{Equation, OpDecl};
+use circ_form::Form;
 use circ_term::Term;
 use std::alloc::AllocError;
 

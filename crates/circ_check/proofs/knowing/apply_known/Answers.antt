@@ -12,6 +12,8 @@ returns-clause-known c =
 
 pub returns-then-closes-clause-state_sorted : goal.returns-then-closes-clause-state_sorted
 returns-then-closes-clause-state_sorted c =
-    let th = c.args.theory.now in
-    (c.requires.state_sorted.0, subst (AreSortedGoals th) (sym c.pop_front.ensures.rest)
-    (dropped_sorted th (plain_state c.args.state.now).goals c.requires.state_sorted.1))
+    let th = c.args.theory.now in (
+      c.requires.state_sorted.0,
+      subst (AreSortedGoals th) (sym c.pop_front.ensures.rest)
+          (dropped_sorted th (plain_state c.args.state.now).goals c.requires.state_sorted.1),
+    )

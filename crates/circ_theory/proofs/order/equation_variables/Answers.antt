@@ -1,8 +1,7 @@
 use Rattle.std.proofs.Common.{◌≡◌, [], map, length, ap, ◌∙◌, sym, arith}
 use Rattle.std.specs.Bool.{⊤}
 use Rattle.std.proofs.lemmas.Bool.Decides.{when_true}
-use Rattle.circ_theory.specs.Theory.{goal}
-use Rattle.circ_theory.specs.Variables.{seen_in, seen_in_pairs, sorts_of, numbered}
+use Rattle.circ_theory.specs.Variables.{seen_in, seen_in_pairs, numbered}
 use Rattle.circ_theory.proofs.Numbering.{sorts-numbered, seen_in_before, seen_in_pairs_before}
 use Rattle.circ_theory.proofs.Ruling.{bound_by}
 use Rattle.circ_theory.proofs.order.equation_variables.Goals as goals

@@ -1,5 +1,4 @@
 use Rattle.std.proofs.Common.{◌==◌, ap, sym, ◌∙◌}
-use Rattle.std.specs.List.{list_any}
 use Rattle.circ_term.specs.Tree.{sort_of}
 use Rattle.circ_theory.specs.Pairs.{plain_pair}
 use Rattle.circ_theory.specs.Observing.{has_condition_of}

@@ -42,6 +42,8 @@ returns-clause-state_sorted c =
     let listed : cases_of th (sort_of t) ≡ Some ks = ap (cases_of th) (ap sort_of c.index-self-term.is ∙ sym c.sort.ensures) ∙ sym c.in-Some-cases.ensures in
     let M : Tree → Type 0 = λ x. c.in_ok-cases.cases.items ≡ cases_on c.in-Some.goal.now x (case_list (sort_of x) ks) in
     let made = subst M (sym c.index-self-term.is) c.in_ok-cases.ensures in
-    subst (IsSortedState th) (sym c.in_ok-put_first.ensures.put)
-    (c.requires.state_sorted.0, split_sorted th c.known.ensures t sorted ks listed a.goals c.in-Some.goal.now c.in_ok-cases.cases.items
-    c.in-Some.ensures.item.3.0 c.in-Some.ensures.lookup made c.requires.state_sorted.1)
+    subst (IsSortedState th) (sym c.in_ok-put_first.ensures.put) (
+      c.requires.state_sorted.0,
+      split_sorted th c.known.ensures t sorted ks listed a.goals c.in-Some.goal.now c.in_ok-cases.cases.items
+          c.in-Some.ensures.item.3.0 c.in-Some.ensures.lookup made c.requires.state_sorted.1,
+    )

@@ -1,4 +1,4 @@
-use Rattle.std.proofs.Common.{◌≡◌, false, ap, sym, ◌∙◌}
+use Rattle.std.proofs.Common.{◌≡◌, ap, sym, ◌∙◌}
 use Rattle.std.specs.List.{list_any}
 use Rattle.circ_theory.specs.Inside.{theory_of}
 use Rattle.circ_theory.specs.Rule.{is_conditional}

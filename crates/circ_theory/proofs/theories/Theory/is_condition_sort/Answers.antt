@@ -1,4 +1,4 @@
-use Rattle.std.proofs.Common.{◌≡◌, true, false, nat_eq, ap, sym, ◌∙◌}
+use Rattle.std.proofs.Common.{◌≡◌, nat_eq, ap, sym, ◌∙◌}
 use Rattle.std.specs.List.{list_any}
 use Rattle.circ_theory.specs.Observing.{has_condition_of, is_condition_sort}
 use Rattle.circ_theory.specs.Inside.{theory_of}
