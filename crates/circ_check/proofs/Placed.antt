@@ -15,7 +15,7 @@ use Rattle.circ_proof.specs.declared.links.Link.{Link, Equation, Hypothesis}
 use Rattle.circ_proof.specs.declared.links.Chain.{Chain}
 use Rattle.circ_proof.specs.declared.links.Why.{Why, Split}
 use Rattle.circ_proof.proofs.Rows.{equation_plain, hypothesis_plain, split_plain}
-use Rattle.circ_proof.proofs.LinkRows.{row_mapped, all_of_row, row_of_all}
+use Rattle.circ_proof.proofs.LinkRows.{row_mapped, row_of_all}
 use Rattle.circ_proof.specs.Rules.{Simplify, Reduce, Cases}
 use Rattle.circ_check.specs.Placing.{Places, PlacesNumber, PlacesNumbers, PlacesLink, PlacesLinks, PlacesChains, PlacesChain, PlacesWhy, PlacesWhys, PlacesStep}
 

@@ -1,5 +1,5 @@
 -- A list of links as a row of them.
-use Rattle.std.proofs.Common.{◌≡◌, ◌↔◌, max, ℕ, List, [], ◌∷◌, map, refl, ap}
+use Rattle.std.proofs.Common.{◌≡◌, ◌↔◌, max, List, [], ◌∷◌, map, refl, ap}
 use Rattle.circ_term.specs.Tree.{Tree}
 use Rattle.circ_proof.specs.Plain.{LinkOf, more_links, map_link, map_row, row_of}
 use Rattle.circ_proof.specs.Runs.{Runs}

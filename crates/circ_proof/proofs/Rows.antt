@@ -1,5 +1,5 @@
 -- What contracts see of a link whose conditions' chains lie in a vector, and of a why with a vector of whys.
-use Rattle.std.proofs.Common.{◌≡◌, ap, ◌∙◌, sym, refl, Vec, Global, ℕ, List, map}
+use Rattle.std.proofs.Common.{◌≡◌, ap, ◌∙◌, sym, refl, Vec, Global, ℕ, map}
 use mathlib.Core.Former.{Count}
 use Rattle.circ_theory.specs.declared.way.Way.{Way}
 use Rattle.circ_proof.specs.declared.links.Link.{Link, Equation, Equation', Hypothesis, Hypothesis', Assumption, Content, Row_of-Link, end_of-Link, more_of-Link}

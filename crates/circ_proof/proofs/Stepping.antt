@@ -1,12 +1,12 @@
 -- Steps lead from a state to one state at most. They keep it well-sorted, and their hypotheses grow at the end.
 use Rattle.std.specs.Prelude.{◌≡◌, ℕ, List, [], ◌∷◌, ◌++◌, map, refl}
 use Rattle.std.specs.List.{AllByRecursion}
-use Rattle.std.proofs.Common.{ap, sym, ◌∙◌, subst, append_assoc, append-nil, arith}
+use Rattle.std.proofs.Common.{ap, sym, ◌∙◌, subst, append_assoc, append-nil}
 use Rattle.std.proofs.lemmas.Option.{same_Some}
 use Rattle.circ_term.specs.Tree.{Tree, sort_of}
 use Rattle.circ_theory.specs.Signature.{IsWellSorted}
 use Rattle.circ_theory.specs.Theory.{Theory, goal, sides}
-use Rattle.circ_theory.specs.Observing.{cases_of, case_list}
+use Rattle.circ_theory.specs.Observing.{case_list}
 use Rattle.circ_theory.specs.WellFormed.{IsWellFormed}
 use Rattle.circ_theory.specs.declared.parts.Goal.{Goal}
 use Rattle.circ_special.specs.declared.place.Place.{Place}
@@ -14,7 +14,7 @@ use Rattle.circ_proof.specs.Goals.{AreSortedGoals}
 use Rattle.circ_proof.specs.Link.{setting}
 use Rattle.circ_proof.specs.Rules.{State, state, IsSortedState, ProofStep, Simplify, Reduce, Derive, Cases, Done, AllOfStep, StepOn, StepOf, StepsOf, derivatives_on, cases_on, map_step}
 use Rattle.circ_proof.specs.Proof.{IsEnded}
-use Rattle.circ_proof.proofs.Leading.{IsSortedSetting, one_chain, chain_sorted, sorted_setting, conditions_sorted}
+use Rattle.circ_proof.proofs.Leading.{one_chain, chain_sorted, sorted_setting, conditions_sorted}
 use Rattle.circ_proof.proofs.Cases.{cases_listed, cases_sorted}
 use Rattle.circ_proof.proofs.Running.{LeadsToOne}
 use Rattle.circ_proof.proofs.Sorted.{sorted_none, sorted_more, sorted_first, sorted_rest, sorted_append, derivatives_sorted}

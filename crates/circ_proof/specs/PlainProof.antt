@@ -1,5 +1,5 @@
 -- What contracts see of states, steps, blocks and proofs.
-use Rattle.std.specs.Prelude.{ℕ, List, map, Vec}
+use Rattle.std.specs.Prelude.{List, map, Vec}
 use Rattle.circ_proof.specs.Plain.{LinkOf, plain_links, plain_chain, plain_why}
 use Rattle.circ_proof.specs.declared.links.Link.{Link}
 use Rattle.circ_proof.specs.Rules.{State, state, ProofStep, Simplify, Reduce, Derive, Cases, Done}

@@ -6,7 +6,7 @@ use Rattle.std.proofs.Common.{ap, sym, ◌∙◌, subst, arith, append_assoc, ge
 use Rattle.std.proofs.lemmas.List.{length-map}
 use Rattle.circ_term.specs.Tree.{Tree, sort_of}
 use Rattle.circ_term.specs.Limits.{IsWithinLimits}
-use Rattle.circ_theory.specs.Theory.{Theory, Pair, goal, Derivative, IsWellSortedGoal}
+use Rattle.circ_theory.specs.Theory.{Theory, goal, Derivative, IsWellSortedGoal}
 use Rattle.circ_theory.specs.WellFormed.{IsWellFormed}
 use Rattle.circ_theory.specs.Variables.{Variable, occurrences}
 use Rattle.circ_theory.specs.Observing.{is_parameter}

@@ -6,8 +6,6 @@ use Rattle.circ_theory.specs.Theory.{Theory, Pair, goal, sides, IsWellSortedPair
 use Rattle.circ_theory.specs.declared.parts.Goal.{Goal}
 use Rattle.circ_special.specs.declared.place.Place.{Place}
 use Rattle.circ_proof.specs.Plain.{ChainOf}
-use Rattle.circ_theory.specs.Pairs.{plain_pair}
-use Rattle.circ_theory.specs.declared.pairs.Pair.{Pair as PairOfTerms}
 use Rattle.circ_proof.specs.Goals.{AreSortedGoals}
 use Rattle.circ_proof.specs.Link.{setting, Leads}
 use Rattle.circ_proof.specs.Justified.{ChainLeads}

@@ -1,10 +1,9 @@
 -- The gate is well-formed, its proof fits and is accepted, and its steps fail where a condition is left out.
-use Rattle.std.proofs.Common.{◌≡◌, ◌<◌, ◌≤◌, ℕ, List, [], ◌∷◌, zero, suc, map, length, Some, inr, refl, sym, ◌∙◌, subst, arith}
+use Rattle.std.proofs.Common.{◌≡◌, ◌<◌, ◌≤◌, ℕ, List, [], ◌∷◌, zero, map, length, Some, inr, refl, sym, ◌∙◌, subst, arith}
 use Rattle.std.specs.List.{AllByRecursion, Contains, slice_get}
 use Rattle.std.proofs.lemmas.Option.{same_Some}
 use Rattle.circ_term.specs.Tree.{Tree, sort_of}
 use Rattle.circ_form.specs.declared.forms.Piece.TheVariants.{Word}
-use Rattle.circ_theory.specs.declared.way.Way.TheVariants.{Forth}
 use Rattle.circ_theory.specs.declared.parts.Equation.{Equation}
 use Rattle.circ_theory.specs.declared.parts.Goal.{Goal}
 use Rattle.circ_form.specs.Form.{IsForm}
@@ -18,13 +17,13 @@ use Rattle.circ_theory.specs.Experiment.{Behaves}
 use Rattle.circ_theory.specs.Rewriting.{named, by_terms}
 use Rattle.circ_theory.proofs.Casing.{contains_first}
 use Rattle.circ_theory.proofs.Linear.{distinct_by}
-use Rattle.circ_proof.specs.Plain.{no_link, more_links, map_chains}
+use Rattle.circ_proof.specs.Plain.{no_link, map_chains}
 use Rattle.circ_proof.specs.Link.{setting, ConditionsLead}
 use Rattle.circ_proof.specs.Rules.{State, state, map_step, Derive, StepOf, StepsOf}
 use Rattle.circ_proof.specs.Proof.{Block, ProofFor, IsBlockFor}
 use Rattle.circ_proof.specs.Accepted.{Accepted, Derives}
 use Rattle.circ_proof.proofs.Members.{nothing, pick, all_of}
-use Rattle.circ_soundness.specs.GateExample.{off, on, hd, tl, gate, x, s, head_derivative, tail_derivative, if_x, gates, given_by, first_step, heads_step, tails_step}
+use Rattle.circ_soundness.specs.GateExample.{off, on, hd, tl, gate, x, s, head_derivative, if_x, gates, given_by, first_step, heads_step, tails_step}
 use Rattle.circ_soundness.specs.GateExample.{last_step, through, gate_steps, gate_table, gate_names, lets_through}
 use Rattle.circ_soundness.proofs.Sound.{goals_behave}
 

@@ -1,12 +1,11 @@
 -- What is justified agrees at a level, under the assumptions of its setting.
-use Rattle.std.proofs.Common.{◌≡◌, ℕ, List, [], ◌∷◌, ◌++◌, map, inl, inr, sym, subst, ◌∙◌}
+use Rattle.std.proofs.Common.{◌≡◌, ℕ, List, [], ◌∷◌, ◌++◌, map, inl, inr, sym, ◌∙◌}
 use Rattle.std.specs.List.{Contains}
 use Rattle.std.proofs.lemmas.List.Elements.{Contains-append_cases}
-use Rattle.circ_term.specs.Tree.{Tree, none, sort_of}
+use Rattle.circ_term.specs.Tree.{Tree, sort_of}
 use Rattle.circ_term.specs.Substitution.{Substitution, instance}
-use Rattle.circ_theory.specs.Signature.{Signature, HaveSorts, IsWellSorted, IsSubstitution}
+use Rattle.circ_theory.specs.Signature.{Signature, IsWellSorted, IsSubstitution}
 use Rattle.circ_theory.specs.Theory.{Theory, Pair, pair_with, CaseList, IsWellSortedPair, instance_pair}
-use Rattle.circ_theory.specs.WellFormed.{IsWellFormed}
 use Rattle.circ_theory.specs.Derivable.{by_cases, is_case}
 use Rattle.circ_theory.proofs.Casing.{contains_first}
 use Rattle.circ_theory.proofs.Instances.{sort_of-instance_by, instance_well_sorted}

@@ -1,4 +1,4 @@
-use Rattle.std.proofs.Common.{◌≡◌, ◌<◌, ◌∙◌, ℕ, List, length, get_or, ap, sym, subst, arith}
+use Rattle.std.proofs.Common.{◌<◌, ◌∙◌, ℕ, List, length, get_or, ap, sym, subst, arith}
 use Rattle.circ_term.specs.Tree.{Tree}
 use Rattle.circ_proof.specs.Plain.{LinkOf, plain_link, plain_links, plain_chain, plain_chains}
 use Rattle.circ_proof.specs.Nesting.{links_nesting, chains_nesting, link_nesting}

@@ -1,4 +1,4 @@
-use Rattle.std.proofs.Common.{◌≡◌, ap, ◌∙◌, sym}
+use Rattle.std.proofs.Common.{ap, ◌∙◌, sym}
 use Rattle.circ_proof.specs.Plain.{chains_in, plain_link, plain_chains}
 use Rattle.circ_proof.proofs.Rows.{equation_plain, hypothesis_plain}
 use Rattle.circ_replay.proofs.usage.chains.Goals as goal

@@ -1,5 +1,4 @@
 use Rattle.std.proofs.Common.{[], map, ap, ◌∙◌}
-use Rattle.circ_theory.specs.Pairs.{plain_pair}
 use Rattle.circ_theory.specs.Variables.{seen_in}
 use Rattle.circ_replay.specs.Gathering.{variable_of, gathered, gathered_pairs}
 use Rattle.circ_replay.proofs.Gathering.{gathered_seen, gathered_pairs_seen}

@@ -1,4 +1,4 @@
-use Rattle.std.proofs.Common.{◌≡◌, map, ap, sym, subst, ◌∙◌, refl}
+use Rattle.std.proofs.Common.{map, ap, ◌∙◌, refl}
 use Rattle.circ_theory.specs.Pairs.{plain_pair}
 use Rattle.circ_theory.specs.Rewriting.{named}
 use Rattle.circ_term.specs.Tree.{Tree}
