@@ -1,5 +1,5 @@
 -- What is due at a root, as the code looks for it.
-use Rattle.std.proofs.Common.{◌≡◌, ℕ, Bool, true, false, List, [], Some, None, refl, ap, sym, ◌∙◌}
+use Rattle.std.proofs.Common.{◌≡◌, ℕ, Bool, true, false, List, Some, None, refl, ap, sym, ◌∙◌}
 use Rattle.circ_term.specs.Tree.{Tree, Var, App, operator_number}
 use Rattle.circ_term.specs.Order.{is_same}
 use Rattle.circ_term.specs.Substitution.{Substitution, KeepsSorts}

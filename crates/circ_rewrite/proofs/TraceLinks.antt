@@ -1,10 +1,10 @@
 -- Traces as links, one after the other: what is done and what is left, which is nested no deeper.
-use Rattle.std.proofs.Common.{◌≡◌, ◌≤◌, ◌<◌, ◌+◌, ◌*◌, max, ℕ, List, [], ◌∷◌, ◌++◌, length, map, refl, ap, sym, ◌∙◌, arith, append-nil}
+use Rattle.std.proofs.Common.{◌≡◌, ◌≤◌, ◌<◌, ◌+◌, ◌*◌, ℕ, List, [], ◌∷◌, ◌++◌, length, map, refl, ap, sym, ◌∙◌, arith, append-nil}
 use Rattle.std.specs.declared.vec.IntoIter.{IntoIter}
 use Rattle.std.specs.Vec.Iter.{into_iter_len, into_iter_items}
 use Rattle.circ_term.specs.Tree.{Tree}
-use Rattle.circ_proof.specs.Plain.{LinkOf, LinksOf, ChainOf, ChainsOf, more_links, more_chains, row_of, chains_of}
-use Rattle.circ_proof.specs.Nesting.{link_nesting, row_nesting, chains_nesting, links_nesting}
+use Rattle.circ_proof.specs.Plain.{ChainOf, ChainsOf, more_links, more_chains, row_of, chains_of}
+use Rattle.circ_proof.specs.Nesting.{link_nesting, chains_nesting, links_nesting}
 use Rattle.circ_proof.proofs.LinkRows.{row_depth}
 use Rattle.circ_rewrite.specs.Replacement.{Traced, trace_row}
 use Rattle.circ_rewrite.specs.Plain.{plain_traces, plain_passes}

@@ -1,5 +1,5 @@
 -- What contracts see of a trace whose conditions' passes lie in a vector.
-use Rattle.std.proofs.Common.{◌≡◌, ap, ◌∙◌, sym, refl, Vec, Global, List, map}
+use Rattle.std.proofs.Common.{◌≡◌, ap, ◌∙◌, sym, refl, Vec, Global, map}
 use mathlib.Core.Former.{Count}
 use Rattle.circ_term.specs.Tree.{Tree}
 use Rattle.circ_rewrite.specs.Replacement.{By_rule, more_traces, more_passes, trace_row}
