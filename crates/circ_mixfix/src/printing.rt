@@ -275,7 +275,7 @@ fn print_sides(
 /// Appends the text of a term. A variable of number n and sort X is `Vn:X`. An operator without
 /// holes is its words joined by one space, and its arguments in parentheses, joined by `, `. An
 /// operator with holes is its pieces joined by one space, with the arguments in the holes, in
-/// parentheses. After want of memory the bytes are as before.
+/// parentheses. If it runs out of memory the bytes are as before.
 pub fn print(
     alloc: Global,
     theory: &Theory,
@@ -311,8 +311,8 @@ pub fn print_derivative(
     print_as(alloc, theory, true, term, out)
 }
 
-/// Appends the text of a pair: the texts of its sides, joined by ` = `. After want of memory the
-/// bytes are as before.
+/// Appends the text of a pair: the texts of its sides, joined by ` = `. If it runs out of memory
+/// the bytes are as before.
 pub fn print_pair(
     alloc: Global,
     theory: &Theory,
@@ -332,8 +332,8 @@ pub fn print_pair(
     print_sides(alloc, theory, left, right, out)
 }
 
-/// Appends the text of a goal: that of its sides, and where it has conditions ` if ` and the texts of
-/// these, joined by ` /\ `. After want of memory the bytes are as before.
+/// Appends the text of a goal: that of its sides, and where it has conditions ` if ` and the texts
+/// of these, joined by ` /\ `. If it runs out of memory the bytes are as before.
 pub fn print_goal(
     alloc: Global,
     theory: &Theory,

@@ -30,7 +30,8 @@ fn number_of<'a>(
 ) -> Result<u32, AllocError>
     ensures seen { OnOk result (map named_of seen.new.keys ≡ seen_in (Variable name.now sort)
         (map named_of seen.old.keys)) }
-    ensures number { IfOk result (λ n. n ≡ place_from 0 (map named_of seen.new.keys) name.now sort) }
+    ensures number { IfOk result (λ n. n ≡ place_from 0 (map named_of seen.new.keys) name.now
+        sort) }
 {
     let (place, _) = seen.insert_full(VariableName { name, sort })?;
     if place >= MOST_VARIABLES {

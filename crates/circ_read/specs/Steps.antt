@@ -47,7 +47,7 @@ Finds (Ok a) o = o ≡ Ok a
 Finds (Err (Because c)) o = o ≡ Err c
 Finds (Err Memory) o = Unit {0}
 
--- the cause that a fault of a theory is, or want of memory
+-- the cause that a fault of a theory is, or out of memory
 abbrev pub fault_of : TheoryFault → Fault
 fault_of fault.Memory = Memory
 fault_of f = Because (cause_of f)
@@ -117,7 +117,7 @@ condition_spans (s ∷ conds) = s.left ∷ s.right ∷ condition_spans conds
 abbrev pub GivesDerivative : Theory → List (List ℕ) → Result Theory Cause → Type 0
 GivesDerivative th term r = ComesTo th (derivative term) r
 
--- the cause that a fault of reading terms is, or want of memory
+-- the cause that a fault of reading terms is, or out of memory
 abbrev pub IsNoReading : Fault → Theory → ParseFault → Type 0
 IsNoReading (Because c) th (parse.TooLong n) = c ≡ cause.TooLong n
 IsNoReading (Because c) th parse.NoParse = c ≡ cause.NoParse

@@ -3,7 +3,8 @@ ghost use Rattle.std.specs.Prelude.{◌≡◌, ◌+◌, IfOk, drop, nat_eq, fals
 ghost use Rattle.circ_lexer.specs.TokenList.{tokens_of};
 ghost use Rattle.circ_read.specs.Includes.{is_included, text_named};
 ghost use Rattle.circ_read.specs.ReadsAs.{begun, GivesTheory};
-ghost use Rattle.circ_read.specs.Steps.{StepAnswers, InclusionOutcome, IsHeadOf, GivesRead, fault_at, scope_of};
+ghost use Rattle.circ_read.specs.Steps.{StepAnswers, InclusionOutcome, IsHeadOf, GivesRead};
+ghost use Rattle.circ_read.specs.Steps.{fault_at, scope_of};
 
 use crate::body::{Receiver, add_body, fault_at};
 use crate::cause::{Cause, Fault, ReadFault, because, byte_fault};

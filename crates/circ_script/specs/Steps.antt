@@ -111,7 +111,7 @@ abbrev pub shaped : Option FoundItem → Result FoundItem Fault
 shaped None = Err (Because cause.Shape)
 shaped (Some p) = Ok p
 
--- the cause that a fault of reading terms is, or want of memory
+-- the cause that a fault of reading terms is, or out of memory
 abbrev pub IsUnread : Fault → Theory → ParseFault → Type 0
 IsUnread (Because c) th (parse.TooLong n) = c ≡ cause.TooLong n
 IsUnread (Because c) th parse.NoParse = c ≡ cause.NoParse

@@ -5,8 +5,8 @@ ghost use Rattle.circ_theory.specs.Theory.{Theory};
 ghost use Rattle.circ_read.specs.Steps.{StepAnswers};
 ghost use Rattle.circ_script.specs.Drafts.{AsksFor, first_draft};
 ghost use Rattle.circ_script.specs.ReadsAsScript.{GivesScript};
-ghost use Rattle.circ_script.specs.Steps.{draft_of, TakingOutcome, GivesEnd, GivesDraft, GivesScriptFrom};
-ghost use Rattle.circ_script.specs.Steps.{IsButVariables};
+ghost use Rattle.circ_script.specs.Steps.{draft_of, TakingOutcome, GivesEnd, GivesDraft};
+ghost use Rattle.circ_script.specs.Steps.{GivesScriptFrom, IsButVariables};
 
 use crate::Job;
 use crate::adding::{Asked, add_item};
