@@ -1,12 +1,14 @@
 //! The search for a proof.
-ghost use Rattle.std.specs.Prelude.{◌≡◌, Some, [], map, IfOk};
+ghost use Rattle.std.specs.Prelude.{◌≡◌, List, Some, [], map, IfOk};
+ghost use Rattle.circ_theory.specs.declared.parts.Goal.{Goal as TheGoal};
 ghost use Rattle.circ_rewrite.specs.Links.{link_of};
 ghost use Rattle.circ_contexts.specs.Candidates.{plain_lists};
 ghost use Rattle.circ_plain_search.specs.Greatest.{GreatestSpecialSet};
 ghost use Rattle.circ_proof.specs.PlainProof.{plain_proof};
 ghost use Rattle.circ_plain_search.specs.Numbering.{Special, found_of, needed, proof_with};
 ghost use Rattle.circ_plain_search.specs.PlainSearch.{AreSearchable, PlainSearch, IsProofOf};
-ghost use Rattle.circ_plain_search.specs.Search.{All_done, Ending};
+ghost use Rattle.circ_plain_search.specs.Search.{All_done, Ending, start};
+ghost use Rattle.circ_turn.specs.Standing.{standing, IsStart};
 ghost use Rattle.circ_numbering.specs.Asking.{GivesProof};
 ghost use Rattle.circ_numbering.specs.Plain.{plain_term_blocks, plain_term_certificates};
 ghost use Rattle.circ_search.specs.Plain.{plain_found, plain_limits, ending_of, special_with};
@@ -63,14 +65,34 @@ fn search_with(
         (plain_limits limits.now) (plain_found f)) }
 {
     let mut state = State::start(alloc, blocks, limits.steps)?;
+    search_from(alloc, theory, limits, gamma, traces, &mut state)
+}
+
+// The same from the start of the search.
+fn search_from(
+    alloc: Global,
+    theory: &Theory,
+    limits: &Limits,
+    gamma: Gamma,
+    traces: Vec<Vec<Trace>>,
+    state: &mut State<'_>,
+) -> Result<Found, AllocError>
+    requires start { IsStart theory.now (plain_limits limits.now) (standing state.old) }
+    requires greatest { GreatestSpecialSet theory.now limits.now.steps gamma
+        (plain_lists traces.items) }
+    ensures { (blocks : List (List TheGoal))
+        → standing state.old ≡ start (plain_limits limits.now) blocks
+        → IfOk result (λ f. PlainSearch theory.now blocks (plain_limits limits.now)
+        (plain_found f)) }
+{
     let search = Search {
         alloc,
         theory,
         gamma: &gamma,
         limits: *limits,
     };
-    match search.run(&mut state) {
-        Ok(()) => found(alloc, gamma, traces, &state),
+    match search.run(state) {
+        Ok(()) => found(alloc, gamma, traces, state),
         Err(end) => ended(end),
     }
 }
