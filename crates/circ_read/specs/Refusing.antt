@@ -1,5 +1,5 @@
 -- Why a statement is refused: its first cause.
-use Rattle.std.specs.Prelude.{◌≡◌, ◌⊎◌, ℕ, List, [], ◌∷◌, true, Option, Some, None}
+use Rattle.std.specs.Prelude.{◌≡◌, ◌⊎◌, ℕ, List, [], ◌∷◌, Bool, true, Option, Some, None}
 use Rattle.std.proofs.Common.{Less}
 use Rattle.circ_term.specs.Tree.{Tree, trees_of}
 use Rattle.circ_term.specs.Order.{trees_cmp}
@@ -34,11 +34,15 @@ pub data ReadsNotAlone (too_long : Option ℕ) (Reads : List Tree → Type 0) (s
   two_readings : (ts us : List Tree) → too_long ≡ None → Reads ts → Reads us → trees_cmp (trees_of ts) (trees_of us) ≡ Less
       → ReadsNotAlone too_long Reads shown (Ambiguous (shown ts) (shown us))
 
--- the term of a derivative as it is printed, and an equation
+-- a term as it is printed, perhaps with a hole, and an equation or a goal
+abbrev pub shown_text : (hole : Bool) → Theory → List Tree → List ℕ
+shown_text hole th [] = []
+shown_text hole th (t ∷ []) = text_of_term th.signature hole t
+shown_text hole th (t ∷ u ∷ ts) = text_of_goal th.signature (goal (pairs_of ts) t u)
+
+-- in a theory text a term by itself is a derivative's
 abbrev pub terms_text : Theory → List Tree → List ℕ
-terms_text th [] = []
-terms_text th (t ∷ []) = text_of_term th.signature true t
-terms_text th (t ∷ u ∷ ts) = text_of_goal th.signature (goal (pairs_of ts) t u)
+terms_text th ts = shown_text true th ts
 
 -- The token lists of an equation do not read as the only terms, or else the equation is not added.
 abbrev pub RefusesEquation : Theory → List (List (List ℕ)) → Cause → Type 0

@@ -31,7 +31,7 @@ use Rattle.circ_mixfix.specs.declared.parse.ParseFault.TheVariants as parse
 use Rattle.circ_read.specs.Text.{HasNoStop, IsTextHead, ending, AddsTokens, Reaches, ReadsTo}
 use Rattle.circ_read.specs.Failing.{HasNoHead, IsNoStatement, RefusesTokens, Breaks, FailsAt}
 use Rattle.circ_read.specs.Adding.{AddsStatement}
-use Rattle.circ_read.specs.Refusing.{RefusesStatement, terms_text}
+use Rattle.circ_read.specs.Refusing.{RefusesStatement, shown_text}
 use Rattle.circ_read.specs.Includes.{Scope, scope, Includes, AddsIn}
 use Rattle.circ_read.specs.RefusesIn.{RefusesInclusion, RefusesIn}
 
@@ -117,13 +117,13 @@ condition_spans (s ∷ conds) = s.left ∷ s.right ∷ condition_spans conds
 abbrev pub GivesDerivative : Theory → List (List ℕ) → Result Theory Cause → Type 0
 GivesDerivative th term r = ComesTo th (derivative term) r
 
--- the cause that a fault of reading terms is, or out of memory
-abbrev pub IsNoReading : Fault → Theory → ParseFault → Type 0
-IsNoReading (Because c) th (parse.TooLong n) = c ≡ cause.TooLong n
-IsNoReading (Because c) th parse.NoParse = c ≡ cause.NoParse
-IsNoReading (Because c) th (parse.Ambiguous a b) = c ≡ cause.Ambiguous (terms_text th a.terms.items) (terms_text th b.terms.items)
-IsNoReading (Because c) th parse.Memory = ⊥
-IsNoReading Memory th f = Unit {0}
+-- the cause that a fault of reading terms, perhaps with a hole, is, or out of memory
+abbrev pub IsNoReading : (hole : Bool) → Fault → Theory → ParseFault → Type 0
+IsNoReading hole (Because c) th (parse.TooLong n) = c ≡ cause.TooLong n
+IsNoReading hole (Because c) th parse.NoParse = c ≡ cause.NoParse
+IsNoReading hole (Because c) th (parse.Ambiguous a b) = c ≡ cause.Ambiguous (shown_text hole th a.terms.items) (shown_text hole th b.terms.items)
+IsNoReading hole (Because c) th parse.Memory = ⊥
+IsNoReading hole Memory th f = Unit {0}
 
 -- what the tokens of a span say, or why they say nothing
 pub record IsSaid (ws : List (List ℕ)) (ts : TokenList) (s : Statement) : Type 0 where

@@ -36,7 +36,7 @@ pub(crate) fn add_equation(
     let spans = spans_of(alloc, left, right, conds)?;
     match parse_list_declared(alloc, theory, tokens, &spans) {
         Ok(reading) => add_terms(alloc, theory, &reading.terms, exec),
-        Err(fault) => Err(unread(alloc, theory, fault)),
+        Err(fault) => Err(unread(alloc, theory, true, fault)),
     }
 }
 

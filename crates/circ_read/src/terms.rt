@@ -1,14 +1,15 @@
 //! Terms that were read, and why tokens do not read as terms.
-ghost use Rattle.std.specs.Prelude.{◌≡◌, IfOk};
+ghost use Rattle.std.specs.Prelude.{◌≡◌, ◌++◌, IfOk, OnOk};
 ghost use Rattle.circ_mixfix.specs.Found.{pairs_of};
 ghost use Rattle.circ_read.specs.declared.cause.Cause.TheVariants.{Ambiguous};
 ghost use Rattle.circ_read.specs.Outcomes.{goal_of_terms};
-ghost use Rattle.circ_read.specs.Refusing.{terms_text};
+ghost use Rattle.circ_mixfix.specs.Printing.{text_of_term};
+ghost use Rattle.circ_read.specs.Refusing.{shown_text};
 ghost use Rattle.circ_read.specs.Steps.{IsNoReading};
 
 use crate::cause::{Cause, Fault, because};
 use circ_form::Text;
-use circ_mixfix::{ParseFault, Reading, print_derivative, print_goal};
+use circ_mixfix::{ParseFault, Reading, print, print_derivative, print_goal};
 use circ_term::Term;
 use circ_theory::{Goal, Pair, Pairs, Theory};
 use std::alloc::{AllocError, Global};
@@ -44,15 +45,16 @@ fn pairs_of(alloc: Global, terms: &[Term]) -> Result<Pairs, AllocError>
     Ok(pairs)
 }
 
-// The cause that a fault of reading terms is.
-pub(crate) fn unread(alloc: Global, theory: &Theory, fault: ParseFault) -> Fault
-    ensures { IsNoReading result theory.now fault }
+/// The cause that a fault of reading terms is. Where a term by itself may have the hole of a
+/// derivative, it is shown so.
+pub fn unread(alloc: Global, theory: &Theory, hole: bool, fault: ParseFault) -> Fault
+    ensures { IsNoReading hole result theory.now fault }
 {
     match fault {
         ParseFault::TooLong { count } => because(Cause::TooLong { count }),
         ParseFault::NoParse => because(Cause::NoParse),
         ParseFault::Ambiguous { first, second } => {
-            match ambiguous(alloc, theory, &first, &second) {
+            match ambiguous(alloc, theory, hole, &first, &second) {
                 Ok(cause) => because(cause),
                 Err(_) => Fault::Memory,
             }
@@ -64,26 +66,49 @@ pub(crate) fn unread(alloc: Global, theory: &Theory, fault: ParseFault) -> Fault
 fn ambiguous(
     alloc: Global,
     theory: &Theory,
+    hole: bool,
     first: &Reading,
     second: &Reading,
 ) -> Result<Cause, AllocError>
-    ensures { IfOk result (λ c. c ≡ Ambiguous (terms_text theory.now first.now.terms.items)
-        (terms_text theory.now second.now.terms.items)) }
+    ensures { IfOk result (λ c. c ≡ Ambiguous
+        (shown_text hole theory.now first.now.terms.items)
+        (shown_text hole theory.now second.now.terms.items)) }
 {
-    let first = terms_text(alloc, theory, &first.terms)?;
-    let second = terms_text(alloc, theory, &second.terms)?;
+    let first = shown_text(alloc, theory, hole, &first.terms)?;
+    let second = shown_text(alloc, theory, hole, &second.terms)?;
     Ok(Cause::Ambiguous { first, second })
 }
 
-fn terms_text(alloc: Global, theory: &Theory, terms: &[Term]) -> Result<Text, AllocError>
-    ensures { IfOk result (λ t. t ≡ terms_text theory.now terms.now) }
+fn shown_text(
+    alloc: Global,
+    theory: &Theory,
+    hole: bool,
+    terms: &[Term],
+) -> Result<Text, AllocError>
+    ensures { IfOk result (λ t. t ≡ shown_text hole theory.now terms.now) }
 {
     let mut text = Vec::new(alloc);
     if let [term] = terms {
-        print_derivative(alloc, theory, term, &mut text)?;
+        put_term(alloc, theory, hole, term, &mut text)?;
     }
     if let Some(goal) = goal_of(alloc, terms)? {
         print_goal(alloc, theory, &goal, &mut text)?;
     }
     Text::of(alloc, text.as_slice())
+}
+
+fn put_term(
+    alloc: Global,
+    theory: &Theory,
+    hole: bool,
+    term: &Term,
+    out: &mut Vec<u8>,
+) -> Result<(), AllocError>
+    ensures { OnOk result (out.new.items ≡ out.old.items ++
+        text_of_term theory.now.signature hole term.now) }
+{
+    if hole {
+        return print_derivative(alloc, theory, term, out);
+    }
+    print(alloc, theory, term, out)
 }

@@ -5,7 +5,6 @@ use Rattle.circ_lexer.specs.declared.tokens.Span.{Span}
 use Rattle.circ_theory.specs.Theory.{Theory}
 use Rattle.circ_script.specs.declared.script.Script as made
 use Rattle.circ_mixfix.specs.declared.parse.ParseFault.{ParseFault}
-use Rattle.circ_mixfix.specs.declared.parse.ParseFault.TheVariants as parse
 use Rattle.circ_statement.specs.declared.statements.Statement.{Statement}
 use Rattle.circ_statement.specs.declared.statements.Statement.TheVariants as said
 use Rattle.circ_statement.specs.Words.{Word, has_word}
@@ -19,6 +18,7 @@ use Rattle.circ_read.specs.declared.cause.Fault.TheVariants.{Because, Memory}
 use Rattle.circ_read.specs.declared.cause.ReadFault.{ReadFault}
 use Rattle.circ_read.specs.declared.cause.ReadFault.TheVariants as at
 use Rattle.circ_read.specs.Includes.{with_variables}
+use Rattle.circ_read.specs.Steps.{IsNoReading}
 use Rattle.circ_script.specs.declared.job.Job.{Job}
 use Rattle.circ_script.specs.declared.adding.Asked.{Asked}
 use Rattle.circ_script.specs.declared.items.FoundItem.{FoundItem}
@@ -28,7 +28,7 @@ use Rattle.circ_script.specs.Script.{plain_script}
 use Rattle.circ_script.specs.Items.{Item, variables, goal, coinduction, reduce, IsItem, begins_with}
 use Rattle.circ_script.specs.Drafts.{Draft, IsFinished, script_of}
 use Rattle.circ_script.specs.Adding.{AddsItem, TakesItem, TakesItems}
-use Rattle.circ_script.specs.Refusing.{reading_text, RefusesItem, TakesNoItem, IsUnfinished, StopsAt}
+use Rattle.circ_script.specs.Refusing.{RefusesItem, TakesNoItem, IsUnfinished, StopsAt}
 
 -- the second theory is the first, perhaps with other variables
 abbrev pub IsButVariables : Theory → Theory → Type 0
@@ -113,11 +113,7 @@ shaped (Some p) = Ok p
 
 -- the cause that a fault of reading terms is, or out of memory
 abbrev pub IsUnread : Fault → Theory → ParseFault → Type 0
-IsUnread (Because c) th (parse.TooLong n) = c ≡ cause.TooLong n
-IsUnread (Because c) th parse.NoParse = c ≡ cause.NoParse
-IsUnread (Because c) th (parse.Ambiguous a b) = c ≡ cause.Ambiguous (reading_text th a.terms.items) (reading_text th b.terms.items)
-IsUnread (Because c) th parse.Memory = ⊥
-IsUnread Memory th f = Unit {0}
+IsUnread f th fault = IsNoReading false f th fault
 
 -- the draft of what was asked for, in a theory
 abbrev pub draft_of : Theory → Asked → Draft

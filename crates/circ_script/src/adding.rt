@@ -12,11 +12,10 @@ ghost use Rattle.circ_script.specs.Steps.{draft_of, item_of, ItemOutcome, LieWit
 ghost use Rattle.circ_script.specs.Steps.{IsButVariables};
 
 use crate::items::FoundItem;
-use crate::readings::unread;
 use crate::variables::add_variables;
 use circ_lexer::{Span, Tokens};
 use circ_mixfix::{parse_one_declared, parse_pair_declared};
-use circ_read::{Cause, Fault, because};
+use circ_read::{Cause, Fault, because, unread};
 use circ_term::Term;
 use circ_theory::{Goal, Pairs, Theory};
 use std::alloc::Global;
@@ -68,7 +67,7 @@ fn add_goal(
 {
     match parse_pair_declared(alloc, theory, tokens, left, right) {
         Ok(reading) => push_goal(alloc, &mut asked.goals, reading.terms),
-        Err(fault) => Err(unread(alloc, theory, fault)),
+        Err(fault) => Err(unread(alloc, theory, false, fault)),
     }
 }
 
@@ -118,7 +117,7 @@ fn add_term(
 {
     match parse_one_declared(alloc, theory, tokens, term, false) {
         Ok(reading) => push_term(&mut asked.terms, reading.terms),
-        Err(fault) => Err(unread(alloc, theory, fault)),
+        Err(fault) => Err(unread(alloc, theory, false, fault)),
     }
 }
 

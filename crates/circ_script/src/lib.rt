@@ -11,7 +11,6 @@ mod items;
 mod job;
 pub mod laws;
 mod reader;
-mod readings;
 mod script;
 mod spans;
 mod variables;
