@@ -1,9 +1,8 @@
 -- Without conditions no link has chains.
-use Rattle.std.proofs.Common.{◌≡◌, List, [], ◌∷◌, ◌++◌, refl, sym, subst}
+use Rattle.std.proofs.Common.{◌≡◌, List, [], refl, sym, subst}
 use Rattle.circ_term.specs.Tree.{Tree}
 use Rattle.circ_term.specs.Substitution.{Substitution}
-use Rattle.circ_theory.specs.Theory.{Theory, Pair, HasNoConditions, AreConditions}
-use Rattle.circ_theory.specs.declared.parts.Goal.{Goal}
+use Rattle.circ_theory.specs.Theory.{Theory, Pair, AreConditions}
 use Rattle.circ_proof.specs.Plain.{ChainsOf, no_chain, more_chains}
 use Rattle.circ_proof.specs.Link.{Setting, ConditionsLead, AllOfChains}
 use Rattle.circ_proof.proofs.Members.{nothing}

@@ -3,7 +3,7 @@ use Rattle.circ_plain_search.specs.Numbering.{asked_for, links_terms, chain_term
 use Rattle.circ_numbering.specs.Asking.{IsFaultOf}
 use Rattle.circ_proof.specs.Plain.{LinkOf, ChainOf, Equation_link, Hypothesis_link, plain_link, plain_links, plain_chain, plain_chains, map_link, map_chain}
 use Rattle.circ_proof.specs.Link.{terms_of, chains_terms}
-use Rattle.circ_proof.specs.Nesting.{link_nesting, links_nesting, chains_nesting}
+use Rattle.circ_proof.specs.Nesting.{link_nesting, chains_nesting}
 use Rattle.circ_proof.specs.Table.{number_in}
 use Rattle.circ_proof.proofs.Rows.{equation_plain, hypothesis_plain}
 use Rattle.circ_numbering.proofs.Requests.{first_fails, second_fails, both_asked, later_too}

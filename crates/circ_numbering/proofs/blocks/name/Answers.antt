@@ -1,6 +1,5 @@
 use Rattle.std.proofs.Common.{◌∙◌, ℕ, List, [], ◌∷◌, map, ap}
 use Rattle.std.specs.Prelude.{flat_map}
-use Rattle.circ_theory.specs.Pairs.{plain_pair}
 use Rattle.circ_proof.specs.Proof.{GoalNames}
 use Rattle.circ_proof.specs.Table.{number_in}
 use Rattle.circ_plain_search.specs.Numbering.{side_terms, pair_name}

@@ -1,4 +1,4 @@
-use Rattle.std.proofs.Common.{◌++◌, ◌+◌, ◌-◌, ◌∷◌, [], List, Ok, ap, sym, subst, ◌∙◌, arith, drop, map}
+use Rattle.std.proofs.Common.{◌+◌, ◌-◌, List, Ok, ap, sym, subst, ◌∙◌, arith, drop, map}
 use Rattle.circ_proof.specs.Plain.{Split_why}
 use Rattle.circ_plain_search.specs.Joining.{and_then}
 use Rattle.circ_plain_search.specs.Search.{Sides, sides_with, reason_with, each_case, split_cases, open_cases, constants_of}
