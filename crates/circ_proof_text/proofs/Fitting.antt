@@ -333,9 +333,9 @@ shows_fit th (closed f bs) ts k s = over_table th f (shown (closed f bs)) ts k s
 shows_fit th (ended f bs) ts k s = over_table th f (shown (ended f bs)) ts k s
 
 -- The parts of a proof that fits, fit.
-pub parts_fit : (th : Theory) (p : Proof) → IsWellFormed th → ProofFor th p → p.version ≡ 1 → Fit th (parts_of p)
-parts_fit th p w f v =
-    let a = fits_fine th p w f v in
+pub parts_fit : (th : Theory) (p : Proof) → IsWellFormed th → ProofFor th p → Fit th (parts_of p)
+parts_fit th p w f =
+    let a = fits_fine th p w f in
     let q : NumberedProof = numbers_of p in
     let s : Shows th (front q.table q.places q.certificates) (grammar.parts_of q)
     = lines_show th (proof_lines q) (ended (front q.table q.places q.certificates) q.blocks) (proof_run q a.0) a.1 in

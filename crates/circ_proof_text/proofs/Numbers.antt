@@ -203,7 +203,7 @@ after_places q = lines_of certificate_lines q.certificates (lines_of block_lines
 
 -- Lines of the grammar that are fine are those of a proof that fits.
 pub fine_fits : (th : Theory) (q : NumberedProof) → HasParts q → AllFine th nothing (proof_lines q)
-    → (p : Proof) × ProofFor th p × (p.version ≡ 1) × (numbers_of p ≡ q)
+    → (p : Proof) × ProofFor th p × (numbers_of p ≡ q)
 fine_fits th q parts h =
     let v : ℕ = q.table.version in
     let e : (us : List Tree) × HaveTerms th [] q.table.lines us × AllFine th (seen v us [] 0 0) (after_table q)
@@ -230,7 +230,7 @@ fine_fits th q parts h =
       blocks = blocks_fit th ts q.blocks parts.1 b.1;
       few_steps = omega (arith, few, count_with ts q.blocks);
     } in
-    (proof_with ts q, fits, eqb-true v 1 h.1, numbers_with ts q e.1.lines)
+    (proof_with ts q, fits, numbers_with ts q e.1.lines)
 
 pub blocks_numbered : (th : Theory) (ts : List Tree) (bs : List Block) → AllByRecursion (IsBlockFor th ts) bs
     → AllByRecursion HasGoals (map block_numbers bs) × AllByRecursion (IsNumberedBlockFor th ts) (map block_numbers bs)
@@ -246,10 +246,9 @@ count_without th ts (b ∷ bs) h =
     = ap length (sym (with-without b.steps h.0.ended)) ∙ length-with (without_done b.steps) in
     omega (arith, e, count_without th ts bs h.1)
 
--- The lines of a proof of version 1 that fits follow the grammar, and are fine.
-pub fits_fine : (th : Theory) (p : Proof) → IsWellFormed th → ProofFor th p → p.version ≡ 1
-    → HasParts (numbers_of p) × AllFine th nothing (proof_lines (numbers_of p))
-fits_fine th p w f first =
+-- The lines of a proof that fits follow the grammar, and are fine.
+pub fits_fine : (th : Theory) (p : Proof) → IsWellFormed th → ProofFor th p → HasParts (numbers_of p) × AllFine th nothing (proof_lines (numbers_of p))
+fits_fine th p w f =
     let v : ℕ = p.version in
     let ts : List Tree = p.table in
     let short : length ts ≤ term_limit = f.short_table in
@@ -264,7 +263,7 @@ fits_fine th p w f first =
     let g = places_from th v ts [] p.places (after_places q) w f.places.increasing f.places.places c in
     let e = table_from th v [] ts (after_table q) w f.entries f.sorted f.within (omega (arith, short)) g in (
       (omega (arith, has_item p.blocks f.some_block, length-of block_numbers p.blocks), r.0),
-      (version_in_range p f.version, eq-eqb v 1 first, refl, e),
+      (version_in_range p f.version, refl, refl, e),
     )
 
 -- A proof that fits is determined by its numbers.

@@ -40,22 +40,22 @@ fine_lines th before (l ∷ ls) f h k =
 
 pub reads_text : (th : Theory) (bytes : List ℕ) (p : Proof) → IsWellFormed th → ReadsAsProof th bytes p → IsTextOf (line_tests th) (numbers_of p) bytes
 reads_text th bytes p w h =
-    let f = fits_fine th p w h.proof_for h.version in
+    let f = fits_fine th p w h.proof_for in
     let a = good_lines th [] (proof_lines (numbers_of p)) f.1 in
     record { parts = f.0; fit = a.fit; text = h.text; pass = a.pass; within = a.within }
 
 pub text_reads : (th : Theory) (bytes : List ℕ) (q : NumberedProof) → IsTextOf (line_tests th) q bytes → (p : Proof) × ReadsAsProof th bytes p × (numbers_of p ≡ q)
 text_reads th bytes q h =
-    let f : (p : Proof) × ProofFor th p × (p.version ≡ 1) × (numbers_of p ≡ q) = fine_fits th q h.parts (fine_lines th [] (proof_lines q) h.fit h.pass h.within) in
-    (f.0, record { proof_for = f.1; version = f.2; text = h.text ∙ ap (λ x. file_text (proof_lines x)) (sym f.3) }, f.3)
+    let f : (p : Proof) × ProofFor th p × (numbers_of p ≡ q) = fine_fits th q h.parts (fine_lines th [] (proof_lines q) h.fit h.pass h.within) in
+    (f.0, record { proof_for = f.1; text = h.text ∙ ap (λ x. file_text (proof_lines x)) (sym f.2) }, f.2)
 
 pub one_reading : (th : Theory) (bytes : List ℕ) (p q : Proof) → IsWellFormed th → ReadsAsProof th bytes p → ReadsAsProof th bytes q → p ≡ q
 one_reading th bytes p q w h k =
     one_proof th p q h.proof_for k.proof_for
     (one.one_proof (line_tests th) bytes (numbers_of p) (numbers_of q) (reads_text th bytes p w h) (reads_text th bytes q w k))
 
-pub reads_back : (th : Theory) (p : Proof) → ProofFor th p → p.version ≡ 1 → ReadsAsProof th (proof_text p) p
-reads_back th p f v = record { proof_for = f; version = v; text = refl }
+pub reads_back : (th : Theory) (p : Proof) → ProofFor th p → ReadsAsProof th (proof_text p) p
+reads_back th p f = record { proof_for = f; text = refl }
 
 pub not_both : (th : Theory) (bytes : List ℕ) (p : Proof) (fault : LineFault) → IsWellFormed th → ReadsAsProof th bytes p → FirstCause th bytes fault → ⊥
 not_both th bytes p fault w h f = one.no_fault (line_tests th) bytes (numbers_of p) (reads_text th bytes p w h) fault f

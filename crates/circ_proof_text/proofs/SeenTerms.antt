@@ -38,14 +38,33 @@ table_of (joining m c) = table_of m
 table_of (closed f bs) = f.table.lines
 table_of (ended f bs) = f.table.lines
 
+-- the version that its first line has named
+abbrev pub version_of : State → ℕ
+version_of begin = 0
+version_of (tabling es) = es.version
+version_of (placing es ps) = es.version
+version_of (certifying f ls) = f.table.version
+version_of (opened o) = o.front.table.version
+version_of (stepping o) = o.front.table.version
+version_of (simplifying o c) = o.front.table.version
+version_of (reducing o fs c) = o.front.table.version
+version_of (joining m c) = version_of m
+version_of (closed f bs) = f.table.version
+version_of (ended f bs) = f.table.version
+
 -- lines that are none of the table
 
 abbrev pub is_of_table : Line → Bool
 is_of_table (table_line l) = true
 is_of_table _ = false
 
+-- nor the first line
+abbrev is_of_head : Line → Bool
+is_of_head (head_line v) = true
+is_of_head l = is_of_table l
+
 abbrev NoTable : List Line → Type 0
-NoTable ls = AllByRecursion (λ l. is_of_table l ≡ false) ls
+NoTable ls = AllByRecursion (λ l. is_of_head l ≡ false) ls
 
 no_table : {A : Type 0} (f : A → List Line → List Line) → ((x : A) (k : List Line) → NoTable k → NoTable (f x k)) → (xs : List A) (k : List Line) → NoTable k
     → NoTable (lines_of f xs k)
@@ -147,9 +166,37 @@ same_terms th c (left_line l) z = refl
 same_terms th c (right_line l) z = refl
 same_terms th c end_line z = refl
 
-terms_stay : (th : Theory) (c : Seen) (k : List Line) → NoTable k → (after_all th c k).terms ≡ c.terms
-terms_stay th c [] n = refl
-terms_stay th c (l ∷ k) n = terms_stay th (after th c l) k n.1 ∙ same_terms th c l n.0
+-- the terms and the version
+abbrev head_in : Seen → List Tree × ℕ
+head_in c = (c.terms, c.version)
+
+same_head : (th : Theory) (c : Seen) (l : Line) → is_of_head l ≡ false → head_in (after th c l) ≡ head_in c
+same_head th c (head_line v) z = absurd (cc)
+same_head th c (table_line x) z = absurd (cc)
+same_head th c (place_line a b) z = refl
+same_head th c certificate_line z = refl
+same_head th c block_line z = refl
+same_head th c (goal_line a b) z = refl
+same_head th c (given_line a b) z = refl
+same_head th c simplify_line z = refl
+same_head th c reduce_line z = refl
+same_head th c derive_line z = refl
+same_head th c (cases_line t) z = refl
+same_head th c done_line z = refl
+same_head th c (split_line t n) z = refl
+same_head th c if_line z = refl
+same_head th c (left_line l) z = refl
+same_head th c (right_line l) z = refl
+same_head th c end_line z = refl
+same_head th c same_line z = closes c.ifs
+  where
+    closes : (n : ℕ) → head_in (after_same c n) ≡ head_in c
+    closes zero = refl
+    closes (suc n) = refl
+
+head_stays : (th : Theory) (c : Seen) (k : List Line) → NoTable k → head_in (after_all th c k) ≡ head_in c
+head_stays th c [] n = refl
+head_stays th c (l ∷ k) n = head_stays th (after th c l) k n.1 ∙ same_head th c l n.0
 
 table_gives : (th : Theory) (v : ℕ) (ts us : List Tree) (k : List Line) → AreEntries ts us → AllByRecursion (IsWellSorted th.signature) us
     → after_all th (seen v ts [] 0 0) (lines_of table_lines (entries_of ts us) k) ≡ after_all th (seen v (ts ++ us) [] 0 0) k
@@ -159,29 +206,40 @@ table_gives th v ts (u ∷ us) k b g =
     (entry_term th.signature ts u (entry_args ts u b.0) g.0)
     ∙ table_gives th v (ts ++ u ∷ []) us k b.1 g.1 ∙ ap (λ x. after_all th (seen v x [] 0 0) k) (append_assoc ts (u ∷ []) us)
 
+-- what such lines give: the terms of the table, and the version
+record Gives (th : Theory) (v : ℕ) (ls : List TableLine) (c : Seen) : Type 0 where
+  pub terms : HaveTerms th [] ls c.terms
+  pub version : c.version ≡ v
+
 -- the lines of a table and then lines that are none of it
 table_terms : (th : Theory) (es : NumberedTable) (k : List Line) → NoTable k → AllFine th nothing (head_lines es k)
-    → HaveTerms th [] es.lines (after_all th nothing (head_lines es k)).terms
+    → Gives th es.version es.lines (after_all th nothing (head_lines es k))
 table_terms th es k n h =
     let v : ℕ = es.version in
     let r : (us : List Tree) × HaveTerms th [] es.lines us × AllFine th (seen v us [] 0 0) k = table_to th v [] es.lines k tt (omega arith) h.3 in
     let P : List Tree → Type 0 = HaveTerms th [] es.lines in
-    subst P (sym (ap (λ x. (after_all th (seen v [] [] 0 0) (lines_of table_lines x k)).terms) (sym r.1.lines)
-    ∙ ap (λ x. x.terms) (table_gives th v [] r.0 k r.1.entries r.1.sorted) ∙ terms_stay th (seen v r.0 [] 0 0) k n)) r.1
+    let given : head_in (after_all th nothing (head_lines es k)) ≡ (r.0, v)
+    = ap (λ x. head_in (after_all th (seen v [] [] 0 0) (lines_of table_lines x k))) (sym r.1.lines)
+    ∙ ap head_in (table_gives th v [] r.0 k r.1.entries r.1.sorted) ∙ head_stays th (seen v r.0 [] 0 0) k n in
+    record { terms = subst P (sym (ap (λ x. x.0) given)) r.1; version = ap (λ x. x.1) given }
 
 front_terms : (th : Theory) (f : Front) (k : List Line) → NoTable k → AllFine th nothing (front_lines f k)
-    → HaveTerms th [] f.table.lines (after_all th nothing (front_lines f k)).terms
+    → Gives th f.table.version f.table.lines (after_all th nothing (front_lines f k))
 front_terms th f k n h =
     table_terms th f.table (lines_of place_lines f.places (lines_of certificate_lines f.certificates k))
     (places_no_table f.places (lines_of certificate_lines f.certificates k) (no_table certificate_lines certificate_no_table f.certificates k n)) h
 
-begin_terms : (th : Theory) (k : List Line) → NoTable k → HaveTerms th [] [] (after_all th nothing k).terms
+begin_terms : (th : Theory) (k : List Line) → NoTable k → Gives th 0 [] (after_all th nothing k)
 begin_terms th k n =
     let P : List Tree → Type 0 = HaveTerms th [] [] in
-    subst P (sym (terms_stay th nothing k n)) (record { lines = refl; entries = tt; sorted = tt; within = tt; few = omega arith })
+    let given : head_in (after_all th nothing k) ≡ ([], 0) = head_stays th nothing k n in
+    record {
+      terms = subst P (sym (ap (λ x. x.0) given)) (record { lines = refl; entries = tt; sorted = tt; within = tt; few = omega arith });
+      version = ap (λ x. x.1) given;
+    }
 
 state_terms : (th : Theory) (m : State) (k : List Line) → NoTable k → AllFine th nothing (so_far m k)
-    → HaveTerms th [] (table_of m) (after_all th nothing (so_far m k)).terms
+    → Gives th (version_of m) (table_of m) (after_all th nothing (so_far m k))
 state_terms th begin k n h = begin_terms th k n
 state_terms th (tabling es) k n h = front_terms th (front es [] []) k n h
 state_terms th (placing es ps) k n h = front_terms th (front es ps []) k n h
@@ -198,11 +256,19 @@ state_terms th (joining m c) k n h = state_terms th m (if_line ∷ chain_lines c
 state_terms th (closed f bs) k n h = front_terms th f (lines_of block_lines bs k) (blocks_no_table bs k n) h
 state_terms th (ended f bs) k n h = front_terms th f (lines_of block_lines bs (end_line ∷ k)) (blocks_no_table bs (end_line ∷ k) (refl, n)) h
 
--- The terms that fine lines give are those of the table of the state that the lines lead to.
-pub lines_terms : (th : Theory) (m : State) (ls : List Line) → run begin ls ≡ Some m → AllFine th nothing ls
-    → HaveTerms th [] (table_of m) (after_all th nothing ls).terms
-lines_terms th m ls e h =
+lines_give : (th : Theory) (m : State) (ls : List Line) → run begin ls ≡ Some m → AllFine th nothing ls
+    → Gives th (version_of m) (table_of m) (after_all th nothing ls)
+lines_give th m ls e h =
     let same : ls ≡ so_far m [] = sym (run_so_far begin m ls [] e ∙ append-nil ls) in
     let P : List Line → Type 0 = AllFine th nothing in
-    let Q : List Line → Type 0 = λ x. HaveTerms th [] (table_of m) (after_all th nothing x).terms in
+    let Q : List Line → Type 0 = λ x. Gives th (version_of m) (table_of m) (after_all th nothing x) in
     subst Q (sym same) (state_terms th m [] tt (subst P same h))
+
+-- The terms that fine lines give are those of the table of the state that the lines lead to, and the version is its version.
+pub lines_terms : (th : Theory) (m : State) (ls : List Line) → run begin ls ≡ Some m → AllFine th nothing ls
+    → HaveTerms th [] (table_of m) (after_all th nothing ls).terms
+lines_terms th m ls e h = (lines_give th m ls e h).terms
+
+pub lines_version : (th : Theory) (m : State) (ls : List Line) → run begin ls ≡ Some m → AllFine th nothing ls
+    → (after_all th nothing ls).version ≡ version_of m
+lines_version th m ls e h = (lines_give th m ls e h).version

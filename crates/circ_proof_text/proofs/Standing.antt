@@ -27,7 +27,7 @@ use Rattle.circ_proof_text.proofs.TableText.{one_table}
 use Rattle.circ_proof_text.proofs.Fine.{AllFine}
 use Rattle.circ_proof_text.proofs.FineFronts.{HaveTerms}
 use Rattle.circ_proof_text.proofs.ProofText.{after_all-append, fine_lines, text_reads}
-use Rattle.circ_proof_text.proofs.SeenTerms.{table_of, is_of_table, same_terms, lines_terms}
+use Rattle.circ_proof_text.proofs.SeenTerms.{table_of, version_of, is_of_table, same_terms, lines_terms, lines_version}
 use Rattle.circ_proof_text.proofs.Parts.{parts_are, any_table}
 use Rattle.circ_proof_text.proofs.Wanted.{wants, wants_of, lines_wanted}
 
@@ -145,9 +145,15 @@ standing_terms th bytes handed k s =
     let P : Seen → Type 0 = λ c. HaveTerms th [] (table_of s.state) c.terms in
     subst P (sym s.seen) (lines_terms th s.state s.whole_lines s.fed.at.state fine)
 
+-- the version is the one that the first line has named
+standing_version : (th : Theory) (bytes : List ℕ) (handed : List Part) (k : Reading) (s : StandsFor th bytes handed k) → k.seen.version ≡ version_of s.state
+standing_version th bytes handed k s =
+    let fine : AllFine th nothing s.whole_lines = fine_lines th [] s.whole_lines s.fed.at.fit s.fed.at.pass s.fed.at.within in
+    ap (λ c. c.version) s.seen ∙ lines_version th s.state s.whole_lines s.fed.at.state fine
+
 -- The bytes are at their end, and whole: they read as a proof, and the parts are its parts.
 pub ends : (th : Theory) (bytes : List ℕ) (handed : List Part) (k : Reading) → StandsFor th bytes handed k → k.rest ≡ [] → k.under_way ≡ Ended
-    → (p : Proof) × ReadsAsProof th bytes p × (handed ++ k.waiting ≡ parts_of p)
+    → (p : Proof) × ReadsAsProof th bytes p × (handed ++ k.waiting ≡ parts_of p) × (p.version ≡ k.seen.version)
 ends th bytes handed k s r u =
     let w = fed_whole (line_tests th) bytes s.whole_lines s.state (kept k) s.fed r u in
     let f : Front = w.0 in
@@ -161,6 +167,7 @@ ends th bytes handed k s r u =
       p.1,
       sym s.parts ∙ ap (λ x. map (part_with x) (shown s.state)) own ∙ ap (λ x. map (part_with p.0.table) (shown x)) w.2
           ∙ ap (λ x. map (part_with p.0.table) (grammar.parts_of x)) (sym p.2) ∙ parts_are th p.0 p.1.proof_for,
+      ap (λ x. x.table.version) p.2 ∙ sym (standing_version th bytes handed k s ∙ ap version_of w.2),
     )
 
 -- The bytes are at their end, and not whole.

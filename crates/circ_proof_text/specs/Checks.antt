@@ -138,7 +138,6 @@ is_second c = c.version == 2
 
 -- Whether the line passes the checks. There is a certificate for each that is due when a block begins, and never more.
 abbrev pub passes_at : Theory → Seen → Line → Bool
-passes_at th c (head_line v) = v == 1
 passes_at th c (table_line l) = is_some (term_for th.signature c.terms l)
 passes_at th c (place_line f i) = is_next c.places (place f i) && is_place th (place f i)
 passes_at th c certificate_line = nat_lt c.certificates (length (due th c.places))

@@ -45,10 +45,9 @@ line_tests th = record {
   limit = λ before l. limit_at th (after_all th nothing before) l;
 }
 
--- The proof fits the theory and is of version 1, and the bytes are its text.
+-- The proof fits the theory, and the bytes are its text.
 pub record ReadsAsProof (th : Theory) (bytes : List ℕ) (p : Proof) : Type 0 where
   pub proof_for : ProofFor th p
-  pub version : p.version ≡ 1
   pub text : bytes ≡ proof_text p
 
 -- the fault of bytes that read as no proof: their first line that is bad, or past a limit

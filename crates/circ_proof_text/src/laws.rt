@@ -43,10 +43,9 @@ pub fn nothing_left_out()
         ((fault : LineFault) → FirstCause th bytes fault → ⊥) → ⊥ }
 {}
 
-/// A proof of version 1 that fits the theory is what its text reads as.
+/// A proof that fits the theory is what its text reads as.
 pub fn text_reads_back()
-    ensures { (th : Theory) (p : Proof) → ProofFor th p → p.version ≡ 1 →
-        ReadsAsProof th (proof_text p) p }
+    ensures { (th : Theory) (p : Proof) → ProofFor th p → ReadsAsProof th (proof_text p) p }
 {}
 
 /// The line of a term of the table has this term, and a line that has a term is that term's line.

@@ -32,7 +32,7 @@ pub fn parts_make_the_proof()
     ensures gathered { (th : Theory) (p : Proof) → ProofFor th p →
         gather_all nothing_gathered (parts_of p) ≡ gathered p }
     ensures fit { (th : Theory) (p : Proof) → IsWellFormed th →
-        ProofFor th p → p.version ≡ 1 → Fit th (parts_of p) }
+        ProofFor th p → Fit th (parts_of p) }
     ensures last { (th : Theory) (p : Proof) → ProofFor th p →
         (xs : List Part) × (parts_of p ≡ xs ++ Step Done ∷ []) }
     ensures whole { (th : Theory) (p : Proof) (xs : List Part) →
@@ -78,12 +78,13 @@ pub fn line_is_at_fault()
         FirstCause th ((bytes ++ (piece ++ (10 ∷ []))) ++ later) (Limit_fault (k.lines + 1)) }
 {}
 
-/// At the end of the bytes they read as a proof, of which the parts are all, or the next line is at
-/// fault.
+/// At the end of the bytes they read as a proof of the version seen, of which the parts are all, or
+/// the next line is at fault.
 pub fn reading_ends()
     ensures whole { (th : Theory) (bytes : List ℕ) (handed : List Part) (k : Reading) →
         StandsFor th bytes handed k → k.rest ≡ [] → k.under_way ≡ Ended →
-        (p : Proof) × ReadsAsProof th bytes p × (handed ++ k.waiting ≡ parts_of p) }
+        (p : Proof) × ReadsAsProof th bytes p × (handed ++ k.waiting ≡ parts_of p)
+        × (p.version ≡ k.seen.version) }
     ensures broken_off { (th : Theory) (bytes : List ℕ) (handed : List Part) (k : Reading) →
         StandsFor th bytes handed k → (k.rest ≡ [] → k.under_way ≡ Ended → ⊥) →
         FirstCause th bytes (Line_fault (k.lines + 1)) }
