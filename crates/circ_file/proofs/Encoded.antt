@@ -1,5 +1,5 @@
 -- Proofs that are written and read.
-use Rattle.std.specs.Prelude.{◌≡◌, List, [], ◌∷◌, length, Result, Ok, Err, refl}
+use Rattle.std.specs.Prelude.{List, [], ◌∷◌, length, Result, Ok, Err, refl}
 use Rattle.std.specs.List.{AllByRecursion}
 use Rattle.circ_term.specs.Tree.{Tree}
 use Rattle.circ_theory.specs.Theory.{Theory}
@@ -30,9 +30,9 @@ can_be_written th p f = record {
   few_steps = f.few_steps;
 }
 
-pub given_back : (th : Theory) (p : Proof) (result : Result CodeProof FileFault) → IsWellFormed th → ProofFor th p → p.version ≡ 1 → Decodes th (proof_text p) result
+pub given_back : (th : Theory) (p : Proof) (result : Result CodeProof FileFault) → IsWellFormed th → ProofFor th p → Decodes th (proof_text p) result
     → GivesBack p result
-given_back th p (Ok q) w f v d = one_reading th (proof_text p) (plain_proof q) p w d (reads_back th p f v)
-given_back th p (Err (Line n)) w f v d = absurd (not_both th (proof_text p) p (Line_fault n) w (reads_back th p f v) d)
-given_back th p (Err (Limit n)) w f v d = absurd (not_both th (proof_text p) p (Limit_fault n) w (reads_back th p f v) d)
-given_back th p (Err Memory) w f v d = refl
+given_back th p (Ok q) w f d = one_reading th (proof_text p) (plain_proof q) p w d (reads_back th p f)
+given_back th p (Err (Line n)) w f d = absurd (not_both th (proof_text p) p (Line_fault n) w (reads_back th p f) d)
+given_back th p (Err (Limit n)) w f d = absurd (not_both th (proof_text p) p (Limit_fault n) w (reads_back th p f) d)
+given_back th p (Err Memory) w f d = refl

@@ -43,7 +43,8 @@ fn decode_by(
     if let Err(fault) = reader.end() {
         return Err(fault);
     }
-    match gather(alloc, theory, 1, reader) {
+    let version = reader.version();
+    match gather(alloc, theory, version, reader) {
         Ok(proof) => Ok(proof),
         Err(_) => Err(FileFault::Memory),
     }

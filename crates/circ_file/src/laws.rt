@@ -11,12 +11,12 @@ ghost use Rattle.circ_file.specs.declared.fault.FileFault.{FileFault};
 ghost use Rattle.circ_file.specs.Decoding.{Decodes};
 ghost use Rattle.circ_file.specs.Encoding.{IsProof, GivesBack};
 
-/// A proof that fits a theory can be written, and in version 1 its text decodes to it.
+/// A proof that fits a theory can be written, and its text decodes to it.
 pub fn texts_decode()
     ensures written { (th : Theory) (p : Proof) → ProofFor th p → IsProof p }
     ensures back { (th : Theory) (p : Proof) (result : Result CodeProof FileFault) →
-        IsWellFormed th → ProofFor th p → p.version ≡ 1 →
-        Decodes th (proof_text p) result → GivesBack p result }
+        IsWellFormed th → ProofFor th p → Decodes th (proof_text p) result →
+        GivesBack p result }
 {}
 
 /// Bytes that decode to a proof are its text, and it can be written.

@@ -3,7 +3,7 @@ ghost use Rattle.std.specs.Prelude.{◌≡◌, List, IfOk};
 ghost use Rattle.circ_term.specs.Tree.{Tree};
 ghost use Rattle.circ_line.specs.Plain.{plain_line};
 ghost use Rattle.circ_file.specs.View.{now_of, IsKept, Moves, IsReady, IsFree, IsInside};
-ghost use Rattle.circ_file.specs.View.{splits_in};
+ghost use Rattle.circ_file.specs.View.{now_outside, splits_in};
 
 use crate::machine::{Machine, Mode};
 use circ_line::Line;
@@ -41,9 +41,11 @@ impl Machine {
             Line::Right { link } => self.on_right(link),
             Line::Same => self.on_same(),
             Line::Split { term, count } => self.on_split(term, count),
+            Line::If => self.on_if(),
             Line::Simplify => self.on_simplify(),
             Line::Reduce => self.on_reduce(),
             Line::Derive => self.on_derive(),
+            Line::Cases { term } => self.on_cases(term),
             Line::Done => self.on_done(),
             _ => Ok(false),
         }
@@ -54,6 +56,17 @@ impl Machine {
         ensures { result ≡ splits_in (now_of self.now) }
     {
         match self.mode {
+            Mode::Reducing => self.splits.len(),
+            Mode::Joining => self.splits_outside(),
+            _ => 0,
+        }
+    }
+
+    // The same around the conditions that are open.
+    fn splits_outside(&self) -> usize
+        ensures { result ≡ splits_in (now_outside self.now.base self.now) }
+    {
+        match self.base {
             Mode::Reducing => self.splits.len(),
             _ => 0,
         }

@@ -13,7 +13,7 @@ ghost use Rattle.circ_file.specs.View.{now_of, queue_of, splits_in, Pops};
 ghost use Rattle.circ_file.specs.Lines.{IsReader, ReadsNext};
 ghost use Rattle.circ_file.specs.Feeding.{IsCut, IsSound, Stands, EndsLine, FeedsLines};
 ghost use Rattle.circ_file.specs.Feeding.{Feeds, Hands, Ends, handed_with, AreShown};
-ghost use Rattle.circ_file.specs.Feeding.{whole_lines_in, fault_of, waiting_in};
+ghost use Rattle.circ_file.specs.Feeding.{whole_lines_in, fault_of, waiting_in, version_in};
 ghost use Rattle.circ_file.specs.declared.fault.FileFault.{FileFault};
 
 use crate::fault::FileFault;
@@ -121,6 +121,13 @@ impl<'a> FileReader<'a> {
         Err(FileFault::Line {
             number: self.lines + 1,
         })
+    }
+
+    /// The version that the first line has named, 0 before it.
+    pub(crate) fn version(&self) -> u8
+        ensures { result ≡ version_in self.now }
+    {
+        self.reader.counts.version
     }
 
     // Whether the last line was the proof's, and nothing comes after it.
