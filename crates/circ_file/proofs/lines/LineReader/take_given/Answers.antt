@@ -24,7 +24,7 @@ returns-then-self-ge-MOST_CONDITIONS-clause-taken c w =
     let old = c.args.self.now in
     let new : LineReader = record old { machine = c.put_given.new.self } in
     let moves : (ts : List Tree) → IsKept ts old.machine → plain_pair c.in-Some.pair ≡ pair_at ts (c.args.left, c.args.right)
-        → Moves true ts old.machine (given_line c.args.left c.args.right) c.put_given.new.self
+    → Moves true ts old.machine (given_line c.args.left c.args.right) c.put_given.new.self
     = rw c.if-not-branch.false at c.in_ok-put_given.ensures in
     given_over w old new c.args.left c.args.right (plain_pair c.in-Some.pair) c.requires.reader (sym c.if-not-is_second.ensures)
     (ap (option_map plain_pair) (sym c.in-Some.is) ∙ c.in_ok-pair.ensures.pair) moves (omega (arith, c.if-self-ge-MOST_CONDITIONS.true))
@@ -38,7 +38,7 @@ returns-clause-taken c w =
       counts = record old.counts { givens = old.counts.givens + 1 };
     } in
     let moves : (ts : List Tree) → IsKept ts old.machine → plain_pair c.in-Some.pair ≡ pair_at ts (c.args.left, c.args.right)
-        → Moves true ts old.machine (given_line c.args.left c.args.right) c.put_given.new.self
+    → Moves true ts old.machine (given_line c.args.left c.args.right) c.put_given.new.self
     = rw c.if-not-branch.false at c.in_ok-put_given.ensures in
     given_handled w old new c.args.left c.args.right (plain_pair c.in-Some.pair) c.requires.reader (sym c.if-not-is_second.ensures)
     (ap (option_map plain_pair) (sym c.in-Some.is) ∙ c.in_ok-pair.ensures.pair) moves (omega (arith, c.if-self-ge-MOST_CONDITIONS.false)) refl refl
