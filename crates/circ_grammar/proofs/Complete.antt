@@ -7,7 +7,7 @@ use Rattle.std.proofs.lemmas.Bool.{eq-eqb}
 use Rattle.circ_proof.specs.Proof.{GoalNames}
 use Rattle.circ_proof.specs.Plain.{LinkOf, LinksOf, ChainsOf, Equation_link, Hypothesis_link, Assumption_link, Content_link, no_link, more_links, no_chain}
 use Rattle.circ_proof.specs.Plain.{more_chains, links_in, row_of, ChainOf, WhyOf, WhysOf, Same_why, Split_why, no_why, more_whys}
-use Rattle.circ_line.specs.Line.{TableLine, Line, head_line, certificate_line, block_line, goal_line, given_line}
+use Rattle.circ_line.specs.Line.{TableLine, Line, certificate_line, block_line, given_line}
 use Rattle.circ_line.specs.Line.{simplify_line, reduce_line, derive_line, cases_line, done_line, same_line, split_line, if_line, left_line, right_line, end_line}
 use Rattle.circ_proof.specs.Counting.{why_count}
 use Rattle.circ_grammar.specs.Grammar.{NumberedStep, Simplify_step, Reduce_step, Derive_step, Cases_step, NumberedTable, NumberedBlock, NumberedProof, lines_of}
@@ -15,7 +15,7 @@ use Rattle.circ_grammar.specs.Grammar.{bare, is_bare, conds_lines, left_row, rig
 use Rattle.circ_grammar.specs.Grammar.{table_lines, place_lines, left_lines, right_lines, goal_lines, chain_lines, why_lines, whys_lines, step_lines}
 use Rattle.circ_grammar.specs.Grammar.{certificate_lines, block_lines, proof_lines, HasGoals, HasParts, BeginsProof}
 use Rattle.circ_grammar.specs.Machine.{Front, OpenBlock, OpenSplit, State, begin, tabling, placing, certifying, opened, stepping, simplifying, reducing}
-use Rattle.circ_grammar.specs.Machine.{joining, closed, ended, empty, front, numbered_table, no_steps, open_block, with_goal, with_goals, with_given, add_given, goal_names, with_step, push_why}
+use Rattle.circ_grammar.specs.Machine.{joining, closed, ended, empty, front, numbered_table, no_steps, open_block, with_goals, with_given, add_given, with_step, push_why}
 use Rattle.circ_grammar.specs.Machine.{push_chain, add_chain, in_last, in_right, give_chain, chain_of, add_left, add_right, open_split, give_why, to_front}
 use Rattle.circ_grammar.specs.Machine.{to_block, to_step, next, run}
 use Rattle.circ_grammar.proofs.Spelled.{why_count-push, close_block}

@@ -5,15 +5,15 @@ use Rattle.std.proofs.Common.{sym, ◌∙◌, ap}
 use Rattle.std.proofs.lemmas.Option.{same_Some}
 use Rattle.std.proofs.lemmas.Bool.{eqb-true}
 use Rattle.circ_proof.specs.Proof.{GoalNames}
-use Rattle.circ_proof.specs.Plain.{LinkOf, LinksOf, ChainsOf, Equation_link, Hypothesis_link, Assumption_link, Content_link, no_link, more_links, no_chain}
+use Rattle.circ_proof.specs.Plain.{LinkOf, ChainsOf, Equation_link, Hypothesis_link, Assumption_link, Content_link, no_chain}
 use Rattle.circ_proof.specs.Plain.{more_chains, row_of, ChainOf, WhyOf, WhysOf, Same_why, Split_why, no_why, more_whys}
 use Rattle.circ_line.specs.Line.{TableLine, Line, head_line, table_line, place_line, certificate_line, block_line, goal_line, given_line, simplify_line}
 use Rattle.circ_line.specs.Line.{reduce_line, derive_line, cases_line, done_line, same_line, split_line, if_line, left_line, right_line, end_line}
 use Rattle.circ_proof.specs.Counting.{why_count}
-use Rattle.circ_grammar.specs.Grammar.{Simplify_step, Reduce_step, Derive_step, Cases_step, NumberedBlock, NumberedTable, lines_of, head_lines, table_lines, place_lines}
+use Rattle.circ_grammar.specs.Grammar.{Simplify_step, Reduce_step, Derive_step, Cases_step, NumberedBlock, lines_of, head_lines, table_lines, place_lines}
 use Rattle.circ_grammar.specs.Grammar.{bare, is_bare, conds_lines, left_row, right_row, link_conds, left_lines, right_lines, given_lines, goal_lines, chain_lines, why_lines, whys_lines, step_lines, certificate_lines, block_lines}
 use Rattle.circ_grammar.specs.Machine.{Front, OpenBlock, OpenSplit, State, begin, tabling, placing, certifying, opened, stepping, simplifying, reducing}
-use Rattle.circ_grammar.specs.Machine.{joining, closed, ended, empty, front, numbered_table, goal_names, with_goals, with_given, add_given, push_chain, add_chain, in_last, chain_of, in_right, give_chain, with_certificate, no_steps, open_block, with_step, block_of, push_why, open_split}
+use Rattle.circ_grammar.specs.Machine.{joining, closed, ended, empty, front, goal_names, with_goals, add_given, push_chain, add_chain, in_last, chain_of, in_right, give_chain, with_certificate, no_steps, open_block, with_step, block_of, push_why, open_split}
 use Rattle.circ_grammar.specs.Machine.{give_why, to_front, to_block, to_step, add_left_to, add_left, on_head, on_table, on_place, on_goal, on_given, on_if, on_same}
 use Rattle.circ_grammar.specs.Machine.{on_split, on_left, on_right, on_end, next, run}
 

@@ -9,13 +9,13 @@ use Rattle.circ_proof.specs.Plain.{no_chain, more_chains, ChainOf, WhyOf, WhysOf
 use Rattle.circ_proof.specs.Table.{term_limit}
 use Rattle.circ_proof.specs.Proof.{IsNumber, IsLinkFor, IsRowFor, AreChainsFor, AreLinksFor, IsChainFor, IsWhyFor, AreWhysFor}
 use Rattle.circ_proof.specs.Proof.{IsPlainLink, IsPlainChain, IsPlainWhy, ArePlainWhys}
-use Rattle.circ_line.specs.Line.{Line, same_line, split_line, if_line}
+use Rattle.circ_line.specs.Line.{Line, same_line, split_line}
 use Rattle.circ_line.specs.Text.{IsInRange, AreNumbers, IsLinkInRange}
 use Rattle.circ_proof.specs.Counting.{why_count}
 use Rattle.circ_grammar.specs.Grammar.{bare, conds_lines, left_row, right_row, link_conds, lines_of, left_lines, right_lines, chain_lines, why_lines}
 use Rattle.circ_grammar.specs.Grammar.{whys_lines}
 use Rattle.circ_grammar.proofs.Complete.{no_zero}
-use Rattle.circ_proof_text.specs.Checks.{Seen, with_ifs, wanting, after_why, after_split, after, is_in_table, path_of, passes_at, path_limit, limit_at}
+use Rattle.circ_proof_text.specs.Checks.{Seen, with_ifs, after_why, after_split, after, is_in_table, path_of, passes_at, path_limit, limit_at}
 use Rattle.circ_proof_text.specs.Checks.{is_second}
 
 -- Each line is in range, and passes the checks on it and the lines before it, and no limit.

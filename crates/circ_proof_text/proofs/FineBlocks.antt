@@ -1,7 +1,7 @@
 -- The lines of steps, goals and blocks are fine exactly where these fit the table.
 use Rattle.std.specs.Prelude.{◌≡◌, ℕ, ◌+◌, ◌<◌, ◌≤◌, ◌==◌, ◌&&◌, not, nat_lt, Bool, true, false, List, [], ◌∷◌, length, refl}
 use Rattle.std.specs.List.{AllByRecursion}
-use Rattle.std.proofs.Common.{sym, ◌∙◌, ap, subst, arith}
+use Rattle.std.proofs.Common.{sym, ◌∙◌, subst, arith}
 use Rattle.std.proofs.lemmas.Bool.{and_parts, and_from, true≢false, ltb-true, ltb-false, lt-ltb, le-ltb, eqb-true, eq-eqb}
 use Rattle.circ_term.specs.Tree.{Tree, sort_of}
 use Rattle.circ_theory.specs.Theory.{Theory, IsVisible}
@@ -17,7 +17,7 @@ use Rattle.circ_proof.specs.Proof.{IsPlainChain, IsPlainWhy}
 use Rattle.circ_line.specs.Line.{Line, done_line, end_line}
 use Rattle.circ_grammar.specs.Grammar.{NumberedStep, Simplify_step, Reduce_step, Derive_step, Cases_step, NumberedBlock, lines_of, given_lines, goal_lines}
 use Rattle.circ_grammar.specs.Grammar.{step_lines, block_lines}
-use Rattle.circ_proof_text.specs.Checks.{Seen, with_givens, is_goal, is_condition, is_second}
+use Rattle.circ_proof_text.specs.Checks.{Seen, with_givens, is_goal, is_condition}
 use Rattle.circ_proof_text.proofs.Fine.{AllFine, second_or, is_number, chain_to, chain_from, why_to, why_from}
 
 -- what lines have given that are read up to the end of a step

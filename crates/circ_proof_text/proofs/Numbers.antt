@@ -12,7 +12,7 @@ use Rattle.circ_proof.specs.Rules.{ProofStep, Simplify, Reduce, Derive, Cases, D
 use Rattle.circ_proof.specs.Certified.{due}
 use Rattle.circ_proof.specs.Proof.{Block, Proof, IsPlainStep, IsPlainBlock, IsPlain, goal_at, IsStepFor, IsEnded, IsBlockFor, steps_in, step_limit, ProofFor}
 use Rattle.circ_line.specs.Line.{Line, end_line}
-use Rattle.circ_grammar.specs.Grammar.{NumberedStep, Simplify_step, Reduce_step, Derive_step, Cases_step, NumberedTable, NumberedBlock, NumberedProof, lines_of, place_lines}
+use Rattle.circ_grammar.specs.Grammar.{NumberedStep, Simplify_step, Reduce_step, Derive_step, Cases_step, NumberedBlock, NumberedProof, lines_of, place_lines}
 use Rattle.circ_grammar.specs.Grammar.{certificate_lines, block_lines, proof_lines, HasGoals, HasParts}
 use Rattle.circ_grammar.specs.Machine.{numbered_table}
 use Rattle.circ_proof_text.specs.TableText.{entries_of}
