@@ -1,5 +1,5 @@
 -- A condition of the last goal.
-use Rattle.std.specs.Prelude.{◌≡◌, ℕ, List, [], ◌∷◌, ◌++◌, map, Option, Some, refl}
+use Rattle.std.specs.Prelude.{◌≡◌, ℕ, List, [], ◌∷◌, ◌++◌, map, Some, refl}
 use Rattle.std.specs.Option.{option_map}
 use Rattle.std.proofs.Common.{sym, ◌∙◌, ap, append-nil, Vec, Global}
 use Rattle.std.proofs.lemmas.List.{map_push}
@@ -14,7 +14,7 @@ use Rattle.circ_proof.specs.declared.proof.GoalNames.{GoalNames as TheNames}
 use Rattle.circ_line.specs.Line.{given_line}
 use Rattle.circ_grammar.specs.Machine.{add_given, with_given}
 use Rattle.circ_grammar.specs.Now.{Opened, next_given}
-use Rattle.circ_file.specs.View.{now_at, now_of, queue_of, IsKept, IsKeptAt, MachineTakes}
+use Rattle.circ_file.specs.View.{now_at, queue_of, IsKept, IsKeptAt, MachineTakes}
 use Rattle.circ_file.specs.declared.machine.Mode.{Mode}
 use Rattle.circ_file.specs.declared.machine.Mode.TheVariants as mode
 use Rattle.circ_file.specs.declared.machine.Machine.{Machine}

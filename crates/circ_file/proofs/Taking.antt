@@ -9,7 +9,7 @@ use Rattle.circ_theory.specs.WellFormed.{IsWellFormed}
 use Rattle.circ_theory.proofs.Lists.{all_push}
 use Rattle.circ_special.specs.declared.place.Place.{Place}
 use Rattle.circ_special.specs.Special.{place, IsPlace, IsSet}
-use Rattle.circ_proof.specs.Plain.{LinkOf, ChainOf, no_chain, more_chains, chains_in, Equation_link, Hypothesis_link, Assumption_link, Content_link, WhyOf, Same_why, Split_why, no_why}
+use Rattle.circ_proof.specs.Plain.{LinkOf, ChainOf, Equation_link, Hypothesis_link, Assumption_link, Content_link, WhyOf, Same_why, Split_why, no_why}
 use Rattle.circ_proof.specs.Table.{term_limit}
 use Rattle.circ_line.specs.Line.{TableLine, Line, head_line, table_line, place_line, certificate_line, block_line, goal_line, given_line, simplify_line}
 use Rattle.circ_line.specs.Line.{reduce_line, derive_line, cases_line, done_line, same_line, split_line, if_line, left_line, right_line, end_line}

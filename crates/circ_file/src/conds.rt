@@ -74,8 +74,7 @@ fn with_chain(link: Link, cond: Chain) -> Result<Option<Link>, AllocError>
                 conds,
             }))
         }
-        Link::Assumption { .. } => Ok(None),
-        Link::Content { .. } => Ok(None),
+        _ => Ok(None),
     }
 }
 
