@@ -21,13 +21,6 @@ use Rattle.circ_found.specs.Ending.{stored_as, Ending, ending}
 abbrev pub all_goal_lines : Signature → List (List Goal) → List ℕ
 all_goal_lines sig goals = flat_map (goal_lines sig) goals
 
--- a goal of a script, as a goal
-abbrev pub made_goal : Pair → Goal
-made_goal p = goal [] p.left p.right
-
-abbrev pub blocks_of : Script → List (List Goal)
-blocks_of sc = map (map made_goal) sc.blocks
-
 abbrev pub derives_among : List (ProofStep ℕ) → ℕ
 derives_among [] = 0
 derives_among (Derive ∷ ss) = derives_among ss + 1

@@ -16,7 +16,7 @@ use Rattle.circ_plain_search.specs.Search.{Limits}
 use Rattle.circ_files.specs.Texts.{too_long_text, unreadable_text}
 use Rattle.circ_files.specs.TheoryFile.{ReadsAsPlain, PlainTheoryRefusal}
 use Rattle.circ_files.specs.declared.status.Status.TheVariants as status
-use Rattle.circ_found.specs.Answering.{blocks_of, counts_text, derives_in, found_ending}
+use Rattle.circ_found.specs.Answering.{counts_text, derives_in, found_ending}
 use Rattle.circ_found.specs.Ending.{Ending, ending}
 use Rattle.circ_generate.specs.Chain.{chain_theory, chain_script}
 
@@ -50,7 +50,7 @@ pub data Generates (n : ℕ) : Ending → Type 0 where
   no_script : (e : Ending) (th : Theory) (place : ℕ) (c : Cause) → ReadsAsPlain (chain_theory n) th → FirstScriptCause th Prove (chain_script n) place c
       → e ≡ unread_ending 2 place c → Generates n e
   searched : (e : Ending) (th : Theory) (sc : Script) (f : Found) → ReadsAsPlain (chain_theory n) th → ReadsAsScript th Prove (chain_script n) sc
-      → PlainSearch th (blocks_of sc) greatest_limits f → e ≡ chain_ending th.signature n f → Generates n e
+      → PlainSearch th sc.blocks greatest_limits f → e ≡ chain_ending th.signature n f → Generates n e
 
 -- The bytes are the text of an accepted proof.
 pub record IsAcceptedText (th : Theory) (bytes : List ℕ) (p : Proof) : Type 0 where

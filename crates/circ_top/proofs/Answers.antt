@@ -19,7 +19,7 @@ use Rattle.circ_top.specs.Prove.{IsSearched, StoresProof}
 use Rattle.circ_top.specs.Delivery.{Prints, Delivers, whole, write_failed, memory_wanted, text_wanted}
 use Rattle.circ_files.specs.Files.{Held, IsUnread, IsTooLong, IsFileFault}
 use Rattle.circ_found.specs.Ending.{Stored, ending}
-use Rattle.circ_found.specs.Answering.{blocks_of, SearchEnds}
+use Rattle.circ_found.specs.Answering.{SearchEnds}
 use Rattle.circ_top.specs.Outcome.{Outcome, command}
 use Rattle.circ_top.specs.Storing.{HoldsAfter, IsUnstored, Ends, stored_first, not_stored}
 use Rattle.circ_files.specs.Texts.{refused_text}
@@ -103,7 +103,7 @@ module _ (before : ShelfState) where
 
   pub work_end : (c : Command) (s : Status) (text : List ℕ) (stored : Option Stored) → Comes c s text stored before → IsSearchEnd s
   work_end (Check report theory proof) s text stored a = ok_end s a.0
-  work_end (Prove limits theory script proof) s text stored a = search_end a.th (plain_limits limits) proof (blocks_of a.sc) s text stored a.ends
+  work_end (Prove limits theory script proof) s text stored a = search_end a.th (plain_limits limits) proof a.sc.blocks s text stored a.ends
   work_end (Show theory) s text stored a = ok_end s a.0
   work_end (Contexts budget theory) s text stored a = ok_end s a.0
   work_end (Reduce budget theory script) s text stored a = ok_end s a.0
@@ -148,8 +148,8 @@ module _ (before : ShelfState) where
       → stored_name c ≡ Some x.name
   work_name (Check report theory proof) s text stored x a e = nothing_stored stored x a.1.1 e
   work_name (Prove limits theory script proof) s text stored x a e =
-      let P : Option Stored → Type 0 = λ y. SearchEnds a.th (plain_limits limits) proof (blocks_of a.sc) (ending s text y) in
-      ap Some (sym (search_name a.th (plain_limits limits) proof (blocks_of a.sc) s text x (subst P e a.ends)))
+      let P : Option Stored → Type 0 = λ y. SearchEnds a.th (plain_limits limits) proof a.sc.blocks (ending s text y) in
+      ap Some (sym (search_name a.th (plain_limits limits) proof a.sc.blocks s text x (subst P e a.ends)))
   work_name (Show theory) s text stored x a e = nothing_stored stored x a.1.1 e
   work_name (Contexts budget theory) s text stored x a e = nothing_stored stored x a.1.1 e
   work_name (Reduce budget theory script) s text stored x a e = nothing_stored stored x a.1.1 e
@@ -217,8 +217,8 @@ module _ (words : List (List ℕ)) (before after : ShelfState) (start end : Sink
       let s = answers_succeed q e in
       let P : Command → Type 0 = λ c. Succeeds c s.text s.stored before in
       let a = subst P (same_command words s.command (Prove limits theory script proof) s.asks i) s.succeeds in
-      let ok = search_ok a.th (plain_limits limits) proof (blocks_of a.sc) s.text s.stored a.ends in
-      let says = found a.th a.takes_theory.well_formed (blocks_of a.sc) a.searchable (plain_limits limits) ok.p ok.search in
+      let ok = search_ok a.th (plain_limits limits) proof a.sc.blocks s.text s.stored a.ends in
+      let says = found a.th a.takes_theory.well_formed a.sc.blocks a.searchable (plain_limits limits) ok.p ok.search in
       let H : Option Stored → Type 0 = λ x. HoldsAfter x before after in
       let T : List ℕ → Type 0 = λ x. Prints x start end in
       let held = subst H ok.stored_is s.held in

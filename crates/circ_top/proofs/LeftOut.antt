@@ -21,7 +21,7 @@ use Rattle.circ_plain_search.specs.Numbering.{Found}
 use Rattle.circ_plain_search.specs.PlainSearch.{PlainSearch}
 use Rattle.circ_plain_search.specs.Search.{Limits as SearchLimits}
 use Rattle.circ_found.specs.Ending.{Stored, Ending}
-use Rattle.circ_found.specs.Answering.{blocks_of, found_ending}
+use Rattle.circ_found.specs.Answering.{found_ending}
 use Rattle.circ_top.specs.Outcome.{Outcome, usage, command}
 use Rattle.circ_files.specs.ProofFile.{ProofRefusal}
 use Rattle.circ_top.specs.Reduce.{reduced, results_text, not_reduced, all_reduced}
@@ -149,7 +149,7 @@ module _ (reads : (bytes : List ℕ) → ReadOrRefused bytes) (proofs : ProofsDe
       → HoldsFilesOf held (Prove limits theory script proof) → ⊥
   no_prove limits theory script proof i h = file_decides held 1 theory PlainTheoryRefusal ReadsAsPlain h.0 plain_reads
       (λ th rt. file_decides held 2 script (ScriptRefusal th job.Prove) (ReadsAsScript th job.Prove) h.1 (scripts th job.Prove)
-      (λ q rq. searches th (blocks_of q) (plain_limits limits)
+      (λ q rq. searches th q.blocks (plain_limits limits)
       (λ f x. let e : Ending = found_ending th.signature proof f in none_is e.status e.text e.stored
       (command (Prove limits theory script proof) e.status e.text e.stored i
       (searched e.status e.text e.stored th q rt rq (record { found = f; search = x; is = refl })))))
@@ -172,7 +172,7 @@ module _ (reads : (bytes : List ℕ) → ReadOrRefused bytes) (proofs : ProofsDe
   no_generate : (n : ℕ) → Asks words (Generate n) → ⊥
   no_generate n i = plain_reads (chain_theory n)
       (λ th rt. scripts th job.Prove (chain_script n)
-      (λ sc rs. searches th (blocks_of sc) greatest_limits
+      (λ sc rs. searches th sc.blocks greatest_limits
       (λ f x. ended n i (chain_ending th.signature n f) (generating.searched (chain_ending th.signature n f) th sc f rt rs x refl)))
       (λ place c f. ended n i (unread_ending 2 place c) (generating.no_script (unread_ending 2 place c) th place c rt f refl)))
       (λ place c f. ended n i (unread_ending 1 place c) (generating.no_theory (unread_ending 1 place c) place c f refl))

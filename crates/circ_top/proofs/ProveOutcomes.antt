@@ -16,7 +16,7 @@ use Rattle.circ_files.proofs.FileFaults.{unread_rose, file_fault_not_ok, file_fa
 use Rattle.circ_files.proofs.Readings.{ReadsPlainOnce}
 use Rattle.circ_files.proofs.Scripts.{ScriptsOnce}
 use Rattle.circ_found.specs.Ending.{Stored, ending}
-use Rattle.circ_found.specs.Answering.{blocks_of, SearchEnds}
+use Rattle.circ_found.specs.Answering.{SearchEnds}
 use Rattle.circ_top.specs.Causes.{AtEither}
 use Rattle.circ_top.specs.Command.{Prove, Asks}
 use Rattle.circ_search.specs.Plain.{plain_limits}
@@ -87,7 +87,7 @@ module _ (once : ReadsPlainOnce) (scripts : ScriptsOnce) (searches : SearchesOnc
     script_refused : (s : Status) → RefusesFile before.holds 2 script (ScriptRefusal th job.Prove) s
         → Fixed th s (refusal_text (Prove limits theory script name) s) None
     search_ends : (s : Status) (text : List ℕ) (stored : Option Stored) (q : Script) → ReadsScript before.holds script th job.Prove q
-        → SearchEnds th (plain_limits limits) name (blocks_of q) (ending s text stored) → Fixed th s text stored
+        → SearchEnds th (plain_limits limits) name q.blocks (ending s text stored) → Fixed th s text stored
 
   fixed : (th : Theory) → IsOnly th (ReadsPlainTheory before.holds theory) → (s : Status) (text : List ℕ) (stored : Option Stored)
       → ProveOutcome before.holds limits theory script name s text stored → Fixed th s text stored
@@ -96,7 +96,7 @@ module _ (once : ReadsPlainOnce) (scripts : ScriptsOnce) (searches : SearchesOnc
       let P : Theory → Type 0 = λ v. RefusesFile before.holds 2 script (ScriptRefusal v job.Prove) s in script_refused s (subst P (only.1 u ru) r)
   fixed th only s text stored (searched _ _ _ u q ru rq x) =
       let P : Theory → Type 0 = λ v. ReadsScript before.holds script v job.Prove q in
-      let Q : Theory → Type 0 = λ v. SearchEnds v (plain_limits limits) name (blocks_of q) (ending s text stored) in
+      let Q : Theory → Type 0 = λ v. SearchEnds v (plain_limits limits) name q.blocks (ending s text stored) in
       search_ends s text stored q (subst P (only.1 u ru) rq) (subst Q (only.1 u ru) x)
 
   pub searched_agrees : (r : Status) (given : List ℕ) (other : Option Stored) → IsSearched limits theory script name (ending r given other) before
@@ -107,9 +107,9 @@ module _ (once : ReadsPlainOnce) (scripts : ScriptsOnce) (searches : SearchesOnc
       go : (s : Status) (text : List ℕ) (stored : Option Stored) → Fixed a.th s text stored → AgreesWith before after s text stored r given other
       go s _ _ (script_refused _ x) = absurd (not_script s a.th a.sc (a.takes_script.reads t).0 x)
       go s text stored (search_ends _ _ _ q rq x) =
-          let P : Script → Type 0 = λ v. SearchEnds a.th (plain_limits limits) name (blocks_of v) (ending s text stored) in
+          let P : Script → Type 0 = λ v. SearchEnds a.th (plain_limits limits) name v.blocks (ending s text stored) in
           let same : ending s text stored ≡ ending r given other =
-          one_ending a.th (plain_limits limits) name (blocks_of a.sc) searches (ending s text stored) (ending r given other)
+          one_ending a.th (plain_limits limits) name a.sc.blocks searches (ending s text stored) (ending r given other)
           (subst P ((a.takes_script.reads t).1 q rq) x) a.ends in
           let Q : Status → Type 0 = λ y. IsLike s text y text in
           let R : List ℕ → Type 0 = λ y. IsLike s text r y in

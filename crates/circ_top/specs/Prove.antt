@@ -14,7 +14,7 @@ use Rattle.circ_files.specs.ScriptFile.{ReadsScript, TakesScript, ScriptRefusal,
 use Rattle.circ_files.specs.TheoryFile.{ReadsPlainTheory, TakesPlainTheory, PlainTheoryRefusal, IsPlainTheoryFault}
 use Rattle.circ_files.specs.declared.status.Status.{Status}
 use Rattle.circ_found.specs.Ending.{Stored, Ending, ending}
-use Rattle.circ_found.specs.Answering.{blocks_of, proved_text, SearchEnds}
+use Rattle.circ_found.specs.Answering.{proved_text, SearchEnds}
 use Rattle.circ_top.specs.Command.{Prove}
 use Rattle.circ_search.specs.Plain.{plain_limits}
 use Rattle.circ_top.specs.Delivery.{Prints}
@@ -29,15 +29,15 @@ pub data ProveOutcome (held : Held) (limits : Limits) (theory script name : List
   no_script : (s : Status) (th : Theory) → ReadsPlainTheory held theory th → RefusesFile held 2 script (ScriptRefusal th job.Prove) s
       → ProveOutcome held limits theory script name s (refusal_text (Prove limits theory script name) s) None
   searched : (s : Status) (text : List ℕ) (stored : Option Stored) (th : Theory) (sc : Script) → ReadsPlainTheory held theory th
-      → ReadsScript held script th job.Prove sc → SearchEnds th (plain_limits limits) name (blocks_of sc) (ending s text stored)
+      → ReadsScript held script th job.Prove sc → SearchEnds th (plain_limits limits) name sc.blocks (ending s text stored)
       → ProveOutcome held limits theory script name s text stored
 
 -- The two files read, the script's goals can be searched, and the search ends so.
 pub record IsSearched (limits : Limits) (theory script name : List ℕ) (e : Ending) (before : ShelfState) : Type 0 where
   pub th : Theory
   pub sc : Script
-  pub searchable : AreSearchable th (blocks_of sc)
-  pub ends : SearchEnds th (plain_limits limits) name (blocks_of sc) e
+  pub searchable : AreSearchable th sc.blocks
+  pub ends : SearchEnds th (plain_limits limits) name sc.blocks e
   pub takes_theory : TakesPlainTheory theory th before
   pub takes_script : TakesScript script th job.Prove sc before
 
@@ -57,7 +57,7 @@ pub record StoresProof (theory script name : List ℕ) (before after : ShelfStat
   pub takes_script : TakesScript script th job.Prove sc before
   pub proof_for : ProofFor th p
   pub accepted : Accepted th p
-  pub goals : map (λ b. b.goals) p.blocks ≡ blocks_of sc
+  pub goals : map (λ b. b.goals) p.blocks ≡ sc.blocks
   pub short : length (proof_text p) ≤ 67108864
   pub holds : before.tells ≡ true → after.holds name ≡ Some (proof_text p)
   pub others : (n : List ℕ) → n ≢ name → after.holds n ≡ before.holds n
