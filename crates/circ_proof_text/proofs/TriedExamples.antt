@@ -11,7 +11,7 @@ use Rattle.circ_grammar.specs.FirstBad.{file_text, Line_fault}
 use Rattle.circ_grammar.specs.Now.{Tabling}
 use Rattle.circ_proof_text.specs.ProofText.{numbers_of, proof_text, FirstCause}
 use Rattle.circ_proof_text.specs.Reading.{nothing_read, StandsFor, after_line}
-use Rattle.circ_proof_text.specs.Examples.{zips, zips_text, sums, sums_text, itself}
+use Rattle.circ_proof_text.specs.Examples.{zips, zips_text, sums, sums_text, given_bit, given_bit_text, itself}
 use Rattle.circ_proof_text.proofs.Standing.{starts, takes_line, faults_check}
 
 abbrev with_feeds : List (List ℕ) → List ℕ
@@ -52,6 +52,17 @@ sums_lines =
 pub sums_written : proof_text sums ≡ sums_text
 unfolding sums_lines
 sums_written = texts_are sums_lines (proof_lines (numbers_of sums)) refl
+
+given_bit_lines : List (List ℕ)
+given_bit_lines =
+    codes "circproof 2" ∷ codes "v 0 1" ∷ codes "v 0 0" ∷ codes "a 1" ∷ codes "a 7 0"
+    ∷ codes "block" ∷ codes "goal 3 0" ∷ codes "given 1 2" ∷ codes "cases 1"
+    ∷ codes "reduce" ∷ codes "left equation > 9 - 0 1" ∷ codes "if" ∷ codes "left assumption > 0 -" ∷ codes "same" ∷ codes "same"
+    ∷ codes "done" ∷ codes "end" ∷ []
+
+pub given_bit_written : proof_text given_bit ≡ given_bit_text
+unfolding given_bit_lines
+given_bit_written = texts_are given_bit_lines (proof_lines (numbers_of given_bit)) refl
 
 pub itself_fits : ProofFor streams itself
 itself_fits = record {

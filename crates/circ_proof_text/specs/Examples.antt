@@ -3,9 +3,11 @@ use Rattle.std.specs.Prelude.{ℕ, List, [], ◌∷◌, ◌++◌, codes}
 use Rattle.circ_term.specs.Tree.{Tree, Var, App, none, more}
 use Rattle.circ_theory.specs.declared.way.Way.TheVariants.{Forth}
 use Rattle.circ_special.specs.Special.{place}
-use Rattle.circ_proof.specs.Plain.{LinkOf, Equation_link, Hypothesis_link, no_chain, WhyOf, Same_why}
+use Rattle.circ_theory.specs.Pair.{pair_with}
+use Rattle.circ_proof.specs.Plain.{LinkOf, Equation_link, Hypothesis_link, Assumption_link, more_links, no_link}
+use Rattle.circ_proof.specs.Plain.{more_chains, no_chain, WhyOf, Same_why}
 use Rattle.circ_theory.specs.Theory.{goal}
-use Rattle.circ_proof.specs.Rules.{Reduce, Derive, Done}
+use Rattle.circ_proof.specs.Rules.{Reduce, Derive, Cases, Done}
 use Rattle.circ_proof.specs.Proof.{Proof}
 use Rattle.circ_grammar.specs.Machine.{goal_names}
 
@@ -85,6 +87,36 @@ itself = record {
   certificates = [];
   blocks = record { goals = goal [] stream stream ∷ []; names = goal_names 0 0 ∷ []; steps = Derive ∷ Reduce (by_links [] []) ∷ Done ∷ [] } ∷ [];
 }
+
+-- if B = 1 then odd(S) = S: sort 0 is Bit, operator 1 the bit 1. The equation that is used has one condition, which is the goal's own.
+
+abbrev pub bit : Tree
+bit = Var 0 0
+
+abbrev pub one_bit : Tree
+one_bit = App 1 0 none
+
+abbrev pub given_bit : Proof
+given_bit = record {
+  version = 2;
+  table = stream ∷ bit ∷ one_bit ∷ on_stream 7 stream ∷ [];
+  places = [];
+  certificates = [];
+  blocks = record {
+    goals = goal (pair_with bit one_bit ∷ []) (on_stream 7 stream) stream ∷ [];
+    names = record { conds = (1, 2) ∷ []; left = 3; right = 0 } ∷ [];
+    steps = Cases 1
+        ∷ Reduce (by_links (Equation_link 9 Forth [] (0 ∷ 1 ∷ []) (more_chains (more_links (Assumption_link 0 Forth []) no_link) no_link no_chain) ∷ []) [])
+        ∷ Done ∷ [];
+  } ∷ [];
+}
+
+abbrev pub given_bit_text : List ℕ
+given_bit_text =
+    codes "circproof 2\nv 0 1\nv 0 0\na 1\na 7 0\n"
+    ++ codes "block\ngoal 3 0\ngiven 1 2\ncases 1\n"
+    ++ codes "reduce\nleft equation > 9 - 0 1\nif\nleft assumption > 0 -\nsame\nsame\n"
+    ++ codes "done\nend\n"
 
 -- seven splits inside one another, each of which wants two whys
 abbrev pub seven_open : List ℕ
