@@ -1,7 +1,8 @@
 -- The texts of examples.
 use Rattle.std.specs.Prelude.{◌≡◌, ℕ, List, [], ◌∷◌, ◌++◌, codes, refl, Some, map}
-use Rattle.std.proofs.Common.{sym, ◌∙◌, ap, arith, inl}
+use Rattle.std.proofs.Common.{sym, ◌∙◌, ap, arith, inl, inr, true≢false}
 use Rattle.circ_theory.specs.Examples.{streams}
+use Rattle.circ_theory.proofs.Casing.{hidden_tells}
 use Rattle.circ_proof.specs.Proof.{ProofFor}
 use Rattle.circ_line.specs.Line.{Line, Variable_line, table_line, head_line}
 use Rattle.circ_line.specs.Read.{line_of}
@@ -11,7 +12,7 @@ use Rattle.circ_grammar.specs.FirstBad.{file_text, Line_fault}
 use Rattle.circ_grammar.specs.Now.{Tabling}
 use Rattle.circ_proof_text.specs.ProofText.{numbers_of, proof_text, FirstCause}
 use Rattle.circ_proof_text.specs.Reading.{nothing_read, StandsFor, after_line}
-use Rattle.circ_proof_text.specs.Examples.{zips, zips_text, sums, sums_text, given_bit, given_bit_text, itself}
+use Rattle.circ_proof_text.specs.Examples.{zips, zips_text, sums, sums_text, given_bit, given_bit_text, itself, itself_given}
 use Rattle.circ_proof_text.proofs.Standing.{starts, takes_line, faults_check}
 
 abbrev with_feeds : List (List ℕ) → List ℕ
@@ -79,6 +80,39 @@ itself_fits = record {
     record {
       some_goal = λ e. absurd (cc);
       names = (record { left = omega arith; right = omega arith; same_sort = refl; conds = tt; few_conds = omega arith }, tt);
+      goals = refl;
+      steps = (tt, ((tt, tt), (tt, tt)));
+      ended = ((λ e. absurd (cc)), ((λ e. absurd (cc)), refl));
+    },
+    tt,
+  );
+  few_steps = omega arith;
+}
+
+pub itself_given_fits : ProofFor streams itself_given
+itself_given_fits = record {
+  version = inr refl;
+  sorted = (omega arith, (omega arith, tt));
+  within = (refl, (refl, tt));
+  entries = (omega arith, (omega arith, tt));
+  short_table = omega arith;
+  places = record { increasing = tt; places = tt };
+  one_each = refl;
+  certificates = tt;
+  some_block = λ e. absurd (cc);
+  blocks = (
+    record {
+      some_goal = λ e. absurd (cc);
+      names = (
+        record {
+          left = omega arith;
+          right = omega arith;
+          same_sort = refl;
+          conds = (record { left = omega arith; right = omega arith; same_sort = refl; visible = λ h. true≢false (sym ((hidden_tells streams 0).1 h)) }, tt);
+          few_conds = omega arith;
+        },
+        tt,
+      );
       goals = refl;
       steps = (tt, ((tt, tt), (tt, tt)));
       ended = ((λ e. absurd (cc)), ((λ e. absurd (cc)), refl));

@@ -118,6 +118,20 @@ given_bit_text =
     ++ codes "reduce\nleft equation > 9 - 0 1\nif\nleft assumption > 0 -\nsame\nsame\n"
     ++ codes "done\nend\n"
 
+-- `itself` with a condition, of a variable of bits and itself
+abbrev pub itself_given : Proof
+itself_given = record {
+  version = 2;
+  table = stream ∷ bit ∷ [];
+  places = [];
+  certificates = [];
+  blocks = record {
+    goals = goal (pair_with bit bit ∷ []) stream stream ∷ [];
+    names = record { conds = (1, 1) ∷ []; left = 0; right = 0 } ∷ [];
+    steps = Derive ∷ Reduce (by_links [] []) ∷ Done ∷ [];
+  } ∷ [];
+}
+
 -- seven splits inside one another, each of which wants two whys
 abbrev pub seven_open : List ℕ
 seven_open = 2 ∷ 2 ∷ 2 ∷ 2 ∷ 2 ∷ 2 ∷ 2 ∷ []

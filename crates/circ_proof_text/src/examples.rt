@@ -10,14 +10,16 @@ ghost use Rattle.circ_proof_text.specs.TableText.{first_at};
 ghost use Rattle.circ_proof_text.specs.Checks.{nothing, wanting, is_next, passes_at, limit_at};
 ghost use Rattle.circ_proof_text.specs.ProofText.{proof_text, FirstCause};
 ghost use Rattle.circ_proof_text.specs.Examples.{stream, zips, zips_text, sums, sums_text, itself};
-ghost use Rattle.circ_proof_text.specs.Examples.{bit, given_bit, given_bit_text, seven_open};
+ghost use Rattle.circ_proof_text.specs.Examples.{bit, given_bit, given_bit_text, itself_given};
+ghost use Rattle.circ_proof_text.specs.Examples.{seven_open};
 
-/// Three proofs and their texts, and one that fits a theory. The third has conditions.
+/// Three proofs and their texts, and two that fit a theory. The last of each have conditions.
 pub fn texts_of_examples()
     ensures zips { proof_text zips ≡ zips_text }
     ensures sums { proof_text sums ≡ sums_text }
     ensures given { proof_text given_bit ≡ given_bit_text }
     ensures fits { ProofFor streams itself }
+    ensures fits_given { ProofFor streams itself_given }
 {}
 
 /// A term goes by its first number, and places increase. There is a certificate for each that is
