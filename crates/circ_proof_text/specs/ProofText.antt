@@ -6,7 +6,6 @@ use Rattle.circ_proof.specs.Rules.{ProofStep, Simplify, Reduce, Derive, Cases, D
 use Rattle.circ_proof.specs.Proof.{Block, Proof, ProofFor}
 use Rattle.circ_grammar.specs.Grammar.{NumberedStep, Simplify_step, Reduce_step, Derive_step, Cases_step, NumberedBlock, NumberedProof, proof_lines}
 use Rattle.circ_grammar.specs.FirstBad.{LineTests, file_text, LineFault, IsFirstFault}
-use Rattle.circ_grammar.specs.Machine.{numbered_table}
 use Rattle.circ_proof_text.specs.TableText.{entries_of}
 use Rattle.circ_proof_text.specs.Checks.{nothing, after_all, passes_at, limit_at}
 
@@ -28,7 +27,7 @@ place_numbers g = (g.op, g.arg)
 -- the proof as its lines write it
 abbrev pub numbers_of : Proof → NumberedProof
 numbers_of p = record {
-  table = numbered_table p.version (entries_of [] p.table);
+  table = record { version = p.version; lines = entries_of [] p.table };
   places = map place_numbers p.places;
   certificates = p.certificates;
   blocks = map block_numbers p.blocks;
