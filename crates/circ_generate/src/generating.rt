@@ -2,6 +2,7 @@
 ghost use Rattle.std.specs.Prelude.{◌≡◌, ◌≤◌, None, IfOk, codes};
 ghost use Rattle.circ_proof.specs.PlainProof.{plain_proof};
 ghost use Rattle.circ_proof.specs.Proof.{Proof as PlainProof, steps_in};
+ghost use Rattle.circ_read.specs.ReadsAs.{ReadsAs};
 ghost use Rattle.circ_read.specs.declared.cause.Cause.TheVariants as cause;
 ghost use Rattle.circ_script.specs.ReadsAsScript.{ReadsAsScript};
 ghost use Rattle.circ_script.specs.Script.{plain_script};
@@ -43,8 +44,7 @@ fn chain<'a>(alloc: Global, number: u64) -> Result<Ending<'a>, AllocError>
 {
     let text = chain_theory(alloc, number)?;
     match read_theory(alloc, text.as_slice()) {
-        Ok(theory) if theory.has_conditions() => conditional(alloc),
-        Ok(mut theory) => with_theory(alloc, number, &mut theory),
+        Ok(mut theory) => of_theory(alloc, number, &mut theory),
         Err(
             ReadFault::Statement {
                 number: place,
@@ -61,6 +61,17 @@ fn conditional<'a>(alloc: Global) -> Result<Ending<'a>, AllocError>
 {
     let word = Text::of(alloc, b"ceq")?;
     unread(alloc, THEORY_FILE, 0, Cause::LeftOut { word })
+}
+
+fn of_theory<'a>(alloc: Global, number: u64, theory: &mut Theory) -> Result<Ending<'a>, AllocError>
+    requires most { number ≤ 65535 }
+    requires reads { ReadsAs (chain_theory number) theory.old }
+    ensures { IfOk result (λ e. Generates number (plain_ending e)) }
+{
+    if theory.has_conditions() {
+        return conditional(alloc);
+    }
+    with_theory(alloc, number, theory)
 }
 
 fn with_theory<'a>(
