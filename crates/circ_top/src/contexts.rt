@@ -1,6 +1,7 @@
 //! The command `contexts`: the greatest special set of a theory file is printed.
 ghost use Rattle.std.specs.Prelude.{IfOk, IfErr};
 ghost use Rattle.circ_outer.specs.Shelf.{ShelfFrame};
+ghost use Rattle.circ_theory.specs.Theory.{HasNoConditions};
 ghost use Rattle.circ_files.specs.Quiet.{IsQuietCall};
 ghost use Rattle.circ_files.specs.TheoryFile.{IsPlainTheoryFault};
 ghost use Rattle.circ_top.specs.Contexts.{IsContextsText, IsListed};
@@ -36,6 +37,7 @@ pub(crate) fn contexts<S: Shelf>(
 
 /// The lines of a theory's greatest special set.
 fn listed(alloc: Global, theory: &Theory, budget: u64) -> Result<Vec<u8>, AllocError>
+    requires { HasNoConditions theory.now }
     ensures { IfOk result (λ v. IsContextsText theory.now budget v.items) }
 {
     let (gamma, _traces) = special_contexts(alloc, theory, budget)?;
