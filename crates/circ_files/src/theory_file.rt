@@ -7,9 +7,9 @@ ghost use Rattle.circ_files.specs.TheoryFile.{TakesPlainTheory, IsPlainTheoryFau
 
 use crate::files::take_file;
 use crate::status::{Status, THEORY_FILE};
+use circ_form::Text;
 use circ_outer::Shelf;
 use circ_read::laws::read_in_one_way;
-use circ_form::Text;
 use circ_read::{Cause, ReadFault, read_theory};
 use circ_theory::Theory;
 use std::alloc::Global;

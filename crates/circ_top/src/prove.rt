@@ -5,7 +5,7 @@ ghost use Rattle.circ_files.specs.Quiet.{IsQuietCall};
 ghost use Rattle.circ_found.specs.Ending.{plain_ending};
 ghost use Rattle.circ_top.specs.Prove.{IsSearched, RefusesProve};
 
-use circ_files::{Status, take_script, take_plain_theory};
+use circ_files::{Status, take_plain_theory, take_script};
 use circ_found::{Ending, search, searchable};
 use circ_outer::Shelf;
 use circ_script::Job;

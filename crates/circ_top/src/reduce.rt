@@ -8,7 +8,7 @@ ghost use Rattle.circ_top.specs.Reduce.{reduced, Reduces, Ends, Results, FaultEn
 ghost use Rattle.circ_top.specs.Reduce.{result_line, results_text, IsReduced, RefusesReduce};
 ghost use Rattle.circ_top.specs.Reduce.{fault_status};
 
-use circ_files::{Status, push_numbered, take_script, take_plain_theory};
+use circ_files::{Status, push_numbered, take_plain_theory, take_script};
 use circ_memo::Memo;
 use circ_mixfix::print;
 use circ_outer::Shelf;

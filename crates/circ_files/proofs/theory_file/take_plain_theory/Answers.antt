@@ -17,8 +17,7 @@ returns-then-has_conditions-clause-fault g c =
     let t = c.in-Ok.ensures.takes in
     let some : HasNoConditions th → ⊥ = λ h. let never : true ≡ false = sym c.if-has_conditions.true ∙ c.has_conditions.ensures.1 h in cc in
     let refused : (bytes : List ℕ) → ReadsAs bytes th → PlainTheoryRefusal 0 (cause.LeftOut c.in_ok-word.word) bytes =
-    λ b r. let P : List ℕ → Type 0 = λ w. PlainTheoryRefusal 0 (cause.LeftOut w) b in subst P (sym c.in_ok-word.ensures) (has_condition b th r some) in
-    (
+    λ b r. let P : List ℕ → Type 0 = λ w. PlainTheoryRefusal 0 (cause.LeftOut w) b in subst P (sym c.in_ok-word.ensures) (has_condition b th r some) in (
       refl,
       record { bytes = t.bytes.bytes; short = t.bytes.short; are = refused t.bytes.bytes t.bytes.are },
       λ e. let h = (t.reads e).0 in record { bytes = h.bytes; bytes_are = h.bytes_are; short = h.short; are = refused h.bytes h.are },
@@ -34,8 +33,7 @@ returns-clause-takes g c =
       well_formed = t.well_formed;
       plain = plain;
       reads = λ e.
-          let h = t.reads e in
-          (
+          let h = t.reads e in (
             record { bytes = h.0.bytes; bytes_are = h.0.bytes_are; short = h.0.short; are = record { reads = h.0.are; plain = plain } },
             λ u x. h.1 u (record { bytes = x.bytes; bytes_are = x.bytes_are; short = x.short; are = x.are.reads }),
           );
