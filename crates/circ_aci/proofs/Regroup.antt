@@ -8,7 +8,9 @@ use Rattle.circ_term.specs.Order.{is_same, comes_before}
 use Rattle.circ_term.specs.Substitution.{Substitution, instance}
 use Rattle.circ_term.proofs.Order.{same_here}
 use Rattle.circ_theory.specs.Signature.{Signature, Operator, IsWellSorted, HaveSorts, IsSubstitution}
-use Rattle.circ_theory.specs.Theory.{Theory, Pair, twice, IsEquation, associative, commutative, idempotent}
+use Rattle.circ_theory.proofs.Rewriting.{none_hold}
+use Rattle.circ_theory.specs.declared.parts.Goal.{Goal}
+use Rattle.circ_theory.specs.Theory.{Theory, Pair, goal, twice, IsEquation, associative, commutative, idempotent}
 use Rattle.circ_theory.specs.Derivable.{Derivable, by_same, by_symmetry, by_chain, by_operator, by_equation, more_args, no_args}
 use Rattle.circ_aci.specs.Content.{put_term, sorted_terms}
 use Rattle.circ_aci.specs.Canonical.{join}
@@ -103,9 +105,10 @@ module _ (th : Theory) (H : List Pair) (f : ℕ) (o : Operator) (j : IsJoiner th
 
   -- ---- the equations of the marks
 
-  by_instance : (e : Pair) → IsEquation th e → (a b c : Tree) → Fit a → Fit b → Fit c
+  by_instance : (e : Goal) → e.conds ≡ [] → IsEquation th e → (a b c : Tree) → Fit a → Fit b → Fit c
       → Leads (instance (three o.result a b c) e.left) (instance (three o.result a b c) e.right)
-  by_instance e i a b c p q r = by_equation e (three o.result a b c) i (three_fit th.signature o.result a b c p q r)
+  by_instance e plain i a b c p q r =
+      by_equation e (three o.result a b c) i (three_fit th.signature o.result a b c p q r) (none_hold th H (three o.result a b c) e.conds plain)
 
   itself : o.result == o.result ≡ true
   itself = eq-eqb o.result o.result refl
@@ -116,18 +119,18 @@ module _ (th : Theory) (H : List Pair) (f : ℕ) (o : Operator) (j : IsJoiner th
       let y = Var 1 o.result in
       let z = Var 2 o.result in
       rw itself at
-      (by_instance (record { left = on_two (on_two x y) z; right = on_two x (on_two y z) }) (associative f o j.there e) a b c p q r)
+      (by_instance (goal [] (on_two (on_two x y) z) (on_two x (on_two y z))) refl (associative f o j.there e) a b c p q r)
 
   pub exchange : o.comm ≡ true → (a b : Tree) → Fit a → Fit b → Leads (on_two a b) (on_two b a)
   exchange e a b p q =
       let x = Var 0 o.result in
       let y = Var 1 o.result in
-      rw itself at (by_instance (record { left = on_two x y; right = on_two y x }) (commutative f o j.there e) a b b p q q)
+      rw itself at (by_instance (goal [] (on_two x y) (on_two y x)) refl (commutative f o j.there e) a b b p q q)
 
   pub merge : o.idem ≡ true → (a : Tree) → Fit a → Leads (on_two a a) a
   merge e a p =
       let x = Var 0 o.result in
-      rw itself at (by_instance (record { left = on_two x x; right = x }) (idempotent f o j.there e) a a a p p p)
+      rw itself at (by_instance (goal [] (on_two x x) x) refl (idempotent f o j.there e) a a a p p p)
 
   -- ---- terms joined from the right
 

@@ -8,17 +8,16 @@ use Rattle.circ_term.specs.Tree.{Tree, sort_of}
 use Rattle.circ_term.specs.Limits.{Limit, Big, Deep, first_limit, or_else, IsWithinLimits, Names}
 use Rattle.circ_term.specs.declared.fault.TermFault.{TermFault}
 use Rattle.circ_term.specs.declared.fault.TermFault.TheVariants as term
-use Rattle.circ_theory.specs.Theory.{Theory, Derivative}
+use Rattle.circ_theory.specs.Theory.{Theory, Derivative, goal}
 use Rattle.circ_theory.specs.WellFormed.{IsWellFormed, IsDerivative}
 use Rattle.circ_theory.specs.Variables.{Variable, occurrences}
 use Rattle.circ_theory.specs.Observing.{is_parameter}
 use Rattle.circ_theory.specs.Experiment.{derived}
-use Rattle.circ_theory.specs.Fresh.{numbered_from, given_parameters, parameter_sorts, variables_from}
+use Rattle.circ_theory.specs.Fresh.{fresh_in, numbered_from, given_parameters, parameter_sorts, variables_from}
 use Rattle.circ_theory.specs.declared.parts.Goal.{Goal}
 use Rattle.circ_theory.proofs.Rewriting.{contains_at}
 use Rattle.circ_theory.proofs.Derived.{derived-numbered_from}
-use Rattle.circ_proof.specs.Goals.{goal}
-use Rattle.circ_proof.specs.Rules.{fresh_in, derived_goal, derivatives_on}
+use Rattle.circ_proof.specs.Rules.{derived_goal, derivatives_on}
 use Rattle.circ_proof.proofs.Derivatives.{if_some_at, some_if_at, the_derivative, StartsWith, derivative_at}
 use Rattle.circ_plain_search.specs.Joining.{Stop, Past_limit}
 use Rattle.circ_plain_search.specs.Search.{goals_limit, unless_past}
@@ -43,8 +42,9 @@ right_fails g (term.TooBig n) w h = rw (w, h) refl
 right_fails g (term.TooDeep n) w h = rw (w, h) refl
 right_fails g term.Memory w h = tt
 
-pub both_built : (g h : Goal) → h.left ≡ g.left → h.right ≡ g.right → IsWithinLimits g.left → IsWithinLimits g.right → GivesGoal g (Ok h)
-both_built g h a b wl wr = (ap (λ x. goal x h.right) a ∙ ap (goal g.left) b, rw (wl, wr) refl)
+pub both_built : (g h : Goal) → h.conds ≡ g.conds → h.left ≡ g.left → h.right ≡ g.right → IsWithinLimits g.left → IsWithinLimits g.right → GivesGoal g (Ok h)
+both_built g h e a b wl wr =
+    (ap (λ x. goal x h.left h.right) e ∙ ap (λ x. goal g.conds x h.right) a ∙ ap (goal g.conds g.left) b, rw (wl, wr) refl)
 
 -- ---- fresh variables for the parameters
 
@@ -80,8 +80,8 @@ module _ (th : Theory) (ok : IsWellFormed th) (n : ℕ) (g : Goal) (k : ℕ) (fr
       → IfSome (slice_get th.derivatives n) (λ x. GivesGoal (derived_goal x g (fresh_in g)) r)
   on_goal params made r h =
       let same : instances_on d params g ≡ derived_goal d g (fresh_in g)
-      = ap (λ x. goal x (derived d g.right (given_parameters params))) (numbered params made g.left)
-      ∙ ap (goal (derived d g.left (numbered_from (fresh_in g)))) (numbered params made g.right) in
+      = ap (λ x. goal g.conds x (derived d g.right (given_parameters params))) (numbered params made g.left)
+      ∙ ap (goal g.conds (derived d g.left (numbered_from (fresh_in g)))) (numbered params made g.right) in
       let P : Goal → Type 0 = λ q. GivesGoal q r in
       if_some_at (λ x. GivesGoal (derived_goal x g (fresh_in g)) r) (slice_get th.derivatives n) d there
       (subst P same (some_if_at (λ x. GivesGoal (instances_on x params g) r) (slice_get th.derivatives n) d there h))

@@ -3,10 +3,10 @@ ghost use Rattle.std.specs.Prelude.{◌≡◌, ◌≤◌, ◌<◌, ◌^◌, ◌+
 ghost use Rattle.std.specs.Prelude.{List, length, take, IfOk, OnOk};
 ghost use Rattle.std.specs.List.{AllByRecursion};
 ghost use Rattle.circ_theory.specs.Rule.{is_bound};
-ghost use Rattle.circ_theory.specs.Theory.{pair_with};
+ghost use Rattle.circ_theory.specs.Theory.{goal, HasNoConditions};
 ghost use Rattle.circ_theory.specs.declared.parts.Goal.{Goal as TheGoal};
-ghost use Rattle.circ_rewrite.specs.Due.{IsRewriteRule};
-ghost use Rattle.circ_plain_search.specs.BlockRules.{can_rewrite, lemma_rule};
+ghost use Rattle.circ_rewrite.specs.Due.{IsRewriteRule, AreUnconditional};
+ghost use Rattle.circ_plain_search.specs.BlockRules.{HaveNoConditions, can_rewrite, lemma_rule};
 ghost use Rattle.circ_block.specs.Rules.{IsRulesOf};
 
 use circ_join::Lemmas;
@@ -32,8 +32,9 @@ pub struct BlockRules<'a> {
 }
 
 impl<'a> BlockRules<'a> {
-    /// The rules of the first block.
+    /// The rules of the first block. The theory has no conditions.
     pub fn new(alloc: Global, theory: &'a Theory) -> Result<BlockRules<'a>, AllocError>
+        requires { HasNoConditions theory.now }
         ensures { IfOk result (λ r. IsRulesOf theory.now [] r) }
     {
         theory.known();
@@ -47,14 +48,15 @@ impl<'a> BlockRules<'a> {
         })
     }
 
-    /// The rules of the next block, after these goals of earlier blocks. The first of them are
-    /// those that the rules are of, and only the others are gone through.
+    /// The rules of the next block, after these goals of earlier blocks, which have no conditions.
+    /// The first of them are those that the rules are of, and only the others are gone through.
     pub fn next_block(
         &mut self,
         alloc: Global,
         theory: &Theory,
         earlier: &[Goal],
     ) -> Result<(), AllocError>
+        requires plain { HaveNoConditions earlier.now }
         requires few { length earlier.now ≤ 100000 }
         requires before { IsRulesOf theory.now (take self.old.count earlier.now) self.old }
         ensures { OnOk result (IsRulesOf theory.now earlier.now self.new) }
@@ -70,6 +72,7 @@ impl<'a> BlockRules<'a> {
     // A goal that rewrites goes behind the rules where it is visible, and behind the lemmas where
     // it is hidden.
     fn put_goal(&mut self, alloc: Global, theory: &Theory, goal: &Goal) -> Result<(), AllocError>
+        requires plain { goal.now.conds ≡ [] }
         requires few { (E : List TheGoal) × IsRulesOf theory.now E self.old × (length E < 100000) }
         ensures { (E : List TheGoal) → IsRulesOf theory.now E self.old
             → OnOk result (IsRulesOf theory.now (E ++ goal.now ∷ []) self.new) }
@@ -81,11 +84,11 @@ impl<'a> BlockRules<'a> {
             return Ok(());
         }
         if theory.is_hidden(goal.left.sort()) {
-            self.lemmas.push(lemma_rule(number, goal)?)?;
+            self.lemmas.push(lemma_rule(alloc, number, goal)?)?;
             return Ok(());
         }
-        self.plain.push(lemma_rule(number, goal)?)?;
-        self.cases.push(lemma_rule(number, goal)?)?;
+        self.plain.push(lemma_rule(alloc, number, goal)?)?;
+        self.cases.push(lemma_rule(alloc, number, goal)?)?;
         Ok(())
     }
 }
@@ -97,6 +100,7 @@ fn memos<'a>(
     rules: Vec<Rule>,
 ) -> Result<(Memo<'a>, Memo<'a>), AllocError>
     requires rewrite { AllByRecursion IsRewriteRule rules.items }
+    requires unconditional { AreUnconditional rules.items }
     requires few { length rules.items < 2 ^ 32 }
     ensures plain { IfOk result (λ m. m.0 ≡ record {
       theory = theory.now;
@@ -111,20 +115,23 @@ fn memos<'a>(
     Ok((plain, cases))
 }
 
-fn lemma_rule(number: u32, goal: &Goal) -> Result<Rule, AllocError>
+fn lemma_rule(alloc: Global, number: u32, goal: &Goal) -> Result<Rule, AllocError>
     ensures { IfOk result (λ r. r ≡ lemma_rule number goal.now) }
 {
     let left = goal.left.share()?;
     let right = goal.right.share()?;
+    let conds = goal.conds.share(alloc)?;
     Ok(Rule {
         name: RuleName::Lemma { number },
         left,
         right,
+        conds,
     })
 }
 
 // Whether the left side is no variable, and has all variables of the right side.
 fn can_rewrite(alloc: Global, goal: &Goal) -> Result<bool, AllocError>
+    requires { goal.now.conds ≡ [] }
     ensures { IfOk result (λ b. b ≡ can_rewrite goal.now) }
 {
     if goal.left.op_number().is_none() {
@@ -134,7 +141,7 @@ fn can_rewrite(alloc: Global, goal: &Goal) -> Result<bool, AllocError>
 }
 
 fn is_bound(alloc: Global, left: &Term, right: &Term) -> Result<bool, AllocError>
-    ensures { IfOk result (λ b. b ≡ is_bound (pair_with left.now right.now)) }
+    ensures { IfOk result (λ b. b ≡ is_bound (goal [] left.now right.now)) }
 {
     let mut variables = IndexSet::new(alloc);
     gather(left, &mut variables)?;

@@ -3,31 +3,34 @@ ghost use Rattle.std.specs.Prelude.{◌≡◌};
 ghost use Rattle.std.specs.List.{list_any};
 ghost use Rattle.circ_plain_search.specs.Search.{is_deep, is_deep_chain, is_deep_why};
 ghost use Rattle.circ_plain_search.specs.Search.{are_deep_whys, is_deep_step};
-ghost use Rattle.circ_record.specs.Plain.{plain_term_link, plain_term_links, plain_term_chain};
-ghost use Rattle.circ_record.specs.Plain.{plain_term_why, plain_term_whys, plain_term_step};
+ghost use Rattle.circ_proof.specs.Plain.{plain_link, plain_links, plain_chain};
+ghost use Rattle.circ_proof.specs.Plain.{plain_why, plain_whys};
+ghost use Rattle.circ_proof.specs.PlainProof.{plain_step};
 
-use circ_record::{TermChain, TermLink, TermStep, TermWhy};
+use circ_proof::{Chain, Link, Step, Why};
+use circ_term::Term;
 use circ_theory::{Goal, Theory};
 
 /// Whether a step uses a hidden hypothesis at a path that is not empty. Takes no memory.
-pub fn is_deep_step(theory: &Theory, hyps: &[Goal], step: &TermStep) -> bool
-    ensures { result ≡ is_deep_step theory.now hyps.now (plain_term_step step.now) }
+pub fn is_deep_step(theory: &Theory, hyps: &[Goal], step: &Step<Term>) -> bool
+    ensures { result ≡ is_deep_step theory.now hyps.now (plain_step step.now) }
 {
     match step {
-        TermStep::Simplify { chain } => is_deep_chain(theory, hyps, chain),
-        TermStep::Reduce { why } => is_deep_why(theory, hyps, why),
-        TermStep::Derive => false,
-        TermStep::Done => false,
+        Step::Simplify { chain } => is_deep_chain(theory, hyps, chain),
+        Step::Reduce { why } => is_deep_why(theory, hyps, why),
+        Step::Derive => false,
+        Step::Cases { .. } => false,
+        Step::Done => false,
     }
 }
 
 #[cycle(is_deep_why)]
-fn is_deep_why(theory: &Theory, hyps: &[Goal], why: &TermWhy) -> bool
-    ensures { result ≡ is_deep_why theory.now hyps.now (plain_term_why why.now) }
+fn is_deep_why(theory: &Theory, hyps: &[Goal], why: &Why<Term>) -> bool
+    ensures { result ≡ is_deep_why theory.now hyps.now (plain_why why.now) }
 {
     match why {
-        TermWhy::Same { chain } => is_deep_chain(theory, hyps, chain),
-        TermWhy::Split { chain, whys, .. } => {
+        Why::Same { chain } => is_deep_chain(theory, hyps, chain),
+        Why::Split { chain, whys, .. } => {
             if is_deep_chain(theory, hyps, chain) {
                 return true;
             }
@@ -37,8 +40,8 @@ fn is_deep_why(theory: &Theory, hyps: &[Goal], why: &TermWhy) -> bool
 }
 
 #[cycle(is_deep_why)]
-fn are_deep_whys(theory: &Theory, hyps: &[Goal], whys: &[TermWhy]) -> bool
-    ensures { result ≡ are_deep_whys theory.now hyps.now (plain_term_whys whys.now) }
+fn are_deep_whys(theory: &Theory, hyps: &[Goal], whys: &[Why<Term>]) -> bool
+    ensures { result ≡ are_deep_whys theory.now hyps.now (plain_whys whys.now) }
 {
     for why in whys {
         if is_deep_why(theory, hyps, why) {
@@ -48,8 +51,8 @@ fn are_deep_whys(theory: &Theory, hyps: &[Goal], whys: &[TermWhy]) -> bool
     false
 }
 
-fn is_deep_chain(theory: &Theory, hyps: &[Goal], chain: &TermChain) -> bool
-    ensures { result ≡ is_deep_chain theory.now hyps.now (plain_term_chain chain.now) }
+fn is_deep_chain(theory: &Theory, hyps: &[Goal], chain: &Chain<Term>) -> bool
+    ensures { result ≡ is_deep_chain theory.now hyps.now (plain_chain chain.now) }
 {
     if are_deep(theory, hyps, chain.left.as_slice()) {
         return true;
@@ -57,8 +60,8 @@ fn is_deep_chain(theory: &Theory, hyps: &[Goal], chain: &TermChain) -> bool
     are_deep(theory, hyps, chain.right.as_slice())
 }
 
-fn are_deep(theory: &Theory, hyps: &[Goal], links: &[TermLink]) -> bool
-    ensures { result ≡ list_any (is_deep theory.now hyps.now) (plain_term_links links.now) }
+fn are_deep(theory: &Theory, hyps: &[Goal], links: &[Link<Term>]) -> bool
+    ensures { result ≡ list_any (is_deep theory.now hyps.now) (plain_links links.now) }
 {
     for link in links {
         if is_deep(theory, hyps, link) {
@@ -68,11 +71,11 @@ fn are_deep(theory: &Theory, hyps: &[Goal], links: &[TermLink]) -> bool
     false
 }
 
-fn is_deep(theory: &Theory, hyps: &[Goal], link: &TermLink) -> bool
-    ensures { result ≡ is_deep theory.now hyps.now (plain_term_link link.now) }
+fn is_deep(theory: &Theory, hyps: &[Goal], link: &Link<Term>) -> bool
+    ensures { result ≡ is_deep theory.now hyps.now (plain_link link.now) }
 {
     match link {
-        TermLink::Hypothesis { number, path, .. } => {
+        Link::Hypothesis { number, path, .. } => {
             if path.is_empty() {
                 return false;
             }

@@ -1,18 +1,18 @@
 //! The goals that Derive makes.
-ghost use Rattle.std.specs.Prelude.{◌≡◌, ◌≤◌, ◌+◌, ◌^◌, Some, false, ◌==◌, length, IfOk};
+ghost use Rattle.std.specs.Prelude.{◌≡◌, ◌≤◌, ◌^◌, Some};
 ghost use Rattle.std.specs.List.{slice_get};
-ghost use Rattle.std.specs.Option.{IfSome, option_map, option_map_or};
+ghost use Rattle.std.specs.Option.{IfSome, option_map};
 ghost use Rattle.circ_term.specs.Tree.{sort_of};
-ghost use Rattle.circ_theory.specs.Fresh.{variables_from, FitSome};
-ghost use Rattle.circ_proof.specs.Rules.{fresh_in, derived_goal};
+ghost use Rattle.circ_theory.specs.Fresh.{fresh_in, FitSome};
+ghost use Rattle.circ_proof.specs.Rules.{derived_goal};
 ghost use Rattle.circ_plain_search.specs.Coming.{IsReady};
 ghost use Rattle.circ_block.specs.Derived.{GivesDerivatives};
 ghost use Rattle.circ_block.specs.Derived.{GivesGoal, instances_on};
 
 use circ_join::Stop;
 use circ_term::Term;
-use circ_theory::{Goal, Theory, above};
-use std::alloc::{AllocError, Global};
+use circ_theory::{Goal, Theory, above, above_pairs, variables_from};
+use std::alloc::Global;
 use std::collections::VecDeque;
 
 /// The derivatives of a goal: that of each derivative of its sort, with fresh parameters.
@@ -22,10 +22,10 @@ pub fn derivatives_on(alloc: Global, theory: &Theory, goal: &Goal) -> Result<Vec
 {
     theory.known();
     let sort = goal.left.sort();
-    let fresh = above(&goal.left).max(above(&goal.right));
+    let fresh = fresh_in(goal);
     let mut derived = VecDeque::new(alloc);
     for derivative in 0..theory.derivative_count() {
-        if takes(theory, derivative, sort) {
+        if theory.takes(derivative, sort) {
             match derivative_on(alloc, theory, derivative, goal, fresh) {
                 Ok(goal) => derived.push_back(goal)?,
                 Err(stop) => return Err(stop),
@@ -35,15 +35,13 @@ pub fn derivatives_on(alloc: Global, theory: &Theory, goal: &Goal) -> Result<Vec
     Ok(derived)
 }
 
-// Whether the hole of the derivative has the sort.
-fn takes(theory: &Theory, derivative: u32, sort: u32) -> bool
-    ensures { result ≡ option_map_or (λ d. d.hole == sort)
-        (slice_get theory.now.derivatives derivative) false }
+// One above the greatest variable number of the goal, its conditions among it.
+fn fresh_in(goal: &Goal) -> u64
+    ensures exact { result ≡ fresh_in goal.now }
+    ensures within { result ≤ 2 ^ 32 }
 {
-    match theory.hole_sort(derivative) {
-        Some(hole) => hole == sort,
-        None => false,
-    }
+    let sides = above(&goal.left).max(above(&goal.right));
+    sides.max(above_pairs(goal.conds.as_slice()))
 }
 
 // The derivative on both sides of the goal, its parameters numbered from `fresh`.
@@ -65,12 +63,19 @@ fn derivative_on(
     let Some(sorts) = theory.parameter_sorts(derivative) else {
         unreachable!();
     };
-    let params = variables(alloc, fresh, sorts)?;
-    both_sides(theory, derivative, params.as_slice(), goal)
+    let params = variables_from(alloc, fresh, sorts)?;
+    both_sides(alloc, theory, derivative, params.as_slice(), goal)
 }
 
-// The derivative on both sides of the goal, with these terms for its parameters.
-fn both_sides(theory: &Theory, derivative: u32, params: &[Term], goal: &Goal) -> Result<Goal, Stop>
+// The derivative on both sides of the goal, with these terms for its parameters, under the goal's
+// conditions.
+fn both_sides(
+    alloc: Global,
+    theory: &Theory,
+    derivative: u32,
+    params: &[Term],
+    goal: &Goal,
+) -> Result<Goal, Stop>
     requires left { FitSome (slice_get theory.now.derivatives derivative)
         params.now goal.now.left }
     requires right { FitSome (slice_get theory.now.derivatives derivative)
@@ -82,21 +87,10 @@ fn both_sides(theory: &Theory, derivative: u32, params: &[Term], goal: &Goal) ->
         Err(fault) => Err(Stop::of_term(fault)),
         Ok(left) => match theory.instance(derivative, params, &goal.right) {
             Err(fault) => Err(Stop::of_term(fault)),
-            Ok(right) => Ok(Goal { left, right }),
+            Ok(right) => {
+                let conds = goal.conds.share(alloc)?;
+                Ok(Goal { conds, left, right })
+            }
         },
     }
-}
-
-// Variables of these sorts, numbered from `first`.
-fn variables(alloc: Global, first: u64, sorts: &[u32]) -> Result<Vec<Term>, AllocError>
-    requires { first + length sorts.now ≤ 2 ^ 32 }
-    ensures { IfOk result (λ v. v.items ≡ variables_from first sorts.now) }
-{
-    let mut made = Vec::with_capacity(alloc, sorts.len())?;
-    let mut next = first;
-    for sort in sorts {
-        made.push(Term::var(next as u32, *sort))?;
-        next += 1;
-    }
-    Ok(made)
 }

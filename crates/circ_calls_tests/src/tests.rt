@@ -8,6 +8,7 @@ use circ_aci::{canonical, content, same_content};
 use circ_check::{Verdict, check, derived};
 use circ_file::laws::decoded_bytes_are_the_text;
 use circ_file::{decode, encode};
+use circ_form::{Form, FormFault, Text};
 use circ_lexer::{LexFault, Span, Tokens};
 use circ_match::{match_pair, match_term};
 use circ_memo::normalise;
@@ -19,7 +20,7 @@ use circ_replay::{TableBuilder, follow, follow_all, follow_why};
 use circ_show::unobserved;
 use circ_special::Gamma;
 use circ_term::{Path, Subst, Term, TermFault};
-use circ_theory::{Form, FormFault, Goal, Text, Theory, in_order, parameters_in_order};
+use circ_theory::{Goal, Pair, Pairs, Theory, in_order, parameters_in_order};
 use circ_top::sure::circ_in_memory;
 use std::alloc::{AllocError, Global};
 
@@ -69,7 +70,8 @@ fn table_numbers(rt: HostRuntime) {
 #[test]
 fn numbers(rt: HostRuntime) {
     let (zero, one) = (Term::var(0, 0), Term::var(1, 0));
-    let in_order = in_order(rt.alloc(), &zero, &one) == Ok(true);
+    let none = Pairs::new(rt.alloc());
+    let in_order = in_order(rt.alloc(), &zero, &one, &none) == Ok(true);
     let parameters = parameters_in_order(rt.alloc(), &one) == Ok(true);
     assert!(rt; in_order && parameters);
 }
@@ -281,7 +283,7 @@ fn proofs(rt: HostRuntime) {
 
 // Whether the term becomes `B` where `A` is assumed to be `B`, by three of ten replacements.
 fn becomes_b(alloc: Global, theory: &Theory, term: &Term) -> bool {
-    let assumption = Goal {
+    let assumption = Pair {
         left: Term::var(0, 0),
         right: Term::var(1, 0),
     };
@@ -326,6 +328,7 @@ fn is_justified(alloc: Global, theory: &Theory, gamma: &Gamma) -> bool {
         return false;
     }
     let goal = Goal {
+        conds: Pairs::new(alloc),
         left: Term::var(0, 0),
         right: Term::var(0, 0),
     };
@@ -338,10 +341,8 @@ fn is_justified(alloc: Global, theory: &Theory, gamma: &Gamma) -> bool {
 }
 
 fn are_replayed(alloc: Global, theory: &Theory) -> bool {
-    match Gamma::of(theory, Vec::new(alloc)) {
-        Some(gamma) => { is_followed(alloc, theory, &gamma) && is_justified(alloc, theory, &gamma) }
-        None => false,
-    }
+    let gamma = Gamma::empty(alloc);
+    is_followed(alloc, theory, &gamma) && is_justified(alloc, theory, &gamma)
 }
 
 #[test]

@@ -11,7 +11,7 @@ use Rattle.circ_special.specs.declared.place.Place.{Place}
 use Rattle.circ_proof.specs.Plain.{LinkOf}
 use Rattle.circ_proof.specs.Link.{resolved_links}
 use Rattle.circ_proof.specs.Runs.{Runs, FailsFirst}
-use Rattle.circ_proof.specs.Rules.{State, state, ProofStep, Simplify, Reduce, Derive, Done, map_step, StepOf, StepOn, StepsOf}
+use Rattle.circ_proof.specs.Rules.{State, state, ProofStep, Simplify, Reduce, Derive, Cases, Done, map_step, StepOf, StepOn, StepsOf}
 use Rattle.circ_proof.specs.Certified.{due, AreCertified, CertificateFails}
 use Rattle.circ_proof.specs.Proof.{Block, Proof, ProofFor, IsBlockFor}
 use Rattle.circ_proof.specs.Accepted.{steps_of, BlocksDerive, BlockFails, Derives, FirstFail}
@@ -103,6 +103,8 @@ made_on th G name (Reduce w) H [] b r = absurd r
 made_on th G name (Reduce w) H (g ∷ gs) b r = ap (λ x. x.hypotheses) r.1 ∙ sym (append-nil H)
 made_on th G name Derive H [] b r = absurd r
 made_on th G name Derive H (g ∷ gs) b r = ap (λ x. x.hypotheses) r.2
+made_on th G name (Cases u) H [] b r = absurd r
+made_on th G name (Cases u) H (g ∷ gs) b r = ap (λ x. x.hypotheses) r.3 ∙ sym (append-nil H)
 made_on th G name Done H [] b r = ap (λ x. x.hypotheses) r ∙ sym (append-nil H)
 made_on th G name Done H (g ∷ gs) b r = absurd r
 
@@ -193,7 +195,7 @@ module _ (th : Theory) (p : Proof) where
     first : BlockFails th p H bs number
     failed : e.tally.failed ≡ Some (n + number)
 
-  blocks_taken : (bs : List Block) → AllByRecursion (IsBlockFor p.table) bs → (B O : List Goal) (a : State) (n : ℕ) (D : List (List Goal)) (e : Checking)
+  blocks_taken : (bs : List Block) → AllByRecursion (IsBlockFor th p.table) bs → (B O : List Goal) (a : State) (n : ℕ) (D : List (List Goal)) (e : Checking)
       → Runs (Passes th) (block_parts bs) (here B O a n D) e → BlocksLead (B ++ O) bs D e ⊎ BlocksFall (B ++ O) bs n e
   blocks_taken [] f B O a n D e r =
       inl (record { made = []; leads = tt; none = sym (ap (λ y. y.tally.failed) r); derived = sym (ap (λ y. y.derived) r) ∙ sym (append-nil D) })

@@ -12,9 +12,9 @@ use Rattle.circ_special.specs.Special.{IsSet}
 use Rattle.circ_proof.specs.Goals.{AreSortedGoals}
 use Rattle.circ_proof.specs.Plain.{LinkOf}
 use Rattle.circ_proof.specs.Runs.{Runs}
-use Rattle.circ_proof.specs.Rules.{ProofStep, Simplify, Reduce, Derive, Done}
+use Rattle.circ_proof.specs.Rules.{ProofStep, Simplify, Reduce, Derive, Cases, Done}
 use Rattle.circ_proof.specs.Certified.{due}
-use Rattle.circ_proof.specs.Proof.{AreLinksFor, IsStepFor, step_limit}
+use Rattle.circ_proof.specs.Proof.{GoalNames, AreLinksFor, IsStepFor, step_limit}
 use Rattle.circ_proof.specs.Parts.{Part, Head, Certificate, Goals, Step}
 use Rattle.circ_proof.specs.Fitting.{AreGoalsFor, FitSteps, FitBlocks, FitRest, Fit}
 use Rattle.circ_proof.proofs.FewPlaces.{few_due}
@@ -27,30 +27,31 @@ use Rattle.circ_check.proofs.Marks.{marks_known}
 
 -- ---- goals and steps, where m steps were before
 
-abbrev Later : List Tree → ℕ → List Part → Type 0
-Later ts m [] = Unit {0}
-Later ts m (Goals gs ns ∷ xs) = AreGoalsFor ts gs ns × Later ts m xs
-Later ts m (Step s ∷ xs) = (m < step_limit) × IsStepFor (length ts) s × Later ts (m + 1) xs
-Later ts m (Head us gs ∷ xs) = ⊥
-Later ts m (Certificate ls ∷ xs) = ⊥
+abbrev Later : Theory → List Tree → ℕ → List Part → Type 0
+Later th ts m [] = Unit {0}
+Later th ts m (Goals gs ns ∷ xs) = AreGoalsFor th ts gs ns × Later th ts m xs
+Later th ts m (Step s ∷ xs) = (m < step_limit) × IsStepFor (length ts) s × Later th ts (m + 1) xs
+Later th ts m (Head us gs ∷ xs) = ⊥
+Later th ts m (Certificate ls ∷ xs) = ⊥
 
 mutual
-  steps_later : (ts : List Tree) (m : ℕ) (xs : List Part) → FitSteps ts m xs → Later ts m xs
-  steps_later ts m [] f = tt
-  steps_later ts m (Step Done ∷ xs) f = (f.0, tt, blocks_later ts (m + 1) xs f.1)
-  steps_later ts m (Step (Simplify c) ∷ xs) f = (f.0, f.1, steps_later ts (m + 1) xs f.2)
-  steps_later ts m (Step (Reduce w) ∷ xs) f = (f.0, f.1, steps_later ts (m + 1) xs f.2)
-  steps_later ts m (Step Derive ∷ xs) f = (f.0, f.1, steps_later ts (m + 1) xs f.2)
-  steps_later ts m (Head us gs ∷ xs) f = absurd f
-  steps_later ts m (Certificate ls ∷ xs) f = absurd f
-  steps_later ts m (Goals gs ns ∷ xs) f = absurd f
+  steps_later : (th : Theory) (ts : List Tree) (m : ℕ) (xs : List Part) → FitSteps th ts m xs → Later th ts m xs
+  steps_later th ts m [] f = tt
+  steps_later th ts m (Step Done ∷ xs) f = (f.0, tt, blocks_later th ts (m + 1) xs f.1)
+  steps_later th ts m (Step (Simplify c) ∷ xs) f = (f.0, f.1, steps_later th ts (m + 1) xs f.2)
+  steps_later th ts m (Step (Reduce w) ∷ xs) f = (f.0, f.1, steps_later th ts (m + 1) xs f.2)
+  steps_later th ts m (Step Derive ∷ xs) f = (f.0, f.1, steps_later th ts (m + 1) xs f.2)
+  steps_later th ts m (Step (Cases u) ∷ xs) f = (f.0, f.1, steps_later th ts (m + 1) xs f.2)
+  steps_later th ts m (Head us gs ∷ xs) f = absurd f
+  steps_later th ts m (Certificate ls ∷ xs) f = absurd f
+  steps_later th ts m (Goals gs ns ∷ xs) f = absurd f
 
-  blocks_later : (ts : List Tree) (m : ℕ) (xs : List Part) → FitBlocks ts m xs → Later ts m xs
-  blocks_later ts m [] f = tt
-  blocks_later ts m (Goals gs ns ∷ xs) f = (f.0, steps_later ts m xs f.1)
-  blocks_later ts m (Head us gs ∷ xs) f = absurd f
-  blocks_later ts m (Certificate ls ∷ xs) f = absurd f
-  blocks_later ts m (Step s ∷ xs) f = absurd f
+  blocks_later : (th : Theory) (ts : List Tree) (m : ℕ) (xs : List Part) → FitBlocks th ts m xs → Later th ts m xs
+  blocks_later th ts m [] f = tt
+  blocks_later th ts m (Goals gs ns ∷ xs) f = (f.0, steps_later th ts m xs f.1)
+  blocks_later th ts m (Head us gs ∷ xs) f = absurd f
+  blocks_later th ts m (Certificate ls ∷ xs) f = absurd f
+  blocks_later th ts m (Step s ∷ xs) f = absurd f
 
 -- ---- what stays
 
@@ -125,7 +126,7 @@ kept_known th ts ps c d n k s = record {
   goals = subst (AreSortedGoals th) (sym s.goals) k.goals;
 }
 
-goals_sorted : (th : Theory) (ts : List Tree) → AllByRecursion (IsWellSorted th.signature) ts → (gs : List Goal) (ns : List (ℕ × ℕ)) → AreGoalsFor ts gs ns
+goals_sorted : (th : Theory) (ts : List Tree) → AllByRecursion (IsWellSorted th.signature) ts → (gs : List Goal) (ns : List GoalNames) → AreGoalsFor th ts gs ns
     → AreSortedGoals th gs
 goals_sorted th ts a gs ns f = subst (AreSortedGoals th) (sym f.goals_are) (names_sorted th ts a ns f.names_fit)
 
@@ -163,7 +164,7 @@ ready_with : (th : Theory) (ts : List Tree) (ps : List Place) (c : Checking) →
 ready_with th ts ps c k = (subst (AllByRecursion (IsWellSorted th.signature)) (sym k.table) k.sorted, subst (IsSet th) (sym k.places) k.set)
 
 module _ (th : Theory) (ok : IsWellFormed th) (ts : List Tree) (ps : List Place) where
-  later_ready : (m : ℕ) (xs : List Part) (x : Part) (c d : Checking) → Later ts m (xs ++ x ∷ []) → Knows th ts ps c
+  later_ready : (m : ℕ) (xs : List Part) (x : Part) (c d : Checking) → Later th ts m (xs ++ x ∷ []) → Knows th ts ps c
       → c.tally.count ≡ length (due th ps) + m → Runs (TakesPart th) xs c d → IsReady th d x
   later_ready m [] (Goals gs ns) c d f k e r = subst (λ y. IsReady th y (Goals gs ns)) r (record {
     sorted = (ready_with th ts ps c k).0;
@@ -197,14 +198,14 @@ module _ (th : Theory) (ok : IsWellFormed th) (ts : List Tree) (ps : List Place)
       subst (λ us. AreLinksFor (length us) ls) (sym k.table) f.1,
     );
   })
-  rest_ready n [] (Goals gs ns) c d f k e l r = later_ready 0 [] (Goals gs ns) c d (blocks_later ts 0 (Goals gs ns ∷ []) f.1) k (omega (arith, e, f.0)) r
+  rest_ready n [] (Goals gs ns) c d f k e l r = later_ready 0 [] (Goals gs ns) c d (blocks_later th ts 0 (Goals gs ns ∷ []) f.1) k (omega (arith, e, f.0)) r
   rest_ready n [] (Head us gs) c d f k e l r = absurd f
   rest_ready n [] (Step s) c d f k e l r = absurd f
   rest_ready n (Certificate ls ∷ xs) x c d f k e l r =
       let s = certificate_keeps th c r.0 c.due _ refl r.1 in
       rest_ready (n + 1) xs x r.0 d f.2 (kept_known th ts ps c r.0 1 k s.keeps) (omega (arith, s.keeps.count, e)) (omega (arith, s.due, l)) r.2
   rest_ready n (Goals gs ns ∷ xs) x c d f k e l r =
-      later_ready 0 (Goals gs ns ∷ xs) x c d (blocks_later ts 0 (Goals gs ns ∷ (xs ++ x ∷ [])) f.1) k (omega (arith, e, f.0)) r
+      later_ready 0 (Goals gs ns ∷ xs) x c d (blocks_later th ts 0 (Goals gs ns ∷ (xs ++ x ∷ [])) f.1) k (omega (arith, e, f.0)) r
   rest_ready n (Head us gs ∷ xs) x c d f k e l r = absurd f
   rest_ready n (Step s ∷ xs) x c d f k e l r = absurd f
 

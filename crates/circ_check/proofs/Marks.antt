@@ -1,5 +1,5 @@
 -- What is known of goals, by their numbers and after a step.
-use Rattle.std.proofs.Common.{◌≡◌, ℕ, Bool, List, [], ◌∷◌, ◌++◌, drop, map, ap, sym, subst}
+use Rattle.std.proofs.Common.{◌≡◌, Bool, List, [], ◌∷◌, ◌++◌, drop, map, ap, sym, subst}
 use Rattle.std.proofs.lemmas.Bool.{eqb-true}
 use Rattle.circ_term.specs.Tree.{Tree}
 use Rattle.circ_theory.specs.Theory.{Theory}
@@ -7,13 +7,13 @@ use Rattle.circ_theory.specs.Rewriting.{named}
 use Rattle.circ_theory.specs.declared.parts.Goal.{Goal}
 use Rattle.circ_special.specs.declared.place.Place.{Place}
 use Rattle.circ_proof.specs.Rules.{State, Derive, StepOn, derivatives_on}
-use Rattle.circ_proof.specs.Proof.{goal_of}
+use Rattle.circ_proof.specs.Proof.{GoalNames, goal_at}
 use Rattle.circ_check.specs.Knowing.{AreKnown, marks_of}
 
 -- goals of equal numbers have equal sides
-pub marks_known : (ts : List Tree) (ns : List (ℕ × ℕ)) → AreKnown (marks_of ns) (map (goal_of ts) ns)
+pub marks_known : (ts : List Tree) (ns : List GoalNames) → AreKnown (marks_of ns) (map (goal_at ts) ns)
 marks_known ts [] = tt
-marks_known ts (n ∷ ns) = (λ e. ap (named ts) (eqb-true n.0 n.1 e), marks_known ts ns)
+marks_known ts (n ∷ ns) = (λ e. ap (named ts) (eqb-true n.left n.right e), marks_known ts ns)
 
 known_more : (bs : List Bool) (gs hs : List Goal) → AreKnown bs gs → AreKnown bs (gs ++ hs)
 known_more [] gs hs k = tt

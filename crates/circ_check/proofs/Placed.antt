@@ -8,15 +8,16 @@ use Rattle.circ_theory.specs.Rewriting.{named}
 use Rattle.circ_theory.specs.declared.way.Way.{Way}
 use Rattle.circ_term.specs.Growing.{Grows}
 use Rattle.circ_table.specs.Table.{AreIn}
-use Rattle.circ_proof.specs.Plain.{LinkOf, Equation_link, Hypothesis_link, Content_link, ChainOf, WhyOf, WhysOf, Same_why, Split_why, more_whys}
-use Rattle.circ_proof.specs.Plain.{map_link, map_chain, map_why, map_whys, plain_link, plain_links, plain_chain, plain_why, plain_whys}
+use Rattle.circ_proof.specs.Plain.{LinkOf, ChainsOf, Equation_link, Hypothesis_link, Content_link, more_chains, ChainOf, WhyOf, WhysOf, Same_why, Split_why, more_whys}
+use Rattle.circ_proof.specs.Plain.{map_link, map_row, map_chains, map_chain, map_why, map_whys, row_of, plain_link, plain_links, plain_chain, plain_chains, plain_why, plain_whys}
 use Rattle.circ_proof.specs.Link.{AllOfLink}
-use Rattle.circ_proof.specs.declared.links.Link.{Link}
+use Rattle.circ_proof.specs.declared.links.Link.{Link, Equation, Hypothesis}
 use Rattle.circ_proof.specs.declared.links.Chain.{Chain}
 use Rattle.circ_proof.specs.declared.links.Why.{Why, Split}
-use Rattle.circ_replay.proofs.Whys.{split_plain}
-use Rattle.circ_proof.specs.Rules.{Simplify, Reduce}
-use Rattle.circ_check.specs.Placing.{Places, PlacesNumber, PlacesNumbers, PlacesLink, PlacesLinks, PlacesChain, PlacesWhy, PlacesWhys, PlacesStep}
+use Rattle.circ_proof.proofs.Rows.{equation_plain, hypothesis_plain, split_plain}
+use Rattle.circ_proof.proofs.LinkRows.{row_mapped, row_of_all}
+use Rattle.circ_proof.specs.Rules.{Simplify, Reduce, Cases}
+use Rattle.circ_check.specs.Placing.{Places, PlacesNumber, PlacesNumbers, PlacesLink, PlacesLinks, PlacesChains, PlacesChain, PlacesWhy, PlacesWhys, PlacesStep}
 
 -- ---- terms that are added
 
@@ -165,7 +166,7 @@ list_placed read all p table terms (suc i) (x ∷ xs) (y ∷ ys) d h later g =
       within = (one.within, rest.within);
     }
 
-pub whys_placed : (table terms : List Tree) (i : ℕ) (vs ws : List Why) → DoneTo (λ v w. PlacesWhy table terms (plain_why v) (plain_why w)) i vs ws
+pub whys_placed : (table terms : List Tree) (i : ℕ) (vs ws : List (Why ℕ)) → DoneTo (λ v w. PlacesWhy table terms (plain_why v) (plain_why w)) i vs ws
     → length ws ≤ i → PlacesWhys table terms (plain_whys vs) (plain_whys ws)
 whys_placed table terms i [] [] d h later g = record { same = refl; within = tt }
 whys_placed table terms i [] (w ∷ ws) d h later g = absurd d
@@ -182,36 +183,70 @@ whys_placed table terms (suc i) (v ∷ vs) (w ∷ ws) d h later g =
 -- ---- links, chains, reasons and steps
 
 -- links and reasons as the code has them
-abbrev pub LinkAsPlaced : (table terms : List Tree) → (old new : Link) → Type 0
+abbrev pub LinkAsPlaced : (table terms : List Tree) → (old new : Link ℕ) → Type 0
 LinkAsPlaced table terms old new = PlacesLink table terms (plain_link old) (plain_link new)
 
-pub link_stays : (table mid terms : List Tree) (old new : Link) → LinkAsPlaced table mid old new → Grows mid terms → LinkAsPlaced table terms old new
+pub link_stays : (table mid terms : List Tree) (old new : Link ℕ) → LinkAsPlaced table mid old new → Grows mid terms → LinkAsPlaced table terms old new
 link_stays table mid terms old new p g later h = p later (grows_more mid terms later g h)
 
-abbrev pub WhyAsPlaced : (table terms : List Tree) → (old new : Why) → Type 0
+abbrev pub WhyAsPlaced : (table terms : List Tree) → (old new : Why ℕ) → Type 0
 WhyAsPlaced table terms old new = PlacesWhy table terms (plain_why old) (plain_why new)
 
-pub why_stays : (table mid terms : List Tree) (old new : Why) → WhyAsPlaced table mid old new → Grows mid terms → WhyAsPlaced table terms old new
+pub why_stays : (table mid terms : List Tree) (old new : Why ℕ) → WhyAsPlaced table mid old new → Grows mid terms → WhyAsPlaced table terms old new
 why_stays table mid terms old new p g later h = p later (grows_more mid terms later g h)
 
-pub links_placed : (table terms : List Tree) (i : ℕ) (xs ys : List Link) → DoneTo (LinkAsPlaced table terms) i xs ys → length ys ≤ i
+pub links_placed : (table terms : List Tree) (i : ℕ) (xs ys : List (Link ℕ)) → DoneTo (LinkAsPlaced table terms) i xs ys → length ys ≤ i
     → PlacesLinks table terms (plain_links xs) (plain_links ys)
 links_placed table terms i xs ys d h = list_placed (λ f l. map_link f l) (λ P l. AllOfLink P l) plain_link table terms i xs ys d h
 
-pub equation_placed : (table terms : List Tree) (number : ℕ) (way : Way) (path ns ms : List ℕ) → PlacesNumbers table terms ns ms
-    → PlacesLink table terms (Equation_link number way path ns) (Equation_link number way path ms)
-equation_placed table terms number way path ns ms p later g =
-    let a = p later g in record { same = ap (λ ts. Equation_link number way path ts) a.same; within = a.within }
+pub equation_placed : (table mid terms : List Tree) (number : ℕ) (way : Way) (path ns ms : List ℕ) (cs ds : ChainsOf ℕ) → PlacesNumbers table mid ns ms
+    → Grows mid terms → PlacesChains table terms cs ds → PlacesLink table terms (Equation_link number way path ns cs) (Equation_link number way path ms ds)
+equation_placed table mid terms number way path ns ms cs ds p a q later g =
+    let x = p later (grows_more mid terms later a g) in
+    let y = q later g in
+    record {
+      same = ap (λ ts. Equation_link number way path ts (map_chains (named later) ds)) x.same
+          ∙ ap (Equation_link number way path (map (named table) ns)) y.same;
+      within = (x.within, y.within);
+    }
 
-pub hypothesis_placed : (table terms : List Tree) (number : ℕ) (way : Way) (path ns ms : List ℕ) → PlacesNumbers table terms ns ms
-    → PlacesLink table terms (Hypothesis_link number way path ns) (Hypothesis_link number way path ms)
-hypothesis_placed table terms number way path ns ms p later g =
-    let a = p later g in record { same = ap (λ ts. Hypothesis_link number way path ts) a.same; within = a.within }
+pub hypothesis_placed : (table mid terms : List Tree) (number : ℕ) (way : Way) (path ns ms : List ℕ) (cs ds : ChainsOf ℕ) → PlacesNumbers table mid ns ms
+    → Grows mid terms → PlacesChains table terms cs ds → PlacesLink table terms (Hypothesis_link number way path ns cs) (Hypothesis_link number way path ms ds)
+hypothesis_placed table mid terms number way path ns ms cs ds p a q later g =
+    let x = p later (grows_more mid terms later a g) in
+    let y = q later g in
+    record {
+      same = ap (λ ts. Hypothesis_link number way path ts (map_chains (named later) ds)) x.same
+          ∙ ap (Hypothesis_link number way path (map (named table) ns)) y.same;
+      within = (x.within, y.within);
+    }
+
+-- the same of links with their chains in vectors
+
+pub equation_link_placed : (table mid terms : List Tree) (number : ℕ) (way : Way) (path : _) (ns ms : Vec ℕ Global) (cs ds : Vec (Chain ℕ) Global)
+    → PlacesNumbers table mid ns.items ms.items → Grows mid terms → PlacesChains table terms (plain_chains cs.items) (plain_chains ds.items)
+    → LinkAsPlaced table terms (Equation number way path ns cs) (Equation number way path ms ds)
+equation_link_placed table mid terms number way path ns ms cs ds p a q =
+    let P : LinkOf ℕ → Type 0 = λ l. PlacesLink table terms l (plain_link (Equation number way path ms ds)) in
+    let Q : LinkOf ℕ → Type 0 = λ l. PlacesLink table terms (Equation_link number way path.items ns.items (plain_chains cs.items)) l in
+    subst P (sym (equation_plain number way path ns cs))
+    (subst Q (sym (equation_plain number way path ms ds))
+    (equation_placed table mid terms number way path.items ns.items ms.items (plain_chains cs.items) (plain_chains ds.items) p a q))
+
+pub hypothesis_link_placed : (table mid terms : List Tree) (number : ℕ) (way : Way) (path : _) (ns ms : Vec ℕ Global) (cs ds : Vec (Chain ℕ) Global)
+    → PlacesNumbers table mid ns.items ms.items → Grows mid terms → PlacesChains table terms (plain_chains cs.items) (plain_chains ds.items)
+    → LinkAsPlaced table terms (Hypothesis number way path ns cs) (Hypothesis number way path ms ds)
+hypothesis_link_placed table mid terms number way path ns ms cs ds p a q =
+    let P : LinkOf ℕ → Type 0 = λ l. PlacesLink table terms l (plain_link (Hypothesis number way path ms ds)) in
+    let Q : LinkOf ℕ → Type 0 = λ l. PlacesLink table terms (Hypothesis_link number way path.items ns.items (plain_chains cs.items)) l in
+    subst P (sym (hypothesis_plain number way path ns cs))
+    (subst Q (sym (hypothesis_plain number way path ms ds))
+    (hypothesis_placed table mid terms number way path.items ns.items ms.items (plain_chains cs.items) (plain_chains ds.items) p a q))
 
 pub content_placed : (table terms : List Tree) (op : ℕ) (path : List ℕ) (n m : ℕ) → PlacesNumber table terms n m
     → PlacesLink table terms (Content_link op path n) (Content_link op path m)
 content_placed table terms op path n m p later g =
-    let a = p later g in record { same = ap (λ t. Content_link op path t) a.same; within = (a.within, tt) }
+    let a = p later g in record { same = ap (λ t. Content_link op path t) a.same; within = a.within }
 
 pub chain_placed : (table mid terms : List Tree) (c d : ChainOf ℕ) → PlacesLinks table mid c.left d.left → Grows mid terms
     → PlacesLinks table terms c.right d.right → PlacesChain table terms c d
@@ -222,6 +257,42 @@ chain_placed table mid terms c d p a q later g =
     let start : ChainOf Tree = map_chain (named table) c in
     let P : List (LinkOf Tree) → List (LinkOf Tree) → ChainOf Tree = λ x y. record { left = x; right = y } in
     record { same = ap (λ x. P x end.right) l.same ∙ ap (P start.left) r.same; within = (l.within, r.within) }
+
+-- chains as the code has them
+abbrev pub ChainAsPlaced : (table terms : List Tree) → (old new : Chain ℕ) → Type 0
+ChainAsPlaced table terms old new = PlacesChain table terms (plain_chain old) (plain_chain new)
+
+pub chain_stays : (table mid terms : List Tree) (old new : Chain ℕ) → ChainAsPlaced table mid old new → Grows mid terms → ChainAsPlaced table terms old new
+chain_stays table mid terms old new p g later h = p later (grows_more mid terms later g h)
+
+-- a row of links as its list
+row_same : (table later : List Tree) (xs ys : List (LinkOf ℕ)) → map (map_link (named later)) ys ≡ map (map_link (named table)) xs
+    → map_row (named later) (row_of ys) ≡ map_row (named table) (row_of xs)
+row_same table later xs ys e = row_mapped (named later) ys ∙ ap row_of e ∙ sym (row_mapped (named table) xs)
+
+pub chains_placed : (table terms : List Tree) (i : ℕ) (xs ys : List (Chain ℕ)) → DoneTo (ChainAsPlaced table terms) i xs ys → length ys ≤ i
+    → PlacesChains table terms (plain_chains xs) (plain_chains ys)
+chains_placed table terms i [] [] d h later g = record { same = refl; within = tt }
+chains_placed table terms i [] (y ∷ ys) d h later g = absurd d
+chains_placed table terms i (x ∷ xs) [] d h later g = absurd d
+chains_placed table terms zero (x ∷ xs) (y ∷ ys) d h later g = absurd (omega arith)
+chains_placed table terms (suc i) (x ∷ xs) (y ∷ ys) d h later g =
+    let one = d.0 later g in
+    let rest = chains_placed table terms i xs ys d.1 (omega arith) later g in
+    let left = row_same table later (plain_links x.left.items) (plain_links y.left.items) (ap (λ c. c.left) one.same) in
+    let right = row_same table later (plain_links x.right.items) (plain_links y.right.items) (ap (λ c. c.right) one.same) in
+    let new = map_row (named later) (row_of (plain_links y.right.items)) in
+    let old = map_row (named table) (row_of (plain_links x.left.items)) in
+    let others = map_chains (named later) (plain_chains ys) in
+    let P : ℕ → Type 0 = λ n. n < length later in
+    record {
+      same = ap (λ r. more_chains r new others) left ∙ ap (λ r. more_chains old r others) right
+          ∙ ap (more_chains old (map_row (named table) (row_of (plain_links x.right.items)))) rest.same;
+      within = (row_of_all P (plain_links y.left.items) one.within.0, row_of_all P (plain_links y.right.items) one.within.1, rest.within);
+    }
+
+pub cases_placed : (table terms : List Tree) (n m : ℕ) → PlacesNumber table terms n m → PlacesStep table terms (Cases n) (Cases m)
+cases_placed table terms n m p later g = let a = p later g in record { same = ap Cases a.same; within = a.within }
 
 pub same_placed : (table terms : List Tree) (c d : ChainOf ℕ) → PlacesChain table terms c d → PlacesWhy table terms (Same_why c) (Same_why d)
 same_placed table terms c d p later g = let a = p later g in record { same = ap Same_why a.same; within = a.within }
@@ -240,7 +311,7 @@ split_placed table first second terms c d n m vs ws p a q b r later g =
       within = (x.within, y.within, z.within);
     }
 
-pub split_why_placed : (table first second terms : List Tree) (c d : Chain) (n m : ℕ) (vs ws : Vec Why Global)
+pub split_why_placed : (table first second terms : List Tree) (c d : Chain ℕ) (n m : ℕ) (vs ws : Vec (Why ℕ) Global)
     → PlacesChain table first (plain_chain c) (plain_chain d) → Grows first second → PlacesNumber table second n m → Grows second terms
     → PlacesWhys table terms (plain_whys vs.items) (plain_whys ws.items) → PlacesWhy table terms (plain_why (Split c n vs)) (plain_why (Split d m ws))
 split_why_placed table first second terms c d n m vs ws p a q b r =

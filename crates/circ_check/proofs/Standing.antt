@@ -63,7 +63,7 @@ pub record BlocksStandAt (th : Theory) (p : Proof) (H : List Goal) (rest : List 
   pub accepts : (dss : List (List Goal)) → BlocksDerive th p H rest dss → Accepted th p
   pub fails : (m : ℕ) → BlockFails th p H rest m → FirstFail th p (done + m)
   pub sorted : AreSortedGoals th H
-  pub fits : AllByRecursion (IsBlockFor p.table) rest
+  pub fits : AllByRecursion (IsBlockFor th p.table) rest
   pub few : done + steps_in rest ≤ length p.certificates + step_limit
 
 pub blocks_first : (th : Theory) (p : Proof) → ProofFor th p → Admissible th p → BlocksStandAt th p [] p.blocks (length p.certificates)
@@ -82,7 +82,7 @@ pub record IsDone (th : Theory) (p : Proof) (H : List Goal) (b : Block) (e : Sta
   pub hypotheses : e.hypotheses ≡ H ++ derived
   pub no_goal : e.goals ≡ []
 
-pub block_done : (th : Theory) (p : Proof) (H : List Goal) (b : Block) (e : State) → IsBlockFor p.table b
+pub block_done : (th : Theory) (p : Proof) (H : List Goal) (b : Block) (e : State) → IsBlockFor th p.table b
     → StepsOf th p.places (steps_of p.table b) (state H b.goals) e → IsDone th p H b e
 block_done th p H b e f r =
     let x = ended th p.places (named p.table) b.steps (state H b.goals) e f.ended r in

@@ -12,8 +12,8 @@ use Rattle.circ_special.specs.declared.place.Place.{Place}
 use Rattle.circ_proof.specs.Goals.{AreSortedGoals}
 use Rattle.circ_proof.specs.Plain.{LinkOf}
 use Rattle.circ_proof.specs.Link.{resolved_links}
-use Rattle.circ_proof.specs.Rules.{State, state, IsSortedState, ProofStep, Simplify, Reduce, Derive, Done, map_step, StepOf}
-use Rattle.circ_proof.specs.Proof.{Proof, ProofFor}
+use Rattle.circ_proof.specs.Rules.{State, state, IsSortedState, ProofStep, Simplify, Reduce, Derive, Cases, Done, map_step, StepOf}
+use Rattle.circ_proof.specs.Proof.{GoalNames, Proof, ProofFor}
 use Rattle.circ_proof.specs.Parts.{Part, Certificate, Goals, Step, parts_of}
 use Rattle.circ_proof.specs.Accepted.{Derives, FirstFail}
 use Rattle.circ_proof.specs.PlainProof.{plain_state}
@@ -54,7 +54,7 @@ take_whole (x ∷ xs) = ap (λ ys. x ∷ ys) (take_whole xs)
 pub block_begun : (old : Checker) (s : TheState) (n : ℕ) (own : Vec Goal Global) (lists : Vec (Vec Goal Global) Global) → old.is_spent ≡ false
     → old.is_stopped ≡ false → plain_state s ≡ state (take old.earlier old.state.hyps.items ++ old.own.items) own.items → n ≡ length s.hyps.items
     → AreSortedGoals old.theory.now (take old.earlier old.state.hyps.items ++ old.own.items) → AreSortedGoals old.theory.now own.items
-    → AreKnown old.known.items own.items → map plain_list lists.items ≡ derived_of old ++ [] ∷ [] → (names : List (ℕ × ℕ))
+    → AreKnown old.known.items own.items → map plain_list lists.items ≡ derived_of old ++ [] ∷ [] → (names : List GoalNames)
     → Took old.theory.now (Goals own.items names) old (record old { state = s; earlier = n; own = own; derived = lists })
 block_begun old s n own lists unspent going begun count hyps goals marks list names =
     let H : List Goal = take old.earlier old.state.hyps.items ++ old.own.items in
@@ -133,18 +133,27 @@ same_made : (f g : ℕ → Tree) (s t : ProofStep ℕ) (gs : List Goal) → map_
 same_made f g Derive Derive gs e = refl
 same_made f g Derive (Simplify c) gs e = absurd (cc)
 same_made f g Derive (Reduce w) gs e = absurd (cc)
+same_made f g Derive (Cases u) gs e = absurd (cc)
 same_made f g Derive Done gs e = absurd (cc)
 same_made f g (Simplify c) Derive gs e = absurd (cc)
 same_made f g (Reduce w) Derive gs e = absurd (cc)
+same_made f g (Cases u) Derive gs e = absurd (cc)
 same_made f g Done Derive gs e = absurd (cc)
 same_made f g (Simplify c) (Simplify d) gs e = refl
 same_made f g (Simplify c) (Reduce w) gs e = refl
+same_made f g (Simplify c) (Cases u) gs e = refl
 same_made f g (Simplify c) Done gs e = refl
 same_made f g (Reduce v) (Simplify d) gs e = refl
 same_made f g (Reduce v) (Reduce w) gs e = refl
+same_made f g (Reduce v) (Cases u) gs e = refl
 same_made f g (Reduce v) Done gs e = refl
+same_made f g (Cases u) (Simplify d) gs e = refl
+same_made f g (Cases u) (Reduce w) gs e = refl
+same_made f g (Cases u) (Cases v) gs e = refl
+same_made f g (Cases u) Done gs e = refl
 same_made f g Done (Simplify d) gs e = refl
 same_made f g Done (Reduce w) gs e = refl
+same_made f g Done (Cases u) gs e = refl
 same_made f g Done Done gs e = refl
 
 step_over : (th : Theory) (table : List Tree) (c d : Checking) (s t : ProofStep ℕ) → map_step (named c.table) s ≡ map_step (named table) t

@@ -9,7 +9,7 @@ use Rattle.circ_special.specs.declared.place.Place.{Place}
 use Rattle.circ_proof.specs.Plain.{LinkOf}
 use Rattle.circ_proof.specs.Link.{resolved_links}
 use Rattle.circ_proof.specs.Runs.{Runs}
-use Rattle.circ_proof.specs.Rules.{State, state, ProofStep, Simplify, Reduce, Derive, Done, map_step, StepOf}
+use Rattle.circ_proof.specs.Rules.{State, state, ProofStep, Simplify, Reduce, Derive, Cases, Done, map_step, StepOf}
 use Rattle.circ_proof.specs.Certified.{Certified, due}
 use Rattle.circ_proof.specs.Parts.{Part, Head, Certificate, Goals, Step}
 use Rattle.circ_check.specs.declared.tally.Tally.{Tally}
@@ -70,6 +70,7 @@ made_by (Simplify chain) gs = []
 made_by (Reduce why) gs = []
 made_by Derive [] = []
 made_by Derive (g ∷ gs) = g ∷ []
+made_by (Cases term) gs = []
 made_by Done gs = []
 
 abbrev pub goals_in : Option Goal → List Goal

@@ -20,7 +20,7 @@ Finds th p (Some n) = FirstFail th p n
 
 -- where nothing failed, each goal of each block behaves
 abbrev pub FoundBehave : Theory → Proof → Option ℕ → Type 0
-FoundBehave th p None = (b : Block) → Contains p.blocks b → (g : Goal) → Contains b.goals g → Behaves th g.left g.right
+FoundBehave th p None = (b : Block) → Contains p.blocks b → (g : Goal) → Contains b.goals g → Behaves th g
 FoundBehave th p (Some n) = Unit {0}
 
 -- where a verdict says that the proof fails, if it does
@@ -38,7 +38,7 @@ GoalsBehave th p v = FoundBehave th p (failure_of v)
 
 -- each derived goal of each block behaves
 abbrev pub DerivedBehave : Theory → List (List Goal) → Type 0
-DerivedBehave th dss = (ds : List Goal) → Contains dss ds → (g : Goal) → Contains ds g → Behaves th g.left g.right
+DerivedBehave th dss = (ds : List Goal) → Contains dss ds → (g : Goal) → Contains ds g → Behaves th g
 
 abbrev pub plain_list : {A : Type 0} → Vec Goal A → List Goal
 plain_list gs = gs.items

@@ -3,6 +3,7 @@ use Rattle.std.specs.Prelude.{◌≡◌, ℕ, Bool, true, List, [], ◌∷◌, �
 use Rattle.circ_theory.specs.declared.parts.Goal.{Goal}
 use Rattle.circ_proof.specs.Plain.{Same_why}
 use Rattle.circ_proof.specs.Rules.{ProofStep, Reduce}
+use Rattle.circ_proof.specs.Proof.{GoalNames}
 
 -- One mark each for the first goals. A mark that is set says that the goal's sides are one term.
 abbrev pub AreKnown : List Bool → List Goal → Type 0
@@ -11,8 +12,8 @@ AreKnown (b ∷ bs) [] = ⊥
 AreKnown (b ∷ bs) (g ∷ gs) = (b ≡ true → g.left ≡ g.right) × AreKnown bs gs
 
 -- the marks of goals by the numbers of their sides in the table
-abbrev pub marks_of : List (ℕ × ℕ) → List Bool
-marks_of names = map (λ n. n.0 == n.1) names
+abbrev pub marks_of : List GoalNames → List Bool
+marks_of names = map (λ n. n.left == n.right) names
 
 -- The step reduces the first goal without a link, and the goal's sides are one term.
 pub record Closes (s : ProofStep ℕ) (goals : List Goal) : Type 0 where

@@ -4,8 +4,8 @@ use Rattle.std.specs.List.{AllByRecursion}
 use Rattle.circ_term.specs.Tree.{Tree}
 use Rattle.circ_theory.specs.Rewriting.{named}
 use Rattle.circ_term.specs.Growing.{Grows}
-use Rattle.circ_proof.specs.Plain.{LinkOf, ChainOf, WhyOf, WhysOf, map_link, map_chain, map_why, map_whys}
-use Rattle.circ_proof.specs.Link.{AllOfLink, AllOfLinks}
+use Rattle.circ_proof.specs.Plain.{LinkOf, ChainsOf, ChainOf, WhyOf, WhysOf, map_link, map_chains, map_chain, map_why, map_whys}
+use Rattle.circ_proof.specs.Link.{AllOfLink, AllOfLinks, AllOfChains}
 use Rattle.circ_proof.specs.Justified.{AllOfChain, AllOfWhy, AllOfWhys}
 use Rattle.circ_proof.specs.Rules.{ProofStep, map_step, AllOfStep}
 
@@ -30,6 +30,9 @@ PlacesLink table terms old new = Places (λ f l. map_link f l) (λ P l. AllOfLin
 
 abbrev pub PlacesLinks : (table terms : List Tree) → (old new : List (LinkOf ℕ)) → Type 0
 PlacesLinks table terms old new = Places (λ f ls. map (map_link f) ls) (λ P ls. AllOfLinks P ls) table terms old new
+
+abbrev pub PlacesChains : (table terms : List Tree) → (old new : ChainsOf ℕ) → Type 0
+PlacesChains table terms old new = Places (λ f cs. map_chains f cs) (λ P cs. AllOfChains P cs) table terms old new
 
 abbrev pub PlacesChain : (table terms : List Tree) → (old new : ChainOf ℕ) → Type 0
 PlacesChain table terms old new = Places (λ f c. map_chain f c) (λ P c. AllOfChain P c) table terms old new

@@ -8,11 +8,11 @@ ghost use Rattle.circ_theory.specs.Signature.{IsWellSorted};
 ghost use Rattle.circ_theory.specs.Theory.{Theory};
 ghost use Rattle.circ_special.specs.Special.{IsSet};
 ghost use Rattle.circ_proof.specs.Rules.{state as state_with, Derive, AllOfStep};
-ghost use Rattle.circ_proof.specs.Proof.{Proof, ProofFor};
+ghost use Rattle.circ_proof.specs.Proof.{GoalNames as PlainNames, Proof, ProofFor};
 ghost use Rattle.circ_proof.specs.Parts.{Part as PlainPart, parts_of};
 ghost use Rattle.circ_proof.specs.Parts.{Certificate, Goals, Step as StepPart};
 ghost use Rattle.circ_proof.specs.Accepted.{Derives, FirstFail};
-ghost use Rattle.circ_proof.specs.PlainProof.{plain_state, plain_step};
+ghost use Rattle.circ_proof.specs.PlainProof.{plain_state, plain_step, plain_names};
 ghost use Rattle.circ_table.specs.Part.{plain_part};
 ghost use Rattle.circ_proof.specs.Goals.{AreSortedGoals};
 ghost use Rattle.circ_proof.specs.Link.{AllOfLinks};
@@ -27,9 +27,9 @@ ghost use Rattle.circ_check.specs.Watching.{Took, TookPlaced};
 
 use crate::knowing::{apply_known, known_of};
 use crate::placing::{place_links, place_step};
-use crate::running::{put, share};
+use crate::running::put;
 use crate::tally::Tally;
-use circ_proof::{Link, State, Step};
+use circ_proof::{GoalNames, Link, State, Step};
 use circ_rules::{Due, certify_next};
 use circ_special::Gamma;
 use circ_table::{NamedTerms, Part, Table};
@@ -71,7 +71,7 @@ impl<'a> Checker<'a> {
             alloc,
             theory,
             named: NamedTerms::of(alloc, Table::empty(alloc)),
-            gamma: no_places(alloc, theory),
+            gamma: Gamma::empty(alloc),
             due: Due::all(),
             state: no_state(alloc),
             known: VecDeque::new(alloc),
@@ -198,13 +198,13 @@ impl<'a> Checker<'a> {
     }
 
     // A block with these goals. After a step that failed it is begun in name alone.
-    fn begin_block(&mut self, goals: Vec<Goal>, names: &[(u32, u32)]) -> Result<(), AllocError>
+    fn begin_block(&mut self, goals: Vec<Goal>, names: &[GoalNames]) -> Result<(), AllocError>
         requires hyps_sorted { AreSortedGoals self.old.theory.now
             (take self.old.earlier self.old.state.hyps.items ++ self.old.own.items) }
         requires goals_sorted { AreSortedGoals self.old.theory.now goals.items }
-        requires known { AreKnown (marks_of names.now) goals.items }
+        requires known { AreKnown (marks_of (map plain_names names.now)) goals.items }
         requires sound { IsSound self.old.theory.now self.old }
-        ensures took { OnOk result ((names : List (ℕ × ℕ)) → Took self.old.theory.now
+        ensures took { OnOk result ((names : List PlainNames) → Took self.old.theory.now
             (Goals goals.items names) self.old self.new) }
         ensures kept { OnErr result (IsAsBefore self.old self.new) }
     {
@@ -213,6 +213,7 @@ impl<'a> Checker<'a> {
         }
         self.known = known_of(self.alloc, names)?;
         begin(
+            self.alloc,
             &mut self.state,
             self.earlier,
             &mut self.own,
@@ -251,7 +252,7 @@ impl<'a> Checker<'a> {
             (StepPart (plain_step step.now)) self.old self.new) }
         ensures kept { OnErr result (IsAsBefore self.old self.new) }
     {
-        let made = made_by(step, &self.state.goals)?;
+        let made = made_by(self.alloc, step, &self.state.goals)?;
         if !apply_known(
             self.alloc,
             self.theory,
@@ -281,17 +282,9 @@ fn no_state(alloc: Global) -> State
     }
 }
 
-fn no_places(alloc: Global, theory: &Theory) -> Gamma
-    ensures { result ≡ [] }
-{
-    match Gamma::of(theory, Vec::new(alloc)) {
-        Some(gamma) => gamma,
-        None => unreachable!(),
-    }
-}
-
 // A block begins: the goals of the last one are hypotheses with those of the blocks before it.
 fn begin(
+    alloc: Global,
     state: &mut State,
     earlier: usize,
     own: &mut Vec<Goal>,
@@ -303,7 +296,7 @@ fn begin(
     state.hyps.truncate(earlier);
     state.hyps.append(own)?;
     state.goals.clear();
-    put(&mut state.goals, goals)
+    put(alloc, &mut state.goals, goals)
 }
 
 // One more block has derived nothing.
@@ -317,21 +310,21 @@ fn begin_list(alloc: Global, lists: &mut Vec<Vec<Goal>>) -> Result<(), AllocErro
 }
 
 // What the step makes a hypothesis, if it holds.
-fn made_by(step: &Step, goals: &VecDeque<Goal>) -> Result<Option<Goal>, AllocError>
+fn made_by(alloc: Global, step: &Step, goals: &VecDeque<Goal>) -> Result<Option<Goal>, AllocError>
     ensures { IfOk result (λ o. goals_in o ≡ made_by (plain_step step.now) goals.now.items) }
 {
     match step {
-        Step::Derive => first(goals),
+        Step::Derive => first(alloc, goals),
         _ => Ok(None),
     }
 }
 
 // The first goal once more.
-fn first(goals: &VecDeque<Goal>) -> Result<Option<Goal>, AllocError>
+fn first(alloc: Global, goals: &VecDeque<Goal>) -> Result<Option<Goal>, AllocError>
     ensures { IfOk result (λ o. goals_in o ≡ made_by Derive goals.now.items) }
 {
     match goals.front() {
-        Some(goal) => Ok(Some(share(goal)?)),
+        Some(goal) => Ok(Some(goal.share(alloc)?)),
         None => Ok(None),
     }
 }

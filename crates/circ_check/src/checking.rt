@@ -75,7 +75,7 @@ fn check_blocks(
                 step: done + number,
             });
         }
-        end_block(state, earlier, block)?;
+        end_block(alloc, state, earlier, block)?;
         done += block.steps.len() as u64;
         earlier += block.goals.len();
     }
@@ -115,7 +115,7 @@ fn derive_blocks(
     let mut earlier = 0;
     for block in &proof.blocks {
         run_block(alloc, theory, proof, state, block)?;
-        lists.push(end_block(state, earlier, block)?)?;
+        lists.push(end_block(alloc, state, earlier, block)?)?;
         earlier += block.goals.len();
     }
     Ok(())

@@ -1,5 +1,5 @@
 //! Goals whose sides are known to be one term, so that no walk over them has to find it.
-ghost use Rattle.std.specs.Prelude.{◌≡◌, ◌<◌, ℕ, List, IsTrue, length, IfOk};
+ghost use Rattle.std.specs.Prelude.{◌≡◌, ◌<◌, ℕ, List, IsTrue, length, map, IfOk};
 ghost use Rattle.std.specs.Result.{OnErr};
 ghost use Rattle.std.specs.List.{AllByRecursion};
 ghost use Rattle.circ_term.specs.Tree.{Tree};
@@ -10,11 +10,11 @@ ghost use Rattle.circ_theory.specs.declared.parts.Goal.{Goal};
 ghost use Rattle.circ_special.specs.declared.place.Place.{Place};
 ghost use Rattle.circ_proof.specs.Rules.{State as PlainState, map_step, AllOfStep};
 ghost use Rattle.circ_proof.specs.Rules.{IsSortedState, StepOf};
-ghost use Rattle.circ_proof.specs.PlainProof.{plain_state, plain_step};
+ghost use Rattle.circ_proof.specs.PlainProof.{plain_state, plain_step, plain_names};
 ghost use Rattle.circ_rules.specs.Answers.{Applies};
 ghost use Rattle.circ_check.specs.Knowing.{AreKnown, Closes, marks_of};
 
-use circ_proof::{State, Step, Why};
+use circ_proof::{GoalNames, State, Step, Why};
 use circ_rules::apply;
 use circ_special::Gamma;
 use circ_term::Term;
@@ -97,17 +97,18 @@ fn move_on(known: &mut VecDeque<bool>, step: &Step)
         Step::Derive => {
             known.pop_front();
         }
+        Step::Cases { .. } => known.clear(),
         Step::Done => {}
     }
 }
 
 /// What is known of goals by the numbers of their sides in the table.
-pub(crate) fn known_of(alloc: Global, names: &[(u32, u32)]) -> Result<VecDeque<bool>, AllocError>
-    ensures { IfOk result (λ v. v.items ≡ marks_of names.now) }
+pub(crate) fn known_of(alloc: Global, names: &[GoalNames]) -> Result<VecDeque<bool>, AllocError>
+    ensures { IfOk result (λ v. v.items ≡ marks_of (map plain_names names.now)) }
 {
     let mut known = VecDeque::new(alloc);
-    for (left, right) in names {
-        known.push_back(*left == *right)?;
+    for name in names {
+        known.push_back(name.left == name.right)?;
     }
     Ok(known)
 }

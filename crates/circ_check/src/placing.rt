@@ -2,14 +2,14 @@
 //! among those that were asked for.
 ghost use Rattle.std.specs.Prelude.{◌≡◌, ◌<◌, length, OnOk};
 ghost use Rattle.std.specs.List.{AllByRecursion};
-ghost use Rattle.circ_proof.specs.Plain.{plain_link, plain_links, plain_chain};
+ghost use Rattle.circ_proof.specs.Plain.{plain_link, plain_links, plain_chain, plain_chains};
 ghost use Rattle.circ_proof.specs.Plain.{plain_why, plain_whys};
-ghost use Rattle.circ_proof.specs.Link.{AllOfLink, AllOfLinks};
+ghost use Rattle.circ_proof.specs.Link.{AllOfLink, AllOfLinks, AllOfChains};
 ghost use Rattle.circ_proof.specs.Justified.{AllOfChain, AllOfWhy, AllOfWhys};
 ghost use Rattle.circ_proof.specs.PlainProof.{plain_step};
 ghost use Rattle.circ_proof.specs.Rules.{AllOfStep};
 ghost use Rattle.circ_term.specs.Growing.{Grows};
-ghost use Rattle.circ_check.specs.Placing.{PlacesNumbers, PlacesLink, PlacesLinks};
+ghost use Rattle.circ_check.specs.Placing.{PlacesNumbers, PlacesLink, PlacesLinks, PlacesChains};
 ghost use Rattle.circ_check.specs.Placing.{PlacesChain, PlacesWhy, PlacesWhys, PlacesStep};
 
 use circ_proof::{Chain, Link, Step, Why};
@@ -30,7 +30,9 @@ fn place_numbers(named: &mut NamedTerms, numbers: &mut Vec<u32>) -> Result<(), A
     Ok(())
 }
 
-// The numbers of a link. One without terms is only looked at.
+// The numbers of a link, and those of the chains of its conditions. One without terms is only
+// looked at.
+#[cycle(link)]
 fn place_link(named: &mut NamedTerms, link: &mut Link) -> Result<(), AllocError>
     requires { AllOfLink (λ n. n < length named.old.0) (plain_link link.old) }
     ensures table { named.new.0 ≡ named.old.0 }
@@ -39,8 +41,14 @@ fn place_link(named: &mut NamedTerms, link: &mut Link) -> Result<(), AllocError>
         (plain_link link.old) (plain_link link.new)) }
 {
     match link {
-        Link::Equation { terms, .. } => place_numbers(named, terms),
-        Link::Hypothesis { terms, .. } => place_numbers(named, terms),
+        Link::Equation { terms, conds, .. } => {
+            place_numbers(named, terms)?;
+            place_chains(named, conds)
+        }
+        Link::Hypothesis { terms, conds, .. } => {
+            place_numbers(named, terms)?;
+            place_chains(named, conds)
+        }
         Link::Assumption { .. } => Ok(()),
         Link::Content { term, .. } => {
             *term = named.place(*term)?;
@@ -50,6 +58,7 @@ fn place_link(named: &mut NamedTerms, link: &mut Link) -> Result<(), AllocError>
 }
 
 /// The numbers of links.
+#[cycle(link)]
 pub(crate) fn place_links(named: &mut NamedTerms, links: &mut Vec<Link>) -> Result<(), AllocError>
     requires { AllOfLinks (λ n. n < length named.old.0) (plain_links links.old.items) }
     ensures table { named.new.0 ≡ named.old.0 }
@@ -63,7 +72,22 @@ pub(crate) fn place_links(named: &mut NamedTerms, links: &mut Vec<Link>) -> Resu
     Ok(())
 }
 
+#[cycle(link)]
+fn place_chains(named: &mut NamedTerms, chains: &mut Vec<Chain>) -> Result<(), AllocError>
+    requires { AllOfChains (λ n. n < length named.old.0) (plain_chains chains.old.items) }
+    ensures table { named.new.0 ≡ named.old.0 }
+    ensures grows { Grows named.old.1 named.new.1 }
+    ensures placed { OnOk result (PlacesChains named.old.0 named.new.1
+        (plain_chains chains.old.items) (plain_chains chains.new.items)) }
+{
+    for chain in chains.iter_mut() {
+        place_chain(named, chain)?;
+    }
+    Ok(())
+}
+
 // Those of both sides.
+#[cycle(link)]
 fn place_chain(named: &mut NamedTerms, chain: &mut Chain) -> Result<(), AllocError>
     requires { AllOfChain (λ n. n < length named.old.0) (plain_chain chain.old) }
     ensures table { named.new.0 ≡ named.old.0 }
@@ -119,6 +143,10 @@ pub(crate) fn place_step(named: &mut NamedTerms, step: &mut Step) -> Result<(), 
     match step {
         Step::Simplify { chain } => place_chain(named, chain),
         Step::Reduce { why } => place_why(named, why),
+        Step::Cases { term } => {
+            *term = named.place(*term)?;
+            Ok(())
+        }
         Step::Derive => Ok(()),
         Step::Done => Ok(()),
     }

@@ -18,32 +18,26 @@ use circ_theory::{Goal, Theory};
 use std::alloc::{AllocError, Global};
 use std::collections::VecDeque;
 
-// The goal once more. Its terms are shared.
-pub(crate) fn share(goal: &Goal) -> Result<Goal, AllocError>
-    ensures { IfOk result (λ g. g ≡ goal.now) }
-{
-    Ok(Goal {
-        left: goal.left.share()?,
-        right: goal.right.share()?,
-    })
-}
-
 // The goals become hypotheses.
-fn assume(hyps: &mut Vec<Goal>, goals: &[Goal]) -> Result<(), AllocError>
+fn assume(alloc: Global, hyps: &mut Vec<Goal>, goals: &[Goal]) -> Result<(), AllocError>
     ensures { OnOk result (hyps.new.items ≡ hyps.old.items ++ goals.now) }
 {
     for goal in goals {
-        hyps.push(share(goal)?)?;
+        hyps.push(goal.share(alloc)?)?;
     }
     Ok(())
 }
 
 // The goals are to be proved.
-pub(crate) fn put(queue: &mut VecDeque<Goal>, goals: &[Goal]) -> Result<(), AllocError>
+pub(crate) fn put(
+    alloc: Global,
+    queue: &mut VecDeque<Goal>,
+    goals: &[Goal],
+) -> Result<(), AllocError>
     ensures { OnOk result (queue.new.items ≡ queue.old.items ++ goals.now) }
 {
     for goal in goals {
-        queue.push_back(share(goal)?)?;
+        queue.push_back(goal.share(alloc)?)?;
     }
     Ok(())
 }
@@ -86,7 +80,7 @@ pub(crate) fn run_block(
 ) -> Result<Option<u64>, AllocError>
     requires table_sorted { AllByRecursion (IsWellSorted theory.now.signature)
         proof.now.table.items }
-    requires fits { IsBlockFor proof.now.table.items (plain_block block.now) }
+    requires fits { IsBlockFor theory.now proof.now.table.items (plain_block block.now) }
     requires hyps_sorted { AreSortedGoals theory.now state.old.hyps.items }
     requires no_goal { state.old.goals.items ≡ [] }
     ensures { IfOk result (RunsOrFails theory.now proof.now.gamma
@@ -95,13 +89,14 @@ pub(crate) fn run_block(
 {
     let steps = block.steps.as_slice();
     let mut known = known_of(alloc, block.names.as_slice())?;
-    put(&mut state.goals, block.goals.as_slice())?;
+    put(alloc, &mut state.goals, block.goals.as_slice())?;
     run(alloc, theory, proof, state, &mut known, steps)
 }
 
 // From a block's end to the next one: the block's own goals take the place of what it derived,
 // behind those of earlier blocks. Answers what it derived.
 pub(crate) fn end_block(
+    alloc: Global,
     state: &mut State,
     earlier: usize,
     block: &Block,
@@ -113,6 +108,6 @@ pub(crate) fn end_block(
     ensures derived { IfOk result (λ v. v.items ≡ drop earlier state.old.hyps.items) }
 {
     let derived = state.hyps.split_off(earlier)?;
-    assume(&mut state.hyps, block.goals.as_slice())?;
+    assume(alloc, &mut state.hyps, block.goals.as_slice())?;
     Ok(derived)
 }

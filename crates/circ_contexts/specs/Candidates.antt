@@ -1,12 +1,12 @@
 -- Candidates as they lie in memory, how they are found, and how those are dropped that are not guarded.
-use Rattle.std.specs.Prelude.{◌≡◌, ℕ, ◌+◌, List, [], ◌∷◌, ◌++◌, map, Option, Some, None, Vec, flat_map}
+use Rattle.std.specs.Prelude.{◌≡◌, ℕ, List, [], ◌∷◌, ◌++◌, map, Option, Some, None, Vec, flat_map}
 use Rattle.std.proofs.Common.{Global}
 use Rattle.std.specs.List.{AllByRecursion}
 use Rattle.circ_term.specs.Tree.{Tree}
 use Rattle.circ_theory.specs.Signature.{Operator}
 use Rattle.circ_theory.specs.Theory.{Theory, Derivative}
 use Rattle.circ_special.specs.declared.place.Place.{Place}
-use Rattle.circ_special.specs.Special.{IsPlace, IsIncreasing, IsWithin, place}
+use Rattle.circ_special.specs.Special.{IsPlace, IsIncreasing, IsWithin}
 use Rattle.circ_special.specs.Guarded.{Guarded}
 use Rattle.circ_rewrite.specs.Norm.{Normalised, Normal_form}
 use Rattle.circ_rewrite.specs.Plain.{plain_traces}

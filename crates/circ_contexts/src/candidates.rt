@@ -2,6 +2,7 @@
 ghost use Rattle.std.specs.Prelude.{◌≡◌, ◌==◌, false, IfOk, Some};
 ghost use Rattle.std.specs.List.{AllByRecursion, slice_get};
 ghost use Rattle.std.specs.Option.{IfSome, option_map, option_map_or};
+ghost use Rattle.circ_theory.specs.Theory.{HasNoConditions};
 ghost use Rattle.circ_special.specs.Special.{IsPlace};
 ghost use Rattle.circ_rewrite.specs.Norm.{norm};
 ghost use Rattle.circ_rules.specs.Admitting.{IsStart};
@@ -36,7 +37,8 @@ pub(crate) struct Means<'a> {
 impl Means<'_> {
     // The candidates among the places, in order. Normal forms are kept from one place to the next.
     pub(crate) fn candidates(&self, places: &[Place]) -> Result<Vec<Candidate>, AllocError>
-        requires { AllByRecursion (IsPlace self.now.theory.now) places.now }
+        requires unconditional { HasNoConditions self.now.theory.now }
+        requires places { AllByRecursion (IsPlace self.now.theory.now) places.now }
         ensures { IfOk result (λ v. AreCandidates self.now.theory.now self.now.budget
             places.now v.items) }
     {

@@ -21,7 +21,7 @@ pub(crate) fn choose_besides(
 ) -> Result<Option<Choice>, AllocError>
     requires ready { IsReady nodes.now means.now }
     requires there { number < length nodes.now }
-    requires none { assumed 0 means.now.assumptions.items (tree_at nodes.now number) ≡ None }
+    requires none { assumed 0 means.now.assumptions (tree_at nodes.now number) ≡ None }
     ensures { IfOk result (Chooses nodes.now means.now (tree_at nodes.now number)
         (due_by means.now (tree_at nodes.now number))) }
 {

@@ -4,22 +4,23 @@ ghost use Rattle.std.specs.Prelude.{map, IfOk, OnOk, OnErr};
 ghost use Rattle.std.specs.List.{AllByRecursion};
 ghost use Rattle.circ_term.specs.Tree.{Tree};
 ghost use Rattle.circ_term.specs.Growing.{Grows};
+ghost use Rattle.circ_theory.specs.Pairs.{plain_pair};
 ghost use Rattle.circ_nodes.specs.Named.{IsNamed, Interns};
 ghost use Rattle.circ_rewrite.specs.Due.{IsRewriteRule};
 ghost use Rattle.circ_rewrite.specs.Plain.{plain_trace};
 ghost use Rattle.circ_rewrite.specs.Replacement.{Replacement, placed, traced};
 ghost use Rattle.circ_due.specs.Chosen.{IsReady, IsChoice, IsChosen, Chooses, due_by, rule_key};
 
-use crate::assuming::{Assumed, assumed_at, kept};
+use crate::assuming::{Assumed, assumed_at, kept, shared};
 use crate::building::{canonical_form, instance};
 use crate::choice::Choice;
 use crate::choosing::choose_besides;
 use crate::tracing::terms_given;
 use circ_index::{Rows, left_key};
 use circ_nodes::Nodes;
-use circ_rewrite::{Rule, Trace, share_goals};
+use circ_rewrite::{Rule, Trace};
 use circ_term::{Path, TermFault};
-use circ_theory::{Goal, Theory};
+use circ_theory::{Pair, Pairs, Theory};
 use indexmap::IndexMap;
 use std::alloc::{AllocError, Global};
 
@@ -33,7 +34,7 @@ pub struct Means<'a> {
     /// The rules, in the order in which they are tried.
     pub rules: Vec<Rule>,
     /// The assumptions, which are tried first.
-    pub assumptions: Vec<Goal>,
+    pub assumptions: Pairs,
     // The keys of the rules' left sides, and the assumptions by the numbers of theirs.
     pub(crate) rows: Rows,
     pub(crate) assumed: IndexMap<u32, Assumed>,
@@ -47,20 +48,21 @@ impl<'a> Means<'a> {
         ensures ready { (nodes : List Tree) → IfOk result (IsReady nodes) }
         ensures theory { IfOk result (λ m. m.theory.now ≡ theory.now) }
         ensures rules { IfOk result (λ m. m.rules.items ≡ rules.items) }
-        ensures assumptions { IfOk result (λ m. m.assumptions.items ≡ []) }
+        ensures assumptions { IfOk result (λ m. m.assumptions ≡ []) }
     {
         let rows = rows_of(alloc, rules.as_slice())?;
         Ok(Means {
             alloc,
             theory,
             rules,
-            assumptions: Vec::new(alloc),
+            assumptions: Pairs::new(alloc),
             rows,
             assumed: IndexMap::new(alloc),
         })
     }
 
-    /// Puts a rule last. After want of memory the rules are as before.
+    /// Puts a rule last. If it runs out of memory the rules are as
+    /// before.
     pub fn push(&mut self, rule: Rule) -> Result<(), AllocError>
         requires ready { (nodes : List Tree) × IsReady nodes self.old }
         requires rewrite { IsRewriteRule rule }
@@ -68,7 +70,7 @@ impl<'a> Means<'a> {
         ensures ready { (nodes : List Tree) → IsReady nodes self.old → IsReady nodes self.new }
         ensures theory { self.new.theory.now ≡ self.old.theory.now }
         ensures rules { OnOk result (self.new.rules.items ≡ self.old.rules.items ++ rule ∷ []) }
-        ensures assumptions { self.new.assumptions.items ≡ self.old.assumptions.items }
+        ensures assumptions { self.new.assumptions ≡ self.old.assumptions }
         ensures err { OnErr result (self.new.rules.items ≡ self.old.rules.items) }
     {
         let key = left_key(&rule.left);
@@ -87,27 +89,28 @@ impl<'a> Means<'a> {
         ensures ready { (old new : List Tree) → IsReady old self.old → IsReady new self.new }
         ensures theory { self.new.theory.now ≡ self.old.theory.now }
         ensures rules { self.new.rules.items ≡ self.old.rules.items }
-        ensures assumptions { self.new.assumptions.items ≡ [] }
+        ensures assumptions { self.new.assumptions ≡ [] }
     {
-        self.assumptions = Vec::new(self.alloc);
+        self.assumptions = Pairs::new(self.alloc);
         self.assumed = IndexMap::new(self.alloc);
     }
 
-    /// Puts these assumptions in place of those before. After want of memory there are none.
-    pub fn assume(&mut self, nodes: &mut Nodes, assumptions: &[Goal]) -> Result<(), AllocError>
+    /// Puts these assumptions in place of those before. If it runs out of memory there are none.
+    pub fn assume(&mut self, nodes: &mut Nodes, assumptions: &[Pair]) -> Result<(), AllocError>
         requires ready { IsReady nodes.old self.old }
         requires few { length assumptions.now < 2 ^ 32 }
         ensures ready { IsReady nodes.new self.new }
         ensures grows { Grows nodes.old nodes.new }
         ensures theory { self.new.theory.now ≡ self.old.theory.now }
         ensures rules { self.new.rules.items ≡ self.old.rules.items }
-        ensures assumptions { IfOk result (λ _. self.new.assumptions.items ≡ assumptions.now) }
-        ensures forgotten { OnErr result (self.new.assumptions.items ≡ []) }
+        ensures assumptions { IfOk result (λ _.
+            self.new.assumptions ≡ map plain_pair assumptions.now) }
+        ensures forgotten { OnErr result (self.new.assumptions ≡ []) }
     {
         self.forget();
-        let goals = share_goals(self.alloc, assumptions)?;
+        let pairs = shared(self.alloc, assumptions)?;
         let assumed = kept(self.alloc, nodes, assumptions)?;
-        self.assumptions = goals;
+        self.assumptions = pairs;
         self.assumed = assumed;
         Ok(())
     }
@@ -178,6 +181,7 @@ impl<'a> Means<'a> {
                 name: self.rules[*rule as usize].name,
                 path,
                 terms: terms_given(self.alloc, nodes, given.as_slice())?,
+                conds: Vec::new(self.alloc),
             }),
         }
     }

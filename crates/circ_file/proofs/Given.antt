@@ -33,19 +33,19 @@ give-given ts (s ∷ ss) w = go (nat_eq (why_count s.whys + 1) s.count) (give-gi
     go true ih = ih
     go false ih = (refl, refl)
 
-whys-push : (ws : List Why) (w : Why) → plain_whys (ws ++ w ∷ []) ≡ push_why (plain_whys ws) (plain_why w)
+whys-push : (ws : List (Why ℕ)) (w : Why ℕ) → plain_whys (ws ++ w ∷ []) ≡ push_why (plain_whys ws) (plain_why w)
 whys-push [] w = refl
 whys-push (v ∷ ws) w = ap (more_whys (plain_why v)) (whys-push ws w)
 
-pub count-whys : (ws : List Why) → why_count (plain_whys ws) ≡ length ws
+pub count-whys : (ws : List (Why ℕ)) → why_count (plain_whys ws) ≡ length ws
 count-whys [] = refl
 count-whys (w ∷ ws) = omega (arith, count-whys ws)
 
-one_more : (s : CodeSplit) (w : Why) (ws : List Why) → ws ≡ s.whys.items ++ w ∷ [] → why_count (plain_whys s.whys.items) + 1 ≡ length ws
+one_more : (s : CodeSplit) (w : Why ℕ) (ws : List (Why ℕ)) → ws ≡ s.whys.items ++ w ∷ [] → why_count (plain_whys s.whys.items) + 1 ≡ length ws
 one_more s w ws e = omega (arith, count-whys s.whys.items, ap length e, length-append s.whys.items (w ∷ []))
 
 -- A split that gets one why more is whole, or still waits.
-pub given_whole : (ss : List CodeSplit) (s : CodeSplit) (w : Why) (ws : List Why) → ws ≡ s.whys.items ++ w ∷ [] → length ws ≡ s.count
+pub given_whole : (ss : List CodeSplit) (s : CodeSplit) (w : Why ℕ) (ws : List (Why ℕ)) → ws ≡ s.whys.items ++ w ∷ [] → length ws ≡ s.count
     → given (tops (ss ++ s ∷ []) []) (plain_why w) ≡ given (tops ss []) (Split_why (plain_chain s.chain) s.term (plain_whys ws))
 given_whole ss s w ws e n =
     ap (λ x. given x (plain_why w)) (tops-push ss s [])
@@ -54,7 +54,7 @@ given_whole ss s w ws e n =
     (eq-eqb (why_count (plain_whys s.whys.items) + 1) s.count (one_more s w ws e ∙ n))
     ∙ ap (λ x. given (tops ss []) (Split_why (plain_chain s.chain) s.term x)) (sym (ap plain_whys e ∙ whys-push s.whys.items w)))
 
-pub given_waits : (ss : List CodeSplit) (s : CodeSplit) (w : Why) (ws : List Why) → ws ≡ s.whys.items ++ w ∷ [] → (length ws ≡ s.count → ⊥)
+pub given_waits : (ss : List CodeSplit) (s : CodeSplit) (w : Why ℕ) (ws : List (Why ℕ)) → ws ≡ s.whys.items ++ w ∷ [] → (length ws ≡ s.count → ⊥)
     → given (tops (ss ++ s ∷ []) []) (plain_why w) ≡ (open_split (plain_chain s.chain) s.term s.count (plain_whys ws) ∷ tops ss [], None)
 given_waits ss s w ws e n =
     ap (λ x. given x (plain_why w)) (tops-push ss s [])

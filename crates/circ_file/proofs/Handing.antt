@@ -20,7 +20,7 @@ use Rattle.circ_file.specs.Lines.{seen_of}
 use Rattle.circ_file.specs.declared.machine.Machine.{Machine}
 use Rattle.circ_file.specs.declared.reader.FileReader.{FileReader}
 use Rattle.circ_file.proofs.Standing.{reading_with}
-use Rattle.circ_file.proofs.Taking.{seen_with}
+use Rattle.circ_file.proofs.Taking.{seen_with, counted_in}
 
 pub whole_text : (th : Theory) (x : List ℕ) (handed : List Part) (f : FileReader) → Stands th x handed f → f.rest.items ≡ [] → now_of f.reader.machine ≡ Ended
     → Ends (Ok tt) th x handed f
@@ -58,8 +58,8 @@ pub pop_handed : (th : Theory) (x : List ℕ) (handed : List Part) (f : FileRead
 pop_handed th x handed f m o s p n g =
     let new : FileReader = with_machine f m in
     let same = ap (λ n. reading_with f.lines f.rest.items n (seen_of s.wanted new.reader) (queue_of m)) n
-    ∙ ap (λ ps. reading_with f.lines f.rest.items (now_of f.reader.machine) (seen_with (terms_in f.reader.table) ps.items f.reader.counts.certificates
-    f.reader.counts.steps s.wanted) (queue_of m)) g in
+    ∙ ap (λ ps. reading_with f.lines f.rest.items (now_of f.reader.machine)
+    (seen_with (counted_in (seen_of s.wanted f.reader)) (terms_in f.reader.table) ps.items s.wanted) (queue_of m)) g in
     next_handed th x handed f new o s p same refl refl
 
 -- The parts handed out fit, and are the first parts of each proof whose text goes on from the bytes.

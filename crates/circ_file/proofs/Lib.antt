@@ -1,4 +1,6 @@
 pub mod Given
+pub mod OpenConds
+pub mod OpenGoals
 pub mod Links
 pub mod Firsts
 pub mod Entering

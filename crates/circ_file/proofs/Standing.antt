@@ -5,7 +5,7 @@ use Rattle.std.proofs.lemmas.List.{length-map, append-nil}
 use Rattle.circ_theory.specs.Theory.{Theory}
 use Rattle.circ_line.specs.Plain.{NoFeed}
 use Rattle.circ_grammar.specs.FirstBad.{file_text, Line_fault, Limit_fault}
-use Rattle.circ_grammar.specs.Now.{Now, Reducing}
+use Rattle.circ_grammar.specs.Now.{Now, Reducing, Joining}
 use Rattle.circ_grammar.proofs.Feeding.{no_feed_append}
 use Rattle.circ_proof_text.specs.Checks.{Seen, after, passes_at, limit_at}
 use Rattle.circ_proof_text.specs.ProofText.{FirstCause}
@@ -23,6 +23,7 @@ use Rattle.circ_file.specs.declared.reader.FileReader.{FileReader}
 -- as many numbers of whys are wanted as splits are open
 wants_counted : (n : Now) → length (wants_of n) ≡ splits_in n
 wants_counted (Reducing ss chain) = length-map ss wants
+wants_counted (Joining n chain) = wants_counted n
 wants_counted _ = refl
 
 pub wanted_counted : (th : Theory) (x : List ℕ) (handed : List Part) (k : Reading) → StandsFor th x handed k → length k.seen.wanted ≡ splits_in k.under_way

@@ -1,35 +1,42 @@
 -- What a line gives that passes the checks and the limits.
-use Rattle.std.specs.Prelude.{◌≡◌, ℕ, ◌+◌, ◌≤◌, ◌||◌, nat_eq, Bool, true, false, cond, List, [], ◌∷◌, ◌++◌, length, refl, Some, None, is_some}
+use Rattle.std.specs.Prelude.{◌≡◌, ℕ, ◌+◌, ◌-◌, ◌<◌, ◌==◌, if◌then◌else◌, ◌≤◌, ◌||◌, nat_eq, Bool, true, false, cond, List, [], ◌∷◌, ◌++◌, length, refl, zero, suc, Some, None, is_some}
 use Rattle.std.proofs.Common.{sym, ◌∙◌, ap, subst, arith, inr}
-use Rattle.std.proofs.lemmas.Bool.{and_parts, ltb-true, ltb-false}
-use Rattle.std.proofs.lemmas.Option.{same_Some, cond_some}
+use Rattle.std.proofs.lemmas.Bool.{and_parts, and_from, lt-ltb, le-ltb, ltb-true, ltb-false}
+use Rattle.std.proofs.lemmas.Option.{same_Some, none-some, cond_some}
 use Rattle.circ_term.specs.Tree.{Tree}
 use Rattle.circ_theory.specs.Theory.{Theory}
 use Rattle.circ_theory.specs.WellFormed.{IsWellFormed}
 use Rattle.circ_theory.proofs.Lists.{all_push}
 use Rattle.circ_special.specs.declared.place.Place.{Place}
 use Rattle.circ_special.specs.Special.{place, IsPlace, IsSet}
-use Rattle.circ_proof.specs.Plain.{LinkOf, WhyOf, Same_why, Split_why, no_why}
+use Rattle.circ_proof.specs.Plain.{LinkOf, ChainOf, Equation_link, Hypothesis_link, Assumption_link, Content_link, WhyOf, Same_why, Split_why, no_why}
 use Rattle.circ_proof.specs.Table.{term_limit}
-use Rattle.circ_line.specs.Line.{TableLine, Line, head_line, table_line, place_line, certificate_line, block_line, goal_line, simplify_line, reduce_line, derive_line}
-use Rattle.circ_line.specs.Line.{done_line, same_line, split_line, left_line, right_line, end_line}
+use Rattle.circ_line.specs.Line.{TableLine, Line, head_line, table_line, place_line, certificate_line, block_line, goal_line, given_line, simplify_line}
+use Rattle.circ_line.specs.Line.{reduce_line, derive_line, cases_line, done_line, same_line, split_line, if_line, left_line, right_line, end_line}
 use Rattle.circ_proof.specs.Counting.{why_count}
-use Rattle.circ_grammar.proofs.Spelled.{option_map_some}
-use Rattle.circ_grammar.specs.Machine.{OpenSplit, empty, open_split, push_why, add_left, add_right}
-use Rattle.circ_grammar.specs.Now.{Now, Begin, Tabling, Placing, Certifying, Stepping, Simplifying, Reducing, Closed, Ended, next_now, give_why_now}
+use Rattle.circ_grammar.proofs.Spelled.{option_map_some, under_test}
+use Rattle.circ_grammar.specs.Machine.{OpenSplit, empty, open_split, push_why, add_left, add_right, add_given, in_last, in_right}
+use Rattle.circ_grammar.specs.Now.{Now, Begin, Tabling, Placing, Certifying, Stepping, Simplifying, Reducing, Joining, Closed, Ended, next_now, give_why_now}
+use Rattle.circ_grammar.specs.Now.{Opened, give_chain_now, next_given}
+use Rattle.circ_grammar.specs.Grammar.{is_bare, is_no_chain}
+use Rattle.circ_line.specs.Text.{IsInRange, IsLinkInRange}
 use Rattle.circ_grammar.specs.Now.{is_step, next_head, next_place, next_same, next_split, next_left, next_right, next_end}
+use Rattle.circ_theory.specs.Limits.{condition_limit}
+use Rattle.circ_proof.specs.Nesting.{nesting_limit}
 use Rattle.circ_proof.specs.Certified.{due}
 use Rattle.circ_proof.specs.Proof.{step_limit}
 use Rattle.circ_proof.proofs.FewPlaces.{place_low}
-use Rattle.circ_proof_text.specs.Checks.{Seen, after, is_next, is_place, with_term, is_full, is_too_large, passes_at, limit_at}
+use Rattle.circ_proof_text.specs.Checks.{Seen, after_same as ends_if, after, is_next, is_place, with_term, is_full, is_too_large, is_condition, passes_at, limit_at}
 use Rattle.circ_proof_text.proofs.Places.{place_tells, increasing_push}
 use Rattle.circ_line.specs.Plain.{plain_line}
 use Rattle.circ_line.specs.declared.line.Line.{Line as CodeLine}
 use Rattle.circ_line.specs.declared.line.Line.TheVariants as line
 use Rattle.circ_file.specs.View.{places_with, IsReady, IsFree, IsKeptAt, IsKept, now_at, now_of, MachineTakes, Moves}
-use Rattle.circ_file.specs.Counting.{certificates_with, steps_with}
+use Rattle.circ_file.specs.Counting.{certificates_with, steps_with, version_with, givens_with, ifs_with}
 use Rattle.circ_file.specs.Lines.{IsInStep, IsOther, IsReader, seen_of, Advances, Handles}
-use Rattle.circ_file.specs.Adding.{terms_in, is_open, AddsLine}
+use Rattle.circ_theory.specs.Pair.{Pair}
+use Rattle.circ_proof.specs.Proof.{pair_at}
+use Rattle.circ_file.specs.Adding.{condition_for, terms_in, is_open, AddsLine}
 use Rattle.circ_file.specs.declared.table.ReadTable.{ReadTable}
 use Rattle.circ_file.specs.declared.taken.Taken.{Taken}
 use Rattle.circ_file.specs.declared.taken.Taken.TheVariants.{Yes, Line as Refused, Limit}
@@ -40,12 +47,20 @@ use Rattle.circ_file.specs.declared.machine.Mode.TheVariants as mode
 use Rattle.circ_file.proofs.Counted.{due_more}
 
 -- The numbers of a line that passes are ready to be used.
-pub ready_then : (th : Theory) (c : Seen) (l : Line) → IsWellFormed th → passes_at th c l ≡ true → IsReady l
-ready_then th c (place_line f i) w p =
+bare_in_range : (l : LinkOf ℕ) → IsLinkInRange l → is_bare l ≡ true
+bare_in_range (Equation_link n w p ts cs) r = ap is_no_chain r.2
+bare_in_range (Hypothesis_link n w p ts cs) r = ap is_no_chain r.2
+bare_in_range (Assumption_link n w p) r = refl
+bare_in_range (Content_link f p t) r = refl
+
+pub ready_then : (th : Theory) (c : Seen) (l : Line) → IsWellFormed th → IsInRange l → passes_at th c l ≡ true → IsReady l
+ready_then th c (left_line l) w r p = bare_in_range l r
+ready_then th c (right_line l) w r p = bare_in_range l r
+ready_then th c (place_line f i) w r p =
     let q = and_parts (is_next c.places (place f i)) (is_place th (place f i)) p in
     let low = place_low th (place f i) w ((place_tells th (place f i)).0 q.1) in
     omega (arith, low.arg)
-ready_then th c _ w p = tt
+ready_then th c _ w r p = tt
 
 pub set_then : (th : Theory) (c : Seen) (l : Line) → IsSet th c.places → passes_at th c l ≡ true → IsSet th (places_with c.places l)
 set_then th c (place_line f i) s p =
@@ -67,30 +82,95 @@ pub steps_then : (th : Theory) (c : Seen) (l : Line) → c.steps ≤ step_limit 
 steps_then th c simplify_line h p = ltb-false step_limit (c.steps + 1) p
 steps_then th c reduce_line h p = ltb-false step_limit (c.steps + 1) p
 steps_then th c derive_line h p = ltb-false step_limit (c.steps + 1) p
+steps_then th c (cases_line t) h p = ltb-false step_limit (c.steps + 1) p
 steps_then th c done_line h p = ltb-false step_limit (c.steps + 1) p
 steps_then th c _ h p = h
 
-abbrev pub seen_with : List Tree → List Place → (certificates steps : ℕ) → (wanted : List ℕ) → Seen
-seen_with ts gs n m w = record { terms = ts; places = gs; certificates = n; steps = m; wanted = w }
+pub ifs_then : (th : Theory) (c : Seen) (l : Line) → c.ifs ≤ nesting_limit → limit_at th c l ≡ false → ifs_with c.ifs l ≤ nesting_limit
+ifs_then th c if_line h p = omega (arith, ltb-false nesting_limit (c.ifs + 1) p)
+ifs_then th c same_line h p = omega (arith, h)
+ifs_then th c _ h p = h
 
-same_seen : (c : Seen) (ts : List Tree) (gs : List Place) (n m : ℕ) → ts ≡ c.terms → gs ≡ c.places → n ≡ c.certificates → m ≡ c.steps → seen_with ts gs n m c.wanted ≡ c
-same_seen c ts gs n m a b e f =
-    ap (λ x. seen_with x gs n m c.wanted) a ∙ ap (λ x. seen_with c.terms x n m c.wanted) b
-    ∙ ap (λ x. seen_with c.terms c.places x m c.wanted) e ∙ ap (λ x. seen_with c.terms c.places c.certificates x c.wanted) f
+pub givens_then : (n : ℕ) (l : Line) → IsOther l → n ≤ condition_limit → givens_with n l ≤ condition_limit
+givens_then n (goal_line a b) o h = absurd o
+givens_then n (given_line a b) o h = absurd o
+givens_then n simplify_line o h = omega arith
+givens_then n reduce_line o h = omega arith
+givens_then n derive_line o h = omega arith
+givens_then n (cases_line t) o h = omega arith
+givens_then n done_line o h = omega arith
+givens_then n _ o h = h
+
+-- what lines have given but the terms and the places
+pub record Counted : Type 0 where
+  pub version : ℕ
+  pub certificates : ℕ
+  pub steps : ℕ
+  pub givens : ℕ
+  pub ifs : ℕ
+
+abbrev pub counted : (version certificates steps givens ifs : ℕ) → Counted
+counted v n m g i = record { version = v; certificates = n; steps = m; givens = g; ifs = i }
+
+abbrev pub counted_in : Seen → Counted
+counted_in c = counted c.version c.certificates c.steps c.givens c.ifs
+
+-- with one line more
+abbrev pub counted_with : Counted → Line → Counted
+counted_with k l = counted (version_with k.version l) (certificates_with k.certificates l) (steps_with k.steps l) (givens_with k.givens l) (ifs_with k.ifs l)
+
+abbrev pub seen_with : Counted → List Tree → List Place → (wanted : List ℕ) → Seen
+seen_with k ts gs w = record {
+  version = k.version;
+  terms = ts;
+  places = gs;
+  certificates = k.certificates;
+  steps = k.steps;
+  givens = k.givens;
+  ifs = k.ifs;
+  wanted = w;
+}
+
+same_seen : (c : Seen) (k : Counted) (ts : List Tree) (gs : List Place) → k ≡ counted_in c → ts ≡ c.terms → gs ≡ c.places → seen_with k ts gs c.wanted ≡ c
+same_seen c k ts gs z a b =
+    ap (λ x. seen_with x ts gs c.wanted) z ∙ ap (λ x. seen_with (counted_in c) x gs c.wanted) a ∙ ap (λ x. seen_with (counted_in c) c.terms x c.wanted) b
+
+zero_less : (n : ℕ) → 0 - n ≡ 0
+zero_less n = omega arith
+
+one_less : (i : ℕ) → suc i - 1 ≡ i
+one_less i = omega arith
 
 -- What is kept of a line is what it gives.
-pub seen_then : (th : Theory) (c : Seen) (l : Line) (ts : List Tree) (gs : List Place) (n m : ℕ) → IsOther l → ts ≡ c.terms → gs ≡ places_with c.places l
-    → n ≡ certificates_with c.certificates l → m ≡ steps_with c.steps l → seen_with ts gs n m (after th c l).wanted ≡ after th c l
-seen_then th c (table_line l) ts gs n m o a b e f = absurd o
-seen_then th c (place_line x y) ts gs n m o a b e f = same_seen (after th c (place_line x y)) ts gs n m a b e f
-seen_then th c certificate_line ts gs n m o a b e f = same_seen (after th c certificate_line) ts gs n m a b e f
-seen_then th c simplify_line ts gs n m o a b e f = same_seen (after th c simplify_line) ts gs n m a b e f
-seen_then th c reduce_line ts gs n m o a b e f = same_seen (after th c reduce_line) ts gs n m a b e f
-seen_then th c derive_line ts gs n m o a b e f = same_seen (after th c derive_line) ts gs n m a b e f
-seen_then th c done_line ts gs n m o a b e f = same_seen (after th c done_line) ts gs n m a b e f
-seen_then th c same_line ts gs n m o a b e f = same_seen (after th c same_line) ts gs n m a b e f
-seen_then th c (split_line x y) ts gs n m o a b e f = same_seen (after th c (split_line x y)) ts gs n m a b e f
-seen_then th c _ ts gs n m o a b e f = same_seen c ts gs n m a b e f
+pub seen_then : (th : Theory) (k j : Counted) (us : List Tree) (hs : List Place) (w : List ℕ) (l : Line) (ts : List Tree) (gs : List Place)
+    → IsOther l → j ≡ counted_with k l → ts ≡ us → gs ≡ places_with hs l
+    → seen_with j ts gs (after th (seen_with k us hs w) l).wanted ≡ after th (seen_with k us hs w) l
+seen_then th k j us hs w (table_line l) ts gs o z a b = absurd o
+seen_then th k j us hs w (goal_line x y) ts gs o z a b = absurd o
+seen_then th k j us hs w (given_line x y) ts gs o z a b = absurd o
+seen_then th k j us hs w (head_line x) ts gs o z a b = same_seen (after th (seen_with k us hs w) (head_line x)) j ts gs z a b
+seen_then th k j us hs w (place_line x y) ts gs o z a b = same_seen (after th (seen_with k us hs w) (place_line x y)) j ts gs z a b
+seen_then th k j us hs w certificate_line ts gs o z a b = same_seen (after th (seen_with k us hs w) certificate_line) j ts gs z a b
+seen_then th k j us hs w block_line ts gs o z a b = same_seen (after th (seen_with k us hs w) block_line) j ts gs z a b
+seen_then th k j us hs w simplify_line ts gs o z a b = same_seen (after th (seen_with k us hs w) simplify_line) j ts gs z a b
+seen_then th k j us hs w reduce_line ts gs o z a b = same_seen (after th (seen_with k us hs w) reduce_line) j ts gs z a b
+seen_then th k j us hs w derive_line ts gs o z a b = same_seen (after th (seen_with k us hs w) derive_line) j ts gs z a b
+seen_then th k j us hs w (cases_line x) ts gs o z a b = same_seen (after th (seen_with k us hs w) (cases_line x)) j ts gs z a b
+seen_then th k j us hs w done_line ts gs o z a b = same_seen (after th (seen_with k us hs w) done_line) j ts gs z a b
+seen_then th k j us hs w (split_line x y) ts gs o z a b = same_seen (after th (seen_with k us hs w) (split_line x y)) j ts gs z a b
+seen_then th k j us hs w if_line ts gs o z a b = same_seen (after th (seen_with k us hs w) if_line) j ts gs z a b
+seen_then th k j us hs w (left_line x) ts gs o z a b = same_seen (after th (seen_with k us hs w) (left_line x)) j ts gs z a b
+seen_then th k j us hs w (right_line x) ts gs o z a b = same_seen (after th (seen_with k us hs w) (right_line x)) j ts gs z a b
+seen_then th k j us hs w end_line ts gs o z a b = same_seen (after th (seen_with k us hs w) end_line) j ts gs z a b
+seen_then th k j us hs w same_line ts gs o z a b = closes k.ifs z
+  where
+    at : ℕ → Seen
+    at i = seen_with (record k { ifs = i }) us hs w
+
+    closes : (i : ℕ) → j ≡ counted k.version k.certificates k.steps k.givens (i - 1)
+        → seen_with j ts gs (ends_if (at i) i).wanted ≡ ends_if (at i) i
+    closes zero z = same_seen (ends_if (at zero) zero) j ts gs (z ∙ ap (λ i. counted k.version k.certificates k.steps k.givens i) (zero_less 1)) a b
+    closes (suc i) z = same_seen (ends_if (at (suc i)) (suc i)) j ts gs (z ∙ ap (λ x. counted k.version k.certificates k.steps k.givens x) (one_less i)) a b
 
 -- In a table nothing is asked of its terms.
 tabling_at : (k : Mode) (m : Machine) (ts us : List Tree) → now_at k m ≡ Tabling → IsKeptAt k ts m → IsKeptAt k us m
@@ -129,8 +209,16 @@ after_place Tabling m p t e = subst (λ n. IsInStep n t) (same_Some (Placing (p 
 after_place (Placing ps) m p t e = subst (λ n. IsInStep n t) (same_Some (Placing (ps ++ p ∷ [])) m e) tt
 after_place _ m p t e = absurd (cc)
 
+after_chain : (n m : Now) (c : ChainOf ℕ) (t : ReadTable) → give_chain_now n c ≡ Some m → IsInStep m t
+after_chain (Certifying ls) m c t e = let p = option_map_some Certifying (in_last ls c) m e in subst (λ n. IsInStep n t) p.2 tt
+after_chain (Simplifying d) m c t e = let p = option_map_some Simplifying (in_right d.left d.right c) m e in subst (λ n. IsInStep n t) p.2 tt
+after_chain (Reducing fs d) m c t e = let p = option_map_some (Reducing fs) (in_right d.left d.right c) m e in subst (λ n. IsInStep n t) p.2 tt
+after_chain (Joining k d) m c t e = let p = option_map_some (Joining k) (in_right d.left d.right c) m e in subst (λ n. IsInStep n t) p.2 tt
+after_chain _ m c t e = absurd (cc)
+
 after_same : (n m : Now) (t : ReadTable) → next_same n ≡ Some m → IsInStep m t
 after_same (Reducing fs c) m t e = subst (λ n. IsInStep n t) (same_Some (give_why_now fs (Same_why c)) m e) (after_given fs (Same_why c) t)
+after_same (Joining n c) m t e = after_chain n m c t e
 after_same _ m t e = absurd (cc)
 
 after_split : (n m : Now) (a k : ℕ) (t : ReadTable) → next_split n a k ≡ Some m → IsInStep m t
@@ -148,11 +236,13 @@ after_left : (n m : Now) (l : LinkOf ℕ) (t : ReadTable) → next_left n l ≡ 
 after_left (Certifying ls) m l t e = subst (λ n. IsInStep n t) (same_Some (Certifying (ls ++ l ∷ [])) m e) tt
 after_left (Simplifying c) m l t e = let p = option_map_some Simplifying (add_left c l) m e in subst (λ n. IsInStep n t) p.2 tt
 after_left (Reducing fs c) m l t e = let p = option_map_some (Reducing fs) (add_left c l) m e in subst (λ n. IsInStep n t) p.2 tt
+after_left (Joining k c) m l t e = let p = option_map_some (Joining k) (add_left c l) m e in subst (λ n. IsInStep n t) p.2 tt
 after_left _ m l t e = absurd (cc)
 
 after_right : (n m : Now) (l : LinkOf ℕ) (t : ReadTable) → next_right n l ≡ Some m → IsInStep m t
 after_right (Simplifying c) m l t e = subst (λ n. IsInStep n t) (same_Some (Simplifying (add_right c l)) m e) tt
 after_right (Reducing fs c) m l t e = subst (λ n. IsInStep n t) (same_Some (Reducing fs (add_right c l)) m e) tt
+after_right (Joining k c) m l t e = subst (λ n. IsInStep n t) (same_Some (Joining k (add_right c l)) m e) tt
 after_right _ m l t e = absurd (cc)
 
 after_end : (n m : Now) (t : ReadTable) → next_end n ≡ Some m → IsInStep m t
@@ -161,20 +251,23 @@ after_end _ m t e = absurd (cc)
 
 -- a line that asks nothing of the table
 free_step : (n m : Now) (l : Line) (t : ReadTable) → IsFree l → next_now n l ≡ Some m → IsInStep n t → IsInStep m t
-free_step n m head_line t o e s = after_head n m t e s
+free_step n m (head_line v) t o e s = after_head n m t e s
 free_step n m (table_line x) t o e s = absurd o
 free_step n m (place_line a b) t o e s = after_place n m (a, b) t e
 free_step n m certificate_line t o e s = absurd o
 free_step n m block_line t o e s = absurd o
 free_step n m (goal_line a b) t o e s = absurd o
+free_step n m (given_line a b) t o e s = absurd o
+free_step n m (cases_line a) t o e s = after_cond (is_step n) Stepping m t e tt
+free_step n m if_line t o e s = let p = option_map_some (λ q. Joining n empty) (give_chain_now n empty) m e in subst (λ x. IsInStep x t) p.2 tt
 free_step n m simplify_line t o e s = after_cond (is_step n) (Simplifying empty) m t e tt
 free_step n m reduce_line t o e s = after_cond (is_step n) (Reducing [] empty) m t e tt
 free_step n m derive_line t o e s = after_cond (is_step n) Stepping m t e tt
 free_step n m done_line t o e s = after_cond (is_step n) Closed m t e tt
 free_step n m same_line t o e s = after_same n m t e
 free_step n m (split_line a k) t o e s = after_split n m a k t e
-free_step n m (left_line l) t o e s = after_left n m l t e
-free_step n m (right_line l) t o e s = after_right n m l t e
+free_step n m (left_line l) t o e s = under_test (is_bare l) (next_left n l) m e (λ b e. after_left n m l t e)
+free_step n m (right_line l) t o e s = under_test (is_bare l) (next_right n l) m e (λ b e. after_right n m l t e)
 free_step n m end_line t o e s = after_end n m t e
 
 -- such a line is neither of the table nor a goal, and begins no certificate and no block
@@ -183,6 +276,7 @@ is_free line.Certificate f g o = absurd (f refl)
 is_free line.Block f g o = absurd (g refl)
 is_free (line.Table l) f g o = o
 is_free (line.Goal a b) f g o = o
+is_free (line.Given a b) f g o = o
 is_free _ f g o = tt
 
 pub advanced : (b : Bool) (r : LineReader) (l : Line) (m : Machine) → IsReader r → IsFree l
@@ -206,6 +300,8 @@ reader_then r s k t n p a b = record {
   due = ap (λ x. x.due) n ∙ k.due ∙ ap (λ x. length (due x r.machine.places.items)) (sym t) ∙ ap (λ x. length (due s.theory.now x)) (sym p);
   certificates = subst (λ x. x.certificates ≤ x.due) (sym n) k.certificates;
   steps = subst (λ x. x.steps ≤ step_limit) (sym n) k.steps;
+  givens = subst (λ x. x.givens ≤ condition_limit) (sym n) k.givens;
+  ifs = subst (λ x. x.ifs ≤ nesting_limit) (sym n) k.ifs;
 }
 
 -- What becomes of a table line is what becomes of it in the table.
@@ -221,9 +317,9 @@ table_handled w r s l Yes k t n m (u, f, within, us) b =
       next = m.next;
       passes = ap is_some f;
       within = ap (λ o. is_full term_limit (length c.terms) || is_too_large o) f ∙ within;
-      seen = same_seen (after th c (table_line l)) (terms_in s.table) s.machine.places.items s.counts.certificates s.counts.steps
-          (us ∙ sym (ap (λ x. x.terms) e)) (m.places ∙ sym (ap (λ x. x.places) e))
-          (ap (λ x. x.certificates) n ∙ sym (ap (λ x. x.certificates) e)) (ap (λ x. x.steps) n ∙ sym (ap (λ x. x.steps) e));
+      seen = same_seen (after th c (table_line l)) (counted_in (seen_of w s)) (terms_in s.table) s.machine.places.items
+          (ap (λ x. counted x.version x.certificates x.steps x.givens x.ifs) n ∙ sym (ap counted_in e))
+          (us ∙ sym (ap (λ x. x.terms) e)) (m.places ∙ sym (ap (λ x. x.places) e));
       queue = m.queue;
       reader = reader_then r s k t n m.places (kept_tabling r.machine s.machine l (terms_in r.table) (terms_in s.table) m.next m.kept)
           (subst (λ x. IsInStep x s.table) (sym at) b);
@@ -235,9 +331,9 @@ table_handled w r s l Limit k t n m (u, f, over) b =
 -- A line is taken that is not of the table, and no goal.
 pub other_handled : (w : List ℕ) (r s : LineReader) (l : Line) → IsReader r → IsOther l → s.theory.now ≡ r.theory.now
     → passes_at r.theory.now (seen_of w r) l ≡ true → limit_at r.theory.now (seen_of w r) l ≡ false → Advances true r l s
-    → s.counts.due ≡ length (due r.theory.now (places_with r.machine.places.items l)) → s.counts.certificates ≡ certificates_with r.counts.certificates l
-    → s.counts.steps ≡ steps_with r.counts.steps l → Handles Yes w r l s
-other_handled w r s l k o t p q (m, e, b) due_is certificates_are steps_are =
+    → s.counts.due ≡ length (due r.theory.now (places_with r.machine.places.items l))
+    → counted_in (seen_of w s) ≡ counted_with (counted_in (seen_of w r)) l → Handles Yes w r l s
+other_handled w r s l k o t p q (m, e, b) due_is counts_are =
     let th : Theory = r.theory.now in
     let places : s.machine.places.items ≡ places_with r.machine.places.items l = m.places in
     let few : r.counts.certificates ≤ length (due th r.machine.places.items) = omega (arith, k.certificates, k.due) in
@@ -245,14 +341,69 @@ other_handled w r s l k o t p q (m, e, b) due_is certificates_are steps_are =
       next = m.next;
       passes = p;
       within = q;
-      seen = seen_then th (seen_of w r) l (terms_in s.table) s.machine.places.items s.counts.certificates s.counts.steps o e places certificates_are steps_are;
+      seen = seen_then th (counted_in (seen_of w r)) (counted_in (seen_of w s)) (terms_in r.table) r.machine.places.items w l (terms_in s.table)
+          s.machine.places.items o counts_are e places;
       queue = m.queue;
       reader = record {
         kept = subst (λ ts. IsKept ts s.machine) (sym e) m.kept;
         set = subst (λ x. IsSet x s.machine.places.items) (sym t) (subst (λ x. IsSet th x) (sym places) (set_then th (seen_of w r) l k.set p));
         step = b;
         due = due_is ∙ ap (λ x. length (due th x)) (sym places) ∙ ap (λ x. length (due x s.machine.places.items)) (sym t);
-        certificates = omega (arith, certificates_then th (seen_of w r) l few p, certificates_are, due_is);
-        steps = omega (arith, steps_then th (seen_of w r) l k.steps q, steps_are);
+        certificates = omega (arith, certificates_then th (seen_of w r) l few p, ap (λ x. x.certificates) counts_are, due_is);
+        steps = omega (arith, steps_then th (seen_of w r) l k.steps q, ap (λ x. x.steps) counts_are);
+        givens = omega (arith, givens_then r.counts.givens l o k.givens, ap (λ x. x.givens) counts_are);
+        ifs = omega (arith, ifs_then th (seen_of w r) l k.ifs q, ap (λ x. x.ifs) counts_are);
       };
     }
+
+-- A condition of a goal.
+
+condition_found : (th : Theory) (ts : List Tree) (a b : ℕ) (q : Pair) → Some q ≡ condition_for th ts a b
+    → (is_condition th ts a b ≡ true) × (q ≡ pair_at ts (a, b))
+condition_found th ts a b q e = go (is_condition th ts a b) refl e
+  where
+    go : (t : Bool) → is_condition th ts a b ≡ t → Some q ≡ (if t then Some (pair_at ts (a, b)) else None) → (is_condition th ts a b ≡ true) × (q ≡ pair_at ts (a, b))
+    go true x e = (x, same_Some q (pair_at ts (a, b)) e)
+    go false x e = absurd (none-some q (sym e))
+
+after_given_line : (n m : Now) (p : ℕ × ℕ) (t : ReadTable) → next_given n p ≡ Some m → is_open t ≡ false → IsInStep m t
+after_given_line (Opened gs) m p t e o = let q = option_map_some Opened (add_given gs p) m e in subst (λ n. IsInStep n t) q.2 o
+after_given_line _ m p t e o = absurd (cc)
+
+module _ (w : List ℕ) (r s : LineReader) (a b : ℕ) (q : Pair) (k : IsReader r) (second : (r.counts.version == 2) ≡ true)
+    (found : Some q ≡ condition_for r.theory.now (terms_in r.table) a b)
+    (moves : (ts : List Tree) → IsKept ts r.machine → q ≡ pair_at ts (a, b) → Moves true ts r.machine (given_line a b) s.machine) where
+  passes : passes_at r.theory.now (seen_of w r) (given_line a b) ≡ true
+  passes = and_from (r.counts.version == 2) (is_condition r.theory.now (terms_in r.table) a b) second
+      (condition_found r.theory.now (terms_in r.table) a b q found).0
+
+  moved : MachineTakes (terms_in r.table) r.machine (given_line a b) s.machine
+  moved = moves (terms_in r.table) k.kept (condition_found r.theory.now (terms_in r.table) a b q found).1
+
+  pub given_over : condition_limit ≤ r.counts.givens → Handles Limit w r (given_line a b) s
+  given_over h = (now_of s.machine, moved.next, passes, lt-ltb condition_limit (r.counts.givens + 1) (omega (arith, h)))
+
+  pub given_handled : r.counts.givens < condition_limit → s.theory.now ≡ r.theory.now → s.counts ≡ record r.counts { givens = r.counts.givens + 1 }
+      → terms_in s.table ≡ terms_in r.table → is_open s.table ≡ false → Handles Yes w r (given_line a b) s
+  given_handled h t n us o =
+      let th : Theory = r.theory.now in
+      let places : s.machine.places.items ≡ r.machine.places.items = moved.places in
+      let due_is : s.counts.due ≡ r.counts.due = ap (λ x. x.due) n in
+      record {
+        next = moved.next;
+        passes = passes;
+        within = le-ltb condition_limit (r.counts.givens + 1) (omega (arith, h));
+        seen = same_seen (after th (seen_of w r) (given_line a b)) (counted_in (seen_of w s)) (terms_in s.table) s.machine.places.items
+            (ap (λ x. counted x.version x.certificates x.steps x.givens x.ifs) n) us places;
+        queue = moved.queue;
+        reader = record {
+          kept = subst (λ ts. IsKept ts s.machine) (sym us) moved.kept;
+          set = subst (λ x. IsSet x s.machine.places.items) (sym t) (subst (λ x. IsSet th x) (sym places) k.set);
+          step = after_given_line (now_of r.machine) (now_of s.machine) (a, b) s.table moved.next o;
+          due = due_is ∙ k.due ∙ ap (λ x. length (due x r.machine.places.items)) (sym t) ∙ ap (λ x. length (due s.theory.now x)) (sym places);
+          certificates = omega (arith, k.certificates, ap (λ x. x.certificates) n, due_is);
+          steps = omega (arith, k.steps, ap (λ x. x.steps) n);
+          givens = omega (arith, h, ap (λ x. x.givens) n);
+          ifs = omega (arith, k.ifs, ap (λ x. x.ifs) n);
+        };
+      }

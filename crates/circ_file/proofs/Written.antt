@@ -1,17 +1,18 @@
 -- Text that is written line by line.
-use Rattle.std.specs.Prelude.{◌≡◌, ℕ, ◌+◌, ◌<◌, ◌≤◌, zero, suc, List, [], ◌∷◌, ◌++◌, length, map, refl}
+use Rattle.std.specs.Prelude.{◌≡◌, ℕ, ◌+◌, ◌<◌, ◌≤◌, zero, suc, List, [], ◌∷◌, ◌++◌, length, map, codes, refl}
 use Rattle.std.specs.List.{AllByRecursion}
 use Rattle.std.proofs.Common.{ap, sym, subst, ◌∙◌, arith, append_assoc, drop, get_or}
 use Rattle.std.proofs.lemmas.List.{drop_all}
 use Rattle.std.proofs.lemmas.Option.{slice_get-get_or, get_or_from_slice_get}
 use Rattle.circ_term.proofs.Within.{drop_read}
+use Rattle.circ_proof.specs.Plain.{LinkOf, ChainOf, ChainsOf, Equation_link, Hypothesis_link, Assumption_link, Content_link, no_chain, more_chains, row_of}
 use Rattle.circ_proof.specs.Plain.{plain_why, plain_whys}
 use Rattle.circ_proof.specs.declared.links.Why.{Why}
-use Rattle.circ_proof.specs.Rules.{ProofStep, Simplify, Reduce, Derive, Done}
+use Rattle.circ_proof.specs.Rules.{ProofStep, Simplify, Reduce, Derive, Cases, Done}
 use Rattle.circ_proof.specs.Proof.{IsWhyFor, AreWhysFor, IsEnded}
-use Rattle.circ_line.specs.Line.{Line, simplify_line, reduce_line, derive_line, done_line}
-use Rattle.circ_line.specs.Text.{line_text}
-use Rattle.circ_grammar.specs.Grammar.{lines_of, chain_lines, why_lines, step_lines}
+use Rattle.circ_line.specs.Line.{Line, simplify_line, reduce_line, derive_line, cases_line, done_line, same_line, if_line, left_line, right_line}
+use Rattle.circ_line.specs.Text.{joined, link_words, line_text}
+use Rattle.circ_grammar.specs.Grammar.{bare, lines_of, left_lines, right_lines, left_row, right_row, conds_lines, chain_lines, why_lines, step_lines}
 use Rattle.circ_grammar.specs.FirstBad.{file_text}
 use Rattle.circ_proof_text.specs.ProofText.{without_done}
 use Rattle.circ_file.specs.Writing.{Writes, lines_of_step}
@@ -56,17 +57,19 @@ ended_lines [] e k = absurd e
 ended_lines (Simplify c ∷ []) e k = absurd (cc)
 ended_lines (Reduce w ∷ []) e k = absurd (cc)
 ended_lines (Derive ∷ []) e k = absurd (cc)
+ended_lines (Cases u ∷ []) e k = absurd (cc)
 ended_lines (Done ∷ []) e k = refl
 ended_lines (Simplify c ∷ t ∷ ss) e k = ap (λ ls. simplify_line ∷ chain_lines c ls) (ended_lines (t ∷ ss) e.1 k)
 ended_lines (Reduce w ∷ t ∷ ss) e k = ap (λ ls. reduce_line ∷ why_lines w ls) (ended_lines (t ∷ ss) e.1 k)
 ended_lines (Derive ∷ t ∷ ss) e k = ap (λ ls. derive_line ∷ ls) (ended_lines (t ∷ ss) e.1 k)
+ended_lines (Cases u ∷ t ∷ ss) e k = ap (λ ls. cases_line u ∷ ls) (ended_lines (t ∷ ss) e.1 k)
 ended_lines (Done ∷ t ∷ ss) e k = absurd (e.0 refl)
 
 -- the whys of a split
-pub why_for : (count splits : ℕ) (ws : List Why) (i : ℕ) (w : Why) → AreWhysFor count splits (plain_whys ws) → i < length ws → w ≡ get_or ws i w
+pub why_for : (count splits : ℕ) (ws : List (Why ℕ)) (i : ℕ) (w : Why ℕ) → AreWhysFor count splits (plain_whys ws) → i < length ws → w ≡ get_or ws i w
     → IsWhyFor count splits (plain_why w)
 why_for count splits [] i w a h e = absurd (omega arith)
-why_for count splits (x ∷ ws) zero w a h e = let P : Why → Type 0 = λ y. IsWhyFor count splits (plain_why y) in subst P (sym e) a.0
+why_for count splits (x ∷ ws) zero w a h e = let P : Why ℕ → Type 0 = λ y. IsWhyFor count splits (plain_why y) in subst P (sym e) a.0
 why_for count splits (x ∷ ws) (suc i) w a h e = why_for count splits ws i w a.1 (omega arith) e
 
 -- an element of a list has what all of them have
@@ -75,3 +78,33 @@ pub mapped_at : {A B : Type 0} (P : B → Type 0) (f : A → B) (xs : List A) (i
 mapped_at P f [] i x a h e = absurd (omega arith)
 mapped_at {A = A} P f (y ∷ xs) zero x a h e = let Q : A → Type 0 = λ z. P (f z) in subst Q (sym e) a.0
 mapped_at P f (y ∷ xs) (suc i) x a h e = mapped_at P f xs i x a.1 (omega arith) e
+
+-- a link's line has the same text with the chains of its conditions as without
+pub bare_text : (side : LinkOf ℕ → Line) (h : (l m : LinkOf ℕ) → link_words l ≡ link_words m → line_text (side l) ≡ line_text (side m)) (l : LinkOf ℕ)
+    → line_text (side l) ≡ line_text (side (bare l))
+bare_text side h (Equation_link n w p ts cs) = h (Equation_link n w p ts cs) (Equation_link n w p ts no_chain) refl
+bare_text side h (Hypothesis_link n w p ts cs) = h (Hypothesis_link n w p ts cs) (Hypothesis_link n w p ts no_chain) refl
+bare_text side h (Assumption_link n w p) = refl
+bare_text side h (Content_link f p t) = refl
+
+pub left_written : (old new : List ℕ) (l : LinkOf ℕ) → Writes old new (λ later. left_line l ∷ later) → Writes old new (λ later. left_line (bare l) ∷ later)
+left_written old new l w later =
+    w later ∙ ap (λ t. old ++ (t ++ 10 ∷ file_text later)) (bare_text left_line (λ l m e. ap (λ ws. joined 32 (codes "left" ∷ ws)) e) l)
+
+pub right_written : (old new : List ℕ) (l : LinkOf ℕ) → Writes old new (λ later. right_line l ∷ later) → Writes old new (λ later. right_line (bare l) ∷ later)
+right_written old new l w later =
+    w later ∙ ap (λ t. old ++ (t ++ 10 ∷ file_text later)) (bare_text right_line (λ l m e. ap (λ ws. joined 32 (codes "right" ∷ ws)) e) l)
+
+-- the chains of conditions, one after the other
+left_row_is : (ls : List (LinkOf ℕ)) (k : List Line) → left_row (row_of ls) k ≡ lines_of left_lines ls k
+left_row_is [] k = refl
+left_row_is (l ∷ ls) k = ap (left_lines l) (left_row_is ls k)
+
+right_row_is : (ls : List (LinkOf ℕ)) (k : List Line) → right_row (row_of ls) k ≡ lines_of right_lines ls k
+right_row_is [] k = refl
+right_row_is (l ∷ ls) k = ap (right_lines l) (right_row_is ls k)
+
+pub conds_one : (c : ChainOf ℕ) (cs : ChainsOf ℕ) (k : List Line)
+    → conds_lines (more_chains (row_of c.left) (row_of c.right) cs) k ≡ if_line ∷ chain_lines c (same_line ∷ conds_lines cs k)
+conds_one c cs k = ap (λ r. if_line ∷ r) (left_row_is c.left (right_row (row_of c.right) (same_line ∷ conds_lines cs k))
+    ∙ ap (lines_of left_lines c.left) (right_row_is c.right (same_line ∷ conds_lines cs k)))

@@ -1,7 +1,7 @@
 -- What it is to decode bytes.
 use Rattle.std.specs.Prelude.{List, ℕ, map, Result, Ok, Err}
 use Rattle.circ_theory.specs.Theory.{Theory}
-use Rattle.circ_proof.specs.PlainProof.{plain_proof, plain_block, plain_steps, plain_certificates}
+use Rattle.circ_proof.specs.PlainProof.{plain_proof, plain_names, plain_block, plain_steps, plain_certificates}
 use Rattle.circ_proof.specs.declared.proof.Proof.{Proof as CodeProof}
 use Rattle.circ_proof_text.specs.ProofText.{ReadsAsProof}
 use Rattle.circ_proof_text.specs.Parts.{Gathered}
@@ -22,6 +22,6 @@ gathered_of g = record {
   certificates = plain_certificates g.proof.certificates.items;
   blocks = map plain_block g.proof.blocks.items;
   goals = g.goals.items;
-  names = g.names.items;
+  names = map plain_names g.names.items;
   steps = plain_steps g.steps.items;
 }

@@ -45,6 +45,10 @@ whole_lines_in f = f.lines
 abbrev pub fault_of : FileReader → Option FileFault
 fault_of f = f.fault
 
+-- the version that the first line has named
+abbrev pub version_in : FileReader → ℕ
+version_in f = f.reader.counts.version
+
 abbrev pub waiting_in : FileReader → List Part
 waiting_in f = queue_of f.reader.machine
 
@@ -117,7 +121,7 @@ abbrev pub Hands : Option CodePart → Theory → List ℕ → List Part → Fil
 Hands None th x handed f = (waiting_in f ≡ []) × Stands th x handed f
 Hands (Some part) th x handed f = Stands th x (handed ++ plain_part part ∷ []) f
 
--- The text is that of a proof, of which the parts handed out and those that are whole are all; or this is its fault.
+-- The text is that of a proof of this version, of which the parts handed out and those that are whole are all; or this is its fault.
 abbrev pub Ends : Result (Unit {0}) FileFault → Theory → List ℕ → List Part → FileReader → Type 0
-Ends (Ok _) th x handed f = (p : Proof) × ReadsAsProof th x p × (handed ++ waiting_in f ≡ parts_of p)
+Ends (Ok _) th x handed f = (p : Proof) × ReadsAsProof th x p × (handed ++ waiting_in f ≡ parts_of p) × (p.version ≡ version_in f)
 Ends (Err e) th x handed f = FaultIs th x e × (e ≢ Memory)

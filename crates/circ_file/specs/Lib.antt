@@ -1,4 +1,5 @@
 pub mod Splits
+pub mod Conds
 pub mod View
 pub mod Adding
 pub mod Counting

@@ -1,9 +1,11 @@
 -- What contracts see of a reader of whole lines, and what it does with the next one.
 use Rattle.std.specs.Prelude.{◌≡◌, ◌⊎◌, ◌≤◌, ℕ, Bool, true, false, List, ◌++◌, length, None, Some}
 use Rattle.circ_special.specs.Special.{IsSet}
-use Rattle.circ_line.specs.Line.{Line, table_line, goal_line}
+use Rattle.circ_line.specs.Line.{Line, table_line, goal_line, given_line}
 use Rattle.circ_line.specs.Text.{line_text, IsInRange}
 use Rattle.circ_grammar.specs.Now.{Now, Begin, Tabling, Opened, next_now}
+use Rattle.circ_theory.specs.Limits.{condition_limit}
+use Rattle.circ_proof.specs.Nesting.{nesting_limit}
 use Rattle.circ_proof.specs.Certified.{due}
 use Rattle.circ_proof.specs.Proof.{step_limit}
 use Rattle.circ_proof_text.specs.Checks.{Seen, after, passes_at, limit_at}
@@ -17,10 +19,13 @@ use Rattle.circ_file.specs.declared.lines.LineReader.{LineReader}
 -- What the lines so far have given, where the open splits want these numbers of whys.
 abbrev pub seen_of : (wanted : List ℕ) → LineReader → Seen
 seen_of wanted r = record {
+  version = r.counts.version;
   terms = terms_in r.table;
   places = r.machine.places.items;
   certificates = r.counts.certificates;
   steps = r.counts.steps;
+  givens = r.counts.givens;
+  ifs = r.counts.ifs;
   wanted = wanted;
 }
 
@@ -39,11 +44,14 @@ pub record IsReader (r : LineReader) : Type 0 where
   pub due : r.counts.due ≡ length (due r.theory.now r.machine.places.items)
   pub certificates : r.counts.certificates ≤ r.counts.due
   pub steps : r.counts.steps ≤ step_limit
+  pub givens : r.counts.givens ≤ condition_limit
+  pub ifs : r.counts.ifs ≤ nesting_limit
 
--- a line that is not of the table, and no goal
+-- a line that is not of the table, and no goal and no condition of one
 abbrev pub IsOther : Line → Type 0
 IsOther (table_line l) = ⊥
 IsOther (goal_line a b) = ⊥
+IsOther (given_line a b) = ⊥
 IsOther _ = Unit {0}
 
 -- The line is the next one, and the machine and the table are as after it, with the same terms; or it cannot come here.

@@ -3,7 +3,8 @@ ghost use Rattle.std.specs.Prelude.{◌≡◌, nat_lt};
 ghost use Rattle.std.specs.List.{list_all};
 ghost use Rattle.circ_special.specs.Special.{place, comes_before};
 ghost use Rattle.circ_proof.specs.Plain.{plain_link};
-ghost use Rattle.circ_proof_text.specs.Checks.{is_next, is_place, is_goal, is_in_table, path_of};
+ghost use Rattle.circ_proof_text.specs.Checks.{is_next, is_place, is_goal, is_condition};
+ghost use Rattle.circ_proof_text.specs.Checks.{is_in_table, path_of};
 
 use circ_proof::Link;
 use circ_special::Place;
@@ -50,6 +51,19 @@ pub(crate) fn is_goal(table: &Table, left: u32, right: u32) -> bool
     match (table.sort(left), table.sort(right)) {
         (Some(left), Some(right)) => right == left,
         _ => false,
+    }
+}
+
+/// The same, and the sort is visible.
+pub(crate) fn is_condition(theory: &Theory, table: &Table, left: u32, right: u32) -> bool
+    ensures { result ≡ is_condition theory.now table.now left right }
+{
+    if !is_goal(table, left, right) {
+        return false;
+    }
+    match table.sort(left) {
+        Some(sort) => !theory.is_hidden(sort),
+        None => false,
     }
 }
 

@@ -8,7 +8,9 @@ ghost use Rattle.circ_special.specs.Special.{place};
 ghost use Rattle.circ_proof.specs.Certified.{derivatives_at, due};
 ghost use Rattle.circ_theory.specs.Fresh.{derivatives_of};
 ghost use Rattle.circ_file.specs.View.{places_with};
-ghost use Rattle.circ_file.specs.Counting.{certificates_with, steps_with};
+ghost use Rattle.circ_file.specs.Counting.{certificates_with, steps_with, version_with};
+ghost use Rattle.circ_file.specs.Counting.{givens_with, ifs_with};
+ghost use Rattle.circ_file.specs.Lines.{IsOther};
 
 use circ_line::Line;
 use circ_theory::Theory;
@@ -18,8 +20,14 @@ use circ_theory::Theory;
 pub(crate) struct Counts {
     /// How many certificates are due for the places.
     pub(crate) due: u64,
+    /// The version that the first line names, 0 before it.
+    pub(crate) version: u8,
     pub(crate) certificates: u64,
     pub(crate) steps: u64,
+    /// How many conditions the last goal has.
+    pub(crate) givens: u64,
+    /// How many conditions of links are open.
+    pub(crate) ifs: u64,
 }
 
 impl Counts {
@@ -27,11 +35,17 @@ impl Counts {
         ensures due { result.due ≡ 0 }
         ensures certificates { result.certificates ≡ 0 }
         ensures steps { result.steps ≡ 0 }
+        ensures version { result.version ≡ 0 }
+        ensures givens { result.givens ≡ 0 }
+        ensures ifs { result.ifs ≡ 0 }
     {
         Counts {
             due: 0,
+            version: 0,
             certificates: 0,
             steps: 0,
+            givens: 0,
+            ifs: 0,
         }
     }
 
@@ -40,17 +54,28 @@ impl Counts {
         requires certificates { self.certificates < 2 ^ 63 }
         requires steps { self.steps < 2 ^ 63 }
         requires due { self.due < 2 ^ 63 }
+        requires ifs { self.ifs < 2 ^ 63 }
+        requires other { IsOther (plain_line line.now) }
         ensures due { (gs : List Place) → self.due ≡ length (due theory.now gs) →
             result.due ≡ length (due theory.now (places_with gs (plain_line line.now))) }
         ensures certificates { result.certificates ≡
             certificates_with self.certificates (plain_line line.now) }
         ensures steps { result.steps ≡ steps_with self.steps (plain_line line.now) }
+        ensures version { result.version ≡ version_with self.version (plain_line line.now) }
+        ensures givens { result.givens ≡ givens_with self.givens (plain_line line.now) }
+        ensures ifs { result.ifs ≡ ifs_with self.ifs (plain_line line.now) }
     {
         let mut counts = self;
         match line {
             Line::Place { op, .. } => counts.due += derivative_count_at(theory, *op),
+            Line::Head { version } => counts.version = *version,
             Line::Certificate => counts.certificates += 1,
-            Line::Simplify | Line::Reduce | Line::Derive | Line::Done => counts.steps += 1,
+            Line::Simplify | Line::Reduce | Line::Derive | Line::Cases { .. } | Line::Done => {
+                counts.steps += 1;
+                counts.givens = 0;
+            }
+            Line::If => counts.ifs += 1,
+            Line::Same => counts.ifs = counts.ifs.saturating_sub(1),
             _ => {}
         }
         counts

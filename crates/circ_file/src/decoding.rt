@@ -10,7 +10,7 @@ ghost use Rattle.circ_file.specs.Decoding.{gathered_of, Decodes};
 
 use crate::fault::FileFault;
 use crate::reader::FileReader;
-use circ_proof::{Block, Proof, Step};
+use circ_proof::{Block, GoalNames, Proof, Step};
 use circ_special::Gamma;
 use circ_table::Part;
 use circ_theory::{Goal, Theory};
@@ -43,21 +43,27 @@ fn decode_by(
     if let Err(fault) = reader.end() {
         return Err(fault);
     }
-    match gather(alloc, theory, reader) {
+    let version = reader.version();
+    match gather(alloc, theory, version, reader) {
         Ok(proof) => Ok(proof),
         Err(_) => Err(FileFault::Memory),
     }
 }
 
-// The proof whose parts wait.
-fn gather(alloc: Global, theory: &Theory, reader: &mut FileReader) -> Result<Proof, AllocError>
+// The proof of the version whose parts wait.
+fn gather(
+    alloc: Global,
+    theory: &Theory,
+    version: u8,
+    reader: &mut FileReader,
+) -> Result<Proof, AllocError>
     requires sound { IsSound reader.old }
     requires fault { reader.old.fault ≡ None }
     ensures { IfOk result (λ p. (q : PlainProof) →
         gather_all nothing_gathered (queue_of reader.old.reader.machine) ≡ gathered q →
-        plain_proof p ≡ q) }
+        q.version ≡ version → plain_proof p ≡ q) }
 {
-    let mut gathering = Gathering::new(alloc, theory);
+    let mut gathering = Gathering::new(alloc, theory, version);
     while let Some(part) = reader.next() {
         gathering.take(part)?;
     }
@@ -70,17 +76,19 @@ struct Gathering {
     alloc: Global,
     proof: Proof,
     goals: Vec<Goal>,
-    names: Vec<(u32, u32)>,
+    names: Vec<GoalNames>,
     steps: Vec<Step>,
 }
 
 impl Gathering {
-    fn new(alloc: Global, theory: &Theory) -> Gathering
-        ensures { gathered_of result ≡ nothing_gathered }
+    fn new(alloc: Global, theory: &Theory, version: u8) -> Gathering
+        ensures gathered { gathered_of result ≡ nothing_gathered }
+        ensures version { result.proof.version ≡ version }
     {
         Gathering {
             alloc,
             proof: Proof {
+                version,
                 table: Vec::new(alloc),
                 gamma: no_places(alloc, theory),
                 certificates: Vec::new(alloc),
@@ -94,7 +102,8 @@ impl Gathering {
 
     // Takes the next part.
     fn take(&mut self, part: Part) -> Result<(), AllocError>
-        ensures { IfOk result (λ _. gathered_of self.new ≡
+        ensures version { self.new.proof.version ≡ self.old.proof.version }
+        ensures gathered { IfOk result (λ _. gathered_of self.new ≡
             gather (gathered_of self.old) (plain_part part)) }
     {
         match part {
@@ -116,7 +125,8 @@ impl Gathering {
 
     // The block is whole by its last step.
     fn end_block(&mut self) -> Result<(), AllocError>
-        ensures { IfOk result (λ _. gathered_of self.new ≡ end_block (gathered_of self.old)) }
+        ensures version { self.new.proof.version ≡ self.old.proof.version }
+        ensures gathered { IfOk result (λ _. gathered_of self.new ≡ end_block (gathered_of self.old)) }
     {
         self.steps.push(Step::Done)?;
         let goals = mem::replace(&mut self.goals, Vec::new(self.alloc));

@@ -1,22 +1,23 @@
 //! Proofs as text is written.
-ghost use Rattle.std.specs.Prelude.{◌≡◌, ◌++◌, ℕ, List, map, IfOk, OnOk};
+ghost use Rattle.std.specs.Prelude.{◌≡◌, ◌++◌, ℕ, map, IfOk, OnOk};
 ghost use Rattle.std.specs.List.{AllByRecursion};
-ghost use Rattle.circ_term.specs.Tree.{Tree};
-ghost use Rattle.circ_proof.specs.Plain.{plain_links, plain_chain, plain_why, plain_whys};
+ghost use Rattle.circ_proof.specs.Plain.{plain_link, plain_links, plain_chain, plain_chains};
+ghost use Rattle.circ_proof.specs.Plain.{plain_why, plain_whys};
 ghost use Rattle.circ_proof.specs.PlainProof.{plain_proof, plain_block, plain_step, plain_steps};
-ghost use Rattle.circ_proof.specs.PlainProof.{plain_certificates};
-ghost use Rattle.circ_proof.specs.Proof.{IsWhyFor, AreWhysFor, IsStepFor, IsBlockFor};
-ghost use Rattle.circ_grammar.specs.Grammar.{lines_of, place_lines, goal_lines, left_lines};
+ghost use Rattle.circ_proof.specs.PlainProof.{plain_names, plain_certificates};
+ghost use Rattle.circ_proof.specs.Proof.{IsWhyFor, AreWhysFor, IsStepFor};
+ghost use Rattle.circ_grammar.specs.Grammar.{lines_of, place_lines, given_lines, goal_lines};
+ghost use Rattle.circ_grammar.specs.Grammar.{left_lines, link_conds, conds_lines};
 ghost use Rattle.circ_grammar.specs.Grammar.{right_lines, chain_lines, why_lines, whys_lines};
 ghost use Rattle.circ_grammar.specs.Grammar.{certificate_lines, block_lines};
 ghost use Rattle.circ_proof_text.specs.ProofText.{place_numbers, block_numbers, proof_text};
 ghost use Rattle.circ_file.specs.Writing.{Writes, lines_of_step};
-ghost use Rattle.circ_file.specs.Encoding.{IsProof};
+ghost use Rattle.circ_file.specs.Encoding.{HasSteps, IsProof};
 
 use crate::numbering::put_table;
 use crate::writing::{put_lent_line, put_line, put_made_line};
 use circ_line::{LentLine, Line};
-use circ_proof::{Block, Chain, Link, Proof, Step, Why};
+use circ_proof::{Block, Chain, GoalNames, Link, Proof, Step, Why};
 use circ_special::{Gamma, Place};
 use std::alloc::{AllocError, Global};
 
@@ -36,7 +37,8 @@ fn put_proof(alloc: Global, proof: &Proof, out: &mut Vec<u8>) -> Result<(), Allo
     ensures { OnOk result (out.new.items ≡
         out.old.items ++ proof_text (plain_proof proof.now)) }
 {
-    put_line(&Line::Head, out)?;
+    let version = proof.version;
+    put_made_line(Line::Head { version }, out)?;
     put_table(alloc, proof.table.as_slice(), out)?;
     put_places(proof.gamma.places(), out)?;
     put_certificates(proof.certificates.as_slice(), out)?;
@@ -67,8 +69,8 @@ fn put_certificates(certificates: &[Vec<Link>], out: &mut Vec<u8>) -> Result<(),
 }
 
 fn put_blocks(blocks: &[Block], out: &mut Vec<u8>) -> Result<(), AllocError>
-    requires { (table : List Tree) ×
-        AllByRecursion (IsBlockFor table) (map plain_block blocks.now) }
+    requires { (count : ℕ) ×
+        AllByRecursion (HasSteps count) (map plain_block blocks.now) }
     ensures { OnOk result (Writes out.old.items out.new.items
         (lines_of block_lines (map block_numbers (map plain_block blocks.now)))) }
 {
@@ -79,7 +81,7 @@ fn put_blocks(blocks: &[Block], out: &mut Vec<u8>) -> Result<(), AllocError>
 }
 
 fn put_block(block: &Block, out: &mut Vec<u8>) -> Result<(), AllocError>
-    requires { (table : List Tree) × IsBlockFor table (plain_block block.now) }
+    requires { (count : ℕ) × HasSteps count (plain_block block.now) }
     ensures { OnOk result (Writes out.old.items out.new.items
         (block_lines (block_numbers (plain_block block.now)))) }
 {
@@ -88,13 +90,31 @@ fn put_block(block: &Block, out: &mut Vec<u8>) -> Result<(), AllocError>
     put_steps(block.steps.as_slice(), out)
 }
 
-// Goals, by the numbers of their sides.
-fn put_goals(names: &[(u32, u32)], out: &mut Vec<u8>) -> Result<(), AllocError>
-    ensures { OnOk result (Writes out.old.items out.new.items (lines_of goal_lines names.now)) }
+// Goals, by the numbers of their sides and of those of their conditions.
+fn put_goals(names: &[GoalNames], out: &mut Vec<u8>) -> Result<(), AllocError>
+    ensures { OnOk result (Writes out.old.items out.new.items
+        (lines_of goal_lines (map plain_names names.now))) }
 {
-    for (left, right) in names {
+    for goal in names {
+        put_goal(goal, out)?;
+    }
+    Ok(())
+}
+
+fn put_goal(goal: &GoalNames, out: &mut Vec<u8>) -> Result<(), AllocError>
+    ensures { OnOk result (Writes out.old.items out.new.items (goal_lines (plain_names goal.now))) }
+{
+    let (left, right) = (goal.left, goal.right);
+    put_made_line(Line::Goal { left, right }, out)?;
+    put_givens(goal.conds.as_slice(), out)
+}
+
+fn put_givens(conds: &[(u32, u32)], out: &mut Vec<u8>) -> Result<(), AllocError>
+    ensures { OnOk result (Writes out.old.items out.new.items (lines_of given_lines conds.now)) }
+{
+    for (left, right) in conds {
         let (left, right) = (*left, *right);
-        put_made_line(Line::Goal { left, right }, out)?;
+        put_made_line(Line::Given { left, right }, out)?;
     }
     Ok(())
 }
@@ -125,6 +145,7 @@ fn put_step(step: &Step, out: &mut Vec<u8>) -> Result<(), AllocError>
             put_why(why, out)
         }
         Step::Derive => put_line(&Line::Derive, out),
+        Step::Cases { term } => put_made_line(Line::Cases { term: *term }, out),
         Step::Done => put_line(&Line::Done, out),
     }
 }
@@ -162,6 +183,8 @@ fn put_whys(whys: &[Why], out: &mut Vec<u8>) -> Result<(), AllocError>
     Ok(())
 }
 
+// The links on both sides, each with the chains of its conditions.
+#[cycle(link)]
 fn put_chain(chain: &Chain, out: &mut Vec<u8>) -> Result<(), AllocError>
     ensures { OnOk result (Writes out.old.items out.new.items
         (chain_lines (plain_chain chain.now))) }
@@ -170,22 +193,52 @@ fn put_chain(chain: &Chain, out: &mut Vec<u8>) -> Result<(), AllocError>
     put_right_links(chain.right.as_slice(), out)
 }
 
+#[cycle(link)]
 fn put_left_links(links: &[Link], out: &mut Vec<u8>) -> Result<(), AllocError>
     ensures { OnOk result (Writes out.old.items out.new.items
         (lines_of left_lines (plain_links links.now))) }
 {
     for link in links {
         put_lent_line(LentLine::Left { link }, out)?;
+        put_conds(link, out)?;
     }
     Ok(())
 }
 
+#[cycle(link)]
 fn put_right_links(links: &[Link], out: &mut Vec<u8>) -> Result<(), AllocError>
     ensures { OnOk result (Writes out.old.items out.new.items
         (lines_of right_lines (plain_links links.now))) }
 {
     for link in links {
         put_lent_line(LentLine::Right { link }, out)?;
+        put_conds(link, out)?;
+    }
+    Ok(())
+}
+
+// The chains of a link's conditions.
+#[cycle(link)]
+fn put_conds(link: &Link, out: &mut Vec<u8>) -> Result<(), AllocError>
+    ensures { OnOk result (Writes out.old.items out.new.items (link_conds (plain_link link.now))) }
+{
+    match link {
+        Link::Equation { conds, .. } => put_chains(conds.as_slice(), out),
+        Link::Hypothesis { conds, .. } => put_chains(conds.as_slice(), out),
+        Link::Assumption { .. } => Ok(()),
+        Link::Content { .. } => Ok(()),
+    }
+}
+
+#[cycle(link)]
+fn put_chains(chains: &[Chain], out: &mut Vec<u8>) -> Result<(), AllocError>
+    ensures { OnOk result (Writes out.old.items out.new.items
+        (conds_lines (plain_chains chains.now))) }
+{
+    for chain in chains {
+        put_line(&Line::If, out)?;
+        put_chain(chain, out)?;
+        put_line(&Line::Same, out)?;
     }
     Ok(())
 }

@@ -4,6 +4,7 @@
 #![tactic(auto)]
 
 mod checks;
+mod conds;
 mod counts;
 mod decoding;
 mod encoding;
@@ -30,6 +31,9 @@ const MOST_PROOF_STEPS: u64 = 100_000;
 
 /// The most splits inside one another.
 const MOST_SPLITS: usize = 8;
+
+/// The most conditions of a goal, and the most of links inside one another.
+const MOST_CONDITIONS: u64 = 8;
 
 /// The most entries of a path.
 const MOST_ENTRIES: usize = 1_000;

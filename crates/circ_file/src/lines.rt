@@ -1,10 +1,13 @@
 //! Whole lines, read one after the other.
-ghost use Rattle.std.specs.Prelude.{◌≡◌, ◌&&◌, List, ℕ, length, IfOk, []};
-ghost use Rattle.circ_line.specs.Line.{table_line, goal_line, certificate_line, block_line};
+ghost use Rattle.std.specs.Prelude.{◌≡◌, ◌==◌, ◌&&◌, List, ℕ, length, IfOk, []};
+ghost use Rattle.circ_line.specs.Line.{table_line, goal_line, given_line};
+ghost use Rattle.circ_line.specs.Line.{certificate_line, block_line};
+ghost use Rattle.circ_line.specs.Text.{IsInRange};
 ghost use Rattle.circ_line.specs.Plain.{plain_line, plain_table_line};
 ghost use Rattle.circ_grammar.specs.Now.{Begin};
 ghost use Rattle.circ_special.specs.Special.{place};
-ghost use Rattle.circ_proof_text.specs.Checks.{nothing, passes_at, limit_at, is_next, is_place};
+ghost use Rattle.circ_proof_text.specs.Checks.{nothing, passes_at, limit_at, is_next};
+ghost use Rattle.circ_proof_text.specs.Checks.{is_place};
 ghost use Rattle.circ_file.specs.View.{now_of, queue_of, splits_in, IsReady};
 ghost use Rattle.circ_file.specs.Lines.{IsReader, IsOther, seen_of, Advances, Handles};
 ghost use Rattle.circ_file.specs.Lines.{ReadsNext};
@@ -14,7 +17,7 @@ use crate::counts::Counts;
 use crate::machine::Machine;
 use crate::table::ReadTable;
 use crate::taken::Taken;
-use crate::{MOST_ENTRIES, MOST_PROOF_STEPS, MOST_SPLITS};
+use crate::{MOST_CONDITIONS, MOST_ENTRIES, MOST_PROOF_STEPS, MOST_SPLITS};
 use circ_line::{Line, TableLine, read_line};
 use circ_theory::Theory;
 use std::alloc::{AllocError, Global};
@@ -26,7 +29,7 @@ pub(crate) struct LineReader<'a> {
     pub(crate) theory: &'a Theory,
     pub(crate) machine: Machine,
     table: ReadTable,
-    counts: Counts,
+    pub(crate) counts: Counts,
 }
 
 impl<'a> LineReader<'a> {
@@ -64,6 +67,7 @@ impl<'a> LineReader<'a> {
 
     fn take(&mut self, line: Line) -> Result<Taken, AllocError>
         requires reader { IsReader self.old }
+        requires in_range { IsInRange (plain_line line) }
         ensures theory { self.new.theory.now ≡ self.old.theory.now }
         ensures taken { IfOk result (λ taken. (wanted : List ℕ) →
             length wanted ≡ splits_in (now_of self.old.machine) →
@@ -72,6 +76,7 @@ impl<'a> LineReader<'a> {
         match line {
             Line::Table { line } => self.take_table(&line),
             Line::Goal { left, right } => self.take_goal(left, right),
+            Line::Given { left, right } => self.take_given(left, right),
             line => self.take_other(line),
         }
     }
@@ -99,17 +104,45 @@ impl<'a> LineReader<'a> {
         if !self.machine.is_opened() {
             return Ok(Taken::Line);
         }
-        let Some(goal) = self.table.goal(left, right)? else {
+        let Some(goal) = self.table.goal(self.alloc, left, right)? else {
             return Ok(Taken::Line);
         };
         self.machine.put_goal(goal, left, right)?;
+        self.counts.givens = 0;
         Ok(Taken::Yes)
     }
 
-    // A line that is not of the table, and no goal.
+    // The condition of the last goal, of two terms of the table.
+    fn take_given(&mut self, left: u32, right: u32) -> Result<Taken, AllocError>
+        requires reader { IsReader self.old }
+        ensures theory { self.new.theory.now ≡ self.old.theory.now }
+        ensures taken { IfOk result (λ taken. (wanted : List ℕ) →
+            Handles taken wanted self.old (given_line left right) self.new) }
+    {
+        if !self.is_second() {
+            return Ok(Taken::Line);
+        }
+        if !self.machine.is_opened() {
+            return Ok(Taken::Line);
+        }
+        let Some(pair) = self.table.condition(self.theory, left, right)? else {
+            return Ok(Taken::Line);
+        };
+        if !self.machine.put_given(pair, left, right)? {
+            return Ok(Taken::Line);
+        }
+        if self.counts.givens >= MOST_CONDITIONS {
+            return Ok(Taken::Limit);
+        }
+        self.counts.givens += 1;
+        Ok(Taken::Yes)
+    }
+
+    // A line that is not of the table, and no goal and no condition of one.
     fn take_other(&mut self, line: Line) -> Result<Taken, AllocError>
         requires reader { IsReader self.old }
         requires other { IsOther (plain_line line) }
+        requires in_range { IsInRange (plain_line line) }
         ensures theory { self.new.theory.now ≡ self.old.theory.now }
         ensures taken { IfOk result (λ taken. (wanted : List ℕ) →
             length wanted ≡ splits_in (now_of self.old.machine) →
@@ -191,11 +224,20 @@ impl<'a> LineReader<'a> {
             Line::Place { op, arg } => self.is_next_place(*op, *arg),
             Line::Certificate => self.counts.certificates < self.counts.due,
             Line::Block => self.counts.certificates == self.counts.due,
+            Line::Cases { term } => self.is_second() && (*term as usize) < self.table.len(),
+            Line::If => self.is_second(),
             Line::Split { term, .. } => (*term as usize) < self.table.len(),
             Line::Left { link } => is_in_table(self.table.len(), link),
             Line::Right { link } => is_in_table(self.table.len(), link),
             _ => true,
         }
+    }
+
+    // Whether the lines may stand that version 1 leaves out.
+    fn is_second(&self) -> bool
+        ensures { result ≡ (self.now.counts.version == 2) }
+    {
+        self.counts.version == 2
     }
 
     fn is_next_place(&self, op: u32, arg: u32) -> bool
@@ -215,9 +257,10 @@ impl<'a> LineReader<'a> {
             result ≡ limit_at self.now.theory.now (seen_of wanted self.now) (plain_line line.now) }
     {
         match line {
-            Line::Simplify | Line::Reduce | Line::Derive | Line::Done => {
+            Line::Simplify | Line::Reduce | Line::Derive | Line::Cases { .. } | Line::Done => {
                 self.counts.steps >= MOST_PROOF_STEPS
             }
+            Line::If => self.counts.ifs >= MOST_CONDITIONS,
             Line::Split { .. } => self.machine.open_splits() >= MOST_SPLITS,
             Line::Left { link } => path_of(link).len() > MOST_ENTRIES,
             Line::Right { link } => path_of(link).len() > MOST_ENTRIES,

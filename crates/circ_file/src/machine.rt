@@ -7,13 +7,14 @@ ghost use Rattle.circ_line.specs.Line.{head_line, table_line, place_line, TableL
 ghost use Rattle.circ_line.specs.Line.{certificate_line, block_line, end_line};
 ghost use Rattle.circ_grammar.specs.Machine.{empty};
 ghost use Rattle.circ_grammar.specs.Now.{Begin, Ended, is_front, is_block, next_goal};
+ghost use Rattle.circ_grammar.specs.Now.{next_given};
 ghost use Rattle.circ_proof_text.specs.Parts.{Head};
 ghost use Rattle.circ_file.specs.View.{now_of, queue_of, plain_part, shown_front_parts};
 ghost use Rattle.circ_file.specs.View.{IsKept, Moves, Pops};
 ghost use Rattle.circ_file.specs.declared.machine.Mode.TheVariants.{Opened};
 
 use crate::splits::OpenSplit;
-use circ_proof::{Chain, Link};
+use circ_proof::{Chain, GoalNames, Link};
 use circ_special::{Gamma, Place};
 use circ_table::{Part, Table};
 use circ_theory::{Goal, Theory};
@@ -32,6 +33,7 @@ pub(crate) enum Mode {
     Stepping,
     Simplifying,
     Reducing,
+    Joining,
     Closed,
     Ended,
 }
@@ -48,11 +50,17 @@ pub(crate) struct Machine {
     /// The goals of a block.
     pub(crate) goals: Vec<Goal>,
     /// The numbers of their sides.
-    pub(crate) names: Vec<(u32, u32)>,
+    pub(crate) names: Vec<GoalNames>,
     /// The links of a Simplify, or of the innermost reason.
     pub(crate) chain: Chain,
     /// The splits that wait for reasons, the innermost last.
     pub(crate) splits: Vec<OpenSplit>,
+    /// What the conditions of links that are open belong to, in `Mode::Joining`.
+    pub(crate) base: Mode,
+    /// The chains of those that the innermost is inside, the outermost first.
+    pub(crate) conds: Vec<Chain>,
+    /// The chain of the innermost.
+    pub(crate) cond: Chain,
     pub(crate) queue: VecDeque<Part>,
 }
 
@@ -73,13 +81,16 @@ impl Machine {
             names: Vec::new(alloc),
             chain: empty_chain(alloc),
             splits: Vec::new(alloc),
+            base: Mode::Begin,
+            conds: Vec::new(alloc),
+            cond: empty_chain(alloc),
             queue: VecDeque::new(alloc),
         }
     }
 
     pub(crate) fn on_head(&mut self) -> bool
-        ensures { (ts : List Tree) → IsKept ts self.old →
-            Moves result ts self.old head_line self.new }
+        ensures { (ts : List Tree) (v : ℕ) → IsKept ts self.old →
+            Moves result ts self.old (head_line v) self.new }
     {
         match self.mode {
             Mode::Begin => {
@@ -159,6 +170,7 @@ impl Machine {
     pub(crate) fn is_opened(&self) -> bool
         ensures yes { result ≡ true → self.now.mode ≡ Opened }
         ensures no { (a b : ℕ) → result ≡ false → next_goal (now_of self.now) a b ≡ None }
+        ensures given { (p : ℕ × ℕ) → result ≡ false → next_given (now_of self.now) p ≡ None }
     {
         matches!(self.mode, Mode::Opened)
     }

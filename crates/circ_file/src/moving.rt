@@ -3,7 +3,7 @@ ghost use Rattle.std.specs.Prelude.{◌≡◌, List, IfOk};
 ghost use Rattle.circ_term.specs.Tree.{Tree};
 ghost use Rattle.circ_line.specs.Plain.{plain_line};
 ghost use Rattle.circ_file.specs.View.{now_of, IsKept, Moves, IsReady, IsFree, IsInside};
-ghost use Rattle.circ_file.specs.View.{splits_in};
+ghost use Rattle.circ_file.specs.View.{now_outside, splits_in};
 
 use crate::machine::{Machine, Mode};
 use circ_line::Line;
@@ -19,7 +19,7 @@ impl Machine {
             Moves taken ts self.old (plain_line line) self.new) }
     {
         match line {
-            Line::Head => Ok(self.on_head()),
+            Line::Head { .. } => Ok(self.on_head()),
             Line::Place { op, arg } => self.on_place(Place {
                 op,
                 arg: arg as u16,
@@ -32,6 +32,7 @@ impl Machine {
     // A line of a step or of a certificate.
     fn take_inside(&mut self, line: Line) -> Result<bool, AllocError>
         requires inside { IsInside (plain_line line) }
+        requires ready { IsReady (plain_line line) }
         ensures { IfOk result (λ taken. (ts : List Tree) → IsKept ts self.old →
             Moves taken ts self.old (plain_line line) self.new) }
     {
@@ -40,9 +41,11 @@ impl Machine {
             Line::Right { link } => self.on_right(link),
             Line::Same => self.on_same(),
             Line::Split { term, count } => self.on_split(term, count),
+            Line::If => self.on_if(),
             Line::Simplify => self.on_simplify(),
             Line::Reduce => self.on_reduce(),
             Line::Derive => self.on_derive(),
+            Line::Cases { term } => self.on_cases(term),
             Line::Done => self.on_done(),
             _ => Ok(false),
         }
@@ -53,6 +56,17 @@ impl Machine {
         ensures { result ≡ splits_in (now_of self.now) }
     {
         match self.mode {
+            Mode::Reducing => self.splits.len(),
+            Mode::Joining => self.splits_outside(),
+            _ => 0,
+        }
+    }
+
+    // The same around the conditions that are open.
+    fn splits_outside(&self) -> usize
+        ensures { result ≡ splits_in (now_outside self.now.base self.now) }
+    {
+        match self.base {
             Mode::Reducing => self.splits.len(),
             _ => 0,
         }

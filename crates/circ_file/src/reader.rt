@@ -13,7 +13,7 @@ ghost use Rattle.circ_file.specs.View.{now_of, queue_of, splits_in, Pops};
 ghost use Rattle.circ_file.specs.Lines.{IsReader, ReadsNext};
 ghost use Rattle.circ_file.specs.Feeding.{IsCut, IsSound, Stands, EndsLine, FeedsLines};
 ghost use Rattle.circ_file.specs.Feeding.{Feeds, Hands, Ends, handed_with, AreShown};
-ghost use Rattle.circ_file.specs.Feeding.{whole_lines_in, fault_of, waiting_in};
+ghost use Rattle.circ_file.specs.Feeding.{whole_lines_in, fault_of, waiting_in, version_in};
 ghost use Rattle.circ_file.specs.declared.fault.FileFault.{FileFault};
 
 use crate::fault::FileFault;
@@ -52,7 +52,7 @@ impl<'a> FileReader<'a> {
     }
 
     /// The next piece of the text. The fault of a line is that of a whole line so far, and so of the
-    /// whole text, whatever comes later. Each fault is kept, want of memory too.
+    /// whole text, whatever comes later. Each fault is kept, also that memory ran out.
     pub fn feed(&mut self, piece: &[u8]) -> Result<(), FileFault>
         requires sound { IsSound self.old }
         requires room { fault_of self.old ≡ None →
@@ -121,6 +121,13 @@ impl<'a> FileReader<'a> {
         Err(FileFault::Line {
             number: self.lines + 1,
         })
+    }
+
+    /// The version that the first line has named, 0 before it.
+    pub(crate) fn version(&self) -> u8
+        ensures { result ≡ version_in self.now }
+    {
+        self.reader.counts.version
     }
 
     // Whether the last line was the proof's, and nothing comes after it.

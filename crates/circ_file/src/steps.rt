@@ -1,21 +1,27 @@
 //! The lines of blocks.
-ghost use Rattle.std.specs.Prelude.{◌≡◌, ◌++◌, [], true, List, IfOk, OnOk};
+ghost use Rattle.std.specs.Prelude.{◌≡◌, ◌++◌, [], true, List, IfOk, OnOk, is_some};
 ghost use Rattle.circ_term.specs.Tree.{Tree};
 ghost use Rattle.circ_proof.specs.Plain.{plain_link, plain_chain, plain_why};
 ghost use Rattle.circ_line.specs.Line.{goal_line, simplify_line, reduce_line, derive_line};
 ghost use Rattle.circ_line.specs.Line.{done_line, same_line, split_line, left_line, right_line};
+ghost use Rattle.circ_line.specs.Line.{given_line, cases_line, if_line};
 ghost use Rattle.circ_grammar.specs.Machine.{empty};
-ghost use Rattle.circ_grammar.specs.Now.{is_step};
-ghost use Rattle.circ_proof.specs.Proof.{goal_of};
+ghost use Rattle.circ_grammar.specs.Now.{is_step, give_chain_now};
+ghost use Rattle.circ_proof.specs.Proof.{goal_at, pair_at};
+ghost use Rattle.circ_theory.specs.Pairs.{plain_pair};
+ghost use Rattle.circ_grammar.specs.Grammar.{is_bare};
+ghost use Rattle.circ_grammar.specs.Machine.{goal_names};
 ghost use Rattle.circ_file.specs.Splits.{given, tops, now_given, parts_given};
 ghost use Rattle.circ_file.specs.View.{now_of, queue_of, shown_step_parts, IsKept, Moves, Begins};
-ghost use Rattle.circ_file.specs.declared.machine.Mode.TheVariants.{Opened};
+ghost use Rattle.circ_file.specs.View.{EndsLast};
+ghost use Rattle.circ_file.specs.declared.machine.Mode.TheVariants.{Opened, Joining};
 
+use crate::conds::{give_chain, give_last, takes, takes_last};
 use crate::machine::{Machine, Mode, empty_chain};
 use crate::splits::{OpenSplit, give};
-use circ_proof::{Chain, Link, Step, Why};
+use circ_proof::{Chain, GoalNames, Link, Step, Why};
 use circ_table::Part;
-use circ_theory::Goal;
+use circ_theory::{Goal, Pair};
 use std::alloc::AllocError;
 use std::mem;
 
@@ -24,12 +30,39 @@ impl Machine {
     pub(crate) fn put_goal(&mut self, goal: Goal, left: u32, right: u32) -> Result<(), AllocError>
         requires { self.old.mode ≡ Opened }
         ensures { OnOk result ((ts : List Tree) → IsKept ts self.old →
-            goal ≡ goal_of ts (left, right) →
+            goal ≡ goal_at ts (goal_names left right) →
             Moves true ts self.old (goal_line left right) self.new) }
     {
         self.goals.push(goal)?;
-        self.names.push((left, right))?;
+        let conds = Vec::new(self.alloc);
+        self.names.push(GoalNames { conds, left, right })?;
         Ok(())
+    }
+
+    /// A block began, and no step of it. The condition of the last goal is of the terms that its
+    /// numbers name.
+    pub(crate) fn put_given(
+        &mut self,
+        pair: Pair,
+        left: u32,
+        right: u32,
+    ) -> Result<bool, AllocError>
+        requires { self.old.mode ≡ Opened }
+        ensures { IfOk result (λ taken. (ts : List Tree) → IsKept ts self.old →
+            plain_pair pair ≡ pair_at ts (left, right) →
+            Moves taken ts self.old (given_line left right) self.new) }
+    {
+        let Some(mut goal) = self.goals.pop() else {
+            return Ok(false);
+        };
+        let Some(mut names) = self.names.pop() else {
+            return Ok(false);
+        };
+        goal.conds.push(pair)?;
+        names.conds.push((left, right))?;
+        self.goals.push(goal)?;
+        self.names.push(names)?;
+        Ok(true)
     }
 
     pub(crate) fn on_simplify(&mut self) -> Result<bool, AllocError>
@@ -69,6 +102,19 @@ impl Machine {
         Ok(true)
     }
 
+    pub(crate) fn on_cases(&mut self, term: u32) -> Result<bool, AllocError>
+        ensures { IfOk result (λ taken. (ts : List Tree) → IsKept ts self.old →
+            Moves taken ts self.old (cases_line term) self.new) }
+    {
+        if !self.begin_step()? {
+            return Ok(false);
+        }
+        let step = Step::Cases { term };
+        self.queue.push_back(Part::Step { step })?;
+        self.mode = Mode::Stepping;
+        Ok(true)
+    }
+
     pub(crate) fn on_done(&mut self) -> Result<bool, AllocError>
         ensures { IfOk result (λ taken. (ts : List Tree) → IsKept ts self.old →
             Moves taken ts self.old done_line self.new) }
@@ -82,6 +128,7 @@ impl Machine {
     }
 
     pub(crate) fn on_left(&mut self, link: Link) -> Result<bool, AllocError>
+        requires { is_bare (plain_link link) ≡ true }
         ensures { IfOk result (λ taken. (ts : List Tree) → IsKept ts self.old →
             Moves taken ts self.old (left_line (plain_link link)) self.new) }
     {
@@ -97,17 +144,29 @@ impl Machine {
                 self.chain.left.push(link)?;
                 Ok(true)
             }
+            Mode::Joining => {
+                if !self.cond.right.is_empty() {
+                    return Ok(false);
+                }
+                self.cond.left.push(link)?;
+                Ok(true)
+            }
             _ => Ok(false),
         }
     }
 
     pub(crate) fn on_right(&mut self, link: Link) -> Result<bool, AllocError>
+        requires { is_bare (plain_link link) ≡ true }
         ensures { IfOk result (λ taken. (ts : List Tree) → IsKept ts self.old →
             Moves taken ts self.old (right_line (plain_link link)) self.new) }
     {
         match self.mode {
             Mode::Simplifying | Mode::Reducing => {
                 self.chain.right.push(link)?;
+                Ok(true)
+            }
+            Mode::Joining => {
+                self.cond.right.push(link)?;
                 Ok(true)
             }
             _ => Ok(false),
@@ -124,6 +183,7 @@ impl Machine {
                 self.close(Why::Same { chain })?;
                 Ok(true)
             }
+            Mode::Joining => self.end_cond(),
             _ => Ok(false),
         }
     }
@@ -147,6 +207,80 @@ impl Machine {
                     whys,
                 })?;
                 Ok(true)
+            }
+            _ => Ok(false),
+        }
+    }
+
+    /// The chain of a condition of the last link begins.
+    pub(crate) fn on_if(&mut self) -> Result<bool, AllocError>
+        ensures { IfOk result (λ taken. (ts : List Tree) →
+            Moves taken ts self.old if_line self.new) }
+    {
+        if !self.takes_cond() {
+            return Ok(false);
+        }
+        let cond = mem::replace(&mut self.cond, empty_chain(self.alloc));
+        match self.mode {
+            Mode::Joining => {
+                self.conds.push(cond)?;
+                Ok(true)
+            }
+            _ => {
+                self.conds.clear();
+                self.base = self.mode;
+                self.mode = Mode::Joining;
+                Ok(true)
+            }
+        }
+    }
+
+    // Whether the last link can have a condition more.
+    fn takes_cond(&self) -> bool
+        ensures { result ≡ is_some (give_chain_now (now_of self.now) empty) }
+    {
+        match self.mode {
+            Mode::Certifying => takes_last(self.links.as_slice()),
+            Mode::Simplifying => takes(&self.chain),
+            Mode::Reducing => takes(&self.chain),
+            Mode::Joining => takes(&self.cond),
+            _ => false,
+        }
+    }
+
+    // The innermost condition is whole.
+    fn end_cond(&mut self) -> Result<bool, AllocError>
+        requires { self.old.mode ≡ Joining }
+        ensures { IfOk result (λ taken. (ts : List Tree) →
+            Moves taken ts self.old same_line self.new) }
+    {
+        let cond = mem::replace(&mut self.cond, empty_chain(self.alloc));
+        match self.conds.pop() {
+            Some(outer) => {
+                self.cond = outer;
+                let given = give_chain(&mut self.cond, cond)?;
+                Ok(given)
+            }
+            None => self.end_last(cond),
+        }
+    }
+
+    // The condition is whole that no other is around.
+    fn end_last(&mut self, cond: Chain) -> Result<bool, AllocError>
+        ensures { IfOk result (λ taken. EndsLast taken self.old (plain_chain cond) self.new) }
+    {
+        match self.base {
+            Mode::Certifying => {
+                self.mode = Mode::Certifying;
+                give_last(&mut self.links, cond)
+            }
+            Mode::Simplifying => {
+                self.mode = Mode::Simplifying;
+                give_chain(&mut self.chain, cond)
+            }
+            Mode::Reducing => {
+                self.mode = Mode::Reducing;
+                give_chain(&mut self.chain, cond)
             }
             _ => Ok(false),
         }

@@ -1,19 +1,21 @@
 //! The table of a proof, read line by line.
 ghost use Rattle.std.specs.Prelude.{◌≡◌, ◌==◌, [], true, false, length, IfOk, OnOk};
-ghost use Rattle.std.specs.Option.{option_map_or};
+ghost use Rattle.std.specs.Option.{option_map, option_map_or};
 ghost use Rattle.circ_term.specs.Tree.{sort_of};
 ghost use Rattle.circ_line.specs.Line.{Variable_line, Application_line};
 ghost use Rattle.circ_line.specs.Plain.{plain_table_line};
 ghost use Rattle.circ_proof_text.specs.TableText.{first_at, firsts_at};
-ghost use Rattle.circ_file.specs.Adding.{terms_in, is_open, have_sorts, goal_at, AddsLine};
+ghost use Rattle.circ_file.specs.Adding.{terms_in, is_open, have_sorts, goal_for};
+ghost use Rattle.circ_file.specs.Adding.{condition_for, AddsLine};
+ghost use Rattle.circ_theory.specs.Pairs.{plain_pair};
 
-use crate::checks::is_goal;
+use crate::checks::{is_condition, is_goal};
 use crate::taken::Taken;
 use circ_line::TableLine;
 use circ_proof::MOST_TERMS;
 use circ_table::{NamedTerms, OpenTable, Table};
 use circ_term::TermFault;
-use circ_theory::{Goal, Theory};
+use circ_theory::{Goal, Pair, Pairs, Theory};
 use std::alloc::{AllocError, Global};
 use std::mem;
 
@@ -80,17 +82,60 @@ impl ReadTable {
     }
 
     /// The goal of two numbers, where both are in the table and their terms have one sort.
-    pub(crate) fn goal(&mut self, left: u32, right: u32) -> Result<Option<Goal>, AllocError>
+    pub(crate) fn goal(
+        &mut self,
+        alloc: Global,
+        left: u32,
+        right: u32,
+    ) -> Result<Option<Goal>, AllocError>
         requires { is_open self.old ≡ false }
-        ensures goal { IfOk result (λ o. o ≡ goal_at (terms_in self.old) left right) }
+        ensures goal { IfOk result (λ o. o ≡ goal_for (terms_in self.old) left right) }
         ensures terms { terms_in self.new ≡ terms_in self.old }
         ensures state { is_open self.new ≡ false }
     {
         match self {
             ReadTable::Open { .. } => unreachable!(),
-            ReadTable::Closed { terms } => goal_at(terms, left, right),
+            ReadTable::Closed { terms } => goal_for(alloc, terms, left, right),
         }
     }
+
+    /// The condition of two numbers, where both are in the table and their terms have one visible
+    /// sort.
+    pub(crate) fn condition(
+        &mut self,
+        theory: &Theory,
+        left: u32,
+        right: u32,
+    ) -> Result<Option<Pair>, AllocError>
+        requires { is_open self.old ≡ false }
+        ensures pair { IfOk result (λ o. option_map plain_pair o ≡
+            condition_for theory.now (terms_in self.old) left right) }
+        ensures terms { terms_in self.new ≡ terms_in self.old }
+        ensures state { is_open self.new ≡ false }
+    {
+        match self {
+            ReadTable::Open { .. } => unreachable!(),
+            ReadTable::Closed { terms } => condition_for(theory, terms, left, right),
+        }
+    }
+}
+
+fn condition_for(
+    theory: &Theory,
+    terms: &mut NamedTerms,
+    left: u32,
+    right: u32,
+) -> Result<Option<Pair>, AllocError>
+    ensures table { terms.new.0 ≡ terms.old.0 }
+    ensures pair { IfOk result (λ o. option_map plain_pair o ≡
+        condition_for theory.now terms.old.0 left right) }
+{
+    if !is_condition(theory, terms.table(), left, right) {
+        return Ok(None);
+    }
+    let left = terms.term(left)?;
+    let right = terms.term(right)?;
+    Ok(Some(Pair { left, right }))
 }
 
 fn add_line(rows: &mut OpenTable, theory: &Theory, line: &TableLine) -> Result<Taken, AllocError>
@@ -174,14 +219,20 @@ fn is_arg(rows: &OpenTable, number: u32, sort: u32) -> bool
     }
 }
 
-fn goal_at(terms: &mut NamedTerms, left: u32, right: u32) -> Result<Option<Goal>, AllocError>
+fn goal_for(
+    alloc: Global,
+    terms: &mut NamedTerms,
+    left: u32,
+    right: u32,
+) -> Result<Option<Goal>, AllocError>
     ensures table { terms.new.0 ≡ terms.old.0 }
-    ensures goal { IfOk result (λ o. o ≡ goal_at terms.old.0 left right) }
+    ensures goal { IfOk result (λ o. o ≡ goal_for terms.old.0 left right) }
 {
     if !is_goal(terms.table(), left, right) {
         return Ok(None);
     }
     let left = terms.term(left)?;
     let right = terms.term(right)?;
-    Ok(Some(Goal { left, right }))
+    let conds = Pairs::new(alloc);
+    Ok(Some(Goal { conds, left, right }))
 }

@@ -157,3 +157,17 @@ file_fault_not_ok file name N before after s e f = let Q : Status → Type 0 = I
 pub file_fault_not_refused : (file : ℕ) (name : List ℕ) (N : Refusal) (before after : ShelfState) (s : Status) (n : ℕ) → s ≡ status.Refused n
     → IsFileFault file name N before after s → ⊥
 file_fault_not_refused file name N before after s n e f = let Q : Status → Type 0 = IsFileFault file name N before after in subst Q e f
+
+-- what is a fault for fewer reasons is one
+pub more_refusals : (file : ℕ) (name : List ℕ) (N M : Refusal) (before after : ShelfState) (s : Status)
+    → ((place : ℕ) (c : Cause) (bytes : List ℕ) → N place c bytes → M place c bytes)
+    → IsFileFault file name N before after s → IsFileFault file name M before after s
+more_refusals file name N M before after (status.Unreadable g p d) h f = (
+  f.0,
+  record { bytes = f.1.bytes; short = f.1.short; are = h p d f.1.bytes f.1.are },
+  λ t. let x = f.2 t in record { bytes = x.bytes; bytes_are = x.bytes_are; short = x.short; are = h p d x.bytes x.are },
+)
+more_refusals file name N M before after (status.ReadFault n) h f = f
+more_refusals file name N M before after (status.TooLong g n) h f = f
+more_refusals file name N M before after status.Memory h f = f
+more_refusals file name N M before after s h f = absurd f

@@ -10,8 +10,8 @@ use crate::status::{SCRIPT_FILE, Status};
 use circ_outer::Shelf;
 use circ_read::ReadFault;
 use circ_script::laws::read_in_one_way;
-use circ_script::{Job, read_script};
-use circ_theory::{Script, Theory};
+use circ_script::{Job, Script, read_script};
+use circ_theory::Theory;
 use std::alloc::Global;
 
 /// The script that file 2 reads as for a job, or why there is none. The theory is afterwards as it

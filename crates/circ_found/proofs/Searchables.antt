@@ -1,31 +1,18 @@
 -- That the goals of a script can be searched.
-use Rattle.std.proofs.Common.{◌≡◌, ◌≢◌, ◌≤◌, ℕ, List, [], ◌∷◌, ◌++◌, map, max, refl, ap, ap₂, arith, Vec}
+use Rattle.std.proofs.Common.{◌≡◌, ◌≢◌, ◌≤◌, ◌^◌, ℕ, List, [], ◌∷◌, ◌++◌, max, subst, sym, arith}
 use Rattle.std.specs.List.{AllByRecursion, Contains}
 use Rattle.circ_term.specs.Tree.{Tree, Trees, Var, App, none, more}
-use Rattle.circ_theory.specs.Fresh.{above, all_above}
-use Rattle.circ_theory.specs.Theory.{Theory, Pair}
+use Rattle.circ_theory.specs.Fresh.{above, all_above, above_pairs}
+use Rattle.circ_theory.specs.Theory.{Theory, Pair, AreConditions, HasNoConditions}
 use Rattle.circ_theory.specs.Variables.{occurrences, all_occurrences}
 use Rattle.circ_theory.specs.declared.parts.Goal.{Goal}
 use Rattle.circ_theory.proofs.Casing.{contains_first}
 use Rattle.circ_theory.proofs.Weakening.{in_rest}
 use Rattle.circ_plain_search.specs.PlainSearch.{IsSearchable, AreSearchable}
 use Rattle.circ_script.specs.Fit.{HasLowNumbers, IsFitGoal, IsFit, IsScriptFor}
-use Rattle.circ_script.specs.Script.{Script, plain_goal}
+use Rattle.circ_script.specs.Script.{Script}
 use Rattle.circ_script.specs.declared.job.Job.TheVariants.{Prove}
-use Rattle.circ_found.specs.Answering.{made_goal, blocks_of}
 use Rattle.circ_found.specs.Searchable.{IsWithinGoal, AreWithin}
-
-same_goals : (gs : List Goal) → map made_goal (map plain_goal gs) ≡ gs
-same_goals [] = refl
-same_goals (g ∷ gs) = ap (λ hs. g ∷ hs) (same_goals gs)
-
-pub same_blocks : {A : Type 0} (bs : List (Vec Goal A)) → map (map made_goal) (map (λ b. map plain_goal b.items) bs) ≡ map (λ b. b.items) bs
-same_blocks [] = refl
-same_blocks (b ∷ bs) = ap₂ (λ gs rest. gs ∷ rest) (same_goals b.items) (same_blocks bs)
-
-some_mapped : {X Y : Type 0} (f : X → Y) (xs : List X) → xs ≢ [] → map f xs ≢ []
-some_mapped f [] some e = some refl
-some_mapped f (x ∷ xs) some e = cc
 
 parts : {X : Type 0} (P : X → Type 0) (xs ys : List X) → AllByRecursion P (xs ++ ys) → AllByRecursion P xs × AllByRecursion P ys
 parts P [] ys h = (tt, h)
@@ -45,29 +32,38 @@ mutual
       let r = parts (λ v. v.number ≤ 512) (occurrences t) (all_occurrences ts) h in both_below (above t) (all_above ts) (low t r.0) (all_low ts r.1)
 
 module _ (th : Theory) where
-  one_goal : (p : Pair) → IsFitGoal th.signature p → IsWithinGoal (made_goal p) → IsSearchable th (made_goal p)
-  one_goal p f w =
-      let n = both_below (above p.left) (above p.right) (low p.left f.left) (low p.right f.right) in
-      record { sorted = record { sorted = f.sorted }; left_within = w.left; right_within = w.right; numbers = omega (arith, n) }
+  -- a goal without conditions is searchable by its sides
+  one_goal : (g : Goal) → IsFitGoal th.signature g → IsWithinGoal g → IsSearchable th g
+  one_goal g f w =
+      let n = both_below (above g.left) (above g.right) (low g.left f.left) (low g.right f.right) in
+      let P : List Pair → Type 0 = λ E. max (max (above g.left) (above g.right)) (above_pairs E) ≤ 2 ^ 31 in
+      let Q : List Pair → Type 0 = AreConditions th in
+      record {
+        sorted = record { sorted = f.sorted; conds = subst Q (sym f.bare) (λ p c. absurd (omega (arith, c.1))) };
+        no_conds = f.bare;
+        left_within = w.left;
+        right_within = w.right;
+        numbers = subst P (sym f.bare) (omega (arith, n));
+      }
 
-  goals_of : (ps : List Pair) → ((g : Pair) → Contains ps g → IsFitGoal th.signature g) → AllByRecursion IsWithinGoal (map made_goal ps)
-      → AllByRecursion (IsSearchable th) (map made_goal ps)
+  goals_of : (gs : List Goal) → ((g : Goal) → Contains gs g → IsFitGoal th.signature g) → AllByRecursion IsWithinGoal gs → AllByRecursion (IsSearchable th) gs
   goals_of [] fit w = tt
-  goals_of (p ∷ ps) fit w = (one_goal p (fit p (contains_first p ps)) w.0, goals_of ps (λ g d. fit g (in_rest p g ps d)) w.1)
+  goals_of (g ∷ gs) fit w = (one_goal g (fit g (contains_first g gs)) w.0, goals_of gs (λ h d. fit h (in_rest g h gs d)) w.1)
 
-  blocks_fit : (bs : List (List Pair)) → ((b : List Pair) (g : Pair) → Contains bs b → Contains b g → IsFitGoal th.signature g)
-      → AreWithin (map (map made_goal) bs) → AllByRecursion (λ b. AllByRecursion (IsSearchable th) b) (map (map made_goal) bs)
+  blocks_fit : (bs : List (List Goal)) → ((b : List Goal) (g : Goal) → Contains bs b → Contains b g → IsFitGoal th.signature g)
+      → AreWithin bs → AllByRecursion (λ b. AllByRecursion (IsSearchable th) b) bs
   blocks_fit [] fit w = tt
   blocks_fit (b ∷ bs) fit w =
       (goals_of b (λ g d. fit b g (contains_first b bs) d) w.0, blocks_fit bs (λ c g d e. fit c g (in_rest b c bs d) e) w.1)
 
-  some_goals : (bs : List (List Pair)) → ((b : List Pair) → Contains bs b → b ≢ []) → AllByRecursion (λ b. b ≢ []) (map (map made_goal) bs)
+  some_goals : (bs : List (List Goal)) → ((b : List Goal) → Contains bs b → b ≢ []) → AllByRecursion (λ b. b ≢ []) bs
   some_goals [] some = tt
-  some_goals (b ∷ bs) some = (some_mapped made_goal b (some b (contains_first b bs)), some_goals bs (λ c d. some c (in_rest b c bs d)))
+  some_goals (b ∷ bs) some = (some b (contains_first b bs), some_goals bs (λ c d. some c (in_rest b c bs d)))
 
-  pub script_searchable : (sc : Script) → IsFit th.signature sc → IsScriptFor Prove sc → AreWithin (blocks_of sc) → AreSearchable th (blocks_of sc)
-  script_searchable sc fit goals w = record {
-    some_block = some_mapped (map made_goal) sc.blocks goals.0;
+  pub script_searchable : (sc : Script) → HasNoConditions th → IsFit th.signature sc → IsScriptFor Prove sc → AreWithin sc.blocks → AreSearchable th sc.blocks
+  script_searchable sc plain fit goals w = record {
+    no_conditions = plain;
+    some_block = goals.0;
     some_goal = some_goals sc.blocks fit.some;
     goals = blocks_fit sc.blocks fit.goals w;
   }

@@ -2,15 +2,14 @@
 use Rattle.std.specs.Prelude.{◌≡◌, ◌+◌, ℕ, List, [], ◌∷◌, ◌++◌, length, map, flat_map, Some, None, false, nat_lt, if◌then◌else◌, codes, decimal}
 use Rattle.circ_term.specs.Tree.{Tree}
 use Rattle.circ_theory.specs.Signature.{Signature}
-use Rattle.circ_theory.specs.Theory.{Theory, Pair}
+use Rattle.circ_theory.specs.Theory.{Theory, Pair, goal}
 use Rattle.circ_theory.specs.declared.parts.Goal.{Goal}
 use Rattle.circ_mixfix.specs.Printing.{text_of_term}
-use Rattle.circ_proof.specs.Goals.{goal}
 use Rattle.circ_proof.specs.Proof.{Block, Proof, steps_in}
 use Rattle.circ_proof.specs.Rules.{ProofStep, Derive}
 use Rattle.circ_proof_text.specs.ProofText.{proof_text}
 use Rattle.circ_script.specs.Script.{Script}
-use Rattle.circ_show.specs.GoalsText.{plain_goal, pair_lines, goal_lines}
+use Rattle.circ_show.specs.GoalsText.{pair_lines, goal_lines}
 use Rattle.circ_plain_search.specs.Numbering.{Found, Proved, LongTable, Stuck, Spent, TooBig, TooDeep}
 use Rattle.circ_plain_search.specs.PlainSearch.{PlainSearch}
 use Rattle.circ_plain_search.specs.Search.{Limits}
@@ -20,14 +19,7 @@ use Rattle.circ_found.specs.Ending.{stored_as, Ending, ending}
 
 -- the goals of lists of goals, one a line
 abbrev pub all_goal_lines : Signature → List (List Goal) → List ℕ
-all_goal_lines sig goals = flat_map (λ gs. goal_lines sig (map plain_goal gs)) goals
-
--- a goal of a script, as a goal
-abbrev pub made_goal : Pair → Goal
-made_goal p = goal p.left p.right
-
-abbrev pub blocks_of : Script → List (List Goal)
-blocks_of sc = map (map made_goal) sc.blocks
+all_goal_lines sig goals = flat_map (goal_lines sig) goals
 
 abbrev pub derives_among : List (ProofStep ℕ) → ℕ
 derives_among [] = 0
@@ -51,10 +43,10 @@ abbrev pub side_line : (label : List ℕ) → Signature → Tree → List ℕ
 side_line label sig t = label ++ text_of_term sig false t ++ codes "\n"
 
 -- what is printed of a goal that the search cannot do: its block, its sides as they stand, and the cases that are assumed
-abbrev pub stuck_text : Signature → (block : ℕ) → (left right : Tree) → (assumptions : List Goal) → List ℕ
+abbrev pub stuck_text : Signature → (block : ℕ) → (left right : Tree) → (assumptions : List Pair) → List ℕ
 stuck_text sig block s t A =
     codes "stuck in block " ++ decimal block ++ codes "\n" ++ side_line (codes "left: ") sig s ++ side_line (codes "right: ") sig t
-    ++ pair_lines (codes "case: ") sig (map plain_goal A)
+    ++ pair_lines (codes "case: ") sig A
 
 -- A proof is stored, unless its text is longer than a file may be.
 abbrev pub proof_ending : Signature → (name : List ℕ) → Proof → Ending

@@ -2,7 +2,8 @@
 ghost use Rattle.std.specs.Prelude.{◌≡◌, ◌≤◌, ◌++◌, map, IfOk, OnOk, codes};
 ghost use Rattle.circ_proof.specs.PlainProof.{plain_block, plain_proof};
 ghost use Rattle.circ_proof.specs.Proof.{steps_in};
-ghost use Rattle.circ_show.specs.GoalsText.{plain_goal, pair_line, pair_lines};
+ghost use Rattle.circ_theory.specs.Pairs.{plain_pair};
+ghost use Rattle.circ_show.specs.GoalsText.{pair_line, pair_lines};
 ghost use Rattle.circ_found.specs.Answering.{all_goal_lines, counts_text, proved_text};
 ghost use Rattle.circ_found.specs.Answering.{derives_in};
 ghost use Rattle.circ_found.specs.Answering.{side_line, stuck_text};
@@ -13,7 +14,7 @@ use circ_mixfix::{print, print_pair};
 use circ_proof::{Block, Proof};
 use circ_show::goals_text;
 use circ_term::Term;
-use circ_theory::{Goal, Theory};
+use circ_theory::{Pair, Theory};
 use std::alloc::{AllocError, Global};
 
 /// The report of a proof that was found.
@@ -73,10 +74,10 @@ pub(crate) fn stuck_text(
     block: u32,
     left: &Term,
     right: &Term,
-    assumptions: &[Goal],
+    assumptions: &[Pair],
 ) -> Result<Vec<u8>, AllocError>
-    ensures { IfOk result (λ v. v.items ≡
-        stuck_text theory.now.signature block left.now right.now assumptions.now) }
+    ensures { IfOk result (λ v. v.items ≡ stuck_text theory.now.signature block
+        left.now right.now (map plain_pair assumptions.now)) }
 {
     let mut out = Vec::new(alloc);
     push_counted(&mut out, b"stuck in block ", u64::from(block), b"\n")?;
@@ -105,11 +106,11 @@ fn put_side(
 fn put_cases(
     alloc: Global,
     theory: &Theory,
-    cases: &[Goal],
+    cases: &[Pair],
     out: &mut Vec<u8>,
 ) -> Result<(), AllocError>
     ensures { OnOk result (out.new.items ≡ out.old.items
-        ++ pair_lines (codes "case: ") theory.now.signature (map plain_goal cases.now)) }
+        ++ pair_lines (codes "case: ") theory.now.signature (map plain_pair cases.now)) }
 {
     for case in cases {
         put_case(alloc, theory, case, out)?;
@@ -120,11 +121,11 @@ fn put_cases(
 fn put_case(
     alloc: Global,
     theory: &Theory,
-    case: &Goal,
+    case: &Pair,
     out: &mut Vec<u8>,
 ) -> Result<(), AllocError>
     ensures { OnOk result (out.new.items ≡ out.old.items
-        ++ pair_line (codes "case: ") theory.now.signature (plain_goal case.now)) }
+        ++ pair_line (codes "case: ") theory.now.signature (plain_pair case.now)) }
 {
     out.extend_from_slice(b"case: ")?;
     print_pair(alloc, theory, &case.left, &case.right, out)?;

@@ -10,14 +10,14 @@ use Rattle.circ_proof_text.specs.ProofText.{proof_text}
 use Rattle.circ_plain_search.specs.Numbering.{Found, Proved, LongTable, Stuck, Spent, TooBig, TooDeep}
 use Rattle.circ_plain_search.specs.PlainSearch.{PlainSearch, AreSearchable, IsProofOf}
 use Rattle.circ_plain_search.specs.Search.{Limits}
-use Rattle.circ_read.specs.ReadsAs.{ReadsAs}
 use Rattle.circ_script.specs.ReadsAsScript.{ReadsAsScript}
 use Rattle.circ_script.specs.Script.{Script}
 use Rattle.circ_script.specs.declared.job.Job.TheVariants.{Prove}
 use Rattle.circ_files.specs.Texts.{too_long_text}
+use Rattle.circ_files.specs.TheoryFile.{ReadsAsPlain}
 use Rattle.circ_files.proofs.FileFaults.{if_ok}
 use Rattle.circ_files.specs.declared.status.Status.TheVariants as status
-use Rattle.circ_found.specs.Answering.{blocks_of, proved_text, found_ending, SearchEnds}
+use Rattle.circ_found.specs.Answering.{proved_text, found_ending, SearchEnds}
 use Rattle.circ_found.specs.Ending.{Stored, stored_as, Ending, ending, plain_ending}
 use Rattle.circ_found.specs.declared.ending.Ending.{Ending as TheEnding}
 use Rattle.circ_generate.specs.Chain.{chain_theory, chain_script}
@@ -85,12 +85,12 @@ pub record IsChainProof (th : Theory) (n : ℕ) (f : Found) (bytes : List ℕ) :
 
 module _ (law : (th : Theory) → IsWellFormed th → (blocks : List (List Goal)) → AreSearchable th blocks → (limits : Limits) (p : Proof)
     → PlainSearch th blocks limits (Proved p) → IsProofOf th blocks p) (th : Theory) (ok : IsWellFormed th) (sc : Script)
-    (searchable : AreSearchable th (blocks_of sc)) (n : ℕ) (e : Ending) (s : SearchEnds th greatest_limits [] (blocks_of sc) e) where
+    (searchable : AreSearchable th sc.blocks) (n : ℕ) (e : Ending) (s : SearchEnds th greatest_limits [] sc.blocks e) where
   chain_proof : (x : Stored) → e.stored ≡ Some x → IsChainProof th n s.found x.bytes
   chain_proof x some =
       let k = stored_ending th.signature n s.found e x s.is some in
-      let P : Found → Type 0 = PlainSearch th (blocks_of sc) greatest_limits in
-      let says = law th ok (blocks_of sc) searchable greatest_limits k.p (subst P k.is s.search) in
+      let P : Found → Type 0 = PlainSearch th sc.blocks greatest_limits in
+      let says = law th ok sc.blocks searchable greatest_limits k.p (subst P k.is s.search) in
       record { p = k.p; accepted = record { text = k.text; fits = says.fits; accepted = says.accepted }; ends = k.ends }
 
   -- the text that is to be stored is that of an accepted proof
@@ -98,7 +98,7 @@ module _ (law : (th : Theory) → IsWellFormed th → (blocks : List (List Goal)
   accepted_text x bytes some same =
       let c = chain_proof x some in let P : List ℕ → Type 0 = λ b. IsAcceptedText th b c.p in (c.p, subst P (sym same) c.accepted)
 
-  module _ (rt : ReadsAs (chain_theory n) th) (rs : ReadsAsScript th Prove (chain_script n) sc) where
+  module _ (rt : ReadsAsPlain (chain_theory n) th) (rs : ReadsAsScript th Prove (chain_script n) sc) where
     pub none_generates : e.stored ≡ None → Generates n e
     none_generates none = searched e th sc s.found rt rs s.search (unstored_ending th.signature n s.found e s.is none)
 

@@ -5,7 +5,6 @@ use Rattle.circ_theory.specs.Theory.{Theory}
 use Rattle.circ_proof.specs.Accepted.{Accepted}
 use Rattle.circ_proof.specs.Proof.{Proof, ProofFor, steps_in}
 use Rattle.circ_proof_text.specs.ProofText.{proof_text}
-use Rattle.circ_read.specs.ReadsAs.{ReadsAs, FirstCause}
 use Rattle.circ_read.specs.declared.cause.Cause.{Cause}
 use Rattle.circ_script.specs.ReadsAsScript.{ReadsAsScript}
 use Rattle.circ_script.specs.Refusing.{FirstScriptCause}
@@ -15,8 +14,9 @@ use Rattle.circ_plain_search.specs.Numbering.{Found, Proved}
 use Rattle.circ_plain_search.specs.PlainSearch.{PlainSearch}
 use Rattle.circ_plain_search.specs.Search.{Limits}
 use Rattle.circ_files.specs.Texts.{too_long_text, unreadable_text}
+use Rattle.circ_files.specs.TheoryFile.{ReadsAsPlain, PlainTheoryRefusal}
 use Rattle.circ_files.specs.declared.status.Status.TheVariants as status
-use Rattle.circ_found.specs.Answering.{blocks_of, counts_text, derives_in, found_ending}
+use Rattle.circ_found.specs.Answering.{counts_text, derives_in, found_ending}
 use Rattle.circ_found.specs.Ending.{Ending, ending}
 use Rattle.circ_generate.specs.Chain.{chain_theory, chain_script}
 
@@ -43,14 +43,14 @@ chain_ending sig n f = found_ending sig [] f
 abbrev pub unread_ending : (file place : ℕ) → Cause → Ending
 unread_ending file place c = ending (status.Unreadable file place c) (unreadable_text (codes ", statement ") file place c) None
 
--- The chain's theory text is refused for its first cause; or it reads, and so is the script; or both read, and the search of the script's goals, with the
+-- The chain's theory text is refused as that of a search is; or it reads, and the script is refused for its first cause; or both read, and the search of the script's goals, with the
 -- greatest limits, ends so.
 pub data Generates (n : ℕ) : Ending → Type 0 where
-  no_theory : (e : Ending) (place : ℕ) (c : Cause) → FirstCause (chain_theory n) place c → e ≡ unread_ending 1 place c → Generates n e
-  no_script : (e : Ending) (th : Theory) (place : ℕ) (c : Cause) → ReadsAs (chain_theory n) th → FirstScriptCause th Prove (chain_script n) place c
+  no_theory : (e : Ending) (place : ℕ) (c : Cause) → PlainTheoryRefusal place c (chain_theory n) → e ≡ unread_ending 1 place c → Generates n e
+  no_script : (e : Ending) (th : Theory) (place : ℕ) (c : Cause) → ReadsAsPlain (chain_theory n) th → FirstScriptCause th Prove (chain_script n) place c
       → e ≡ unread_ending 2 place c → Generates n e
-  searched : (e : Ending) (th : Theory) (sc : Script) (f : Found) → ReadsAs (chain_theory n) th → ReadsAsScript th Prove (chain_script n) sc
-      → PlainSearch th (blocks_of sc) greatest_limits f → e ≡ chain_ending th.signature n f → Generates n e
+  searched : (e : Ending) (th : Theory) (sc : Script) (f : Found) → ReadsAsPlain (chain_theory n) th → ReadsAsScript th Prove (chain_script n) sc
+      → PlainSearch th sc.blocks greatest_limits f → e ≡ chain_ending th.signature n f → Generates n e
 
 -- The bytes are the text of an accepted proof.
 pub record IsAcceptedText (th : Theory) (bytes : List ℕ) (p : Proof) : Type 0 where

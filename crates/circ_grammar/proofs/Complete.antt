@@ -1,18 +1,22 @@
 -- Every line of a proof's text is read.
-use Rattle.std.specs.Prelude.{◌≡◌, ℕ, ◌+◌, ◌<◌, List, [], ◌∷◌, ◌++◌, length, refl, Option, Some, None, cond, nat_eq, false}
+use Rattle.std.specs.Prelude.{◌≡◌, ℕ, ◌+◌, ◌<◌, List, [], ◌∷◌, ◌++◌, length, refl, Option, Some, None, cond, nat_eq, Bool, true, false}
 use Rattle.std.specs.Option.{option_map, option_and_then}
 use Rattle.std.specs.List.{AllByRecursion}
 use Rattle.std.proofs.Common.{sym, ◌∙◌, ap, arith, append_assoc, append-nil, zero-add}
 use Rattle.std.proofs.lemmas.Bool.{eq-eqb}
-use Rattle.circ_proof.specs.Plain.{LinkOf, ChainOf, WhyOf, WhysOf, Same_why, Split_why, no_why, more_whys}
-use Rattle.circ_line.specs.Line.{TableLine, Line, head_line, certificate_line, block_line, simplify_line, reduce_line, derive_line, done_line, same_line}
-use Rattle.circ_line.specs.Line.{split_line, end_line}
+use Rattle.circ_proof.specs.Proof.{GoalNames}
+use Rattle.circ_proof.specs.Plain.{LinkOf, LinksOf, ChainsOf, Equation_link, Hypothesis_link, Assumption_link, Content_link, no_link, more_links, no_chain}
+use Rattle.circ_proof.specs.Plain.{more_chains, links_in, row_of, ChainOf, WhyOf, WhysOf, Same_why, Split_why, no_why, more_whys}
+use Rattle.circ_line.specs.Line.{TableLine, Line, certificate_line, block_line, given_line}
+use Rattle.circ_line.specs.Line.{simplify_line, reduce_line, derive_line, cases_line, done_line, same_line, split_line, if_line, left_line, right_line, end_line}
 use Rattle.circ_proof.specs.Counting.{why_count}
-use Rattle.circ_grammar.specs.Grammar.{NumberedStep, Simplify_step, Reduce_step, Derive_step, NumberedBlock, NumberedProof, lines_of}
+use Rattle.circ_grammar.specs.Grammar.{NumberedStep, Simplify_step, Reduce_step, Derive_step, Cases_step, NumberedTable, NumberedBlock, NumberedProof, lines_of}
+use Rattle.circ_grammar.specs.Grammar.{bare, is_bare, conds_lines, left_row, right_row, link_conds, head_lines, given_lines}
 use Rattle.circ_grammar.specs.Grammar.{table_lines, place_lines, left_lines, right_lines, goal_lines, chain_lines, why_lines, whys_lines, step_lines}
 use Rattle.circ_grammar.specs.Grammar.{certificate_lines, block_lines, proof_lines, HasGoals, HasParts, BeginsProof}
 use Rattle.circ_grammar.specs.Machine.{Front, OpenBlock, OpenSplit, State, begin, tabling, placing, certifying, opened, stepping, simplifying, reducing}
-use Rattle.circ_grammar.specs.Machine.{closed, ended, empty, front, no_steps, open_block, with_goal, with_step, push_why, open_split, give_why, to_front}
+use Rattle.circ_grammar.specs.Machine.{joining, closed, ended, empty, front, numbered_table, no_steps, open_block, with_goals, with_given, add_given, with_step, push_why}
+use Rattle.circ_grammar.specs.Machine.{push_chain, add_chain, in_last, in_right, give_chain, chain_of, add_left, add_right, open_split, give_why, to_front}
 use Rattle.circ_grammar.specs.Machine.{to_block, to_step, next, run}
 use Rattle.circ_grammar.proofs.Spelled.{why_count-push, close_block}
 
@@ -32,34 +36,165 @@ push-join : (ds : WhysOf ℕ) (w : WhyOf ℕ) → push_why ds w ≡ join ds (mor
 push-join no_why w = refl
 push-join (more_whys d ds) w = ap (more_whys d) (push-join ds w)
 
-abbrev pub chain_of : List (LinkOf ℕ) → List (LinkOf ℕ) → ChainOf ℕ
-chain_of xs ys = record { left = xs; right = ys }
+table_run : (v : ℕ) (es xs : List TableLine) (k : List Line)
+    → run (tabling (numbered_table v es)) (lines_of table_lines xs k) ≡ run (tabling (numbered_table v (es ++ xs))) k
+table_run v es [] k = ap (λ r. run (tabling (numbered_table v r)) k) (sym (append-nil es))
+table_run v es (x ∷ xs) k = table_run v (es ++ (x ∷ [])) xs k ∙ ap (λ r. run (tabling (numbered_table v r)) k) (append_assoc es (x ∷ []) xs)
 
-table_run : (es xs : List TableLine) (k : List Line) → run (tabling es) (lines_of table_lines xs k) ≡ run (tabling (es ++ xs)) k
-table_run es [] k = ap (λ r. run (tabling r) k) (sym (append-nil es))
-table_run es (x ∷ xs) k = table_run (es ++ (x ∷ [])) xs k ∙ ap (λ r. run (tabling r) k) (append_assoc es (x ∷ []) xs)
-
-places_more : (es : List TableLine) (ps xs : List (ℕ × ℕ)) (k : List Line) → run (placing es ps) (lines_of place_lines xs k) ≡ run (placing es (ps ++ xs)) k
+places_more : (es : NumberedTable) (ps xs : List (ℕ × ℕ)) (k : List Line) → run (placing es ps) (lines_of place_lines xs k) ≡ run (placing es (ps ++ xs)) k
 places_more es ps [] k = ap (λ r. run (placing es r) k) (sym (append-nil ps))
 places_more es ps (x ∷ xs) k = places_more es (ps ++ (x ∷ [])) xs k ∙ ap (λ r. run (placing es r) k) (append_assoc ps (x ∷ []) xs)
 
-abbrev placed : List TableLine → List (ℕ × ℕ) → State
+abbrev placed : NumberedTable → List (ℕ × ℕ) → State
 placed es [] = tabling es
 placed es (p ∷ ps) = placing es (p ∷ ps)
 
-places_run : (es : List TableLine) (xs : List (ℕ × ℕ)) (k : List Line) → run (tabling es) (lines_of place_lines xs k) ≡ run (placed es xs) k
+places_run : (es : NumberedTable) (xs : List (ℕ × ℕ)) (k : List Line) → run (tabling es) (lines_of place_lines xs k) ≡ run (placed es xs) k
 places_run es [] k = refl
 places_run es (x ∷ xs) k = places_more es (x ∷ []) xs k
 
-placed_front : (es : List TableLine) (ps : List (ℕ × ℕ)) → to_front (placed es ps) ≡ Some (front es ps [])
+placed_front : (es : NumberedTable) (ps : List (ℕ × ℕ)) → to_front (placed es ps) ≡ Some (front es ps [])
 placed_front es [] = refl
 placed_front es (p ∷ ps) = refl
 
-certificate_run : (f : Front) (ls xs : List (LinkOf ℕ)) (k : List Line) → run (certifying f ls) (lines_of left_lines xs k) ≡ run (certifying f (ls ++ xs)) k
-certificate_run f ls [] k = ap (λ r. run (certifying f r) k) (sym (append-nil ls))
-certificate_run f ls (x ∷ xs) k = certificate_run f (ls ++ (x ∷ [])) xs k ∙ ap (λ r. run (certifying f r) k) (append_assoc ls (x ∷ []) xs)
+-- Links of conditions, each with its chains. A place of links holds those that have come: the next line of its side puts one last, and the chain of a
+-- condition goes to the last of them.
 
-certificates_run : (m : State) (es : List TableLine) (ps : List (ℕ × ℕ)) (cs xs : List (List (LinkOf ℕ))) (k : List Line) → to_front m ≡ Some (front es ps cs)
+pub record Holds (line : LinkOf ℕ → Line) (put : List (LinkOf ℕ) → State) : Type 0 where
+  pub takes : (xs : List (LinkOf ℕ)) (l : LinkOf ℕ) → is_bare l ≡ true → next (put xs) (line l) ≡ Some (put (xs ++ (l ∷ [])))
+  pub gives : (x : LinkOf ℕ) (xs : List (LinkOf ℕ)) (c : ChainOf ℕ) → give_chain (put (x ∷ xs)) c ≡ option_map put (in_last (x ∷ xs) c)
+
+twice : {A B C : Type 0} (f : B → C) (g : A → B) (o : Option A) → option_map f (option_map g o) ≡ option_map (λ x. f (g x)) o
+twice f g None = refl
+twice f g (Some x) = refl
+
+tested : {X : Type 0} (b : Bool) (o : Option X) → b ≡ true → cond b o None ≡ o
+tested b o e = ap (λ x. cond x o None) e
+
+certificate_holds : (f : Front) → Holds left_line (λ ls. certifying f ls)
+certificate_holds f = record { takes = λ xs l b. tested (is_bare l) _ b; gives = λ x xs c. refl }
+
+-- links on the left, and then those on the right, of a chain that stands so
+left_holds : (at : ChainOf ℕ → State) → ((c : ChainOf ℕ) (l : LinkOf ℕ) → next (at c) (left_line l) ≡ cond (is_bare l) (option_map at (add_left c l)) None)
+    → ((d c : ChainOf ℕ) → give_chain (at d) c ≡ option_map at (in_right d.left d.right c)) → Holds left_line (λ ls. at (chain_of ls []))
+left_holds at n g = record {
+  takes = λ xs l b. n (chain_of xs []) l ∙ tested (is_bare l) _ b;
+  gives = λ x xs c. g (chain_of (x ∷ xs) []) c ∙ twice at (λ ms. chain_of ms []) (in_last (x ∷ xs) c);
+}
+
+right_holds : (at : ChainOf ℕ → State) (ls : List (LinkOf ℕ))
+    → ((c : ChainOf ℕ) (l : LinkOf ℕ) → next (at c) (right_line l) ≡ cond (is_bare l) (Some (at (add_right c l))) None)
+    → ((d c : ChainOf ℕ) → give_chain (at d) c ≡ option_map at (in_right d.left d.right c)) → Holds right_line (λ rs. at (chain_of ls rs))
+right_holds at ls n g = record {
+  takes = λ xs l b. n (chain_of ls xs) l ∙ tested (is_bare l) _ b;
+  gives = λ x xs c. g (chain_of ls (x ∷ xs)) c ∙ twice at (λ ms. chain_of ls ms) (in_last (x ∷ xs) c);
+}
+
+bare_bare : (l : LinkOf ℕ) → is_bare (bare l) ≡ true
+bare_bare (Equation_link n w p ts cs) = refl
+bare_bare (Hypothesis_link n w p ts cs) = refl
+bare_bare (Assumption_link n w p) = refl
+bare_bare (Content_link f p t) = refl
+
+abbrev join_chains : ChainsOf ℕ → ChainsOf ℕ → ChainsOf ℕ
+join_chains no_chain cs = cs
+join_chains (more_chains l r ds) cs = more_chains l r (join_chains ds cs)
+
+row_again : (r : LinksOf ℕ) → row_of (links_in r) ≡ r
+row_again no_link = refl
+row_again (more_links l ls) = ap (more_links l) (row_again ls)
+
+join_pushed : (ds : ChainsOf ℕ) (l r : LinksOf ℕ) (cs : ChainsOf ℕ)
+    → join_chains (push_chain ds (chain_of (links_in l) (links_in r))) cs ≡ join_chains ds (more_chains l r cs)
+join_pushed no_chain l r cs = λ i. more_chains (row_again l i) (row_again r i) cs
+join_pushed (more_chains x y ds) l r cs = ap (more_chains x y) (join_pushed ds l r cs)
+
+join_none : (ds : ChainsOf ℕ) → join_chains ds no_chain ≡ ds
+join_none no_chain = refl
+join_none (more_chains l r ds) = ap (more_chains l r) (join_none ds)
+
+-- the last of links takes a chain, whatever comes before it
+last_given : (xs : List (LinkOf ℕ)) (l m : LinkOf ℕ) (c : ChainOf ℕ) → add_chain l c ≡ Some m → in_last (xs ++ (l ∷ [])) c ≡ Some (xs ++ (m ∷ []))
+last_given [] l m c e = ap (option_map (λ x. x ∷ [])) e
+last_given (x ∷ []) l m c e = ap (option_map (λ r. x ∷ r)) (last_given [] l m c e)
+last_given (x ∷ y ∷ xs) l m c e = ap (option_map (λ r. x ∷ r)) (last_given (y ∷ xs) l m c e)
+
+module _ (line : LinkOf ℕ → Line) (put : List (LinkOf ℕ) → State) (h : Holds line put) where
+  -- the last link has a chain more
+  put_given : (xs : List (LinkOf ℕ)) (l m : LinkOf ℕ) (c : ChainOf ℕ) → add_chain l c ≡ Some m
+      → give_chain (put (xs ++ (l ∷ []))) c ≡ Some (put (xs ++ (m ∷ [])))
+  put_given [] l m c e = h.gives l [] c ∙ ap (option_map put) (last_given [] l m c e)
+  put_given (x ∷ xs) l m c e = h.gives x (xs ++ (l ∷ [])) c ∙ ap (option_map put) (last_given (x ∷ xs) l m c e)
+
+  if_opens : (xs : List (LinkOf ℕ)) (l m : LinkOf ℕ) → add_chain l empty ≡ Some m
+      → next (put (xs ++ (l ∷ []))) if_line ≡ Some (joining (put (xs ++ (l ∷ []))) empty)
+  if_opens xs l m e = ap (option_map (λ n. joining (put (xs ++ (l ∷ []))) empty)) (put_given xs l m empty e)
+
+joining_left : (m : State) → Holds left_line (λ ls. joining m (chain_of ls []))
+joining_left m = left_holds (λ c. joining m c) (λ c l. refl) (λ d c. refl)
+
+joining_right : (m : State) (ls : List (LinkOf ℕ)) → Holds right_line (λ rs. joining m (chain_of ls rs))
+joining_right m ls = right_holds (λ c. joining m c) ls (λ c l. refl) (λ d c. refl)
+
+-- the kinds of links with conditions
+abbrev WithConds : (ChainsOf ℕ → LinkOf ℕ) → Type 0
+WithConds at = (ds : ChainsOf ℕ) (c : ChainOf ℕ) → add_chain (at ds) c ≡ Some (at (push_chain ds c))
+
+mutual
+  conds_run : (line : LinkOf ℕ → Line) (put : List (LinkOf ℕ) → State) → Holds line put → (at : ChainsOf ℕ → LinkOf ℕ) → WithConds at
+      → (xs : List (LinkOf ℕ)) (ds cs : ChainsOf ℕ) (k : List Line)
+      → run (put (xs ++ (at ds ∷ []))) (conds_lines cs k) ≡ run (put (xs ++ (at (join_chains ds cs) ∷ []))) k
+  conds_run line put h at w xs ds no_chain k = ap (λ c. run (put (xs ++ (at c ∷ []))) k) (sym (join_none ds))
+  conds_run line put h at w xs ds (more_chains l r cs) k =
+      let m : State = put (xs ++ (at ds ∷ [])) in
+      let c : ChainOf ℕ = chain_of (links_in l) (links_in r) in
+      step m (joining m empty) if_line _ (if_opens line put h xs (at ds) (at (push_chain ds empty)) (w ds empty))
+      ∙ left_row_run m [] l (right_row r (same_line ∷ conds_lines cs k))
+      ∙ right_row_run m (links_in l) [] r (same_line ∷ conds_lines cs k)
+      ∙ step (joining m c) (put (xs ++ (at (push_chain ds c) ∷ []))) same_line _ (put_given line put h xs (at ds) (at (push_chain ds c)) c (w ds c))
+      ∙ conds_run line put h at w xs (push_chain ds c) cs k
+      ∙ ap (λ z. run (put (xs ++ (at z ∷ []))) k) (join_pushed ds l r cs)
+
+  link_run : (line : LinkOf ℕ → Line) (put : List (LinkOf ℕ) → State) → Holds line put → (xs : List (LinkOf ℕ)) (l : LinkOf ℕ) (k : List Line)
+      → run (put xs) (line (bare l) ∷ link_conds l k) ≡ run (put (xs ++ (l ∷ []))) k
+  link_run line put h xs (Equation_link n w p ts cs) k =
+      step (put xs) (put (xs ++ (Equation_link n w p ts no_chain ∷ []))) (line (Equation_link n w p ts no_chain)) _
+      (h.takes xs (Equation_link n w p ts no_chain) refl)
+      ∙ conds_run line put h (Equation_link n w p ts) (λ ds c. refl) xs no_chain cs k
+  link_run line put h xs (Hypothesis_link n w p ts cs) k =
+      step (put xs) (put (xs ++ (Hypothesis_link n w p ts no_chain ∷ []))) (line (Hypothesis_link n w p ts no_chain)) _
+      (h.takes xs (Hypothesis_link n w p ts no_chain) refl)
+      ∙ conds_run line put h (Hypothesis_link n w p ts) (λ ds c. refl) xs no_chain cs k
+  link_run line put h xs (Assumption_link n w p) k =
+      step (put xs) (put (xs ++ (Assumption_link n w p ∷ []))) (line (Assumption_link n w p)) k (h.takes xs (Assumption_link n w p) refl)
+  link_run line put h xs (Content_link f p t) k =
+      step (put xs) (put (xs ++ (Content_link f p t ∷ []))) (line (Content_link f p t)) k (h.takes xs (Content_link f p t) refl)
+
+  left_row_run : (m : State) (xs : List (LinkOf ℕ)) (r : LinksOf ℕ) (k : List Line)
+      → run (joining m (chain_of xs [])) (left_row r k) ≡ run (joining m (chain_of (xs ++ links_in r) [])) k
+  left_row_run m xs no_link k = ap (λ z. run (joining m (chain_of z [])) k) (sym (append-nil xs))
+  left_row_run m xs (more_links l ls) k =
+      link_run left_line (λ ls. joining m (chain_of ls [])) (joining_left m) xs l (left_row ls k)
+      ∙ left_row_run m (xs ++ (l ∷ [])) ls k ∙ ap (λ z. run (joining m (chain_of z [])) k) (append_assoc xs (l ∷ []) (links_in ls))
+
+  right_row_run : (m : State) (ls xs : List (LinkOf ℕ)) (r : LinksOf ℕ) (k : List Line)
+      → run (joining m (chain_of ls xs)) (right_row r k) ≡ run (joining m (chain_of ls (xs ++ links_in r))) k
+  right_row_run m ls xs no_link k = ap (λ z. run (joining m (chain_of ls z)) k) (sym (append-nil xs))
+  right_row_run m ls xs (more_links l rs) k =
+      link_run right_line (λ rs. joining m (chain_of ls rs)) (joining_right m ls) xs l (right_row rs k)
+      ∙ right_row_run m ls (xs ++ (l ∷ [])) rs k ∙ ap (λ z. run (joining m (chain_of ls z)) k) (append_assoc xs (l ∷ []) (links_in rs))
+
+-- links that are read where they stand
+links_run : (line : LinkOf ℕ → Line) (put : List (LinkOf ℕ) → State) → Holds line put → (xs ys : List (LinkOf ℕ)) (k : List Line)
+    → run (put xs) (lines_of (λ l k. line (bare l) ∷ link_conds l k) ys k) ≡ run (put (xs ++ ys)) k
+links_run line put h xs [] k = ap (λ r. run (put r) k) (sym (append-nil xs))
+links_run line put h xs (y ∷ ys) k = link_run line put h xs y _ ∙ links_run line put h (xs ++ (y ∷ [])) ys k
+    ∙ ap (λ r. run (put r) k) (append_assoc xs (y ∷ []) ys)
+
+certificate_run : (f : Front) (ls xs : List (LinkOf ℕ)) (k : List Line) → run (certifying f ls) (lines_of left_lines xs k) ≡ run (certifying f (ls ++ xs)) k
+certificate_run f ls xs k = links_run left_line (λ ls. certifying f ls) (certificate_holds f) ls xs k
+
+certificates_run : (m : State) (es : NumberedTable) (ps : List (ℕ × ℕ)) (cs xs : List (List (LinkOf ℕ))) (k : List Line) → to_front m ≡ Some (front es ps cs)
     → (n : State) × (to_front n ≡ Some (front es ps (cs ++ xs))) × (run m (lines_of certificate_lines xs k) ≡ run n k)
 certificates_run m es ps cs [] k e = (m, e ∙ ap (λ r. Some (front es ps r)) (sym (append-nil cs)), refl)
 certificates_run m es ps cs (x ∷ xs) k e =
@@ -72,32 +207,17 @@ certificates_run m es ps cs (x ∷ xs) k e =
           ∙ (certificate_run (front es ps cs) [] x _ ∙ r.2),
     )
 
-lefts_simplify : (o : OpenBlock) (ls xs : List (LinkOf ℕ)) (k : List Line)
-    → run (simplifying o (chain_of ls [])) (lines_of left_lines xs k) ≡ run (simplifying o (chain_of (ls ++ xs) [])) k
-lefts_simplify o ls [] k = ap (λ r. run (simplifying o (chain_of r [])) k) (sym (append-nil ls))
-lefts_simplify o ls (x ∷ xs) k = lefts_simplify o (ls ++ (x ∷ [])) xs k ∙ ap (λ r. run (simplifying o (chain_of r [])) k) (append_assoc ls (x ∷ []) xs)
-
-rights_simplify : (o : OpenBlock) (ls rs xs : List (LinkOf ℕ)) (k : List Line)
-    → run (simplifying o (chain_of ls rs)) (lines_of right_lines xs k) ≡ run (simplifying o (chain_of ls (rs ++ xs))) k
-rights_simplify o ls rs [] k = ap (λ r. run (simplifying o (chain_of ls r)) k) (sym (append-nil rs))
-rights_simplify o ls rs (x ∷ xs) k = rights_simplify o ls (rs ++ (x ∷ [])) xs k ∙ ap (λ r. run (simplifying o (chain_of ls r)) k) (append_assoc rs (x ∷ []) xs)
-
-lefts_reduce : (o : OpenBlock) (fs : List OpenSplit) (ls xs : List (LinkOf ℕ)) (k : List Line)
-    → run (reducing o fs (chain_of ls [])) (lines_of left_lines xs k) ≡ run (reducing o fs (chain_of (ls ++ xs) [])) k
-lefts_reduce o fs ls [] k = ap (λ r. run (reducing o fs (chain_of r [])) k) (sym (append-nil ls))
-lefts_reduce o fs ls (x ∷ xs) k = lefts_reduce o fs (ls ++ (x ∷ [])) xs k ∙ ap (λ r. run (reducing o fs (chain_of r [])) k) (append_assoc ls (x ∷ []) xs)
-
-rights_reduce : (o : OpenBlock) (fs : List OpenSplit) (ls rs xs : List (LinkOf ℕ)) (k : List Line)
-    → run (reducing o fs (chain_of ls rs)) (lines_of right_lines xs k) ≡ run (reducing o fs (chain_of ls (rs ++ xs))) k
-rights_reduce o fs ls rs [] k = ap (λ r. run (reducing o fs (chain_of ls r)) k) (sym (append-nil rs))
-rights_reduce o fs ls rs (x ∷ xs) k = rights_reduce o fs ls (rs ++ (x ∷ [])) xs k
-    ∙ ap (λ r. run (reducing o fs (chain_of ls r)) k) (append_assoc rs (x ∷ []) xs)
-
 chain_reduce : (o : OpenBlock) (fs : List OpenSplit) (c : ChainOf ℕ) (k : List Line) → run (reducing o fs empty) (chain_lines c k) ≡ run (reducing o fs c) k
-chain_reduce o fs c k = lefts_reduce o fs [] c.left (lines_of right_lines c.right k) ∙ rights_reduce o fs c.left [] c.right k
+chain_reduce o fs c k =
+    links_run left_line (λ ls. reducing o fs (chain_of ls [])) (left_holds (λ c. reducing o fs c) (λ c l. refl) (λ d c. refl)) [] c.left
+    (lines_of right_lines c.right k)
+    ∙ links_run right_line (λ rs. reducing o fs (chain_of c.left rs)) (right_holds (λ c. reducing o fs c) c.left (λ c l. refl) (λ d c. refl)) [] c.right k
 
 chain_simplify : (o : OpenBlock) (c : ChainOf ℕ) (k : List Line) → run (simplifying o empty) (chain_lines c k) ≡ run (simplifying o c) k
-chain_simplify o c k = lefts_simplify o [] c.left (lines_of right_lines c.right k) ∙ rights_simplify o c.left [] c.right k
+chain_simplify o c k =
+    links_run left_line (λ ls. simplifying o (chain_of ls [])) (left_holds (λ c. simplifying o c) (λ c l. refl) (λ d c. refl)) [] c.left
+    (lines_of right_lines c.right k)
+    ∙ links_run right_line (λ rs. simplifying o (chain_of c.left rs)) (right_holds (λ c. simplifying o c) c.left (λ c l. refl) (λ d c. refl)) [] c.right k
 
 pub no_zero : (n : ℕ) → nat_eq (n + 1) 0 ≡ false
 no_zero n = grind arith
@@ -148,13 +268,32 @@ mutual
 abbrev pub with_steps : OpenBlock → List NumberedStep → OpenBlock
 with_steps o ss = record { front = o.front; blocks = o.blocks; goals = o.goals; steps = o.steps ++ ss }
 
-abbrev pub with_goals : OpenBlock → List (ℕ × ℕ) → OpenBlock
-with_goals o gs = record { front = o.front; blocks = o.blocks; goals = o.goals ++ gs; steps = o.steps }
+abbrev goals_with : OpenBlock → List GoalNames → OpenBlock
+goals_with o gs = with_goals o (o.goals ++ gs)
 
-goals_run : (o : OpenBlock) (gs : List (ℕ × ℕ)) (k : List Line) → run (opened o) (lines_of goal_lines gs k) ≡ run (opened (with_goals o gs)) k
-goals_run o [] k = ap (λ r. run (opened (record { front = o.front; blocks = o.blocks; goals = r; steps = o.steps })) k) (sym (append-nil o.goals))
-goals_run o (g ∷ gs) k = goals_run (with_goal o g.0 g.1) gs k
-    ∙ ap (λ r. run (opened (record { front = o.front; blocks = o.blocks; goals = r; steps = o.steps })) k) (append_assoc o.goals (g ∷ []) gs)
+last_with : (gs : List GoalNames) (g : GoalNames) (p : ℕ × ℕ) → add_given (gs ++ (g ∷ [])) p ≡ Some (gs ++ (with_given g p ∷ []))
+last_with [] g p = refl
+last_with (x ∷ []) g p = refl
+last_with (x ∷ y ∷ gs) g p = ap (option_map (λ r. x ∷ r)) (last_with (y ∷ gs) g p)
+
+abbrev names_with : List (ℕ × ℕ) → ℕ → ℕ → GoalNames
+names_with ps a b = record { conds = ps; left = a; right = b }
+
+-- the conditions of the last goal
+givens_run : (o : OpenBlock) (gs : List GoalNames) (a b : ℕ) (ps qs : List (ℕ × ℕ)) (k : List Line)
+    → run (opened (with_goals o (gs ++ (names_with ps a b ∷ [])))) (lines_of given_lines qs k) ≡ run (opened (with_goals o (gs ++ (names_with (ps ++ qs) a b ∷ [])))) k
+givens_run o gs a b ps [] k = ap (λ r. run (opened (with_goals o (gs ++ (names_with r a b ∷ [])))) k) (sym (append-nil ps))
+givens_run o gs a b ps (q ∷ qs) k =
+    step (opened (with_goals o (gs ++ (names_with ps a b ∷ [])))) (opened (with_goals o (gs ++ (names_with (ps ++ (q ∷ [])) a b ∷ [])))) (given_line q.0 q.1) _
+    (ap (option_map (λ r. opened (with_goals o r))) (last_with gs (names_with ps a b) q))
+    ∙ givens_run o gs a b (ps ++ (q ∷ [])) qs k
+    ∙ ap (λ r. run (opened (with_goals o (gs ++ (names_with r a b ∷ [])))) k) (append_assoc ps (q ∷ []) qs)
+
+goals_run : (o : OpenBlock) (gs : List GoalNames) (k : List Line) → run (opened o) (lines_of goal_lines gs k) ≡ run (opened (goals_with o gs)) k
+goals_run o [] k = ap (λ r. run (opened (with_goals o r)) k) (sym (append-nil o.goals))
+goals_run o (g ∷ gs) k =
+    givens_run o o.goals g.left g.right [] g.conds (lines_of goal_lines gs k)
+    ∙ goals_run (with_goals o (o.goals ++ (g ∷ []))) gs k ∙ ap (λ r. run (opened (with_goals o r)) k) (append_assoc o.goals (g ∷ []) gs)
 
 one_step : (m : State) (o : OpenBlock) (s : NumberedStep) (k : List Line) → to_step m ≡ Some o → (n : State) × (to_step n ≡ Some (with_step o s))
     × (run m (step_lines s k) ≡ run n k)
@@ -173,6 +312,11 @@ one_step m o Derive_step k e = (
   refl,
   step m (stepping (with_step o Derive_step)) derive_line k (ap (λ r. option_map (λ q. stepping (with_step q Derive_step)) r) e),
 )
+one_step m o (Cases_step t) k e = (
+  stepping (with_step o (Cases_step t)),
+  refl,
+  step m (stepping (with_step o (Cases_step t))) (cases_line t) k (ap (λ r. option_map (λ q. stepping (with_step q (Cases_step t))) r) e),
+)
 
 steps_run : (m : State) (o : OpenBlock) (ss : List NumberedStep) (k : List Line) → to_step m ≡ Some o → (n : State) × (to_step n ≡ Some (with_steps o ss))
     × (run m (lines_of step_lines ss k) ≡ run n k)
@@ -190,10 +334,10 @@ block_run m f bs b k h e = step m (opened (open_block f bs)) block_line _ (ap (�
     ∙ (goals_run (open_block f bs) b.goals (lines_of step_lines b.steps (done_line ∷ k))
     ∙ (a.2 ∙ step a.0 (closed f (bs ++ (b ∷ []))) done_line k (ap (λ r. option_map close_block r) a.1)))
   where
-    a : (n : State) × (to_step n ≡ Some (with_steps (no_steps (with_goals (open_block f bs) b.goals)) b.steps))
-        × (run (opened (with_goals (open_block f bs) b.goals)) (lines_of step_lines b.steps (done_line ∷ k)) ≡ run n (done_line ∷ k))
-    a = steps_run (opened (with_goals (open_block f bs) b.goals)) (no_steps (with_goals (open_block f bs) b.goals)) b.steps (done_line ∷ k)
-        (ap (λ z. cond z None (Some (no_steps (with_goals (open_block f bs) b.goals)))) (not_empty (length b.goals) h))
+    a : (n : State) × (to_step n ≡ Some (with_steps (no_steps (goals_with (open_block f bs) b.goals)) b.steps))
+        × (run (opened (goals_with (open_block f bs) b.goals)) (lines_of step_lines b.steps (done_line ∷ k)) ≡ run n (done_line ∷ k))
+    a = steps_run (opened (goals_with (open_block f bs) b.goals)) (no_steps (goals_with (open_block f bs) b.goals)) b.steps (done_line ∷ k)
+        (ap (λ z. cond z None (Some (no_steps (goals_with (open_block f bs) b.goals)))) (not_empty (length b.goals) h))
 
 blocks_run : (m : State) (f : Front) (bs : List NumberedBlock) (b : NumberedBlock) (xs : List NumberedBlock) (k : List Line) → HasGoals b
     → AllByRecursion HasGoals xs → to_block m ≡ Some (open_block f bs)
@@ -209,8 +353,8 @@ front_block (placing es ps) f e = ap (option_map (λ f. open_block f [])) e
 front_block (certifying g ls) f e = ap (option_map (λ f. open_block f [])) e
 front_block _ f e = absurd (cc)
 
-parts_run : (es : List TableLine) (ps : List (ℕ × ℕ)) (cs : List (List (LinkOf ℕ))) (bs : List NumberedBlock) → 0 < length bs → AllByRecursion HasGoals bs
-    → run begin (head_line ∷ lines_of table_lines es (lines_of place_lines ps (lines_of certificate_lines cs (lines_of block_lines bs (end_line ∷ [])))))
+parts_run : (es : NumberedTable) (ps : List (ℕ × ℕ)) (cs : List (List (LinkOf ℕ))) (bs : List NumberedBlock) → 0 < length bs → AllByRecursion HasGoals bs
+    → run begin (head_lines es (lines_of place_lines ps (lines_of certificate_lines cs (lines_of block_lines bs (end_line ∷ [])))))
     ≡ Some (ended (front es ps cs) bs)
 parts_run es ps cs [] h hs = absurd (omega arith)
 parts_run es ps cs (b ∷ xs) h hs =
@@ -218,7 +362,7 @@ parts_run es ps cs (b ∷ xs) h hs =
     × (run (placed es ps) (lines_of certificate_lines cs (lines_of block_lines (b ∷ xs) (end_line ∷ [])))
     ≡ run n (lines_of block_lines (b ∷ xs) (end_line ∷ [])))
     = certificates_run (placed es ps) es ps [] cs _ (placed_front es ps) in
-    table_run [] es _ ∙ (places_run es ps _ ∙ (r.2 ∙ blocks_run r.0 (front es ps cs) [] b xs (end_line ∷ []) hs.0 hs.1 (front_block r.0 (front es ps cs) r.1)))
+    table_run es.version [] es.lines _ ∙ (places_run es ps _ ∙ (r.2 ∙ blocks_run r.0 (front es ps cs) [] b xs (end_line ∷ []) hs.0 hs.1 (front_block r.0 (front es ps cs) r.1)))
 
 -- The lines of a proof lead to that proof.
 pub proof_run : (p : NumberedProof) → HasParts p → run begin (proof_lines p) ≡ Some (ended (front p.table p.places p.certificates) p.blocks)

@@ -7,7 +7,7 @@ use Rattle.circ_line.specs.Text.{line_text}
 use Rattle.circ_line.specs.Plain.{NoFeed}
 use Rattle.circ_grammar.specs.Grammar.{NumberedProof}
 use Rattle.circ_grammar.specs.FirstBad.{LineTests, IsTextOf, LineFault, Line_fault, Limit_fault, IsFirstFault}
-use Rattle.circ_grammar.specs.Machine.{State, begin, tabling, placing, certifying, opened, stepping, simplifying, reducing, closed, ended, next, proof_of}
+use Rattle.circ_grammar.specs.Machine.{State, begin, tabling, placing, certifying, opened, stepping, simplifying, reducing, joining, closed, ended, next, proof_of}
 use Rattle.circ_grammar.specs.Reading.{At, NextLine, IsEnded}
 use Rattle.circ_grammar.proofs.FirstBad.{bad_cut, bad_form, bad_next, bad_check, bad_limit, go_on, whole}
 
@@ -34,6 +34,7 @@ ended_or_not (opened o) = inr (λ h. absurd (cc h.2))
 ended_or_not (stepping o) = inr (λ h. absurd (cc h.2))
 ended_or_not (simplifying o c) = inr (λ h. absurd (cc h.2))
 ended_or_not (reducing o fs c) = inr (λ h. absurd (cc h.2))
+ended_or_not (joining m c) = inr (λ h. absurd (cc h.2))
 ended_or_not (closed f bs) = inr (λ h. absurd (cc h.2))
 
 -- what bytes are: some proof's text, or with a first line at fault

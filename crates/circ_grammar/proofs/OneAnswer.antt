@@ -7,13 +7,13 @@ use Rattle.circ_line.specs.Text.{line_text}
 use Rattle.circ_grammar.specs.Grammar.{NumberedProof, proof_lines}
 use Rattle.circ_grammar.specs.FirstBad.{LineTests, file_text, AllInRange, NoLimit, IsTextOf, IsGood, PassesLimit, LineFault, Line_fault, Limit_fault}
 use Rattle.circ_grammar.specs.FirstBad.{IsFirstFault}
-use Rattle.circ_grammar.specs.Machine.{State, begin, ended, run, proof_of, front}
+use Rattle.circ_grammar.specs.Machine.{State, begin, ended, run, proof_of, front, numbered_table}
 use Rattle.circ_grammar.proofs.Complete.{proof_run}
 use Rattle.circ_grammar.proofs.FirstBad.{same_front, limit_at, false_true}
 
 abbrev proof_at : State → NumberedProof
 proof_at (ended f bs) = proof_of f bs
-proof_at _ = record { table = []; places = []; certificates = []; blocks = [] }
+proof_at _ = record { table = numbered_table 0 []; places = []; certificates = []; blocks = [] }
 
 no_more : (a b : List Line) (more : List Line) (rest : List ℕ) → b ≡ a ++ more → [] ≡ file_text more ++ rest → b ≡ a
 no_more a b [] rest e f = e ∙ append-nil a

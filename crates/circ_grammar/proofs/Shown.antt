@@ -3,20 +3,21 @@ use Rattle.std.specs.Prelude.{◌≡◌, ℕ, ◌+◌, List, [], ◌∷◌, ◌+
 use Rattle.std.specs.Option.{option_map, option_and_then}
 use Rattle.std.proofs.Common.{sym, ◌∙◌, ap, append_assoc, append-nil, subst}
 use Rattle.std.proofs.lemmas.Option.{same_Some}
+use Rattle.circ_proof.specs.Proof.{GoalNames}
 use Rattle.circ_proof.specs.Plain.{LinkOf, ChainOf, WhyOf, Same_why, Split_why, no_why}
-use Rattle.circ_line.specs.Line.{TableLine, Line, head_line, table_line, place_line, certificate_line, block_line, goal_line, simplify_line, reduce_line}
-use Rattle.circ_line.specs.Line.{derive_line, done_line, same_line, split_line, left_line, right_line, end_line}
+use Rattle.circ_line.specs.Line.{TableLine, Line, head_line, table_line, place_line, certificate_line, block_line, goal_line, given_line, simplify_line}
+use Rattle.circ_line.specs.Line.{reduce_line, derive_line, cases_line, done_line, same_line, split_line, if_line, left_line, right_line, end_line}
 use Rattle.circ_proof.specs.Counting.{why_count}
-use Rattle.circ_grammar.specs.Grammar.{NumberedStep, Simplify_step, Reduce_step, Derive_step, NumberedBlock, NumberedProof, proof_lines}
+use Rattle.circ_grammar.specs.Grammar.{NumberedStep, Simplify_step, Reduce_step, Derive_step, Cases_step, is_bare, NumberedBlock, NumberedProof, proof_lines}
 use Rattle.circ_grammar.specs.Grammar.{HasParts}
 use Rattle.circ_grammar.specs.Machine.{Front, OpenBlock, OpenSplit, State, begin, tabling, placing, certifying, opened, stepping, simplifying, reducing}
-use Rattle.circ_grammar.specs.Machine.{closed, ended, empty, front, with_certificate, no_steps, open_block, with_step, block_of, push_why, open_split}
+use Rattle.circ_grammar.specs.Machine.{joining, closed, with_goals, add_given, in_last, in_right, give_chain, on_given, on_if, ended, empty, front, with_certificate, no_steps, open_block, with_step, block_of, push_why, open_split}
 use Rattle.circ_grammar.specs.Machine.{give_why, to_front, to_block, to_step, add_left, on_head, on_table, on_place, on_goal, on_same, on_split, on_left}
 use Rattle.circ_grammar.specs.Machine.{on_right, on_end, next, run}
 use Rattle.circ_grammar.specs.Parts.{Head_part, Certificate_part, Goals_part, Step_part, Done_part, NumberedPart, step_parts, certificate_parts}
 use Rattle.circ_grammar.specs.Parts.{block_parts, blocks_parts, parts_of}
 use Rattle.circ_grammar.specs.Shown.{front_parts, parts_with, open_parts, shown, at_front, at_step, at_why, at_same, at_split, brings}
-use Rattle.circ_grammar.proofs.Spelled.{option_map_some, close_block}
+use Rattle.circ_grammar.proofs.Spelled.{option_map_some, close_block, under_test}
 use Rattle.circ_grammar.proofs.Complete.{proof_run, run-front}
 
 step_parts-push : (ss : List NumberedStep) (s : NumberedStep) → step_parts (ss ++ s ∷ []) ≡ step_parts ss ++ Step_part s ∷ []
@@ -93,16 +94,34 @@ left_shown (simplifying o c) n l e = let p : (d : ChainOf ℕ) × (add_left c l 
     option_map_some (λ d. simplifying o d) (add_left c l) n e in ap shown (sym p.2)
 left_shown (reducing o fs c) n l e = let p : (d : ChainOf ℕ) × (add_left c l ≡ Some d) × (reducing o fs d ≡ n) =
     option_map_some (λ d. reducing o fs d) (add_left c l) n e in ap shown (sym p.2)
+left_shown (joining m c) n l e = let p : (d : ChainOf ℕ) × (add_left c l ≡ Some d) × (joining m d ≡ n) =
+    option_map_some (λ d. joining m d) (add_left c l) n e in ap shown (sym p.2)
 left_shown _ n l e = absurd (cc)
 
 right_shown : (m n : State) (l : LinkOf ℕ) → on_right m l ≡ Some n → shown n ≡ shown m
 right_shown (simplifying o c) n l e = found _ n _ e refl
 right_shown (reducing o fs c) n l e = found _ n _ e refl
+right_shown (joining m c) n l e = found _ n _ e refl
 right_shown _ n l e = absurd (cc)
 
-head_shown : (m n : State) → on_head m ≡ Some n → shown n ≡ shown m
-head_shown begin n e = found _ n _ e refl
-head_shown _ n e = absurd (cc)
+chain_shown : (m n : State) (c : ChainOf ℕ) → give_chain m c ≡ Some n → shown n ≡ shown m
+chain_shown (certifying f ls) n c e = let p : (ms : List (LinkOf ℕ)) × (in_last ls c ≡ Some ms) × (certifying f ms ≡ n) =
+    option_map_some (λ ms. certifying f ms) (in_last ls c) n e in ap shown (sym p.2)
+chain_shown (simplifying o x) n c e = let p : (y : ChainOf ℕ) × (in_right x.left x.right c ≡ Some y) × (simplifying o y ≡ n) =
+    option_map_some (λ y. simplifying o y) (in_right x.left x.right c) n e in ap shown (sym p.2)
+chain_shown (reducing o fs x) n c e = let p : (y : ChainOf ℕ) × (in_right x.left x.right c ≡ Some y) × (reducing o fs y ≡ n) =
+    option_map_some (λ y. reducing o fs y) (in_right x.left x.right c) n e in ap shown (sym p.2)
+chain_shown (joining m x) n c e = let p : (y : ChainOf ℕ) × (in_right x.left x.right c ≡ Some y) × (joining m y ≡ n) =
+    option_map_some (λ y. joining m y) (in_right x.left x.right c) n e in ap shown (sym p.2)
+chain_shown _ n c e = absurd (cc)
+
+if_shown : (m n : State) → on_if m ≡ Some n → shown n ≡ shown m
+if_shown m n e = let p : (q : State) × (give_chain m empty ≡ Some q) × (joining m empty ≡ n) =
+    option_map_some (λ q. joining m empty) (give_chain m empty) n e in ap shown (sym p.2)
+
+head_shown : (m n : State) (v : ℕ) → on_head m v ≡ Some n → shown n ≡ shown m
+head_shown begin n v e = found _ n _ e refl
+head_shown _ n v e = absurd (cc)
 
 table_shown : (m n : State) (x : TableLine) → on_table m x ≡ Some n → shown n ≡ shown m
 table_shown (tabling es) n x e = found _ n _ e refl
@@ -117,12 +136,18 @@ goal_shown : (m n : State) (a b : ℕ) → on_goal m a b ≡ Some n → shown n 
 goal_shown (opened o) n a b e = found _ n _ e refl
 goal_shown _ n a b e = absurd (cc)
 
+given_shown : (m n : State) (p : ℕ × ℕ) → on_given m p ≡ Some n → shown n ≡ shown m
+given_shown (opened o) n p e = let q : (gs : List GoalNames) × (add_given o.goals p ≡ Some gs) × (opened (with_goals o gs) ≡ n) =
+    option_map_some (λ gs. opened (with_goals o gs)) (add_given o.goals p) n e in ap shown (sym q.2)
+given_shown _ n p e = absurd (cc)
+
 end_shown : (m n : State) → on_end m ≡ Some n → shown n ≡ shown m
 end_shown (closed f bs) n e = found _ n _ e refl
 end_shown _ n e = absurd (cc)
 
 same_shown : (m n : State) → on_same m ≡ Some n → shown n ≡ shown m ++ at_same m
 same_shown (reducing o fs c) n e = found _ n _ e (give_why_shown o fs (Same_why c))
+same_shown (joining m c) n e = chain_shown m n c e ∙ nil (shown m)
 same_shown _ n e = absurd (cc)
 
 split_shown : (m n : State) (t k : ℕ) → on_split m t k ≡ Some n → shown n ≡ shown m ++ at_split m t k
@@ -136,7 +161,7 @@ split_shown _ n t k e = absurd (cc)
 
 -- 1. Each line shows what it brings, and nothing that was shown is taken back.
 pub next_shown : (m n : State) (l : Line) → next m l ≡ Some n → shown n ≡ shown m ++ brings m l
-next_shown m n head_line e = head_shown m n e ∙ nil (shown m)
+next_shown m n (head_line v) e = head_shown m n v e ∙ nil (shown m)
 next_shown m n (table_line x) e = table_shown m n x e ∙ nil (shown m)
 next_shown m n (place_line a b) e = place_shown m n (a, b) e ∙ nil (shown m)
 next_shown m n certificate_line e = let p : (f : Front) × (to_front m ≡ Some f) × (certifying f [] ≡ n) =
@@ -144,6 +169,7 @@ next_shown m n certificate_line e = let p : (f : Front) × (to_front m ≡ Some 
 next_shown m n block_line e = let p : (o : OpenBlock) × (to_block m ≡ Some o) × (opened o ≡ n) = option_map_some (λ o. opened o) (to_block m) n e in
     ap shown (sym p.2) ∙ to_block_shown m p.0 p.1
 next_shown m n (goal_line a b) e = goal_shown m n a b e ∙ nil (shown m)
+next_shown m n (given_line a b) e = given_shown m n (a, b) e ∙ nil (shown m)
 next_shown m n simplify_line e = let p : (o : OpenBlock) × (to_step m ≡ Some o) × (simplifying o empty ≡ n) =
     option_map_some (λ o. simplifying o empty) (to_step m) n e in ap shown (sym p.2) ∙ to_step_shown m p.0 p.1
 next_shown m n reduce_line e = let p : (o : OpenBlock) × (to_step m ≡ Some o) × (reducing o [] empty ≡ n) =
@@ -152,12 +178,17 @@ next_shown m n derive_line e = let p : (o : OpenBlock) × (to_step m ≡ Some o)
     option_map_some (λ o. stepping (with_step o Derive_step)) (to_step m) n e in
     ap shown (sym p.2) ∙ with_step-push p.0 Derive_step ∙ ap (λ r. r ++ Step_part Derive_step ∷ []) (to_step_shown m p.0 p.1)
     ∙ append_assoc (shown m) (at_step m) (Step_part Derive_step ∷ [])
+next_shown m n (cases_line t) e = let p : (o : OpenBlock) × (to_step m ≡ Some o) × (stepping (with_step o (Cases_step t)) ≡ n) =
+    option_map_some (λ o. stepping (with_step o (Cases_step t))) (to_step m) n e in
+    ap shown (sym p.2) ∙ with_step-push p.0 (Cases_step t) ∙ ap (λ r. r ++ Step_part (Cases_step t) ∷ []) (to_step_shown m p.0 p.1)
+    ∙ append_assoc (shown m) (at_step m) (Step_part (Cases_step t) ∷ [])
 next_shown m n done_line e = let p : (o : OpenBlock) × (to_step m ≡ Some o) × (close_block o ≡ n) = option_map_some close_block (to_step m) n e in
     ap shown (sym p.2) ∙ done-push p.0 ∙ ap (λ r. r ++ Done_part ∷ []) (to_step_shown m p.0 p.1) ∙ append_assoc (shown m) (at_step m) (Done_part ∷ [])
 next_shown m n same_line e = same_shown m n e
 next_shown m n (split_line t k) e = split_shown m n t k e
-next_shown m n (left_line l) e = left_shown m n l e ∙ nil (shown m)
-next_shown m n (right_line l) e = right_shown m n l e ∙ nil (shown m)
+next_shown m n if_line e = if_shown m n e ∙ nil (shown m)
+next_shown m n (left_line l) e = under_test (is_bare l) (on_left m l) n e (λ b e. left_shown m n l e) ∙ nil (shown m)
+next_shown m n (right_line l) e = under_test (is_bare l) (on_right m l) n e (λ b e. right_shown m n l e) ∙ nil (shown m)
 next_shown m n end_line e = end_shown m n e ∙ nil (shown m)
 
 pub run_shown : (m n : State) (ls : List Line) → run m ls ≡ Some n → (xs : List NumberedPart) × (shown n ≡ shown m ++ xs)

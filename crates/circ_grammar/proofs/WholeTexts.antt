@@ -1,34 +1,41 @@
 -- A text that breaks off, and one that goes on after its end: the next line is the first at fault.
-use Rattle.std.specs.Prelude.{◌≡◌, ℕ, ◌+◌, List, [], ◌∷◌, ◌++◌, length, refl, Some, None}
+use Rattle.std.specs.Prelude.{◌≡◌, ℕ, ◌+◌, List, [], ◌∷◌, ◌++◌, length, refl, Option, Some, None, cond, Bool, true, false}
 use Rattle.std.specs.Option.{option_and_then}
 use Rattle.std.proofs.Common.{sym, ◌∙◌, ap, arith, subst}
 use Rattle.std.proofs.lemmas.Option.{none-some}
-use Rattle.circ_line.specs.Line.{Line, head_line, table_line, place_line, certificate_line, block_line, goal_line, simplify_line, reduce_line}
-use Rattle.circ_line.specs.Line.{derive_line, done_line, same_line, split_line, left_line, right_line, end_line}
+use Rattle.circ_line.specs.Line.{Line, head_line, table_line, place_line, certificate_line, block_line, goal_line, given_line, simplify_line}
+use Rattle.circ_line.specs.Line.{reduce_line, derive_line, cases_line, done_line, same_line, split_line, if_line, left_line, right_line, end_line}
 use Rattle.circ_line.specs.Text.{line_text, IsInRange}
 use Rattle.circ_line.specs.Plain.{NoFeed}
-use Rattle.circ_grammar.specs.Grammar.{NumberedBlock, NumberedProof, proof_lines}
+use Rattle.circ_grammar.specs.Grammar.{NumberedBlock, NumberedProof, proof_lines, is_bare}
 use Rattle.circ_grammar.specs.FirstBad.{LineTests, file_text, AllInRange, AllPass, NoLimit, IsTextOf, IsGood, Line_fault, IsFirstFault}
 use Rattle.circ_grammar.specs.Machine.{Front, State, begin, ended, next, run, front}
 use Rattle.circ_grammar.specs.Reading.{At, IsEnded}
 use Rattle.circ_grammar.proofs.Complete.{proof_run, run-front, begins_run}
 use Rattle.circ_grammar.proofs.FirstBad.{all_front, pass_front, more_line, run_push, follows_fit, first_bad, bad_cut}
 
+no_test : (b : Bool) → ◌≡◌ {A = Option State} (cond b None None) None
+no_test true = refl
+no_test false = refl
+
 ended_stops : (f : Front) (bs : List NumberedBlock) (l : Line) → next (ended f bs) l ≡ None
-ended_stops f bs head_line = refl
+ended_stops f bs (head_line v) = refl
 ended_stops f bs (table_line t) = refl
 ended_stops f bs (place_line op arg) = refl
 ended_stops f bs certificate_line = refl
 ended_stops f bs block_line = refl
 ended_stops f bs (goal_line left right) = refl
+ended_stops f bs (given_line left right) = refl
 ended_stops f bs simplify_line = refl
 ended_stops f bs reduce_line = refl
 ended_stops f bs derive_line = refl
+ended_stops f bs (cases_line t) = refl
 ended_stops f bs done_line = refl
 ended_stops f bs same_line = refl
 ended_stops f bs (split_line term count) = refl
-ended_stops f bs (left_line link) = refl
-ended_stops f bs (right_line link) = refl
+ended_stops f bs if_line = refl
+ended_stops f bs (left_line link) = no_test (is_bare link)
+ended_stops f bs (right_line link) = no_test (is_bare link)
 ended_stops f bs end_line = refl
 
 limit_front : (r : LineTests) (before a b : List Line) → NoLimit r before (a ++ b) → NoLimit r before a

@@ -1,13 +1,14 @@
 -- What a reader has to keep: the part that is under way, and no part that is whole.
 use Rattle.std.specs.Prelude.{ℕ, ◌+◌, List, [], ◌∷◌, ◌++◌, length, Option, Some, None, cond, nat_eq, Bool, true, false}
 use Rattle.std.specs.Option.{option_map}
+use Rattle.circ_proof.specs.Proof.{GoalNames}
 use Rattle.circ_proof.specs.Plain.{LinkOf, ChainOf, WhyOf, Same_why, Split_why, no_why}
-use Rattle.circ_line.specs.Line.{Line, head_line, table_line, place_line, certificate_line, block_line, goal_line, simplify_line, reduce_line, derive_line}
-use Rattle.circ_line.specs.Line.{done_line, same_line, split_line, left_line, right_line, end_line}
+use Rattle.circ_line.specs.Line.{Line, head_line, table_line, place_line, certificate_line, block_line, goal_line, given_line, simplify_line, reduce_line}
+use Rattle.circ_line.specs.Line.{derive_line, cases_line, done_line, same_line, split_line, if_line, left_line, right_line, end_line}
 use Rattle.circ_proof.specs.Counting.{why_count}
-use Rattle.circ_grammar.specs.Grammar.{Simplify_step, Reduce_step, Derive_step}
-use Rattle.circ_grammar.specs.Machine.{OpenSplit, State, begin, tabling, placing, certifying, opened, stepping, simplifying, reducing, closed, ended, empty}
-use Rattle.circ_grammar.specs.Machine.{push_why, open_split, add_left, add_right}
+use Rattle.circ_grammar.specs.Grammar.{Simplify_step, Reduce_step, Derive_step, Cases_step, is_bare}
+use Rattle.circ_grammar.specs.Machine.{OpenSplit, State, begin, tabling, placing, certifying, opened, stepping, simplifying, reducing, joining, closed, ended, empty}
+use Rattle.circ_grammar.specs.Machine.{push_why, open_split, add_left, add_right, goal_names, add_given, in_last, in_chain}
 use Rattle.circ_grammar.specs.Parts.{PartOf, Head_part, Certificate_part, Goals_part, Step_part, Done_part, NumberedPart}
 
 pub data Now : Type 0 where
@@ -15,10 +16,11 @@ pub data Now : Type 0 where
   Tabling : Now
   Placing : List (ℕ × ℕ) → Now
   Certifying : List (LinkOf ℕ) → Now
-  Opened : List (ℕ × ℕ) → Now
+  Opened : List GoalNames → Now
   Stepping : Now
   Simplifying : ChainOf ℕ → Now
   Reducing : List OpenSplit → ChainOf ℕ → Now
+  Joining : Now → ChainOf ℕ → Now
   Closed : Now
   Ended : Now
 
@@ -32,6 +34,7 @@ now (opened o) = Opened o.goals
 now (stepping o) = Stepping
 now (simplifying o c) = Simplifying c
 now (reducing o fs c) = Reducing fs c
+now (joining m c) = Joining (now m) c
 now (closed f bs) = Closed
 now (ended f bs) = Ended
 
@@ -71,11 +74,26 @@ next_place (Placing ps) p = Some (Placing (ps ++ p ∷ []))
 next_place _ p = None
 
 abbrev pub next_goal : Now → ℕ → ℕ → Option Now
-next_goal (Opened gs) a b = Some (Opened (gs ++ (a, b) ∷ []))
+next_goal (Opened gs) a b = Some (Opened (gs ++ goal_names a b ∷ []))
 next_goal _ a b = None
+
+abbrev pub next_given : Now → ℕ × ℕ → Option Now
+next_given (Opened gs) p = option_map Opened (add_given gs p)
+next_given _ p = None
+
+abbrev pub give_chain_now : Now → ChainOf ℕ → Option Now
+give_chain_now (Certifying ls) c = option_map Certifying (in_last ls c)
+give_chain_now (Simplifying d) c = option_map Simplifying (in_chain d c)
+give_chain_now (Reducing fs d) c = option_map (Reducing fs) (in_chain d c)
+give_chain_now (Joining n d) c = option_map (Joining n) (in_chain d c)
+give_chain_now _ c = None
+
+abbrev pub next_if : Now → Option Now
+next_if n = option_map (λ m. Joining n empty) (give_chain_now n empty)
 
 abbrev pub next_same : Now → Option Now
 next_same (Reducing fs c) = Some (give_why_now fs (Same_why c))
+next_same (Joining n c) = give_chain_now n c
 next_same _ = None
 
 abbrev pub next_split : Now → ℕ → ℕ → Option Now
@@ -86,11 +104,13 @@ abbrev pub next_left : Now → LinkOf ℕ → Option Now
 next_left (Certifying ls) l = Some (Certifying (ls ++ l ∷ []))
 next_left (Simplifying c) l = option_map Simplifying (add_left c l)
 next_left (Reducing fs c) l = option_map (Reducing fs) (add_left c l)
+next_left (Joining n c) l = option_map (Joining n) (add_left c l)
 next_left _ l = None
 
 abbrev pub next_right : Now → LinkOf ℕ → Option Now
 next_right (Simplifying c) l = Some (Simplifying (add_right c l))
 next_right (Reducing fs c) l = Some (Reducing fs (add_right c l))
+next_right (Joining n c) l = Some (Joining n (add_right c l))
 next_right _ l = None
 
 abbrev pub next_end : Now → Option Now
@@ -99,20 +119,23 @@ next_end _ = None
 
 -- what the next line makes of it
 abbrev pub next_now : Now → Line → Option Now
-next_now n head_line = next_head n
+next_now n (head_line v) = next_head n
 next_now n (table_line e) = next_table n
 next_now n (place_line a b) = next_place n (a, b)
 next_now n certificate_line = cond (is_front n) (Some (Certifying [])) None
 next_now n block_line = cond (is_block n) (Some (Opened [])) None
 next_now n (goal_line a b) = next_goal n a b
+next_now n (given_line a b) = next_given n (a, b)
 next_now n simplify_line = cond (is_step n) (Some (Simplifying empty)) None
 next_now n reduce_line = cond (is_step n) (Some (Reducing [] empty)) None
 next_now n derive_line = cond (is_step n) (Some Stepping) None
+next_now n (cases_line t) = cond (is_step n) (Some Stepping) None
 next_now n done_line = cond (is_step n) (Some Closed) None
 next_now n same_line = next_same n
 next_now n (split_line t k) = next_split n t k
-next_now n (left_line l) = next_left n l
-next_now n (right_line l) = next_right n l
+next_now n if_line = next_if n
+next_now n (left_line l) = cond (is_bare l) (next_left n l) None
+next_now n (right_line l) = cond (is_bare l) (next_right n l) None
 next_now n end_line = next_end n
 
 -- The parts that a line shows, by the part under way and what stands for the table.
@@ -146,6 +169,7 @@ line_part ts n block_line = front_part ts n
 line_part ts n simplify_line = step_part ts n
 line_part ts n reduce_line = step_part ts n
 line_part ts n derive_line = step_part ts n ++ Step_part Derive_step ∷ []
+line_part ts n (cases_line t) = step_part ts n ++ Step_part (Cases_step t) ∷ []
 line_part ts n done_line = step_part ts n ++ Done_part ∷ []
 line_part ts n same_line = same_part n
 line_part ts n (split_line t k) = split_part n t k

@@ -1,19 +1,20 @@
 -- The parts of a proof, in the order of its lines, and which of them so many lines show. What stands for the table may be its lines or anything else.
 use Rattle.std.specs.Prelude.{if◌then◌else◌, nat_lt, ℕ, ◌+◌, ◌-◌, List, [], ◌∷◌, ◌++◌, length, Bool, true, false}
 use Rattle.circ_proof.specs.Plain.{LinkOf}
-use Rattle.circ_line.specs.Line.{TableLine, Line, head_line, certificate_line, block_line, simplify_line, reduce_line, derive_line, done_line}
-use Rattle.circ_grammar.specs.Grammar.{NumberedStep, Simplify_step, Reduce_step, Derive_step, NumberedBlock, NumberedProof, lines_of, table_lines}
-use Rattle.circ_grammar.specs.Grammar.{place_lines, left_lines, goal_lines, chain_lines, why_lines}
+use Rattle.circ_proof.specs.Proof.{GoalNames}
+use Rattle.circ_line.specs.Line.{Line, certificate_line, block_line, simplify_line, reduce_line, derive_line, cases_line, done_line}
+use Rattle.circ_grammar.specs.Grammar.{NumberedStep, Simplify_step, Reduce_step, Derive_step, Cases_step, NumberedTable, NumberedBlock, NumberedProof}
+use Rattle.circ_grammar.specs.Grammar.{lines_of, head_lines, place_lines, left_lines, goal_lines, chain_lines, why_lines}
 
 pub data PartOf (T : Type 0) : Type 0 where
   Head_part : (table : T) (places : List (ℕ × ℕ)) → PartOf T
   Certificate_part : (links : List (LinkOf ℕ)) → PartOf T
-  Goals_part : (goals : List (ℕ × ℕ)) → PartOf T
+  Goals_part : (goals : List GoalNames) → PartOf T
   Step_part : NumberedStep → PartOf T
   Done_part : PartOf T
 
 abbrev pub NumberedPart : Type 0
-NumberedPart = PartOf (List TableLine)
+NumberedPart = PartOf NumberedTable
 
 abbrev pub step_parts : List NumberedStep → List NumberedPart
 step_parts [] = []
@@ -36,12 +37,13 @@ parts_of p = Head_part p.table p.places ∷ certificate_parts p.certificates ++ 
 
 -- the lines of a part, and then the lines k
 abbrev pub part_lines : NumberedPart → List Line → List Line
-part_lines (Head_part es ps) k = head_line ∷ lines_of table_lines es (lines_of place_lines ps k)
+part_lines (Head_part es ps) k = head_lines es (lines_of place_lines ps k)
 part_lines (Certificate_part ls) k = certificate_line ∷ lines_of left_lines ls k
 part_lines (Goals_part gs) k = block_line ∷ lines_of goal_lines gs k
 part_lines (Step_part (Simplify_step c)) k = simplify_line ∷ chain_lines c k
 part_lines (Step_part (Reduce_step w)) k = reduce_line ∷ why_lines w k
 part_lines (Step_part Derive_step) k = derive_line ∷ k
+part_lines (Step_part (Cases_step t)) k = cases_line t ∷ k
 part_lines Done_part k = done_line ∷ k
 
 -- the part ends where the next one begins, and not by a line of its own
@@ -52,6 +54,7 @@ is_open (Goals_part gs) = true
 is_open (Step_part (Simplify_step c)) = true
 is_open (Step_part (Reduce_step w)) = false
 is_open (Step_part Derive_step) = false
+is_open (Step_part (Cases_step t)) = false
 is_open Done_part = false
 
 -- The lines that show the end of a part: its own, and for an open one the line that begins the next.

@@ -1,11 +1,11 @@
 -- Which parts are shown where a reader stands, and which the next line shows.
 use Rattle.std.specs.Prelude.{ℕ, ◌+◌, List, [], ◌∷◌, ◌++◌, cond, nat_eq}
 use Rattle.circ_proof.specs.Plain.{WhyOf, Same_why, Split_why, no_why}
-use Rattle.circ_line.specs.Line.{Line, certificate_line, block_line, simplify_line, reduce_line, derive_line, done_line, same_line, split_line}
+use Rattle.circ_line.specs.Line.{Line, certificate_line, block_line, simplify_line, reduce_line, derive_line, cases_line, done_line, same_line, split_line}
 use Rattle.circ_proof.specs.Counting.{why_count}
-use Rattle.circ_grammar.specs.Grammar.{Simplify_step, Reduce_step, Derive_step, NumberedBlock}
+use Rattle.circ_grammar.specs.Grammar.{Simplify_step, Reduce_step, Derive_step, Cases_step, NumberedBlock}
 use Rattle.circ_grammar.specs.Machine.{Front, OpenBlock, OpenSplit, State, begin, tabling, placing, certifying, opened, stepping, simplifying, reducing}
-use Rattle.circ_grammar.specs.Machine.{closed, ended, push_why}
+use Rattle.circ_grammar.specs.Machine.{joining, closed, ended, push_why}
 use Rattle.circ_grammar.specs.Parts.{Head_part, Certificate_part, Goals_part, Step_part, Done_part, NumberedPart, step_parts, certificate_parts}
 use Rattle.circ_grammar.specs.Parts.{blocks_parts}
 
@@ -29,6 +29,7 @@ shown (opened o) = parts_with o.front o.blocks
 shown (stepping o) = open_parts o
 shown (simplifying o c) = open_parts o
 shown (reducing o fs c) = open_parts o
+shown (joining m c) = shown m
 shown (closed f bs) = parts_with f bs
 shown (ended f bs) = parts_with f bs
 
@@ -66,6 +67,7 @@ brings m block_line = at_front m
 brings m simplify_line = at_step m
 brings m reduce_line = at_step m
 brings m derive_line = at_step m ++ Step_part Derive_step ∷ []
+brings m (cases_line t) = at_step m ++ Step_part (Cases_step t) ∷ []
 brings m done_line = at_step m ++ Done_part ∷ []
 brings m same_line = at_same m
 brings m (split_line t n) = at_split m t n

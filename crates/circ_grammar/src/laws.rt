@@ -1,9 +1,9 @@
 //! What is proved of the grammar. The functions do nothing: a law is a contract.
 ghost use Rattle.std.specs.Prelude.{◌≡◌, ℕ, ◌+◌, List, ◌∷◌, ◌++◌, length, map, Some};
 ghost use Rattle.std.specs.Option.{option_map};
-ghost use Rattle.circ_line.specs.Line.{TableLine, Line};
+ghost use Rattle.circ_line.specs.Line.{Line};
 ghost use Rattle.circ_line.specs.Plain.{NoFeed};
-ghost use Rattle.circ_grammar.specs.Grammar.{NumberedProof, HasParts, BeginsProof, proof_lines};
+ghost use Rattle.circ_grammar.specs.Grammar.{NumberedTable, NumberedProof, HasParts, BeginsProof, proof_lines};
 ghost use Rattle.circ_grammar.specs.FirstBad.{LineTests, file_text, IsTextOf, LineFault};
 ghost use Rattle.circ_grammar.specs.FirstBad.{Line_fault, IsFirstFault};
 ghost use Rattle.circ_grammar.specs.Machine.{State, begin, next, run};
@@ -64,7 +64,7 @@ pub fn shown_parts()
 /// The part under way goes on as the state does, and tells what parts a line shows.
 pub fn part_under_way()
     ensures goes_on { (m : State) (l : Line) → option_map now (next m l) ≡ next_now (now m) l }
-    ensures shows { (table : List TableLine) (m : State) (l : Line) →
+    ensures shows { (table : NumberedTable) (m : State) (l : Line) →
         map (with_table table) (brings m l) ≡ line_part table (now m) l }
 {}
 

@@ -8,6 +8,7 @@ use Rattle.circ_theory.specs.declared.parts.Goal.{Goal}
 use Rattle.circ_theory.specs.declared.way.Way.TheVariants.{Forth, Back}
 use Rattle.circ_match.specs.Matcher.{has_variable}
 use Rattle.circ_index.specs.Finding.{PairMatches, NoneMatches, FindsFirstPair, both_ways}
+use Rattle.circ_plain_search.specs.BlockRules.{HaveNoConditions}
 use Rattle.circ_plain_search.specs.Joining.{HypothesisUse, use_with, one_use, first_use}
 use Rattle.circ_join.specs.Hypotheses.{both_sides, way_at}
 use Rattle.circ_join.proofs.BothSides.{no_pair_match, pair_match}
@@ -58,28 +59,28 @@ next_use n q ts new p =
     let rest : p % 2 ≡ suc (suc p) % 2 = omega arith in
     ap (λ x. use_with x (way_at p) q ts new) number ∙ ap (λ x. use_with (n + suc (suc p) / 2) (if x == 0 then Forth else Back) q ts new) rest
 
-found_used : (n : ℕ) (H : List Goal) (q : List ℕ) (a b : Tree) (p : ℕ) (σ : List Bound) (ts : List Tree) → FindsFirstPair (map both_sides H) 0 a b (Some (p, σ))
+found_used : (n : ℕ) (H : List Goal) → HaveNoConditions H → (q : List ℕ) (a b : Tree) (p : ℕ) (σ : List Bound) (ts : List Tree) → FindsFirstPair (map both_sides H) 0 a b (Some (p, σ))
     → IsStrictlySortedBy bound_cmp σ → ts ≡ map (λ x. x.term) σ → first_use n H q a b ≡ Some (use_at n q ts b p)
-found_used n [] q a b p σ ts f o e = absurd (let z = f.1.1 in cc)
-found_used n (h ∷ H) q a b zero σ ts f o e =
+found_used n [] plain q a b p σ ts f o e = absurd (let z = f.1.1 in cc)
+found_used n (h ∷ H) plain q a b zero σ ts f o e =
     let here : PairMatches a b (both_sides h) (Some σ) = subst (λ x. PairMatches a b x (Some σ)) (sym (same_Some (both_sides h) f.1.0 f.1.1)) f.1.2 in
-    let used = pair_match n Forth h q b a b σ ts here o e in
+    let used = pair_match n Forth h plain.0 q b a b σ ts here o e in
     let number : n ≡ n + 0 / 2 = omega arith in
     rw used (ap (λ x. Some (use_with x Forth q ts b)) number)
-found_used n (h ∷ H) q a b (suc zero) σ ts f o e =
+found_used n (h ∷ H) plain q a b (suc zero) σ ts f o e =
     let here : PairMatches a b (h.right, h.left) (Some σ) = subst (λ x. PairMatches a b x (Some σ)) (sym (same_Some (h.right, h.left) f.1.0 f.1.1)) f.1.2 in
     let forth = no_pair_match n Forth h q b a b (f.2 0 (both_sides h) (omega arith) (omega arith) refl) in
-    let used = pair_match n Back h q b b a σ ts (turned h a b σ here) o e in
+    let used = pair_match n Back h plain.0 q b b a σ ts (turned h a b σ here) o e in
     let number : n ≡ n + 1 / 2 = omega arith in
     rw (forth, used) (ap (λ x. Some (use_with x Back q ts b)) number)
-found_used n (h ∷ H) q a b (suc (suc p)) σ ts f o e =
+found_used n (h ∷ H) plain q a b (suc (suc p)) σ ts f o e =
     let here = not_used n h H q a b (suc (suc p)) (omega arith) f.2 in
     let later : FindsFirstPair (map both_sides H) 0 a b (Some (p, σ)) = (omega arith, f.1, none_later a b h H (suc (suc p)) p (omega arith) f.2) in
-    let rest = found_used (n + 1) H q a b p σ ts later o e in
+    let rest = found_used (n + 1) H plain.1 q a b p σ ts later o e in
     rw (here, rest) (ap Some (next_use n q ts b p))
 
-pub first_found : (H : List Goal) (q : List ℕ) (a b : Tree) (p : ℕ) (σ : List Bound) (ts : List Tree) → FindsFirstPair (map both_sides H) 0 a b (Some (p, σ))
+pub first_found : (H : List Goal) → HaveNoConditions H → (q : List ℕ) (a b : Tree) (p : ℕ) (σ : List Bound) (ts : List Tree) → FindsFirstPair (map both_sides H) 0 a b (Some (p, σ))
     → IsStrictlySortedBy bound_cmp σ → ts ≡ map (λ x. x.term) σ → first_use 0 H q a b ≡ Some (use_with (p / 2) (way_at p) q ts b)
-first_found H q a b p σ ts f o e =
+first_found H plain q a b p σ ts f o e =
     let number : 0 + p / 2 ≡ p / 2 = omega arith in
-    found_used 0 H q a b p σ ts f o e ∙ ap (λ x. Some (use_with x (way_at p) q ts b)) number
+    found_used 0 H plain q a b p σ ts f o e ∙ ap (λ x. Some (use_with x (way_at p) q ts b)) number

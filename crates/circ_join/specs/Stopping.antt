@@ -1,10 +1,11 @@
 -- What parts of a search answer that may stop it.
-use Rattle.std.specs.Prelude.{◌≡◌, ℕ, List, Result, Ok, Err}
+use Rattle.std.specs.Prelude.{◌≡◌, ℕ, List, map, Result, Ok, Err}
 use Rattle.std.specs.Option.{unwrap_or}
 use Rattle.circ_term.specs.Tree.{Tree, replaced}
 use Rattle.circ_term.specs.Limits.{Big, Deep, first_limit}
 use Rattle.circ_term.specs.declared.fault.TermFault.{TermFault}
 use Rattle.circ_term.specs.declared.fault.TermFault.TheVariants as term
+use Rattle.circ_theory.specs.Pairs.{plain_pair}
 use Rattle.circ_rewrite.specs.declared.fault.RewriteFault.{RewriteFault}
 use Rattle.circ_rewrite.specs.declared.fault.RewriteFault.TheVariants as rewrite
 use Rattle.circ_plain_search.specs.Joining.{Stop, No_budget, Past_limit, Not_split, within_or}
@@ -16,7 +17,7 @@ abbrev pub Stops : {A : Type 0} → Result A Stop → TheStop → Type 0
 Stops r stop.Spent = r ≡ Err No_budget
 Stops r (stop.TooBig nodes) = r ≡ Err (Past_limit (Big nodes))
 Stops r (stop.TooDeep depth) = r ≡ Err (Past_limit (Deep depth))
-Stops r (stop.Stuck s t A) = r ≡ Err (Not_split s t A.items)
+Stops r (stop.Stuck s t A) = r ≡ Err (Not_split s t (map plain_pair A.items))
 Stops r stop.Memory = Unit {0}
 
 abbrev pub term_stop : TermFault → TheStop

@@ -3,12 +3,20 @@ use Rattle.std.specs.Prelude.{◌≡◌, Bool, true, false, List, ◌++◌, map,
 use Rattle.circ_term.specs.Substitution.{instance}
 use Rattle.circ_term.specs.Subst.{substitution_of}
 use Rattle.circ_theory.specs.declared.way.Way.TheVariants.{Forth}
+use Rattle.circ_proof.specs.Plain.{plain_chains}
 use Rattle.circ_plain_search.specs.Joining.{HypothesisUse, use_with}
 use Rattle.circ_join.specs.declared.uses.HypothesisUse.{HypothesisUse as TheUse}
 use Rattle.circ_join.specs.declared.uses.LemmaUse.{LemmaUse}
 
 abbrev pub plain_use : TheUse → HypothesisUse
-plain_use u = use_with u.number u.way u.path.items u.terms.items u.new
+plain_use u = record {
+  number = u.number;
+  way = u.way;
+  path = u.path.items;
+  terms = u.terms.items;
+  conds = plain_chains u.conds.items;
+  new = u.new;
+}
 
 abbrev pub plain_uses : List TheUse → List HypothesisUse
 plain_uses us = map plain_use us

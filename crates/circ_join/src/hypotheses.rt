@@ -2,6 +2,7 @@
 ghost use Rattle.std.specs.Prelude.{◌≡◌, ◌<◌, ◌+◌, ◌^◌, [], ◌∷◌, ◌++◌, length, map};
 ghost use Rattle.std.specs.Prelude.{IfOk, OnOk, OnErr};
 ghost use Rattle.circ_index.specs.Finding.{FindsFirstPair};
+ghost use Rattle.circ_plain_search.specs.BlockRules.{HaveNoConditions};
 ghost use Rattle.circ_join.specs.Hypotheses.{both_sides, hypotheses_with};
 
 use circ_index::PairIndex;
@@ -47,19 +48,23 @@ impl Hypotheses {
         }
     }
 
-    /// Puts a hypothesis of the block last. After want of memory they are as before.
+    /// Puts a hypothesis of the block, which has no conditions, last. If it runs out of memory they
+    /// are as before.
     pub fn push(&mut self, goal: &Goal) -> Result<(), AllocError>
+        requires plain { goal.now.conds ≡ [] }
         requires few { length self.old.all + 1 < 2 ^ 31 }
         ensures added { OnOk result
             (self.new ≡ hypotheses_with self.old.earlier (self.old.all ++ goal.now ∷ [])) }
         ensures err { OnErr result (self.new ≡ self.old) }
     {
-        push_indexed(&mut self.goals, &mut self.own, goal)
+        push_indexed(self.alloc, &mut self.goals, &mut self.own, goal)
     }
 
-    /// The block is finished: its own hypotheses go, and these goals, which are its own, come
-    /// behind those of earlier blocks. After want of memory some of them may be missing.
+    /// The block is finished: its own hypotheses go, and these goals, which are its own and have no
+    /// conditions, come behind those of earlier blocks. If it runs out of memory some of them may
+    /// be missing.
     pub fn finish_block(&mut self, goals: &[Goal]) -> Result<(), AllocError>
+        requires plain { HaveNoConditions goals.now }
         requires few { length self.old.earlier + length goals.now < 2 ^ 31 }
         ensures { OnOk result (self.new ≡ hypotheses_with (self.old.earlier ++ goals.now)
             (self.old.earlier ++ goals.now)) }
@@ -81,12 +86,13 @@ impl Hypotheses {
 
     // Puts a goal of an earlier block last, where there are no hypotheses of the block itself.
     fn push_earlier(&mut self, goal: &Goal) -> Result<(), AllocError>
+        requires plain { goal.now.conds ≡ [] }
         requires none { self.old.all ≡ self.old.earlier }
         requires few { length self.old.earlier + 1 < 2 ^ 31 }
         ensures { OnOk result (self.new ≡ hypotheses_with (self.old.earlier ++ goal.now ∷ [])
             (self.old.earlier ++ goal.now ∷ [])) }
     {
-        push_indexed(&mut self.goals, &mut self.earlier, goal)
+        push_indexed(self.alloc, &mut self.goals, &mut self.earlier, goal)
     }
 
     /// The hypotheses, in their order.
@@ -106,7 +112,8 @@ impl Hypotheses {
     // The first that has the two terms as an instance, either way, with the substitution. At place
     // 2n is hypothesis n from left to right, and at place 2n + 1 the other way about.
     pub(crate) fn first(&self, a: &Term, b: &Term) -> Result<Option<(u32, Subst)>, AllocError>
-        ensures { IfOk result (FindsFirstPair (map both_sides self.now.all) 0 a.now b.now) }
+        ensures found { IfOk result (FindsFirstPair (map both_sides self.now.all) 0 a.now b.now) }
+        ensures plain { HaveNoConditions self.now.all }
     {
         match self.earlier.first(0, a, b)? {
             Some(found) => Ok(Some(found)),
@@ -121,17 +128,20 @@ impl Hypotheses {
     }
 }
 
-// Puts a goal last, and its sides last in the index. After want of memory both are as before.
-fn push_indexed(goals: &mut Vec<Goal>, index: &mut PairIndex, goal: &Goal) -> Result<(), AllocError>
+// Puts a goal last, and its sides last in the index. If it runs out of memory both are as before.
+fn push_indexed(
+    alloc: Global,
+    goals: &mut Vec<Goal>,
+    index: &mut PairIndex,
+    goal: &Goal,
+) -> Result<(), AllocError>
     requires few { length index.old + 1 < 2 ^ 31 }
     ensures goals { OnOk result (goals.new.items ≡ goals.old.items ++ goal.now ∷ []) }
     ensures index { OnOk result (index.new ≡ index.old ++ both_sides goal.now ∷ []) }
     ensures same_goals { OnErr result (goals.new.items ≡ goals.old.items) }
     ensures same_index { OnErr result (index.new ≡ index.old) }
 {
-    let left = goal.left.share()?;
-    let right = goal.right.share()?;
-    goals.push(Goal { left, right })?;
+    goals.push(goal.share(alloc)?)?;
     match index.add(&goal.left, &goal.right) {
         Ok(()) => Ok(()),
         Err(fault) => {

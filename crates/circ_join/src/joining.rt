@@ -159,6 +159,7 @@ impl Joining<'_> {
             way: way_at(place),
             path,
             terms,
+            conds: Vec::new(self.alloc),
             new,
         }))
     }

@@ -49,22 +49,17 @@ impl Lemmas {
         }
     }
 
-    /// Puts a rule last. After want of memory the lemmas are as before.
+    /// Puts a rule last. If it runs out of memory the lemmas are as before.
     pub fn push(&mut self, rule: Rule) -> Result<(), AllocError>
         requires rewrite { IsRewriteRule rule }
         requires few { length self.old + 1 < 2 ^ 32 }
         ensures added { OnOk result (self.new ≡ self.old ++ rule ∷ []) }
         ensures err { OnErr result (self.new ≡ self.old) }
     {
-        let left = rule.left.share()?;
-        self.rules.push(rule)?;
-        match self.index.add(&left) {
-            Ok(()) => Ok(()),
-            Err(fault) => {
-                let _last = self.rules.pop();
-                Err(fault)
-            }
-        }
+        self.rules.reserve(1)?;
+        self.index.add(&rule.left)?;
+        self.rules.push_reserved(rule);
+        Ok(())
     }
 
     /// Whether there are none.

@@ -4,7 +4,7 @@ ghost use Rattle.circ_join.specs.Stopping.{term_stop, rewrite_stop};
 
 use circ_rewrite::RewriteFault;
 use circ_term::{Term, TermFault};
-use circ_theory::Goal;
+use circ_theory::Pair;
 use std::alloc::{AllocError, AllocFailed};
 
 /// Why a part of a search stops it.
@@ -24,7 +24,7 @@ pub enum Stop {
     Stuck {
         left: Term,
         right: Term,
-        assumptions: Vec<Goal>,
+        assumptions: Vec<Pair>,
     },
     /// Memory ran out.
     Memory,

@@ -1,10 +1,10 @@
 //! Uses of hypotheses and of lemmas.
 ghost use Rattle.std.specs.Prelude.{◌≡◌, map, IfOk};
 ghost use Rattle.circ_plain_search.specs.Joining.{use_link};
-ghost use Rattle.circ_record.specs.Plain.{plain_term_link, plain_term_links};
+ghost use Rattle.circ_proof.specs.Plain.{plain_link, plain_links};
 ghost use Rattle.circ_join.specs.Uses.{plain_use, plain_uses, plain_lemma_use, plain_lemma_uses};
 
-use circ_record::TermLink;
+use circ_proof::{Chain, Link};
 use circ_term::{Path, Subst, Term};
 use circ_theory::Way;
 use std::alloc::{AllocError, Global};
@@ -20,6 +20,8 @@ pub struct HypothesisUse {
     pub path: Path,
     /// What its variables were given.
     pub terms: Vec<Term>,
+    /// Why each of its conditions holds.
+    pub conds: Vec<Chain<Term>>,
     /// What takes the place of the subterm.
     pub new: Term,
 }
@@ -41,9 +43,9 @@ pub struct LemmaUse {
 }
 
 /// The links that record a Join.
-pub fn use_links(alloc: Global, uses: Vec<HypothesisUse>) -> Result<Vec<TermLink>, AllocError>
+pub fn use_links(alloc: Global, uses: Vec<HypothesisUse>) -> Result<Vec<Link<Term>>, AllocError>
     ensures { IfOk result (λ v.
-        plain_term_links v.items ≡ map use_link (plain_uses uses.items)) }
+        plain_links v.items ≡ map use_link (plain_uses uses.items)) }
 {
     let mut links = Vec::with_capacity(alloc, uses.len())?;
     for one in uses {
@@ -52,36 +54,38 @@ pub fn use_links(alloc: Global, uses: Vec<HypothesisUse>) -> Result<Vec<TermLink
     Ok(links)
 }
 
-fn use_link(one: HypothesisUse) -> TermLink
-    ensures { plain_term_link result ≡ use_link (plain_use one) }
+fn use_link(one: HypothesisUse) -> Link<Term>
+    ensures { plain_link result ≡ use_link (plain_use one) }
 {
-    TermLink::Hypothesis {
+    Link::Hypothesis {
         number: one.number,
         way: one.way,
         path: one.path,
         terms: one.terms,
+        conds: one.conds,
     }
 }
 
 /// The links that record a lemma pass.
-pub fn lemma_links(alloc: Global, uses: Vec<LemmaUse>) -> Result<Vec<TermLink>, AllocError>
+pub fn lemma_links(alloc: Global, uses: Vec<LemmaUse>) -> Result<Vec<Link<Term>>, AllocError>
     ensures { IfOk result (λ v.
-        plain_term_links v.items ≡ map use_link (plain_lemma_uses uses.items)) }
+        plain_links v.items ≡ map use_link (plain_lemma_uses uses.items)) }
 {
     let mut links = Vec::with_capacity(alloc, uses.len())?;
     for one in uses {
-        links.push(lemma_link(one))?;
+        links.push(lemma_link(alloc, one))?;
     }
     Ok(links)
 }
 
-fn lemma_link(one: LemmaUse) -> TermLink
-    ensures { plain_term_link result ≡ use_link (plain_lemma_use one) }
+fn lemma_link(alloc: Global, one: LemmaUse) -> Link<Term>
+    ensures { plain_link result ≡ use_link (plain_lemma_use one) }
 {
-    TermLink::Hypothesis {
+    Link::Hypothesis {
         number: one.number,
         way: Way::Forth,
         path: one.path,
         terms: one.terms,
+        conds: Vec::new(alloc),
     }
 }

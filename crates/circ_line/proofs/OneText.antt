@@ -7,7 +7,7 @@ use Rattle.std.proofs.lemmas.Fmt.{decimal_by_steps}
 use Rattle.circ_theory.specs.declared.way.Way.{Way}
 use Rattle.circ_theory.specs.declared.way.Way.TheVariants.{Forth, Back}
 use Rattle.circ_proof.specs.Plain.{LinkOf, Equation_link, Hypothesis_link, Assumption_link, Content_link}
-use Rattle.circ_line.specs.Line.{Variable_line, Application_line, Line, head_line, table_line, place_line, certificate_line, block_line, goal_line, simplify_line, reduce_line, derive_line, done_line, same_line, split_line, left_line, right_line, end_line}
+use Rattle.circ_line.specs.Line.{Variable_line, Application_line, Line, head_line, table_line, place_line, certificate_line, block_line, goal_line, given_line, simplify_line, reduce_line, derive_line, cases_line, done_line, same_line, split_line, if_line, left_line, right_line, end_line}
 use Rattle.circ_line.specs.Text.{joined, path_word, way_word, link_words, line_words, line_text, AreNumbers, IsPathInRange, IsLinkInRange, IsInRange}
 use Rattle.circ_line.specs.Read.{line_of}
 use Rattle.circ_line.specs.Plain.{ReadsLine, OneText, NoFeed, NoFeedWithin}
@@ -84,26 +84,29 @@ plain_word (b ∷ bs) e = go (nat_eq b 10) refl e (plain_word bs)
 
 link_feed : (l : LinkOf ℕ) → IsLinkInRange l → AllByRecursion NoFeed (link_words l)
 unfolding has_feed
-link_feed (Equation_link n w p ts) fit = (plain_word (codes "equation") refl, (way_feed w, (line_number n fit.0.0, (path_feed p fit.1, numbers_feed ts fit.0.1))))
-link_feed (Hypothesis_link n w p ts) fit = (plain_word (codes "hypothesis") refl, (way_feed w, (line_number n fit.0.0, (path_feed p fit.1, numbers_feed ts fit.0.1))))
+link_feed (Equation_link n w p ts cs) fit = (plain_word (codes "equation") refl, (way_feed w, (line_number n fit.0.0, (path_feed p fit.1, numbers_feed ts fit.0.1))))
+link_feed (Hypothesis_link n w p ts cs) fit = (plain_word (codes "hypothesis") refl, (way_feed w, (line_number n fit.0.0, (path_feed p fit.1, numbers_feed ts fit.0.1))))
 link_feed (Assumption_link n w p) fit = (plain_word (codes "assumption") refl, (way_feed w, (line_number n fit.0.0, (path_feed p fit.1, tt))))
 link_feed (Content_link f p t) fit = (plain_word (codes "content") refl, (line_number f fit.0.0, (path_feed p fit.1, (line_number t fit.0.1.0, tt))))
 
 words_feed : (l : Line) → IsInRange l → AllByRecursion NoFeed (line_words l)
 unfolding has_feed
-words_feed head_line fit = (plain_word (codes "circproof") refl, (plain_word (codes "1") refl, tt))
+words_feed (head_line v) fit = (plain_word (codes "circproof") refl, (line_number v (omega (arith, fit.1)), tt))
 words_feed (table_line (Variable_line n s)) fit = (plain_word (codes "v") refl, numbers_feed (n ∷ s ∷ []) fit)
 words_feed (table_line (Application_line f ts)) fit = (plain_word (codes "a") refl, numbers_feed (f ∷ ts) fit)
 words_feed (place_line f i) fit = (plain_word (codes "place") refl, numbers_feed (f ∷ i ∷ []) fit)
 words_feed certificate_line fit = (plain_word (codes "cert") refl, tt)
 words_feed block_line fit = (plain_word (codes "block") refl, tt)
 words_feed (goal_line s t) fit = (plain_word (codes "goal") refl, numbers_feed (s ∷ t ∷ []) fit)
+words_feed (given_line s t) fit = (plain_word (codes "given") refl, numbers_feed (s ∷ t ∷ []) fit)
 words_feed simplify_line fit = (plain_word (codes "simplify") refl, tt)
 words_feed reduce_line fit = (plain_word (codes "reduce") refl, tt)
 words_feed derive_line fit = (plain_word (codes "derive") refl, tt)
+words_feed (cases_line t) fit = (plain_word (codes "cases") refl, numbers_feed (t ∷ []) fit)
 words_feed done_line fit = (plain_word (codes "done") refl, tt)
 words_feed same_line fit = (plain_word (codes "same") refl, tt)
 words_feed (split_line t n) fit = (plain_word (codes "split") refl, numbers_feed (t ∷ n ∷ []) fit)
+words_feed if_line fit = (plain_word (codes "if") refl, tt)
 words_feed (left_line l) fit = (plain_word (codes "left") refl, link_feed l fit)
 words_feed (right_line l) fit = (plain_word (codes "right") refl, link_feed l fit)
 words_feed end_line fit = (plain_word (codes "end") refl, tt)

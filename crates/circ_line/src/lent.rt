@@ -15,13 +15,13 @@ use std::alloc::AllocError;
 pub enum LentLine<'a> {
     /// A line of the table: an operator at terms.
     Application { op: u32, args: &'a [u32] },
-    /// A link on the left side.
+    /// A link on the left side, without the chains of its conditions.
     Left { link: &'a Link },
-    /// A link on the right side.
+    /// A link on the right side, likewise.
     Right { link: &'a Link },
 }
 
-/// Appends the text of a line, without a line feed. After want of memory the bytes are as before.
+/// Appends the text of a line, without a line feed. Where memory runs out the bytes are as before.
 pub fn write_lent_line(line: LentLine, out: &mut Vec<u8>) -> Result<(), AllocError>
     ensures text { OnOk result (out.new.items ≡
         out.old.items ++ line_text (plain_lent_line line.entry)) }

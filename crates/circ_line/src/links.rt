@@ -3,6 +3,7 @@ ghost use Rattle.std.specs.Prelude.{◌≡◌, IfOk};
 ghost use Rattle.std.specs.Option.{option_map};
 ghost use Rattle.circ_proof.specs.Plain.{plain_link};
 ghost use Rattle.circ_line.specs.Read.{link_of, instance_of, assumption_of, content_of};
+ghost use Rattle.circ_line.specs.Read.{to_equation, to_hypothesis};
 
 use crate::fields::{Rule, path_at, rule_at};
 use crate::numbers::{after_text, field_at, is_end, number_of, numbers_of};
@@ -14,26 +15,10 @@ pub(crate) fn link_of(alloc: Global, bytes: &[u8]) -> Result<Option<Link>, Alloc
     ensures { IfOk result (λ o. option_map plain_link o ≡ link_of bytes.now) }
 {
     if let Some(rest) = after_text(bytes, b"equation") {
-        return Ok(instance_of(alloc, rest)?.map(|(rule, terms)| {
-            let Rule { way, number, path } = rule;
-            Link::Equation {
-                number,
-                way,
-                path,
-                terms,
-            }
-        }));
+        return equation_of(alloc, rest);
     }
     if let Some(rest) = after_text(bytes, b"hypothesis") {
-        return Ok(instance_of(alloc, rest)?.map(|(rule, terms)| {
-            let Rule { way, number, path } = rule;
-            Link::Hypothesis {
-                number,
-                way,
-                path,
-                terms,
-            }
-        }));
+        return hypothesis_of(alloc, rest);
     }
     if let Some(rest) = after_text(bytes, b"assumption") {
         return assumption_of(alloc, rest);
@@ -41,6 +26,50 @@ pub(crate) fn link_of(alloc: Global, bytes: &[u8]) -> Result<Option<Link>, Alloc
     match after_text(bytes, b"content") {
         Some(rest) => content_of(alloc, rest),
         None => Ok(None),
+    }
+}
+
+fn equation_of(alloc: Global, bytes: &[u8]) -> Result<Option<Link>, AllocError>
+    ensures { IfOk result (λ o. option_map plain_link o ≡
+        option_map to_equation (instance_of bytes.now)) }
+{
+    Ok(instance_of(alloc, bytes)?.map(|(rule, terms)| equation(alloc, rule, terms)))
+}
+
+fn hypothesis_of(alloc: Global, bytes: &[u8]) -> Result<Option<Link>, AllocError>
+    ensures { IfOk result (λ o. option_map plain_link o ≡
+        option_map to_hypothesis (instance_of bytes.now)) }
+{
+    Ok(instance_of(alloc, bytes)?.map(|(rule, terms)| hypothesis(alloc, rule, terms)))
+}
+
+fn equation(alloc: Global, rule: Rule, terms: Vec<u32>) -> Link
+    ensures { plain_link result ≡
+        to_equation ((rule.way, (rule.number, rule.path.items)), terms.items) }
+{
+    let Rule { way, number, path } = rule;
+    let conds = Vec::new(alloc);
+    Link::Equation {
+        number,
+        way,
+        path,
+        terms,
+        conds,
+    }
+}
+
+fn hypothesis(alloc: Global, rule: Rule, terms: Vec<u32>) -> Link
+    ensures { plain_link result ≡
+        to_hypothesis ((rule.way, (rule.number, rule.path.items)), terms.items) }
+{
+    let Rule { way, number, path } = rule;
+    let conds = Vec::new(alloc);
+    Link::Hypothesis {
+        number,
+        way,
+        path,
+        terms,
+        conds,
     }
 }
 

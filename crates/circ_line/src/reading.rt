@@ -1,12 +1,13 @@
 //! Lines as text is read.
 ghost use Rattle.std.specs.Prelude.{◌≡◌, IfOk};
 ghost use Rattle.std.specs.Option.{option_map};
-ghost use Rattle.circ_line.specs.Read.{line_of, application_of, short_line, frame_lines, first_of, word_line};
+ghost use Rattle.circ_line.specs.Read.{line_of, application_of, short_line, head_of};
+ghost use Rattle.circ_line.specs.Read.{frame_lines, first_of, word_line};
 ghost use Rattle.circ_line.specs.Plain.{plain_line, ReadsLine};
 
 use crate::line::{Line, TableLine};
 use crate::links::link_of;
-use crate::numbers::{after_text, field_at, numbers_of, pair_of};
+use crate::numbers::{after_text, field_at, number_of, numbers_of, pair_of};
 use std::alloc::{AllocError, Global};
 
 /// The line that the bytes are the text of, or `None` where they are no line's text. A line feed
@@ -46,7 +47,7 @@ fn application_of(alloc: Global, bytes: &[u8]) -> Result<Option<Line>, AllocErro
     }))
 }
 
-/// A line of two numbers, or of none.
+/// A line of two numbers, of one, or of none.
 fn short_line(bytes: &[u8]) -> Option<Line>
     ensures { option_map plain_line result ≡ short_line bytes.now }
 {
@@ -58,13 +59,36 @@ fn short_line(bytes: &[u8]) -> Option<Line>
     if let Some(rest) = after_text(bytes, b"goal") {
         return pair_of(rest).map(|(left, right)| Line::Goal { left, right });
     }
+    if let Some(rest) = after_text(bytes, b"given") {
+        return pair_of(rest).map(|(left, right)| Line::Given { left, right });
+    }
     if let Some(rest) = after_text(bytes, b"place") {
         return pair_of(rest).map(|(op, arg)| Line::Place { op, arg });
     }
     if let Some(rest) = after_text(bytes, b"split") {
         return pair_of(rest).map(|(term, count)| Line::Split { term, count });
     }
+    if let Some(rest) = after_text(bytes, b"cases") {
+        return number_of(rest).map(|term| Line::Cases { term });
+    }
+    if let Some(rest) = after_text(bytes, b"circproof") {
+        return head_of(rest);
+    }
     word_line(bytes)
+}
+
+/// The first line, by its version.
+fn head_of(bytes: &[u8]) -> Option<Line>
+    ensures { option_map plain_line result ≡ head_of bytes.now }
+{
+    let version = number_of(bytes)?;
+    if version == 1 {
+        return Some(Line::Head { version: 1 });
+    }
+    if version == 2 {
+        return Some(Line::Head { version: 2 });
+    }
+    None
 }
 
 /// A line without numbers.
@@ -79,6 +103,8 @@ fn word_line(bytes: &[u8]) -> Option<Line>
         Some(Line::Derive)
     } else if bytes == b"simplify".as_slice() {
         Some(Line::Simplify)
+    } else if bytes == b"if".as_slice() {
+        Some(Line::If)
     } else {
         frame_line(bytes)
     }
@@ -96,8 +122,6 @@ fn frame_line(bytes: &[u8]) -> Option<Line>
         Some(Line::Done)
     } else if bytes == b"end".as_slice() {
         Some(Line::End)
-    } else if bytes == b"circproof 1".as_slice() {
-        Some(Line::Head)
     } else {
         None
     }

@@ -11,7 +11,7 @@ use circ_term::Path;
 use itoa::Buffer;
 use std::alloc::AllocError;
 
-/// Appends the text of a line, without a line feed. After want of memory the bytes are as before.
+/// Appends the text of a line, without a line feed. Where memory runs out the bytes are as before.
 pub fn write_line(line: &Line, out: &mut Vec<u8>) -> Result<(), AllocError>
     ensures text { OnOk result (out.new.items ≡
         out.old.items ++ line_text (plain_line line.now)) }
@@ -41,18 +41,21 @@ fn first_word(line: &Line) -> &'static [u8]
     ensures { result.now ≡ first_word (line_words (plain_line line.now)) }
 {
     match line {
-        Line::Head => b"circproof",
+        Line::Head { .. } => b"circproof",
         Line::Table { line } => table_word(line),
         Line::Place { .. } => b"place",
         Line::Certificate => b"cert",
         Line::Block => b"block",
         Line::Goal { .. } => b"goal",
+        Line::Given { .. } => b"given",
         Line::Simplify => b"simplify",
         Line::Reduce => b"reduce",
         Line::Derive => b"derive",
+        Line::Cases { .. } => b"cases",
         Line::Done => b"done",
         Line::Same => b"same",
         Line::Split { .. } => b"split",
+        Line::If => b"if",
         Line::Left { .. } => b"left",
         Line::Right { .. } => b"right",
         Line::End => b"end",
@@ -75,10 +78,12 @@ fn put_fields(out: &mut Vec<u8>, line: &Line) -> Result<(), AllocError>
     ensures keeps { Keeps out.old.items out.new.items }
 {
     match line {
-        Line::Head => put(out, b" 1"),
+        Line::Head { version } => put_number(out, *version as u32),
         Line::Table { line } => put_table_fields(out, line),
         Line::Place { op, arg } => put_pair(out, *op, *arg),
         Line::Goal { left, right } => put_pair(out, *left, *right),
+        Line::Given { left, right } => put_pair(out, *left, *right),
+        Line::Cases { term } => put_number(out, *term),
         Line::Split { term, count } => put_pair(out, *term, *count),
         Line::Left { link } => put_link(out, link),
         Line::Right { link } => put_link(out, link),
@@ -89,6 +94,7 @@ fn put_fields(out: &mut Vec<u8>, line: &Line) -> Result<(), AllocError>
         | Line::Derive
         | Line::Done
         | Line::Same
+        | Line::If
         | Line::End => Ok(()),
     }
 }
@@ -116,6 +122,7 @@ fn put_pair(out: &mut Vec<u8>, first: u32, second: u32) -> Result<(), AllocError
     put_number(out, second)
 }
 
+/// A link, without the chains of its conditions.
 pub(crate) fn put_link(out: &mut Vec<u8>, link: &Link) -> Result<(), AllocError>
     ensures text { OnOk result (out.new.items ≡
         out.old.items ++ spaced (link_words (plain_link link.now))) }
@@ -127,12 +134,14 @@ pub(crate) fn put_link(out: &mut Vec<u8>, link: &Link) -> Result<(), AllocError>
             way,
             path,
             terms,
+            ..
         } => put_instance(out, b" equation", *way, *number, path, terms),
         Link::Hypothesis {
             number,
             way,
             path,
             terms,
+            ..
         } => put_instance(out, b" hypothesis", *way, *number, path, terms),
         Link::Assumption { number, way, path } => {
             put_rule(out, b" assumption", *way, *number, path)

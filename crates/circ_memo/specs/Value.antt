@@ -4,11 +4,11 @@ use Rattle.std.specs.Coded.{Coded, code_by, coded×, coded_list}
 use Rattle.circ_term.specs.Tree.{Tree}
 use Rattle.circ_theory.specs.Theory.{Theory}
 use Rattle.circ_theory.specs.Code.{theory_code}
-use Rattle.circ_theory.specs.declared.parts.Goal.{Goal}
+use Rattle.circ_theory.specs.Pair.{Pair, pairs_code}
 use Rattle.circ_rewrite.specs.Replacement.{Replacement, Traced}
 use Rattle.circ_rewrite.specs.Norm.{Normalised, Normal_form}
 use Rattle.circ_rewrite.specs.Plain.{Faults}
-use Rattle.circ_rewrite.specs.Code.{rule_code, goal_code}
+use Rattle.circ_rewrite.specs.Code.{rule_code}
 use Rattle.circ_nodes.specs.Named.{IsNamed}
 use Rattle.circ_memo.specs.Keeping.{IsForm, IsNumberKept}
 use Rattle.circ_memo.specs.declared.parts.Entry.{Entry}
@@ -19,11 +19,11 @@ use Rattle.circ_rewrite.specs.declared.parts.Rule.{Rule}
 pub record Rewriting : Type 0 where
   pub theory : Theory
   pub rules : List Rule
-  pub assumptions : List Goal
+  pub assumptions : List Pair
 
 abbrev pub rewriting_code : Coded Rewriting
 rewriting_code =
-    code_by (Theory × (List Rule × List Goal)) (coded× theory_code (coded× (coded_list rule_code) (coded_list goal_code)))
+    code_by (Theory × (List Rule × List Pair)) (coded× theory_code (coded× (coded_list rule_code) pairs_code))
     (λ r. (r.theory, (r.rules, r.assumptions))) (λ p. record { theory = p.0; rules = p.1.0; assumptions = p.1.1 }) (λ _. refl)
 
 -- the answer is the normal form, or the fault says what it comes to, with what is left of the budget

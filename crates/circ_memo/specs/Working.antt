@@ -8,7 +8,7 @@ use Rattle.circ_memo.specs.declared.store.Store.{Store}
 
 -- what contracts see
 abbrev pub rewriting : Means → Rewriting
-rewriting m = record { theory = m.theory.now; rules = m.rules.items; assumptions = m.assumptions.items }
+rewriting m = record { theory = m.theory.now; rules = m.rules.items; assumptions = m.assumptions }
 
 -- the means are right for the terms, and so is all that is kept
 pub record IsStore (m : Means) (s : Store) : Type 0 where

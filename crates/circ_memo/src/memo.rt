@@ -1,9 +1,10 @@
 //! A memo of normal forms.
 ghost use Rattle.std.specs.Prelude.{◌≡◌, ◌+◌, ◌≤◌, ◌<◌, ◌^◌, [], ◌∷◌, ◌++◌, length};
-ghost use Rattle.std.specs.Prelude.{IfOk, OnOk, OnErr};
+ghost use Rattle.std.specs.Prelude.{IfOk, OnOk, OnErr, map};
 ghost use Rattle.std.specs.List.{AllByRecursion};
 ghost use Rattle.circ_term.specs.Tree.{Tree};
-ghost use Rattle.circ_rewrite.specs.Due.{IsRewriteRule};
+ghost use Rattle.circ_theory.specs.Pairs.{plain_pair};
+ghost use Rattle.circ_rewrite.specs.Due.{IsRewriteRule, AreUnconditional};
 ghost use Rattle.circ_rewrite.specs.Norm.{norm, run};
 ghost use Rattle.circ_rewrite.specs.Plain.{Answers, plain_traces};
 ghost use Rattle.circ_nodes.specs.Named.{IsNamed};
@@ -19,7 +20,7 @@ use crate::store::Store;
 use circ_due::Means;
 use circ_rewrite::{Normal, RewriteFault, Rule};
 use circ_term::{MOST_DEPTH, MOST_NODES, Path, Term};
-use circ_theory::{Goal, Theory};
+use circ_theory::{Pair, Theory};
 use std::alloc::{AllocError, Global};
 use std::marker::Model;
 
@@ -52,9 +53,11 @@ impl<'a> Model for Memo<'a> {
 }
 
 impl<'a> Memo<'a> {
-    /// A memo of nothing, by a theory's marked operators and these rules, with no assumptions.
+    /// A memo of nothing, by a theory's marked operators and these rules, which have no conditions,
+    /// with no assumptions.
     pub fn new(alloc: Global, theory: &'a Theory, rules: Vec<Rule>) -> Result<Memo<'a>, AllocError>
         requires rules { AllByRecursion IsRewriteRule rules.items }
+        requires unconditional { AreUnconditional rules.items }
         requires few { length rules.items < 2 ^ 32 }
         ensures { IfOk result (λ m. m ≡ record {
           theory = theory.now;
@@ -78,10 +81,11 @@ impl<'a> Memo<'a> {
         work.store = Store::new(work.store.alloc);
     }
 
-    /// Puts a rule last, and forgets all normal forms and assumptions. After want of memory the
+    /// Puts a rule last, and forgets all normal forms and assumptions. If it runs out of memory the
     /// rules are as before.
     pub fn push(&mut self, rule: Rule) -> Result<(), AllocError>
         requires rewrite { IsRewriteRule rule }
+        requires unconditional { rule.conds ≡ [] }
         requires few { length self.old.rules + 1 < 2 ^ 32 }
         ensures added { OnOk result (self.new ≡ record self.old {
           rules = self.old.rules ++ rule ∷ [];
@@ -95,13 +99,13 @@ impl<'a> Memo<'a> {
         work.means.push(rule)
     }
 
-    /// Puts these assumptions in place of those before, and forgets all normal forms. After want of
-    /// memory there are no assumptions.
-    pub fn assume(&mut self, assumptions: &[Goal]) -> Result<(), AllocError>
+    /// Puts these assumptions in place of those before, and forgets all normal forms. If it runs
+    /// out of memory there are no assumptions.
+    pub fn assume(&mut self, assumptions: &[Pair]) -> Result<(), AllocError>
         requires { length assumptions.now < 2 ^ 32 }
         ensures theory { self.new.theory ≡ self.old.theory }
         ensures rules { self.new.rules ≡ self.old.rules }
-        ensures assumptions { OnOk result (self.new.assumptions ≡ assumptions.now) }
+        ensures assumptions { OnOk result (self.new.assumptions ≡ map plain_pair assumptions.now) }
         ensures forgotten { OnErr result (self.new.assumptions ≡ []) }
     {
         let work = &mut *self.work;
@@ -110,8 +114,8 @@ impl<'a> Memo<'a> {
     }
 
     /// The normal form of a term, without its traces. The budget falls by one for each replacement,
-    /// whether it is made or known. After a limit is passed it holds what was left, and after want
-    /// of memory no more than before.
+    /// whether it is made or known. After a limit is passed it holds what was left, and where
+    /// memory ran out no more than before.
     pub fn value(&mut self, term: &Term, budget: &mut u64) -> Result<Term, RewriteFault>
         ensures exact { AnswersValue result budget.new (norm self.old.theory.signature
             self.old.rules self.old.assumptions budget.old term.now) }
@@ -127,7 +131,7 @@ impl<'a> Memo<'a> {
 
     /// The normal form of a term with its traces, as [`normalise`](crate::normalise) gives it. The
     /// budget falls by one for each replacement, whether it is made or known. After a limit is
-    /// passed it holds what was left, and after want of memory no more than before.
+    /// passed it holds what was left, and where memory ran out no more than before.
     pub fn normal(&mut self, term: &Term, budget: &mut u64) -> Result<Normal, RewriteFault>
         ensures exact { Answers result budget.new (norm self.old.theory.signature
             self.old.rules self.old.assumptions budget.old term.now) }

@@ -62,7 +62,7 @@ impl Store {
         }
     }
 
-    // Keeps this of a term. After want of memory all is as before.
+    // Keeps this of a term. If it runs out of memory all is as before.
     pub(crate) fn keep(&mut self, number: u32, entry: Entry) -> Result<(), AllocError>
         requires { number < length self.old.nodes }
         ensures nodes { self.new.nodes ≡ self.old.nodes }

@@ -1,14 +1,15 @@
 //! What no clause says: that an index and a memo are used, and that there is memory.
-ghost use Rattle.std.specs.Prelude.{◌≡◌, IfOk};
+ghost use Rattle.std.specs.Prelude.{◌≡◌, [], IfOk};
 ghost use Rattle.std.specs.List.{AllByRecursion};
 ghost use Rattle.circ_term.specs.Tree.{App, none};
-ghost use Rattle.circ_rewrite.specs.Due.{IsRewriteRule};
+ghost use Rattle.circ_rewrite.specs.Due.{IsRewriteRule, AreUnconditional};
 
+use circ_form::Form;
 use circ_index::{PairIndex, RuleIndex};
 use circ_memo::Memo;
 use circ_rewrite::{RewriteFault, Rule, RuleName};
 use circ_term::{Subst, Term, TermFault};
-use circ_theory::{Form, OpDecl, Side, Theory, TheoryFault};
+use circ_theory::{OpDecl, Pairs, Side, Theory, TheoryFault};
 use itoa::Buffer;
 use std::alloc::{AllocError, Global};
 
@@ -91,18 +92,21 @@ fn constant(alloc: Global, number: u32) -> Result<Term, TermFault>
 
 // Constant `from` becomes constant `to`.
 fn step(alloc: Global, from: u32, to: u32) -> Result<Rule, TermFault>
-    ensures { IfOk result IsRewriteRule }
+    ensures rewrites { IfOk result IsRewriteRule }
+    ensures unconditional { IfOk result (λ r. r.conds ≡ []) }
 {
     Ok(Rule {
         name: RuleName::Equation { number: from },
         left: constant(alloc, from)?,
         right: constant(alloc, to)?,
+        conds: Pairs::new(alloc),
     })
 }
 
 // Each constant becomes the next, and the last becomes itself.
 fn steps(alloc: Global) -> Result<Vec<Rule>, TermFault>
-    ensures { IfOk result (λ v. AllByRecursion IsRewriteRule v.items) }
+    ensures rewrite { IfOk result (λ v. AllByRecursion IsRewriteRule v.items) }
+    ensures unconditional { IfOk result (λ v. AreUnconditional v.items) }
 {
     let mut rules = Vec::new(alloc);
     for number in 0..CONSTANTS {

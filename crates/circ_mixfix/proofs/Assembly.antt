@@ -7,7 +7,7 @@ use Rattle.circ_chart.specs.Words.{HaveWords}
 use Rattle.circ_theory.specs.Signature.{Signature, Operator}
 use Rattle.circ_theory.specs.Theory.{Theory, Declared}
 use Rattle.circ_theory.specs.Names.{AreDifferent}
-use Rattle.circ_theory.specs.Form.{first_word}
+use Rattle.circ_form.specs.Form.{first_word}
 use Rattle.circ_theory.specs.Operators.{IsOperator}
 use Rattle.circ_theory.specs.WellFormed.{IsWellFormed}
 use Rattle.circ_mixfix.specs.Coding.{HasRules, BeginsBefore, IsGrammarOf}

@@ -1,12 +1,12 @@
 -- No hole of an operator takes more than every precedence.
 use Rattle.std.proofs.Common.{◌≡◌, ◌≤◌, ◌<◌, ◌++◌, ℕ, List, [], ◌∷◌, Bool, true, false, refl, arith}
 use Rattle.std.specs.List.{list_any}
-use Rattle.circ_theory.specs.declared.forms.Piece.{Piece}
-use Rattle.circ_theory.specs.declared.forms.Piece.TheVariants as piece
+use Rattle.circ_form.specs.declared.forms.Piece.{Piece}
+use Rattle.circ_form.specs.declared.forms.Piece.TheVariants as piece
 use Rattle.circ_theory.specs.declared.parts.Side.{Side}
 use Rattle.circ_theory.specs.declared.parts.Side.TheVariants.{Neither, Left, Right}
 use Rattle.circ_theory.specs.Signature.{Operator}
-use Rattle.circ_theory.specs.Operators.{is_hole_piece}
+use Rattle.circ_form.specs.Form.{is_hole_piece}
 use Rattle.circ_mixfix.specs.Symbols.{Symbol, every, below_first, below_last, below_inner, inner_symbols, form_symbols, more_arguments, arguments, symbols_of, precedence_of}
 use Rattle.circ_mixfix.specs.Coding.{AreBelow}
 

@@ -7,12 +7,10 @@ use Rattle.circ_term.specs.Order.{trees_cmp}
 use Rattle.circ_chart.specs.Few.{Enough, Differ, Or}
 use Rattle.circ_chart.proofs.Sets.{enough_all, enough_chain, enough_step}
 use Rattle.circ_chart.specs.Tops.{Among}
-use Rattle.circ_theory.specs.Theory.{pair_with}
-use Rattle.circ_theory.specs.Renumbering.{renumbered}
 use Rattle.circ_mixfix.specs.declared.few.Reading.{Reading}
 use Rattle.circ_mixfix.specs.declared.few.Few.{Few}
 use Rattle.circ_mixfix.specs.declared.few.Few.TheVariants.{Empty, One, Two}
-use Rattle.circ_mixfix.specs.Found.{In, AreOrdered, IsTwo, KeepsReadings, OneRead, RightRead, BothRead, terms_of}
+use Rattle.circ_mixfix.specs.Found.{In, AreOrdered, IsTwo, KeepsReadings, OneRead, RightRead, BothRead}
 use Rattle.circ_mixfix.specs.Numbering.{numbered_anew}
 use Rattle.circ_mixfix.proofs.Order.{trees_equal, trees_apart, trees_less}
 
@@ -70,14 +68,14 @@ pub keeps_through : (found : Few) (P Q : List Tree → Type 0) → KeepsReadings
 keeps_through found P Q k f g = record { enough = enough_chain (In found) P Q k.enough (enough_all P Q f g); ordered = k.ordered }
 
 -- the only right term
-pub one_right : (left right : Tree) (ts : List Tree) → RightRead left (right ∷ []) ts → (sort_of right ≡ sort_of left) × (ts ≡ terms_of (renumbered (pair_with left right)))
+pub one_right : (left right : Tree) (ts : List Tree) → RightRead left (right ∷ []) ts → (sort_of right ≡ sort_of left) × (ts ≡ left ∷ right ∷ [])
 one_right left right ts h = go h.listed
   where
-    go : Among (right ∷ []) h.right → (sort_of right ≡ sort_of left) × (ts ≡ terms_of (renumbered (pair_with left right)))
-    go (inl q) = (ap sort_of (sym q) ∙ h.same_sort, h.is ∙ ap (λ x. terms_of (renumbered (pair_with left x))) q)
+    go : Among (right ∷ []) h.right → (sort_of right ≡ sort_of left) × (ts ≡ left ∷ right ∷ [])
+    go (inl q) = (ap sort_of (sym q) ∙ h.same_sort, h.is ∙ ap (λ x. left ∷ x ∷ []) q)
     go (inr z) = absurd z
 
-pub right_one : (left right : Tree) (ts : List Tree) → sort_of right ≡ sort_of left → ts ≡ terms_of (renumbered (pair_with left right)) → RightRead left (right ∷ []) ts
+pub right_one : (left right : Tree) (ts : List Tree) → sort_of right ≡ sort_of left → ts ≡ left ∷ right ∷ [] → RightRead left (right ∷ []) ts
 right_one left right ts s e = record { right = right; listed = inl refl; same_sort = s; is = e }
 
 -- a list's first item by itself
@@ -176,7 +174,7 @@ pub no_both : (rights ts : List Tree) → BothRead [] rights ts → ⊥
 no_both rights ts h = h.listed
 
 -- the pair of the only right term
-pub keeps_right : (found new : Few) (left right : Tree) (r : Reading) → sort_of right ≡ sort_of left → r.terms.items ≡ terms_of (renumbered (pair_with left right)) → KeepsReadings new (Or (In found) (Same r))
+pub keeps_right : (found new : Few) (left right : Tree) (r : Reading) → sort_of right ≡ sort_of left → r.terms.items ≡ left ∷ right ∷ [] → KeepsReadings new (Or (In found) (Same r))
     → KeepsReadings new (Or (In found) (RightRead left (right ∷ [])))
 keeps_right found new left right r s e k = keeps_through new (Or (In found) (Same r)) (Or (In found) (RightRead left (right ∷ []))) k there back
   where

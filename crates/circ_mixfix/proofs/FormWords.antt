@@ -6,9 +6,9 @@ use Rattle.std.specs.Fmt.{digit_glyph, digits_onto, digits, decimal}
 use Rattle.circ_lexer.specs.Bytes as bytes
 use Rattle.circ_lexer.specs.Bytes.{is_plain, begins_comment}
 use Rattle.circ_lexer.specs.TokenList.{IsToken, special_token, run_token}
-use Rattle.circ_theory.specs.declared.forms.Piece.{Piece}
-use Rattle.circ_theory.specs.declared.forms.Piece.TheVariants.{Hole, Word}
-use Rattle.circ_theory.specs.Form.{is_hole, is_bracket, starts_with_bracket, before, pieces_of, is_bad_byte, is_reserved, is_bad_word, is_bad_piece, is_word, form_fault, text_of, IsForm}
+use Rattle.circ_form.specs.declared.forms.Piece.{Piece}
+use Rattle.circ_form.specs.declared.forms.Piece.TheVariants.{Hole, Word}
+use Rattle.circ_form.specs.Form.{is_hole, is_bracket, starts_with_bracket, before, pieces_of, is_bad_byte, is_reserved, is_bad_word, is_bad_piece, is_word, form_fault, text_of, IsForm}
 
 or_false : (a b : Bool) → (a || b) ≡ false → (a ≡ false) × (b ≡ false)
 or_false true b e = absurd (cc)

@@ -1,28 +1,29 @@
 -- What the chart finds is enough of the readings.
-use Rattle.std.proofs.Common.{◌≡◌, ℕ, List, [], ◌∷◌, Bool, false, sym, ◌∙◌, ap, subst, refl}
+use Rattle.std.proofs.Common.{◌≡◌, ℕ, List, [], ◌∷◌, map, Bool, false, sym, ◌∙◌, ap, subst, refl}
 use Rattle.circ_term.specs.Tree.{Tree, sort_of}
 use Rattle.circ_chart.specs.declared.grammar.Grammar.{Grammar}
 use Rattle.circ_chart.specs.declared.TheConstants.{EVERY}
 use Rattle.circ_chart.specs.Few.{Enough}
-use Rattle.circ_chart.proofs.Sets.{Joined, Some_of, enough_all, enough_chain}
+use Rattle.circ_chart.proofs.Sets.{Joined, Some_of, enough_all, enough_chain, enough_joined, enough_some}
 use Rattle.circ_chart.specs.Generates as generating
 use Rattle.circ_chart.specs.Tops.{Among, OfSort}
 use Rattle.circ_theory.specs.Signature.{Signature}
-use Rattle.circ_theory.specs.Theory.{Declared, pair_with}
-use Rattle.circ_theory.specs.Renumbering.{renumbered}
-use Rattle.circ_theory.proofs.Renumbering.{renumbered_in_order}
+use Rattle.circ_theory.specs.Theory.{Declared}
 use Rattle.circ_mixfix.specs.declared.few.Few.{Few}
 use Rattle.circ_mixfix.specs.Named.{Named}
-use Rattle.circ_mixfix.specs.Readings.{reading_of, ReadsOne, ReadsPair}
-use Rattle.circ_mixfix.specs.Answers.{ReadsOnly, ReadsBoth}
+use Rattle.circ_mixfix.specs.Symbols.{every}
+use Rattle.circ_mixfix.specs.Spells.{Spells}
+use Rattle.circ_mixfix.specs.Readings.{reading_of, ReadsOne, SpellTwos}
+use Rattle.circ_mixfix.specs.Answers.{ReadsOnly}
+use Rattle.circ_mixfix.specs.Choices.{KeepsSpelled}
 use Rattle.circ_mixfix.specs.Coding.{texts_at, named_by, AllBelow, IsGrammarOf}
 use Rattle.circ_mixfix.specs.WordLists.{BeginAlike}
-use Rattle.circ_mixfix.specs.Found.{In, KeepsReadings, Image, OneRead, BothRead, terms_of, AreInOrder}
+use Rattle.circ_mixfix.specs.Found.{In, KeepsReadings, Image, OneRead, BothRead}
 use Rattle.circ_mixfix.specs.Numbering.{numbered_anew}
-use Rattle.circ_mixfix.proofs.Coded.{AreKnown, chart_known}
+use Rattle.circ_mixfix.proofs.Coded.{AreKnown, chart_known, spelled_apart}
 use Rattle.circ_mixfix.proofs.Images.{enough_image}
-use Rattle.circ_mixfix.proofs.NumberNames.{one_named, pair_named}
-use Rattle.circ_mixfix.proofs.ReadingSets.{TwoTrees, two_named, two_trees, reading_of_pair, each_sort_named, reads_one, reads_pair}
+use Rattle.circ_mixfix.proofs.NumberNames.{one_named}
+use Rattle.circ_mixfix.proofs.ReadingSets.{each_sort_named, reads_one}
 
 module _ (sig : Signature) (vars : List Declared) (hole : Bool) (ws : List (List ℕ)) (k : ℕ) (g : Grammar) (h : IsGrammarOf sig vars hole ws k g) (begin : BeginAlike ws) where
   abbrev Each : List ℕ → List Tree → Type 0
@@ -73,93 +74,98 @@ module _ (sig : Signature) (vars : List Declared) (hole : Bool) (ws : List (List
             is = i.is ∙ ap list_of_one (i.has.is ∙ ap (reading_of hole) q.is ∙ sym (one_named ws h.different begin hole q.from (known ns us each q.from q.has.0)));
           }
 
--- the pairs of found terms are in order
-pub pairs_in_order : (found : Few) (lefts rights : List Tree) → KeepsReadings found (BothRead lefts rights) → AreInOrder found
-pairs_in_order found lefts rights kept ts i =
-    let b = kept.enough.sound ts i in
-    let r = b.with_right in
-    (renumbered (pair_with b.left r.right), r.is, renumbered_in_order (pair_with b.left r.right))
-
-module _ (sig : Signature) (vars : List Declared) (ws : List (List ℕ)) (k : ℕ) (g : Grammar) (h : IsGrammarOf sig vars false ws k g) (begin : BeginAlike ws) where
+module _ (sig : Signature) (vars : List Declared) (ws : List (List ℕ)) (k : ℕ) (g : Grammar) (h : IsGrammarOf sig vars false ws k g) where
   abbrev All : List ℕ → List Tree → Type 0
   All ns us = (s : ℕ) → Enough (OfSort us s) (generating.Generates g EVERY s ns)
 
   abbrev Names : List Tree → ℕ → Named → Type 0
   Names us s = Image (named_by ws) (OfSort us s)
 
-  abbrev terms_in : TwoTrees → List Tree
-  terms_in p = p.first ∷ p.second ∷ []
+  abbrev two : Named → Named → List Named
+  two q r = q ∷ r ∷ []
+
+  -- different terms of the chart have different names
+  same_term : (ns : List ℕ) (us : List Tree) → All ns us → (t u : Tree) → Among us t → Among us u → named_by ws t ≡ named_by ws u → t ≡ u
+  same_term ns us each t u a b e =
+      spelled_apart sig vars false ws k g h EVERY (sort_of t) EVERY (sort_of u) ns t u ((each (sort_of t)).sound t (a, refl)) ((each (sort_of u)).sound u (b, refl)) e
 
   pub both_kept : (ms ns : List ℕ) (left right : List (List ℕ)) (us vs : List Tree) (found : Few) → AllBelow k ms → AllBelow k ns → texts_at ws ms ≡ left → texts_at ws ns ≡ right → All ms us → All ns vs
-      → KeepsReadings found (BothRead us vs) → KeepsReadings found (ReadsBoth sig vars left right)
+      → KeepsReadings found (BothRead us vs) → KeepsSpelled sig vars left right ws found
   both_kept ms ns left right us vs found bm bn el er am an kept =
-      let P : List (List ℕ) → Type 0 = λ x. KeepsReadings found (ReadsBoth sig vars x right) in
-      let Q : List (List ℕ) → Type 0 = λ x. KeepsReadings found (ReadsBoth sig vars (texts_at ws ms) x) in
+      let P : List (List ℕ) → Type 0 = λ x. KeepsSpelled sig vars x right ws found in
+      let Q : List (List ℕ) → Type 0 = λ x. KeepsSpelled sig vars (texts_at ws ms) x ws found in
       subst P el (subst Q er (record {
-        enough = enough_chain (In found) (BothRead us vs) Wanted kept.enough
-            (enough_chain (BothRead us vs) (Image terms_in Images) Wanted (enough_all (BothRead us vs) (Image terms_in Images) there back)
-            (enough_chain (Image terms_in Images) (Image terms_in Pairs) Wanted
-            (enough_image terms_in Images Pairs same
-            (reads_pair sig vars (texts_at ws ms) (texts_at ws ns) (Names us) (Names vs) (each_sort_named sig vars false ws k g ms us h bm am) (each_sort_named sig vars false ws k g ns vs h bn an)))
-            (enough_all (Image terms_in Pairs) Wanted (λ ts i. (i.from.first, i.from.second, i.is, i.has)) (λ ts r. record { from = two_trees r.0 r.1; has = r.3; is = r.2 }))));
+        enough = enough_chain (Image names (In found)) (Image names (BothRead us vs)) Wanted (enough_image names (In found) (BothRead us vs) same kept.enough)
+            (enough_chain (Image names (BothRead us vs)) Pairs Wanted (enough_all (Image names (BothRead us vs)) Pairs there back)
+            (enough_chain Pairs Spelled Wanted
+            (enough_some (λ s. Joined two (Names us s) (Names vs s)) (λ s. Joined two (SpellLeft s) (SpellRight s))
+            (λ s. enough_joined two (Names us s) (SpellLeft s) (Names vs s) (SpellRight s) (λ a b c d e. cc e) (λ a b c d e. cc e)
+            (each_sort_named sig vars false ws k g ms us h bm am s) (each_sort_named sig vars false ws k g ns vs h bn an s)))
+            (enough_all Spelled Wanted out into)));
+        apart = λ ts xs a b e. same ts xs (kept.enough.sound ts a) (kept.enough.sound xs b) e;
         ordered = kept.ordered;
       }))
     where
-      Wanted : List Tree → Type 0
-      Wanted = ReadsBoth sig vars (texts_at ws ms) (texts_at ws ns)
+      names : List Tree → List Named
+      names = map (named_by ws)
 
-      Pairs : TwoTrees → Type 0
-      Pairs p = ReadsPair sig vars (texts_at ws ms) (texts_at ws ns) p.first p.second
+      SpellLeft : ℕ → Named → Type 0
+      SpellLeft s = Spells sig vars false every s (texts_at ws ms)
 
-      Images : TwoTrees → Type 0
-      Images = Image reading_of_pair (Some_of (λ s. Joined two_named (Names us s) (Names vs s)))
+      SpellRight : ℕ → Named → Type 0
+      SpellRight s = Spells sig vars false every s (texts_at ws ns)
 
-      same : (p q : TwoTrees) → Pairs p → Pairs q → terms_in p ≡ terms_in q → p ≡ q
-      same p q a b e = let x : p.first ≡ q.first = cc e in let y : p.second ≡ q.second = cc e in ap (λ z. two_trees z p.second) x ∙ ap (two_trees q.first) y
+      Wanted : List Named → Type 0
+      Wanted = SpellTwos sig vars (texts_at ws ms ∷ texts_at ws ns ∷ [])
 
-      left_known : (t : Tree) → Among us t → AreKnown ws t
-      left_known t m = known sig vars false ws k g h begin ms us am t m
+      Pairs : List Named → Type 0
+      Pairs = Some_of (λ s. Joined two (Names us s) (Names vs s))
 
-      right_known : (t : Tree) → Among vs t → AreKnown ws t
-      right_known t m = known sig vars false ws k g h begin ns vs an t m
+      Spelled : List Named → Type 0
+      Spelled = Some_of (λ s. Joined two (SpellLeft s) (SpellRight s))
 
-      read_as : (t u : Tree) → Among us t → Among vs u → terms_of (renumbered (pair_with t u)) ≡ terms_in (reading_of_pair (two_named (named_by ws t) (named_by ws u)))
-      read_as t u a b = ap terms_of (pair_named ws h.different begin t u (left_known t a) (right_known u b))
+      same : (ts xs : List Tree) → BothRead us vs ts → BothRead us vs xs → names ts ≡ names xs → ts ≡ xs
+      same ts xs a b e =
+          let p = a.with_right in
+          let q = b.with_right in
+          let f : two (named_by ws a.left) (named_by ws p.right) ≡ two (named_by ws b.left) (named_by ws q.right) = ap names (sym p.is) ∙ e ∙ ap names q.is in
+          let l : a.left ≡ b.left = same_term ms us am a.left b.left a.listed b.listed (cc f) in
+          let r : p.right ≡ q.right = same_term ns vs an p.right q.right p.listed q.listed (cc f) in
+          p.is ∙ ap (λ x. x ∷ p.right ∷ []) l ∙ ap (λ x. b.left ∷ x ∷ []) r ∙ sym q.is
 
-      there : (ts : List Tree) → BothRead us vs ts → Image terms_in Images ts
-      there ts i =
-          let r = i.with_right in
+      there : (qs : List Named) → Image names (BothRead us vs) qs → Pairs qs
+      there qs i =
+          let b = i.has in
+          let r = b.with_right in
           record {
-            from = reading_of_pair (two_named (named_by ws i.left) (named_by ws r.right));
-            is = r.is ∙ read_as i.left r.right i.listed r.listed;
+            index = sort_of b.left;
             has = record {
-              from = two_named (named_by ws i.left) (named_by ws r.right);
-              is = refl;
-              has = record {
-                index = sort_of i.left;
-                has = record {
-                  left = named_by ws i.left;
-                  right = named_by ws r.right;
-                  in_left = record { from = i.left; has = (i.listed, refl); is = refl };
-                  in_right = record { from = r.right; has = (r.listed, r.same_sort); is = refl };
-                  is = refl;
-                };
-              };
+              left = named_by ws b.left;
+              right = named_by ws r.right;
+              in_left = record { from = b.left; has = (b.listed, refl); is = refl };
+              in_right = record { from = r.right; has = (r.listed, r.same_sort); is = refl };
+              is = i.is ∙ ap names r.is;
             };
           }
 
-      back : (ts : List Tree) → Image terms_in Images ts → BothRead us vs ts
-      back ts i =
-          let j = i.has.has.has in
+      back : (qs : List Named) → Pairs qs → Image names (BothRead us vs) qs
+      back qs i =
+          let j = i.has in
           let a = j.in_left in
           let b = j.in_right in
           record {
-            left = a.from;
-            listed = a.has.0;
-            with_right = record {
-              right = b.from;
-              listed = b.has.0;
-              same_sort = b.has.1 ∙ sym a.has.1;
-              is = i.is ∙ ap terms_in (i.has.is ∙ ap reading_of_pair (j.is ∙ ap (λ x. two_named x j.right) a.is ∙ ap (two_named (named_by ws a.from)) b.is)) ∙ sym (read_as a.from b.from a.has.0 b.has.0);
-            };
+            from = a.from ∷ b.from ∷ [];
+            has = record { left = a.from; listed = a.has.0; with_right = record { right = b.from; listed = b.has.0; same_sort = b.has.1 ∙ sym a.has.1; is = refl } };
+            is = j.is ∙ ap (λ x. two x j.right) a.is ∙ ap (two (named_by ws a.from)) b.is;
           }
+
+      out : (qs : List Named) → Spelled qs → Wanted qs
+      out qs i =
+          let j = i.has in
+          subst Wanted (sym j.is) (record { sort = i.index; spells_left = j.in_left; spells_right = j.in_right }, tt)
+
+      into : (qs : List Named) → Wanted qs → Spelled qs
+      into [] w = absurd w
+      into (q ∷ []) w = absurd w
+      into (q ∷ r ∷ []) w = record { index = w.0.sort; has = record { left = q; right = r; in_left = w.0.spells_left; in_right = w.0.spells_right; is = refl } }
+      into (q ∷ r ∷ p ∷ qs) w = absurd w.1

@@ -12,6 +12,10 @@ pub mod Assembly
 pub mod Order
 pub mod FewSets
 pub mod NumberNames
+pub mod Naming
+pub mod NamesKept
+pub mod Twos
+pub mod Pairs
 pub mod Kept
 pub mod Telling
 pub mod WellSorted

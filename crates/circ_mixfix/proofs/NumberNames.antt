@@ -7,11 +7,8 @@ use Rattle.std.proofs.lemmas.Bool.{eqb-true, eqb-false, eq-eqb, and_parts}
 use Rattle.std.proofs.lemmas.List.{map-append}
 use Rattle.circ_term.specs.Tree.{Tree, Trees, Var, App, none, more}
 use Rattle.circ_term.specs.Substitution.{instance, instances}
-use Rattle.circ_term.proofs.Instances.{instance-same}
 use Rattle.circ_theory.specs.Names.{AreDifferent}
-use Rattle.circ_theory.specs.Theory.{pair_with}
 use Rattle.circ_theory.specs.Variables.{Variable, is_variable, seen, seen_in, seen_in_all}
-use Rattle.circ_theory.specs.Renumbering.{renumbering, renumbered}
 use Rattle.circ_mixfix.specs.Named as named
 use Rattle.circ_mixfix.specs.Named.{NamedVariable, is_named, numbered, all_numbered, place_from}
 use Rattle.circ_mixfix.specs.Readings.{without_hole, numbers_of, reading_of}
@@ -271,24 +268,3 @@ module _ (ws : List (List ℕ)) (d : AreDifferent ws) where
   one_named begin hole t a =
       let vs = seen_in t [] in
       numbered_named begin hole vs (known_in t [] a tt) t a (in_seen t []) ∙ ap (λ x. numbered (numbers_of hole x) (named_by ws t)) (sym (seen_names t [] a tt))
-
-  -- without a hole it is what renumbers pairs
-  renumbers : (k : ℕ) (vs : List Variable) (n s : ℕ) → renumbering k vs n s ≡ numbering false k vs n s
-  renumbers k [] n s = refl
-  renumbers k (v ∷ vs) n s = ap (λ t. if is_variable (variable n s) v then Var k s else t) (renumbers (k + 1) vs n s)
-
-  -- two terms
-  pub pair_named : BeginAlike ws → (t u : Tree) → AreKnown ws t → AreKnown ws u
-      → let ν = place_from 0 (named.seen_in (named_by ws u) (named.seen_in (named_by ws t) [])) in
-      renumbered (pair_with t u) ≡ pair_with (numbered ν (named_by ws t)) (numbered ν (named_by ws u))
-  pair_named begin t u a b =
-      let l = seen_in t [] in
-      let w = seen_in u l in
-      let kl = known_in t [] a tt in
-      let kw = known_in u l b kl in
-      let n : names w ≡ named.seen_in (named_by ws u) (named.seen_in (named_by ws t) []) = sym (ap (named.seen_in (named_by ws u)) (seen_names t [] a tt) ∙ seen_names u l b kl) in
-      let one : (x : Tree) → AreKnown ws x → IsIn w x → instance (renumbering 0 w) x ≡ numbered (place_from 0 (named.seen_in (named_by ws u) (named.seen_in (named_by ws t) []))) (named_by ws x)
-      = λ x known inside. instance-same (renumbering 0 w) (numbering false 0 w) x (renumbers 0 w) ∙ numbered_named begin false w kw x known inside
-      ∙ ap (λ y. numbered (place_from 0 y) (named_by ws x)) n in
-      ap (λ x. pair_with x (instance (renumbering 0 w) u)) (one t a (in_more t u l (in_seen t [])))
-      ∙ ap (pair_with (numbered (place_from 0 (named.seen_in (named_by ws u) (named.seen_in (named_by ws t) []))) (named_by ws t))) (one u b (in_seen u l))

@@ -10,14 +10,15 @@ use Rattle.std.proofs.lemmas.Option.{slice_get_within, slice_get-get_or, get_or_
 use Rattle.circ_lexer.specs.Bytes.{is_plain, is_special}
 use Rattle.circ_lexer.specs.TokenList.{IsToken, run_token}
 use Rattle.circ_term.specs.Tree.{Tree, Trees, Var, App, none, more, sort_of}
-use Rattle.circ_theory.specs.declared.forms.Piece.{Piece}
-use Rattle.circ_theory.specs.declared.forms.Piece.TheVariants as piece
+use Rattle.circ_form.specs.declared.forms.Piece.{Piece}
+use Rattle.circ_form.specs.declared.forms.Piece.TheVariants as piece
 use Rattle.circ_theory.specs.declared.parts.Side.{Side}
 use Rattle.circ_theory.specs.declared.parts.Side.TheVariants.{Neither, Left, Right}
 use Rattle.circ_theory.specs.Signature.{Signature, Operator, IsWellSorted, HaveSorts}
 use Rattle.circ_theory.specs.Theory.{Declared, Theory}
 use Rattle.circ_theory.specs.WellFormed.{IsWellFormed}
-use Rattle.circ_theory.specs.Operators.{is_hole_piece, hole_count, form_fits, IsOperator}
+use Rattle.circ_form.specs.Form.{is_hole_piece, hole_count}
+use Rattle.circ_theory.specs.Operators.{form_fits, IsOperator}
 use Rattle.circ_mixfix.specs.Named.{Named, NamedList, Variable, no_terms, terms}
 use Rattle.circ_mixfix.specs.Symbols.{Symbol, Word, Hole, every, below_first, below_last, below_inner, inner_symbols, form_symbols, more_arguments, arguments}
 use Rattle.circ_mixfix.specs.Spells.{HasNoColon, a_written_one, the_hole, Spells, SpellsSymbols, in_parentheses, a_variable, an_operator, no_symbol, a_word, a_hole}

@@ -7,12 +7,13 @@ use Rattle.std.proofs.lemmas.Bool.{cases_eq}
 use Rattle.std.proofs.lemmas.List.{length-append}
 use Rattle.std.proofs.lemmas.Option.{slice_get_within}
 use Rattle.circ_chart.specs.declared.grammar.Rule.{Rule}
-use Rattle.circ_theory.specs.declared.forms.Piece.{Piece}
-use Rattle.circ_theory.specs.declared.forms.Piece.TheVariants as piece
+use Rattle.circ_form.specs.declared.forms.Piece.{Piece}
+use Rattle.circ_form.specs.declared.forms.Piece.TheVariants as piece
 use Rattle.circ_theory.specs.declared.parts.Side.{Side}
-use Rattle.circ_theory.specs.Form.{is_word, first_word}
+use Rattle.circ_form.specs.Form.{is_word, first_word}
 use Rattle.circ_theory.specs.Signature.{Signature, Operator}
-use Rattle.circ_theory.specs.Operators.{IsOperator, is_hole_piece, hole_count, places_from, ops_by_word}
+use Rattle.circ_form.specs.Form.{is_hole_piece, hole_count}
+use Rattle.circ_theory.specs.Operators.{IsOperator, places_from, ops_by_word}
 use Rattle.circ_mixfix.specs.Symbols.{Symbol, every, inner_symbols, form_symbols, arguments, symbols_of, precedence_of}
 use Rattle.circ_mixfix.specs.Coding.{HaveNumbers, IsRuleOf, HasRules, AddsRule, AddsRules, BeginsBefore}
 use Rattle.circ_mixfix.proofs.SymbolWords.{form_word, no_holes, some_hole, fits, one_more}

@@ -7,13 +7,14 @@ use Rattle.std.proofs.lemmas.List.Sums.{sum_by-cons}
 use Rattle.circ_chart.specs.declared.grammar.Symbol as chart_symbol
 use Rattle.circ_chart.specs.declared.grammar.Symbol.TheVariants as chart
 use Rattle.circ_chart.specs.Words.{words}
-use Rattle.circ_theory.specs.declared.forms.Piece.{Piece}
-use Rattle.circ_theory.specs.declared.forms.Piece.TheVariants as piece
-use Rattle.circ_theory.specs.declared.forms.FormFault.TheVariants.{NoWord, BadWord}
+use Rattle.circ_form.specs.declared.forms.Piece.{Piece}
+use Rattle.circ_form.specs.declared.forms.Piece.TheVariants as piece
+use Rattle.circ_form.specs.declared.forms.FormFault.TheVariants.{NoWord, BadWord}
 use Rattle.circ_theory.specs.declared.parts.Side.{Side}
 use Rattle.circ_theory.specs.Signature.{Signature, Operator}
-use Rattle.circ_theory.specs.Form.{IsForm, is_word, is_bad_piece, pieces_of, text_of}
-use Rattle.circ_theory.specs.Operators.{IsOperator, is_hole_piece, hole_count, form_fits}
+use Rattle.circ_form.specs.Form.{IsForm, is_word, is_bad_piece, pieces_of, text_of}
+use Rattle.circ_form.specs.Form.{is_hole_piece, hole_count}
+use Rattle.circ_theory.specs.Operators.{IsOperator, form_fits}
 use Rattle.circ_mixfix.specs.Symbols.{Symbol, Word, Hole, inner_symbols, form_symbols, arguments, symbols_of}
 use Rattle.circ_mixfix.specs.Coding.{AreSymbols}
 

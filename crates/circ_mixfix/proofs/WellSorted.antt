@@ -1,21 +1,23 @@
 -- What tokens read as is well-sorted.
-use Rattle.std.proofs.Common.{◌≡◌, ◌++◌, ℕ, List, [], ◌∷◌, length, Bool, true, false, sym, ◌∙◌, ap, subst, refl, arith}
-use Rattle.std.specs.List.{list_any}
+use Rattle.std.proofs.Common.{◌≡◌, ◌++◌, ℕ, zero, suc, List, map, [], ◌∷◌, length, Bool, true, false, sym, ◌∙◌, ap, subst, refl, arith}
+use Rattle.std.specs.List.{list_any, AllByRecursion, Contains}
 use Rattle.std.proofs.lemmas.Option.{slice_get_within}
 use Rattle.circ_term.specs.Tree.{Tree, sort_of}
-use Rattle.circ_theory.specs.declared.forms.Piece.{Piece}
-use Rattle.circ_theory.specs.declared.forms.Piece.TheVariants as piece
+use Rattle.circ_form.specs.declared.forms.Piece.{Piece}
+use Rattle.circ_form.specs.declared.forms.Piece.TheVariants as piece
 use Rattle.circ_theory.specs.declared.parts.Side.{Side}
 use Rattle.circ_theory.specs.Signature as signature
 use Rattle.circ_theory.specs.Signature.{Signature, Operator, IsSort, IsWellSorted}
-use Rattle.circ_theory.specs.Theory.{Theory, Declared, pair_with, IsWellSortedPair}
+use Rattle.circ_theory.specs.Theory.{Theory, Pair, Declared, pair_with, IsWellSortedPair}
 use Rattle.circ_theory.specs.WellFormed.{IsWellFormed}
-use Rattle.circ_theory.specs.Operators.{IsOperator, is_hole_piece, hole_count}
-use Rattle.circ_mixfix.specs.Named.{Named, NamedList, no_terms, terms, numbered, all_numbered, place_from, seen_in}
+use Rattle.circ_form.specs.Form.{is_hole_piece, hole_count}
+use Rattle.circ_theory.specs.Operators.{IsOperator}
+use Rattle.circ_mixfix.specs.Named.{Named, NamedList, no_terms, terms, numbered, all_numbered, place_from, seen_in, seen_in_list}
 use Rattle.circ_mixfix.specs.Symbols.{Symbol, Word, Hole, every, inner_symbols, form_symbols, more_arguments, arguments, symbols_of}
 use Rattle.circ_mixfix.specs.Spells.{IsVariable, a_declared_one, a_written_one, the_hole, Spells, SpellsSymbols, in_parentheses, a_variable, an_operator, no_symbol, a_word, a_hole}
-use Rattle.circ_mixfix.specs.Readings.{numbers_of, ReadsOne, ReadsPair}
+use Rattle.circ_mixfix.specs.Readings.{numbers_of, ReadsOne, ReadsPair, SpellTwos, ReadsTwos}
 use Rattle.circ_mixfix.specs.Answers.{HaveSorts}
+use Rattle.circ_mixfix.specs.Found.{sides_of_pairs, AreTwosSorted}
 use Rattle.circ_mixfix.proofs.SymbolWords.{no_holes, some_hole, fits, one_more}
 use Rattle.circ_theory.proofs.Rewriting.{contains_at}
 
@@ -95,6 +97,40 @@ pub one_sorted : (th : Theory) (vars : List Declared) (hole : Bool) (tokens : Li
 one_sorted th vars hole tokens t f h r =
     let P : Tree → Type 0 = IsWellSorted th.signature in
     subst P (sym r.is) (spelled_sorted th vars hole f h (numbers_of hole (seen_in r.spelled [])) every r.sort tokens r.spelled r.spells).1
+
+-- what is true of each item, by recursion, is true of each that is contained
+contained_all : {X : Type 0} (P : X → Type 0) (xs : List X) → AllByRecursion P xs → (x : X) → Contains xs x → P x
+contained_all P [] h x c = absurd (let l = c.1 in omega arith)
+contained_all P (y ∷ ys) h x (zero, l, e) = subst P e h.0
+contained_all P (y ∷ ys) h x (suc k, l, e) = contained_all P ys h.1 x (k, omega arith, e)
+
+module _ (th : Theory) (vars : List Declared) (formed : IsWellFormed th) (sorts : HaveSorts th.signature vars) (ν : List ℕ → ℕ → ℕ) where
+  record SortedTwos (qs : List Named) : Type 0 where
+    pairs : List Pair
+    are : map (numbered ν) qs ≡ sides_of_pairs pairs
+    sorted : AllByRecursion (IsWellSortedPair th.signature) pairs
+
+  sorted_twos : (lists : List (List (List ℕ))) (qs : List Named) → SpellTwos th.signature vars lists qs → SortedTwos qs
+  sorted_twos [] [] h = record { pairs = []; are = refl; sorted = tt }
+  sorted_twos [] (q ∷ qs) h = absurd h
+  sorted_twos (l ∷ []) qs h = absurd h
+  sorted_twos (l ∷ r ∷ lists) [] h = absurd h
+  sorted_twos (l ∷ r ∷ lists) (q ∷ []) h = absurd h
+  sorted_twos (l ∷ r ∷ lists) (q ∷ u ∷ qs) h =
+      let ih = sorted_twos lists qs h.1 in
+      let a = spelled_sorted th vars false formed sorts ν every h.0.sort l q h.0.spells_left in
+      let b = spelled_sorted th vars false formed sorts ν every h.0.sort r u h.0.spells_right in
+      record {
+        pairs = pair_with (numbered ν q) (numbered ν u) ∷ ih.pairs;
+        are = ap (λ z. numbered ν q ∷ numbered ν u ∷ z) ih.are;
+        sorted = (record { left = a.1; right = b.1; same_sort = b.0 ∙ sym a.0 }, ih.sorted);
+      }
+
+pub twos_sorted : (th : Theory) (vars : List Declared) (lists : List (List (List ℕ))) (ts : List Tree) → IsWellFormed th → HaveSorts th.signature vars
+    → ReadsTwos th.signature vars lists ts → AreTwosSorted th.signature ts
+twos_sorted th vars lists ts f h r =
+    let s = sorted_twos th vars f h (place_from 0 (seen_in_list r.spelled [])) lists r.spelled r.spells in
+    (s.pairs, r.are ∙ s.are, contained_all (IsWellSortedPair th.signature) s.pairs s.sorted)
 
 pub pair_sorted : (th : Theory) (vars : List Declared) (left right : List (List ℕ)) (t u : Tree) → IsWellFormed th → HaveSorts th.signature vars → ReadsPair th.signature vars left right t u
     → IsWellSortedPair th.signature (pair_with t u)

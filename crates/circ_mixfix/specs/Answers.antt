@@ -2,6 +2,9 @@
 use Rattle.std.specs.Prelude.{◌≡◌, ℕ, List, [], ◌∷◌, map, length, nat_lt, if◌then◌else◌, Bool, Option, Some, None, Result, Ok, Err}
 use Rattle.std.proofs.Common.{Less}
 use Rattle.std.specs.List.{Contains}
+use Rattle.std.specs.Option.{option_or}
+use Rattle.circ_lexer.specs.TokenList.{TokenList, tokens_in}
+use Rattle.circ_lexer.specs.declared.tokens.Span.{Span}
 use Rattle.circ_term.specs.Tree.{Tree, trees_of}
 use Rattle.circ_term.specs.Order.{trees_cmp}
 use Rattle.circ_theory.specs.Signature.{Signature, IsSort}
@@ -26,6 +29,15 @@ too_many n = if nat_lt 256 n then Some n else None
 -- how many tokens there are, where that is too many
 abbrev pub long_count : List (List ℕ) → Option ℕ
 long_count ws = too_many (length ws)
+
+-- how many tokens the first list has that has too many
+abbrev pub first_long : List (List (List ℕ)) → Option ℕ
+first_long [] = None
+first_long (ws ∷ lists) = option_or (long_count ws) (first_long lists)
+
+-- the tokens of spans
+abbrev pub lists_in : TokenList → List Span → List (List (List ℕ))
+lists_in ts spans = map (tokens_in ts) spans
 
 -- the terms are the one term that the tokens read as
 abbrev pub ReadsOnly : Signature → List Declared → Bool → List (List ℕ) → List Tree → Type 0

@@ -7,7 +7,7 @@ use Rattle.circ_chart.specs.declared.grammar.Rule.{Rule}
 use Rattle.circ_chart.specs.declared.grammar.Variable as chart_variable
 use Rattle.circ_chart.specs.declared.grammar.Symbol as chart_symbol
 use Rattle.circ_chart.specs.declared.grammar.Symbol.TheVariants as chart
-use Rattle.circ_theory.specs.Form.{first_word}
+use Rattle.circ_form.specs.Form.{first_word}
 use Rattle.circ_theory.specs.Signature.{Signature, Operator}
 use Rattle.circ_theory.specs.Theory.{Declared}
 use Rattle.circ_mixfix.specs.Named.{Named, NamedList, Variable, Applied, no_terms, terms}
@@ -136,9 +136,8 @@ pub record IsGrammarOf (sig : Signature) (vars : List Declared) (hole : Bool) (w
   pub all_variables : (i : ℕ) (w name : List ℕ) (s : ℕ) → i < k → slice_get ws i ≡ Some w → IsVariable sig vars hole w name s
       → (n : ℕ) × (v : chart_variable.Variable) × (slice_get g.variables.items n ≡ Some v) × IsVariableOf ws name i s v
 
--- The texts of two token lists are numbered, and the grammar is that of the signature and the variables over these numbers.
-pub record AreNumbered (sig : Signature) (vars : List Declared) (hole : Bool) (first second : List (List ℕ)) (both : Numbered) : Type 0 where
-  pub texts : List (List ℕ)
+-- The texts of two token lists have numbers in the list, and the grammar is that of the signature and the variables over these numbers.
+pub record AreNumbered (sig : Signature) (vars : List Declared) (hole : Bool) (first second texts : List (List ℕ)) (both : Numbered) : Type 0 where
   pub count : ℕ
   pub begin : BeginAlike texts
   pub grammar : IsGrammarOf sig vars hole texts count both.grammar

@@ -6,10 +6,9 @@ use Rattle.circ_term.specs.Order.{trees_cmp}
 use Rattle.circ_chart.specs.Few.{Enough}
 use Rattle.circ_chart.specs.Tops.{Among}
 use Rattle.circ_theory.specs.Signature.{Signature, IsWellSorted}
-use Rattle.circ_theory.specs.Theory.{Pair, pair_with, IsWellSortedPair}
+use Rattle.circ_theory.specs.Theory.{Pair, pair_with, goal, IsWellSortedPair, AreWellSortedPairs}
 use Rattle.circ_theory.specs.Observing.{AreParametersInOrder}
-use Rattle.circ_theory.specs.Variables.{IsInOrder}
-use Rattle.circ_theory.specs.Renumbering.{renumbered}
+use Rattle.circ_theory.specs.Variables.{IsInOrder, AreNumberedFrom, seen_in_pairs}
 use Rattle.circ_mixfix.specs.Numbering.{numbered_anew}
 use Rattle.circ_mixfix.specs.declared.few.Reading.{Reading}
 use Rattle.circ_mixfix.specs.declared.parse.ParseFault.{ParseFault}
@@ -51,12 +50,12 @@ OneRead hole us ts = Image (λ t. numbered_anew hole t ∷ []) (Among us) ts
 abbrev pub terms_of : Pair → List Tree
 terms_of p = p.left ∷ p.right ∷ []
 
--- the left term with one of the right ones, of one sort, with their variables numbered anew
+-- the left term with one of the right ones, of one sort
 pub record RightRead (left : Tree) (rights : List Tree) (ts : List Tree) : Type 0 where
   pub right : Tree
   pub listed : Among rights right
   pub same_sort : sort_of right ≡ sort_of left
-  pub is : ts ≡ terms_of (renumbered (pair_with left right))
+  pub is : ts ≡ left ∷ right ∷ []
 
 -- one of the left terms with one of the right ones
 pub record BothRead (lefts rights : List Tree) (ts : List Tree) : Type 0 where
@@ -66,10 +65,26 @@ pub record BothRead (lefts rights : List Tree) (ts : List Tree) : Type 0 where
 
 -- the terms are a pair that is numbered in order
 abbrev pub IsPairInOrder : List Tree → Type 0
-IsPairInOrder ts = (p : Pair) × (ts ≡ terms_of p) × IsInOrder p
+IsPairInOrder ts = (p : Pair) × (ts ≡ terms_of p) × IsInOrder (goal [] p.left p.right)
 
-abbrev pub AreInOrder : Few → Type 0
-AreInOrder found = (ts : List Tree) → In found ts → IsPairInOrder ts
+-- the sides of pairs, one after another
+abbrev pub sides_of_pairs : List Pair → List Tree
+sides_of_pairs [] = []
+sides_of_pairs (p ∷ ps) = p.left ∷ p.right ∷ sides_of_pairs ps
+
+-- terms in twos, as pairs; the last of an odd number is left out
+abbrev pub pairs_of : List Tree → List Pair
+pairs_of [] = []
+pairs_of (t ∷ []) = []
+pairs_of (t ∷ u ∷ ts) = pair_with t u ∷ pairs_of ts
+
+-- the terms are pairs that are well-sorted, each of one sort
+abbrev pub AreTwosSorted : Signature → List Tree → Type 0
+AreTwosSorted sig ts = (ps : List Pair) × (ts ≡ sides_of_pairs ps) × AreWellSortedPairs sig ps
+
+-- the terms are pairs that are numbered in order, over all of them
+abbrev pub AreTwosInOrder : List Tree → Type 0
+AreTwosInOrder ts = (ps : List Pair) × (ts ≡ sides_of_pairs ps) × AreNumberedFrom 0 (seen_in_pairs ps [])
 
 -- the terms are one, whose parameters are numbered from 1 by first occurrence
 abbrev pub IsWithParameters : List Tree → Type 0

@@ -7,7 +7,9 @@ pub mod WordLists
 pub mod Coding
 pub mod Variables
 pub mod Numbering
+pub mod NamesSeen
 pub mod Found
+pub mod Choices
 pub mod Answers
 pub mod Printing
 pub mod Printed

@@ -45,6 +45,11 @@ abbrev mutual
   seen_in_all no_terms vs = vs
   seen_in_all (terms q qs) vs = seen_in_all qs (seen_in q vs)
 
+-- the variables of several terms, added from the left
+abbrev pub seen_in_list : List Named → List NamedVariable → List NamedVariable
+seen_in_list [] vs = vs
+seen_in_list (q ∷ qs) vs = seen_in_list qs (seen_in q vs)
+
 -- the place of a variable in the list, from k on
 abbrev pub place_from : ℕ → List NamedVariable → List ℕ → ℕ → ℕ
 place_from k [] n s = k

@@ -4,12 +4,12 @@ use Rattle.std.specs.List.{list_all, Contains}
 use Rattle.circ_lexer.specs.Bytes.{is_plain, begins_comment}
 use Rattle.circ_lexer.specs.TokenList.{AreTokens}
 use Rattle.circ_term.specs.Tree.{Tree, Trees, Var, App, none, more, sort_of}
-use Rattle.circ_theory.specs.declared.forms.Piece.TheVariants.{Word}
+use Rattle.circ_form.specs.declared.forms.Piece.TheVariants.{Word}
 use Rattle.circ_theory.specs.declared.parts.Side.TheVariants.{Neither}
-use Rattle.circ_theory.specs.Form.{is_reserved}
+use Rattle.circ_form.specs.Form.{is_reserved}
 use Rattle.circ_theory.specs.Signature.{Signature, Operator}
 use Rattle.circ_theory.specs.Theory.{Declared, Pair}
-use Rattle.circ_theory.specs.Operators.{has_hole}
+use Rattle.circ_form.specs.Form.{has_hole}
 use Rattle.circ_mixfix.specs.Named.{Named, NamedList, Variable, Applied, no_terms, terms}
 use Rattle.circ_mixfix.specs.Symbols.{every}
 use Rattle.circ_mixfix.specs.Spells.{HasNoColon, Spells}

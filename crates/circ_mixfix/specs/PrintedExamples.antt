@@ -1,7 +1,7 @@
 -- A signature whose terms are printed, to try the definitions.
 use Rattle.std.specs.Prelude.{ℕ, [], ◌∷◌, false, codes}
 use Rattle.circ_term.specs.Tree.{Tree, Var, App, none, more}
-use Rattle.circ_theory.specs.declared.forms.Piece.TheVariants.{Hole, Word}
+use Rattle.circ_form.specs.declared.forms.Piece.TheVariants.{Hole, Word}
 use Rattle.circ_theory.specs.declared.parts.Side.TheVariants.{Neither, Left}
 use Rattle.circ_theory.specs.Signature.{Signature, Operator}
 

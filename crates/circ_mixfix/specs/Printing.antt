@@ -1,12 +1,13 @@
 -- Terms as they are printed.
-use Rattle.std.specs.Prelude.{ℕ, List, [], ◌∷◌, ◌++◌, Bool, false, Option, Some, None, codes, decimal, unwrap_or, ◌==◌, ◌&&◌, if◌then◌else◌}
+use Rattle.std.specs.Prelude.{ℕ, List, [], ◌∷◌, ◌++◌, Bool, false, Option, Some, None, codes, decimal, map, unwrap_or, ◌==◌, ◌&&◌, if◌then◌else◌}
 use Rattle.std.specs.List.{slice_get}
 use Rattle.circ_term.specs.Tree.{Tree, Trees, Var, App, none, more}
 use Rattle.circ_theory.specs.Signature.{Signature, Operator}
-use Rattle.circ_theory.specs.Theory.{Pair}
-use Rattle.circ_theory.specs.Operators.{has_hole}
-use Rattle.circ_theory.specs.declared.forms.Piece.{Piece}
-use Rattle.circ_theory.specs.declared.forms.Piece.TheVariants.{Hole, Word}
+use Rattle.circ_theory.specs.declared.parts.Goal.{Goal}
+use Rattle.circ_theory.specs.Theory.{Pair, sides}
+use Rattle.circ_form.specs.Form.{has_hole}
+use Rattle.circ_form.specs.declared.forms.Piece.{Piece}
+use Rattle.circ_form.specs.declared.forms.Piece.TheVariants.{Hole, Word}
 
 -- texts behind a first one, each after a separator
 abbrev pub further : List ℕ → List (List ℕ) → List ℕ
@@ -64,3 +65,11 @@ abbrev mutual
 
 abbrev pub text_of_pair : Signature → Pair → List ℕ
 text_of_pair sig p = text_of_term sig false p.left ++ codes " = " ++ text_of_term sig false p.right
+
+-- a pair under conditions
+abbrev pub text_under : Signature → Pair → (conds : List Pair) → List ℕ
+text_under sig p [] = text_of_pair sig p
+text_under sig p (c ∷ cs) = text_of_pair sig p ++ codes " if " ++ joined (codes " /\\ ") (map (text_of_pair sig) (c ∷ cs))
+
+abbrev pub text_of_goal : Signature → Goal → List ℕ
+text_of_goal sig g = text_under sig (sides g) g.conds

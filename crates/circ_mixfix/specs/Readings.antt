@@ -1,9 +1,9 @@
 -- Readings: what token lists spell, with the variables numbered by first occurrence.
-use Rattle.std.specs.Prelude.{◌≡◌, ℕ, List, [], ◌∷◌, Bool, true, false}
+use Rattle.std.specs.Prelude.{◌≡◌, ℕ, List, [], ◌∷◌, Bool, true, false, map}
 use Rattle.circ_term.specs.Tree.{Tree}
 use Rattle.circ_theory.specs.Signature.{Signature}
 use Rattle.circ_theory.specs.Theory.{Declared}
-use Rattle.circ_mixfix.specs.Named.{Named, NamedVariable, numbered, seen_in, place_from}
+use Rattle.circ_mixfix.specs.Named.{Named, NamedVariable, numbered, seen_in, seen_in_list, place_from}
 use Rattle.circ_mixfix.specs.Symbols.{every}
 use Rattle.circ_mixfix.specs.Spells.{Spells}
 
@@ -45,3 +45,28 @@ pub record ReadsPair (sig : Signature) (vars : List Declared) (left right : List
   pub spells_second : Spells sig vars false every sort right second
   pub first_is : t ≡ numbered (place_from 0 (seen_in second (seen_in first []))) first
   pub second_is : u ≡ numbered (place_from 0 (seen_in second (seen_in first []))) second
+
+-- the two token lists spell the two terms, which have one sort
+pub record SpellBoth (sig : Signature) (vars : List Declared) (left right : List (List ℕ)) (q r : Named) : Type 0 where
+  pub sort : ℕ
+  pub spells_left : Spells sig vars false every sort left q
+  pub spells_right : Spells sig vars false every sort right r
+
+-- The token lists spell the terms, in twos of one sort. An odd number of lists spells nothing.
+abbrev pub SpellTwos : Signature → List Declared → List (List (List ℕ)) → List Named → Type 0
+SpellTwos sig vars [] [] = Unit {0}
+SpellTwos sig vars [] (q ∷ qs) = ⊥
+SpellTwos sig vars (left ∷ []) qs = ⊥
+SpellTwos sig vars (left ∷ right ∷ lists) [] = ⊥
+SpellTwos sig vars (left ∷ right ∷ lists) (q ∷ []) = ⊥
+SpellTwos sig vars (left ∷ right ∷ lists) (q ∷ r ∷ qs) = SpellBoth sig vars left right q r × SpellTwos sig vars lists qs
+
+-- the terms with their variables numbered from 0 over all of them
+abbrev pub numbered_list : List Named → List Tree
+numbered_list qs = map (numbered (place_from 0 (seen_in_list qs []))) qs
+
+-- The token lists read as the terms, in twos of one sort; the variables are numbered over all.
+pub record ReadsTwos (sig : Signature) (vars : List Declared) (lists : List (List (List ℕ))) (ts : List Tree) : Type 0 where
+  pub spelled : List Named
+  pub spells : SpellTwos sig vars lists spelled
+  pub are : ts ≡ numbered_list spelled

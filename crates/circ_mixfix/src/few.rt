@@ -3,13 +3,10 @@ ghost use Rattle.std.specs.Prelude.{◌≡◌, ◌∷◌, [], IsTrue, IfOk};
 ghost use Rattle.circ_chart.specs.Few.{Or};
 ghost use Rattle.circ_mixfix.specs.Numbering.{numbered_anew};
 ghost use Rattle.circ_mixfix.specs.Found.{In, AreOrdered, IsTwo, KeepsReadings, OneRead, RightRead};
-ghost use Rattle.circ_mixfix.specs.Found.{BothRead, terms_of};
-ghost use Rattle.circ_theory.specs.Renumbering.{renumbered};
-ghost use Rattle.circ_theory.specs.Theory.{pair_with};
+ghost use Rattle.circ_mixfix.specs.Found.{BothRead};
 
 use crate::numbering::numbered_anew;
 use circ_term::{Term, cmp_all};
-use circ_theory::renumbered;
 use std::alloc::{AllocError, Global};
 use std::cmp::Ordering;
 
@@ -29,7 +26,7 @@ pub enum Few {
 }
 
 // The readings with one more; two that are there already are enough.
-fn with_reading(found: Few, reading: Reading) -> Few
+pub fn with_reading(found: Few, reading: Reading) -> Few
     requires { AreOrdered found }
     ensures { KeepsReadings result (Or (In found) (λ ts. ts ≡ reading.terms.items)) }
 {
@@ -94,10 +91,10 @@ fn with_pair(alloc: Global, found: Few, left: &Term, right: &Term) -> Result<Few
 }
 
 fn reading_of_pair(alloc: Global, left: &Term, right: &Term) -> Result<Reading, AllocError>
-    ensures { IfOk result (λ r. r.terms.items ≡ terms_of
-        (renumbered (pair_with left.now right.now))) }
+    ensures { IfOk result (λ r. r.terms.items ≡ left.now ∷ right.now ∷ []) }
 {
-    let (left, right) = renumbered(alloc, left, right)?;
+    let left = left.share()?;
+    let right = right.share()?;
     let terms = vec![in alloc; left, right]?;
     Ok(Reading { terms })
 }
@@ -113,7 +110,8 @@ fn with_left(alloc: Global, found: Few, left: &Term, rights: &[Term]) -> Result<
     Ok(found)
 }
 
-// The readings of two token lists that are spelled by these terms, of one sort.
+// The terms of one sort by which two token lists are spelled, out of these. Their variables are not
+// numbered yet.
 pub fn readings_of_both(alloc: Global, lefts: &[Term], rights: &[Term]) -> Result<Few, AllocError>
     ensures { IfOk result (λ f. KeepsReadings f (BothRead lefts.now rights.now)) }
 {

@@ -6,6 +6,7 @@
 //! occurrence.
 #![tactic(auto)]
 
+mod choices;
 mod few;
 mod grammars;
 mod numbered;
@@ -16,13 +17,17 @@ mod printing;
 mod rules;
 mod spelling;
 mod tokens;
+mod variable_names;
 mod variables;
 mod words;
 
 pub use circ_chart::{EVERY, MOST_TOKENS};
 pub use few::Reading;
-pub use parse::{ParseFault, parse_one, parse_one_declared, parse_pair, parse_pair_declared};
-pub use printing::{print, print_derivative, print_pair};
+pub use parse::{
+    ParseFault, parse_list, parse_list_declared, parse_one, parse_one_declared, parse_pair,
+    parse_pair_declared,
+};
+pub use printing::{print, print_derivative, print_goal, print_pair};
 
 // The number of the hole's name, which is the empty text, among the texts of tokens.
 const HOLE: u32 = 2;

@@ -24,28 +24,8 @@ pub struct Numbered {
     pub grammar: Grammar,
 }
 
-pub fn number_tokens(
-    alloc: Global,
-    scope: &Scope<'_>,
-    tokens: &Tokens<'_>,
-    left: Span,
-    right: Span,
-) -> Result<Box<Numbered>, AllocError>
-    requires left { IsWithin tokens.now left }
-    requires right { IsWithin tokens.now right }
-    requires few_left { length (tokens_in tokens.now left) ≤ MOST_TOKENS }
-    requires few_right { length (tokens_in tokens.now right) ≤ MOST_TOKENS }
-    ensures numbered { IfOk result (λ b. AreNumbered scope.now.theory.now.signature
-        (vars_in scope.now) scope.now.hole (tokens_in tokens.now left) (tokens_in tokens.now right)
-        b.value) }
-    ensures words { IfOk result (λ b. HaveWords b.value.grammar) }
-{
-    let mut words = Words::new(alloc);
-    number_by(alloc, &mut words, scope, tokens, left, right)
-}
-
-// The same, over a list of texts that is still empty.
-fn number_by<'a>(
+// The list of texts is still empty. The texts of the tokens are added, then names of variables.
+pub fn number_tokens<'a>(
     alloc: Global,
     words: &mut Words<'a>,
     scope: &Scope<'_>,
@@ -60,7 +40,7 @@ fn number_by<'a>(
     requires few_right { length (tokens_in tokens.now right) ≤ MOST_TOKENS }
     ensures numbered { IfOk result (λ b. AreNumbered scope.now.theory.now.signature
         (vars_in scope.now) scope.now.hole (tokens_in tokens.now left) (tokens_in tokens.now right)
-        b.value) }
+        words.new b.value) }
     ensures words { IfOk result (λ b. HaveWords b.value.grammar) }
 {
     add_first(words)?;

@@ -1,6 +1,6 @@
 //! Terms written as text.
 ghost use Rattle.std.specs.Prelude.{◌≡◌, ◌≤◌, ◌++◌, codes, decimal, slice_get, unwrap_or};
-ghost use Rattle.std.specs.Prelude.{[], OnOk};
+ghost use Rattle.std.specs.Prelude.{[], map, OnOk};
 ghost use Rattle.std.specs.Prelude.{OnErr, IfOk, false, true};
 ghost use Rattle.circ_term.specs.Tree.{trees_of, depths_of};
 ghost use Rattle.circ_theory.specs.Signature.{IsWellSorted};
@@ -9,10 +9,12 @@ ghost use Rattle.circ_mixfix.specs.Printed.{IsPrintable, IsSpelling, IsPairSpell
 ghost use Rattle.circ_mixfix.specs.Printing.{further, joined, piece_text, left_behind, filled};
 ghost use Rattle.circ_mixfix.specs.Printing.{arguments_text, application_text, operator_text};
 ghost use Rattle.circ_mixfix.specs.Printing.{printed_name, text_of_term, texts_of_terms};
-ghost use Rattle.circ_mixfix.specs.Printing.{text_of_pair};
+ghost use Rattle.circ_mixfix.specs.Printing.{text_of_pair, text_under, text_of_goal};
+ghost use Rattle.circ_theory.specs.Pairs.{plain_pair};
 
+use circ_form::Piece;
 use circ_term::{Kind, Term};
-use circ_theory::{OpDecl, Piece, Theory};
+use circ_theory::{Goal, OpDecl, Pair, Theory};
 use itoa::Buffer;
 use std::alloc::{AllocError, Global};
 
@@ -207,6 +209,35 @@ fn put_pair(out: &mut Vec<u8>, theory: &Theory, left: &Term, right: &Term) -> Re
     put_term(out, theory, false, right)
 }
 
+// The conditions behind the first one.
+fn put_further_conditions(
+    out: &mut Vec<u8>,
+    theory: &Theory,
+    conds: &[Pair],
+) -> Result<(), AllocError>
+    ensures text { OnOk result (out.new.items ≡ out.old.items ++ further (codes " /\\ ")
+        (map (text_of_pair theory.now.signature) (map plain_pair conds.now))) }
+{
+    for cond in conds {
+        put(out, b" /\\ ")?;
+        put_pair(out, theory, &cond.left, &cond.right)?;
+    }
+    Ok(())
+}
+
+fn put_goal(out: &mut Vec<u8>, theory: &Theory, goal: &Goal) -> Result<(), AllocError>
+    ensures text { OnOk result (out.new.items ≡ out.old.items ++
+        text_of_goal theory.now.signature goal.now) }
+{
+    put_pair(out, theory, &goal.left, &goal.right)?;
+    let Some((first, others)) = goal.conds.as_slice().split_first() else {
+        return Ok(());
+    };
+    put(out, b" if ")?;
+    put_pair(out, theory, &first.left, &first.right)?;
+    put_further_conditions(out, theory, others)
+}
+
 // Appends the text of a term, with a hole where it is a derivative's. The text is made first, so
 // that nothing is appended where memory runs out.
 fn print_as(
@@ -244,7 +275,7 @@ fn print_sides(
 /// Appends the text of a term. A variable of number n and sort X is `Vn:X`. An operator without
 /// holes is its words joined by one space, and its arguments in parentheses, joined by `, `. An
 /// operator with holes is its pieces joined by one space, with the arguments in the holes, in
-/// parentheses. After want of memory the bytes are as before.
+/// parentheses. If it runs out of memory the bytes are as before.
 pub fn print(
     alloc: Global,
     theory: &Theory,
@@ -280,8 +311,8 @@ pub fn print_derivative(
     print_as(alloc, theory, true, term, out)
 }
 
-/// Appends the text of a pair: the texts of its sides, joined by ` = `. After want of memory the
-/// bytes are as before.
+/// Appends the text of a pair: the texts of its sides, joined by ` = `. If it runs out of memory
+/// the bytes are as before.
 pub fn print_pair(
     alloc: Global,
     theory: &Theory,
@@ -299,4 +330,21 @@ pub fn print_pair(
 {
     theory.known();
     print_sides(alloc, theory, left, right, out)
+}
+
+/// Appends the text of a goal: that of its sides, and where it has conditions ` if ` and the texts
+/// of these, joined by ` /\ `. If it runs out of memory the bytes are as before.
+pub fn print_goal(
+    alloc: Global,
+    theory: &Theory,
+    goal: &Goal,
+    out: &mut Vec<u8>,
+) -> Result<(), AllocError>
+    ensures text { OnOk result (out.new.items ≡ out.old.items ++
+        text_of_goal theory.now.signature goal.now) }
+    ensures err { OnErr result (out.new.items ≡ out.old.items) }
+{
+    let mut text = Vec::new(alloc);
+    put_goal(&mut text, theory, goal)?;
+    out.extend_from_slice(&text)
 }

@@ -7,7 +7,8 @@ ghost use Rattle.circ_mixfix.specs.Symbols.{precedence_of};
 ghost use Rattle.circ_mixfix.specs.SymbolLists.{symbol_of};
 
 use crate::EVERY;
-use circ_theory::{OpDecl, Piece, Side};
+use circ_form::Piece;
+use circ_theory::{OpDecl, Side};
 use std::alloc::{AllocError, Global};
 
 /// A part of what spells an operator.

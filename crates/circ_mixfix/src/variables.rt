@@ -11,7 +11,8 @@ ghost use Rattle.circ_mixfix.specs.WordLists.{GrowsTo};
 
 use crate::words::Words;
 use circ_chart::Variable;
-use circ_theory::{Text, Theory};
+use circ_form::Text;
+use circ_theory::Theory;
 use std::alloc::{AllocError, Global};
 
 // Where variables are declared.

@@ -1,3 +1,4 @@
 mod Requests
 mod Walks
 mod Reasons
+mod Chains

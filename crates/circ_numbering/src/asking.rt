@@ -1,17 +1,16 @@
 //! Terms and links, with their numbers in a table.
-ghost use Rattle.std.specs.Prelude.{◌≡◌, ◌∷◌, [], map, IfOk, IfErr};
-ghost use Rattle.circ_proof.specs.Plain.{plain_link, plain_links, plain_chain};
-ghost use Rattle.circ_proof.specs.Plain.{map_link, map_chain};
-ghost use Rattle.circ_proof.specs.Link.{terms_of};
+ghost use Rattle.std.specs.Prelude.{◌≡◌, ◌∷◌, ◌++◌, [], map, IfOk, IfErr};
+ghost use Rattle.circ_proof.specs.Plain.{plain_link, plain_links, plain_chain, plain_chains};
+ghost use Rattle.circ_proof.specs.Plain.{Equation_link, Hypothesis_link};
+ghost use Rattle.circ_proof.specs.Plain.{map_link, map_chain, map_chains};
+ghost use Rattle.circ_proof.specs.Link.{terms_of, chains_terms};
 ghost use Rattle.circ_proof.specs.Table.{number_in};
 ghost use Rattle.circ_plain_search.specs.Numbering.{links_terms, chain_terms, numbered_links};
-ghost use Rattle.circ_record.specs.Plain.{plain_term_link, plain_term_links, plain_term_chain};
 ghost use Rattle.circ_numbering.specs.Asking.{Asks};
 ghost use Rattle.circ_numbering.specs.declared.fault.NumberFault.TheVariants.{Memory};
 
 use crate::fault::NumberFault;
-use circ_proof::{Chain, Link};
-use circ_record::{TermChain, TermLink};
+use circ_proof::{Chain, Link, Way};
 use circ_replay::TableBuilder;
 use circ_term::{Path, Term};
 use std::alloc::Global;
@@ -48,14 +47,15 @@ pub(crate) fn numbers(
 }
 
 /// Links with numbers.
+#[cycle(link)]
 pub(crate) fn links(
     alloc: Global,
     table: &mut TableBuilder,
-    recorded: &[TermLink],
+    recorded: &[Link<Term>],
 ) -> Result<Vec<Link>, NumberFault>
-    ensures { Asks table.old table.new (links_terms (plain_term_links recorded.now))
+    ensures { Asks table.old table.new (links_terms (plain_links recorded.now))
         (λ t v. plain_links v.items
-        ≡ numbered_links t (plain_term_links recorded.now)) result }
+        ≡ numbered_links t (plain_links recorded.now)) result }
 {
     let mut links = Vec::with_capacity(alloc, recorded.len())?;
     for one in recorded {
@@ -67,39 +67,38 @@ pub(crate) fn links(
     Ok(links)
 }
 
-fn link(alloc: Global, table: &mut TableBuilder, recorded: &TermLink) -> Result<Link, NumberFault>
-    ensures { Asks table.old table.new (terms_of (plain_term_link recorded.now))
-        (λ t x. plain_link x ≡ map_link (number_in t) (plain_term_link recorded.now)) result }
+#[cycle(link)]
+fn link(alloc: Global, table: &mut TableBuilder, recorded: &Link<Term>) -> Result<Link, NumberFault>
+    ensures { Asks table.old table.new (terms_of (plain_link recorded.now))
+        (λ t x. plain_link x ≡ map_link (number_in t) (plain_link recorded.now)) result }
 {
     match recorded {
-        TermLink::Equation {
+        Link::Equation {
             number,
             way,
             path,
             terms,
-        } => Ok(Link::Equation {
-            number: *number,
-            way: *way,
-            path: copied(alloc, path)?,
-            terms: numbers(alloc, table, terms.as_slice())?,
-        }),
-        TermLink::Hypothesis {
+            conds,
+        } => match numbered_parts(alloc, table, path, terms.as_slice(), conds.as_slice()) {
+            Ok(parts) => Ok(equation_link(*number, *way, parts)),
+            Err(fault) => Err(fault),
+        },
+        Link::Hypothesis {
             number,
             way,
             path,
             terms,
-        } => Ok(Link::Hypothesis {
+            conds,
+        } => match numbered_parts(alloc, table, path, terms.as_slice(), conds.as_slice()) {
+            Ok(parts) => Ok(hypothesis_link(*number, *way, parts)),
+            Err(fault) => Err(fault),
+        },
+        Link::Assumption { number, way, path } => Ok(Link::Assumption {
             number: *number,
             way: *way,
             path: copied(alloc, path)?,
-            terms: numbers(alloc, table, terms.as_slice())?,
         }),
-        TermLink::Assumption { number, way, path } => Ok(Link::Assumption {
-            number: *number,
-            way: *way,
-            path: copied(alloc, path)?,
-        }),
-        TermLink::Content { op, path, term } => Ok(Link::Content {
+        Link::Content { op, path, term } => Ok(Link::Content {
             op: *op,
             path: copied(alloc, path)?,
             term: number(table, term)?,
@@ -107,22 +106,97 @@ fn link(alloc: Global, table: &mut TableBuilder, recorded: &TermLink) -> Result<
     }
 }
 
-fn copied(alloc: Global, path: &Path) -> Result<Path, NumberFault>
-    ensures items { IfOk result (λ p. p.items ≡ path.now.items) }
-    ensures err { IfErr result (λ e. e ≡ Memory) }
+// What a link by an equation or a hypothesis is given: where it is used, its terms, and the chains
+// of its conditions.
+#[derive(Drop)]
+struct Parts {
+    path: Path,
+    terms: Vec<u32>,
+    conds: Vec<Chain>,
+}
+
+fn equation_link(number: u32, way: Way, parts: Parts) -> Link
+    ensures { plain_link result ≡ Equation_link number way parts.path.items parts.terms.items
+        (plain_chains parts.conds.items) }
 {
-    Ok(Path::from_slice(alloc, path.as_slice())?)
+    Link::Equation {
+        number,
+        way,
+        path: parts.path,
+        terms: parts.terms,
+        conds: parts.conds,
+    }
+}
+
+fn hypothesis_link(number: u32, way: Way, parts: Parts) -> Link
+    ensures { plain_link result ≡ Hypothesis_link number way parts.path.items parts.terms.items
+        (plain_chains parts.conds.items) }
+{
+    Link::Hypothesis {
+        number,
+        way,
+        path: parts.path,
+        terms: parts.terms,
+        conds: parts.conds,
+    }
+}
+
+#[cycle(link)]
+fn numbered_parts(
+    alloc: Global,
+    table: &mut TableBuilder,
+    path: &Path,
+    terms: &[Term],
+    conds: &[Chain<Term>],
+) -> Result<Parts, NumberFault>
+    ensures { Asks table.old table.new (terms.now ++ chains_terms (plain_chains conds.now))
+        (λ t g. (g.path.items ≡ path.now.items)
+        × (g.terms.items ≡ map (number_in t) terms.now)
+        × (plain_chains g.conds.items
+        ≡ map_chains (number_in t) (plain_chains conds.now))) result }
+{
+    let path = copied(alloc, path)?;
+    let terms = match numbers(alloc, table, terms) {
+        Ok(terms) => terms,
+        Err(fault) => return Err(fault),
+    };
+    match chains(alloc, table, conds) {
+        Ok(conds) => Ok(Parts { path, terms, conds }),
+        Err(fault) => Err(fault),
+    }
+}
+
+// The chains of conditions with numbers.
+#[cycle(link)]
+fn chains(
+    alloc: Global,
+    table: &mut TableBuilder,
+    recorded: &[Chain<Term>],
+) -> Result<Vec<Chain>, NumberFault>
+    ensures { Asks table.old table.new (chains_terms (plain_chains recorded.now))
+        (λ t v. plain_chains v.items
+        ≡ map_chains (number_in t) (plain_chains recorded.now)) result }
+{
+    let mut chains = Vec::with_capacity(alloc, recorded.len())?;
+    for one in recorded {
+        match chain(alloc, table, one) {
+            Ok(chain) => chains.push(chain)?,
+            Err(fault) => return Err(fault),
+        }
+    }
+    Ok(chains)
 }
 
 /// A chain with numbers.
+#[cycle(link)]
 pub(crate) fn chain(
     alloc: Global,
     table: &mut TableBuilder,
-    recorded: &TermChain,
+    recorded: &Chain<Term>,
 ) -> Result<Chain, NumberFault>
-    ensures { Asks table.old table.new (chain_terms (plain_term_chain recorded.now))
+    ensures { Asks table.old table.new (chain_terms (plain_chain recorded.now))
         (λ t x. plain_chain x
-        ≡ map_chain (number_in t) (plain_term_chain recorded.now)) result }
+        ≡ map_chain (number_in t) (plain_chain recorded.now)) result }
 {
     let left = match links(alloc, table, recorded.left.as_slice()) {
         Ok(left) => left,
@@ -132,4 +206,11 @@ pub(crate) fn chain(
         Ok(right) => Ok(Chain { left, right }),
         Err(fault) => Err(fault),
     }
+}
+
+fn copied(alloc: Global, path: &Path) -> Result<Path, NumberFault>
+    ensures items { IfOk result (λ p. p.items ≡ path.now.items) }
+    ensures err { IfErr result (λ e. e ≡ Memory) }
+{
+    Ok(Path::from_slice(alloc, path.as_slice())?)
 }

@@ -1,6 +1,9 @@
 //! Finished blocks, and the proof that they make.
 ghost use Rattle.std.specs.Prelude.{◌≡◌, [], flat_map, map, IfOk};
-ghost use Rattle.circ_proof.specs.PlainProof.{plain_block, plain_certificates, plain_proof};
+ghost use Rattle.circ_theory.specs.Pairs.{plain_pair};
+ghost use Rattle.circ_proof.specs.PlainProof.{plain_names, plain_block};
+ghost use Rattle.circ_proof.specs.PlainProof.{plain_certificates, plain_proof};
+ghost use Rattle.circ_plain_search.specs.Numbering.{side_terms, pair_name};
 ghost use Rattle.circ_plain_search.specs.Numbering.{goal_terms, goal_name, links_terms};
 ghost use Rattle.circ_plain_search.specs.Numbering.{block_terms, numbered_block, numbered_links};
 ghost use Rattle.circ_plain_search.specs.Numbering.{proof_with};
@@ -11,13 +14,12 @@ ghost use Rattle.circ_numbering.specs.Plain.{plain_term_certificates};
 use crate::asking::{links, number};
 use crate::fault::NumberFault;
 use crate::whys::steps;
-use circ_proof::{Block, Link, Proof};
-use circ_record::{TermLink, TermStep};
+use circ_proof::{Block, GoalNames, Link, Proof, Step};
 use circ_replay::TableBuilder;
 use circ_rewrite::share_goals;
 use circ_special::Gamma;
 use circ_term::Term;
-use circ_theory::Goal;
+use circ_theory::{Goal, Pair};
 use std::alloc::{AllocError, Global};
 
 /// A block of which all goals are done.
@@ -26,7 +28,7 @@ pub struct TermBlock {
     /// The goals.
     pub goals: Vec<Goal>,
     /// The steps. The last is `Done`.
-    pub steps: Vec<TermStep>,
+    pub steps: Vec<Step<Term>>,
 }
 
 /// The proof of these blocks, with this special set and its certificates. Its table has the terms
@@ -35,7 +37,7 @@ pub struct TermBlock {
 pub fn numbered(
     alloc: Global,
     gamma: Gamma,
-    certificates: &[Vec<TermLink>],
+    certificates: &[Vec<Link<Term>>],
     blocks: &[TermBlock],
 ) -> Result<Proof, NumberFault>
     ensures { GivesProof plain_proof (proof_with gamma
@@ -50,7 +52,7 @@ fn numbered_by(
     alloc: Global,
     table: &mut TableBuilder,
     gamma: Gamma,
-    certificates: &[Vec<TermLink>],
+    certificates: &[Vec<Link<Term>>],
     blocks: &[TermBlock],
 ) -> Result<Proof, NumberFault>
     requires { table.old ≡ [] }
@@ -66,6 +68,7 @@ fn numbered_by(
         Err(fault) => return Err(fault),
     };
     Ok(Proof {
+        version: 1,
         table: shared(alloc, table.terms())?,
         gamma,
         certificates,
@@ -125,18 +128,18 @@ fn named_block(
     }
 }
 
-// The numbers of the sides of goals.
+// The numbers of the terms of goals.
 fn names(
     alloc: Global,
     table: &mut TableBuilder,
     goals: &[Goal],
-) -> Result<Vec<(u32, u32)>, NumberFault>
+) -> Result<Vec<GoalNames>, NumberFault>
     ensures { Asks table.old table.new (flat_map goal_terms goals.now)
-        (λ t v. v.items ≡ map (goal_name t) goals.now) result }
+        (λ t v. map plain_names v.items ≡ map (goal_name t) goals.now) result }
 {
     let mut names = Vec::with_capacity(alloc, goals.len())?;
     for goal in goals {
-        match name(table, goal) {
+        match name(alloc, table, goal) {
             Ok(name) => names.push(name)?,
             Err(fault) => return Err(fault),
         }
@@ -144,15 +147,52 @@ fn names(
     Ok(names)
 }
 
-fn name(table: &mut TableBuilder, goal: &Goal) -> Result<(u32, u32), NumberFault>
+fn name(alloc: Global, table: &mut TableBuilder, goal: &Goal) -> Result<GoalNames, NumberFault>
     ensures { Asks table.old table.new (goal_terms goal.now)
-        (λ t x. x ≡ goal_name t goal.now) result }
+        (λ t x. plain_names x ≡ goal_name t goal.now) result }
 {
     let left = match number(table, &goal.left) {
         Ok(left) => left,
         Err(fault) => return Err(fault),
     };
-    match number(table, &goal.right) {
+    let right = match number(table, &goal.right) {
+        Ok(right) => right,
+        Err(fault) => return Err(fault),
+    };
+    match pairs(alloc, table, goal.conds.as_slice()) {
+        Ok(conds) => Ok(GoalNames { conds, left, right }),
+        Err(fault) => Err(fault),
+    }
+}
+
+// The numbers of both sides of pairs.
+fn pairs(
+    alloc: Global,
+    table: &mut TableBuilder,
+    recorded: &[Pair],
+) -> Result<Vec<(u32, u32)>, NumberFault>
+    ensures { Asks table.old table.new (flat_map side_terms (map plain_pair recorded.now))
+        (λ t v. v.items ≡ map (pair_name t) (map plain_pair recorded.now)) result }
+{
+    let mut pairs = Vec::with_capacity(alloc, recorded.len())?;
+    for one in recorded {
+        match pair(table, one) {
+            Ok(pair) => pairs.push(pair)?,
+            Err(fault) => return Err(fault),
+        }
+    }
+    Ok(pairs)
+}
+
+fn pair(table: &mut TableBuilder, recorded: &Pair) -> Result<(u32, u32), NumberFault>
+    ensures { Asks table.old table.new (side_terms (plain_pair recorded.now))
+        (λ t x. x ≡ pair_name t (plain_pair recorded.now)) result }
+{
+    let left = match number(table, &recorded.left) {
+        Ok(left) => left,
+        Err(fault) => return Err(fault),
+    };
+    match number(table, &recorded.right) {
         Ok(right) => Ok((left, right)),
         Err(fault) => Err(fault),
     }
@@ -161,7 +201,7 @@ fn name(table: &mut TableBuilder, goal: &Goal) -> Result<(u32, u32), NumberFault
 fn named_certificates(
     alloc: Global,
     table: &mut TableBuilder,
-    recorded: &[Vec<TermLink>],
+    recorded: &[Vec<Link<Term>>],
 ) -> Result<Vec<Vec<Link>>, NumberFault>
     ensures { Asks table.old table.new
         (flat_map links_terms (plain_term_certificates recorded.now))

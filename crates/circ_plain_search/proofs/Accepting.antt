@@ -1,12 +1,12 @@
 -- A proof that the search finds fits the theory and is accepted, with exactly the given goals.
-use Rattle.std.proofs.Common.{◌≡◌, ◌≢◌, ℕ, ◌+◌, ◌≤◌, ◌<◌, ◌^◌, length, Bool, true, false, if◌then◌else◌, List, [], ◌∷◌, ◌++◌, map, flat_map, refl, ap, sym, subst, ◌∙◌, arith, append-nil, length-append}
+use Rattle.std.proofs.Common.{◌≡◌, ◌≢◌, inl, ℕ, ◌+◌, ◌≤◌, ◌<◌, ◌^◌, length, Bool, true, false, if◌then◌else◌, List, [], ◌∷◌, ◌++◌, map, flat_map, refl, ap, sym, subst, ◌∙◌, arith, append-nil, length-append}
 use Rattle.std.specs.Prelude.{nat_lt}
 use Rattle.std.specs.List.{AllByRecursion}
 use Rattle.std.proofs.lemmas.List.{length-map}
 use Rattle.circ_term.specs.Tree.{Tree, sort_of}
 use Rattle.circ_term.specs.Limits.{IsWithinLimits}
 use Rattle.circ_theory.specs.Signature.{IsWellSorted}
-use Rattle.circ_theory.specs.Theory.{Theory}
+use Rattle.circ_theory.specs.Theory.{Theory, Pair, HasNoConditions}
 use Rattle.circ_theory.specs.WellFormed.{IsWellFormed}
 use Rattle.circ_theory.specs.Rewriting.{named}
 use Rattle.circ_theory.specs.declared.parts.Goal.{Goal}
@@ -17,18 +17,19 @@ use Rattle.circ_proof.specs.Plain.{LinkOf, map_link}
 use Rattle.circ_proof.specs.Link.{AllOfLinks}
 use Rattle.circ_rewrite.specs.Links.{link_of}
 use Rattle.circ_proof.specs.Table.{term_limit}
-use Rattle.circ_proof.specs.Rules.{state, ProofStep, Simplify, Reduce, Derive, Done, StepsOf}
-use Rattle.circ_proof.specs.Proof.{Proof, AreLinksFor, ProofFor, step_limit}
+use Rattle.circ_proof.specs.Rules.{state, ProofStep, Simplify, Reduce, Derive, Cases, Done, StepsOf}
+use Rattle.circ_proof.specs.Proof.{Proof, AreLinksFor, IsPlainLink, ProofFor, step_limit}
 use Rattle.circ_proof.specs.Accepted.{BlocksDerive, Accepted}
 use Rattle.circ_proof.specs.Certified.{due, AreCertified}
 use Rattle.circ_proof.proofs.Sorted.{sorted_none, sorted_append}
 use Rattle.circ_proof.proofs.Stepping.{Grows, steps_grow}
+use Rattle.circ_plain_search.specs.BlockRules.{HaveNoConditions}
 use Rattle.circ_plain_search.specs.Search.{Limits, ProvedBlock, Ending, All_done, Is_stuck, Is_spent, Is_too_big, Is_too_deep, Reaches, start}
-use Rattle.circ_plain_search.specs.Numbering.{goal_terms, links_terms, step_terms, block_terms, proof_terms, numbered_links, numbered_block, table_for, proof_with, Special, needed, Proved, LongTable, proved_or_long, found_of}
+use Rattle.circ_plain_search.specs.Numbering.{side_terms, goal_terms, links_terms, step_terms, block_terms, proof_terms, numbered_links, numbered_block, table_for, proof_with, Special, needed, Proved, LongTable, proved_or_long, found_of}
 use Rattle.circ_plain_search.specs.PlainSearch.{PlainSearch, IsSearchable, AreSearchable, IsProofOf}
 use Rattle.circ_plain_search.proofs.Terms.{Fine, FineTerms}
 use Rattle.circ_plain_search.proofs.Led.{all_append, all_parts}
-use Rattle.circ_plain_search.proofs.Derived.{FineGoals, goals_sorted}
+use Rattle.circ_plain_search.proofs.Derived.{FineGoals, goals_sorted, goals_bare}
 use Rattle.circ_plain_search.proofs.Runs.{most, half, IsOpenStep, EndsDone, all_steps, BlocksRun, block_goals, Whole}
 use Rattle.circ_plain_search.proofs.Turns.{links_fine}
 use Rattle.circ_plain_search.proofs.Ends.{search_whole}
@@ -36,7 +37,7 @@ use Rattle.circ_plain_search.proofs.Tables.{Has, asked_has, asked_fine, IsFineTa
 use Rattle.circ_plain_search.proofs.Naming.{links_all, steps_all}
 use Rattle.circ_plain_search.proofs.Ranges.{AreRanged}
 use Rattle.circ_plain_search.proofs.Steps.{FitsStep, AreWithin, steps_ranged}
-use Rattle.circ_plain_search.proofs.Numbered.{HasGoal, links_for, IsBlockHere, blocks_for, count_for, goals_for}
+use Rattle.circ_plain_search.proofs.Numbered.{HasGoal, links_for, IsBlockHere, blocks_for, links_plain, blocks_plain, count_for, goals_for}
 use Rattle.circ_plain_search.proofs.Certificates.{IsCertifiedSet, no_set, one_each, greatest_certified, certificates_ranged}
 
 -- ---- blocks
@@ -57,14 +58,18 @@ same_sorts : (th : Theory) (gs : List Goal) → FineGoals th half gs → AllByRe
 same_sorts th [] a = tt
 same_sorts th (g ∷ gs) a = (a.0.same_sort, same_sorts th gs a.1)
 
-have_goals : (table : List Tree) (gs : List Goal) → AllByRecursion (Has table) (flat_map goal_terms gs) → AllByRecursion (HasGoal table) gs
-have_goals table [] a = tt
-have_goals table (g ∷ gs) a = ((a.0, a.1.0), have_goals table gs a.1.1)
+have_goals : (th : Theory) (table : List Tree) (gs : List Goal) → FineGoals th half gs → AllByRecursion (Has table) (flat_map goal_terms gs)
+    → AllByRecursion (HasGoal table) gs
+have_goals th table [] f a = tt
+have_goals th table (g ∷ gs) f a =
+    let P : List Pair → Type 0 = λ E. AllByRecursion (Has table) (flat_map side_terms E ++ flat_map goal_terms gs) in
+    (record { left = a.0; right = a.1.0; bare = f.0.bare }, have_goals th table gs f.1 (subst P f.0.bare a.1.1))
 
 open_fits : (s : ProofStep Tree) → IsOpenStep s → FitsStep s
 open_fits (Simplify c) o = tt
 open_fits (Reduce w) o = o
 open_fits Derive o = tt
+open_fits (Cases u) o = o
 open_fits Done o = tt
 
 steps_fit : (b : ProvedBlock) → EndsDone b → AllByRecursion FitsStep b.steps
@@ -72,15 +77,15 @@ steps_fit b e =
     let P : List (ProofStep Tree) → Type 0 = AllByRecursion FitsStep in
     subst P (sym e.1) (all_append FitsStep e.0 (Done ∷ []) (all_by IsOpenStep FitsStep e.0 open_fits e.2) (tt, tt))
 
-module _ (th : Theory) (wf : IsWellFormed th) (table : List Tree) where
+module _ (th : Theory) (wf : IsWellFormed th) (none : HasNoConditions th) (table : List Tree) where
   sorted_terms : (ts : List Tree) → FineTerms th most ts → AllByRecursion (IsWellSorted th.signature) ts
   sorted_terms ts a = all_by (Fine th most) (IsWellSorted th.signature) ts (λ t f. f.sorted) a
 
   blocks_here : (G : List Place) (bs : List ProvedBlock) (E : List Goal) → AllByRecursion (Has table) (flat_map block_terms bs)
       → FineTerms th most (flat_map block_terms bs) → AllByRecursion EndsDone bs → AllByRecursion (λ b. IsGivenBlock th b.goals) bs
-      → AreSortedGoals th E → length E + all_steps bs < 2 ^ 32 → BlocksRun th G E bs → AllByRecursion (IsBlockHere table) bs
-  blocks_here G [] E h f e g s few r = tt
-  blocks_here G (b ∷ bs) E h f e g s few r =
+      → AreSortedGoals th E → HaveNoConditions E → length E + all_steps bs < 2 ^ 32 → BlocksRun th G E bs → AllByRecursion (IsBlockHere table) bs
+  blocks_here G [] E h f e g s bare few r = tt
+  blocks_here G (b ∷ bs) E h f e g s bare few r =
       let has = all_parts (Has table) (block_terms b) (flat_map block_terms bs) h in
       let fine = all_parts (Fine th most) (block_terms b) (flat_map block_terms bs) f in
       let has_parts = all_parts (Has table) (flat_map goal_terms b.goals) (flat_map step_terms b.steps) has.0 in
@@ -88,20 +93,22 @@ module _ (th : Theory) (wf : IsWellFormed th) (table : List Tree) where
       let sorted = goals_sorted th half b.goals g.0.1 in
       let fit = steps_fit b e.0 in
       let run = r.0 in
-      let ranged = steps_ranged th wf G b.steps (state E b.goals) (state run.0 []) (s, sorted) (omega (arith, few)) (within_goals th b.goals g.0.1)
+      let ranged = steps_ranged th wf none G b.steps (state E b.goals) (state run.0 []) (s, sorted) bare (goals_bare th half b.goals g.0.1)
+      (omega (arith, few)) (within_goals th b.goals g.0.1)
       (steps_all (IsWellSorted th.signature) b.steps (sorted_terms (flat_map step_terms b.steps) fine_parts.1)) fit run.1 in
       let fewer = ranged.fewer in
       let long = length-append E b.goals in (
         record {
           some_goal = g.0.0;
-          goals = have_goals table b.goals has_parts.0;
+          goals = have_goals th table b.goals g.0.1 has_parts.0;
           sorts = same_sorts th b.goals g.0.1;
           fit = fit;
           ranged = ranged.ranged;
           terms = steps_all (Has table) b.steps has_parts.1;
           ended = e.0;
         },
-        blocks_here G bs (E ++ b.goals) has.1 fine.1 e.1 g.1 (sorted_append th E b.goals s sorted) (omega (arith, long, fewer, few)) r.1,
+        blocks_here G bs (E ++ b.goals) has.1 fine.1 e.1 g.1 (sorted_append th E b.goals s sorted)
+            (all_append (λ q. q.conds ≡ []) E b.goals bare (goals_bare th half b.goals g.0.1)) (omega (arith, long, fewer, few)) r.1,
       )
 
 -- the steps of the numbered blocks are those that ran
@@ -131,6 +138,11 @@ certificates_for : (table : List Tree) (lss : List (List (LinkOf Tree))) → All
 certificates_for table [] r a = tt
 certificates_for table (ls ∷ lss) r a = (links_for table ls r.0 a.0, certificates_for table lss r.1 a.1)
 
+certificates_plain : (table : List Tree) (lss : List (List (LinkOf Tree))) → AllByRecursion AreRanged lss
+    → AllByRecursion (λ ls. AllByRecursion IsPlainLink ls) (map (numbered_links table) lss)
+certificates_plain table [] r = tt
+certificates_plain table (ls ∷ lss) r = (links_plain table ls r.0, certificates_plain table lss r.1)
+
 certificates_all : (P : Tree → Type 0) (lss : List (List (LinkOf Tree))) → AllByRecursion P (flat_map links_terms lss) → AllByRecursion (AllOfLinks P) lss
 certificates_all P [] a = tt
 certificates_all P (ls ∷ lss) a = let p = all_parts P (links_terms ls) (flat_map links_terms lss) a in (links_all P ls p.0, certificates_all P lss p.1)
@@ -142,7 +154,7 @@ certificate_terms th (ls ∷ lss) a =
 
 -- ---- the proof
 
-module _ (th : Theory) (wf : IsWellFormed th) (G : List Place) (cs : List (List (LinkOf Tree))) (set : IsCertifiedSet th G cs) (blocks : List (List Goal))
+module _ (th : Theory) (wf : IsWellFormed th) (none : HasNoConditions th) (G : List Place) (cs : List (List (LinkOf Tree))) (set : IsCertifiedSet th G cs) (blocks : List (List Goal))
     (some : blocks ≢ []) (given : AllByRecursion (IsGivenBlock th) blocks) (bs : List ProvedBlock) (all : block_goals bs ++ [] ≡ blocks) (run : BlocksRun th G [] bs)
     (ended : AllByRecursion EndsDone bs) (few : all_steps bs ≤ step_limit) (fine : FineTerms th most (flat_map block_terms bs))
     (short : length (table_for cs bs) ≤ term_limit) where
@@ -179,22 +191,24 @@ module _ (th : Theory) (wf : IsWellFormed th) (G : List Place) (cs : List (List 
   here : AllByRecursion (IsBlockHere (table_for cs bs)) bs
   here =
       let P : List (List Goal) → Type 0 = AllByRecursion (IsGivenBlock th) in
-      blocks_here th wf (table_for cs bs) G bs [] has_parts.0 fine ended (given_blocks th bs (subst P (sym goals_are) given)) (sorted_none th)
+      blocks_here th wf none (table_for cs bs) G bs [] has_parts.0 fine ended (given_blocks th bs (subst P (sym goals_are) given)) (sorted_none th) tt
       (omega (arith, few)) run
 
   pub proof_fits : ProofFor th (proof_with G cs bs)
   proof_fits =
       let counted = count_for (table_for cs bs) bs in
+      let ranged = certificates_ranged th wf none G cs set in
       record {
+        version = inl (refl, record { certificates = certificates_plain (table_for cs bs) cs ranged; blocks = blocks_plain (table_for cs bs) bs here });
         sorted = all_by (Fine th most) (IsWellSorted th.signature) (table_for cs bs) (λ t f. f.sorted) table_fine.fine;
         within = all_by (Fine th most) IsWithinLimits (table_for cs bs) (λ t f. f.within) table_fine.fine;
         entries = table_fine.entries;
         short_table = short;
         places = set.set;
         one_each = length-map cs (numbered_links (table_for cs bs)) ∙ one_each th G (due th G) cs set.certified;
-        certificates = certificates_for (table_for cs bs) cs (certificates_ranged th wf G cs set) certificates_there;
+        certificates = certificates_for (table_for cs bs) cs ranged certificates_there;
         some_block = some_here;
-        blocks = blocks_for (table_for cs bs) bs here;
+        blocks = blocks_for (table_for cs bs) th bs here;
         few_steps = omega (arith, counted, few);
       }
 
@@ -224,6 +238,7 @@ searchable_fine th (g ∷ gs) a =
         left = record { sorted = s.left; within = a.0.left_within; low = omega (arith, low) };
         right = record { sorted = s.right; within = a.0.right_within; low = omega (arith, low) };
         same_sort = s.same_sort;
+        bare = a.0.no_conds;
       },
       searchable_fine th gs a.1,
     )
@@ -237,7 +252,7 @@ pub fine_blocks : (th : Theory) (bs : List (List Goal)) → AllByRecursion (IsGi
 fine_blocks th [] a = tt
 fine_blocks th (b ∷ bs) a = (a.0.1, fine_blocks th bs a.1)
 
-module _ (th : Theory) (wf : IsWellFormed th) (s : Special) (set : IsCertifiedSet th s.places s.certificates) (l : Limits) (b : List Goal) (bs : List (List Goal))
+module _ (th : Theory) (wf : IsWellFormed th) (none : HasNoConditions th) (s : Special) (set : IsCertifiedSet th s.places s.certificates) (l : Limits) (b : List Goal) (bs : List (List Goal))
     (given : AllByRecursion (IsGivenBlock th) (b ∷ bs)) (p : Proof) where
   whole_found : (found : List ProvedBlock) (d m : ℕ) (x : Bool) → Whole th s.places (b ∷ bs) found [] x m d
       → found_of s (All_done found d m x) ≡ Proved p → IsProofOf th (b ∷ bs) p
@@ -258,15 +273,15 @@ module _ (th : Theory) (wf : IsWellFormed th) (s : Special) (set : IsCertifiedSe
           → IsProofOf th (b ∷ bs) p
       go true plain y =
           short_or _ (proof_with s.places s.certificates found) refl
-          (λ short. proof_is th wf s.places s.certificates set (b ∷ bs) never given found w.all w.run.under w.ended few w.terms short) y
+          (λ short. proof_is th wf none s.places s.certificates set (b ∷ bs) never given found w.all w.run.under w.ended few w.terms short) y
       go false plain y =
           short_or _ (proof_with [] [] found) refl
-          (λ short. proof_is th wf [] [] (no_set th) (b ∷ bs) never given found w.all (plain refl) w.ended few w.terms short) y
+          (λ short. proof_is th wf none [] [] (no_set th) (b ∷ bs) never given found w.all (plain refl) w.ended few w.terms short) y
 
   ended_found : (e : Ending) → Reaches th s.places l (start l (b ∷ bs)) e → found_of s e ≡ Proved p → IsProofOf th (b ∷ bs) p
   ended_found (All_done found d m x) r e =
       let fine = fine_blocks th (b ∷ bs) given in
-      whole_found found d m x (search_whole th wf s.places l b bs fine.0 fine.1 found d m x r) e
+      whole_found found d m x (search_whole th wf none s.places l b bs fine.0 fine.1 found d m x r) e
   ended_found (Is_stuck k g t u A) r e = absurd (cc)
   ended_found (Is_spent i j k) r e = absurd (cc)
   ended_found (Is_too_big n) r e = absurd (cc)
@@ -280,5 +295,5 @@ proved_accepted th wf blocks a l p s = go blocks a s
     go : (bs : List (List Goal)) → AreSearchable th bs → PlainSearch th bs l (Proved p) → IsProofOf th bs p
     go [] a s = absurd (a.some_block refl)
     go (b ∷ bs) a s =
-        ended_found th wf (record { places = s.places; certificates = map (map link_of) s.traces })
-        (greatest_certified th wf l.steps s.places s.traces s.greatest) l b bs (blocks_given th (b ∷ bs) a.some_goal a.goals) p s.ending s.run (sym s.is)
+        ended_found th wf a.no_conditions (record { places = s.places; certificates = map (map link_of) s.traces })
+        (greatest_certified th wf a.no_conditions l.steps s.places s.traces s.greatest) l b bs (blocks_given th (b ∷ bs) a.some_goal a.goals) p s.ending s.run (sym s.is)

@@ -5,12 +5,11 @@ use Rattle.std.specs.Option.{option_or}
 use Rattle.std.proofs.lemmas.List.{length-map}
 use Rattle.circ_term.specs.Tree.{Tree, sort_of}
 use Rattle.circ_term.specs.Order.{is_same}
-use Rattle.circ_theory.specs.Theory.{Theory}
+use Rattle.circ_theory.specs.Theory.{Theory, Pair, goal}
 use Rattle.circ_theory.specs.Observing.{is_hidden}
 use Rattle.circ_theory.specs.declared.parts.Goal.{Goal}
 use Rattle.circ_special.specs.declared.place.Place.{Place}
 use Rattle.circ_proof.specs.Plain.{ChainOf, WhyOf, Same_why, Split_why, more_whys}
-use Rattle.circ_proof.specs.Goals.{goal}
 use Rattle.circ_rewrite.specs.Due.{due_under}
 use Rattle.circ_rewrite.specs.Norm.{Normalised, Normal_form, Budget_spent, Limit_passed, norm}
 use Rattle.circ_rewrite.specs.Links.{link_of}
@@ -44,7 +43,7 @@ abbrev measure : Standing → ℕ
 measure st = st.budget + (step_limit - st.made)
 
 module _ (th : Theory) where
-  normalised_falls : (R : List Rule) (A : List Goal) (t : Tree) (k : ℕ) (n : NormalSide) → normalised th R A t k ≡ Ok n → n.budget ≤ k
+  normalised_falls : (R : List Rule) (A : List Pair) (t : Tree) (k : ℕ) (n : NormalSide) → normalised th R A t k ≡ Ok n → n.budget ≤ k
   normalised_falls R A t k n e = go (norm th.signature R A k t) refl e
     where
       go : (o : Normalised) → norm th.signature R A k t ≡ o → side_of o ≡ Ok n → n.budget ≤ k
@@ -56,7 +55,7 @@ module _ (th : Theory) where
       go Budget_spent x y = absurd (cc)
       go (Limit_passed l left) x y = absurd (cc)
 
-  sides_fall : (R : List Rule) (A : List Goal) (s t : Tree) (k : ℕ) (n : Sides) → normal_sides th R A s t k ≡ Ok n → n.budget ≤ k
+  sides_fall : (R : List Rule) (A : List Pair) (s t : Tree) (k : ℕ) (n : Sides) → normal_sides th R A s t k ≡ Ok n → n.budget ≤ k
   sides_fall R A s t k n e =
       let x : Through (normalised th R A s k)
       (λ a. and_then (normalised th R A t a.budget) (λ b. Ok (sides_with a.term b.term (chain_with a.links b.links) b.budget))) n = through _ _ n e in
@@ -68,9 +67,9 @@ module _ (th : Theory) where
       omega (arith, a, b, c)
 
   abbrev Falls : Splitter → Type 0
-  Falls again = (A : List Goal) (s t : Tree) (k : ℕ) (b : SplitReason) → again A s t k ≡ Ok b → b.budget ≤ k
+  Falls again = (A : List Pair) (s t : Tree) (k : ℕ) (b : SplitReason) → again A s t k ≡ Ok b → b.budget ≤ k
 
-  case_falls : (again : Splitter) → Falls again → (A : List Goal) (n : Sides) (r : Reason) → case_reason again A n ≡ Ok r → r.budget ≤ n.budget
+  case_falls : (again : Splitter) → Falls again → (A : List Pair) (n : Sides) (r : Reason) → case_reason again A n ≡ Ok r → r.budget ≤ n.budget
   case_falls again law A n r e = go (is_same n.left n.right) e
     where
       go : (v : Bool) → (if v then Ok (reason_with (Same_why n.chain) n.budget)
@@ -82,11 +81,11 @@ module _ (th : Theory) where
           let b = ap (λ z. z.budget) (same_Ok (reason_with (Split_why n.chain y.value.term y.value.whys) y.value.budget) r y.last) in
           omega (arith, a, b)
 
-  each_falls : (R : List Rule) (again : Splitter) → Falls again → (A : List Goal) (u s t : Tree) (cs : List ℕ) (k : ℕ) (b : SplitReason)
+  each_falls : (R : List Rule) (again : Splitter) → Falls again → (A : List Pair) (u s t : Tree) (cs : List ℕ) (k : ℕ) (b : SplitReason)
       → each_case th R again A u s t cs k ≡ Ok b → b.budget ≤ k
   each_falls R again law A u s t [] k b e = let c = ap (λ z. z.budget) (same_Ok _ b e) in omega (arith, c)
   each_falls R again law A u s t (c ∷ cs) k b e =
-      let A' : List Goal = A ++ case_of u c ∷ [] in
+      let A' : List Pair = A ++ case_of u c ∷ [] in
       let x : Through (and_then (normal_sides th R A' s t k) (case_reason again A'))
       (λ r. and_then (each_case th R again A u s t cs r.budget)
       (λ d. Ok (split_with u (more_whys r.why d.whys) d.budget))) b = through _ _ b e in
@@ -210,9 +209,9 @@ module _ (th : Theory) (G : List Place) (l : Limits) where
   goal_less st g rest y e =
       let R = block_rules th st.earlier in
       let x : Through (or_end l st (normal_sides th R [] g.left g.right st.budget))
-      (λ n. sides_turn th G l (with_sides st rest n) (goal n.left n.right) rest) y = through _ _ y e in
+      (λ n. sides_turn th G l (with_sides st rest n) (goal [] n.left n.right) rest) y = through _ _ y e in
       let s = sides_fall th R [] g.left g.right st.budget x.value (if_ended l st _ x.value x.first) in
-      let r = join_less (with_sides st rest x.value) (goal x.value.left x.value.right) rest (joined G st.hypotheses [] x.value.left x.value.right) y x.last in
+      let r = join_less (with_sides st rest x.value) (goal [] x.value.left x.value.right) rest (joined G st.hypotheses [] x.value.left x.value.right) y x.last in
       omega (arith, s, r)
 
   next_less : (st : Standing) (later : List (List Goal)) (y : Standing) → next_block st later ≡ Ok y → measure y ≡ measure st

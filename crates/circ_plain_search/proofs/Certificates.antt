@@ -3,7 +3,7 @@ use Rattle.std.proofs.Common.{◌≡◌, ℕ, zero, suc, ◌+◌, ◌≤◌, len
 use Rattle.std.specs.List.{slice_get, AllByRecursion, Contains}
 use Rattle.circ_term.specs.Tree.{Tree, App, trees_of}
 use Rattle.circ_theory.specs.Signature.{Operator, IsWellSorted}
-use Rattle.circ_theory.specs.Theory.{Theory, Derivative}
+use Rattle.circ_theory.specs.Theory.{Theory, Derivative, HasNoConditions}
 use Rattle.circ_theory.specs.WellFormed.{IsWellFormed}
 use Rattle.circ_theory.specs.Fresh.{above, all_above, variables_from}
 use Rattle.circ_theory.proofs.Casing.{contains_first}
@@ -12,17 +12,18 @@ use Rattle.circ_theory.proofs.Weakening.{in_rest}
 use Rattle.circ_special.specs.declared.place.Place.{Place}
 use Rattle.circ_special.specs.Special.{IsSet}
 use Rattle.circ_proof.specs.Plain.{LinkOf}
-use Rattle.circ_proof.specs.Link.{setting, AllOfLink, AllOfLinks, terms_of}
+use Rattle.circ_proof.specs.Link.{setting, AllOfLink, AllOfLinks}
 use Rattle.circ_rewrite.specs.Links.{link_of}
 use Rattle.circ_rewrite.specs.Replacement.{Traced}
 use Rattle.circ_rewrite.specs.TheoryRules.{theory_rules}
-use Rattle.circ_rewrite.proofs.RuleLists.{rules_are}
+use Rattle.circ_rewrite.proofs.RuleLists.{rules_are, theory_unconditional}
 use Rattle.circ_proof.specs.Certified.{start_args, start_term, derivatives_at, due, Certified, AreCertified}
 use Rattle.circ_proof.proofs.Sorted.{sorted_none}
 use Rattle.circ_proof.proofs.Starting.{few_args}
 use Rattle.circ_plain_search.specs.Greatest.{HasNormalForm, AreTraces, GreatestSpecialSet}
 use Rattle.circ_plain_search.proofs.Certifying.{of_place, from_due, is_certified, starts_sorted}
 use Rattle.circ_plain_search.proofs.Terms.{Fine}
+use Rattle.circ_plain_search.proofs.Led.{link_by_terms}
 use Rattle.circ_plain_search.proofs.Normals.{normal_form_led}
 use Rattle.circ_plain_search.proofs.Derived.{derived_low}
 use Rattle.circ_plain_search.proofs.Runs.{most}
@@ -56,7 +57,7 @@ args_low i k [] = omega arith
 args_low zero k (s ∷ ss) = let r = variables_low k ss in omega (arith, r)
 args_low (suc i) k (s ∷ ss) = let r = args_low i (k + 1) ss in omega (arith, r)
 
-module _ (th : Theory) (wf : IsWellFormed th) where
+module _ (th : Theory) (wf : IsWellFormed th) (none : HasNoConditions th) where
   start_low : (g : Place) (o : Operator) (d : Derivative) → slice_get th.signature.ops g.op ≡ Some o → Contains (derivatives_at th g) d
       → above (start_term o g d) ≤ most
   start_low g o d listed c =
@@ -81,14 +82,14 @@ module _ (th : Theory) (wf : IsWellFormed th) where
         within = f.within;
         low = start_low x.0 o x.1 f.place.listed c;
       } in (
-        (normal_form_led th wf most (omega arith) [] (theory_rules th) (rules_are th wf []) [] tt [] (start_term o x.0 x.1) a.0.0 ts budget f.left fine f.form).terms,
+        (normal_form_led th wf most (omega arith) [] (theory_rules th) (rules_are th wf []) (theory_unconditional th none) [] tt [] (start_term o x.0 x.1) a.0.0 ts budget f.left fine f.form).terms,
         traces_fine budget G xs tss (λ y d. h y (in_rest x y xs d)) a.1,
       )
 
   pub greatest_certified : (budget : ℕ) (G : List Place) (tss : List (List Traced)) → GreatestSpecialSet th budget G tss
       → IsCertifiedSet th G (map (map link_of) tss)
   greatest_certified budget G tss g =
-      let c = is_certified th wf budget G tss g in
+      let c = is_certified th wf none budget G tss g in
       record { set = c.0; certified = c.1; terms = traces_fine budget G (due th G) tss (from_due th G) g.recorded }
 
   -- ---- ranges
@@ -96,13 +97,15 @@ module _ (th : Theory) (wf : IsWellFormed th) where
   sorted_links : (ls : List (LinkOf Tree)) → AllOfLinks (Fine th most) ls → AllOfLinks (IsWellSorted th.signature) ls
   sorted_links ls a =
       all_by (AllOfLink (Fine th most)) (AllOfLink (IsWellSorted th.signature)) ls
-      (λ l x. all_by (Fine th most) (IsWellSorted th.signature) (terms_of l) (λ t f. f.sorted) x) a
+      (λ l x. link_by_terms (Fine th most) (IsWellSorted th.signature) (λ t f. f.sorted) l x) a
 
   alone : (G : List Place) → IsSmallSetting (setting th G [] [])
   alone G = record {
     sorted = record { well_formed = wf; hypotheses = sorted_none th; assumptions = λ p c. absurd (omega (arith, c.1)) };
     few_hypotheses = omega arith;
     few_assumptions = omega arith;
+    none = none;
+    bare = tt;
   }
 
   each_ranged : (G : List Place) (xs : List (Place × Derivative)) (lss : List (List (LinkOf Tree)))

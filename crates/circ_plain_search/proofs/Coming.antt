@@ -1,13 +1,14 @@
 -- What is known of each standing that a search comes to.
 use Rattle.std.proofs.Common.{◌≡◌, ℕ, ◌+◌, ◌≤◌, length, List, [], ◌∷◌, ◌++◌, Ok, refl, ap, sym, subst, arith, length-append}
 use Rattle.std.specs.List.{AllByRecursion}
-use Rattle.circ_term.specs.Tree.{Tree}
-use Rattle.circ_theory.specs.Theory.{Theory}
+use Rattle.circ_term.specs.Tree.{Tree, sort_of}
+use Rattle.circ_theory.specs.Theory.{Theory, HasNoConditions, goal}
 use Rattle.circ_theory.specs.WellFormed.{IsWellFormed}
+use Rattle.circ_theory.specs.Observing.{case_list}
+use Rattle.circ_theory.specs.Fresh.{above_pairs}
 use Rattle.circ_theory.specs.declared.parts.Goal.{Goal}
 use Rattle.circ_special.specs.declared.place.Place.{Place}
-use Rattle.circ_proof.specs.Goals.{goal}
-use Rattle.circ_proof.specs.Rules.{State, state, ProofStep, Simplify, Reduce, Derive, Done, StepOn, StepsOf, derivatives_on}
+use Rattle.circ_proof.specs.Rules.{State, state, ProofStep, Simplify, Reduce, Derive, Cases, Done, StepOn, StepsOf, derivatives_on, cases_on}
 use Rattle.circ_proof.specs.Proof.{step_limit}
 use Rattle.circ_plain_search.specs.BlockRules.{block_rules}
 use Rattle.circ_plain_search.specs.Search.{Limits, ProvedBlock, Standing, Ending, Sides, normal_sides, with_sides, Reaches, goes, start}
@@ -16,7 +17,7 @@ use Rattle.circ_plain_search.specs.Coming.{Comes, here, further, IsSmall, IsRead
 use Rattle.circ_plain_search.proofs.Splits.{normal_sides_led}
 use Rattle.circ_plain_search.proofs.Derived.{FineGoal, goal_sorted}
 use Rattle.circ_plain_search.proofs.Runs.{bound, all_steps, goals_of, BlocksRun, EndsDone, Ran, Held, Opened}
-use Rattle.circ_plain_search.proofs.Turns.{turn_good, rules_here, sides_held}
+use Rattle.circ_plain_search.proofs.Turns.{turn_good, rules_here, bare_here, unconditional_here, sides_held}
 use Rattle.circ_plain_search.proofs.Ends.{start_opened}
 use Rattle.circ_plain_search.proofs.Accepting.{blocks_given, fine_blocks}
 
@@ -46,6 +47,11 @@ step_counted th G Derive H (g ∷ gs) b r =
     let long = length-append H (g ∷ []) in
     let grows = length-append gs (derivatives_on th g) in
     subst P (sym r.2) (record { more = omega (arith, long); fewer = omega (arith, grows) })
+step_counted th G (Cases u) H [] b r = absurd r
+step_counted th G (Cases u) H (g ∷ gs) b r =
+    let P : State → Type 0 = λ x. Counted H (g ∷ gs) x 1 in
+    let long = length-append (cases_on g u (case_list (sort_of u) r.0)) gs in
+    subst P (sym r.3) (record { more = omega arith; fewer = omega (arith, long) })
 step_counted th G Done H [] b r =
     let P : State → Type 0 = λ x. Counted H [] x 1 in subst P (sym r) (record { more = omega arith; fewer = omega arith })
 step_counted th G Done H (g ∷ gs) b r = absurd r
@@ -110,10 +116,10 @@ module _ (th : Theory) (wf : IsWellFormed th) (G : List Place) (l : Limits) (blo
 
   comes_good : AreSearchable th blocks → (st : Standing) → Comes th G l (start l blocks) st → Good st
   comes_good a _ here = start_good a
-  comes_good a _ (further st next c t) = turn_good th wf G l blocks st next (comes_good a st c) t
+  comes_good a _ (further st next c t) = turn_good th wf a.no_conditions G l blocks st next (comes_good a st c) t
 
-  small_if : (st : Standing) (Q : List Goal) → Ran th G blocks st Q → IsSmall st
-  small_if st Q r =
+  small_if : HasNoConditions th → (st : Standing) (Q : List Goal) → Ran th G blocks st Q → IsSmall st
+  small_if none st Q r =
       let c = ran_counted th G blocks st Q r in
       let taken = r.taken in
       let counted = r.counted in
@@ -125,14 +131,15 @@ module _ (th : Theory) (wf : IsWellFormed th) (G : List Place) (l : Limits) (blo
         taken = omega (arith, taken, counted, small);
         derives = r.few;
         made = r.small;
+        no_conds = bare_here th wf none G l blocks st Q r;
       }
 
-  opened_small : (st : Standing) (Q : List Goal) → Opened th G blocks st Q → IsSmall st
-  opened_small st [] o = small_if st [] o
-  opened_small st (g ∷ rest) o = small_if st (o.0 ∷ rest) o.1.ran
+  opened_small : HasNoConditions th → (st : Standing) (Q : List Goal) → Opened th G blocks st Q → IsSmall st
+  opened_small none st [] o = small_if none st [] o
+  opened_small none st (g ∷ rest) o = small_if none st (o.0 ∷ rest) o.1.ran
 
   pub standing_small : AreSearchable th blocks → (st : Standing) → Comes th G l (start l blocks) st → IsSmall st
-  standing_small a st c = opened_small st st.queue (comes_good a st c)
+  standing_small a st c = opened_small a.no_conditions st st.queue (comes_good a st c)
 
   ready_if : (st : Standing) (Q : List Goal) (g : Goal) → Ran th G blocks st Q → FineGoal th (bound st) g → IsReady th g
   ready_if st Q g r f =
@@ -140,16 +147,18 @@ module _ (th : Theory) (wf : IsWellFormed th) (G : List Place) (l : Limits) (blo
       let small = r.small in
       let left = f.left.low in
       let right = f.right.low in
-      record { sorted = goal_sorted th (bound st) g f; numbers = omega (arith, few, small, left, right) }
+      let bare = ap above_pairs f.bare in
+      record { sorted = goal_sorted th (bound st) g f; no_conds = f.bare; numbers = omega (arith, few, small, left, right, bare) }
 
   -- the goal in hand, with its sides in normal form
   pub normal_goal_ready : AreSearchable th blocks → (st : Standing) → Comes th G l (start l blocks) st → (g : Goal) (rest : List Goal) → st.queue ≡ g ∷ rest
-      → (n : Sides) → normal_sides th (block_rules th st.earlier) [] g.left g.right st.budget ≡ Ok n → IsReady th (goal n.left n.right)
+      → (n : Sides) → normal_sides th (block_rules th st.earlier) [] g.left g.right st.budget ≡ Ok n → IsReady th (goal [] n.left n.right)
   normal_goal_ready a st c g rest is n e =
       let P : List Goal → Type 0 = Opened th G blocks st in
       let o = subst P is (comes_good a st c) in
       let h : Held th G blocks st o.0 g rest = o.1 in
-      let led = normal_sides_led th wf (bound st) (omega arith) G st.hypotheses (block_rules th st.earlier) (rules_here th wf G l blocks st (o.0 ∷ rest) h.ran) [] tt
+      let led = normal_sides_led th wf (bound st) (omega arith) G st.hypotheses (block_rules th st.earlier) (rules_here th wf a.no_conditions G l blocks st (o.0 ∷ rest) h.ran)
+      (unconditional_here th wf a.no_conditions G l blocks st (o.0 ∷ rest) h.ran) [] tt
       g.left g.right st.budget n h.fine.left h.fine.right e in
-      let held = sides_held th wf G l blocks st o.0 g rest st.budget n h led in
-      ready_if (with_sides st rest n) (o.0 ∷ rest) (goal n.left n.right) held.ran held.fine
+      let held = sides_held th wf a.no_conditions G l blocks st o.0 g rest st.budget n h led in
+      ready_if (with_sides st rest n) (o.0 ∷ rest) (goal [] n.left n.right) held.ran held.fine

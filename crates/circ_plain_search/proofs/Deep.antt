@@ -3,38 +3,52 @@ use Rattle.std.proofs.Common.{◌≡◌, ℕ, Bool, true, false, ◌||◌, List,
 use Rattle.std.specs.List.{list_any}
 use Rattle.std.specs.Option.{option_map_or}
 use Rattle.circ_term.specs.Tree.{Tree, sort_of}
-use Rattle.circ_theory.specs.Theory.{Theory, Pair, CaseList}
+use Rattle.circ_theory.specs.Theory.{Theory, Pair, CaseList, HasNoConditions, sides}
 use Rattle.circ_theory.specs.Derivable.{is_case}
 use Rattle.circ_theory.specs.Observing.{is_hidden}
 use Rattle.circ_theory.specs.declared.parts.Goal.{Goal}
 use Rattle.circ_theory.proofs.Casing.{hidden_tells}
+use Rattle.circ_theory.proofs.Lists.{all_at}
+use Rattle.circ_theory.proofs.Rewriting.{contains_at}
 use Rattle.circ_special.specs.declared.place.Place.{Place}
 use Rattle.circ_proof.specs.Plain.{LinkOf, Equation_link, Hypothesis_link, Assumption_link, Content_link, ChainOf, WhyOf, WhysOf, Same_why, Split_why, no_why, more_whys}
-use Rattle.circ_proof.specs.Goals.{sides}
 use Rattle.circ_proof.specs.Runs.{Runs}
 use Rattle.circ_proof.specs.Link.{setting, Leads}
 use Rattle.circ_proof.specs.Justified.{ChainLeads, Justified, EachJustified}
-use Rattle.circ_proof.specs.Rules.{State, ProofStep, Simplify, Reduce, Derive, Done, StepOn, StepOf}
+use Rattle.circ_proof.specs.Rules.{State, ProofStep, Simplify, Reduce, Derive, Cases, Done, StepOn, StepOf}
+use Rattle.circ_plain_search.specs.BlockRules.{HaveNoConditions}
 use Rattle.circ_plain_search.specs.Search.{is_deep, is_deep_chain, is_deep_why, are_deep_whys, is_deep_step}
+use Rattle.circ_plain_search.proofs.Unconditional.{none_anywhere}
 
 pub or_false : (a b : Bool) → (a || b) ≡ false → (a ≡ false) × (b ≡ false)
 or_false true b e = absurd (cc)
 or_false false b e = (refl, e)
 
-module _ (th : Theory) (G : List Place) (H : List Goal) where
+module _ (th : Theory) (none : HasNoConditions th) (G : List Place) (H : List Goal) (bare : HaveNoConditions H) where
   flat_link : (A : List Pair) (l : LinkOf Tree) (t u : Tree) → Leads (setting th G H A) l t u → is_deep th H l ≡ false → Leads (setting th [] H A) l t u
-  flat_link A (Equation_link n w p ts) t u k e = record { equation = k.equation; listed = k.listed; rewrites = k.rewrites }
-  flat_link A (Hypothesis_link n w [] ts) t u k e =
-      record { hypothesis = k.hypothesis; listed = k.listed; rewrites = k.rewrites; special = λ h. tt }
-  flat_link A (Hypothesis_link n w (i ∷ p) ts) t u k e = record {
-    hypothesis = k.hypothesis;
-    listed = k.listed;
-    rewrites = k.rewrites;
-    special = λ h.
-        let seen : is_hidden th (sort_of k.hypothesis.left) ≡ false
-        = ap (λ o. option_map_or (λ g. is_hidden th (sort_of g.left)) o false) (sym k.listed) ∙ e in
-        absurd (let z = sym ((hidden_tells th (sort_of k.hypothesis.left)).1 h) ∙ seen in cc);
-  }
+  flat_link A (Equation_link n w p ts cs) t u k e = (
+    record { equation = k.0.equation; listed = k.0.listed; rewrites = k.0.rewrites },
+    none_anywhere (setting th G H A) (setting th [] H A) _ k.0.equation.conds cs
+        (none k.0.equation (contains_at th.equations n k.0.equation k.0.listed)) k.1,
+  )
+  flat_link A (Hypothesis_link n w [] ts cs) t u k e = (
+    record { hypothesis = k.0.hypothesis; listed = k.0.listed; rewrites = k.0.rewrites; special = λ h. tt },
+    none_anywhere (setting th G H A) (setting th [] H A) _ k.0.hypothesis.conds cs
+        (all_at (λ g. g.conds ≡ []) H n k.0.hypothesis bare k.0.listed) k.1,
+  )
+  flat_link A (Hypothesis_link n w (i ∷ p) ts cs) t u k e = (
+    record {
+      hypothesis = k.0.hypothesis;
+      listed = k.0.listed;
+      rewrites = k.0.rewrites;
+      special = λ h.
+          let seen : is_hidden th (sort_of k.0.hypothesis.left) ≡ false
+          = ap (λ o. option_map_or (λ g. is_hidden th (sort_of g.left)) o false) (sym k.0.listed) ∙ e in
+          absurd (let z = sym ((hidden_tells th (sort_of k.0.hypothesis.left)).1 h) ∙ seen in cc);
+    },
+    none_anywhere (setting th G H A) (setting th [] H A) _ k.0.hypothesis.conds cs
+        (all_at (λ g. g.conds ≡ []) H n k.0.hypothesis bare k.0.listed) k.1,
+  )
   flat_link A (Assumption_link n w p) t u k e = record { assumed = k.assumed; listed = k.listed; replaces = k.replaces }
   flat_link A (Content_link f p new) t u k e = record { old = k.old; content = k.content; replaces = k.replaces }
 
@@ -69,13 +83,15 @@ module _ (th : Theory) (G : List Place) (H : List Goal) where
 
   flat_on : (s : ProofStep Tree) (gs : List Goal) (b : State) → StepOn th G s H gs b → is_deep_step th H s ≡ false → StepOn th [] s H gs b
   flat_on (Simplify c) [] b r e = r
-  flat_on (Simplify c) (g ∷ gs) b r e = (r.0, flat_chain [] c (sides g) r.0 r.1 e, r.2)
+  flat_on (Simplify c) (g ∷ gs) b r e = (r.0, flat_chain g.conds c (sides g) r.0 r.1 e, r.2)
   flat_on (Reduce w) [] b r e = r
-  flat_on (Reduce w) (g ∷ gs) b r e = (flat_why [] w (sides g) r.0 e, r.1)
+  flat_on (Reduce w) (g ∷ gs) b r e = (flat_why g.conds w (sides g) r.0 e, r.1)
   flat_on Derive [] b r e = r
   flat_on Derive (g ∷ gs) b r e = r
+  flat_on (Cases u) [] b r e = r
+  flat_on (Cases u) (g ∷ gs) b r e = r
   flat_on Done [] b r e = r
   flat_on Done (g ∷ gs) b r e = r
 
-pub flat_step : (th : Theory) (G : List Place) (s : ProofStep Tree) (a b : State) → StepOf th G s a b → is_deep_step th a.hypotheses s ≡ false → StepOf th [] s a b
-flat_step th G s a b r e = flat_on th G a.hypotheses s a.goals b r e
+pub flat_step : (th : Theory) → HasNoConditions th → (G : List Place) (s : ProofStep Tree) (a b : State) → HaveNoConditions a.hypotheses → StepOf th G s a b → is_deep_step th a.hypotheses s ≡ false → StepOf th [] s a b
+flat_step th none G s a b bare r e = flat_on th none G a.hypotheses bare s a.goals b r e

@@ -1,5 +1,5 @@
 -- The derivatives of a fine goal are fine, with variables of numbers a little greater.
-use Rattle.std.proofs.Common.{◌≡◌, ℕ, ◌+◌, ◌-◌, ◌≤◌, ◌^◌, length, Bool, true, false, ◌==◌, ◌&&◌, if◌then◌else◌, List, [], ◌∷◌, ◌++◌, map, None, refl, arith}
+use Rattle.std.proofs.Common.{◌≡◌, ℕ, ◌+◌, ◌-◌, ◌≤◌, ◌^◌, length, Bool, true, false, ◌==◌, ◌&&◌, if◌then◌else◌, List, [], ◌∷◌, ◌++◌, map, None, refl, ap, arith}
 use Rattle.std.specs.Prelude.{not}
 use Rattle.std.specs.List.{AllByRecursion, Contains, filter}
 use Rattle.std.proofs.lemmas.Bool.{eqb-true}
@@ -8,39 +8,51 @@ use Rattle.circ_term.specs.Tree.{Tree, Trees, Var, App, none, more, sort_of}
 use Rattle.circ_term.specs.Limits.{IsWithinLimits, first_limit}
 use Rattle.circ_term.specs.Substitution.{instance, instances}
 use Rattle.circ_term.proofs.Limits.{or_else_parts}
-use Rattle.circ_theory.specs.Theory.{Theory, Derivative}
+use Rattle.circ_theory.specs.Theory.{Theory, Derivative, IsWellSortedGoal}
 use Rattle.circ_theory.specs.WellFormed.{IsWellFormed}
 use Rattle.circ_theory.specs.Variables.{Variable, occurrences, all_occurrences, AreNumberedFrom}
 use Rattle.circ_theory.specs.Experiment.{plug, derived}
 use Rattle.circ_theory.specs.Observing.{is_parameter, is_hole}
-use Rattle.circ_theory.specs.Fresh.{above, all_above, numbered_from, derivatives_of}
+use Rattle.circ_theory.specs.Fresh.{above, all_above, above_pairs, numbered_from, derivatives_of}
 use Rattle.circ_theory.specs.declared.parts.Goal.{Goal}
 use Rattle.circ_theory.proofs.Casing.{contains_first}
+use Rattle.circ_theory.proofs.Lists.{all_by}
 use Rattle.circ_theory.proofs.Weakening.{in_rest}
-use Rattle.circ_proof.specs.Goals.{IsWellSortedGoal, AreSortedGoals}
-use Rattle.circ_proof.specs.Rules.{fresh_in, derived_goal, derivatives_on, IsDerivable}
+use Rattle.circ_proof.specs.Goals.{AreSortedGoals}
+use Rattle.circ_proof.specs.Rules.{derived_goal, derivatives_on, IsDerivable}
+use Rattle.circ_theory.specs.Fresh.{fresh_in}
 use Rattle.circ_proof.proofs.Sorted.{derived_sorted, sorted_none, sorted_more}
+use Rattle.circ_plain_search.specs.BlockRules.{HaveNoConditions}
 use Rattle.circ_plain_search.specs.Search.{goals_limit}
 use Rattle.circ_plain_search.proofs.Terms.{Fine, fine_more}
+use Rattle.circ_plain_search.proofs.Unconditional.{no_condition}
 
--- both sides are fine, and of one sort
+-- both sides are fine, and of one sort, and there are no conditions
 pub record FineGoal (th : Theory) (m : ℕ) (g : Goal) : Type 0 where
   pub left : Fine th m g.left
   pub right : Fine th m g.right
   pub same_sort : sort_of g.right ≡ sort_of g.left
+  pub bare : g.conds ≡ []
 
 abbrev pub FineGoals : Theory → ℕ → List Goal → Type 0
 FineGoals th m gs = AllByRecursion (FineGoal th m) gs
 
 pub goal_more : (th : Theory) (m k : ℕ) (g : Goal) → m ≤ k → FineGoal th m g → FineGoal th k g
-goal_more th m k g h f = record { left = fine_more th m k g.left h f.left; right = fine_more th m k g.right h f.right; same_sort = f.same_sort }
+goal_more th m k g h f =
+    record { left = fine_more th m k g.left h f.left; right = fine_more th m k g.right h f.right; same_sort = f.same_sort; bare = f.bare }
 
 pub goal_sorted : (th : Theory) (m : ℕ) (g : Goal) → FineGoal th m g → IsWellSortedGoal th g
-goal_sorted th m g f = record { sorted = record { left = f.left.sorted; right = f.right.sorted; same_sort = f.same_sort } }
+goal_sorted th m g f = record {
+  sorted = record { left = f.left.sorted; right = f.right.sorted; same_sort = f.same_sort };
+  conds = no_condition th g.conds f.bare;
+}
 
 pub goals_sorted : (th : Theory) (m : ℕ) (gs : List Goal) → FineGoals th m gs → AreSortedGoals th gs
 goals_sorted th m [] a = sorted_none th
 goals_sorted th m (g ∷ gs) a = sorted_more th g gs (goal_sorted th m g a.0) (goals_sorted th m gs a.1)
+
+pub goals_bare : (th : Theory) (m : ℕ) (gs : List Goal) → FineGoals th m gs → HaveNoConditions gs
+goals_bare th m gs a = all_by (FineGoal th m) (λ g. g.conds ≡ []) gs (λ g f. f.bare) a
 
 -- ---- the numbers of a derivative's variables
 
@@ -119,7 +131,7 @@ pub record IsFineDerived (th : Theory) (m : ℕ) (g : Goal) : Type 0 where
 
 module _ (th : Theory) (wf : IsWellFormed th) (m : ℕ) (room : m + 8 ≤ 2 ^ 32) (g : Goal) (f : FineGoal th m g) where
   fresh_low : fresh_in g ≤ m
-  fresh_low = let x = f.left.low in let y = f.right.low in omega (arith, x, y)
+  fresh_low = let x = f.left.low in let y = f.right.low in let z = ap above_pairs f.bare in omega (arith, x, y, z)
 
   one_fine : (d : Derivative) → Contains th.derivatives d → d.hole ≡ sort_of g.left → IsWithinLimits (derived_goal d g (fresh_in g)).left
       → IsWithinLimits (derived_goal d g (fresh_in g)).right → FineGoal th (m + 8) (derived_goal d g (fresh_in g))
@@ -129,6 +141,7 @@ module _ (th : Theory) (wf : IsWellFormed th) (m : ℕ) (room : m + 8 ≤ 2 ^ 32
         left = record { sorted = s.left; within = wl; low = derived_low th wf d c (fresh_in g) m g.left f.left.low fresh_low };
         right = record { sorted = s.right; within = wr; low = derived_low th wf d c (fresh_in g) m g.right f.right.low fresh_low };
         same_sort = s.same_sort;
+        bare = f.bare;
       }
 
   one_derivable : (d : Derivative) → Contains th.derivatives d → IsWithinLimits (derived_goal d g (fresh_in g)).left

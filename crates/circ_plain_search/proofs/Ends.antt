@@ -4,13 +4,12 @@ use Rattle.std.specs.Prelude.{nat_le}
 use Rattle.std.specs.List.{AllByRecursion}
 use Rattle.circ_term.specs.Tree.{Tree, sort_of}
 use Rattle.circ_term.specs.Limits.{Limit, Big, Deep}
-use Rattle.circ_theory.specs.Theory.{Theory}
+use Rattle.circ_theory.specs.Theory.{Theory, HasNoConditions, goal}
 use Rattle.circ_theory.specs.WellFormed.{IsWellFormed}
 use Rattle.circ_theory.specs.Observing.{is_hidden}
 use Rattle.circ_theory.specs.declared.parts.Goal.{Goal}
 use Rattle.circ_special.specs.declared.place.Place.{Place}
 use Rattle.circ_proof.specs.Plain.{WhyOf, Same_why, Split_why}
-use Rattle.circ_proof.specs.Goals.{goal}
 use Rattle.circ_proof.specs.Rules.{ProofStep, Simplify, Reduce, Derive, Done, derivatives_on}
 use Rattle.circ_proof.specs.Proof.{step_limit, split_limit}
 use Rattle.circ_proof.proofs.Sorted.{sorted_none}
@@ -95,12 +94,12 @@ module _ (th : Theory) (G : List Place) (l : Limits) where
 
   not_goal : (st : Standing) (g : Goal) (rest : List Goal) → NotDone (goal_turn th G l st g rest)
   not_goal st g rest =
-      not_then _ (λ n. sides_turn th G l (with_sides st rest n) (goal n.left n.right) rest)
+      not_then _ (λ n. sides_turn th G l (with_sides st rest n) (goal [] n.left n.right) rest)
       (not_ended l st (normal_sides th (block_rules th st.earlier) [] g.left g.right st.budget))
-      (λ n. not_joined (with_sides st rest n) (goal n.left n.right) rest (joined G st.hypotheses [] n.left n.right))
+      (λ n. not_joined (with_sides st rest n) (goal [] n.left n.right) rest (joined G st.hypotheses [] n.left n.right))
 
-module _ (th : Theory) (wf : IsWellFormed th) (G : List Place) (l : Limits) (blocks : List (List Goal)) where
-  last_whole : (st : Standing) (later : List (List Goal)) (bs : List ProvedBlock) (d m : ℕ) (x : Bool) → IsWhole th wf G l blocks st later
+module _ (th : Theory) (wf : IsWellFormed th) (none : HasNoConditions th) (G : List Place) (l : Limits) (blocks : List (List Goal)) where
+  last_whole : (st : Standing) (later : List (List Goal)) (bs : List ProvedBlock) (d m : ℕ) (x : Bool) → IsWhole th wf none G l blocks st later
       → next_block st later ≡ Err (All_done bs d m x) → Whole th G blocks bs [] x m d
   last_whole st (b ∷ later) bs d m x h e = absurd (cc)
   last_whole st [] bs d m x h e =
@@ -121,7 +120,7 @@ module _ (th : Theory) (wf : IsWellFormed th) (G : List Place) (l : Limits) (blo
     where
       last : (r : Result Standing Ending) → Opened th G blocks st [] → record_step th l st Done ≡ r
           → and_then r (λ z. next_block z z.later) ≡ Err (All_done bs d m x) → Whole th G blocks bs [] x m d
-      last (Ok y) o f z = last_whole y y.later bs d m x (done_is_whole th wf G l blocks st y o f) z
+      last (Ok y) o f z = last_whole y y.later bs d m x (done_is_whole th wf none G l blocks st y o f) z
       last (Err y) o f z =
           absurd (not_recorded th G l st Done bs d m x (f ∙ (let s : y ≡ All_done bs d m x = same_Err y (All_done bs d m x) z in ap Err s)))
 
@@ -132,7 +131,7 @@ module _ (th : Theory) (wf : IsWellFormed th) (G : List Place) (l : Limits) (blo
   reaches_whole : (st : Standing) (e : Ending) → Opened th G blocks st st.queue → Reaches th G l st e → (bs : List ProvedBlock) (d m : ℕ) (x : Bool)
       → e ≡ All_done bs d m x → Whole th G blocks bs [] x m d
   reaches_whole st e h (ends _ _ t) bs d m x it = turn_whole st bs d m x h (t ∙ ap Err it)
-  reaches_whole st e h (goes _ y _ t r) bs d m x it = reaches_whole y e (turn_good th wf G l blocks st y h t) r bs d m x it
+  reaches_whole st e h (goes _ y _ t r) bs d m x it = reaches_whole y e (turn_good th wf none G l blocks st y h t) r bs d m x it
 
 pub start_opened : (th : Theory) (G : List Place) (l : Limits) (b : List Goal) (bs : List (List Goal)) → FineGoals th half b
     → AllByRecursion (FineGoals th half) bs → Opened th G (b ∷ bs) (start l (b ∷ bs)) b
@@ -144,6 +143,7 @@ start_opened th G l b bs fb fbs =
       all = refl;
       begins = λ n h e. e;
       sorted = sorted_none th;
+      bare = tt;
       run = record { under = refl; plain = λ e. refl };
       unfinished = tt;
       ended = tt;
@@ -158,8 +158,8 @@ start_opened th G l b bs fb fbs =
     }) (let e : half ≡ half + 8 * 0 = omega arith in let P : ℕ → Type 0 = λ m. FineGoals th m b in subst P e fb)
 
 -- A search that ends with every goal done has proved each of the given blocks.
-pub search_whole : (th : Theory) → IsWellFormed th → (G : List Place) (l : Limits) (b : List Goal) (bs : List (List Goal)) → FineGoals th half b
+pub search_whole : (th : Theory) → IsWellFormed th → HasNoConditions th → (G : List Place) (l : Limits) (b : List Goal) (bs : List (List Goal)) → FineGoals th half b
     → AllByRecursion (FineGoals th half) bs → (found : List ProvedBlock) (d m : ℕ) (x : Bool) → Reaches th G l (start l (b ∷ bs)) (All_done found d m x)
     → Whole th G (b ∷ bs) found [] x m d
-search_whole th wf G l b bs fb fbs found d m x r =
-    reaches_whole th wf G l (b ∷ bs) (start l (b ∷ bs)) (All_done found d m x) (start_opened th G l b bs fb fbs) r found d m x refl
+search_whole th wf none G l b bs fb fbs found d m x r =
+    reaches_whole th wf none G l (b ∷ bs) (start l (b ∷ bs)) (All_done found d m x) (start_opened th G l b bs fb fbs) r found d m x refl

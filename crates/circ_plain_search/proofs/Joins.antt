@@ -9,17 +9,19 @@ use Rattle.circ_term.proofs.Trees.{trees_of-list_of}
 use Rattle.circ_term.specs.Order.{is_same}
 use Rattle.circ_term.specs.Substitution.{KeepsSorts, instance}
 use Rattle.circ_term.proofs.Order.{same_here}
-use Rattle.circ_theory.specs.Theory.{Theory, Pair}
+use Rattle.circ_theory.specs.Theory.{Theory, Pair, sides}
 use Rattle.circ_theory.specs.declared.parts.Goal.{Goal}
 use Rattle.circ_theory.specs.declared.way.Way.TheVariants.{Forth, Back}
+use Rattle.circ_theory.proofs.Lists.{all_at}
 use Rattle.circ_special.specs.declared.place.Place.{Place}
 use Rattle.circ_special.specs.Special.{IsSpecial}
-use Rattle.circ_proof.specs.Goals.{sides, AreSortedGoals}
+use Rattle.circ_proof.specs.Goals.{AreSortedGoals}
 use Rattle.circ_rewrite.specs.Matching.{image, matching}
 use Rattle.circ_rewrite.specs.Due.{terms_by}
 use Rattle.circ_rewrite.proofs.Linked.{fit_given}
 use Rattle.circ_rewrite.proofs.MatchingFacts.{matching-sorts}
-use Rattle.circ_plain_search.specs.Joining.{HypothesisUse, use_with, pair_matching, pair_matches, pair_variables, pair_use, first_use, is_place, meets, beside, joined, all_joined, put_all}
+use Rattle.circ_plain_search.specs.BlockRules.{HaveNoConditions}
+use Rattle.circ_plain_search.specs.Joining.{HypothesisUse, use_with, pair_matching, pair_matches, hypothesis_variables, pair_use, first_use, is_place, meets, beside, joined, all_joined, put_all}
 use Rattle.circ_plain_search.proofs.Terms.{Fine, FineTerms, args_fine}
 use Rattle.circ_plain_search.proofs.PairTerms.{pair_terms, given_fine, left_instance, right_instance}
 use Rattle.circ_plain_search.proofs.Special.{place_there, special_deeper, at_deeper}
@@ -33,7 +35,7 @@ pair_matching_sorts p a b n s = go (image p.left a n s) (matching-sorts p.left a
     go (Some x) l r = l
     go None l r = r
 
-module _ (th : Theory) (m : ℕ) (H : List Goal) where
+module _ (th : Theory) (m : ℕ) (H : List Goal) (bare : HaveNoConditions H) where
   -- the hypotheses from a number on
   abbrev From : ℕ → List Goal → Type 0
   From n hs = (k : ℕ) → slice_get hs k ≡ slice_get H (k + n)
@@ -49,11 +51,11 @@ module _ (th : Theory) (m : ℕ) (H : List Goal) where
 
   module _ (q : List ℕ) (a b : Tree) (fa : Fine th m a) (fb : Fine th m b) where
     -- with the left side on x and the right side on y
-    pair_terms_fine : (p : Pair) (x y : Tree) → Fine th m x → Fine th m y → instance (pair_matching p x y) p.left ≡ x
-        → instance (pair_matching p x y) p.right ≡ y → FineTerms th m (terms_by (pair_matching p x y) (pair_variables p))
-    pair_terms_fine p x y fx fy l r =
-        pair_terms (Fine th m) p (pair_matching p x y) (given_fine th m (pair_matching p x y) p.left x l fx)
-        (given_fine th m (pair_matching p x y) p.right y r fy)
+    pair_terms_fine : (h : Goal) → h.conds ≡ [] → (x y : Tree) → Fine th m x → Fine th m y → instance (pair_matching (sides h) x y) h.left ≡ x
+        → instance (pair_matching (sides h) x y) h.right ≡ y → FineTerms th m (terms_by (pair_matching (sides h) x y) (hypothesis_variables h))
+    pair_terms_fine h plain x y fx fy l r =
+        pair_terms (Fine th m) h plain (pair_matching (sides h) x y) (given_fine th m (pair_matching (sides h) x y) h.left x l fx)
+        (given_fine th m (pair_matching (sides h) x y) h.right y r fy)
 
     forth_is : (n : ℕ) (h : Goal) (u : HypothesisUse) → slice_get H n ≡ Some h → pair_use n Forth h q b a b ≡ Some u → IsUse th m H q a b u
     forth_is n h u there e = go (pair_matches (sides h) a b) refl e
@@ -61,8 +63,11 @@ module _ (th : Theory) (m : ℕ) (H : List Goal) where
         p : Pair
         p = sides h
 
+        plain : h.conds ≡ []
+        plain = all_at (λ g. g.conds ≡ []) H n h bare there
+
         new : HypothesisUse
-        new = use_with n Forth q (terms_by (pair_matching (sides h) a b) (pair_variables (sides h))) b
+        new = use_with n Forth q (terms_by (pair_matching (sides h) a b) (hypothesis_variables h)) b
 
         go : (v : Bool) → pair_matches (sides h) a b ≡ v → (if v then Some new else None) ≡ Some u → IsUse th m H q a b u
         go false g x = absurd (cc)
@@ -74,11 +79,12 @@ module _ (th : Theory) (m : ℕ) (H : List Goal) where
               hypothesis = h;
               listed = there;
               path = refl;
-              fit = fit_given (pair_matching p a b) (pair_matching_sorts p a b) (pair_variables p);
-              old = left_instance p (pair_matching p a b) ∙ l;
-              made = right_instance p (pair_matching p a b) ∙ r;
+              conds = refl;
+              fit = fit_given (pair_matching p a b) (pair_matching_sorts p a b) (hypothesis_variables h);
+              old = left_instance h plain (pair_matching p a b) ∙ l;
+              made = right_instance h plain (pair_matching p a b) ∙ r;
               new = refl;
-              terms = pair_terms_fine p a b fa fb l r;
+              terms = pair_terms_fine h plain a b fa fb l r;
               low = fb.low;
             })
 
@@ -88,8 +94,11 @@ module _ (th : Theory) (m : ℕ) (H : List Goal) where
         p : Pair
         p = sides h
 
+        plain : h.conds ≡ []
+        plain = all_at (λ g. g.conds ≡ []) H n h bare there
+
         new : HypothesisUse
-        new = use_with n Back q (terms_by (pair_matching (sides h) b a) (pair_variables (sides h))) b
+        new = use_with n Back q (terms_by (pair_matching (sides h) b a) (hypothesis_variables h)) b
 
         go : (v : Bool) → pair_matches (sides h) b a ≡ v → (if v then Some new else None) ≡ Some u → IsUse th m H q a b u
         go false g x = absurd (cc)
@@ -101,11 +110,12 @@ module _ (th : Theory) (m : ℕ) (H : List Goal) where
               hypothesis = h;
               listed = there;
               path = refl;
-              fit = fit_given (pair_matching p b a) (pair_matching_sorts p b a) (pair_variables p);
-              old = right_instance p (pair_matching p b a) ∙ r;
-              made = left_instance p (pair_matching p b a) ∙ l;
+              conds = refl;
+              fit = fit_given (pair_matching p b a) (pair_matching_sorts p b a) (hypothesis_variables h);
+              old = right_instance h plain (pair_matching p b a) ∙ r;
+              made = left_instance h plain (pair_matching p b a) ∙ l;
               new = refl;
-              terms = pair_terms_fine p b a fb fa l r;
+              terms = pair_terms_fine h plain b a fb fa l r;
               low = fb.low;
             })
 
@@ -146,18 +156,18 @@ besides false true (Some us) None all e left right = absurd (cc)
 besides false true (Some us) (Some vs) all e left right =
     right refl (record { us = us; vs = vs; first = refl; last = refl; whole = sym (same_Some (us ++ vs) all e) })
 
-module _ (th : Theory) (m : ℕ) (G : List Place) (H : List Goal) (sorted : AreSortedGoals th H) where
+module _ (th : Theory) (m : ℕ) (G : List Place) (H : List Goal) (sorted : AreSortedGoals th H) (bare : HaveNoConditions H) where
   abbrev Joins : List HypothesisUse → List ℕ → (b t u : Tree) → Type 0
   Joins us q b t u = UsesLead th m G H us q b t u
 
   used : (q : List ℕ) (a b t u : Tree) (us : List HypothesisUse) (x : HypothesisUse) → Fine th m t → Fine th m a → Fine th m b → at t q ≡ Some a
       → IsSpecial G t q → put_all t us ≡ Ok u → first_use 0 H q a b ≡ Some x → us ≡ x ∷ [] → Joins us q b t u
   used q a b t u us x ft fa fb there special p e one =
-      one_leads th m G H sorted us q a b t u x ft (first_use_is th m H q a b fa fb 0 H x (from_all th m H) e) there special one p
+      one_leads th m G H sorted bare us q a b t u x ft (first_use_is th m H bare q a b fa fb 0 H x (from_all th m H bare) e) there special one p
 
   nothing : (q : List ℕ) (a b t u : Tree) (us : List HypothesisUse) → Fine th m t → at t q ≡ Some a → put_all t us ≡ Ok u → is_same a b ≡ true → us ≡ []
       → Joins us q b t u
-  nothing q a b t u us ft there p same nil = nothing_leads th m G H sorted us q b t u ft (there ∙ ap Some (same_here a b same)) nil p
+  nothing q a b t u us ft there p same nil = nothing_leads th m G H sorted bare us q b t u ft (there ∙ ap Some (same_here a b same)) nil p
 
   mutual
     pub joined_leads : (a b : Tree) (q : List ℕ) (us : List HypothesisUse) (t u : Tree) → Fine th m t → Fine th m a → Fine th m b → at t q ≡ Some a
@@ -195,7 +205,7 @@ module _ (th : Theory) (m : ℕ) (G : List Place) (H : List Goal) (sorted : AreS
         → FineTerms th m (list_of ts) → FineTerms th m (list_of vs) → i ≡ length front → at t q ≡ Some (row f s front ts) → IsSpecial G t q
         → all_joined G H f q i ts vs ≡ Some us → put_all t us ≡ Ok u → UsesLead th m G H us q (row f s front vs) t u
     all_joined_leads none none f s front q i us t u ft fa fb n there special e p =
-        nothing_leads th m G H sorted us q (row f s front none) t u ft there (sym (same_Some [] us e)) p
+        nothing_leads th m G H sorted bare us q (row f s front none) t u ft there (sym (same_Some [] us e)) p
     all_joined_leads none (more b bs) f s front q i us t u ft fa fb n there special e p = absurd (cc)
     all_joined_leads (more a as') none f s front q i us t u ft fa fb n there special e p = absurd (cc)
     all_joined_leads (more a as') (more b bs) f s front q i us t u ft fa fb n there special e p =
@@ -210,15 +220,15 @@ module _ (th : Theory) (m : ℕ) (G : List Place) (H : List Goal) (sorted : AreS
         let P : List HypothesisUse → Type 0 = λ l. Joins l q (row f s front (more b bs)) t u in
         let N : ℕ → Type 0 = λ k. joined G H (q ++ k ∷ []) a b ≡ Some x.us in
         let g = place_there G f (length front) (ap (is_place G f) (sym n) ∙ place) in
-        let y : AfterOne th m G H sorted x.us x.vs q f s front b as' t u
-        = after_one th m G H sorted x.us x.vs q f s front a b as' t u there special (ap (put_all t) (sym x.whole) ∙ p)
+        let y : AfterOne th m G H sorted bare x.us x.vs q f s front b as' t u
+        = after_one th m G H sorted bare x.us x.vs q f s front a b as' t u there special (ap (put_all t) (sym x.whole) ∙ p)
         (λ w e. joined_leads a b (q ++ length front ∷ []) x.us t w ft fa.0 fb.0
         (at_deeper q t f s _ (length front) a there (row_arg front a as'))
         (special_deeper G q t f s _ (length front) a special there g (row_arg front a as'))
         (subst N n x.first) e) in
         let M : Tree → Type 0 = λ z. Joins x.vs q z y.w u in
         subst P (sym x.whole)
-        (both_lead th m G H sorted x.us x.vs q f s front b as' t u (row f s front (more b bs)) y
+        (both_lead th m G H sorted bare x.us x.vs q f s front b as' t u (row f s front (more b bs)) y
         (subst M (row_next f s front b bs)
         (all_joined_leads as' bs f s (front ++ b ∷ []) q (i + 1) x.vs y.w u y.first.led.fine fa.1 fb.1
         (ap (λ k. k + 1) n ∙ sym (longer front b)) y.there y.special x.last y.last))))

@@ -4,9 +4,9 @@ use Rattle.std.specs.List.{AllByRecursion}
 use Rattle.circ_term.specs.Tree.{Tree, sort_of}
 use Rattle.circ_theory.specs.Theory.{Theory}
 use Rattle.circ_theory.proofs.Lists.{all_by}
-use Rattle.circ_proof.specs.Plain.{LinkOf}
+use Rattle.circ_proof.specs.Plain.{LinkOf, LinksOf, ChainsOf, Equation_link, Hypothesis_link, Assumption_link, Content_link, no_link, more_links, no_chain, more_chains}
 use Rattle.circ_proof.specs.Runs.{Runs}
-use Rattle.circ_proof.specs.Link.{Setting, Leads, terms_of, AllOfLink, AllOfLinks}
+use Rattle.circ_proof.specs.Link.{Setting, Leads, AllOfLink, AllOfRow, AllOfChains, AllOfLinks}
 use Rattle.circ_plain_search.proofs.Terms.{Fine, fine_more}
 
 -- The links lead from t to u, which is fine and of t's sort, and their terms are fine.
@@ -39,6 +39,24 @@ led_append c m ls ks t u v a b = record {
   terms = all_append (AllOfLink (Fine c.theory m)) ls ks a.terms b.terms;
 }
 
+-- what follows of each term follows of each term of links
+module _ {T : Type 0} (P Q : T → Type 0) (f : (t : T) → P t → Q t) where
+  mutual
+    pub link_by_terms : (l : LinkOf T) → AllOfLink P l → AllOfLink Q l
+    link_by_terms (Equation_link number way path terms conds) a = (all_by P Q terms f a.0, chains_by_terms conds a.1)
+    link_by_terms (Hypothesis_link number way path terms conds) a = (all_by P Q terms f a.0, chains_by_terms conds a.1)
+    link_by_terms (Assumption_link number way path) a = tt
+    link_by_terms (Content_link op path term) a = f term a
+
+    row_by_terms : (ls : LinksOf T) → AllOfRow P ls → AllOfRow Q ls
+    row_by_terms no_link a = tt
+    row_by_terms (more_links l ls) a = (link_by_terms l a.0, row_by_terms ls a.1)
+
+    chains_by_terms : (cs : ChainsOf T) → AllOfChains P cs → AllOfChains Q cs
+    chains_by_terms no_chain a = tt
+    chains_by_terms (more_chains l r cs) a = (row_by_terms l a.0, row_by_terms r a.1, chains_by_terms cs a.2)
+
 -- with a greater bound
 pub links_more : (th : Theory) (m k : ℕ) (ls : List (LinkOf Tree)) → m ≤ k → AllOfLinks (Fine th m) ls → AllOfLinks (Fine th k) ls
-links_more th m k ls h a = all_by (AllOfLink (Fine th m)) (AllOfLink (Fine th k)) ls (λ l x. all_by (Fine th m) (Fine th k) (terms_of l) (λ t f. fine_more th m k t h f) x) a
+links_more th m k ls h a =
+    all_by (AllOfLink (Fine th m)) (AllOfLink (Fine th k)) ls (λ l x. link_by_terms (Fine th m) (Fine th k) (λ t f. fine_more th m k t h f) l x) a

@@ -5,6 +5,7 @@ pub mod Existing
 pub mod Certifying
 pub mod Terms
 pub mod Led
+pub mod Unconditional
 pub mod PairTerms
 pub mod Rules
 pub mod Normals

@@ -11,19 +11,18 @@ use Rattle.circ_term.specs.Substitution.{Substitution, instance}
 use Rattle.circ_term.proofs.Order.{same_here}
 use Rattle.circ_term.proofs.Limits.{replaced_within}
 use Rattle.circ_theory.specs.Signature.{IsWellSorted}
-use Rattle.circ_theory.specs.Theory.{Theory, pair_with, IsWellSortedPair}
+use Rattle.circ_theory.specs.Theory.{Theory, Pair, IsWellSortedPair}
 use Rattle.circ_theory.specs.WellFormed.{IsWellFormed}
 use Rattle.circ_theory.specs.Fresh.{above}
 use Rattle.circ_theory.specs.declared.parts.Goal.{Goal}
-use Rattle.circ_theory.proofs.Lists.{all_at}
+use Rattle.circ_theory.proofs.Lists.{all_at, all_by}
 use Rattle.circ_special.specs.declared.place.Place.{Place}
 use Rattle.circ_aci.specs.Canonical.{canonical_under}
 use Rattle.circ_aci.proofs.Again.{is_canonical}
-use Rattle.circ_proof.specs.Goals.{sides}
 use Rattle.circ_proof.specs.Link.{Setting, setting, AllOfLink}
-use Rattle.circ_rewrite.specs.Replacement.{Replacement, Traced, By_rule, By_content}
+use Rattle.circ_rewrite.specs.Replacement.{Replacement, Traced, By_rule, By_content, no_pass}
 use Rattle.circ_rewrite.specs.Matching.{matching, matches}
-use Rattle.circ_rewrite.specs.Due.{assumed, content_due, rule_variables, terms_by, ruled, due_under}
+use Rattle.circ_rewrite.specs.Due.{AreUnconditional, assumed, content_due, rule_goal, rule_variables, terms_by, ruled, due_under}
 use Rattle.circ_rewrite.specs.Norm.{Normalised, Normal_form, Budget_spent, Limit_passed, norm}
 use Rattle.circ_rewrite.specs.Reductions.{TracesLead}
 use Rattle.circ_rewrite.specs.Links.{link_by, link_of, IsRuleOf}
@@ -40,45 +39,45 @@ use Rattle.circ_plain_search.proofs.PairTerms.{pair_terms, given_fine}
 use Rattle.circ_plain_search.proofs.Led.{Led, led_none, led_append}
 
 -- assumptions that may be used: well-sorted, and with right sides of low numbers
-pub record IsAssumption (th : Theory) (m : ℕ) (g : Goal) : Type 0 where
-  pub sorted : IsWellSortedPair th.signature (sides g)
-  pub low : above g.right ≤ m
+pub record IsAssumption (th : Theory) (m : ℕ) (p : Pair) : Type 0 where
+  pub sorted : IsWellSortedPair th.signature p
+  pub low : above p.right ≤ m
 
 -- What is known of what is due in a fine term.
 record IsFineDue (th : Theory) (m : ℕ) (path : List ℕ) (r : Replacement) : Type 0 where
   terms : AllOfLink (Fine th m) (link_by path r.reason)
   low : above r.new ≤ m
 
-rule_terms : (th : Theory) (m : ℕ) (path : List ℕ) (n : RuleName) (ts : List Tree) → FineTerms th m ts → AllOfLink (Fine th m) (link_by path (By_rule n ts))
-rule_terms th m path (name.Equation n) ts a = a
-rule_terms th m path (name.Lemma n) ts a = a
+rule_terms : (th : Theory) (m : ℕ) (path : List ℕ) (n : RuleName) (ts : List Tree) → FineTerms th m ts → AllOfLink (Fine th m) (link_by path (By_rule n ts no_pass))
+rule_terms th m path (name.Equation n) ts a = (a, tt)
+rule_terms th m path (name.Lemma n) ts a = (a, tt)
 
 module _ (th : Theory) (wf : IsWellFormed th) (m : ℕ) (one : 1 ≤ m) (path : List ℕ) (a : Tree) (f : Fine th m a) where
-  by_rule : (H : List Goal) (q : Rule) → IsRuleOf th H q → matches q.left a ≡ true
-      → IsFineDue th m path (record { reason = By_rule q.name (terms_by (matching q.left a) (rule_variables q)); new = instance (matching q.left a) q.right })
-  by_rule H q rule e =
+  by_rule : (H : List Goal) (q : Rule) → IsRuleOf th H q → q.conds ≡ [] → matches q.left a ≡ true
+      → IsFineDue th m path (record { reason = By_rule q.name (terms_by (matching q.left a) (rule_variables q)) no_pass; new = instance (matching q.left a) q.right })
+  by_rule H q rule bare e =
       let σ : Substitution = matching q.left a in
       let is : instance σ q.left ≡ a = same_here (instance σ q.left) a e in
       let left : (n s : ℕ) → _ → Fine th m (σ n s) = given_fine th m σ q.left a is f in
       record {
         terms = rule_terms th m path q.name (terms_by σ (rule_variables q))
-            (pair_terms (Fine th m) (pair_with q.left q.right) σ left (λ n s h. left n s (bound_in_left q rule.rewrites n s h)));
+            (pair_terms (Fine th m) (rule_goal q) bare σ left (λ n s h. left n s (bound_in_left q rule.rewrites n s h)));
         low = instance_low m σ q.right (λ n s h. (left n s (bound_in_left q rule.rewrites n s h)).low);
       }
 
-  by_rules : (H : List Goal) (rs : List Rule) → AllByRecursion (IsRuleOf th H) rs → (r : Replacement) → ruled rs a ≡ Some r → IsFineDue th m path r
-  by_rules H [] all r e = absurd (cc)
-  by_rules H (q ∷ rs) all r e = go (matches q.left a) refl e (by_rules H rs all.1 r)
+  by_rules : (H : List Goal) (rs : List Rule) → AllByRecursion (IsRuleOf th H) rs → AreUnconditional rs → (r : Replacement) → ruled rs a ≡ Some r → IsFineDue th m path r
+  by_rules H [] all bare r e = absurd (cc)
+  by_rules H (q ∷ rs) all bare r e = go (matches q.left a) refl e (by_rules H rs all.1 bare.1 r)
     where
       new : Replacement
-      new = record { reason = By_rule q.name (terms_by (matching q.left a) (rule_variables q)); new = instance (matching q.left a) q.right }
+      new = record { reason = By_rule q.name (terms_by (matching q.left a) (rule_variables q)) no_pass; new = instance (matching q.left a) q.right }
 
       go : (b : Bool) → matches q.left a ≡ b → option_or (if b then Some new else None) (ruled rs a) ≡ Some r
           → (ruled rs a ≡ Some r → IsFineDue th m path r) → IsFineDue th m path r
       go false b x ih = ih x
-      go true b x ih = subst (IsFineDue th m path) (same_Some new r x) (by_rule H q all.0 b)
+      go true b x ih = subst (IsFineDue th m path) (same_Some new r x) (by_rule H q all.0 bare.0 b)
 
-  by_assumption : (A : List Goal) → AllByRecursion (IsAssumption th m) A → (r : Replacement) → assumed 0 A a ≡ Some r → IsFineDue th m path r
+  by_assumption : (A : List Pair) → AllByRecursion (IsAssumption th m) A → (r : Replacement) → assumed 0 A a ≡ Some r → IsFineDue th m path r
   by_assumption A all r e =
       let h = assumed_is 0 A a r e in
       let g = all_at (IsAssumption th m) A h.0 h.1 all h.2 in
@@ -109,17 +108,17 @@ by_content th wf m one path (App g s ts) f r e w = go (is_same form a) e
     go false x =
         let is : new ≡ r = same_Some new r x in
         let P : Replacement → Type 0 = λ y. IsWithinLimits y.new in
-        subst (IsFineDue th m path) is (record { terms = (record { sorted = sorted; within = subst P (sym is) w; low = low }, tt); low = low })
+        subst (IsFineDue th m path) is (record { terms = (record { sorted = sorted; within = subst P (sym is) w; low = low }); low = low })
 
 module _ (th : Theory) (wf : IsWellFormed th) (m : ℕ) (one : 1 ≤ m) (H : List Goal) (rules : List Rule) (all : AllByRecursion (IsRuleOf th H) rules)
-    (A : List Goal) (fine : AllByRecursion (IsAssumption th m) A) where
+    (bare : AreUnconditional rules) (A : List Pair) (fine : AllByRecursion (IsAssumption th m) A) where
   due_fine : (path : List ℕ) (a : Tree) → Fine th m a → (r : Replacement) → due_under th.signature rules A a ≡ Some r → IsWithinLimits r.new
       → IsFineDue th m path r
   due_fine path (Var n s) f r e w = by_assumption th wf m one path (Var n s) f A fine r e
   due_fine path (App g s ts) f r e w = first (assumed 0 A (App g s ts)) refl e
     where
       second : (o : Option Replacement) → content_due th.signature (App g s ts) ≡ o → option_or o (ruled rules (App g s ts)) ≡ Some r → IsFineDue th m path r
-      second None c x = by_rules th wf m one path (App g s ts) f H rules all r x
+      second None c x = by_rules th wf m one path (App g s ts) f H rules all bare r x
       second (Some y) c x = by_content th wf m one path (App g s ts) f r (c ∙ x) w
 
       first : (o : Option Replacement) → assumed 0 A (App g s ts) ≡ o
@@ -127,12 +126,11 @@ module _ (th : Theory) (wf : IsWellFormed th) (m : ℕ) (one : 1 ≤ m) (H : Lis
       first None c x = second (content_due th.signature (App g s ts)) refl x
       first (Some y) c x = by_assumption th wf m one path (App g s ts) f A fine r (c ∙ x)
 
-  sorted_assumptions : (B : List Goal) → AllByRecursion (IsAssumption th m) B → AllByRecursion (λ g. IsWellSortedPair th.signature (sides g)) B
-  sorted_assumptions [] b = tt
-  sorted_assumptions (g ∷ gs) b = (b.0.sorted, sorted_assumptions gs b.1)
+  sorted_assumptions : AllByRecursion (IsWellSortedPair th.signature) A
+  sorted_assumptions = all_by (IsAssumption th m) (IsWellSortedPair th.signature) A (λ p a. a.sorted) fine
 
   abbrev around : List Place → Setting
-  around G = setting th G H (map sides A)
+  around G = setting th G H A
 
   traces_led : (G : List Place) (traces : List Traced) (t u : Tree) → Fine th m t → TracesLead (due_under th.signature rules A) traces t u
       → Led (around G) m (map link_of traces) t u
@@ -141,7 +139,7 @@ module _ (th : Theory) (wf : IsWellFormed th) (m : ℕ) (one : 1 ≤ m) (H : Lis
       let v : Tree = h.1 in
       let r : Replacement = h.0 in
       let step = h.3 in
-      let links = are_links (around G) wf A refl (sorted_assumptions A fine) rules all (tr ∷ []) t v f.sorted (r, v, h.2, step, refl) in
+      let links = are_links (around G) wf sorted_assumptions rules all bare (tr ∷ []) t v f.sorted (r, v, h.2, step, refl) in
       let due = due_fine tr.path step.old (at_fine th m tr.path t step.old f step.there) r step.is_due
       (replaced_within tr.path t r.new v step.made step.within) in
       let P : Traced → Type 0 = λ x. AllOfLink (Fine th m) (link_of x) in
@@ -153,11 +151,11 @@ module _ (th : Theory) (wf : IsWellFormed th) (m : ℕ) (one : 1 ≤ m) (H : Lis
 
   -- What normalising a side gives.
   pub record IsNormalSide (G : List Place) (t : Tree) (k : ℕ) (n : NormalSide) : Type 0 where
-    pub led : Led (setting th G H (map sides A)) m n.links t n.term
+    pub led : Led (setting th G H A) m n.links t n.term
     pub count : n.budget + length n.links ≡ k
 
   pub normal_form_led : (G : List Place) (t u : Tree) (traces : List Traced) (k left : ℕ) → Fine th m t
-      → norm th.signature rules A k t ≡ Normal_form u traces left → Led (setting th G H (map sides A)) m (map link_of traces) t u
+      → norm th.signature rules A k t ≡ Normal_form u traces left → Led (setting th G H A) m (map link_of traces) t u
   normal_form_led G t u traces k left f e =
       traces_led G traces t u f (normal_form_reduces (due_under th.signature rules A) k t u traces left e).leads
 

@@ -7,20 +7,21 @@ use Rattle.circ_term.specs.Tree.{Tree, Trees, Var, App, none, more, list_of, at}
 use Rattle.circ_term.proofs.Trees.{trees_of-list_of}
 use Rattle.circ_term.specs.Substitution.{Substitution, instance}
 use Rattle.circ_term.proofs.Order.{same_here}
-use Rattle.circ_theory.specs.Theory.{Theory, Pair}
+use Rattle.circ_theory.specs.Theory.{Theory, Pair, sides}
 use Rattle.circ_theory.specs.Fresh.{above}
 use Rattle.circ_theory.specs.declared.parts.Goal.{Goal}
 use Rattle.circ_theory.specs.declared.way.Way.TheVariants.{Forth}
+use Rattle.circ_theory.proofs.Lists.{all_at}
 use Rattle.circ_special.specs.declared.place.Place.{Place}
 use Rattle.circ_special.specs.Special.{IsSpecial}
-use Rattle.circ_proof.specs.Goals.{sides, AreSortedGoals}
+use Rattle.circ_proof.specs.Goals.{AreSortedGoals}
 use Rattle.circ_rewrite.specs.Matching.{matching, matches}
-use Rattle.circ_rewrite.specs.Due.{rule_variables, terms_by, IsRewriteRule}
+use Rattle.circ_rewrite.specs.Due.{rule_goal, rule_variables, terms_by, IsRewriteRule}
 use Rattle.circ_rewrite.specs.declared.parts.Rule.{Rule}
 use Rattle.circ_rewrite.proofs.Linked.{fit_given}
 use Rattle.circ_rewrite.proofs.MatchingFacts.{matching-sorts}
 use Rattle.circ_rewrite.proofs.RuleTerms.{bound_in_left}
-use Rattle.circ_plain_search.specs.BlockRules.{lemma_rule}
+use Rattle.circ_plain_search.specs.BlockRules.{HaveNoConditions, lemma_rule}
 use Rattle.circ_plain_search.specs.Joining.{Stop, HypothesisUse, use_with, rule_number, lemma_use, first_lemma, or_inside, is_place, swept, all_swept, and_then, put, put_all, put_counted}
 use Rattle.circ_plain_search.proofs.Terms.{Fine, FineTerms, instance_low, args_fine}
 use Rattle.circ_plain_search.proofs.PairTerms.{pair_terms, given_fine, left_instance, right_instance}
@@ -46,7 +47,7 @@ counted (suc k) t (u ∷ us) r e = go (λ v x. counted k v us r x) (put t u) ref
     go ih (Ok v) p x = let c = ih v x in record { put = rw p c.put; falls = omega (arith, c.falls) }
     go ih (Err s) p x = absurd (cc)
 
-module _ (th : Theory) (m : ℕ) (H : List Goal) (q : List ℕ) (a : Tree) (f : Fine th m a) where
+module _ (th : Theory) (m : ℕ) (H : List Goal) (bare : HaveNoConditions H) (q : List ℕ) (a : Tree) (f : Fine th m a) where
   lemma_is : (r : Rule) (u : HypothesisUse) → IsLemma H r → lemma_use r q a ≡ Some u → IsUse th m H q a u.new u
   lemma_is r u l e = go (matches r.left a) refl e
     where
@@ -58,6 +59,9 @@ module _ (th : Theory) (m : ℕ) (H : List Goal) (q : List ℕ) (a : Tree) (f : 
 
       p : Pair
       p = sides l.hypothesis
+
+      plain : l.hypothesis.conds ≡ []
+      plain = all_at (λ g. g.conds ≡ []) H l.number l.hypothesis bare l.listed
 
       -- the same of the rule as it is
       is_used : (x : Rule) → r ≡ x → x ≡ lemma_rule l.number l.hypothesis → IsRewriteRule x → instance (matching x.left a) x.left ≡ a
@@ -71,15 +75,16 @@ module _ (th : Theory) (m : ℕ) (H : List Goal) (q : List ℕ) (a : Tree) (f : 
           let T : Rule → Type 0 = λ y. FineTerms th m (terms_by (matching y.left a) (rule_variables y)) in
           let L : Rule → Type 0 = λ y. instance (matching y.left a) y.left ≡ a in
           let terms : FineTerms th m (terms_by (matching x.left a) (rule_variables x))
-          = pair_terms (Fine th m) (record { left = x.left; right = x.right }) (matching x.left a) left (λ n s h. left n s (bound_in_left x ok n s h)) in
+          = pair_terms (Fine th m) (rule_goal x) (ap (λ y. y.conds) is ∙ plain) (matching x.left a) left (λ n s h. left n s (bound_in_left x ok n s h)) in
           let W : Rule → Type 0 = λ y. above (instance (matching y.left a) y.right) ≤ m in
           subst P (sym is) (record {
             hypothesis = l.hypothesis;
             listed = l.listed;
             path = refl;
+            conds = refl;
             fit = fit_given (matching p.left a) (matching-sorts p.left a) _;
-            old = left_instance p (matching p.left a) ∙ subst L is made;
-            made = right_instance p (matching p.left a);
+            old = left_instance l.hypothesis plain (matching p.left a) ∙ subst L is made;
+            made = right_instance l.hypothesis plain (matching p.left a);
             new = refl;
             terms = subst T is terms;
             low = subst W is low;
@@ -110,7 +115,7 @@ record RowLeads (th : Theory) (m : ℕ) (G : List Place) (H : List Goal) (us : L
   args : Trees
   lead : UsesLead th m G H us q (row f s front args) t u
 
-module _ (th : Theory) (m : ℕ) (G : List Place) (H : List Goal) (sorted : AreSortedGoals th H) (L : List Rule) (lemmas : AllByRecursion (IsLemma H) L) where
+module _ (th : Theory) (m : ℕ) (G : List Place) (H : List Goal) (sorted : AreSortedGoals th H) (bare : HaveNoConditions H) (L : List Rule) (lemmas : AllByRecursion (IsLemma H) L) where
   -- a pass that stops at a term, or goes on to its arguments
   at_term : (a : Tree) (q : List ℕ) (t u : Tree) (inside : List HypothesisUse) → Fine th m t → Fine th m a → at t q ≡ Some a → IsSpecial G t q
       → (put_all t inside ≡ Ok u → PassLeads th m G H inside q t u) → put_all t (or_inside (first_lemma L q a) inside) ≡ Ok u
@@ -120,7 +125,7 @@ module _ (th : Theory) (m : ℕ) (G : List Place) (H : List Goal) (sorted : AreS
       go : (o : Option HypothesisUse) → first_lemma L q a ≡ o → put_all t (or_inside o inside) ≡ Ok u → PassLeads th m G H (or_inside o inside) q t u
       go (Some x) e z = record {
         new = x.new;
-        lead = one_leads th m G H sorted (x ∷ []) q a x.new t u x ft (first_lemma_is th m H q a fa L x lemmas e) there special refl z;
+        lead = one_leads th m G H sorted bare (x ∷ []) q a x.new t u x ft (first_lemma_is th m H bare q a fa L x lemmas e) there special refl z;
       }
       go None e z = ih z
 
@@ -129,7 +134,7 @@ module _ (th : Theory) (m : ℕ) (G : List Place) (H : List Goal) (sorted : AreS
         → put_all t (swept G L q a) ≡ Ok u → PassLeads th m G H (swept G L q a) q t u
     swept_leads (Var n s) q t u ft fa there special p =
         at_term (Var n s) q t u [] ft fa there special
-        (λ z. record { new = Var n s; lead = nothing_leads th m G H sorted [] q (Var n s) t u ft there refl z }) p
+        (λ z. record { new = Var n s; lead = nothing_leads th m G H sorted bare [] q (Var n s) t u ft there refl z }) p
     swept_leads (App f s ts) q t u ft fa there special p =
         at_term (App f s ts) q t u (all_swept G L f q 0 ts) ft fa there special
         (λ z. let r = all_swept_leads ts f s [] q 0 t u ft (args_fine th m f s ts fa) refl
@@ -139,7 +144,7 @@ module _ (th : Theory) (m : ℕ) (G : List Place) (H : List Goal) (sorted : AreS
         → i ≡ length front → at t q ≡ Some (row f s front ts) → IsSpecial G t q → put_all t (all_swept G L f q i ts) ≡ Ok u
         → RowLeads th m G H (all_swept G L f q i ts) f s front q t u
     all_swept_leads none f s front q i t u ft fa n there special p =
-        record { args = none; lead = nothing_leads th m G H sorted [] q (row f s front none) t u ft there refl p }
+        record { args = none; lead = nothing_leads th m G H sorted bare [] q (row f s front none) t u ft there refl p }
     all_swept_leads (more a ts) f s front q i t u ft fa n there special p =
         go (λ w here sp x. swept_leads a (q ++ length front ∷ []) t w ft fa.0 here sp x)
         (λ w b fw x y z. all_swept_leads ts f s (front ++ b ∷ []) q (i + 1) w u fw fa.1 (ap (λ k. k + 1) n ∙ sym (longer front b)) x y z)
@@ -159,19 +164,19 @@ module _ (th : Theory) (m : ℕ) (G : List Place) (H : List Goal) (sorted : AreS
             let P : ℕ → Type 0 = λ k. put_all t (swept G L (q ++ k ∷ []) a ++ rest) ≡ Ok u in
             let g = place_there G f (length front) (ap (is_place G f) (sym n) ∙ v) in
             let e = subst P n z in
-            let w = first_put th m G H sorted us rest t u e in
+            let w = first_put th m G H sorted bare us rest t u e in
             let one_led = one w.0 (at_deeper q t f s _ (length front) a there (row_arg front a ts))
             (special_deeper G q t f s _ (length front) a special there g (row_arg front a ts)) w.1 in
             let b : Tree = one_led.new in
             let Q : Tree → Type 0 = λ y. UsesLead th m G H us (q ++ length front ∷ []) b t y in
-            let x : AfterOne th m G H sorted us rest q f s front b ts t u
-            = after_one th m G H sorted us rest q f s front a b ts t u there special e (λ y d. subst Q (same_Ok w.0 y (sym w.1 ∙ d)) one_led.lead) in
+            let x : AfterOne th m G H sorted bare us rest q f s front b ts t u
+            = after_one th m G H sorted bare us rest q f s front a b ts t u there special e (λ y d. subst Q (same_Ok w.0 y (sym w.1 ∙ d)) one_led.lead) in
             let r = later x.w b x.first.led.fine x.there x.special x.last in
             let M : Tree → Type 0 = λ y. UsesLead th m G H rest q y x.w u in
             let R : ℕ → Type 0 = λ k. RowLeads th m G H (swept G L (q ++ k ∷ []) a ++ rest) f s front q t u in
             subst R (sym n) (record {
               args = more b r.args;
-              lead = both_lead th m G H sorted us rest q f s front b ts t u (row f s front (more b r.args)) x (subst M (row_next f s front b r.args) r.lead);
+              lead = both_lead th m G H sorted bare us rest q f s front b ts t u (row f s front (more b r.args)) x (subst M (row_next f s front b r.args) r.lead);
             })
         go one later false v z =
             let r = later t a ft (there ∙ ap Some (sym (row_next f s front a ts))) special z in

@@ -5,14 +5,16 @@ use Rattle.std.proofs.lemmas.List.Elements.{Contains-append_cases}
 use Rattle.circ_term.specs.Tree.{Tree, none, sort_of}
 use Rattle.circ_term.specs.Limits.{IsWithinLimits}
 use Rattle.circ_theory.specs.Signature.{IsWellSorted, HaveSorts}
-use Rattle.circ_theory.specs.Theory.{Theory, Pair, pair_with, CaseList, IsWellSortedPair}
+use Rattle.circ_theory.specs.Theory.{Theory, Pair, HasNoConditions, pair_with, CaseList, IsWellSortedPair}
 use Rattle.circ_theory.specs.WellFormed.{IsWellFormed}
 use Rattle.circ_theory.specs.Derivable.{is_case}
 use Rattle.circ_theory.specs.declared.parts.Goal.{Goal}
 use Rattle.circ_theory.proofs.Casing.{contains_first, contains_next}
+use Rattle.circ_theory.proofs.Lists.{all_at}
+use Rattle.circ_theory.proofs.Rewriting.{contains_at}
 use Rattle.circ_theory.proofs.Weakening.{first_or_rest}
 use Rattle.circ_special.specs.declared.place.Place.{Place}
-use Rattle.circ_proof.specs.Plain.{LinkOf, Equation_link, Hypothesis_link, Assumption_link, Content_link, ChainOf, WhyOf, WhysOf, Same_why, Split_why, no_why, more_whys}
+use Rattle.circ_proof.specs.Plain.{LinkOf, Equation_link, Hypothesis_link, Assumption_link, Content_link, no_chain, ChainOf, WhyOf, WhysOf, Same_why, Split_why, no_why, more_whys}
 use Rattle.circ_proof.specs.Goals.{AreSortedGoals}
 use Rattle.circ_proof.specs.Runs.{Runs}
 use Rattle.circ_proof.specs.Link.{Setting, setting, Leads, AllOfLinks}
@@ -21,13 +23,15 @@ use Rattle.circ_proof.proofs.Leading.{IsSortedSetting, link_sorted}
 use Rattle.circ_proof.specs.Counting.{why_count}
 use Rattle.circ_proof.specs.Proof.{IsNumber, IsPath}
 use Rattle.circ_proof.proofs.FewPlaces.{slice_bound}
+use Rattle.circ_plain_search.specs.BlockRules.{HaveNoConditions}
 use Rattle.circ_plain_search.proofs.Terms.{path_fits}
+use Rattle.circ_plain_search.proofs.Unconditional.{chains_none}
 use Rattle.circ_plain_search.proofs.Splits.{FitsIn, AllFitIn}
 
--- the numbers and the path that a link has besides its terms
+-- the numbers and the path that a link without conditions has besides its terms
 abbrev pub IsRanged : LinkOf Tree → Type 0
-IsRanged (Equation_link number way path terms) = IsNumber number × IsPath path
-IsRanged (Hypothesis_link number way path terms) = IsNumber number × IsPath path
+IsRanged (Equation_link number way path terms conds) = IsNumber number × IsPath path × (conds ≡ no_chain)
+IsRanged (Hypothesis_link number way path terms conds) = IsNumber number × IsPath path × (conds ≡ no_chain)
 IsRanged (Assumption_link number way path) = IsNumber number × IsPath path
 IsRanged (Content_link op path term) = IsNumber op × IsPath path
 
@@ -48,11 +52,13 @@ abbrev mutual
 
 -- ---- links
 
--- a setting with few hypotheses and assumptions
+-- a setting without conditions, with few hypotheses and assumptions
 pub record IsSmallSetting (c : Setting) : Type 0 where
   pub sorted : IsSortedSetting c
   pub few_hypotheses : length c.hypotheses < 2 ^ 32
   pub few_assumptions : length c.assumptions < 2 ^ 32
+  pub none : HasNoConditions c.theory
+  pub bare : HaveNoConditions c.hypotheses
 
 -- a term that is well-sorted and within the limits
 pub record IsGiven (th : Theory) (t : Tree) : Type 0 where
@@ -64,17 +70,28 @@ record LinkRanged (c : Setting) (l : LinkOf Tree) (u : Tree) : Type 0 where
   within : IsWithinLimits u
 
 link_ranged : (c : Setting) → IsSmallSetting c → (l : LinkOf Tree) (t u : Tree) → IsGiven c.theory t → Leads c l t u → LinkRanged c l u
-link_ranged c s (Equation_link number way path terms) t u g r =
+link_ranged c s (Equation_link number way path terms conds) t u g r =
     let wf = s.sorted.well_formed in
     let few = wf.few_equations in
-    let b = slice_bound c.theory.equations number r.equation r.listed in
-    record { ranged = (omega (arith, few, b), path_fits c.theory wf path t _ g.sorted g.within r.rewrites.replaces.there); within = r.rewrites.replaces.within }
-link_ranged c s (Hypothesis_link number way path terms) t u g r =
-    let few = s.few_hypotheses in
-    let b = slice_bound c.hypotheses number r.hypothesis r.listed in
+    let b = slice_bound c.theory.equations number r.0.equation r.0.listed in
     record {
-      ranged = (omega (arith, few, b), path_fits c.theory s.sorted.well_formed path t _ g.sorted g.within r.rewrites.replaces.there);
-      within = r.rewrites.replaces.within;
+      ranged = (
+        omega (arith, few, b),
+        path_fits c.theory wf path t _ g.sorted g.within r.0.rewrites.replaces.there,
+        chains_none c _ r.0.equation.conds conds (s.none r.0.equation (contains_at c.theory.equations number r.0.equation r.0.listed)) r.1,
+      );
+      within = r.0.rewrites.replaces.within;
+    }
+link_ranged c s (Hypothesis_link number way path terms conds) t u g r =
+    let few = s.few_hypotheses in
+    let b = slice_bound c.hypotheses number r.0.hypothesis r.0.listed in
+    record {
+      ranged = (
+        omega (arith, few, b),
+        path_fits c.theory s.sorted.well_formed path t _ g.sorted g.within r.0.rewrites.replaces.there,
+        chains_none c _ r.0.hypothesis.conds conds (all_at (λ h. h.conds ≡ []) c.hypotheses number r.0.hypothesis s.bare r.0.listed) r.1,
+      );
+      within = r.0.rewrites.replaces.within;
     }
 link_ranged c s (Assumption_link number way path) t u g r =
     let few = s.few_assumptions in
@@ -129,7 +146,8 @@ case_sorted th wf u s l c e k h =
     let P : List ℕ → Type 0 = λ ss. HaveSorts th.signature none ss in
     record { left = s; right = (o.0, o.1.0, o.1.2, subst P (sym o.1.1) tt); same_sort = sym e }
 
-module _ (th : Theory) (wf : IsWellFormed th) (G : List Place) (H : List Goal) (sorted : AreSortedGoals th H) (few : length H < 2 ^ 32) where
+module _ (th : Theory) (wf : IsWellFormed th) (th_none : HasNoConditions th) (G : List Place) (H : List Goal) (sorted : AreSortedGoals th H)
+    (bare : HaveNoConditions H) (few : length H < 2 ^ 32) where
   abbrev AreSortedPairs : List Pair → Type 0
   AreSortedPairs A = (p : Pair) → Contains A p → IsWellSortedPair th.signature p
 
@@ -145,7 +163,8 @@ module _ (th : Theory) (wf : IsWellFormed th) (G : List Place) (H : List Goal) (
       go (inr d) = last (first_or_rest p q [] d)
 
   small : (A : List Pair) → AreSortedPairs A → length A < 2 ^ 32 → IsSmallSetting (setting th G H A)
-  small A a l = record { sorted = record { well_formed = wf; hypotheses = sorted; assumptions = a }; few_hypotheses = few; few_assumptions = l }
+  small A a l =
+      record { sorted = record { well_formed = wf; hypotheses = sorted; assumptions = a }; few_hypotheses = few; few_assumptions = l; none = th_none; bare = bare }
 
   each_counted : (A : List Pair) (q : Pair) (u : Tree) (l : CaseList) (ks : List ℕ) (ws : WhysOf Tree) → EachJustified (setting th G H A) q u l ks ws
       → why_count ws ≡ length ks

@@ -4,20 +4,20 @@ use Rattle.std.specs.Prelude.{not, is_some}
 use Rattle.std.specs.List.{slice_get, AllByRecursion}
 use Rattle.std.proofs.lemmas.Bool.{and_parts}
 use Rattle.circ_term.specs.Tree.{sort_of, operator_number}
-use Rattle.circ_theory.specs.Theory.{Theory, IsVisible}
+use Rattle.circ_theory.specs.Theory.{Theory, IsVisible, HasNoConditions}
 use Rattle.circ_theory.specs.Rule.{is_bound}
 use Rattle.circ_theory.specs.WellFormed.{IsWellFormed}
 use Rattle.circ_theory.specs.Observing.{is_hidden}
 use Rattle.circ_theory.specs.declared.parts.Goal.{Goal}
 use Rattle.circ_theory.proofs.Casing.{hidden_tells}
 use Rattle.circ_theory.proofs.Rewriting.{contains_at}
-use Rattle.circ_proof.specs.Goals.{sides, AreSortedGoals}
+use Rattle.circ_proof.specs.Goals.{AreSortedGoals}
 use Rattle.circ_rewrite.specs.TheoryRules.{theory_rules}
-use Rattle.circ_rewrite.specs.Due.{IsRewriteRule}
+use Rattle.circ_rewrite.specs.Due.{IsRewriteRule, AreUnconditional}
 use Rattle.circ_rewrite.specs.Links.{IsRuleOf}
 use Rattle.circ_rewrite.specs.declared.parts.Rule.{Rule}
-use Rattle.circ_rewrite.proofs.RuleLists.{rules_are}
-use Rattle.circ_plain_search.specs.BlockRules.{can_rewrite, lemma_rule, passing, is_visible_lemma, is_hidden_lemma, lemma_rules, hidden_lemmas, block_rules}
+use Rattle.circ_rewrite.proofs.RuleLists.{rules_are, theory_unconditional}
+use Rattle.circ_plain_search.specs.BlockRules.{HaveNoConditions, can_rewrite, lemma_rule, passing, is_visible_lemma, is_hidden_lemma, lemma_rules, hidden_lemmas, block_rules}
 use Rattle.circ_plain_search.proofs.Led.{all_append}
 
 -- the hypotheses begin with these goals
@@ -50,7 +50,7 @@ each_passing P test H f n (g ∷ gs) s = go (test g) refl (each_passing P test H
     go false e r = r
 
 can_is : (n : ℕ) (g : Goal) → can_rewrite g ≡ true → IsRewriteRule (lemma_rule n g)
-can_is n g e = let p = and_parts (is_some (operator_number g.left)) (is_bound (sides g)) e in record { application = p.0; bound = p.1 }
+can_is n g e = let p = and_parts (is_some (operator_number g.left)) (is_bound g) e in record { application = p.0; bound = p.1 }
 
 visible_is : (th : Theory) (s : ℕ) → not (is_hidden th s) ≡ true → IsVisible th s
 visible_is th s e h = let t = (hidden_tells th s).1 h in absurd (let z = rw t at e in cc)
@@ -64,10 +64,25 @@ block_rules_are th wf H E sorted begins =
     let p = and_parts (can_rewrite g) (not (is_hidden th (sort_of g.left))) e in
     record {
       rewrites = can_is n g p.0;
-      sorted = (sorted g (contains_at H n g there)).sorted;
-      named = (g, there, refl, visible_is th (sort_of g.left) p.1);
+      sorted = sorted g (contains_at H n g there);
+      named = (there, visible_is th (sort_of g.left) p.1);
     })
     0 E (stands_all H E begins))
+
+each_unconditional : (test : Goal → Bool) (n : ℕ) (gs : List Goal) → HaveNoConditions gs → AreUnconditional (passing test n gs)
+each_unconditional test n [] a = tt
+each_unconditional test n (g ∷ gs) a = go (test g) (each_unconditional test (n + 1) gs a.1)
+  where
+    go : (b : Bool) → AreUnconditional (passing test (n + 1) gs)
+        → AreUnconditional (if b then lemma_rule n g ∷ passing test (n + 1) gs else passing test (n + 1) gs)
+    go true r = (a.0, r)
+    go false r = r
+
+-- without conditions no rule has any
+pub block_unconditional : (th : Theory) → HasNoConditions th → (E : List Goal) → HaveNoConditions E → AreUnconditional (block_rules th E)
+block_unconditional th none E bare =
+    all_append (λ r. r.conds ≡ []) (theory_rules th) (lemma_rules th 0 E) (theory_unconditional th none)
+    (each_unconditional (is_visible_lemma th) 0 E bare)
 
 -- A hidden lemma is a rewrite rule, and the hypothesis of its number.
 pub record IsLemma (H : List Goal) (r : Rule) : Type 0 where

@@ -3,7 +3,7 @@ use Rattle.std.proofs.Common.{◌≡◌, ℕ, ◌+◌, ◌*◌, ◌≤◌, ◌<�
 use Rattle.std.specs.Prelude.{nat_le}
 use Rattle.std.specs.List.{AllByRecursion}
 use Rattle.circ_term.specs.Tree.{Tree}
-use Rattle.circ_theory.specs.Theory.{Theory}
+use Rattle.circ_theory.specs.Theory.{Theory, Pair, HasNoConditions}
 use Rattle.circ_theory.specs.declared.parts.Goal.{Goal}
 use Rattle.circ_theory.proofs.Lists.{all_push}
 use Rattle.circ_special.specs.declared.place.Place.{Place}
@@ -12,10 +12,11 @@ use Rattle.circ_proof.specs.Goals.{AreSortedGoals}
 use Rattle.circ_proof.specs.Runs.{Runs}
 use Rattle.circ_proof.specs.Link.{setting, Leads}
 use Rattle.circ_proof.specs.Justified.{AllOfChain}
-use Rattle.circ_proof.specs.Rules.{State, state, ProofStep, Simplify, Reduce, Derive, Done, StepOf, StepsOf}
+use Rattle.circ_proof.specs.Rules.{State, state, ProofStep, Simplify, Reduce, Derive, Cases, Done, StepOf, StepsOf}
 use Rattle.circ_proof.specs.Proof.{step_limit}
+use Rattle.circ_plain_search.specs.BlockRules.{HaveNoConditions}
 use Rattle.circ_plain_search.specs.Search.{Limits, ProvedBlock, proved_block, Standing, no_links, spent, record_step, is_deep_step}
-use Rattle.circ_plain_search.specs.Numbering.{goal_terms, step_terms, block_terms}
+use Rattle.circ_plain_search.specs.Numbering.{side_terms, goal_terms, step_terms, block_terms}
 use Rattle.circ_plain_search.proofs.Terms.{Fine, FineTerms, fine_more}
 use Rattle.circ_plain_search.proofs.Led.{all_append, all_parts, runs_append}
 use Rattle.circ_plain_search.proofs.Rules.{BeginsWith}
@@ -37,11 +38,12 @@ bound st = half + 8 * st.derives
 
 -- ---- steps
 
--- at most eight splits stand inside one another, and Done has not been made
+-- at most eight splits stand inside one another, no step is by cases, and Done has not been made
 abbrev pub IsOpenStep : ProofStep Tree → Type 0
 IsOpenStep (Simplify c) = Unit {0}
 IsOpenStep (Reduce w) = FitsIn 8 w
 IsOpenStep Derive = Unit {0}
+IsOpenStep (Cases u) = ⊥
 IsOpenStep Done = ⊥
 
 -- the last step of a block and no other is Done
@@ -75,13 +77,13 @@ pub record RunBoth (th : Theory) (G : List Place) (deep : Bool) (a : State) (xs 
   pub under : StepsOf th G xs a b
   pub plain : deep ≡ false → StepsOf th [] xs a b
 
-run_more : (th : Theory) (G : List Place) (deep : Bool) (a : State) (xs : List (ProofStep Tree)) (b : State) (x : ProofStep Tree) (c : State)
-    → RunBoth th G deep a xs b → StepOf th G x b c → RunBoth th G (deep || is_deep_step th b.hypotheses x) a (xs ++ x ∷ []) c
-run_more th G deep a xs b x c r s = record {
+run_more : (th : Theory) → HasNoConditions th → (G : List Place) (deep : Bool) (a : State) (xs : List (ProofStep Tree)) (b : State) (x : ProofStep Tree)
+    (c : State) → HaveNoConditions b.hypotheses → RunBoth th G deep a xs b → StepOf th G x b c → RunBoth th G (deep || is_deep_step th b.hypotheses x) a (xs ++ x ∷ []) c
+run_more th none G deep a xs b x c bare r s = record {
   under = runs_append (StepOf th G) xs (x ∷ []) a b c r.under (c, s, refl);
   plain = λ e.
       let p = or_false deep (is_deep_step th b.hypotheses x) e in
-      runs_append (StepOf th []) xs (x ∷ []) a b c (r.plain p.0) (c, flat_step th G x b c s p.1, refl);
+      runs_append (StepOf th []) xs (x ∷ []) a b c (r.plain p.0) (c, flat_step th none G x b c bare s p.1, refl);
 }
 
 blocks_later : (th : Theory) (G : List Place) (deep more : Bool) (bs : List ProvedBlock) → BlocksBoth th G deep bs → BlocksBoth th G (deep || more) bs
@@ -113,6 +115,7 @@ pub record Ran (th : Theory) (G : List Place) (blocks : List (List Goal)) (st : 
   pub all : block_goals st.finished ++ st.goals ∷ st.later ≡ blocks
   pub begins : BeginsWith st.hypotheses st.earlier
   pub sorted : AreSortedGoals th st.hypotheses
+  pub bare : HaveNoConditions st.hypotheses
   pub run : RunBoth th G st.deep (state st.earlier st.goals) st.steps (state st.hypotheses Q)
   pub unfinished : AllByRecursion IsOpenStep st.steps
   pub ended : AllByRecursion EndsDone st.finished
@@ -154,9 +157,9 @@ steps_terms_more (y ∷ xs) x th a f =
     all_append (Fine th most) (step_terms y) (flat_map step_terms (xs ++ x ∷ [])) p.0 (steps_terms_more xs x th p.1 f)
 
 -- a step more, whatever else changes
-pub ran_more : (th : Theory) (G : List Place) (blocks : List (List Goal)) (st : Standing) (Q : List Goal) (x : ProofStep Tree) (L S queue : List Goal)
+pub ran_more : (th : Theory) → HasNoConditions th → (G : List Place) (blocks : List (List Goal)) (st : Standing) (Q : List Goal) (x : ProofStep Tree) (L S queue : List Goal)
     (chain : ChainOf Tree) (taken budget derives : ℕ) → Ran th G blocks st Q → StepOf th G x (state st.hypotheses Q) (state L S) → IsOpenStep x
-    → FineTerms th most (step_terms x) → st.made < step_limit → BeginsWith L st.earlier → AreSortedGoals th L → derives ≤ st.made + 1 → taken ≤ length st.steps + 1
+    → FineTerms th most (step_terms x) → st.made < step_limit → BeginsWith L st.earlier → AreSortedGoals th L → HaveNoConditions L → derives ≤ st.made + 1 → taken ≤ length st.steps + 1
     → Ran th G blocks
     (record st {
       hypotheses = L;
@@ -169,7 +172,7 @@ pub ran_more : (th : Theory) (G : List Place) (blocks : List (List Goal)) (st : 
       made = st.made + 1;
       deep = st.deep || is_deep_step th st.hypotheses x;
     }) S
-ran_more th G blocks st Q x L S queue chain taken budget derives r s o f room begins sorted few fewer =
+ran_more th none G blocks st Q x L S queue chain taken budget derives r s o f room begins sorted bare few fewer =
     let long = length-append st.steps (x ∷ []) in
     let count = r.counted in
     record {
@@ -178,7 +181,8 @@ ran_more th G blocks st Q x L S queue chain taken budget derives r s o f room be
       all = r.all;
       begins = begins;
       sorted = sorted;
-      run = run_more th G st.deep (state st.earlier st.goals) st.steps (state st.hypotheses Q) x (state L S) r.run s;
+      bare = bare;
+      run = run_more th none G st.deep (state st.earlier st.goals) st.steps (state st.hypotheses Q) x (state L S) r.bare r.run s;
       unfinished = all_push IsOpenStep st.steps x r.unfinished o;
       ended = r.ended;
       counted = omega (arith, long, count);
@@ -200,6 +204,7 @@ ran_same th G blocks st Q queue chain budget r = record {
   all = r.all;
   begins = r.begins;
   sorted = r.sorted;
+  bare = r.bare;
   run = r.run;
   unfinished = r.unfinished;
   ended = r.ended;
@@ -213,9 +218,10 @@ ran_same th G blocks st Q queue chain budget r = record {
   terms = r.terms;
 }
 
--- The run so far leaves o and the rest, and the chain has led from o to the goal in hand as it stands, g.
+-- The run so far leaves o and the rest, and the chain has led from o, which has no conditions, to the goal in hand as it stands, g.
 pub record Held (th : Theory) (G : List Place) (blocks : List (List Goal)) (st : Standing) (o g : Goal) (rest : List Goal) : Type 0 where
   pub ran : Ran th G blocks st (o ∷ rest)
+  pub bare : o.conds ≡ []
   pub left : Runs (Leads (setting th G st.hypotheses [])) st.chain.left o.left g.left
   pub right : Runs (Leads (setting th G st.hypotheses [])) st.chain.right o.right g.right
   pub links : AllOfChain (Fine th most) st.chain
@@ -236,6 +242,7 @@ fresh_queue th G blocks st (g ∷ rest) none r f =
       g,
       record {
         ran = r;
+        bare = f.0.bare;
         left = subst P (sym none) refl;
         right = subst Q (sym none) refl;
         links = (let R : ChainOf Tree → Type 0 = AllOfChain (Fine th most) in subst R (sym none) (tt, tt));
@@ -251,7 +258,11 @@ goal_terms_fine : (th : Theory) (m : ℕ) (gs : List Goal) → half ≤ m → Fi
 goal_terms_fine th m [] h a = tt
 goal_terms_fine th m (g ∷ gs) h a = (
   fine_more th half m g.left h a.0.left,
-  (fine_more th half m g.right h a.0.right, goal_terms_fine th m gs h a.1),
+  (
+    fine_more th half m g.right h a.0.right,
+    (let P : List Pair → Type 0 = λ E. FineTerms th m (flat_map side_terms E ++ flat_map goal_terms gs) in
+        subst P (sym a.0.bare) (goal_terms_fine th m gs h a.1)),
+  ),
 )
 
 blocks_terms_more : (th : Theory) (bs : List ProvedBlock) (b : ProvedBlock) → FineTerms th most (flat_map block_terms bs) → FineTerms th most (block_terms b)
@@ -273,13 +284,13 @@ pub record Whole (th : Theory) (G : List Place) (blocks : List (List Goal)) (bs 
   pub later_goals : AllByRecursion (FineGoals th half) later
 
 -- with Done, a block is whole
-pub done_whole : (th : Theory) (G : List Place) (blocks : List (List Goal)) (st : Standing) → Ran th G blocks st [] → st.made < step_limit
+pub done_whole : (th : Theory) → HasNoConditions th → (G : List Place) (blocks : List (List Goal)) (st : Standing) → Ran th G blocks st [] → st.made < step_limit
     → Whole th G blocks (st.finished ++ proved_block st.goals (st.steps ++ Done ∷ []) ∷ []) st.later (st.deep || false) (st.made + 1) st.derives
-done_whole th G blocks st r room =
+done_whole th none G blocks st r room =
     let b : ProvedBlock = proved_block st.goals (st.steps ++ Done ∷ []) in
     let E : List Goal → Type 0 = λ x. RunBoth th G (st.deep || false) (state x st.goals) b.steps (state st.hypotheses []) in
     let run : RunBoth th G (st.deep || false) (state (goals_of st.finished) st.goals) b.steps (state st.hypotheses [])
-    = subst E r.earlier (run_more th G st.deep (state st.earlier st.goals) st.steps (state st.hypotheses []) Done (state st.hypotheses []) r.run refl) in
+    = subst E r.earlier (run_more th none G st.deep (state st.earlier st.goals) st.steps (state st.hypotheses []) Done (state st.hypotheses []) r.bare r.run refl) in
     let before = blocks_later th G st.deep false st.finished r.finished in
     let long = length-append st.steps (Done ∷ []) in
     let count = r.counted in

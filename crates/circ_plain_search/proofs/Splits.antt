@@ -1,5 +1,5 @@
 -- A split justifies its sides, by a reason for each constant.
-use Rattle.std.proofs.Common.{◌≡◌, ℕ, zero, suc, ◌+◌, ◌≤◌, length, Bool, true, false, if◌then◌else◌, List, [], ◌∷◌, ◌++◌, map, Option, Some, None, Ok, refl, ap, sym, subst, ◌∙◌, arith}
+use Rattle.std.proofs.Common.{◌≡◌, ℕ, zero, suc, ◌+◌, ◌≤◌, length, Bool, true, false, if◌then◌else◌, List, [], ◌∷◌, ◌++◌, Option, Some, None, Ok, refl, ap, sym, subst, ◌∙◌, arith}
 use Rattle.std.specs.Prelude.{not, nat_eq}
 use Rattle.std.specs.List.{list_any, AllByRecursion, Contains}
 use Rattle.std.specs.Option.{option_or, option_map_or}
@@ -16,10 +16,10 @@ use Rattle.circ_theory.proofs.Casing.{contains_first, contains_next}
 use Rattle.circ_theory.proofs.Lists.{all_push}
 use Rattle.circ_special.specs.declared.place.Place.{Place}
 use Rattle.circ_proof.specs.Plain.{ChainOf, WhyOf, WhysOf, Same_why, Split_why, no_why, more_whys}
-use Rattle.circ_proof.specs.Goals.{sides}
 use Rattle.circ_proof.specs.Link.{Setting, setting, Leads}
 use Rattle.circ_proof.specs.Justified.{ChainLeads, Justified, EachJustified, AllOfWhy, AllOfWhys}
 use Rattle.circ_proof.proofs.Cases.{cases_listed}
+use Rattle.circ_rewrite.specs.Due.{AreUnconditional}
 use Rattle.circ_rewrite.specs.Links.{IsRuleOf}
 use Rattle.circ_rewrite.specs.declared.parts.Rule.{Rule}
 use Rattle.circ_plain_search.specs.Joining.{and_then, is_open, first_open, first_open_in}
@@ -27,7 +27,7 @@ use Rattle.circ_plain_search.specs.Search.{Sides, sides_with, chain_with, normal
 use Rattle.circ_plain_search.proofs.Terms.{Fine, FineTerms, args_fine}
 use Rattle.circ_plain_search.proofs.Led.{Led}
 use Rattle.circ_plain_search.proofs.Normals.{IsAssumption, normalised_led}
-use Rattle.circ_plain_search.proofs.Uses.{Through, through, same_Ok, map_append}
+use Rattle.circ_plain_search.proofs.Uses.{Through, through, same_Ok}
 
 -- The chain leads from two sides to two sides, and a budget pays for its links.
 pub record SidesLed (c : Setting) (m : ℕ) (s t : Tree) (k : ℕ) (n : Sides) : Type 0 where
@@ -47,26 +47,26 @@ abbrev mutual
   AllFitIn n (more_whys w ws) = FitsIn n w × AllFitIn n ws
 
 -- What a split of two sides gives, with room for n splits inside it.
-pub record IsSplit (th : Theory) (m : ℕ) (G : List Place) (H A : List Goal) (n : ℕ) (s t : Tree) (k : ℕ) (b : SplitReason) : Type 0 where
+pub record IsSplit (th : Theory) (m : ℕ) (G : List Place) (H : List Goal) (A : List Pair) (n : ℕ) (s t : Tree) (k : ℕ) (b : SplitReason) : Type 0 where
   pub term : Fine th m b.term
   pub constants : List ℕ
   pub listed : cases_of th (sort_of b.term) ≡ Some constants
-  pub each : EachJustified (setting th G H (map sides A)) (pair_with s t) b.term (case_list (sort_of b.term) constants) constants b.whys
+  pub each : EachJustified (setting th G H A) (pair_with s t) b.term (case_list (sort_of b.term) constants) constants b.whys
   pub terms : AllOfWhys (Fine th m) b.whys
   pub fits : AllFitIn n b.whys
   pub falls : b.budget ≤ k
 
 -- a case's reason
-record IsReason (th : Theory) (m : ℕ) (G : List Place) (H A : List Goal) (n : ℕ) (s t : Tree) (k : ℕ) (r : Reason) : Type 0 where
-  justified : Justified (setting th G H (map sides A)) (pair_with s t) r.why
+record IsReason (th : Theory) (m : ℕ) (G : List Place) (H : List Goal) (A : List Pair) (n : ℕ) (s t : Tree) (k : ℕ) (r : Reason) : Type 0 where
+  justified : Justified (setting th G H A) (pair_with s t) r.why
   terms : AllOfWhy (Fine th m) r.why
   fits : FitsIn n r.why
   falls : r.budget ≤ k
 
 -- the reasons for some constants of a term
-record AreReasons (th : Theory) (m : ℕ) (G : List Place) (H A : List Goal) (n : ℕ) (u s t : Tree) (l : CaseList) (cs : List ℕ) (k : ℕ) (b : SplitReason) : Type 0 where
+record AreReasons (th : Theory) (m : ℕ) (G : List Place) (H : List Goal) (A : List Pair) (n : ℕ) (u s t : Tree) (l : CaseList) (cs : List ℕ) (k : ℕ) (b : SplitReason) : Type 0 where
   term : b.term ≡ u
-  each : EachJustified (setting th G H (map sides A)) (pair_with s t) u l cs b.whys
+  each : EachJustified (setting th G H A) (pair_with s t) u l cs b.whys
   terms : AllOfWhys (Fine th m) b.whys
   fits : AllFitIn n b.whys
   falls : b.budget ≤ k
@@ -120,34 +120,34 @@ constant_sorted th wf l k c h =
     (o.0, o.1.0, o.1.2, subst P (sym o.1.1) tt)
 
 module _ (th : Theory) (wf : IsWellFormed th) (m : ℕ) (one : 1 ≤ m) (G : List Place) (H : List Goal) (R : List Rule)
-    (all : AllByRecursion (IsRuleOf th H) R) where
-  pub normal_sides_led : (A : List Goal) → AllByRecursion (IsAssumption th m) A → (s t : Tree) (k : ℕ) (n : Sides) → Fine th m s → Fine th m t
-      → normal_sides th R A s t k ≡ Ok n → SidesLed (setting th G H (map sides A)) m s t k n
+    (all : AllByRecursion (IsRuleOf th H) R) (bare : AreUnconditional R) where
+  pub normal_sides_led : (A : List Pair) → AllByRecursion (IsAssumption th m) A → (s t : Tree) (k : ℕ) (n : Sides) → Fine th m s → Fine th m t
+      → normal_sides th R A s t k ≡ Ok n → SidesLed (setting th G H A) m s t k n
   normal_sides_led A fine s t k n fs ft e =
       let x : Through (normalised th R A s k)
       (λ a. and_then (normalised th R A t a.budget) (λ b. Ok (sides_with a.term b.term (chain_with a.links b.links) b.budget))) n = through _ _ n e in
       let y : Through (normalised th R A t x.value.budget)
       (λ b. Ok (sides_with x.value.term b.term (chain_with x.value.links b.links) b.budget)) n = through _ _ n x.last in
-      let a = normalised_led th wf m one H R all A fine G s k x.value fs x.first in
-      let b = normalised_led th wf m one H R all A fine G t x.value.budget y.value ft y.first in
+      let a = normalised_led th wf m one H R all bare A fine G s k x.value fs x.first in
+      let b = normalised_led th wf m one H R all bare A fine G t x.value.budget y.value ft y.first in
       let ca = a.count in
       let cb = b.count in
-      subst (SidesLed (setting th G H (map sides A)) m s t k) (same_Ok _ n y.last)
+      subst (SidesLed (setting th G H A) m s t k) (same_Ok _ n y.last)
       (record { left = a.led; right = b.led; count = omega (arith, ca, cb) })
 
   abbrev IsSplitter : ℕ → Splitter → Type 0
   IsSplitter n again =
-      (A : List Goal) → AllByRecursion (IsAssumption th m) A → (s t : Tree) (k : ℕ) (b : SplitReason) → Fine th m s → Fine th m t
+      (A : List Pair) → AllByRecursion (IsAssumption th m) A → (s t : Tree) (k : ℕ) (b : SplitReason) → Fine th m s → Fine th m t
       → again A s t k ≡ Ok b → (i : ℕ) × (n ≡ suc i) × IsSplit th m G H A i s t k b
 
   split_fits : (n i : ℕ) (c : ChainOf Tree) (u : Tree) (ws : WhysOf Tree) → n ≡ suc i → AllFitIn i ws → FitsIn n (Split_why c u ws)
   split_fits n i c u ws e f = let P : ℕ → Type 0 = λ j. FitsIn j (Split_why c u ws) in subst P (sym e) f
 
-  case_is : (n : ℕ) (again : Splitter) → IsSplitter n again → (A : List Goal) → AllByRecursion (IsAssumption th m) A → (s t : Tree) (k : ℕ) (x : Sides) (r : Reason)
-      → SidesLed (setting th G H (map sides A)) m s t k x → case_reason again A x ≡ Ok r → IsReason th m G H A n s t k r
+  case_is : (n : ℕ) (again : Splitter) → IsSplitter n again → (A : List Pair) → AllByRecursion (IsAssumption th m) A → (s t : Tree) (k : ℕ) (x : Sides) (r : Reason)
+      → SidesLed (setting th G H A) m s t k x → case_reason again A x ≡ Ok r → IsReason th m G H A n s t k r
   case_is n again law A fine s t k x r led e = go (is_same x.left x.right) refl e
     where
-      chain : ChainLeads (Leads (setting th G H (map sides A))) x.chain (pair_with s t) (pair_with x.left x.right)
+      chain : ChainLeads (Leads (setting th G H A)) x.chain (pair_with s t) (pair_with x.left x.right)
       chain = record { left = led.left.leads; right = led.right.leads }
 
       go : (v : Bool) → is_same x.left x.right ≡ v
@@ -155,7 +155,7 @@ module _ (th : Theory) (wf : IsWellFormed th) (m : ℕ) (one : 1 ≤ m) (G : Lis
           else and_then (again A x.left x.right x.budget) (λ c. Ok (reason_with (Split_why x.chain c.term c.whys) c.budget))) ≡ Ok r
           → IsReason th m G H A n s t k r
       go true v y =
-          let P : Tree → Type 0 = λ z. ChainLeads (Leads (setting th G H (map sides A))) x.chain (pair_with s t) (pair_with x.left z) in
+          let P : Tree → Type 0 = λ z. ChainLeads (Leads (setting th G H A)) x.chain (pair_with s t) (pair_with x.left z) in
           let count = led.count in
           subst (IsReason th m G H A n s t k) (same_Ok (reason_with (Same_why x.chain) x.budget) r y) (record {
             justified = (x.left, subst P (sym (same_here x.left x.right v)) chain);
@@ -176,7 +176,7 @@ module _ (th : Theory) (wf : IsWellFormed th) (m : ℕ) (one : 1 ≤ m) (G : Lis
             falls = omega (arith, count, falls);
           })
 
-  module _ (n : ℕ) (again : Splitter) (law : IsSplitter n again) (A : List Goal) (fine : AllByRecursion (IsAssumption th m) A) (u : Tree) (fu : Fine th m u)
+  module _ (n : ℕ) (again : Splitter) (law : IsSplitter n again) (A : List Pair) (fine : AllByRecursion (IsAssumption th m) A) (u : Tree) (fu : Fine th m u)
       (ks : List ℕ) (listed : cases_of th (sort_of u) ≡ Some ks) (s t : Tree) (fs : Fine th m s) (ft : Fine th m t) where
     abbrev l : CaseList
     l = case_list (sort_of u) ks
@@ -193,7 +193,7 @@ module _ (th : Theory) (wf : IsWellFormed th) (m : ℕ) (one : 1 ≤ m) (G : Lis
         subst (AreReasons th m G H A n u s t l [] k) (same_Ok (split_with u no_why k) b e)
         (record { term = refl; each = tt; terms = tt; fits = tt; falls = omega arith })
     each_is (c ∷ cs) within k b e =
-        let A' : List Goal = A ++ case_of u c ∷ [] in
+        let A' : List Pair = A ++ case_of u c ∷ [] in
         let x : Through (and_then (normal_sides th R A' s t k) (case_reason again A'))
         (λ r. and_then (each_case th R again A u s t cs r.budget) (λ d. Ok (split_with u (more_whys r.why d.whys) d.budget))) b = through _ _ b e in
         let y : Through (normal_sides th R A' s t k) (case_reason again A') x.value = through _ _ x.value x.first in
@@ -204,18 +204,17 @@ module _ (th : Theory) (wf : IsWellFormed th) (m : ℕ) (one : 1 ≤ m) (G : Lis
         let led = normal_sides_led A' more_fine s t k y.value fs ft y.first in
         let here = case_is n again law A' more_fine s t k y.value x.value led y.last in
         let rest = each_is cs (λ d h. within d (contains_next c d cs h)) x.value.budget z.value z.first in
-        let P : List Pair → Type 0 = λ ps. Justified (setting th G H ps) (pair_with s t) x.value.why in
         let f1 = here.falls in
         let f2 = rest.falls in
         subst (AreReasons th m G H A n u s t l (c ∷ cs) k) (same_Ok (split_with u (more_whys x.value.why z.value.whys) z.value.budget) b z.last) (record {
           term = refl;
-          each = (subst P (map_append sides A (case_of u c ∷ [])) here.justified, rest.each);
+          each = (here.justified, rest.each);
           terms = (here.terms, rest.terms);
           fits = (here.fits, rest.fits);
           falls = omega (arith, f1, f2);
         })
 
-  open_is : (n : ℕ) (again : Splitter) → IsSplitter n again → (o : Option Tree) → ((u : Tree) → o ≡ Some u → IsFineOpen th m u) → (A : List Goal)
+  open_is : (n : ℕ) (again : Splitter) → IsSplitter n again → (o : Option Tree) → ((u : Tree) → o ≡ Some u → IsFineOpen th m u) → (A : List Pair)
       → AllByRecursion (IsAssumption th m) A → (s t : Tree) (k : ℕ) (b : SplitReason) → Fine th m s → Fine th m t
       → open_cases th R again o A s t k ≡ Ok b → IsSplit th m G H A n s t k b
   open_is n again law None is A fine s t k b fs ft e = absurd (cc)
@@ -225,7 +224,7 @@ module _ (th : Theory) (wf : IsWellFormed th) (m : ℕ) (one : 1 ≤ m) (G : Lis
       let F : Option (List ℕ) → Type 0 = λ x. each_case th R again A u s t (option_map_or (λ cs. cs) x []) k ≡ Ok b in
       let x = each_is n again law A fine u o.fine has.0 has.1 s t fs ft has.0 (λ c h. h) k b (subst F has.1 e) in
       let T : Tree → Type 0 = Fine th m in
-      let J : Tree → Type 0 = λ y. EachJustified (setting th G H (map sides A)) (pair_with s t) y (case_list (sort_of y) has.0) has.0 b.whys in
+      let J : Tree → Type 0 = λ y. EachJustified (setting th G H A) (pair_with s t) y (case_list (sort_of y) has.0) has.0 b.whys in
       record {
         term = subst T (sym x.term) o.fine;
         constants = has.0;

@@ -7,12 +7,12 @@ use Rattle.circ_term.specs.Growing.{Grows}
 use Rattle.circ_theory.specs.Theory.{Theory}
 use Rattle.circ_theory.specs.Rewriting.{named}
 use Rattle.circ_theory.proofs.Lists.{all_push}
-use Rattle.circ_proof.specs.Plain.{LinkOf, Equation_link, Hypothesis_link, Assumption_link, Content_link, ChainOf, WhyOf, WhysOf, Same_why, Split_why, no_why, more_whys, map_link, map_chain, map_why, map_whys}
-use Rattle.circ_proof.specs.Link.{AllOfLink, AllOfLinks}
+use Rattle.circ_proof.specs.Plain.{LinkOf, LinksOf, ChainsOf, Equation_link, Hypothesis_link, Assumption_link, Content_link, no_link, more_links, no_chain, more_chains, ChainOf, WhyOf, WhysOf, Same_why, Split_why, no_why, more_whys, map_link, map_row, map_chains, map_chain, map_why, map_whys}
+use Rattle.circ_proof.specs.Link.{AllOfLink, AllOfRow, AllOfChains, AllOfLinks}
 use Rattle.circ_proof.specs.Justified.{AllOfChain, AllOfWhy, AllOfWhys}
 use Rattle.circ_proof.specs.Table.{has, number_in, entered, added, all_added}
 use Rattle.circ_proof.proofs.Tables.{has_front, number_names, grows_self, grows_more, added_grows, added_has, all_added_have}
-use Rattle.circ_proof.specs.Rules.{ProofStep, Simplify, Reduce, Derive, Done, map_step, AllOfStep}
+use Rattle.circ_proof.specs.Rules.{ProofStep, Simplify, Reduce, Derive, Cases, Done, map_step, AllOfStep}
 use Rattle.circ_proof.specs.Proof.{IsEntry, AreEntries}
 use Rattle.circ_proof.proofs.FewPlaces.{slice_bound}
 use Rattle.circ_plain_search.specs.Numbering.{asked_for}
@@ -54,11 +54,29 @@ module _ (table : List Tree) where
   terms_named (t ∷ ts) a =
       ap (λ x. x ∷ map (named table) (map (number_in table) ts)) (number_named table t a.0) ∙ ap (λ x. t ∷ x) (terms_named ts a.1)
 
-  pub link_named : (l : LinkOf Tree) → AllOfLink (Has table) l → map_link (named table) (map_link (number_in table) l) ≡ l
-  link_named (Equation_link n w p ts) a = ap (Equation_link n w p) (terms_named ts a)
-  link_named (Hypothesis_link n w p ts) a = ap (Hypothesis_link n w p) (terms_named ts a)
-  link_named (Assumption_link n w p) a = refl
-  link_named (Content_link f p t) a = ap (Content_link f p) (number_named table t a.0)
+  mutual
+    link_named : (l : LinkOf Tree) → AllOfLink (Has table) l → map_link (named table) (map_link (number_in table) l) ≡ l
+    link_named (Equation_link n w p ts cs) a =
+        ap (λ x. Equation_link n w p x (map_chains (named table) (map_chains (number_in table) cs))) (terms_named ts a.0)
+        ∙ ap (Equation_link n w p ts) (chains_named cs a.1)
+    link_named (Hypothesis_link n w p ts cs) a =
+        ap (λ x. Hypothesis_link n w p x (map_chains (named table) (map_chains (number_in table) cs))) (terms_named ts a.0)
+        ∙ ap (Hypothesis_link n w p ts) (chains_named cs a.1)
+    link_named (Assumption_link n w p) a = refl
+    link_named (Content_link f p t) a = ap (Content_link f p) (number_named table t a)
+
+    row_named : (ls : LinksOf Tree) → AllOfRow (Has table) ls → map_row (named table) (map_row (number_in table) ls) ≡ ls
+    row_named no_link a = refl
+    row_named (more_links l ls) a =
+        ap (λ x. more_links x (map_row (named table) (map_row (number_in table) ls))) (link_named l a.0) ∙ ap (more_links l) (row_named ls a.1)
+
+    chains_named : (cs : ChainsOf Tree) → AllOfChains (Has table) cs → map_chains (named table) (map_chains (number_in table) cs) ≡ cs
+    chains_named no_chain a = refl
+    chains_named (more_chains l r cs) a =
+        ap (λ x. more_chains x (map_row (named table) (map_row (number_in table) r)) (map_chains (named table) (map_chains (number_in table) cs)))
+        (row_named l a.0)
+        ∙ ap (λ x. more_chains l x (map_chains (named table) (map_chains (number_in table) cs))) (row_named r a.1)
+        ∙ ap (more_chains l r) (chains_named cs a.2)
 
   pub links_named : (ls : List (LinkOf Tree)) → AllOfLinks (Has table) ls → map (map_link (named table)) (map (map_link (number_in table)) ls) ≡ ls
   links_named [] a = refl
@@ -88,6 +106,7 @@ module _ (table : List Tree) where
   step_named (Simplify c) a = ap Simplify (chain_named c a)
   step_named (Reduce w) a = ap Reduce (why_named w a)
   step_named Derive a = refl
+  step_named (Cases u) a = ap Cases (number_named table u a)
   step_named Done a = refl
 
   pub steps_named : (ss : List (ProofStep Tree)) → AllByRecursion (AllOfStep (Has table)) ss

@@ -6,43 +6,62 @@ use Rattle.std.proofs.lemmas.List.{length-map}
 use Rattle.std.proofs.lemmas.Option.{same_Some}
 use Rattle.circ_term.specs.Tree.{Tree, sort_of}
 use Rattle.circ_term.specs.Limits.{Limit}
-use Rattle.circ_theory.specs.Theory.{Theory, IsHidden}
+use Rattle.circ_theory.specs.Theory.{Theory, Pair, IsHidden, HasNoConditions, goal, sides, IsWellSortedGoal}
 use Rattle.circ_theory.specs.WellFormed.{IsWellFormed}
 use Rattle.circ_theory.specs.Observing.{is_hidden, case_list}
 use Rattle.circ_theory.specs.declared.parts.Goal.{Goal}
 use Rattle.circ_theory.proofs.Casing.{hidden_tells}
-use Rattle.circ_theory.proofs.Lists.{all_by, slice_get-front}
+use Rattle.circ_theory.proofs.Lists.{all_at, all_by, slice_get-front}
 use Rattle.circ_theory.proofs.Rewriting.{contains_at}
 use Rattle.circ_special.specs.declared.place.Place.{Place}
-use Rattle.circ_proof.specs.Plain.{LinkOf, ChainOf, WhyOf, WhysOf, Same_why, Split_why, no_why, more_whys}
-use Rattle.circ_proof.specs.Goals.{goal, sides, IsWellSortedGoal, AreSortedGoals}
+use Rattle.circ_proof.specs.Plain.{LinkOf, LinksOf, ChainsOf, Equation_link, Hypothesis_link, Assumption_link, Content_link, no_link, more_links, no_chain, more_chains, ChainOf, WhyOf, WhysOf, Same_why, Split_why, no_why, more_whys}
+use Rattle.circ_proof.specs.Goals.{AreSortedGoals}
 use Rattle.circ_proof.specs.Runs.{Runs}
-use Rattle.circ_proof.specs.Link.{Setting, setting, Leads, AllOfLinks}
-use Rattle.circ_proof.specs.Justified.{Justified, AllOfChain, AllOfWhy, AllOfWhys}
+use Rattle.circ_proof.specs.Link.{Setting, setting, Leads, AllOfLink, AllOfRow, AllOfChains, AllOfLinks, terms_of, row_terms, chains_terms}
+use Rattle.circ_proof.specs.Justified.{ChainLeads, Justified, AllOfChain, AllOfWhy, AllOfWhys}
 use Rattle.circ_proof.proofs.Cases.{cases_listed}
-use Rattle.circ_proof.specs.Rules.{ProofStep, Simplify, Reduce, Derive, Done, derivatives_on}
+use Rattle.circ_proof.specs.Rules.{ProofStep, Simplify, Reduce, Derive, Done, StepOf, state, derivatives_on}
 use Rattle.circ_proof.specs.Proof.{step_limit, split_limit}
 use Rattle.circ_proof.proofs.Sorted.{sorted_append, sorted_more, sorted_none}
 use Rattle.circ_rewrite.specs.Links.{IsRuleOf}
-use Rattle.circ_plain_search.specs.BlockRules.{block_rules, hidden_lemmas}
+use Rattle.circ_rewrite.specs.Due.{AreUnconditional}
+use Rattle.circ_plain_search.specs.BlockRules.{HaveNoConditions, block_rules, hidden_lemmas}
 use Rattle.circ_plain_search.specs.Joining.{Stop, HypothesisUse, use_link, joined, and_then, put_all, put_counted}
 use Rattle.circ_plain_search.specs.Search.{Limits, proved_block, Standing, Ending, Sides, sides_with, chain_with, chained, no_links, normal_sides, split_cases, spent, or_end, record_step, is_nil, has_links, next_goal, with_sides, reduced, goals_limit, unless_past, derive_turn, simplified, hidden_turn, visible_turn, open_turn, pass_uses, swept_sides, pass_turn, join_turn, sides_turn, goal_turn, begun, with_this, next_block, turn_at, turn}
 use Rattle.circ_plain_search.specs.Numbering.{links_terms, chain_terms, why_terms, whys_terms}
 use Rattle.circ_plain_search.proofs.Terms.{Fine, FineTerms, fine_more}
 use Rattle.circ_plain_search.proofs.Led.{all_append, runs_append, links_more}
-use Rattle.circ_plain_search.proofs.Rules.{BeginsWith, block_rules_are, hidden_lemmas_are}
+use Rattle.circ_plain_search.proofs.Rules.{BeginsWith, block_rules_are, block_unconditional, hidden_lemmas_are}
 use Rattle.circ_plain_search.proofs.Uses.{Through, through, same_Ok}
 use Rattle.circ_plain_search.proofs.Joins.{joined_leads}
 use Rattle.circ_plain_search.proofs.Passes.{counted, swept_leads}
 use Rattle.circ_plain_search.proofs.Splits.{SidesLed, FitsIn, AllFitIn, normal_sides_led, split_is}
-use Rattle.circ_plain_search.proofs.Derived.{FineGoal, FineGoals, goal_more, goal_sorted, goals_sorted, IsFineDerived, derivatives_fine}
+use Rattle.circ_plain_search.proofs.Derived.{FineGoal, FineGoals, goal_more, goal_sorted, goals_sorted, goals_bare, IsFineDerived, derivatives_fine}
 use Rattle.circ_plain_search.proofs.Runs.{most, half, bound, Ran, after_step, recorded, recorded_room, ran_more, ran_same, Held, Opened, fresh_queue, Whole, done_whole, goals_of, goals_of_more}
 
 -- ---- terms of links, chains and whys
 
+module _ (th : Theory) (m : ℕ) where
+  mutual
+    link_fine : (l : LinkOf Tree) → AllOfLink (Fine th m) l → FineTerms th m (terms_of l)
+    link_fine (Equation_link n w q ts cs) a = all_append (Fine th m) ts (chains_terms cs) a.0 (chains_fine cs a.1)
+    link_fine (Hypothesis_link n w q ts cs) a = all_append (Fine th m) ts (chains_terms cs) a.0 (chains_fine cs a.1)
+    link_fine (Assumption_link n w q) a = tt
+    link_fine (Content_link f q t) a = (a, tt)
+
+    row_fine : (ls : LinksOf Tree) → AllOfRow (Fine th m) ls → FineTerms th m (row_terms ls)
+    row_fine no_link a = tt
+    row_fine (more_links l ls) a = all_append (Fine th m) (terms_of l) (row_terms ls) (link_fine l a.0) (row_fine ls a.1)
+
+    chains_fine : (cs : ChainsOf Tree) → AllOfChains (Fine th m) cs → FineTerms th m (chains_terms cs)
+    chains_fine no_chain a = tt
+    chains_fine (more_chains x y cs) a =
+        all_append (Fine th m) (row_terms x) (row_terms y ++ chains_terms cs) (row_fine x a.0)
+        (all_append (Fine th m) (row_terms y) (chains_terms cs) (row_fine y a.1) (chains_fine cs a.2))
+
 pub links_fine : (th : Theory) (m : ℕ) (ls : List (LinkOf Tree)) → AllOfLinks (Fine th m) ls → FineTerms th m (links_terms ls)
 links_fine th m [] a = tt
-links_fine th m (l ∷ ls) a = all_append (Fine th m) _ (links_terms ls) a.0 (links_fine th m ls a.1)
+links_fine th m (l ∷ ls) a = all_append (Fine th m) (terms_of l) (links_terms ls) (link_fine th m l a.0) (links_fine th m ls a.1)
 
 pub chain_fine : (th : Theory) (m : ℕ) (c : ChainOf Tree) → AllOfChain (Fine th m) c → FineTerms th m (chain_terms c)
 chain_fine th m c a = all_append (Fine th m) (links_terms c.left) (links_terms c.right) (links_fine th m c.left a.0) (links_fine th m c.right a.1)
@@ -71,7 +90,7 @@ pub unless_passed : {A : Type 0} (o : Option Limit) (a b : A) → unless_past o 
 unless_passed None a b e = (refl, same_Ok a b e)
 unless_passed (Some x) a b e = absurd (cc)
 
-module _ (th : Theory) (wf : IsWellFormed th) (G : List Place) (l : Limits) (blocks : List (List Goal)) where
+module _ (th : Theory) (wf : IsWellFormed th) (none : HasNoConditions th) (G : List Place) (l : Limits) (blocks : List (List Goal)) where
   abbrev Good : Standing → Type 0
   Good st = Opened th G blocks st st.queue
 
@@ -84,30 +103,47 @@ module _ (th : Theory) (wf : IsWellFormed th) (G : List Place) (l : Limits) (blo
   pub rules_here : (st : Standing) (Q : List Goal) → Ran th G blocks st Q → AllByRecursion (IsRuleOf th st.hypotheses) (block_rules th st.earlier)
   rules_here st Q r = block_rules_are th wf st.hypotheses st.earlier r.sorted r.begins
 
+  each_bare : (E : List Goal) → ((n : ℕ) (g : Goal) → slice_get E n ≡ Some g → g.conds ≡ []) → HaveNoConditions E
+  each_bare [] f = tt
+  each_bare (g ∷ gs) f = (f zero g refl, each_bare gs (λ n h e. f (suc n) h e))
+
+  pub bare_here : (st : Standing) (Q : List Goal) → Ran th G blocks st Q → HaveNoConditions st.earlier
+  bare_here st Q r = each_bare st.earlier (λ n g e. all_at (λ h. h.conds ≡ []) st.hypotheses n g r.bare (r.begins n g e))
+
+  pub unconditional_here : (st : Standing) (Q : List Goal) → Ran th G blocks st Q → AreUnconditional (block_rules th st.earlier)
+  unconditional_here st Q r = block_unconditional th none st.earlier (bare_here st Q r)
+
   -- ---- the sides of the goal in hand
 
   pub sides_held : (st : Standing) (o g : Goal) (rest : List Goal) (k : ℕ) (n : Sides) → Held th G blocks st o g rest
-      → SidesLed (around st.hypotheses) (bound st) g.left g.right k n → Held th G blocks (with_sides st rest n) o (goal n.left n.right) rest
+      → SidesLed (around st.hypotheses) (bound st) g.left g.right k n → Held th G blocks (with_sides st rest n) o (goal [] n.left n.right) rest
   sides_held st o g rest k n h s =
       let small = bound_small st (o ∷ rest) h.ran in
       record {
-        ran = ran_same th G blocks st (o ∷ rest) (goal n.left n.right ∷ rest) (chained st.chain n.chain) n.budget h.ran;
+        ran = ran_same th G blocks st (o ∷ rest) (goal [] n.left n.right ∷ rest) (chained st.chain n.chain) n.budget h.ran;
+        bare = h.bare;
         left = runs_append (Leads (around st.hypotheses)) st.chain.left n.chain.left o.left g.left n.left h.left s.left.leads;
         right = runs_append (Leads (around st.hypotheses)) st.chain.right n.chain.right o.right g.right n.right h.right s.right.leads;
         links = (
           all_append _ st.chain.left n.chain.left h.links.0 (links_more th (bound st) most n.chain.left small s.left.terms),
           all_append _ st.chain.right n.chain.right h.links.1 (links_more th (bound st) most n.chain.right small s.right.terms),
         );
-        fine = record { left = s.left.fine; right = s.right.fine; same_sort = s.right.same_sort ∙ h.fine.same_sort ∙ sym s.left.same_sort };
+        fine = record { left = s.left.fine; right = s.right.fine; same_sort = s.right.same_sort ∙ h.fine.same_sort ∙ sym s.left.same_sort; bare = refl };
         fine_rest = h.fine_rest;
       }
 
   -- ---- a Reduce step
 
-  reduced_good : (st : Standing) (o : Goal) (rest : List Goal) (why : WhyOf Tree) (y : Standing) → Ran th G blocks st (o ∷ rest)
+  reduces : (H : List Goal) (o : Goal) (rest : List Goal) (why : WhyOf Tree) → o.conds ≡ [] → Justified (around H) (sides o) why
+      → StepOf th G (Reduce why) (state H (o ∷ rest)) (state H rest)
+  reduces H o rest why bare j =
+      let P : List Pair → Type 0 = λ E. Justified (setting th G H E) (sides o) why in
+      (subst P (sym bare) j, refl)
+
+  reduced_good : (st : Standing) (o : Goal) (rest : List Goal) (why : WhyOf Tree) (y : Standing) → Ran th G blocks st (o ∷ rest) → o.conds ≡ []
       → FineGoals th (bound st) rest → Justified (around st.hypotheses) (sides o) why → FitsIn 8 why → FineTerms th most (why_terms why)
       → reduced th l st rest why ≡ Ok y → Good y
-  reduced_good st o rest why y h fr j fits terms e =
+  reduced_good st o rest why y h bare fr j fits terms e =
       let x : Through (record_step th l st (Reduce why)) (λ z. Ok (next_goal z.hypotheses rest z)) y = through _ _ y e in
       let a : Standing = after_step th st (Reduce why) in
       let it : after_step th st (Reduce why) ≡ x.value = recorded th l st (Reduce why) x.value x.first in
@@ -116,8 +152,8 @@ module _ (th : Theory) (wf : IsWellFormed th) (G : List Place) (l : Limits) (blo
       let few = h.few in
       let taken = h.taken in
       let ran : Ran th G blocks (next_goal a.hypotheses rest a) rest
-      = ran_more th G blocks st (o ∷ rest) (Reduce why) st.hypotheses rest rest no_links (st.taken + 1) st.budget st.derives h (j, refl) fits terms room
-      h.begins h.sorted (omega (arith, few)) (omega (arith, taken)) in
+      = ran_more th none G blocks st (o ∷ rest) (Reduce why) st.hypotheses rest rest no_links (st.taken + 1) st.budget st.derives h
+      (reduces st.hypotheses o rest why bare j) fits terms room h.begins h.sorted h.bare (omega (arith, few)) (omega (arith, taken)) in
       subst Good (same_Ok (next_goal x.value.hypotheses rest x.value) y x.last)
       (subst Q it (fresh_queue th G blocks (next_goal a.hypotheses rest a) rest refl ran fr))
 
@@ -148,8 +184,9 @@ module _ (th : Theory) (wf : IsWellFormed th) (G : List Place) (l : Limits) (blo
       let sorted : AreSortedGoals th L
       = sorted_append th st.hypotheses (g ∷ []) h.sorted (sorted_more th g [] (goal_sorted th (bound st) g fg) (sorted_none th)) in
       let ran : Ran th G blocks b (rest ++ gs)
-      = ran_more th G blocks st (g ∷ rest) Derive L (rest ++ gs) (rest ++ gs) no_links (st.taken + 1) st.budget (st.derives + 1) h
-      (hidden, d.derivable, refl) tt tt room (begins_more st.hypotheses st.earlier g h.begins) sorted (omega (arith, few)) (omega (arith, taken)) in
+      = ran_more th none G blocks st (g ∷ rest) Derive L (rest ++ gs) (rest ++ gs) no_links (st.taken + 1) st.budget (st.derives + 1) h
+      (hidden, d.derivable, refl) tt tt room (begins_more st.hypotheses st.earlier g h.begins) sorted
+      (all_append (λ q. q.conds ≡ []) st.hypotheses (g ∷ []) h.bare (fg.bare, tt)) (omega (arith, few)) (omega (arith, taken)) in
       let up : bound st + 8 ≡ bound b = omega arith in
       let N : ℕ → Type 0 = λ m. FineGoals th m gs in
       let queue : FineGoals th (bound b) (rest ++ gs)
@@ -163,12 +200,12 @@ module _ (th : Theory) (wf : IsWellFormed th) (G : List Place) (l : Limits) (blo
 
   -- ---- a Simplify step, where the chain has a link
 
-  no_links_same : (H : List Goal) (c : ChainOf Tree) (o g : Goal) → has_links c ≡ false → Runs (Leads (around H)) c.left o.left g.left
+  no_links_same : (H : List Goal) (c : ChainOf Tree) (o g : Goal) → o.conds ≡ [] → g.conds ≡ [] → has_links c ≡ false → Runs (Leads (around H)) c.left o.left g.left
       → Runs (Leads (around H)) c.right o.right g.right → o ≡ g
-  no_links_same H c o g e a b = go c.left c.right e a b
+  no_links_same H c o g bo bg e a b = go c.left c.right e a b
     where
       both : o.left ≡ g.left → o.right ≡ g.right → o ≡ g
-      both x y = ap (λ z. goal z o.right) x ∙ ap (goal g.left) y
+      both x y = ap (λ E. goal E o.left o.right) (bo ∙ sym bg) ∙ ap (λ z. goal g.conds z o.right) x ∙ ap (goal g.conds g.left) y
 
       go : (ls rs : List (LinkOf Tree)) → not (is_nil (ls ++ rs)) ≡ false → Runs (Leads (around H)) ls o.left g.left
           → Runs (Leads (around H)) rs o.right g.right → o ≡ g
@@ -180,6 +217,12 @@ module _ (th : Theory) (wf : IsWellFormed th) (G : List Place) (l : Limits) (blo
   record Simplified (st y : Standing) (g : Goal) (rest : List Goal) : Type 0 where
     ran : Ran th G blocks y (g ∷ rest)
     derives : y.derives ≡ st.derives
+
+  simplifies : (H : List Goal) (c : ChainOf Tree) (o g : Goal) (rest : List Goal) → o.conds ≡ [] → g.conds ≡ []
+      → ChainLeads (Leads (around H)) c (sides o) (sides g) → StepOf th G (Simplify c) (state H (o ∷ rest)) (state H (g ∷ rest))
+  simplifies H c o g rest bo bg r =
+      let P : List Pair → Type 0 = λ E. (q : Pair) × ChainLeads (Leads (setting th G H E)) c (sides o) q × (state H (g ∷ rest) ≡ state H (goal E q.left q.right ∷ rest)) in
+      subst P (sym bo) (sides g, r, ap (λ E. state H (goal E g.left g.right ∷ rest)) bg)
 
   simplified_ran : (st : Standing) (o g : Goal) (rest : List Goal) (y : Standing) → Held th G blocks st o g rest → simplified th l st ≡ Ok y
       → Simplified st y g rest
@@ -195,15 +238,15 @@ module _ (th : Theory) (wf : IsWellFormed th) (G : List Place) (l : Limits) (blo
           let taken = h.ran.taken in
           let P : Standing → Type 0 = λ s. Simplified st s g rest in
           subst P (recorded th l st x y z) (record {
-            ran = ran_more th G blocks st (o ∷ rest) x st.hypotheses (g ∷ rest) st.queue st.chain st.taken st.budget st.derives h.ran
-                (sides g, record { left = h.left; right = h.right }, refl) tt (chain_fine th most st.chain h.links) room h.ran.begins h.ran.sorted
-                (omega (arith, few)) (omega (arith, taken));
+            ran = ran_more th none G blocks st (o ∷ rest) x st.hypotheses (g ∷ rest) st.queue st.chain st.taken st.budget st.derives h.ran
+                (simplifies st.hypotheses st.chain o g rest h.bare h.fine.bare (record { left = h.left; right = h.right })) tt
+                (chain_fine th most st.chain h.links) room h.ran.begins h.ran.sorted h.ran.bare (omega (arith, few)) (omega (arith, taken));
             derives = refl;
           })
       go false k z =
           let P : Standing → Type 0 = λ s. Simplified st s g rest in
           let Q : Goal → Type 0 = λ q. Ran th G blocks st (q ∷ rest) in
-          subst P (same_Ok st y z) (record { ran = subst Q (no_links_same st.hypotheses st.chain o g k h.left h.right) h.ran; derives = refl })
+          subst P (same_Ok st y z) (record { ran = subst Q (no_links_same st.hypotheses st.chain o g h.bare h.fine.bare k h.left h.right) h.ran; derives = refl })
 
   -- ---- a hidden goal, a visible one
 
@@ -229,13 +272,14 @@ module _ (th : Theory) (wf : IsWellFormed th) (G : List Place) (l : Limits) (blo
       let R = block_rules th st.earlier in
       let x : Through (or_end l st (split_cases th R split_limit [] g.left g.right st.budget))
       (λ c. reduced th l (record st { budget = c.budget }) rest (Split_why st.chain c.term c.whys)) y = through _ _ y e in
-      let split = split_is th wf (bound st) (omega arith) G st.hypotheses R (rules_here st (o ∷ rest) h.ran) split_limit [] tt g.left g.right st.budget
+      let split = split_is th wf (bound st) (omega arith) G st.hypotheses R (rules_here st (o ∷ rest) h.ran)
+      (unconditional_here st (o ∷ rest) h.ran) split_limit [] tt g.left g.right st.budget
       x.value h.fine.left h.fine.right (if_ended l st _ x.value x.first) in
       let s = split.2 in
       let small = bound_small st (o ∷ rest) h.ran in
       let why : WhyOf Tree = Split_why st.chain x.value.term x.value.whys in
       let ran = ran_same th G blocks st (o ∷ rest) st.queue st.chain x.value.budget h.ran in
-      reduced_good (record st { budget = x.value.budget }) o rest why y ran h.fine_rest (
+      reduced_good (record st { budget = x.value.budget }) o rest why y ran h.bare h.fine_rest (
         sides g,
         record { left = h.left; right = h.right },
         case_list (sort_of x.value.term) s.constants,
@@ -269,8 +313,8 @@ module _ (th : Theory) (wf : IsWellFormed th) (G : List Place) (l : Limits) (blo
       let t = counted x.value.1 g.right vs y.value y.first in
       let lemmas = hidden_lemmas_are th st.hypotheses E h.ran.begins in
       let L = hidden_lemmas th 0 E in
-      let a = swept_leads th (bound st) G st.hypotheses h.ran.sorted L lemmas g.left [] g.left x.value.0 h.fine.left h.fine.left refl tt s.put in
-      let b = swept_leads th (bound st) G st.hypotheses h.ran.sorted L lemmas g.right [] g.right y.value.0 h.fine.right h.fine.right refl tt t.put in
+      let a = swept_leads th (bound st) G st.hypotheses h.ran.sorted h.ran.bare L lemmas g.left [] g.left x.value.0 h.fine.left h.fine.left refl tt s.put in
+      let b = swept_leads th (bound st) G st.hypotheses h.ran.sorted h.ran.bare L lemmas g.right [] g.right y.value.0 h.fine.right h.fine.right refl tt t.put in
       let f1 = s.falls in
       let f2 = t.falls in
       let m1 = length-map us use_link in
@@ -297,7 +341,7 @@ module _ (th : Theory) (wf : IsWellFormed th) (G : List Place) (l : Limits) (blo
   join_good st o g rest y h (Some us) j e =
       let c : ChainOf Tree = chained st.chain (chain_with (map use_link us) []) in
       let x : Through (or_end l st (put_all g.left us)) (λ u. reduced th l st rest (Same_why c)) y = through _ _ y e in
-      let d = joined_leads th (bound st) G st.hypotheses h.ran.sorted g.left g.right [] us g.left x.value h.fine.left h.fine.left h.fine.right refl tt j
+      let d = joined_leads th (bound st) G st.hypotheses h.ran.sorted h.ran.bare g.left g.right [] us g.left x.value h.fine.left h.fine.left h.fine.right refl tt j
       (if_ended l st _ x.value x.first) in
       let equal : x.value ≡ g.right = same_Some x.value g.right (sym d.made) in
       let small = bound_small st (o ∷ rest) h.ran in
@@ -306,7 +350,7 @@ module _ (th : Theory) (wf : IsWellFormed th) (G : List Place) (l : Limits) (blo
         all_append _ st.chain.left (map use_link us) h.links.0 (links_more th (bound st) most (map use_link us) small d.led.terms),
         all_append _ st.chain.right [] h.links.1 tt,
       ) in
-      reduced_good st o rest (Same_why c) y h.ran h.fine_rest (
+      reduced_good st o rest (Same_why c) y h.ran h.bare h.fine_rest (
         x.value,
         record {
           left = runs_append (Leads (around st.hypotheses)) st.chain.left (map use_link us) o.left g.left x.value h.left d.led.leads;
@@ -320,10 +364,11 @@ module _ (th : Theory) (wf : IsWellFormed th) (G : List Place) (l : Limits) (blo
   goal_good st o g rest y h e =
       let R = block_rules th st.earlier in
       let x : Through (or_end l st (normal_sides th R [] g.left g.right st.budget))
-      (λ n. sides_turn th G l (with_sides st rest n) (goal n.left n.right) rest) y = through _ _ y e in
-      let s = normal_sides_led th wf (bound st) (omega arith) G st.hypotheses R (rules_here st (o ∷ rest) h.ran) [] tt g.left g.right st.budget x.value
+      (λ n. sides_turn th G l (with_sides st rest n) (goal [] n.left n.right) rest) y = through _ _ y e in
+      let s = normal_sides_led th wf (bound st) (omega arith) G st.hypotheses R (rules_here st (o ∷ rest) h.ran)
+      (unconditional_here st (o ∷ rest) h.ran) [] tt g.left g.right st.budget x.value
       h.fine.left h.fine.right (if_ended l st _ x.value x.first) in
-      join_good (with_sides st rest x.value) o (goal x.value.left x.value.right) rest y (sides_held st o g rest st.budget x.value h s)
+      join_good (with_sides st rest x.value) o (goal [] x.value.left x.value.right) rest y (sides_held st o g rest st.budget x.value h s)
       (joined G st.hypotheses [] x.value.left x.value.right) refl x.last
 
   -- a block's Done has made it whole
@@ -331,6 +376,7 @@ module _ (th : Theory) (wf : IsWellFormed th) (G : List Place) (l : Limits) (blo
     pub whole : Whole th G blocks (with_this st) later st.deep st.made st.derives
     pub earlier : st.earlier ++ st.goals ≡ goals_of (with_this st)
     pub sorted : AreSortedGoals th (st.earlier ++ st.goals)
+    pub bare : HaveNoConditions (st.earlier ++ st.goals)
 
   each_sorted : (E : List Goal) → ((n : ℕ) (g : Goal) → slice_get E n ≡ Some g → IsWellSortedGoal th g) → AreSortedGoals th E
   each_sorted [] f = sorted_none th
@@ -340,10 +386,11 @@ module _ (th : Theory) (wf : IsWellFormed th) (G : List Place) (l : Limits) (blo
   done_is_whole st y h e =
       let P : Standing → Type 0 = λ s. IsWhole s s.later in
       subst P (recorded th l st Done y e) (record {
-        whole = done_whole th G blocks st h (recorded_room th l st Done y e);
+        whole = done_whole th none G blocks st h (recorded_room th l st Done y e);
         earlier = ap (λ x. x ++ st.goals) h.earlier ∙ sym (goals_of_more st.finished (proved_block st.goals (st.steps ++ Done ∷ [])));
         sorted = sorted_append th st.earlier st.goals
             (each_sorted st.earlier (λ n g x. h.sorted g (contains_at st.hypotheses n g (h.begins n g x)))) (goals_sorted th half st.goals h.goals);
+        bare = all_append (λ g. g.conds ≡ []) st.earlier st.goals (bare_here st [] h) (goals_bare th half st.goals h.goals);
       })
 
   next_good : (st : Standing) (later : List (List Goal)) (y : Standing) → IsWhole st later → next_block st later ≡ Ok y → Good y
@@ -358,6 +405,7 @@ module _ (th : Theory) (wf : IsWellFormed th) (G : List Place) (l : Limits) (blo
         all = h.all;
         begins = λ i g x. x;
         sorted = w.sorted;
+        bare = w.bare;
         run = record { under = refl; plain = λ x. refl };
         unfinished = tt;
         ended = h.ended;

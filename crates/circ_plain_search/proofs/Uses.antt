@@ -9,24 +9,26 @@ use Rattle.circ_term.specs.Limits.{Limit, first_limit, or_else, IsWithinLimits}
 use Rattle.circ_term.specs.Substitution.{Substitution, instance}
 use Rattle.circ_term.proofs.Paths.{replaced_there, replaced_self, at_replaced, replaced_twice, replaced_below}
 use Rattle.circ_theory.specs.Signature.{IsWellSorted, IsSubstitution}
-use Rattle.circ_theory.specs.Theory.{Theory, Pair}
+use Rattle.circ_theory.specs.Theory.{Theory, Pair, sides}
 use Rattle.circ_theory.specs.Variables.{FitVariables, given}
 use Rattle.circ_theory.specs.Rewriting.{from_side, to_side}
 use Rattle.circ_theory.specs.Fresh.{above}
 use Rattle.circ_theory.specs.declared.parts.Goal.{Goal}
 use Rattle.circ_theory.proofs.Instances.{instance_well_sorted}
-use Rattle.circ_theory.proofs.Lists.{all_by}
+use Rattle.circ_theory.proofs.Lists.{all_at, all_by}
 use Rattle.circ_theory.proofs.Rewriting.{contains_at, given_substitution}
 use Rattle.circ_theory.proofs.Sorting.{KeepsSort, replaced_sorted, sorted_to, sort_instances}
 use Rattle.circ_special.specs.declared.place.Place.{Place}
 use Rattle.circ_special.specs.Special.{IsSpecial}
-use Rattle.circ_proof.specs.Plain.{LinkOf}
-use Rattle.circ_proof.specs.Goals.{sides, AreSortedGoals}
+use Rattle.circ_proof.specs.Plain.{LinkOf, no_chain}
+use Rattle.circ_proof.specs.Goals.{AreSortedGoals}
 use Rattle.circ_proof.specs.Link.{Setting, setting}
-use Rattle.circ_plain_search.specs.Joining.{Stop, HypothesisUse, use_link, pair_variables, and_then, within_or, put_in, put, put_all}
+use Rattle.circ_plain_search.specs.BlockRules.{HaveNoConditions}
+use Rattle.circ_plain_search.specs.Joining.{Stop, HypothesisUse, use_link, hypothesis_variables, and_then, within_or, put_in, put, put_all}
 use Rattle.circ_plain_search.proofs.Terms.{Fine, FineTerms, replaced_low}
 use Rattle.circ_plain_search.proofs.Led.{Led, led_none, led_append}
 use Rattle.circ_plain_search.proofs.Special.{special_replaced}
+use Rattle.circ_plain_search.proofs.Unconditional.{none_lead, none_named}
 
 -- what an `and_then` that is Ok went through
 pub record Through {A B E : Type 0} (r : Result A E) (f : A → Result B E) (b : B) : Type 0 where
@@ -57,9 +59,10 @@ pub record IsUse (th : Theory) (m : ℕ) (H : List Goal) (q : List ℕ) (a b : T
   pub hypothesis : Goal
   pub listed : slice_get H u.number ≡ Some hypothesis
   pub path : u.path ≡ q
-  pub fit : FitVariables (pair_variables (sides hypothesis)) u.terms
-  pub old : instance (given (pair_variables (sides hypothesis)) u.terms) (from_side u.way (sides hypothesis)) ≡ a
-  pub made : instance (given (pair_variables (sides hypothesis)) u.terms) (to_side u.way (sides hypothesis)) ≡ u.new
+  pub conds : u.conds ≡ no_chain
+  pub fit : FitVariables (hypothesis_variables hypothesis) u.terms
+  pub old : instance (given (hypothesis_variables hypothesis) u.terms) (from_side u.way (sides hypothesis)) ≡ a
+  pub made : instance (given (hypothesis_variables hypothesis) u.terms) (to_side u.way (sides hypothesis)) ≡ u.new
   pub new : u.new ≡ b
   pub terms : FineTerms th m u.terms
   pub low : above u.new ≤ m
@@ -110,7 +113,7 @@ row_next f s front t ts = ap (λ l. App f s (trees_of l)) (append_assoc front (t
 pub longer : (front : List Tree) (t : Tree) → length (front ++ t ∷ []) ≡ length front + 1
 longer front t = length-append front (t ∷ [])
 
-module _ (th : Theory) (m : ℕ) (G : List Place) (H : List Goal) (sorted : AreSortedGoals th H) where
+module _ (th : Theory) (m : ℕ) (G : List Place) (H : List Goal) (sorted : AreSortedGoals th H) (bare : HaveNoConditions H) where
   abbrev around : Setting
   around = setting th G H []
 
@@ -118,9 +121,9 @@ module _ (th : Theory) (m : ℕ) (G : List Place) (H : List Goal) (sorted : AreS
   use_keeps q a b u it =
       let p : Pair = sides it.hypothesis in
       let w = (sorted it.hypothesis (contains_at H u.number it.hypothesis it.listed)).sorted in
-      let σ : Substitution = given (pair_variables p) u.terms in
+      let σ : Substitution = given (hypothesis_variables it.hypothesis) u.terms in
       let s : IsSubstitution th.signature σ
-      = given_substitution th.signature (pair_variables p) u.terms it.fit (all_by (Fine th m) (IsWellSorted th.signature) u.terms (λ t f. f.sorted) it.terms) in
+      = given_substitution th.signature (hypothesis_variables it.hypothesis) u.terms it.fit (all_by (Fine th m) (IsWellSorted th.signature) u.terms (λ t f. f.sorted) it.terms) in
       let P : Tree → Type 0 = IsWellSorted th.signature in
       record {
         well_sorted = subst P it.made (instance_well_sorted th.signature σ (to_side u.way p) s (sorted_to th.signature u.way p w));
@@ -141,20 +144,24 @@ module _ (th : Theory) (m : ℕ) (G : List Place) (H : List Goal) (sorted : AreS
         led = record {
           leads = (
             v,
-            record {
-              hypothesis = it.hypothesis;
-              listed = it.listed;
-              rewrites = record {
-                fit = it.fit;
-                replaces = record { there = here ∙ ap Some (sym it.old); made = ap (replaced t u.path) it.made ∙ made; within = d.1 };
-              };
-              special = λ h. subst S (sym it.path) special;
-            },
+            (
+              record {
+                hypothesis = it.hypothesis;
+                listed = it.listed;
+                rewrites = record {
+                  fit = it.fit;
+                  replaces = record { there = here ∙ ap Some (sym it.old); made = ap (replaced t u.path) it.made ∙ made; within = d.1 };
+                };
+                special = λ h. subst S (sym it.path) special;
+              },
+              none_lead around (given (hypothesis_variables it.hypothesis) u.terms) it.hypothesis.conds u.conds
+                  (all_at (λ g. g.conds ≡ []) H u.number it.hypothesis bare it.listed) it.conds,
+            ),
             refl,
           );
           fine = record { sorted = keeps.well_sorted; within = d.1; low = replaced_low m u.path t u.new v made f.low it.low };
           same_sort = keeps.same_sort;
-          terms = (it.terms, tt);
+          terms = ((it.terms, none_named (Fine th m) u.conds it.conds), tt);
         };
         made = ap (λ x. replaced t q x) (sym it.new) ∙ ap (λ p. replaced t p u.new) (sym it.path) ∙ made;
       }

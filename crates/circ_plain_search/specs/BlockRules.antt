@@ -1,22 +1,26 @@
 -- The rules and the lemmas of a block: the theory's rules, and the goals of earlier blocks.
-use Rattle.std.specs.Prelude.{ℕ, ◌+◌, Bool, not, ◌&&◌, if◌then◌else◌, List, [], ◌∷◌, ◌++◌, is_some}
+use Rattle.std.specs.Prelude.{◌≡◌, ℕ, ◌+◌, Bool, not, ◌&&◌, if◌then◌else◌, List, [], ◌∷◌, ◌++◌, is_some}
+use Rattle.std.specs.List.{AllByRecursion}
 use Rattle.circ_term.specs.Tree.{sort_of, operator_number}
 use Rattle.circ_theory.specs.Theory.{Theory}
 use Rattle.circ_theory.specs.Rule.{is_bound}
 use Rattle.circ_theory.specs.Observing.{is_hidden}
 use Rattle.circ_theory.specs.declared.parts.Goal.{Goal}
-use Rattle.circ_proof.specs.Goals.{sides}
 use Rattle.circ_rewrite.specs.TheoryRules.{theory_rules}
 use Rattle.circ_rewrite.specs.declared.parts.Rule.{Rule}
 use Rattle.circ_rewrite.specs.declared.parts.RuleName.TheVariants as name
 
--- the left side is no variable, and has all variables of the right side
+-- no goal has conditions
+abbrev pub HaveNoConditions : List Goal → Type 0
+HaveNoConditions gs = AllByRecursion (λ g. g.conds ≡ []) gs
+
+-- the left side is no variable, and has all variables of the right side and of the conditions
 abbrev pub can_rewrite : Goal → Bool
-can_rewrite g = is_some (operator_number g.left) && is_bound (sides g)
+can_rewrite g = is_some (operator_number g.left) && is_bound g
 
 -- a goal as a rule, which its number among the goals of earlier blocks names
 abbrev pub lemma_rule : (number : ℕ) → Goal → Rule
-lemma_rule n g = record { name = name.Lemma n; left = g.left; right = g.right }
+lemma_rule n g = record { name = name.Lemma n; left = g.left; right = g.right; conds = g.conds }
 
 -- those goals that pass a test, as rules, in order; the first goal has this number
 abbrev pub passing : (Goal → Bool) → (number : ℕ) → List Goal → List Rule

@@ -1,17 +1,21 @@
 -- Theories and goals that try the definitions, with what a search of them finds.
 use Rattle.std.specs.Prelude.{ℕ, zero, suc, true, List, [], ◌∷◌, ◌++◌, codes, Option, Some, None, Result, Ok, Err}
 use Rattle.circ_term.specs.Tree.{Tree, Var, App, none, more}
-use Rattle.circ_theory.specs.Theory.{Theory}
+use Rattle.circ_theory.specs.Theory.{Theory, goal}
 use Rattle.circ_theory.specs.Examples.{plain_op}
 use Rattle.circ_theory.specs.declared.parts.Equation.{Equation}
 use Rattle.circ_theory.specs.declared.parts.Goal.{Goal}
 use Rattle.circ_special.specs.declared.place.Place.{Place}
 use Rattle.circ_special.specs.Special.{place}
 use Rattle.circ_theory.specs.declared.way.Way.TheVariants.{Forth}
-use Rattle.circ_proof.specs.Plain.{Equation_link}
-use Rattle.circ_proof.specs.Goals.{goal}
+use Rattle.circ_proof.specs.Plain.{Equation_link, no_chain}
+use Rattle.circ_proof.specs.Proof.{GoalNames}
 use Rattle.circ_plain_search.specs.Search.{Limits, Standing, Ending, turn, start}
 use Rattle.circ_plain_search.specs.Numbering.{Found, Special, special, found_of}
+
+-- the name of a goal without conditions
+abbrev pub plain_name : (left right : ℕ) → GoalNames
+plain_name l r = record { conds = []; left = l; right = r }
 
 -- what is found, where the search ends within so many turns
 abbrev pub found_within : (turns : ℕ) → Theory → Special → Limits → Result Standing Ending → Option Found
@@ -27,7 +31,7 @@ abbrev pub search : Theory → Special → Limits → List (List Goal) → Optio
 search th s l blocks = found_within 20 th s l (Ok (start l blocks))
 
 abbrev pub equation : Tree → Tree → Equation
-equation l r = record { left = l; right = r; exec = true }
+equation l r = record { left = l; right = r; conds = []; exec = true }
 
 abbrev pub constant : (op sort : ℕ) → Tree
 constant f s = App f s none
@@ -112,7 +116,7 @@ bits_set = special bits_places []
 
 -- a stream in its odd and even parts
 abbrev pub parts_goal : Goal
-parts_goal = goal (zip (odd s) (odd (tl s))) s
+parts_goal = goal [] (zip (odd s) (odd (tl s))) s
 
 -- the odd part of a zip
 abbrev pub odd_zip : Tree
@@ -128,10 +132,10 @@ adders = record bits {
 
 -- the second argument of the sum is a place, as two equations certify
 abbrev pub adders_set : Special
-adders_set = special (place 9 1 ∷ []) ((Equation_link 11 Forth [] (t ∷ s ∷ []) ∷ []) ∷ (Equation_link 12 Forth [] (t ∷ s ∷ []) ∷ []) ∷ [])
+adders_set = special (place 9 1 ∷ []) ((Equation_link 11 Forth [] (t ∷ s ∷ []) no_chain ∷ []) ∷ (Equation_link 12 Forth [] (t ∷ s ∷ []) no_chain ∷ []) ∷ [])
 
 abbrev pub adders_goal : Goal
-adders_goal = goal (f s) (g s)
+adders_goal = goal [] (f s) (g s)
 
 -- streams of numbers: sort 0 is Nat, sort 1 is Stream, the operators are hd, tl, z, s, nat and nat2
 
@@ -163,4 +167,4 @@ numbers = record {
 }
 
 abbrev pub from_zero : Goal
-from_zero = goal (nat z) (nat2 z)
+from_zero = goal [] (nat z) (nat2 z)

@@ -6,15 +6,14 @@ use Rattle.circ_term.specs.Tree.{Tree, Trees, Var, App, none, more, sort_of, ope
 use Rattle.circ_term.specs.Limits.{Limit, first_limit, or_else}
 use Rattle.circ_term.specs.Order.{is_same}
 use Rattle.circ_term.specs.Substitution.{Substitution, instance}
-use Rattle.circ_theory.specs.Theory.{Theory, Pair}
+use Rattle.circ_theory.specs.Theory.{Theory, Pair, sides}
 use Rattle.circ_theory.specs.Variables.{Variable, variables_of, sorted}
 use Rattle.circ_theory.specs.Observing.{cases_of}
 use Rattle.circ_theory.specs.declared.parts.Goal.{Goal}
 use Rattle.circ_theory.specs.declared.way.Way.{Way}
 use Rattle.circ_theory.specs.declared.way.Way.TheVariants.{Forth, Back}
 use Rattle.circ_special.specs.declared.place.Place.{Place}
-use Rattle.circ_proof.specs.Plain.{LinkOf, Hypothesis_link}
-use Rattle.circ_proof.specs.Goals.{sides}
+use Rattle.circ_proof.specs.Plain.{LinkOf, ChainsOf, Hypothesis_link, no_chain}
 use Rattle.circ_rewrite.specs.Matching.{image, matching, matches}
 use Rattle.circ_rewrite.specs.Due.{rule_variables, terms_by}
 use Rattle.circ_rewrite.specs.declared.parts.Rule.{Rule}
@@ -26,7 +25,7 @@ use Rattle.circ_rewrite.specs.declared.parts.RuleName.TheVariants as name
 pub data Stop : Type 0 where
   No_budget : Stop
   Past_limit : (limit : Limit) → Stop
-  Not_split : (left right : Tree) (assumptions : List Goal) → Stop
+  Not_split : (left right : Tree) (assumptions : List Pair) → Stop
 
 abbrev pub and_then : {A B E : Type 0} → Result A E → (A → Result B E) → Result B E
 and_then (Ok a) f = f a
@@ -40,28 +39,29 @@ pair_matching p a b = λ n s. unwrap_or (option_or (image p.left a n s) (image p
 abbrev pub pair_matches : (p : Pair) → (a b : Tree) → Bool
 pair_matches p a b = is_same (instance (pair_matching p a b) p.left) a && is_same (instance (pair_matching p a b) p.right) b
 
--- the variables of a pair, by number, then sort
-abbrev pub pair_variables : Pair → List Variable
-pair_variables p = sorted (variables_of p)
+-- the variables of a hypothesis and of its conditions, by number, then sort
+abbrev pub hypothesis_variables : Goal → List Variable
+hypothesis_variables h = sorted (variables_of h)
 
--- A hypothesis used at a path of the whole term: its number, its terms, and the new subterm.
+-- A hypothesis used at a path of the whole term: its number, its terms, the chains of its conditions, and the new subterm. One that is used has no condition.
 pub record HypothesisUse : Type 0 where
   pub number : ℕ
   pub way : Way
   pub path : List ℕ
   pub terms : List Tree
+  pub conds : ChainsOf Tree
   pub new : Tree
 
 abbrev pub use_with : ℕ → Way → List ℕ → List Tree → Tree → HypothesisUse
-use_with number way path terms new = record { number = number; way = way; path = path; terms = terms; new = new }
+use_with number way path terms new = record { number = number; way = way; path = path; terms = terms; conds = no_chain; new = new }
 
 abbrev pub use_link : HypothesisUse → LinkOf Tree
-use_link u = Hypothesis_link u.number u.way u.path u.terms
+use_link u = Hypothesis_link u.number u.way u.path u.terms u.conds
 
 -- a hypothesis with its left side on a and its right side on b, at the path q; the new subterm is given
 abbrev pub pair_use : ℕ → Way → Goal → List ℕ → (new a b : Tree) → Option HypothesisUse
 pair_use n way h q new a b =
-    if pair_matches (sides h) a b then Some (use_with n way q (terms_by (pair_matching (sides h) a b) (pair_variables (sides h))) new) else None
+    if pair_matches (sides h) a b then Some (use_with n way q (terms_by (pair_matching (sides h) a b) (hypothesis_variables h)) new) else None
 
 -- one hypothesis on a and b, and else the other way about
 abbrev pub one_use : ℕ → Goal → List ℕ → (a b : Tree) → Option HypothesisUse

@@ -1,13 +1,14 @@
 -- The proof that a search has found, with the numbers of its terms in its table.
 use Rattle.std.specs.Prelude.{ℕ, ◌+◌, Bool, true, false, if◌then◌else◌, nat_lt, List, [], ◌∷◌, ◌++◌, map, length, flat_map}
 use Rattle.circ_term.specs.Tree.{Tree}
+use Rattle.circ_theory.specs.Theory.{Pair}
 use Rattle.circ_theory.specs.declared.parts.Goal.{Goal}
 use Rattle.circ_special.specs.declared.place.Place.{Place}
 use Rattle.circ_proof.specs.Plain.{LinkOf, ChainOf, WhyOf, WhysOf, Same_why, Split_why, no_why, more_whys, map_link}
 use Rattle.circ_proof.specs.Link.{terms_of}
 use Rattle.circ_proof.specs.Table.{added, number_in, term_limit}
-use Rattle.circ_proof.specs.Rules.{ProofStep, Simplify, Reduce, Derive, Done, map_step}
-use Rattle.circ_proof.specs.Proof.{Block, Proof}
+use Rattle.circ_proof.specs.Rules.{ProofStep, Simplify, Reduce, Derive, Cases, Done, map_step}
+use Rattle.circ_proof.specs.Proof.{GoalNames, Block, Proof}
 use Rattle.circ_plain_search.specs.Search.{ProvedBlock, Ending, All_done, Is_stuck, Is_spent, Is_too_big, Is_too_deep}
 
 -- the table of a builder that is asked for these terms, one after another
@@ -36,10 +37,15 @@ abbrev pub step_terms : ProofStep Tree → List Tree
 step_terms (Simplify c) = chain_terms c
 step_terms (Reduce w) = why_terms w
 step_terms Derive = []
+step_terms (Cases u) = u ∷ []
 step_terms Done = []
 
+abbrev pub side_terms : Pair → List Tree
+side_terms p = p.left ∷ p.right ∷ []
+
+-- a goal's left side, its right side, and its conditions
 abbrev pub goal_terms : Goal → List Tree
-goal_terms g = g.left ∷ g.right ∷ []
+goal_terms g = g.left ∷ g.right ∷ flat_map side_terms g.conds
 
 -- a block's goals, then its steps
 abbrev pub block_terms : ProvedBlock → List Tree
@@ -49,10 +55,13 @@ block_terms b = flat_map goal_terms b.goals ++ flat_map step_terms b.steps
 abbrev pub proof_terms : List ProvedBlock → (certificates : List (List (LinkOf Tree))) → List Tree
 proof_terms bs cs = flat_map block_terms bs ++ flat_map links_terms cs
 
--- Each term by its number in the table.
+-- Each term by its number in the table. The proof has version 1, as it has no conditions and no case steps.
 
-abbrev pub goal_name : (table : List Tree) → Goal → ℕ × ℕ
-goal_name table g = (number_in table g.left, number_in table g.right)
+abbrev pub pair_name : (table : List Tree) → Pair → ℕ × ℕ
+pair_name table p = (number_in table p.left, number_in table p.right)
+
+abbrev pub goal_name : (table : List Tree) → Goal → GoalNames
+goal_name table g = record { conds = map (pair_name table) g.conds; left = number_in table g.left; right = number_in table g.right }
 
 abbrev pub numbered_links : (table : List Tree) → List (LinkOf Tree) → List (LinkOf ℕ)
 numbered_links table ls = map (map_link (number_in table)) ls
@@ -65,7 +74,7 @@ numbered_block table b = record { goals = b.goals; names = map (goal_name table)
 
 abbrev pub numbered_proof : (table : List Tree) → List Place → (certificates : List (List (LinkOf Tree))) → List ProvedBlock → Proof
 numbered_proof table G cs bs =
-    record { table = table; places = G; certificates = map (numbered_links table) cs; blocks = map (numbered_block table) bs }
+    record { version = 1; table = table; places = G; certificates = map (numbered_links table) cs; blocks = map (numbered_block table) bs }
 
 -- the table of a proof
 abbrev pub table_for : (certificates : List (List (LinkOf Tree))) → List ProvedBlock → List Tree
@@ -91,7 +100,7 @@ needed false s = special [] []
 pub data Found : Type 0 where
   Proved : (proof : Proof) → Found
   LongTable : (terms : ℕ) → Found
-  Stuck : (block goal : ℕ) (left right : Tree) (assumptions : List Goal) → Found
+  Stuck : (block goal : ℕ) (left right : Tree) (assumptions : List Pair) → Found
   Spent : (rewrites derives steps : ℕ) → Found
   TooBig : (nodes : ℕ) → Found
   TooDeep : (depth : ℕ) → Found

@@ -2,15 +2,14 @@
 use Rattle.std.specs.Prelude.{◌≡◌, ◌≢◌, ◌≤◌, ◌^◌, List, [], map}
 use Rattle.std.specs.List.{AllByRecursion}
 use Rattle.circ_term.specs.Limits.{IsWithinLimits}
-use Rattle.circ_theory.specs.Theory.{Theory}
+use Rattle.circ_theory.specs.Theory.{Theory, HasNoConditions, IsWellSortedGoal}
 use Rattle.circ_theory.specs.declared.parts.Goal.{Goal}
 use Rattle.circ_special.specs.declared.place.Place.{Place}
-use Rattle.circ_proof.specs.Goals.{IsWellSortedGoal}
 use Rattle.circ_rewrite.specs.Links.{link_of}
 use Rattle.circ_rewrite.specs.Replacement.{Traced}
 use Rattle.circ_proof.specs.Accepted.{Accepted}
 use Rattle.circ_proof.specs.Proof.{Proof, ProofFor}
-use Rattle.circ_proof.specs.Rules.{fresh_in}
+use Rattle.circ_theory.specs.Fresh.{fresh_in}
 use Rattle.circ_plain_search.specs.Greatest.{GreatestSpecialSet}
 use Rattle.circ_plain_search.specs.Search.{Limits, Ending, Reaches, start}
 use Rattle.circ_plain_search.specs.Numbering.{Found, special, found_of}
@@ -24,15 +23,18 @@ pub record PlainSearch (th : Theory) (blocks : List (List Goal)) (limits : Limit
   pub run : Reaches th places limits (start limits blocks) ending
   pub is : found ≡ found_of (special places (map (map link_of) traces)) ending
 
--- A goal that a search can be given: its sides are well-sorted, of one sort, and within the limits, and variables have numbers below 2,147,483,648.
+-- A goal that a search can be given: it has no conditions, its sides are well-sorted, of one sort, and within the limits, and variables have numbers below
+-- 2,147,483,648.
 pub record IsSearchable (th : Theory) (g : Goal) : Type 0 where
   pub sorted : IsWellSortedGoal th g
+  pub no_conds : g.conds ≡ []
   pub left_within : IsWithinLimits g.left
   pub right_within : IsWithinLimits g.right
   pub numbers : fresh_in g ≤ 2 ^ 31
 
--- At least one block, and a goal in each.
+-- The theory has no conditions; and at least one block, and a goal in each.
 pub record AreSearchable (th : Theory) (blocks : List (List Goal)) : Type 0 where
+  pub no_conditions : HasNoConditions th
   pub some_block : blocks ≢ []
   pub some_goal : AllByRecursion (λ b. b ≢ []) blocks
   pub goals : AllByRecursion (λ b. AllByRecursion (IsSearchable th) b) blocks

@@ -5,16 +5,15 @@ use Rattle.std.specs.Option.{option_or, option_map_or}
 use Rattle.circ_term.specs.Tree.{Tree, App, none, sort_of}
 use Rattle.circ_term.specs.Limits.{Limit, Big, Deep, first_limit, or_else}
 use Rattle.circ_term.specs.Order.{is_same}
-use Rattle.circ_theory.specs.Theory.{Theory}
+use Rattle.circ_theory.specs.Theory.{Theory, Pair, pair_with, goal}
 use Rattle.circ_theory.specs.Observing.{cases_of, is_hidden}
 use Rattle.circ_theory.specs.declared.parts.Goal.{Goal}
 use Rattle.circ_special.specs.declared.place.Place.{Place}
 use Rattle.circ_proof.specs.Plain.{LinkOf, Equation_link, Hypothesis_link, Assumption_link, Content_link, ChainOf, WhyOf, WhysOf, Same_why, Split_why, no_why, more_whys}
-use Rattle.circ_proof.specs.Goals.{goal}
 use Rattle.circ_rewrite.specs.Norm.{Normalised, Normal_form, Budget_spent, Limit_passed, norm}
 use Rattle.circ_rewrite.specs.Links.{link_of}
 use Rattle.circ_rewrite.specs.declared.parts.Rule.{Rule}
-use Rattle.circ_proof.specs.Rules.{ProofStep, Simplify, Reduce, Derive, Done, derivatives_on}
+use Rattle.circ_proof.specs.Rules.{ProofStep, Simplify, Reduce, Derive, Cases, Done, derivatives_on}
 use Rattle.circ_proof.specs.Proof.{split_limit, step_limit}
 use Rattle.circ_plain_search.specs.Joining.{Stop, No_budget, Past_limit, Not_split, and_then, HypothesisUse, use_link, joined, swept, put_all, put_counted, first_open}
 use Rattle.circ_plain_search.specs.BlockRules.{block_rules, hidden_lemmas}
@@ -59,11 +58,11 @@ side_of (Normal_form t traces k) = Ok (normal_side t (map link_of traces) k)
 side_of Budget_spent = Err No_budget
 side_of (Limit_passed l k) = Err (Past_limit l)
 
-abbrev pub normalised : Theory → List Rule → (assumptions : List Goal) → Tree → (budget : ℕ) → Result NormalSide Stop
+abbrev pub normalised : Theory → List Rule → (assumptions : List Pair) → Tree → (budget : ℕ) → Result NormalSide Stop
 normalised th R A t k = side_of (norm th.signature R A k t)
 
 -- s is normalised, then t
-abbrev pub normal_sides : Theory → List Rule → (assumptions : List Goal) → (s t : Tree) → (budget : ℕ) → Result Sides Stop
+abbrev pub normal_sides : Theory → List Rule → (assumptions : List Pair) → (s t : Tree) → (budget : ℕ) → Result Sides Stop
 normal_sides th R A s t k =
     and_then (normalised th R A s k) (λ a. and_then (normalised th R A t a.budget) (λ b. Ok (sides_with a.term b.term (chain_with a.links b.links) b.budget)))
 
@@ -85,21 +84,21 @@ abbrev pub split_with : Tree → WhysOf Tree → ℕ → SplitReason
 split_with u ws k = record { term = u; whys = ws; budget = k }
 
 -- the term u is the constant c
-abbrev pub case_of : Tree → (c : ℕ) → Goal
-case_of u c = goal u (App c (sort_of u) none)
+abbrev pub case_of : Tree → (c : ℕ) → Pair
+case_of u c = pair_with u (App c (sort_of u) none)
 
 -- how two sides under assumptions are split with a budget
 abbrev pub Splitter : Type 0
-Splitter = (assumptions : List Goal) → (s t : Tree) → (budget : ℕ) → Result SplitReason Stop
+Splitter = (assumptions : List Pair) → (s t : Tree) → (budget : ℕ) → Result SplitReason Stop
 
 -- a case ends where the sides are equal, and else is split again
-abbrev pub case_reason : Splitter → List Goal → Sides → Result Reason Stop
+abbrev pub case_reason : Splitter → List Pair → Sides → Result Reason Stop
 case_reason again A n =
     if is_same n.left n.right then Ok (reason_with (Same_why n.chain) n.budget)
     else and_then (again A n.left n.right n.budget) (λ c. Ok (reason_with (Split_why n.chain c.term c.whys) c.budget))
 
 -- For each constant in order its case of u is assumed, and s and t as they stand are normalised.
-abbrev pub each_case : Theory → List Rule → Splitter → List Goal → (u s t : Tree) → (constants : List ℕ) → (budget : ℕ) → Result SplitReason Stop
+abbrev pub each_case : Theory → List Rule → Splitter → List Pair → (u s t : Tree) → (constants : List ℕ) → (budget : ℕ) → Result SplitReason Stop
 each_case th R again A u s t [] k = Ok (split_with u no_why k)
 each_case th R again A u s t (c ∷ cs) k =
     and_then (and_then (normal_sides th R (A ++ case_of u c ∷ []) s t k) (case_reason again (A ++ case_of u c ∷ [])))
@@ -120,9 +119,9 @@ split_cases th R (suc n) A s t k = open_cases th R (split_cases th R n) (option_
 
 -- a link of a hidden hypothesis at a path that is not empty
 abbrev pub is_deep : Theory → (hypotheses : List Goal) → LinkOf Tree → Bool
-is_deep th H (Equation_link n w q ts) = false
-is_deep th H (Hypothesis_link n w [] ts) = false
-is_deep th H (Hypothesis_link n w (i ∷ q) ts) = option_map_or (λ h. is_hidden th (sort_of h.left)) (slice_get H n) false
+is_deep th H (Equation_link n w q ts cs) = false
+is_deep th H (Hypothesis_link n w [] ts cs) = false
+is_deep th H (Hypothesis_link n w (i ∷ q) ts cs) = option_map_or (λ h. is_hidden th (sort_of h.left)) (slice_get H n) false
 is_deep th H (Assumption_link n w q) = false
 is_deep th H (Content_link f q t) = false
 
@@ -143,6 +142,7 @@ abbrev pub is_deep_step : Theory → (hypotheses : List Goal) → ProofStep Tree
 is_deep_step th H (Simplify c) = is_deep_chain th H c
 is_deep_step th H (Reduce w) = is_deep_why th H w
 is_deep_step th H Derive = false
+is_deep_step th H (Cases u) = false
 is_deep_step th H Done = false
 
 -- a block that is proved: its goals, and the steps that prove them
@@ -170,7 +170,7 @@ pub record Standing : Type 0 where
 -- many rewrite steps, Derive steps and steps; or a term passes a limit.
 pub data Ending : Type 0 where
   All_done : (blocks : List ProvedBlock) (derives steps : ℕ) (deep : Bool) → Ending
-  Is_stuck : (block goal : ℕ) (left right : Tree) (assumptions : List Goal) → Ending
+  Is_stuck : (block goal : ℕ) (left right : Tree) (assumptions : List Pair) → Ending
   Is_spent : (rewrites derives steps : ℕ) → Ending
   Is_too_big : (nodes : ℕ) → Ending
   Is_too_deep : (depth : ℕ) → Ending
@@ -209,9 +209,9 @@ has_links c = not (is_nil (c.left ++ c.right))
 abbrev pub next_goal : (hypotheses queue : List Goal) → Standing → Standing
 next_goal H Q st = record st { hypotheses = H; queue = Q; chain = no_links; taken = st.taken + 1 }
 
--- the goal in hand has these sides now, to which these links have led
+-- the goal in hand, which has no conditions, has these sides now, to which these links have led
 abbrev pub with_sides : Standing → (rest : List Goal) → Sides → Standing
-with_sides st rest n = record st { queue = goal n.left n.right ∷ rest; chain = chained st.chain n.chain; budget = n.budget }
+with_sides st rest n = record st { queue = goal [] n.left n.right ∷ rest; chain = chained st.chain n.chain; budget = n.budget }
 
 -- the goal in hand is reduced by the reason
 abbrev pub reduced : Theory → Limits → Standing → (rest : List Goal) → WhyOf Tree → Result Standing Ending
@@ -282,7 +282,7 @@ sides_turn th G l st g rest = join_turn th G l st g rest (joined G st.hypotheses
 abbrev pub goal_turn : Theory → List Place → Limits → Standing → Goal → (rest : List Goal) → Result Standing Ending
 goal_turn th G l st g rest =
     and_then (or_end l st (normal_sides th (block_rules th st.earlier) [] g.left g.right st.budget))
-    (λ n. sides_turn th G l (with_sides st rest n) (goal n.left n.right) rest)
+    (λ n. sides_turn th G l (with_sides st rest n) (goal [] n.left n.right) rest)
 
 abbrev pub proved_block : (goals : List Goal) → List (ProofStep Tree) → ProvedBlock
 proved_block gs xs = record { goals = gs; steps = xs }

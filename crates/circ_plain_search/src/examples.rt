@@ -1,8 +1,8 @@
 //! Examples that try the definition of the search: what is found is computed.
 ghost use Rattle.std.specs.Prelude.{◌≡◌, List, [], ◌∷◌, Option, Some};
 ghost use Rattle.circ_theory.specs.declared.way.Way.TheVariants.{Forth};
-ghost use Rattle.circ_proof.specs.Goals.{goal};
-ghost use Rattle.circ_proof.specs.Plain.{Equation_link, Hypothesis_link};
+ghost use Rattle.circ_theory.specs.Theory.{goal, pair_with};
+ghost use Rattle.circ_proof.specs.Plain.{Equation_link, Hypothesis_link, no_chain};
 ghost use Rattle.circ_proof.specs.Plain.{Assumption_link, Same_why, Split_why};
 ghost use Rattle.circ_proof.specs.Plain.{no_why, more_whys};
 ghost use Rattle.circ_proof.specs.Rules.{Reduce, Derive, Done};
@@ -11,20 +11,21 @@ ghost use Rattle.circ_special.specs.Special.{place};
 ghost use Rattle.circ_plain_search.specs.Numbering.{special};
 ghost use Rattle.circ_plain_search.specs.Examples.{search, limits, bits, bits_set, zero_bit};
 ghost use Rattle.circ_plain_search.specs.Examples.{one_bit, zeros, ones, x, s, t, tl, odd, zip};
-ghost use Rattle.circ_plain_search.specs.Examples.{plus, f, g, parts_goal, odd_zip};
+ghost use Rattle.circ_plain_search.specs.Examples.{plus, f, g, parts_goal, odd_zip, plain_name};
 ghost use Rattle.circ_plain_search.specs.Examples.{adders, adders_set, adders_goal};
 ghost use Rattle.circ_plain_search.specs.Examples.{numbers, from_zero};
 
 /// Equal sides are reduced at once.
 pub fn equal_sides()
-    ensures { search bits bits_set (limits 0 0) ((goal zeros zeros ∷ []) ∷ [])
+    ensures { search bits bits_set (limits 0 0) ((goal [] zeros zeros ∷ []) ∷ [])
         ≡ Some (Proved (record {
+          version = 1;
           table = zeros ∷ [];
           places = [];
           certificates = [];
           blocks = record {
-            goals = goal zeros zeros ∷ [];
-            names = (0, 0) ∷ [];
+            goals = goal [] zeros zeros ∷ [];
+            names = plain_name 0 0 ∷ [];
             steps = Reduce (Same_why (record { left = []; right = [] })) ∷ Done ∷ [];
           } ∷ [];
         })) }
@@ -35,22 +36,23 @@ pub fn equal_sides()
 pub fn odd_and_even_parts()
     ensures { search bits bits_set (limits 100 5) ((parts_goal ∷ []) ∷ [])
         ≡ Some (Proved (record {
+          version = 1;
           table = s ∷ odd s ∷ tl s ∷ odd (tl s) ∷ parts_goal.left ∷ [];
           places = [];
           certificates = [];
           blocks = record {
             goals = parts_goal ∷ [];
-            names = (4, 0) ∷ [];
+            names = plain_name 4 0 ∷ [];
             steps = Derive
                 ∷ Reduce (Same_why (record {
-                  left = Equation_link 9 Forth [] (1 ∷ 3 ∷ [])
-                      ∷ Equation_link 7 Forth [] (0 ∷ []) ∷ [];
+                  left = Equation_link 9 Forth [] (1 ∷ 3 ∷ []) no_chain
+                      ∷ Equation_link 7 Forth [] (0 ∷ []) no_chain ∷ [];
                   right = [];
                 }))
                 ∷ Reduce (Same_why (record {
-                  left = Equation_link 10 Forth [] (1 ∷ 3 ∷ [])
-                      ∷ Equation_link 8 Forth (1 ∷ []) (0 ∷ [])
-                      ∷ Hypothesis_link 0 Forth [] (2 ∷ []) ∷ [];
+                  left = Equation_link 10 Forth [] (1 ∷ 3 ∷ []) no_chain
+                      ∷ Equation_link 8 Forth (1 ∷ []) (0 ∷ []) no_chain
+                      ∷ Hypothesis_link 0 Forth [] (2 ∷ []) no_chain ∷ [];
                   right = [];
                 }))
                 ∷ Done ∷ [];
@@ -65,31 +67,32 @@ pub fn no_derive_step()
 
 /// The heads of `zeros` and `ones` differ, and hold nothing to split on.
 pub fn heads_differ()
-    ensures { search bits bits_set (limits 100 5) ((goal zeros ones ∷ []) ∷ [])
+    ensures { search bits bits_set (limits 100 5) ((goal [] zeros ones ∷ []) ∷ [])
         ≡ Some (Stuck 1 2 zero_bit one_bit []) }
 {}
 
 /// `x + x = 0` is split on `x`, and holds in both cases.
 pub fn a_split()
-    ensures { search bits bits_set (limits 100 5) ((goal (plus x x) zero_bit ∷ []) ∷ [])
+    ensures { search bits bits_set (limits 100 5) ((goal [] (plus x x) zero_bit ∷ []) ∷ [])
         ≡ Some (Proved (record {
+          version = 1;
           table = x ∷ plus x x ∷ zero_bit ∷ [];
           places = [];
           certificates = [];
           blocks = record {
-            goals = goal (plus x x) zero_bit ∷ [];
-            names = (1, 2) ∷ [];
+            goals = goal [] (plus x x) zero_bit ∷ [];
+            names = plain_name 1 2 ∷ [];
             steps = Reduce (Split_why (record { left = []; right = [] }) 0
                 (more_whys (Same_why (record {
                   left = Assumption_link 0 Forth (0 ∷ [])
                       ∷ Assumption_link 0 Forth (1 ∷ [])
-                      ∷ Equation_link 0 Forth [] (2 ∷ []) ∷ [];
+                      ∷ Equation_link 0 Forth [] (2 ∷ []) no_chain ∷ [];
                   right = [];
                 }))
                 (more_whys (Same_why (record {
                   left = Assumption_link 0 Forth (0 ∷ [])
                       ∷ Assumption_link 0 Forth (1 ∷ [])
-                      ∷ Equation_link 2 Forth [] [] ∷ [];
+                      ∷ Equation_link 2 Forth [] [] no_chain ∷ [];
                   right = [];
                 })) no_why))) ∷ Done ∷ [];
           } ∷ [];
@@ -98,8 +101,8 @@ pub fn a_split()
 
 /// `x + x = x` is stuck in the case `x = 1`.
 pub fn a_stuck_case()
-    ensures { search bits bits_set (limits 100 5) ((goal (plus x x) x ∷ []) ∷ [])
-        ≡ Some (Stuck 1 1 zero_bit one_bit (goal x one_bit ∷ [])) }
+    ensures { search bits bits_set (limits 100 5) ((goal [] (plus x x) x ∷ []) ∷ [])
+        ≡ Some (Stuck 1 1 zero_bit one_bit (pair_with x one_bit ∷ [])) }
 {}
 
 /// A goal that stays a sum with itself inside is a hypothesis below the sum, so the proof carries
@@ -107,22 +110,23 @@ pub fn a_stuck_case()
 pub fn a_place_is_used()
     ensures { search adders adders_set (limits 100 5) ((adders_goal ∷ []) ∷ [])
         ≡ Some (Proved (record {
+          version = 1;
           table = s ∷ f s ∷ g s ∷ t ∷ [];
           places = place 9 1 ∷ [];
-          certificates = (Equation_link 11 Forth [] (3 ∷ 0 ∷ []) ∷ [])
-              ∷ (Equation_link 12 Forth [] (3 ∷ 0 ∷ []) ∷ []) ∷ [];
+          certificates = (Equation_link 11 Forth [] (3 ∷ 0 ∷ []) no_chain ∷ [])
+              ∷ (Equation_link 12 Forth [] (3 ∷ 0 ∷ []) no_chain ∷ []) ∷ [];
           blocks = record {
             goals = adders_goal ∷ [];
-            names = (1, 2) ∷ [];
+            names = plain_name 1 2 ∷ [];
             steps = Derive
                 ∷ Reduce (Same_why (record {
-                  left = Equation_link 13 Forth [] (0 ∷ []) ∷ [];
-                  right = Equation_link 15 Forth [] (0 ∷ []) ∷ [];
+                  left = Equation_link 13 Forth [] (0 ∷ []) no_chain ∷ [];
+                  right = Equation_link 15 Forth [] (0 ∷ []) no_chain ∷ [];
                 }))
                 ∷ Reduce (Same_why (record {
-                  left = Equation_link 14 Forth [] (0 ∷ [])
-                      ∷ Hypothesis_link 0 Forth (1 ∷ []) (0 ∷ []) ∷ [];
-                  right = Equation_link 16 Forth [] (0 ∷ []) ∷ [];
+                  left = Equation_link 14 Forth [] (0 ∷ []) no_chain
+                      ∷ Hypothesis_link 0 Forth (1 ∷ []) (0 ∷ []) no_chain ∷ [];
+                  right = Equation_link 16 Forth [] (0 ∷ []) no_chain ∷ [];
                 }))
                 ∷ Done ∷ [];
           } ∷ [];
@@ -139,35 +143,36 @@ pub fn without_the_place()
 /// then Join uses it once more.
 pub fn a_lemma_pass()
     ensures { search bits bits_set (limits 100 5)
-        ((goal odd_zip s ∷ []) ∷ (goal (odd (zip odd_zip t)) s ∷ []) ∷ [])
+        ((goal [] odd_zip s ∷ []) ∷ (goal [] (odd (zip odd_zip t)) s ∷ []) ∷ [])
         ≡ Some (Proved (record {
+          version = 1;
           table = s ∷ t ∷ zip s t ∷ odd_zip ∷ tl s ∷ tl t
               ∷ zip odd_zip t ∷ odd (zip odd_zip t) ∷ [];
           places = [];
           certificates = [];
           blocks = record {
-            goals = goal odd_zip s ∷ [];
-            names = (3, 0) ∷ [];
+            goals = goal [] odd_zip s ∷ [];
+            names = plain_name 3 0 ∷ [];
             steps = Derive
                 ∷ Reduce (Same_why (record {
-                  left = Equation_link 7 Forth [] (2 ∷ [])
-                      ∷ Equation_link 9 Forth [] (0 ∷ 1 ∷ []) ∷ [];
+                  left = Equation_link 7 Forth [] (2 ∷ []) no_chain
+                      ∷ Equation_link 9 Forth [] (0 ∷ 1 ∷ []) no_chain ∷ [];
                   right = [];
                 }))
                 ∷ Reduce (Same_why (record {
-                  left = Equation_link 8 Forth [] (2 ∷ [])
-                      ∷ Equation_link 10 Forth (0 ∷ 0 ∷ []) (0 ∷ 1 ∷ [])
-                      ∷ Equation_link 10 Forth (0 ∷ []) (1 ∷ 4 ∷ [])
-                      ∷ Hypothesis_link 0 Forth [] (4 ∷ 5 ∷ []) ∷ [];
+                  left = Equation_link 8 Forth [] (2 ∷ []) no_chain
+                      ∷ Equation_link 10 Forth (0 ∷ 0 ∷ []) (0 ∷ 1 ∷ []) no_chain
+                      ∷ Equation_link 10 Forth (0 ∷ []) (1 ∷ 4 ∷ []) no_chain
+                      ∷ Hypothesis_link 0 Forth [] (4 ∷ 5 ∷ []) no_chain ∷ [];
                   right = [];
                 }))
                 ∷ Done ∷ [];
           } ∷ record {
-            goals = goal (odd (zip odd_zip t)) s ∷ [];
-            names = (7, 0) ∷ [];
+            goals = goal [] (odd (zip odd_zip t)) s ∷ [];
+            names = plain_name 7 0 ∷ [];
             steps = Reduce (Same_why (record {
-              left = Hypothesis_link 0 Forth [] (3 ∷ 1 ∷ [])
-                  ∷ Hypothesis_link 0 Forth [] (0 ∷ 1 ∷ []) ∷ [];
+              left = Hypothesis_link 0 Forth [] (3 ∷ 1 ∷ []) no_chain
+                  ∷ Hypothesis_link 0 Forth [] (0 ∷ 1 ∷ []) no_chain ∷ [];
               right = [];
             })) ∷ Done ∷ [];
           } ∷ [];
@@ -184,6 +189,6 @@ pub fn derive_steps_are_spent()
 /// Two rewrite steps are due, and one is there.
 pub fn rewrite_steps_are_spent()
     ensures { search bits bits_set (limits 1 5)
-        ((goal (plus zero_bit (plus zero_bit x)) x ∷ []) ∷ [])
+        ((goal [] (plus zero_bit (plus zero_bit x)) x ∷ []) ∷ [])
         ≡ Some (Spent 1 0 0) }
 {}

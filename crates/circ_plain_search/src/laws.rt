@@ -3,14 +3,13 @@
 ghost use Rattle.std.specs.Prelude.{◌≡◌, ◌<◌, ◌+◌, ◌-◌, ℕ, List, [], ◌∷◌, map, Some, Ok};
 ghost use Rattle.std.specs.List.{slice_get, Contains};
 ghost use Rattle.circ_theory.specs.Signature.{Operator, IsWellSorted};
-ghost use Rattle.circ_theory.specs.Theory.{Theory, Derivative};
+ghost use Rattle.circ_theory.specs.Theory.{Theory, Derivative, HasNoConditions, goal};
 ghost use Rattle.circ_theory.specs.WellFormed.{IsWellFormed};
 ghost use Rattle.circ_theory.specs.declared.parts.Goal.{Goal};
 ghost use Rattle.circ_special.specs.declared.place.Place.{Place};
 ghost use Rattle.circ_special.specs.Special.{IsSet};
 ghost use Rattle.circ_rewrite.specs.Replacement.{Traced};
 ghost use Rattle.circ_rewrite.specs.Links.{link_of};
-ghost use Rattle.circ_proof.specs.Goals.{goal};
 ghost use Rattle.circ_proof.specs.Certified.{due, derivatives_at, start_term, AreCertified};
 ghost use Rattle.circ_proof.specs.Proof.{Proof, step_limit};
 ghost use Rattle.circ_plain_search.specs.Greatest.{GreatestSpecialSet};
@@ -55,7 +54,7 @@ pub fn normal_goals_are_ready()
         Comes th G limits (start limits blocks) st →
         (g : Goal) (rest : List Goal) → st.queue ≡ g ∷ rest → (n : Sides) →
         normal_sides th (block_rules th st.earlier) [] g.left g.right st.budget ≡ Ok n →
-        IsReady th (goal n.left n.right) }
+        IsReady th (goal [] n.left n.right) }
 {}
 
 /// How a search ends from where it comes to is how it ends.
@@ -86,10 +85,10 @@ pub fn some_set()
         → ⊥ }
 {}
 
-/// In a well-formed theory the greatest special set is a special set, whose places the traces
-/// certify as links.
+/// In a well-formed theory without conditions the greatest special set is a special set, whose
+/// places the traces certify as links.
 pub fn set_is_certified()
-    ensures { (th : Theory) → IsWellFormed th →
+    ensures { (th : Theory) → IsWellFormed th → HasNoConditions th →
         (budget : ℕ) (G : List Place) (tss : List (List Traced)) →
         GreatestSpecialSet th budget G tss →
         IsSet th G × AreCertified th G (due th G) (map (map link_of) tss) }

@@ -1,13 +1,21 @@
--- The case list of a sort.
-use Rattle.std.proofs.Common.{◌≡◌, ◌⊎◌, ℕ, Bool, true, false, ◌==◌, nat_eq, List, [], ◌∷◌, map, find, Option, Some, None, refl, ap, sym, ◌∙◌, inl, inr, arith}
+-- The case list of a sort, and a goal in each of its cases.
+use Rattle.std.proofs.Common.{◌≡◌, ◌⊎◌, ℕ, Bool, true, false, ◌==◌, nat_eq, List, [], ◌∷◌, map, find, Option, Some, None, refl, ap, sym, subst, ◌∙◌, inl, inr, arith}
 use Rattle.std.specs.List.{AllByRecursion, Contains, IsDistinct}
 use Rattle.std.specs.Option.{option_map}
 use Rattle.std.proofs.lemmas.Bool.{eqb-true, eqb-false}
 use Rattle.std.proofs.lemmas.Option.{same_Some}
-use Rattle.circ_theory.specs.Theory.{Theory, CaseList}
+use Rattle.std.proofs.lemmas.List.Elements.{Contains-append_cases}
+use Rattle.circ_term.specs.Tree.{Tree, none, sort_of}
+use Rattle.circ_theory.specs.Signature.{HaveSorts, IsWellSorted}
+use Rattle.circ_theory.specs.Theory.{Theory, Pair, CaseList, IsVisible, IsWellSortedPair, IsCondition, IsWellSortedGoal}
+use Rattle.circ_theory.specs.Derivable.{is_case}
+use Rattle.circ_theory.specs.declared.parts.Goal.{Goal}
 use Rattle.circ_theory.specs.Observing.{cases_of, case_list}
 use Rattle.circ_theory.specs.WellFormed.{IsWellFormed}
 use Rattle.circ_theory.proofs.Weakening.{first_or_rest, in_rest}
+use Rattle.circ_proof.specs.Goals.{AreSortedGoals, with_cond}
+use Rattle.circ_proof.specs.Rules.{cases_on}
+use Rattle.circ_proof.proofs.Members.{nothing, pick, from_map}
 
 abbrev constants_in : List CaseList → ℕ → Option (List ℕ)
 constants_in ls s = option_map (λ l. l.constants) (find (λ l. s == l.sort) ls)
@@ -66,3 +74,37 @@ listed_cases th ok s ks e l k f = listed_found th.cases s ks ok.one_list e l k f
 
 pub no_cases : (th : Theory) (s : ℕ) → cases_of th s ≡ None → (l : CaseList) → Contains th.cases l → s ≡ l.sort → ⊥
 no_cases th s e l k f = none_found th.cases s e l k f
+
+-- ---- goals in each case
+
+-- a case is a well-sorted pair
+pub case_sorted : (th : Theory) → IsWellFormed th → (u : Tree) (l : CaseList) (k : ℕ) → Contains th.cases l → Contains l.constants k
+    → IsWellSorted th.signature u → sort_of u ≡ l.sort → IsWellSortedPair th.signature (is_case u l k)
+case_sorted th ok u l k cl ck w e =
+    let o = (ok.cases l cl).constants k ck in
+    let P : List ℕ → Type 0 = λ ss. HaveSorts th.signature none ss in
+    record { left = w; right = (o.0, o.1.0, o.1.2, subst P (sym o.1.1) tt); same_sort = sym e }
+
+-- a case is a condition
+case_condition : (th : Theory) → IsWellFormed th → (u : Tree) (l : CaseList) (k : ℕ) → Contains th.cases l → Contains l.constants k
+    → IsWellSorted th.signature u → sort_of u ≡ l.sort → IsCondition th (is_case u l k)
+case_condition th ok u l k cl ck w e = record {
+  sorted = case_sorted th ok u l k cl ck w e;
+  visible = let V : ℕ → Type 0 = IsVisible th in subst V (sym e) (ok.cases l cl).visible;
+}
+
+-- a goal with one condition more
+with_sorted : (th : Theory) (g : Goal) → IsWellSortedGoal th g → (p : Pair) → IsCondition th p → IsWellSortedGoal th (with_cond g p)
+with_sorted th g w p h = record {
+  sorted = w.sorted;
+  conds = λ q d. elim (Contains-append_cases g.conds (p ∷ []) q d) [
+    | inl x ↦ w.conds q x
+    | inr x ↦ pick (IsCondition th) p q [] h (λ y. nothing q y) x
+  ];
+}
+
+pub cases_sorted : (th : Theory) → IsWellFormed th → (g : Goal) → IsWellSortedGoal th g → (u : Tree) → IsWellSorted th.signature u
+    → (l : CaseList) → Contains th.cases l → sort_of u ≡ l.sort → AreSortedGoals th (cases_on g u l)
+cases_sorted th ok g w u wu l c e h d =
+    let r = from_map (λ k. with_cond g (is_case u l k)) l.constants h d in
+    subst (IsWellSortedGoal th) r.2 (with_sorted th g w (is_case u l r.0) (case_condition th ok u l r.0 c r.1 wu e))

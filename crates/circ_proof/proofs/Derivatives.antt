@@ -6,15 +6,13 @@ use Rattle.std.proofs.Common.{ap, sym, ◌∙◌, subst, arith}
 use Rattle.std.proofs.lemmas.Bool.{eqb-true}
 use Rattle.std.proofs.lemmas.Option.{same_Some}
 use Rattle.circ_term.specs.Tree.{Tree, sort_of}
-use Rattle.circ_theory.specs.Theory.{Theory, Derivative}
+use Rattle.circ_theory.specs.Theory.{Theory, Derivative, IsWellSortedGoal}
 use Rattle.circ_theory.specs.WellFormed.{IsWellFormed, IsDerivative}
 use Rattle.circ_theory.specs.Experiment.{derived}
-use Rattle.circ_theory.specs.Fresh.{numbered_from, given_parameters, parameter_sorts, variables_from, FitSome}
+use Rattle.circ_theory.specs.Fresh.{fresh_in, numbered_from, given_parameters, parameter_sorts, variables_from, FitSome}
 use Rattle.circ_theory.specs.declared.parts.Goal.{Goal}
 use Rattle.circ_theory.proofs.Rewriting.{contains_at}
 use Rattle.circ_theory.proofs.Derived.{derived-numbered_from, variables_fit}
-use Rattle.circ_proof.specs.Goals.{IsWellSortedGoal}
-use Rattle.circ_proof.specs.Rules.{fresh_in}
 
 pub if_some_at : {X : Type 0} (P : X → Type 0) (o : Option X) (x : X) → o ≡ Some x → P x → IfSome o P
 if_some_at P o x e p = let Q : Option _ → Type 0 = λ o. IfSome o P in subst Q (sym e) p

@@ -1,4 +1,7 @@
 pub mod Tables
+pub mod Members
+pub mod Rows
+pub mod LinkRows
 pub mod Leading
 pub mod Cases
 pub mod Running

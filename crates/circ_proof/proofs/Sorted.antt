@@ -6,7 +6,7 @@ use Rattle.std.proofs.lemmas.Bool.{eqb-true}
 use Rattle.std.proofs.lemmas.List.Elements.{Contains-append_cases}
 use Rattle.circ_term.specs.Tree.{sort_of}
 use Rattle.circ_theory.specs.Signature.{Signature, IsSubstitution}
-use Rattle.circ_theory.specs.Theory.{Theory, Derivative}
+use Rattle.circ_theory.specs.Theory.{Theory, Derivative, IsWellSortedGoal}
 use Rattle.circ_theory.specs.WellFormed.{IsWellFormed}
 use Rattle.circ_theory.specs.Experiment.{plug}
 use Rattle.circ_theory.specs.declared.parts.Goal.{Goal}
@@ -14,9 +14,9 @@ use Rattle.circ_theory.proofs.Weakening.{first_or_rest, in_rest}
 use Rattle.circ_theory.proofs.Casing.{contains_first}
 use Rattle.circ_theory.proofs.Behaviour.{plug_substitution}
 use Rattle.circ_theory.proofs.Instances.{instance_well_sorted, sort_of-instance_by}
-use Rattle.circ_proof.specs.Goals.{IsWellSortedGoal, AreSortedGoals}
-use Rattle.circ_theory.specs.Fresh.{numbered_from}
-use Rattle.circ_proof.specs.Rules.{fresh_in, derived_goal, derivatives_on}
+use Rattle.circ_proof.specs.Goals.{AreSortedGoals}
+use Rattle.circ_theory.specs.Fresh.{fresh_in, numbered_from}
+use Rattle.circ_proof.specs.Rules.{derived_goal, derivatives_on}
 
 pub sorted_none : (th : Theory) → AreSortedGoals th []
 sorted_none th g c = absurd (omega (arith, c.1))
@@ -58,6 +58,7 @@ derived_sorted th ok d l g k e w =
         same_sort = sort_of-instance_by sig (plug d.hole g.right (numbered_from k)) d.body y body
             ∙ sym (sort_of-instance_by sig (plug d.hole g.left (numbered_from k)) d.body x body);
       };
+      conds = w.conds;
     }
 
 -- what holds of the goal under each derivative of its sort

@@ -1,18 +1,21 @@
 -- Steps lead from a state to one state at most. They keep it well-sorted, and their hypotheses grow at the end.
-use Rattle.std.specs.Prelude.{◌≡◌, ℕ, List, [], ◌∷◌, ◌++◌, map}
+use Rattle.std.specs.Prelude.{◌≡◌, ℕ, List, [], ◌∷◌, ◌++◌, map, refl}
 use Rattle.std.specs.List.{AllByRecursion}
-use Rattle.std.proofs.Common.{ap, sym, ◌∙◌, subst, append_assoc, append-nil, arith}
-use Rattle.circ_term.specs.Tree.{Tree}
+use Rattle.std.proofs.Common.{ap, sym, ◌∙◌, subst, append_assoc, append-nil}
+use Rattle.std.proofs.lemmas.Option.{same_Some}
+use Rattle.circ_term.specs.Tree.{Tree, sort_of}
 use Rattle.circ_theory.specs.Signature.{IsWellSorted}
-use Rattle.circ_theory.specs.Theory.{Theory}
+use Rattle.circ_theory.specs.Theory.{Theory, goal, sides}
+use Rattle.circ_theory.specs.Observing.{case_list}
 use Rattle.circ_theory.specs.WellFormed.{IsWellFormed}
 use Rattle.circ_theory.specs.declared.parts.Goal.{Goal}
 use Rattle.circ_special.specs.declared.place.Place.{Place}
-use Rattle.circ_proof.specs.Goals.{goal, sides, AreSortedGoals}
+use Rattle.circ_proof.specs.Goals.{AreSortedGoals}
 use Rattle.circ_proof.specs.Link.{setting}
-use Rattle.circ_proof.specs.Rules.{State, state, IsSortedState, ProofStep, Simplify, Reduce, Derive, Done, AllOfStep, StepOn, StepOf, StepsOf, derivatives_on, map_step}
+use Rattle.circ_proof.specs.Rules.{State, state, IsSortedState, ProofStep, Simplify, Reduce, Derive, Cases, Done, AllOfStep, StepOn, StepOf, StepsOf, derivatives_on, cases_on, map_step}
 use Rattle.circ_proof.specs.Proof.{IsEnded}
-use Rattle.circ_proof.proofs.Leading.{IsSortedSetting, one_chain, chain_sorted}
+use Rattle.circ_proof.proofs.Leading.{one_chain, chain_sorted, sorted_setting, conditions_sorted}
+use Rattle.circ_proof.proofs.Cases.{cases_listed, cases_sorted}
 use Rattle.circ_proof.proofs.Running.{LeadsToOne}
 use Rattle.circ_proof.proofs.Sorted.{sorted_none, sorted_more, sorted_first, sorted_rest, sorted_append, derivatives_sorted}
 
@@ -21,11 +24,14 @@ use Rattle.circ_proof.proofs.Sorted.{sorted_none, sorted_more, sorted_first, sor
 one_state : (th : Theory) (G : List Place) (s : ProofStep Tree) (H gs : List Goal) (b c : State) → StepOn th G s H gs b → StepOn th G s H gs c → b ≡ c
 one_state th G (Simplify chain) H [] b c r s = absurd r
 one_state th G (Simplify chain) H (g ∷ gs) b c r s =
-    r.2 ∙ ap (λ q. state H (goal q.left q.right ∷ gs)) (one_chain (setting th G H []) chain (sides g) r.0 s.0 r.1 s.1) ∙ sym s.2
+    r.2 ∙ ap (λ q. state H (goal g.conds q.left q.right ∷ gs)) (one_chain (setting th G H g.conds) chain (sides g) r.0 s.0 r.1 s.1) ∙ sym s.2
 one_state th G (Reduce why) H [] b c r s = absurd r
 one_state th G (Reduce why) H (g ∷ gs) b c r s = r.1 ∙ sym s.1
 one_state th G Derive H [] b c r s = absurd r
 one_state th G Derive H (g ∷ gs) b c r s = r.2 ∙ sym s.2
+one_state th G (Cases u) H [] b c r s = absurd r
+one_state th G (Cases u) H (g ∷ gs) b c r s =
+    r.3 ∙ ap (λ ks. state H (cases_on g u (case_list (sort_of u) ks) ++ gs)) (same_Some r.0 s.0 (sym r.1 ∙ s.1)) ∙ sym s.3
 one_state th G Done H [] b c r s = r ∙ sym s
 one_state th G Done H (g ∷ gs) b c r s = absurd r
 
@@ -38,9 +44,11 @@ step_on_sorted : (th : Theory) → IsWellFormed th → (G : List Place) (s : Pro
     → (H gs : List Goal) → AreSortedGoals th H → AreSortedGoals th gs → (b : State) → StepOn th G s H gs b → IsSortedState th b
 step_on_sorted th ok G (Simplify chain) a H [] sh sg b r = absurd r
 step_on_sorted th ok G (Simplify chain) a H (g ∷ gs) sh sg b r =
-    let set : IsSortedSetting (setting th G H []) = record { well_formed = ok; hypotheses = sh; assumptions = λ p c. absurd (omega (arith, c.1)) } in
-    let q = chain_sorted (setting th G H []) set chain a (sides g) r.0 (sorted_first th g gs sg).sorted r.1 in
-    subst (IsSortedState th) (sym r.2) (sh, sorted_more th (goal r.0.left r.0.right) gs (record { sorted = q }) (sorted_rest th g gs sg))
+    let w = sorted_first th g gs sg in
+    let set = sorted_setting th ok G H g.conds sh (conditions_sorted th g.conds w.conds) in
+    let q = chain_sorted (setting th G H g.conds) set chain a (sides g) r.0 w.sorted r.1 in
+    subst (IsSortedState th) (sym r.2)
+    (sh, sorted_more th (goal g.conds r.0.left r.0.right) gs (record { sorted = q; conds = w.conds }) (sorted_rest th g gs sg))
 step_on_sorted th ok G (Reduce why) a H [] sh sg b r = absurd r
 step_on_sorted th ok G (Reduce why) a H (g ∷ gs) sh sg b r = subst (IsSortedState th) (sym r.1) (sh, sorted_rest th g gs sg)
 step_on_sorted th ok G Derive a H [] sh sg b r = absurd r
@@ -49,6 +57,14 @@ step_on_sorted th ok G Derive a H (g ∷ gs) sh sg b r =
     subst (IsSortedState th) (sym r.2) (
       sorted_append th H (g ∷ []) sh (sorted_more th g [] w (sorted_none th)),
       sorted_append th gs (derivatives_on th g) (sorted_rest th g gs sg) (derivatives_sorted th ok g w),
+    )
+step_on_sorted th ok G (Cases u) a H [] sh sg b r = absurd r
+step_on_sorted th ok G (Cases u) a H (g ∷ gs) sh sg b r =
+    let l = case_list (sort_of u) r.0 in
+    subst (IsSortedState th) (sym r.3) (
+      sh,
+      sorted_append th (cases_on g u l) gs (cases_sorted th ok g (sorted_first th g gs sg) u a l (cases_listed th (sort_of u) r.0 r.1) refl)
+          (sorted_rest th g gs sg),
     )
 step_on_sorted th ok G Done a H [] sh sg b r = subst (IsSortedState th) (sym r) (sh, sorted_none th)
 step_on_sorted th ok G Done a H (g ∷ gs) sh sg b r = absurd r
@@ -74,11 +90,13 @@ stays H gs b e = record { appended = []; whole = ap (λ x. x.hypotheses) e ∙ s
 
 step_on_grows : (th : Theory) (G : List Place) (s : ProofStep Tree) (H gs : List Goal) (b : State) → StepOn th G s H gs b → Grows H b.hypotheses
 step_on_grows th G (Simplify chain) H [] b r = absurd r
-step_on_grows th G (Simplify chain) H (g ∷ gs) b r = stays H (goal r.0.left r.0.right ∷ gs) b r.2
+step_on_grows th G (Simplify chain) H (g ∷ gs) b r = stays H (goal g.conds r.0.left r.0.right ∷ gs) b r.2
 step_on_grows th G (Reduce why) H [] b r = absurd r
 step_on_grows th G (Reduce why) H (g ∷ gs) b r = stays H gs b r.1
 step_on_grows th G Derive H [] b r = absurd r
 step_on_grows th G Derive H (g ∷ gs) b r = record { appended = g ∷ []; whole = ap (λ x. x.hypotheses) r.2 }
+step_on_grows th G (Cases u) H [] b r = absurd r
+step_on_grows th G (Cases u) H (g ∷ gs) b r = stays H (cases_on g u (case_list (sort_of u) r.0) ++ gs) b r.3
 step_on_grows th G Done H [] b r = stays H [] b r
 step_on_grows th G Done H (g ∷ gs) b r = absurd r
 

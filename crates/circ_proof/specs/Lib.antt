@@ -1,5 +1,6 @@
 pub mod Plain
 pub mod Counting
+pub mod Nesting
 pub mod Goals
 pub mod Runs
 pub mod Link

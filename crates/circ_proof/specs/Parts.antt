@@ -5,13 +5,13 @@ use Rattle.circ_theory.specs.declared.parts.Goal.{Goal}
 use Rattle.circ_special.specs.declared.place.Place.{Place}
 use Rattle.circ_proof.specs.Plain.{LinkOf}
 use Rattle.circ_proof.specs.Rules.{ProofStep}
-use Rattle.circ_proof.specs.Proof.{Block, Proof}
+use Rattle.circ_proof.specs.Proof.{GoalNames, Block, Proof}
 
 -- the table and the special set, a certificate, the goals of a block, or one of its steps, Done among them
 pub data Part : Type 0 where
   Head : (table : List Tree) (places : List Place) → Part
   Certificate : (links : List (LinkOf ℕ)) → Part
-  Goals : (goals : List Goal) (names : List (ℕ × ℕ)) → Part
+  Goals : (goals : List Goal) (names : List GoalNames) → Part
   Step : (step : ProofStep ℕ) → Part
 
 abbrev pub certificate_parts : List (List (LinkOf ℕ)) → List Part

@@ -1,19 +1,21 @@
--- The rules of circular coinduction on a list of hypotheses and a list of goals (`StepOf`): Simplify, Reduce, Derive and Done.
-use Rattle.std.specs.Prelude.{◌≡◌, ◌≤◌, ◌+◌, ◌^◌, ℕ, List, [], ◌∷◌, ◌++◌, map, length}
+-- The rules of circular coinduction on a list of hypotheses and a list of goals (`StepOf`): Simplify, Reduce, Derive, Cases and Done.
+use Rattle.std.specs.Prelude.{◌≡◌, ◌≤◌, ◌<◌, ◌+◌, ◌^◌, ℕ, List, [], ◌∷◌, ◌++◌, map, length, Some}
 use Rattle.std.specs.List.{AllByRecursion}
 use Rattle.circ_term.specs.Tree.{Tree, sort_of}
 use Rattle.circ_term.specs.Limits.{IsWithinLimits}
-use Rattle.circ_theory.specs.Theory.{Theory, Pair, Derivative, IsHidden}
+use Rattle.circ_theory.specs.Limits.{condition_limit}
+use Rattle.circ_theory.specs.Theory.{Theory, Pair, goal, sides, Derivative, CaseList, IsHidden}
+use Rattle.circ_theory.specs.Derivable.{is_case}
 use Rattle.circ_theory.specs.Experiment.{derived}
-use Rattle.circ_theory.specs.Observing.{parameters_in}
+use Rattle.circ_theory.specs.Observing.{parameters_in, cases_of, case_list}
 use Rattle.circ_theory.specs.declared.parts.Goal.{Goal}
 use Rattle.circ_special.specs.declared.place.Place.{Place}
 use Rattle.circ_proof.specs.Plain.{ChainOf, WhyOf, map_chain, map_why}
-use Rattle.circ_proof.specs.Goals.{goal, sides, AreSortedGoals}
+use Rattle.circ_proof.specs.Goals.{AreSortedGoals, with_cond}
 use Rattle.circ_proof.specs.Runs.{Runs}
 use Rattle.circ_proof.specs.Link.{setting, Leads}
 use Rattle.circ_proof.specs.Justified.{ChainLeads, Justified, AllOfChain, AllOfWhy}
-use Rattle.circ_theory.specs.Fresh.{fresh_after, numbered_from, derivatives_of}
+use Rattle.circ_theory.specs.Fresh.{fresh_in, numbered_from, derivatives_of}
 
 -- what is taken as proved, and what is still to be proved, in order
 pub record State : Type 0 where
@@ -31,12 +33,14 @@ pub data ProofStep (T : Type 0) : Type 0 where
   Simplify : (chain : ChainOf T) → ProofStep T
   Reduce : (why : WhyOf T) → ProofStep T
   Derive : ProofStep T
+  Cases : (term : T) → ProofStep T
   Done : ProofStep T
 
 abbrev pub map_step : {T U : Type 0} → (T → U) → ProofStep T → ProofStep U
 map_step f (Simplify chain) = Simplify (map_chain f chain)
 map_step f (Reduce why) = Reduce (map_why f why)
 map_step f Derive = Derive
+map_step f (Cases term) = Cases (f term)
 map_step f Done = Done
 
 -- each term that the step names has the property
@@ -44,15 +48,12 @@ abbrev pub AllOfStep : {T : Type 0} → (T → Type 0) → ProofStep T → Type 
 AllOfStep P (Simplify chain) = AllOfChain P chain
 AllOfStep P (Reduce why) = AllOfWhy P why
 AllOfStep P Derive = Unit {0}
+AllOfStep P (Cases term) = P term
 AllOfStep P Done = Unit {0}
 
--- one above the greatest variable number of a goal
-abbrev pub fresh_in : Goal → ℕ
-fresh_in g = fresh_after g.left g.right
-
--- the derivative on both sides of a goal, its parameters as variables numbered from k
+-- the derivative on both sides of a goal, its parameters as variables numbered from k; the conditions stay
 abbrev pub derived_goal : Derivative → Goal → ℕ → Goal
-derived_goal d g k = goal (derived d g.left (numbered_from k)) (derived d g.right (numbered_from k))
+derived_goal d g k = goal g.conds (derived d g.left (numbered_from k)) (derived d g.right (numbered_from k))
 
 -- the derivatives of a goal: that of each derivative of its sort, with fresh parameters
 abbrev pub derivatives_on : Theory → Goal → List Goal
@@ -64,17 +65,24 @@ pub record IsDerivable (g : Goal) (d : Derivative) : Type 0 where
   pub left : IsWithinLimits (derived d g.left (numbered_from (fresh_in g)))
   pub right : IsWithinLimits (derived d g.right (numbered_from (fresh_in g)))
 
--- Each rule but Done acts on the first goal. Simplify rewrites it, Reduce drops it where it is justified, Derive makes it a hypothesis and appends its
--- derivatives to the goals, and Done needs that no goal is left.
+-- the goal in each case of a term, in the list's order
+abbrev pub cases_on : Goal → (term : Tree) → CaseList → List Goal
+cases_on g u l = map (λ k. with_cond g (is_case u l k)) l.constants
+
+-- Each rule but Done acts on the first goal, with its conditions as assumptions. Simplify rewrites it, Reduce drops it where it is justified, Derive makes it
+-- a hypothesis and appends its derivatives to the goals, Cases puts in its place the goal in each case of a term, and Done needs that no goal is left.
 abbrev pub StepOn : Theory → List Place → ProofStep Tree → (hypotheses goals : List Goal) → State → Type 0
 StepOn th G (Simplify chain) H [] b = ⊥
 StepOn th G (Simplify chain) H (g ∷ gs) b =
-    (q : Pair) × ChainLeads (Leads (setting th G H [])) chain (sides g) q × (b ≡ state H (goal q.left q.right ∷ gs))
+    (q : Pair) × ChainLeads (Leads (setting th G H g.conds)) chain (sides g) q × (b ≡ state H (goal g.conds q.left q.right ∷ gs))
 StepOn th G (Reduce why) H [] b = ⊥
-StepOn th G (Reduce why) H (g ∷ gs) b = Justified (setting th G H []) (sides g) why × (b ≡ state H gs)
+StepOn th G (Reduce why) H (g ∷ gs) b = Justified (setting th G H g.conds) (sides g) why × (b ≡ state H gs)
 StepOn th G Derive H [] b = ⊥
 StepOn th G Derive H (g ∷ gs) b =
     IsHidden th (sort_of g.left) × AllByRecursion (IsDerivable g) (derivatives_of th (sort_of g.left)) × (b ≡ state (H ++ g ∷ []) (gs ++ derivatives_on th g))
+StepOn th G (Cases u) H [] b = ⊥
+StepOn th G (Cases u) H (g ∷ gs) b =
+    (ks : List ℕ) × (cases_of th (sort_of u) ≡ Some ks) × (length g.conds < condition_limit) × (b ≡ state H (cases_on g u (case_list (sort_of u) ks) ++ gs))
 StepOn th G Done H [] b = b ≡ state H []
 StepOn th G Done H (g ∷ gs) b = ⊥
 

@@ -1,9 +1,10 @@
 //! Proofs as data, and what they have to show.
 //!
-//! A [`Link`] records one step of rewriting, a [`Why`] a reason of the rule Reduce, a [`Step`] one
-//! step of circular coinduction; a [`Proof`] has a table of terms, the special set with its
-//! certificates, and the blocks. Contracts see them as plain data in which numbers stand for terms,
-//! or the terms themselves (`LinkOf`, `plain_state`, `plain_proof` of specs/).
+//! A [`Link`] records one step of rewriting, a [`Chain`] those on two sides, a [`Why`] a reason of
+//! the rule Reduce, a [`Step`] one step of circular coinduction; a link by an equation or a
+//! hypothesis with conditions has a chain for each of them. A [`Proof`] has a table of terms, the
+//! special set with its certificates, and the blocks. Contracts see them as plain data over numbers
+//! of terms, or over the terms themselves (`LinkOf`, `plain_state`, `plain_proof` of specs/).
 //!
 //! `Leads` says where a link leads, `Justified` what a reason shows, `StepOf` what a step does by
 //! the rules of circular coinduction, `Certified` what a certificate shows, `ProofFor` when a proof
@@ -15,7 +16,7 @@ mod proof;
 mod state;
 
 pub use links::{Chain, Link, Way, Why};
-pub use proof::{Block, Proof, Step};
+pub use proof::{Block, GoalNames, Proof, Step};
 pub use state::State;
 
 /// The most terms of a table.

@@ -7,9 +7,9 @@ use Rattle.circ_theory.specs.WellFormed.{IsWellFormed}
 use Rattle.circ_proof.specs.Proof.{Proof}
 use Rattle.circ_line.specs.Line.{TableLine, Line}
 use Rattle.circ_line.specs.Text.{line_text}
-use Rattle.circ_grammar.specs.Grammar.{proof_lines}
+use Rattle.circ_grammar.specs.Grammar.{NumberedTable, proof_lines}
 use Rattle.circ_grammar.specs.FirstBad.{file_text, IsTextOf}
-use Rattle.circ_grammar.specs.Machine.{State, begin, tabling, placing, certifying, opened, stepping, simplifying, reducing, closed, ended}
+use Rattle.circ_grammar.specs.Machine.{State, begin, tabling, placing, certifying, opened, stepping, simplifying, reducing, joining, closed, ended}
 use Rattle.circ_grammar.specs.Parts.{Head_part, NumberedPart, shown_by}
 use Rattle.circ_grammar.specs.Parts as grammar
 use Rattle.circ_grammar.specs.Shown.{shown}
@@ -40,23 +40,24 @@ handed_fit th bytes handed k s =
 
 -- a state that shows parts shows its table first
 abbrev ShowsTable : State → Type 0
-ShowsTable m = (ps : List (ℕ × ℕ)) × (xs : List NumberedPart) × (shown m ≡ Head_part (table_of m) ps ∷ xs)
+ShowsTable m = (t : NumberedTable) × (ps : List (ℕ × ℕ)) × (xs : List NumberedPart) × (shown m ≡ Head_part t ps ∷ xs) × (t.lines ≡ table_of m)
 
 shown_table : (m : State) → (shown m ≡ []) ⊎ ShowsTable m
 shown_table begin = inl refl
 shown_table (tabling es) = inl refl
 shown_table (placing es ps) = inl refl
-shown_table (certifying f ls) = inr (f.places, _, refl)
-shown_table (opened o) = inr (o.front.places, _, refl)
-shown_table (stepping o) = inr (o.front.places, _, refl)
-shown_table (simplifying o c) = inr (o.front.places, _, refl)
-shown_table (reducing o fs c) = inr (o.front.places, _, refl)
-shown_table (closed f bs) = inr (f.places, _, refl)
-shown_table (ended f bs) = inr (f.places, _, refl)
+shown_table (certifying f ls) = inr (f.table, f.places, _, refl, refl)
+shown_table (opened o) = inr (o.front.table, o.front.places, _, refl, refl)
+shown_table (stepping o) = inr (o.front.table, o.front.places, _, refl, refl)
+shown_table (simplifying o c) = inr (o.front.table, o.front.places, _, refl, refl)
+shown_table (reducing o fs c) = inr (o.front.table, o.front.places, _, refl, refl)
+shown_table (joining m c) = shown_table m
+shown_table (closed f bs) = inr (f.table, f.places, _, refl, refl)
+shown_table (ended f bs) = inr (f.table, f.places, _, refl, refl)
 
 table_in : List NumberedPart → List TableLine
 table_in [] = []
-table_in (Head_part es ps ∷ xs) = es
+table_in (Head_part es ps ∷ xs) = es.lines
 table_in (x ∷ xs) = []
 
 module _ (th : Theory) (bytes later : List ℕ) (handed : List Part) (k : Reading) (p : Proof) (w : IsWellFormed th) where
@@ -105,8 +106,8 @@ module _ (th : Theory) (bytes later : List ℕ) (handed : List Part) (k : Readin
 
       go : (shown s.state ≡ []) ⊎ ShowsTable s.state → map (part_with p.table) (shown s.state) ≡ map (part_with k.seen.terms) (shown s.state)
       go (inl none) = ap (map (part_with p.table)) none ∙ ap (map (part_with k.seen.terms)) (sym none)
-      go (inr (ps, ys, some)) =
-          let lines : entries_of [] p.table ≡ table_of s.state = ap table_in e ∙ ap (λ x. table_in (x ++ xs)) some in
+      go (inr (h, ps, ys, some, same)) =
+          let lines : entries_of [] p.table ≡ table_of s.state = ap table_in e ∙ ap (λ x. table_in (x ++ xs)) some ∙ same in
           let own : p.table ≡ k.seen.terms
           = one_table th.signature [] p.table k.seen.terms r.proof_for.entries t.entries r.proof_for.sorted t.sorted (lines ∙ sym t.lines) in
           ap (λ x. map (part_with x) (shown s.state)) own

@@ -6,8 +6,8 @@ use Rattle.std.proofs.lemmas.List.{map-append}
 use Rattle.circ_term.specs.Tree.{Tree}
 use Rattle.circ_theory.specs.Theory.{Theory}
 use Rattle.circ_proof.specs.Plain.{LinkOf}
-use Rattle.circ_proof.specs.Rules.{ProofStep, Simplify, Reduce, Derive, Done}
-use Rattle.circ_proof.specs.Proof.{Block, Proof, goal_of, IsEnded, IsBlockFor, ProofFor}
+use Rattle.circ_proof.specs.Rules.{ProofStep, Simplify, Reduce, Derive, Cases, Done}
+use Rattle.circ_proof.specs.Proof.{Block, Proof, goal_at, IsEnded, IsBlockFor, ProofFor}
 use Rattle.circ_grammar.specs.Parts.{Head_part, Certificate_part, Goals_part, Step_part, Done_part}
 use Rattle.circ_grammar.specs.Parts as grammar
 use Rattle.circ_grammar.specs.Now.{with_table}
@@ -23,19 +23,21 @@ steps_with ts (Done ∷ []) h = refl
 steps_with ts (Simplify c ∷ []) h = absurd (cc)
 steps_with ts (Reduce w ∷ []) h = absurd (cc)
 steps_with ts (Derive ∷ []) h = absurd (cc)
+steps_with ts (Cases u ∷ []) h = absurd (cc)
 steps_with ts (Done ∷ s ∷ ss) h = absurd (h.0 refl)
 steps_with ts (Simplify c ∷ s ∷ ss) h = ap (λ x. Step (Simplify c) ∷ x) (steps_with ts (s ∷ ss) h.1)
 steps_with ts (Reduce w ∷ s ∷ ss) h = ap (λ x. Step (Reduce w) ∷ x) (steps_with ts (s ∷ ss) h.1)
 steps_with ts (Derive ∷ s ∷ ss) h = ap (λ x. Step Derive ∷ x) (steps_with ts (s ∷ ss) h.1)
+steps_with ts (Cases u ∷ s ∷ ss) h = ap (λ x. Step (Cases u) ∷ x) (steps_with ts (s ∷ ss) h.1)
 
-blocks_with : (ts : List Tree) (bs : List Block) → AllByRecursion (IsBlockFor ts) bs
+blocks_with : (th : Theory) (ts : List Tree) (bs : List Block) → AllByRecursion (IsBlockFor th ts) bs
     → map (part_with ts) (grammar.blocks_parts (map block_numbers bs)) ≡ block_parts bs
-blocks_with ts [] h = refl
-blocks_with ts (b ∷ bs) h =
+blocks_with th ts [] h = refl
+blocks_with th ts (b ∷ bs) h =
     map-append (part_with ts) (grammar.block_parts (block_numbers b)) (grammar.blocks_parts (map block_numbers bs))
-    ∙ ap (λ x. (Goals (map (goal_of ts) b.names) b.names ∷ map (part_with ts) (grammar.step_parts (without_done b.steps) ++ Done_part ∷ [])) ++ x)
-    (blocks_with ts bs h.1)
-    ∙ ap (λ x. Goals (map (goal_of ts) b.names) b.names ∷ x ++ block_parts bs) (steps_with ts b.steps h.0.ended)
+    ∙ ap (λ x. (Goals (map (goal_at ts) b.names) b.names ∷ map (part_with ts) (grammar.step_parts (without_done b.steps) ++ Done_part ∷ [])) ++ x)
+    (blocks_with th ts bs h.1)
+    ∙ ap (λ x. Goals (map (goal_at ts) b.names) b.names ∷ x ++ block_parts bs) (steps_with ts b.steps h.0.ended)
     ∙ ap (λ x. Goals x b.names ∷ step_parts b.steps ++ block_parts bs) (sym h.0.goals)
 
 certificates_with : (ts : List Tree) (cs : List (List (LinkOf ℕ))) → map (part_with ts) (grammar.certificate_parts cs) ≡ certificate_parts cs
@@ -48,7 +50,7 @@ parts_are th p f =
     ap (λ x. Head p.table (map place_with (map place_numbers p.places)) ∷ x)
     (map-append (part_with p.table) (grammar.certificate_parts p.certificates) (grammar.blocks_parts (map block_numbers p.blocks))
     ∙ ap (λ x. x ++ map (part_with p.table) (grammar.blocks_parts (map block_numbers p.blocks))) (certificates_with p.table p.certificates)
-    ∙ ap (λ x. certificate_parts p.certificates ++ x) (blocks_with p.table p.blocks f.blocks))
+    ∙ ap (λ x. certificate_parts p.certificates ++ x) (blocks_with th p.table p.blocks f.blocks))
     ∙ ap (λ x. Head p.table x ∷ certificate_parts p.certificates ++ block_parts p.blocks) (places_again p.places)
 
 -- What stands for the table in a part does not matter.
@@ -82,6 +84,7 @@ steps_gathered g (Done ∷ []) k h = refl
 steps_gathered g (Simplify c ∷ []) k h = absurd (cc)
 steps_gathered g (Reduce w ∷ []) k h = absurd (cc)
 steps_gathered g (Derive ∷ []) k h = absurd (cc)
+steps_gathered g (Cases u ∷ []) k h = absurd (cc)
 steps_gathered g (Done ∷ s ∷ ss) k h = absurd (h.0 refl)
 steps_gathered g (Simplify c ∷ s ∷ ss) k h =
     steps_gathered (record g { steps = g.steps ++ Simplify c ∷ [] }) (s ∷ ss) k h.1
@@ -92,26 +95,29 @@ steps_gathered g (Reduce w ∷ s ∷ ss) k h =
 steps_gathered g (Derive ∷ s ∷ ss) k h =
     steps_gathered (record g { steps = g.steps ++ Derive ∷ [] }) (s ∷ ss) k h.1
     ∙ ap (λ x. gather_all (with_block g x) k) (append_assoc g.steps (Derive ∷ []) (s ∷ ss))
+steps_gathered g (Cases u ∷ s ∷ ss) k h =
+    steps_gathered (record g { steps = g.steps ++ Cases u ∷ [] }) (s ∷ ss) k h.1
+    ∙ ap (λ x. gather_all (with_block g x) k) (append_assoc g.steps (Cases u ∷ []) (s ∷ ss))
 
 abbrev closed_with : Gathered → List Block → Gathered
 closed_with g bs = record g { blocks = g.blocks ++ bs; goals = []; names = []; steps = [] }
 
-blocks_gathered : (ts : List Tree) (g : Gathered) (bs : List Block) → AllByRecursion (IsBlockFor ts) bs → g.goals ≡ [] → g.names ≡ [] → g.steps ≡ []
+blocks_gathered : (th : Theory) (ts : List Tree) (g : Gathered) (bs : List Block) → AllByRecursion (IsBlockFor th ts) bs → g.goals ≡ [] → g.names ≡ [] → g.steps ≡ []
     → gather_all g (block_parts bs) ≡ closed_with g bs
-blocks_gathered ts g [] h a b c =
+blocks_gathered th ts g [] h a b c =
     ap (λ x. record g { blocks = x }) (sym (append-nil g.blocks)) ∙ ap (λ x. record g { blocks = g.blocks ++ []; goals = x }) a
     ∙ ap (λ x. record g { blocks = g.blocks ++ []; goals = []; names = x }) b
     ∙ ap (λ x. record g { blocks = g.blocks ++ []; goals = []; names = []; steps = x }) c
-blocks_gathered ts g (b ∷ bs) h x y z =
+blocks_gathered th ts g (b ∷ bs) h x y z =
     steps_gathered (record g { goals = b.goals; names = b.names; steps = [] }) b.steps (block_parts bs) h.0.ended
-    ∙ blocks_gathered ts (record g { blocks = g.blocks ++ b ∷ []; goals = []; names = []; steps = [] }) bs h.1 refl refl refl
+    ∙ blocks_gathered th ts (record g { blocks = g.blocks ++ b ∷ []; goals = []; names = []; steps = [] }) bs h.1 refl refl refl
     ∙ ap (λ k. record g { blocks = k; goals = []; names = []; steps = [] }) (append_assoc g.blocks (b ∷ []) bs)
 
 -- The parts of a proof give it back.
 pub parts_gathered : (th : Theory) (p : Proof) → ProofFor th p → gather_all nothing_gathered (parts_of p) ≡ gathered p
 parts_gathered th p f =
     certificates_gathered (gather nothing_gathered (Head p.table p.places)) p.certificates (block_parts p.blocks)
-    ∙ blocks_gathered p.table
+    ∙ blocks_gathered th p.table
     (record { table = p.table; places = p.places; certificates = p.certificates; blocks = []; goals = []; names = []; steps = [] })
     p.blocks f.blocks refl refl refl
 

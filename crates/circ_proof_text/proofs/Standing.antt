@@ -6,8 +6,8 @@ use Rattle.std.proofs.lemmas.Option.{same_Some}
 use Rattle.circ_theory.specs.Theory.{Theory}
 use Rattle.circ_proof.specs.Plain.{ChainOf}
 use Rattle.circ_proof.specs.Proof.{Proof}
-use Rattle.circ_line.specs.Line.{Line, table_line, head_line, place_line, certificate_line, block_line, goal_line, simplify_line, reduce_line}
-use Rattle.circ_line.specs.Line.{derive_line, done_line, same_line, split_line, left_line, right_line, end_line}
+use Rattle.circ_line.specs.Line.{Line, table_line, head_line, place_line, certificate_line, block_line, goal_line, given_line, simplify_line}
+use Rattle.circ_line.specs.Line.{reduce_line, derive_line, cases_line, done_line, same_line, split_line, if_line, left_line, right_line, end_line}
 use Rattle.circ_line.specs.Text.{line_text, IsInRange}
 use Rattle.circ_line.specs.Plain.{NoFeed, ReadsLine}
 use Rattle.circ_grammar.specs.Grammar.{NumberedBlock}
@@ -27,7 +27,7 @@ use Rattle.circ_proof_text.proofs.TableText.{one_table}
 use Rattle.circ_proof_text.proofs.Fine.{AllFine}
 use Rattle.circ_proof_text.proofs.FineFronts.{HaveTerms}
 use Rattle.circ_proof_text.proofs.ProofText.{after_all-append, fine_lines, text_reads}
-use Rattle.circ_proof_text.proofs.SeenTerms.{table_of, is_of_table, same_terms, lines_terms}
+use Rattle.circ_proof_text.proofs.SeenTerms.{table_of, version_of, is_of_table, same_terms, lines_terms, lines_version}
 use Rattle.circ_proof_text.proofs.Parts.{parts_are, any_table}
 use Rattle.circ_proof_text.proofs.Wanted.{wants, wants_of, lines_wanted}
 
@@ -72,17 +72,20 @@ shows th c m n (table_line x) e = go m e
     go : (m : State) → on_table m x ≡ Some n → map (part_with (after th c (table_line x)).terms) (shown n) ≡ map (part_with c.terms) (shown m) ++ []
     go (tabling es) e = ap (λ y. map (part_with (after th c (table_line x)).terms) (shown y)) (sym (same_Some _ n e))
     go _ e = absurd (cc)
-shows th c m n head_line e = others th c m n head_line refl e
+shows th c m n (head_line v) e = others th c m n (head_line v) refl e
 shows th c m n (place_line a b) e = others th c m n (place_line a b) refl e
 shows th c m n certificate_line e = others th c m n certificate_line refl e
 shows th c m n block_line e = others th c m n block_line refl e
 shows th c m n (goal_line a b) e = others th c m n (goal_line a b) refl e
+shows th c m n (given_line a b) e = others th c m n (given_line a b) refl e
 shows th c m n simplify_line e = others th c m n simplify_line refl e
 shows th c m n reduce_line e = others th c m n reduce_line refl e
 shows th c m n derive_line e = others th c m n derive_line refl e
+shows th c m n (cases_line t) e = others th c m n (cases_line t) refl e
 shows th c m n done_line e = others th c m n done_line refl e
 shows th c m n same_line e = others th c m n same_line refl e
 shows th c m n (split_line a b) e = others th c m n (split_line a b) refl e
+shows th c m n if_line e = others th c m n if_line refl e
 shows th c m n (left_line l) e = others th c m n (left_line l) refl e
 shows th c m n (right_line l) e = others th c m n (right_line l) refl e
 shows th c m n end_line e = others th c m n end_line refl e
@@ -142,9 +145,15 @@ standing_terms th bytes handed k s =
     let P : Seen → Type 0 = λ c. HaveTerms th [] (table_of s.state) c.terms in
     subst P (sym s.seen) (lines_terms th s.state s.whole_lines s.fed.at.state fine)
 
+-- the version is the one that the first line has named
+standing_version : (th : Theory) (bytes : List ℕ) (handed : List Part) (k : Reading) (s : StandsFor th bytes handed k) → k.seen.version ≡ version_of s.state
+standing_version th bytes handed k s =
+    let fine : AllFine th nothing s.whole_lines = fine_lines th [] s.whole_lines s.fed.at.fit s.fed.at.pass s.fed.at.within in
+    ap (λ c. c.version) s.seen ∙ lines_version th s.state s.whole_lines s.fed.at.state fine
+
 -- The bytes are at their end, and whole: they read as a proof, and the parts are its parts.
 pub ends : (th : Theory) (bytes : List ℕ) (handed : List Part) (k : Reading) → StandsFor th bytes handed k → k.rest ≡ [] → k.under_way ≡ Ended
-    → (p : Proof) × ReadsAsProof th bytes p × (handed ++ k.waiting ≡ parts_of p)
+    → (p : Proof) × ReadsAsProof th bytes p × (handed ++ k.waiting ≡ parts_of p) × (p.version ≡ k.seen.version)
 ends th bytes handed k s r u =
     let w = fed_whole (line_tests th) bytes s.whole_lines s.state (kept k) s.fed r u in
     let f : Front = w.0 in
@@ -153,11 +162,12 @@ ends th bytes handed k s r u =
     let t : HaveTerms th [] (table_of s.state) k.seen.terms = standing_terms th bytes handed k s in
     let own : k.seen.terms ≡ p.0.table
     = one_table th.signature [] k.seen.terms p.0.table t.entries p.1.proof_for.entries t.sorted p.1.proof_for.sorted
-    (t.lines ∙ ap table_of w.2 ∙ sym (ap (λ x. x.table) p.2)) in (
+    (t.lines ∙ ap table_of w.2 ∙ sym (ap (λ x. x.table.lines) p.2)) in (
       p.0,
       p.1,
       sym s.parts ∙ ap (λ x. map (part_with x) (shown s.state)) own ∙ ap (λ x. map (part_with p.0.table) (shown x)) w.2
           ∙ ap (λ x. map (part_with p.0.table) (grammar.parts_of x)) (sym p.2) ∙ parts_are th p.0 p.1.proof_for,
+      ap (λ x. x.table.version) p.2 ∙ sym (standing_version th bytes handed k s ∙ ap version_of w.2),
     )
 
 -- The bytes are at their end, and not whole.
@@ -176,7 +186,7 @@ one_standing th bytes xs ys k j a b =
 -- The whys that open splits still want are those of the part under way.
 pub standing_wanted : (th : Theory) (bytes : List ℕ) (handed : List Part) (k : Reading) → StandsFor th bytes handed k → k.seen.wanted ≡ wants_of k.under_way
 standing_wanted th bytes handed k s =
-    ap (λ c. c.wanted) s.seen ∙ lines_wanted th nothing begin s.state s.whole_lines tt s.fed.at.state refl ∙ ap wants_of s.fed.part
+    ap (λ c. c.wanted) s.seen ∙ lines_wanted th s.state s.whole_lines s.fed.at.state ∙ ap wants_of s.fed.part
 
 -- as many splits are open as the part under way has
 pub open_splits : (th : Theory) (bytes : List ℕ) (handed : List Part) (k : Reading) → StandsFor th bytes handed k → (fs : List OpenSplit) (c : ChainOf ℕ)

@@ -1,7 +1,8 @@
 -- The texts of examples.
 use Rattle.std.specs.Prelude.{◌≡◌, ℕ, List, [], ◌∷◌, ◌++◌, codes, refl, Some, map}
-use Rattle.std.proofs.Common.{sym, ◌∙◌, ap, arith}
+use Rattle.std.proofs.Common.{sym, ◌∙◌, ap, arith, inl, inr, true≢false}
 use Rattle.circ_theory.specs.Examples.{streams}
+use Rattle.circ_theory.proofs.Casing.{hidden_tells}
 use Rattle.circ_proof.specs.Proof.{ProofFor}
 use Rattle.circ_line.specs.Line.{Line, Variable_line, table_line, head_line}
 use Rattle.circ_line.specs.Read.{line_of}
@@ -11,7 +12,7 @@ use Rattle.circ_grammar.specs.FirstBad.{file_text, Line_fault}
 use Rattle.circ_grammar.specs.Now.{Tabling}
 use Rattle.circ_proof_text.specs.ProofText.{numbers_of, proof_text, FirstCause}
 use Rattle.circ_proof_text.specs.Reading.{nothing_read, StandsFor, after_line}
-use Rattle.circ_proof_text.specs.Examples.{zips, zips_text, sums, sums_text, itself}
+use Rattle.circ_proof_text.specs.Examples.{zips, zips_text, sums, sums_text, given_bit, given_bit_text, itself, itself_given}
 use Rattle.circ_proof_text.proofs.Standing.{starts, takes_line, faults_check}
 
 abbrev with_feeds : List (List ℕ) → List ℕ
@@ -53,8 +54,20 @@ pub sums_written : proof_text sums ≡ sums_text
 unfolding sums_lines
 sums_written = texts_are sums_lines (proof_lines (numbers_of sums)) refl
 
+given_bit_lines : List (List ℕ)
+given_bit_lines =
+    codes "circproof 2" ∷ codes "v 0 1" ∷ codes "v 0 0" ∷ codes "a 1" ∷ codes "a 7 0"
+    ∷ codes "block" ∷ codes "goal 3 0" ∷ codes "given 1 2" ∷ codes "cases 1"
+    ∷ codes "reduce" ∷ codes "left equation > 9 - 0 1" ∷ codes "if" ∷ codes "left assumption > 0 -" ∷ codes "same" ∷ codes "same"
+    ∷ codes "done" ∷ codes "end" ∷ []
+
+pub given_bit_written : proof_text given_bit ≡ given_bit_text
+unfolding given_bit_lines
+given_bit_written = texts_are given_bit_lines (proof_lines (numbers_of given_bit)) refl
+
 pub itself_fits : ProofFor streams itself
 itself_fits = record {
+  version = inl (refl, record { certificates = tt; blocks = (record { names = (refl, tt); steps = (tt, ((tt, tt), (tt, tt))) }, tt) });
   sorted = (omega arith, tt);
   within = (refl, tt);
   entries = (omega arith, tt);
@@ -66,7 +79,40 @@ itself_fits = record {
   blocks = (
     record {
       some_goal = λ e. absurd (cc);
-      names = (record { left = omega arith; right = omega arith; same_sort = refl }, tt);
+      names = (record { left = omega arith; right = omega arith; same_sort = refl; conds = tt; few_conds = omega arith }, tt);
+      goals = refl;
+      steps = (tt, ((tt, tt), (tt, tt)));
+      ended = ((λ e. absurd (cc)), ((λ e. absurd (cc)), refl));
+    },
+    tt,
+  );
+  few_steps = omega arith;
+}
+
+pub itself_given_fits : ProofFor streams itself_given
+itself_given_fits = record {
+  version = inr refl;
+  sorted = (omega arith, (omega arith, tt));
+  within = (refl, (refl, tt));
+  entries = (omega arith, (omega arith, tt));
+  short_table = omega arith;
+  places = record { increasing = tt; places = tt };
+  one_each = refl;
+  certificates = tt;
+  some_block = λ e. absurd (cc);
+  blocks = (
+    record {
+      some_goal = λ e. absurd (cc);
+      names = (
+        record {
+          left = omega arith;
+          right = omega arith;
+          same_sort = refl;
+          conds = (record { left = omega arith; right = omega arith; same_sort = refl; visible = λ h. true≢false (sym ((hidden_tells streams 0).1 h)) }, tt);
+          few_conds = omega arith;
+        },
+        tt,
+      );
       goals = refl;
       steps = (tt, ((tt, tt), (tt, tt)));
       ended = ((λ e. absurd (cc)), ((λ e. absurd (cc)), refl));
@@ -79,7 +125,7 @@ itself_fits = record {
 -- The second line of these bytes names a sort that there is not, whatever comes later.
 pub no_sort : (later : List ℕ) → FirstCause streams (codes "circproof 1\nv 0 2\n" ++ later) (Line_fault 2)
 no_sort later =
-    let head : StandsFor streams (codes "circproof 1\n") [] (after_line streams nothing_read head_line Tabling)
-    = takes_line streams [] (codes "circproof 1") [] nothing_read head_line Tabling (starts streams) tt refl refl refl refl in
-    faults_check streams (codes "circproof 1\n") (codes "v 0 2") later [] (after_line streams nothing_read head_line Tabling)
+    let head : StandsFor streams (codes "circproof 1\n") [] (after_line streams nothing_read (head_line 1) Tabling)
+    = takes_line streams [] (codes "circproof 1") [] nothing_read (head_line 1) Tabling (starts streams) (omega arith, omega arith) (line_gives (codes "circproof 1") (head_line 1) refl).0 refl refl refl in
+    faults_check streams (codes "circproof 1\n") (codes "v 0 2") later [] (after_line streams nothing_read (head_line 1) Tabling)
     (table_line (Variable_line 0 2)) head (omega arith, (omega arith, tt)) (line_gives (codes "v 0 2") (table_line (Variable_line 0 2)) refl).0 refl

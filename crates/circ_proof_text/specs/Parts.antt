@@ -5,10 +5,10 @@ use Rattle.circ_theory.specs.declared.parts.Goal.{Goal}
 use Rattle.circ_special.specs.declared.place.Place.{Place}
 use Rattle.circ_special.specs.Special.{place}
 use Rattle.circ_proof.specs.Plain.{LinkOf}
-use Rattle.circ_proof.specs.Rules.{ProofStep, Simplify, Reduce, Derive, Done}
-use Rattle.circ_proof.specs.Proof.{Block, Proof, goal_of}
+use Rattle.circ_proof.specs.Rules.{ProofStep, Simplify, Reduce, Derive, Cases, Done}
+use Rattle.circ_proof.specs.Proof.{GoalNames, Block, Proof, goal_at}
 pub use Rattle.circ_proof.specs.Parts.{Part, Head, Certificate, Goals, Step, certificate_parts, step_parts, block_parts, parts_of}
-use Rattle.circ_grammar.specs.Grammar.{NumberedStep, Simplify_step, Reduce_step, Derive_step}
+use Rattle.circ_grammar.specs.Grammar.{NumberedStep, Simplify_step, Reduce_step, Derive_step, Cases_step}
 use Rattle.circ_grammar.specs.Parts.{PartOf, Head_part, Certificate_part, Goals_part, Step_part, Done_part}
 
 -- the place that two numbers name
@@ -19,12 +19,13 @@ abbrev pub step_with : NumberedStep → ProofStep ℕ
 step_with (Simplify_step chain) = Simplify chain
 step_with (Reduce_step why) = Reduce why
 step_with Derive_step = Derive
+step_with (Cases_step term) = Cases term
 
 -- a part as lines show it, with the terms of the table
 abbrev pub part_with : {T : Type 0} → List Tree → PartOf T → Part
 part_with table (Head_part lines places) = Head table (map place_with places)
 part_with table (Certificate_part links) = Certificate links
-part_with table (Goals_part names) = Goals (map (goal_of table) names) names
+part_with table (Goals_part names) = Goals (map (goal_at table) names) names
 part_with table (Step_part step) = Step (step_with step)
 part_with table Done_part = Step Done
 
@@ -35,7 +36,7 @@ pub record Gathered : Type 0 where
   pub certificates : List (List (LinkOf ℕ))
   pub blocks : List Block
   pub goals : List Goal
-  pub names : List (ℕ × ℕ)
+  pub names : List GoalNames
   pub steps : List (ProofStep ℕ)
 
 -- a whole proof, with no block that is not ended

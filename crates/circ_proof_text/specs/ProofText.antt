@@ -2,9 +2,9 @@
 use Rattle.std.specs.Prelude.{◌≡◌, ℕ, List, [], ◌∷◌, map}
 use Rattle.circ_theory.specs.Theory.{Theory}
 use Rattle.circ_special.specs.declared.place.Place.{Place}
-use Rattle.circ_proof.specs.Rules.{ProofStep, Simplify, Reduce, Derive, Done}
+use Rattle.circ_proof.specs.Rules.{ProofStep, Simplify, Reduce, Derive, Cases, Done}
 use Rattle.circ_proof.specs.Proof.{Block, Proof, ProofFor}
-use Rattle.circ_grammar.specs.Grammar.{NumberedStep, Simplify_step, Reduce_step, Derive_step, NumberedBlock, NumberedProof, proof_lines}
+use Rattle.circ_grammar.specs.Grammar.{NumberedStep, Simplify_step, Reduce_step, Derive_step, Cases_step, NumberedBlock, NumberedProof, proof_lines}
 use Rattle.circ_grammar.specs.FirstBad.{LineTests, file_text, LineFault, IsFirstFault}
 use Rattle.circ_proof_text.specs.TableText.{entries_of}
 use Rattle.circ_proof_text.specs.Checks.{nothing, after_all, passes_at, limit_at}
@@ -15,6 +15,7 @@ without_done [] = []
 without_done (Simplify chain ∷ ss) = Simplify_step chain ∷ without_done ss
 without_done (Reduce why ∷ ss) = Reduce_step why ∷ without_done ss
 without_done (Derive ∷ ss) = Derive_step ∷ without_done ss
+without_done (Cases term ∷ ss) = Cases_step term ∷ without_done ss
 without_done (Done ∷ ss) = without_done ss
 
 abbrev pub block_numbers : Block → NumberedBlock
@@ -26,7 +27,7 @@ place_numbers g = (g.op, g.arg)
 -- the proof as its lines write it
 abbrev pub numbers_of : Proof → NumberedProof
 numbers_of p = record {
-  table = entries_of [] p.table;
+  table = record { version = p.version; lines = entries_of [] p.table };
   places = map place_numbers p.places;
   certificates = p.certificates;
   blocks = map block_numbers p.blocks;

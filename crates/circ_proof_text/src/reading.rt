@@ -1,11 +1,11 @@
 //! What is proved of a reader that is fed a proof's text in pieces. The functions do nothing: a law
 //! is a contract.
-ghost use Rattle.std.specs.Prelude.{◌≡◌, ℕ, ◌+◌, true, false, List, [], ◌∷◌, ◌++◌};
+ghost use Rattle.std.specs.Prelude.{◌≡◌, ◌⊎◌, ℕ, ◌+◌, true, false, List, [], ◌∷◌, ◌++◌};
 ghost use Rattle.std.specs.Prelude.{length, map, Some, None};
 ghost use Rattle.circ_theory.specs.Theory.{Theory};
 ghost use Rattle.circ_theory.specs.WellFormed.{IsWellFormed};
 ghost use Rattle.circ_proof.specs.Plain.{ChainOf};
-ghost use Rattle.circ_proof.specs.Proof.{Proof, ProofFor};
+ghost use Rattle.circ_proof.specs.Proof.{Proof, IsPlain, ProofFor};
 ghost use Rattle.circ_proof.specs.Rules.{Done};
 ghost use Rattle.circ_line.specs.Line.{Line};
 ghost use Rattle.circ_line.specs.Text.{line_text, IsInRange};
@@ -24,7 +24,8 @@ ghost use Rattle.circ_proof_text.specs.Reading.{Reading, kept, nothing_read, Sta
 ghost use Rattle.circ_proof_text.specs.Reading.{after_line};
 
 /// The parts of a proof are those that its lines show, with the terms of its table. They fit, end
-/// with a Done, and give the proof back. Where parts fit and end so, their proof fits.
+/// with a Done, and give the proof back. Where parts fit and end so, their
+/// proof fits, in version 2, or in version 1 where it is as that asks.
 pub fn parts_make_the_proof()
     ensures shown { (th : Theory) (p : Proof) → ProofFor th p →
         map (part_with p.table) (grammar.parts_of (numbers_of p)) ≡ parts_of p }
@@ -35,6 +36,7 @@ pub fn parts_make_the_proof()
     ensures last { (th : Theory) (p : Proof) → ProofFor th p →
         (xs : List Part) × (parts_of p ≡ xs ++ Step Done ∷ []) }
     ensures whole { (th : Theory) (p : Proof) (xs : List Part) →
+        ((p.version ≡ 1) × IsPlain p) ⊎ (p.version ≡ 2) →
         Fit th (parts_of p) → parts_of p ≡ xs ++ Step Done ∷ [] → ProofFor th p }
 {}
 
@@ -76,12 +78,13 @@ pub fn line_is_at_fault()
         FirstCause th ((bytes ++ (piece ++ (10 ∷ []))) ++ later) (Limit_fault (k.lines + 1)) }
 {}
 
-/// At the end of the bytes they read as a proof, of which the parts are all, or the next line is at
-/// fault.
+/// At the end of the bytes they read as a proof of the version seen, of which the parts are all, or
+/// the next line is at fault.
 pub fn reading_ends()
     ensures whole { (th : Theory) (bytes : List ℕ) (handed : List Part) (k : Reading) →
         StandsFor th bytes handed k → k.rest ≡ [] → k.under_way ≡ Ended →
-        (p : Proof) × ReadsAsProof th bytes p × (handed ++ k.waiting ≡ parts_of p) }
+        (p : Proof) × ReadsAsProof th bytes p × (handed ++ k.waiting ≡ parts_of p)
+        × (p.version ≡ k.seen.version) }
     ensures broken_off { (th : Theory) (bytes : List ℕ) (handed : List Part) (k : Reading) →
         StandsFor th bytes handed k → (k.rest ≡ [] → k.under_way ≡ Ended → ⊥) →
         FirstCause th bytes (Line_fault (k.lines + 1)) }

@@ -1,20 +1,21 @@
 -- What the reader's functions come to is what a statement adds, or why it is refused.
-use Rattle.std.proofs.Common.{◌≡◌, ℕ, List, [], ◌∷◌, Bool, Option, Some, None, Result, Ok, Err, inl, inr, refl, sym, subst}
+use Rattle.std.proofs.Common.{◌≡◌, ℕ, List, [], ◌∷◌, Bool, Option, Some, None, Result, Ok, Err, inl, inr, refl, ap, sym, ◌∙◌, subst}
 use Rattle.circ_term.specs.Tree.{Tree}
 use Rattle.circ_theory.specs.declared.fault.TheoryFault.{TheoryFault}
 use Rattle.circ_theory.specs.Theory.{Theory}
 use Rattle.circ_theory.specs.Adding.{sort_number, sort_fault, equation_fault, with_sort}
 use Rattle.circ_theory.specs.Observing.{derivative_fault, cases_fault, with_cases}
-use Rattle.circ_statement.specs.Said.{Said, inclusion, sorts, operators, variables, equation, derivative, cases}
+use Rattle.circ_statement.specs.Said.{Said, SaidSides, inclusion, sorts, operators, variables, equation, derivative, cases}
 use Rattle.circ_read.specs.declared.cause.Cause.{Cause}
 use Rattle.circ_read.specs.declared.cause.Cause.TheVariants.{UnknownSort, NoParse}
 use Rattle.circ_read.specs.declared.cause.Fault.{Fault}
 use Rattle.circ_read.specs.declared.cause.Fault.TheVariants.{Because, Memory}
 use Rattle.circ_read.specs.Causes.{cause_of}
-use Rattle.circ_read.specs.Adding.{AddsStatement, AddsAll, AddsEquation, AddsDerivative, first_fault, sort_numbers, constant_numbers, variable_fault, with_variable, operator_fault, with_operator, ReadsAlone, long_sides, ReadsSides, ReadsHole}
-use Rattle.circ_mixfix.specs.Answers.{long_count}
-use Rattle.circ_read.specs.Refusing.{RefusesStatement, IsCauseOf, LacksOr, ReadsNotAlone, terms_text}
-use Rattle.circ_read.specs.Outcomes.{adds, followed_by, all_added, or_cause, sort_named, constants_named, equation_added, derivative_added, ComesTo}
+use Rattle.circ_read.specs.Adding.{AddsStatement, AddsAll, AddsEquation, AddsDerivative, first_fault, sort_numbers, constant_numbers, variable_fault, with_variable, operator_fault, with_operator, ReadsAlone, equation_lists, ReadsEquation, ReadsHole}
+use Rattle.circ_read.proofs.GoalTerms.{goal_read}
+use Rattle.circ_mixfix.specs.Answers.{long_count, first_long}
+use Rattle.circ_read.specs.Refusing.{RefusesStatement, RefusesEquation, IsCauseOf, LacksOr, ReadsNotAlone, terms_text}
+use Rattle.circ_read.specs.Outcomes.{adds, followed_by, all_added, or_cause, sort_named, constants_named, goal_added, equation_added, derivative_added, ComesTo}
 use Rattle.circ_read.specs.Steps.{StepAnswers, SaidOutcome}
 
 module _ {A : Type 0} (fault : Theory → A → Option TheoryFault) (with_one : Theory → A → Theory) where
@@ -60,18 +61,23 @@ lacking None missing f Has c each e = let s : c ≡ missing = cc in s
 lacking (Some a) missing f Has c each e = each a e
 
 module _ (th : Theory) where
-  module _ (left right : List (List ℕ)) (exec : Bool) where
-    sides_ok : (ts : List Tree) (u : Theory) → ReadsAlone (long_sides left right) (ReadsSides th left right) ts → Ok u ≡ equation_added th exec ts → AddsEquation th left right exec u
-    sides_ok [] u h e = absurd (cc)
-    sides_ok (t ∷ []) u h e = absurd (cc)
-    sides_ok (t ∷ s ∷ []) u h e = let p = one_ok (equation_fault th) _ u e in record { first = t; second = s; alone = h; no_fault = p.0; is = p.1 }
-    sides_ok (t ∷ s ∷ r ∷ ts) u h e = absurd (cc)
+  module _ (left right : List (List ℕ)) (conds : List SaidSides) (exec : Bool) where
+    abbrev lists : List (List (List ℕ))
+    lists = equation_lists left right conds
 
-    sides_err : (ts : List Tree) (c : Cause) → ReadsAlone (long_sides left right) (ReadsSides th left right) ts → Err c ≡ equation_added th exec ts → IsCauseOf (equation_fault th) c
-    sides_err [] c h e = absurd (let z = h.reads.2 in cc)
-    sides_err (t ∷ []) c h e = absurd (let z = h.reads.2 in cc)
-    sides_err (t ∷ s ∷ []) c h e = one_err (equation_fault th) _ c e
-    sides_err (t ∷ s ∷ r ∷ ts) c h e = absurd (let z = h.reads.2 in cc)
+    abbrev Alone : List Tree → Type 0
+    Alone ts = ReadsAlone (first_long lists) (ReadsEquation th lists) ts
+
+    terms_ok : (ts : List Tree) (u : Theory) → Alone ts → Ok u ≡ equation_added th exec ts → AddsEquation th lists exec u
+    terms_ok ts u h e =
+        let g = goal_read th left right conds ts h.reads in
+        let p = one_ok (equation_fault th g.0.conds) _ u (e ∙ ap (goal_added th exec) (g.2)) in
+        record { says = g.0; alone = subst Alone g.1 h; no_fault = p.0; is = p.1 }
+
+    terms_err : (ts : List Tree) (c : Cause) → Alone ts → Err c ≡ equation_added th exec ts → RefusesEquation th lists c
+    terms_err ts c h e =
+        let g = goal_read th left right conds ts h.reads in
+        inr (g.0, (subst Alone g.1 h, one_err (equation_fault th g.0.conds) _ c (e ∙ ap (goal_added th exec) (g.2))))
 
   module _ (term : List (List ℕ)) where
     hole_ok : (ts : List Tree) (u : Theory) → ReadsAlone (long_count term) (ReadsHole th term) ts → Ok u ≡ derivative_added th ts → AddsDerivative th term u
@@ -102,8 +108,8 @@ module _ (th : Theory) where
   adds_as (variables names sort) u e =
       let x = found (sort_number th.signature sort) UnknownSort (λ s. all_added (λ v w. adds (variable_fault s v w) (with_variable s v w)) th names) u e in
       record { number = x.value; sort_is = x.is; adds = all_ok (variable_fault x.value) (with_variable x.value) th names u (sym x.then) }
-  adds_as (equation left right exec) u (Ok ts, g, e) = sides_ok left right exec ts u g e
-  adds_as (equation left right exec) u (Err c, g, e) = absurd (cc)
+  adds_as (equation left right conds exec) u (Ok ts, g, e) = terms_ok left right conds exec ts u g e
+  adds_as (equation left right conds exec) u (Err c, g, e) = absurd (cc)
   adds_as (derivative term) u (Ok ts, g, e) = hole_ok term ts u g e
   adds_as (derivative term) u (Err c, g, e) = absurd (cc)
   adds_as (cases sort names) u e =
@@ -126,8 +132,9 @@ module _ (th : Theory) where
   refuses_as (variables names sort) c e =
       lacking (sort_number th.signature sort) UnknownSort (λ s. all_added (λ v w. adds (variable_fault s v w) (with_variable s v w)) th names)
       (λ s. IsCauseOf (first_fault (variable_fault s) (with_variable s) th names)) c (λ s f. all_err (variable_fault s) (with_variable s) th names c (sym f)) e
-  refuses_as (equation left right exec) c (Ok ts, g, e) = inr (ts, (g, sides_err left right exec ts c g e))
-  refuses_as (equation left right exec) c (Err d, g, e) = let s : d ≡ c = cc in inl (subst (ReadsNotAlone (long_sides left right) (ReadsSides th left right) (terms_text th)) s g)
+  refuses_as (equation left right conds exec) c (Ok ts, g, e) = terms_err left right conds exec ts c g e
+  refuses_as (equation left right conds exec) c (Err d, g, e) =
+      let s : d ≡ c = cc in inl (subst (ReadsNotAlone (first_long (equation_lists left right conds)) (ReadsEquation th (equation_lists left right conds)) (terms_text th)) s g)
   refuses_as (derivative term) c (Ok ts, g, e) = hole_err term ts c g e
   refuses_as (derivative term) c (Err d, g, e) = let s : d ≡ c = cc in inl (subst (ReadsNotAlone (long_count term) (ReadsHole th term) (terms_text th)) s g)
   refuses_as (cases sort names) c e =

@@ -31,7 +31,7 @@ statement_grows th (sorts names) u h = subst (HasMoreSorts th) (sym h.is) (all_g
 statement_grows th (operators forms args result a c i) u h =
     subst (HasMoreSorts th) (sym h.adds.is) (all_grow (with_operator h.sorts h.sort a c i) (λ v p. omega arith) th forms)
 statement_grows th (variables names sort) u h = subst (HasMoreSorts th) (sym h.adds.is) (all_grow (with_variable h.number) (variable_grows h.number) th names)
-statement_grows th (equation left right exec) u h = subst (HasMoreSorts th) (sym h.is) (omega arith)
+statement_grows th (equation left right conds exec) u h = subst (HasMoreSorts th) (sym h.is) (omega arith)
 statement_grows th (derivative term) u h = subst (HasMoreSorts th) (sym h.is) (omega arith)
 statement_grows th (cases sort names) u h = subst (HasMoreSorts th) (sym h.is) (omega arith)
 

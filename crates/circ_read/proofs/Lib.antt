@@ -8,5 +8,6 @@ mod Growing
 pub mod Once
 pub mod TextOnce
 pub mod StatementOnce
+pub mod GoalTerms
 pub mod Coming
 pub mod Total

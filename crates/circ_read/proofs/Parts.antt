@@ -1,5 +1,5 @@
 -- Parts added one by one, and words looked up one by one.
-use Rattle.std.proofs.Common.{◌≡◌, ℕ, List, [], ◌∷◌, ◌++◌, Option, Some, None, Result, Ok, Err, refl, ap, sym, ◌∙◌, subst, append_assoc, length, arith}
+use Rattle.std.proofs.Common.{◌≡◌, true, ℕ, List, [], ◌∷◌, ◌++◌, Option, Some, None, Result, Ok, Err, refl, ap, sym, ◌∙◌, subst, append_assoc, length, arith}
 use Rattle.std.specs.Option.{option_map}
 use Rattle.std.proofs.lemmas.List.{append-nil}
 use Rattle.std.specs.declared.vec.IntoIter.{IntoIter}
@@ -60,7 +60,7 @@ module _ (too_long : Option ℕ) (Reads : List Tree → Type 0) (th : Theory) (a
   read_then_added ts (Err Memory) u g e = tt
 
   -- nothing was read
-  pub not_read : (fault : ParseFault) (f : Fault) (u : Theory) → GivesReading (Err fault) too_long Reads → IsNoReading f th fault
+  pub not_read : (fault : ParseFault) (f : Fault) (u : Theory) → GivesReading (Err fault) too_long Reads → IsNoReading true f th fault
       → StepAnswers {U = Unit {0}} (Err f) u (λ q. (o : Result (List Tree) Cause) × TermsOutcome too_long Reads (terms_text th) o × (q ≡ followed_by o add))
   not_read (parse.TooLong n) (Because c) u g e = (Err c, subst (ReadsNotAlone too_long Reads (terms_text th)) (sym e) (too_many_tokens n g), refl)
   not_read parse.NoParse (Because c) u g e = (Err c, subst (ReadsNotAlone too_long Reads (terms_text th)) (sym e) (no_reading g.0 g.1), refl)

@@ -7,13 +7,14 @@ use Rattle.circ_theory.specs.declared.fault.TheoryFault.{TheoryFault}
 use Rattle.circ_theory.specs.Theory.{Theory}
 use Rattle.circ_theory.specs.Adding.{sort_number, sort_fault, equation_fault, with_sort, with_equation}
 use Rattle.circ_theory.specs.Observing.{derivative_fault, with_derivative, cases_fault, with_cases}
-use Rattle.circ_mixfix.specs.Answers.{long_count}
+use Rattle.circ_mixfix.specs.Answers.{long_count, first_long}
 use Rattle.circ_mixfix.proofs.Order.{trees_apart}
 use Rattle.circ_statement.specs.Said.{Said, inclusion, sorts, operators, variables, equation, derivative, cases}
 use Rattle.circ_read.specs.declared.cause.Cause.{Cause}
 use Rattle.circ_read.specs.declared.cause.Cause.TheVariants as cause
 use Rattle.circ_read.specs.Causes.{AreAlike, same, ambiguous, cause_of}
-use Rattle.circ_read.specs.Adding.{AddsStatement, AddsAll, ReadsAlone, first_fault, sort_numbers, constant_numbers, variable_fault, with_variable, operator_fault, with_operator, long_sides, ReadsSides, ReadsHole}
+use Rattle.circ_read.specs.Adding.{AddsStatement, AddsAll, ReadsAlone, first_fault, sort_numbers, constant_numbers, variable_fault, with_variable, operator_fault, with_operator, equation_lists, goal_terms, ReadsEquation, ReadsHole}
+use Rattle.circ_read.proofs.GoalTerms.{same_goal}
 use Rattle.circ_read.specs.Refusing.{RefusesStatement, IsCauseOf, LacksOr, ReadsNotAlone, too_many_tokens, no_reading, two_readings, terms_text}
 use Rattle.circ_read.specs.Text.{ReadsTo}
 use Rattle.circ_read.specs.Failing.{FailsAt}
@@ -75,11 +76,9 @@ adds_once th (operators forms args result a c i) u v h k =
 adds_once th (variables names sort) u v h k =
     let s : k.number ≡ h.number = same_Some k.number h.number (sym k.sort_is ∙ h.sort_is) in
     all_once h.adds (subst (λ x. AddsAll (variable_fault x) (with_variable x) th names v) s k.adds)
-adds_once th (equation left right exec) u v h k =
-    let e = h.alone.only (k.first ∷ k.second ∷ []) k.alone.reads in
-    let t : k.first ≡ h.first = cc in
-    let s : k.second ≡ h.second = cc in
-    k.is ∙ (λ i. with_equation th (record { left = t i; right = s i; exec = exec })) ∙ sym h.is
+adds_once th (equation left right conds exec) u v h k =
+    let e = same_goal k.says h.says (h.alone.only (goal_terms k.says) k.alone.reads) in
+    k.is ∙ ap (λ g. with_equation th (record { left = g.left; right = g.right; conds = g.conds; exec = exec })) e ∙ sym h.is
 adds_once th (derivative term) u v h k =
     let e = h.alone.only (k.body ∷ []) k.alone.reads in
     let t : k.body ≡ h.body = cc in
@@ -100,9 +99,12 @@ adds_or_refuses th (operators forms args result a d i) u c h k =
 adds_or_refuses th (variables names sort) u c h k =
     no_cause (first_fault (variable_fault h.number) (with_variable h.number) th names) c h.adds.no_fault
     (has_found (sort_number th.signature sort) cause.UnknownSort (λ s. IsCauseOf (first_fault (variable_fault s) (with_variable s) th names)) h.number c h.sort_is k)
-adds_or_refuses th (equation left right exec) u c h (inl k) =
-    alone_or_not (long_sides left right) (ReadsSides th left right) (terms_text th) (h.first ∷ h.second ∷ []) c h.alone k
-adds_or_refuses th (equation left right exec) u c h (inr k) = no_cause (equation_fault th) c h.no_fault k.1.1
+adds_or_refuses th (equation left right conds exec) u c h (inl k) =
+    let lists = equation_lists left right conds in
+    alone_or_not (first_long lists) (ReadsEquation th lists) (terms_text th) (goal_terms h.says) c h.alone k
+adds_or_refuses th (equation left right conds exec) u c h (inr k) =
+    let e = same_goal k.0 h.says (h.alone.only (goal_terms k.0) k.1.0.reads) in
+    no_cause (equation_fault th h.says.conds) c h.no_fault (subst (λ g. IsCauseOf (equation_fault th g.conds) c) e k.1.1)
 adds_or_refuses th (derivative term) u c h (inl k) = alone_or_not (long_count term) (ReadsHole th term) (terms_text th) (h.body ∷ []) c h.alone k
 adds_or_refuses th (derivative term) u c h (inr k) =
     let e = h.alone.only (k.0 ∷ []) k.1.0.reads in
@@ -124,10 +126,15 @@ refuses_once th (operators forms args result a b i) c d h k =
 refuses_once th (variables names sort) c d h k =
     lacks_once (sort_number th.signature sort) cause.UnknownSort (λ s. IsCauseOf (first_fault (variable_fault s) (with_variable s) th names))
     (λ s. cause_once (first_fault (variable_fault s) (with_variable s) th names)) c d h k
-refuses_once th (equation left right exec) c d (inl h) (inl k) = not_alone_once (long_sides left right) (ReadsSides th left right) (terms_text th) c d h k
-refuses_once th (equation left right exec) c d (inl h) (inr k) = absurd (alone_or_not (long_sides left right) (ReadsSides th left right) (terms_text th) k.0 c k.1.0 h)
-refuses_once th (equation left right exec) c d (inr h) (inl k) = absurd (alone_or_not (long_sides left right) (ReadsSides th left right) (terms_text th) h.0 d h.1.0 k)
-refuses_once th (equation left right exec) c d (inr h) (inr k) = cause_once (equation_fault th) c d h.1.1 k.1.1
+refuses_once th (equation left right conds exec) c d (inl h) (inl k) =
+    let lists = equation_lists left right conds in not_alone_once (first_long lists) (ReadsEquation th lists) (terms_text th) c d h k
+refuses_once th (equation left right conds exec) c d (inl h) (inr k) =
+    let lists = equation_lists left right conds in absurd (alone_or_not (first_long lists) (ReadsEquation th lists) (terms_text th) (goal_terms k.0) c k.1.0 h)
+refuses_once th (equation left right conds exec) c d (inr h) (inl k) =
+    let lists = equation_lists left right conds in absurd (alone_or_not (first_long lists) (ReadsEquation th lists) (terms_text th) (goal_terms h.0) d h.1.0 k)
+refuses_once th (equation left right conds exec) c d (inr h) (inr k) =
+    let e = same_goal k.0 h.0 (h.1.0.only (goal_terms k.0) k.1.0.reads) in
+    cause_once (equation_fault th h.0.conds) c d h.1.1 (subst (λ g. IsCauseOf (equation_fault th g.conds) d) e k.1.1)
 refuses_once th (derivative term) c d (inl h) (inl k) = not_alone_once (long_count term) (ReadsHole th term) (terms_text th) c d h k
 refuses_once th (derivative term) c d (inl h) (inr k) = absurd (alone_or_not (long_count term) (ReadsHole th term) (terms_text th) (k.0 ∷ []) c k.1.0 h)
 refuses_once th (derivative term) c d (inr h) (inl k) = absurd (alone_or_not (long_count term) (ReadsHole th term) (terms_text th) (h.0 ∷ []) d h.1.0 k)

@@ -99,6 +99,6 @@ no_inclusion ts (st.Inclusion n) other = absurd (other n refl)
 no_inclusion ts (st.Sorts names) other = refl
 no_inclusion ts (st.Operators forms args result a c i) other = refl
 no_inclusion ts (st.Variables names sort) other = refl
-no_inclusion ts (st.Equation left right exec) other = refl
+no_inclusion ts (st.Equation left right conds exec) other = refl
 no_inclusion ts (st.Derivative term) other = refl
 no_inclusion ts (st.Cases sort names) other = refl

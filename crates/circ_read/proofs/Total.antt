@@ -12,7 +12,7 @@ use Rattle.circ_theory.specs.declared.fault.TheoryFault.{TheoryFault}
 use Rattle.circ_theory.specs.Theory.{Theory}
 use Rattle.circ_theory.specs.Adding.{sort_number, sort_fault, equation_fault, with_sort, with_equation}
 use Rattle.circ_theory.specs.Observing.{derivative_fault, with_derivative, cases_fault, with_cases}
-use Rattle.circ_mixfix.specs.Answers.{long_count}
+use Rattle.circ_mixfix.specs.Answers.{long_count, first_long}
 use Rattle.circ_mixfix.proofs.Order.{trees_equal, trees_less}
 use Rattle.circ_statement.specs.Said.{Said, inclusion, sorts, operators, variables, equation, derivative, cases}
 use Rattle.circ_statement.specs.Statement.{IsLeftOut}
@@ -21,7 +21,8 @@ use Rattle.circ_read.specs.declared.cause.Cause.TheVariants as cause
 use Rattle.circ_read.specs.Causes.{cause_of, byte_cause}
 use Rattle.circ_read.specs.Text.{is_stop, HasNoStop, ending, AddsTokens, Reaches, start, next, ReadsTo}
 use Rattle.circ_read.specs.Failing.{left_out, no_shape, RefusesTokens, says_nothing, is_refused, Breaks, at_a_statement, at_the_end, FailsAt, at_a_byte, at_the_head, in_the_body}
-use Rattle.circ_read.specs.Adding.{AddsStatement, AddsAll, ReadsAlone, first_fault, with_all, sort_numbers, constant_numbers, variable_fault, with_variable, operator_fault, with_operator, long_sides, ReadsSides, ReadsHole}
+use Rattle.circ_read.specs.Adding.{AddsStatement, AddsAll, ReadsAlone, first_fault, with_all, sort_numbers, constant_numbers, variable_fault, with_variable, operator_fault, with_operator, equation_lists, ReadsEquation, ReadsHole}
+use Rattle.circ_read.proofs.GoalTerms.{goal_read}
 use Rattle.circ_read.specs.Refusing.{RefusesStatement, IsCauseOf, LacksOr, ReadsNotAlone, too_many_tokens, no_reading, two_readings, terms_text}
 use Rattle.circ_read.specs.Includes.{Scope, scope, is_included, text_named, with_variables, again, anew, AddsIn, AddsBy, included_name}
 use Rattle.circ_read.specs.RefusesIn.{unknown, broken, RefusesIn, RefusesBy}
@@ -125,17 +126,19 @@ module _ (th : Theory) where
   statement_total (variables names sort) accepted refused =
       look_up (sort_number th.signature sort) cause.UnknownSort (λ s. IsCauseOf (first_fault (variable_fault s) (with_variable s) th names))
       (λ s e. all_total (variable_fault s) (with_variable s) names (λ u h. accepted u (record { number = s; sort_is = e; adds = h }))) refused
-  statement_total (equation left right exec) accepted refused =
-      terms_total (long_sides left right) (ReadsSides th left right) (terms_text th) go (λ c h. refused c (inl h))
+  statement_total (equation left right conds exec) accepted refused = terms_total (first_long lists) (ReadsEquation th lists) (terms_text th) go (λ c h. refused c (inl h))
     where
-      go : (ts : List Tree) → ReadsAlone (long_sides left right) (ReadsSides th left right) ts → ⊥
-      go [] h = let z = h.reads.2 in cc
-      go (t ∷ []) h = let z = h.reads.2 in cc
-      go (t ∷ s ∷ []) h =
-          fault_total (equation_fault th)
-          (λ e. accepted (with_equation th (record { left = t; right = s; exec = exec })) (record { first = t; second = s; alone = h; no_fault = e; is = refl }))
-          (λ c f. refused c (inr (t ∷ s ∷ [], (h, f))))
-      go (t ∷ s ∷ r ∷ ts) h = let z = h.reads.2 in cc
+      lists : List (List (List ℕ))
+      lists = equation_lists left right conds
+
+      go : (ts : List Tree) → ReadsAlone (first_long lists) (ReadsEquation th lists) ts → ⊥
+      go ts h =
+          let r = goal_read th left right conds ts h.reads in
+          let g = r.0 in
+          let alone = subst (ReadsAlone (first_long lists) (ReadsEquation th lists)) r.1 h in
+          fault_total (equation_fault th g.conds)
+          (λ e. accepted (with_equation th (record { left = g.left; right = g.right; conds = g.conds; exec = exec })) (record { says = g; alone = alone; no_fault = e; is = refl }))
+          (λ c f. refused c (inr (g, (alone, f))))
   statement_total (derivative term) accepted refused = terms_total (long_count term) (ReadsHole th term) (terms_text th) go (λ c h. refused c (inl h))
     where
       go : (ts : List Tree) → ReadsAlone (long_count term) (ReadsHole th term) ts → ⊥

@@ -3,17 +3,20 @@ use Rattle.std.specs.Prelude.{◌≡◌, ℕ, List, [], ◌∷◌, Bool, true, �
 use Rattle.std.specs.List.{slice_get}
 use Rattle.std.specs.Option.{option_map, option_or, option_and_then}
 use Rattle.circ_term.specs.Tree.{Tree}
-use Rattle.circ_theory.specs.declared.forms.Piece.{Piece}
-use Rattle.circ_theory.specs.declared.forms.Piece.TheVariants.{Hole, Word}
+use Rattle.circ_form.specs.declared.forms.Piece.{Piece}
+use Rattle.circ_form.specs.declared.forms.Piece.TheVariants.{Hole, Word}
 use Rattle.circ_theory.specs.declared.fault.TheoryFault.{TheoryFault}
-use Rattle.circ_theory.specs.Form.{pieces_of, form_fault}
+use Rattle.circ_form.specs.Form.{pieces_of, form_fault}
 use Rattle.circ_theory.specs.Signature.{Signature, Operator}
+use Rattle.circ_theory.specs.declared.parts.Goal.{Goal}
 use Rattle.circ_theory.specs.Theory.{Theory}
 use Rattle.circ_theory.specs.Adding.{sort_number, op_of_form, sort_fault, var_fault, op_fault, equation_fault, with_sort, with_var, with_op, with_equation}
 use Rattle.circ_theory.specs.Observing.{derivative_fault, with_derivative, cases_fault, with_cases}
-use Rattle.circ_mixfix.specs.Answers.{long_count, ReadsOnly, ReadsBoth}
+use Rattle.circ_mixfix.specs.Answers.{long_count, first_long, ReadsOnly, ReadsBoth}
+use Rattle.circ_mixfix.specs.Readings.{ReadsTwos}
+use Rattle.circ_mixfix.specs.Found.{sides_of_pairs}
 use Rattle.circ_statement.specs.Attributes.{Spelled}
-use Rattle.circ_statement.specs.Said.{Said, inclusion, sorts, operators, variables, equation, derivative, cases}
+use Rattle.circ_statement.specs.Said.{Said, SaidSides, inclusion, sorts, operators, variables, equation, derivative, cases}
 
 -- the fault of the first part that has one, where the parts before it are added
 abbrev pub first_fault : {A : Type 0} → (fault : Theory → A → Option TheoryFault) (with_one : Theory → A → Theory) → Theory → List A
@@ -84,12 +87,27 @@ pub record ReadsAlone (too_long : Option ℕ) (Reads : List Tree → Type 0) (ts
   pub reads : Reads ts
   pub only : (us : List Tree) → Reads us → us ≡ ts
 
--- the two sides of an equation, and the term of a derivative
+-- the two sides of a goal, and the term of a derivative
 abbrev pub long_sides : (left right : List (List ℕ)) → Option ℕ
 long_sides left right = option_or (long_count left) (long_count right)
 
 abbrev pub ReadsSides : Theory → (left right : List (List ℕ)) → List Tree → Type 0
 ReadsSides th left right ts = ReadsBoth th.signature th.variables left right ts
+
+-- the token lists of an equation, in the order in which they are read: its sides, then those of its conditions
+abbrev pub condition_lists : List SaidSides → List (List (List ℕ))
+condition_lists [] = []
+condition_lists (s ∷ conds) = s.left ∷ s.right ∷ condition_lists conds
+
+abbrev pub equation_lists : (left right : List (List ℕ)) → List SaidSides → List (List (List ℕ))
+equation_lists left right conds = left ∷ right ∷ condition_lists conds
+
+abbrev pub ReadsEquation : Theory → List (List (List ℕ)) → List Tree → Type 0
+ReadsEquation th lists ts = ReadsTwos th.signature th.variables lists ts
+
+-- the terms of a goal, or of an equation, in the same order
+abbrev pub goal_terms : Goal → List Tree
+goal_terms g = g.left ∷ g.right ∷ sides_of_pairs g.conds
 
 abbrev pub ReadsHole : Theory → (term : List (List ℕ)) → List Tree → Type 0
 ReadsHole th term ts = ReadsOnly th.signature th.variables true term ts
@@ -106,12 +124,11 @@ pub record DeclaresVariables (th : Theory) (names : List (List ℕ)) (sort : Lis
   pub sort_is : sort_number th.signature sort ≡ Some number
   pub adds : AddsAll (variable_fault number) (with_variable number) th names u
 
-pub record AddsEquation (th : Theory) (left right : List (List ℕ)) (exec : Bool) (u : Theory) : Type 0 where
-  pub first : Tree
-  pub second : Tree
-  pub alone : ReadsAlone (long_sides left right) (ReadsSides th left right) (first ∷ second ∷ [])
-  pub no_fault : equation_fault th ≡ None
-  pub is : u ≡ with_equation th (record { left = first; right = second; exec = exec })
+pub record AddsEquation (th : Theory) (lists : List (List (List ℕ))) (exec : Bool) (u : Theory) : Type 0 where
+  pub says : Goal
+  pub alone : ReadsAlone (first_long lists) (ReadsEquation th lists) (goal_terms says)
+  pub no_fault : equation_fault th says.conds ≡ None
+  pub is : u ≡ with_equation th (record { left = says.left; right = says.right; conds = says.conds; exec = exec })
 
 pub record AddsDerivative (th : Theory) (term : List (List ℕ)) (u : Theory) : Type 0 where
   pub body : Tree
@@ -133,6 +150,6 @@ AddsStatement th (inclusion name) u = ⊥
 AddsStatement th (sorts names) u = AddsAll sort_fault with_sort th names u
 AddsStatement th (operators forms args result a c i) u = AddsOperators th forms args result a c i u
 AddsStatement th (variables names sort) u = DeclaresVariables th names sort u
-AddsStatement th (equation left right exec) u = AddsEquation th left right exec u
+AddsStatement th (equation left right conds exec) u = AddsEquation th (equation_lists left right conds) exec u
 AddsStatement th (derivative term) u = AddsDerivative th term u
 AddsStatement th (cases sort names) u = AddsCases th sort names u

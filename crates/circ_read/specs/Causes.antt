@@ -7,7 +7,7 @@ use Rattle.circ_theory.specs.declared.fault.TheoryFault.TheVariants as fault
 use Rattle.circ_read.specs.declared.cause.Cause.{Cause}
 use Rattle.circ_read.specs.declared.cause.Cause.TheVariants as cause
 
--- the cause by which a part is not added to a theory; want of memory is none
+-- the cause by which a part is not added to a theory; out of memory is none
 abbrev pub cause_of : TheoryFault → Cause
 cause_of (fault.Twice n) = cause.Twice n
 cause_of (fault.UnknownSort s) = cause.UnknownSort
@@ -20,7 +20,7 @@ cause_of (fault.NowHidden s) = cause.NowHidden s
 cause_of (fault.Limit n) = cause.Limit n
 cause_of fault.Memory = cause.Shape
 
--- the cause by which bytes are no tokens; want of memory is none
+-- the cause by which bytes are no tokens; out of memory is none
 abbrev pub byte_cause : LexFault → Cause
 byte_cause (lex.NotAscii n) = cause.NotAscii n
 byte_cause (lex.Control n) = cause.Control n

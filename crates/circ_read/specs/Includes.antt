@@ -44,7 +44,7 @@ included_name (inclusion name) = Some name
 included_name (sorts names) = None
 included_name (operators forms args result a c i) = None
 included_name (variables names sort) = None
-included_name (equation left right exec) = None
+included_name (equation left right conds exec) = None
 included_name (derivative term) = None
 included_name (cases sort names) = None
 

@@ -2,16 +2,18 @@
 use Rattle.std.specs.Prelude.{◌≡◌, ℕ, List, [], ◌∷◌, Bool, Option, Some, None, Result, Ok, Err}
 use Rattle.circ_term.specs.Tree.{Tree}
 use Rattle.circ_theory.specs.declared.fault.TheoryFault.{TheoryFault}
-use Rattle.circ_theory.specs.Theory.{Theory}
+use Rattle.circ_theory.specs.declared.parts.Goal.{Goal}
+use Rattle.circ_theory.specs.Theory.{Theory, goal}
 use Rattle.circ_theory.specs.Adding.{sort_number, sort_fault, var_fault, op_fault, equation_fault, with_sort, with_var, with_op, with_equation}
 use Rattle.circ_theory.specs.Observing.{derivative_fault, with_derivative, cases_fault, with_cases}
-use Rattle.circ_mixfix.specs.Answers.{long_count}
+use Rattle.circ_mixfix.specs.Answers.{long_count, first_long}
+use Rattle.circ_mixfix.specs.Found.{pairs_of}
 use Rattle.circ_statement.specs.Attributes.{Spelled}
 use Rattle.circ_statement.specs.Said.{Said, inclusion, sorts, operators, variables, equation, derivative, cases}
 use Rattle.circ_read.specs.declared.cause.Cause.{Cause}
 use Rattle.circ_read.specs.declared.cause.Cause.TheVariants.{UnknownTheory, UnknownSort, NoParse}
 use Rattle.circ_read.specs.Causes.{cause_of}
-use Rattle.circ_read.specs.Adding.{sort_numbers, constant_numbers, operator_with, ReadsAlone, long_sides, ReadsSides, ReadsHole}
+use Rattle.circ_read.specs.Adding.{sort_numbers, constant_numbers, operator_with, ReadsAlone, equation_lists, ReadsEquation, ReadsHole}
 use Rattle.circ_read.specs.Refusing.{ReadsNotAlone, terms_text}
 
 -- the theory with a part, or why the part is not added
@@ -57,18 +59,25 @@ abbrev pub TermsOutcome : (too_long : Option ℕ) (Reads : List Tree → Type 0)
 TermsOutcome too_long Reads shown (Ok ts) = ReadsAlone too_long Reads ts
 TermsOutcome too_long Reads shown (Err c) = ReadsNotAlone too_long Reads shown c
 
-abbrev pub SidesOutcome : Theory → (left right : List (List ℕ)) → Result (List Tree) Cause → Type 0
-SidesOutcome th left right o = TermsOutcome (long_sides left right) (ReadsSides th left right) (terms_text th) o
+abbrev pub ListsOutcome : Theory → List (List (List ℕ)) → Result (List Tree) Cause → Type 0
+ListsOutcome th lists o = TermsOutcome (first_long lists) (ReadsEquation th lists) (terms_text th) o
 
 abbrev pub HoleOutcome : Theory → List (List ℕ) → Result (List Tree) Cause → Type 0
 HoleOutcome th term o = TermsOutcome (long_count term) (ReadsHole th term) (terms_text th) o
 
--- the theory with the equation of two sides, and with a derivative
+-- the goal that the terms are
+abbrev pub goal_of_terms : List Tree → Option Goal
+goal_of_terms [] = None
+goal_of_terms (t ∷ []) = None
+goal_of_terms (t ∷ u ∷ ts) = Some (goal (pairs_of ts) t u)
+
+-- the theory with an equation, and with a derivative
+abbrev pub goal_added : Theory → (exec : Bool) → Option Goal → Result Theory Cause
+goal_added th exec None = Err NoParse
+goal_added th exec (Some g) = adds (equation_fault th g.conds) (with_equation th (record { left = g.left; right = g.right; conds = g.conds; exec = exec }))
+
 abbrev pub equation_added : Theory → (exec : Bool) → List Tree → Result Theory Cause
-equation_added th exec [] = Err NoParse
-equation_added th exec (t ∷ []) = Err NoParse
-equation_added th exec (t ∷ u ∷ []) = adds (equation_fault th) (with_equation th (record { left = t; right = u; exec = exec }))
-equation_added th exec (t ∷ u ∷ v ∷ ts) = Err NoParse
+equation_added th exec ts = goal_added th exec (goal_of_terms ts)
 
 abbrev pub derivative_added : Theory → List Tree → Result Theory Cause
 derivative_added th [] = Err NoParse
@@ -82,7 +91,8 @@ ComesTo th (sorts names) r = r ≡ all_added sort_added th names
 ComesTo th (operators forms args result a c i) r =
     r ≡ followed_by (sorts_named th args) (λ ss. followed_by (sort_named th result) (λ s. all_added (operator_added ss s a c i) th forms))
 ComesTo th (variables names sort) r = r ≡ followed_by (sort_named th sort) (λ s. all_added (variable_added s) th names)
-ComesTo th (equation left right exec) r = (o : Result (List Tree) Cause) × SidesOutcome th left right o × (r ≡ followed_by o (equation_added th exec))
+ComesTo th (equation left right conds exec) r =
+    (o : Result (List Tree) Cause) × ListsOutcome th (equation_lists left right conds) o × (r ≡ followed_by o (equation_added th exec))
 ComesTo th (derivative term) r = (o : Result (List Tree) Cause) × HoleOutcome th term o × (r ≡ followed_by o (derivative_added th))
 ComesTo th (cases sort names) r =
     r ≡ followed_by (sort_named th sort) (λ s. followed_by (constants_named th s names) (λ cs. adds (cases_fault th s cs) (with_cases th s cs)))

@@ -1,19 +1,21 @@
 -- Why a statement is refused: its first cause.
-use Rattle.std.specs.Prelude.{◌≡◌, ◌⊎◌, ℕ, List, [], ◌∷◌, true, Option, Some, None}
+use Rattle.std.specs.Prelude.{◌≡◌, ◌⊎◌, ℕ, List, [], ◌∷◌, Bool, true, Option, Some, None}
 use Rattle.std.proofs.Common.{Less}
 use Rattle.circ_term.specs.Tree.{Tree, trees_of}
 use Rattle.circ_term.specs.Order.{trees_cmp}
 use Rattle.circ_theory.specs.declared.fault.TheoryFault.{TheoryFault}
-use Rattle.circ_theory.specs.Theory.{Theory}
+use Rattle.circ_theory.specs.declared.parts.Goal.{Goal}
+use Rattle.circ_theory.specs.Theory.{Theory, goal}
 use Rattle.circ_theory.specs.Adding.{sort_number, sort_fault, equation_fault, with_sort}
 use Rattle.circ_theory.specs.Observing.{derivative_fault, cases_fault}
-use Rattle.circ_mixfix.specs.Answers.{long_count}
-use Rattle.circ_mixfix.specs.Printing.{text_of_term, text_of_pair}
+use Rattle.circ_mixfix.specs.Answers.{long_count, first_long}
+use Rattle.circ_mixfix.specs.Found.{pairs_of}
+use Rattle.circ_mixfix.specs.Printing.{text_of_term, text_of_goal}
 use Rattle.circ_statement.specs.Said.{Said, inclusion, sorts, operators, variables, equation, derivative, cases}
 use Rattle.circ_read.specs.declared.cause.Cause.{Cause}
 use Rattle.circ_read.specs.declared.cause.Cause.TheVariants.{UnknownTheory, UnknownSort, TooLong, NoParse, Ambiguous}
 use Rattle.circ_read.specs.Causes.{cause_of}
-use Rattle.circ_read.specs.Adding.{first_fault, sort_numbers, constant_numbers, variable_fault, with_variable, operator_fault, with_operator, ReadsAlone, long_sides, ReadsSides, ReadsHole}
+use Rattle.circ_read.specs.Adding.{first_fault, sort_numbers, constant_numbers, variable_fault, with_variable, operator_fault, with_operator, ReadsAlone, equation_lists, goal_terms, ReadsEquation, ReadsHole}
 
 -- There is a fault, which is this cause.
 abbrev pub IsCauseOf : Option TheoryFault → Cause → Type 0
@@ -32,12 +34,21 @@ pub data ReadsNotAlone (too_long : Option ℕ) (Reads : List Tree → Type 0) (s
   two_readings : (ts us : List Tree) → too_long ≡ None → Reads ts → Reads us → trees_cmp (trees_of ts) (trees_of us) ≡ Less
       → ReadsNotAlone too_long Reads shown (Ambiguous (shown ts) (shown us))
 
--- the term of a derivative as it is printed, and the two sides of an equation
+-- a term as it is printed, perhaps with a hole, and an equation or a goal
+abbrev pub shown_text : (hole : Bool) → Theory → List Tree → List ℕ
+shown_text hole th [] = []
+shown_text hole th (t ∷ []) = text_of_term th.signature hole t
+shown_text hole th (t ∷ u ∷ ts) = text_of_goal th.signature (goal (pairs_of ts) t u)
+
+-- in a theory text a term by itself is a derivative's
 abbrev pub terms_text : Theory → List Tree → List ℕ
-terms_text th [] = []
-terms_text th (t ∷ []) = text_of_term th.signature true t
-terms_text th (t ∷ u ∷ []) = text_of_pair th.signature (record { left = t; right = u })
-terms_text th (t ∷ u ∷ v ∷ ts) = []
+terms_text th ts = shown_text true th ts
+
+-- The token lists of an equation do not read as the only terms, or else the equation is not added.
+abbrev pub RefusesEquation : Theory → List (List (List ℕ)) → Cause → Type 0
+RefusesEquation th lists c =
+    ReadsNotAlone (first_long lists) (ReadsEquation th lists) (terms_text th) c
+    ⊎ ((g : Goal) × (ReadsAlone (first_long lists) (ReadsEquation th lists) (goal_terms g) × IsCauseOf (equation_fault th g.conds) c))
 
 -- The statement has this first cause in the theory. One equation a kind; `RefusesInclusion` has inclusions.
 abbrev pub RefusesStatement : Theory → Said → Cause → Type 0
@@ -49,9 +60,7 @@ RefusesStatement th (operators forms args result a k i) c =
     (λ s. IsCauseOf (first_fault (operator_fault ss s a k i) (with_operator ss s a k i) th forms))) c
 RefusesStatement th (variables names sort) c =
     LacksOr (sort_number th.signature sort) UnknownSort (λ s. IsCauseOf (first_fault (variable_fault s) (with_variable s) th names)) c
-RefusesStatement th (equation left right exec) c =
-    ReadsNotAlone (long_sides left right) (ReadsSides th left right) (terms_text th) c
-    ⊎ ((ts : List Tree) × (ReadsAlone (long_sides left right) (ReadsSides th left right) ts × IsCauseOf (equation_fault th) c))
+RefusesStatement th (equation left right conds exec) c = RefusesEquation th (equation_lists left right conds) c
 RefusesStatement th (derivative term) c =
     ReadsNotAlone (long_count term) (ReadsHole th term) (terms_text th) c
     ⊎ ((t : Tree) × (ReadsAlone (long_count term) (ReadsHole th term) (t ∷ []) × IsCauseOf (derivative_fault th t) c))

@@ -1,5 +1,5 @@
 -- What the steps of the reader answer.
-use Rattle.std.specs.Prelude.{◌≡◌, ◌<◌, ◌≤◌, ◌+◌, ℕ, List, ◌∷◌, ◌++◌, Bool, true, false, drop, length, codes, nat_eq, Option, Some, None, Result, Ok, Err}
+use Rattle.std.specs.Prelude.{◌≡◌, ◌<◌, ◌≤◌, ◌+◌, ℕ, List, [], ◌∷◌, ◌++◌, Bool, true, false, drop, length, codes, nat_eq, Option, Some, None, Result, Ok, Err}
 use Rattle.std.specs.List.{slice_range, slice_get}
 use Rattle.std.specs.Option.{option_map_or}
 use Rattle.std.specs.Cmp.Lexicographic.{pointwise}
@@ -18,7 +18,9 @@ use Rattle.circ_theory.specs.Theory.{Theory}
 use Rattle.circ_statement.specs.declared.statements.Statement.{Statement}
 use Rattle.circ_statement.specs.Words.{is_name}
 use Rattle.circ_statement.specs.Statement.{IsStatement, IsLeftOut}
-use Rattle.circ_statement.specs.Said.{Said, said_of, LiesWithin, equation, derivative}
+use Rattle.circ_statement.specs.Said.{Said, SaidSides, said_of, LiesWithin, equation, derivative}
+use Rattle.circ_statement.specs.declared.statements.Sides.{Sides}
+use Rattle.circ_lexer.specs.declared.tokens.Span.{Span}
 use Rattle.circ_read.specs.declared.cause.ReadFault.{ReadFault}
 use Rattle.circ_read.specs.declared.cause.ReadFault.TheVariants as at
 use Rattle.circ_read.specs.Outcomes.{ComesTo}
@@ -29,7 +31,7 @@ use Rattle.circ_mixfix.specs.declared.parse.ParseFault.TheVariants as parse
 use Rattle.circ_read.specs.Text.{HasNoStop, IsTextHead, ending, AddsTokens, Reaches, ReadsTo}
 use Rattle.circ_read.specs.Failing.{HasNoHead, IsNoStatement, RefusesTokens, Breaks, FailsAt}
 use Rattle.circ_read.specs.Adding.{AddsStatement}
-use Rattle.circ_read.specs.Refusing.{RefusesStatement, terms_text}
+use Rattle.circ_read.specs.Refusing.{RefusesStatement, shown_text}
 use Rattle.circ_read.specs.Includes.{Scope, scope, Includes, AddsIn}
 use Rattle.circ_read.specs.RefusesIn.{RefusesInclusion, RefusesIn}
 
@@ -45,7 +47,7 @@ Finds (Ok a) o = o ≡ Ok a
 Finds (Err (Because c)) o = o ≡ Err c
 Finds (Err Memory) o = Unit {0}
 
--- the cause that a fault of a theory is, or want of memory
+-- the cause that a fault of a theory is, or out of memory
 abbrev pub fault_of : TheoryFault → Fault
 fault_of fault.Memory = Memory
 fault_of f = Because (cause_of f)
@@ -104,19 +106,24 @@ FindsAll (Err (Because c)) o = o ≡ Err c
 FindsAll (Err Memory) o = Unit {0}
 
 -- what adding an equation comes to, and a derivative
-abbrev pub GivesEquation : Theory → (left right : List (List ℕ)) → (exec : Bool) → Result Theory Cause → Type 0
-GivesEquation th left right exec r = ComesTo th (equation left right exec) r
+abbrev pub GivesEquation : Theory → (left right : List (List ℕ)) → List SaidSides → (exec : Bool) → Result Theory Cause → Type 0
+GivesEquation th left right conds exec r = ComesTo th (equation left right conds exec) r
+
+-- the spans of conditions' sides, in order
+abbrev pub condition_spans : List Sides → List Span
+condition_spans [] = []
+condition_spans (s ∷ conds) = s.left ∷ s.right ∷ condition_spans conds
 
 abbrev pub GivesDerivative : Theory → List (List ℕ) → Result Theory Cause → Type 0
 GivesDerivative th term r = ComesTo th (derivative term) r
 
--- the cause that a fault of reading terms is, or want of memory
-abbrev pub IsNoReading : Fault → Theory → ParseFault → Type 0
-IsNoReading (Because c) th (parse.TooLong n) = c ≡ cause.TooLong n
-IsNoReading (Because c) th parse.NoParse = c ≡ cause.NoParse
-IsNoReading (Because c) th (parse.Ambiguous a b) = c ≡ cause.Ambiguous (terms_text th a.terms.items) (terms_text th b.terms.items)
-IsNoReading (Because c) th parse.Memory = ⊥
-IsNoReading Memory th f = Unit {0}
+-- the cause that a fault of reading terms, perhaps with a hole, is, or out of memory
+abbrev pub IsNoReading : (hole : Bool) → Fault → Theory → ParseFault → Type 0
+IsNoReading hole (Because c) th (parse.TooLong n) = c ≡ cause.TooLong n
+IsNoReading hole (Because c) th parse.NoParse = c ≡ cause.NoParse
+IsNoReading hole (Because c) th (parse.Ambiguous a b) = c ≡ cause.Ambiguous (shown_text hole th a.terms.items) (shown_text hole th b.terms.items)
+IsNoReading hole (Because c) th parse.Memory = ⊥
+IsNoReading hole Memory th f = Unit {0}
 
 -- what the tokens of a span say, or why they say nothing
 pub record IsSaid (ws : List (List ℕ)) (ts : TokenList) (s : Statement) : Type 0 where

@@ -3,7 +3,8 @@ ghost use Rattle.std.specs.Prelude.{◌≡◌, drop};
 ghost use Rattle.circ_lexer.specs.TokenList.{tokens_of, tokens_in, IsWithin};
 ghost use Rattle.circ_statement.specs.Said.{Said, said_of, LiesWithin};
 ghost use Rattle.circ_read.specs.declared.cause.Cause.{Cause};
-ghost use Rattle.circ_read.specs.Steps.{StepAnswers, SaidOutcome, TokensOutcome, IsHeadOf, GivesBody, fault_at};
+ghost use Rattle.circ_read.specs.Steps.{StepAnswers, SaidOutcome, TokensOutcome, IsHeadOf};
+ghost use Rattle.circ_read.specs.Steps.{GivesBody, fault_at};
 
 use crate::cause::{Cause, Fault, ReadFault};
 use crate::statement::shape;

@@ -9,8 +9,9 @@ ghost use Rattle.circ_read.specs.Steps.{StepAnswers, FindsAll};
 
 use crate::cause::{Cause, Fault, because, done};
 use crate::names::{sort_named, word};
+use circ_form::{Form, FormFault, Piece};
 use circ_lexer::{Span, Tokens};
-use circ_theory::{Form, FormFault, Piece, Theory};
+use circ_theory::Theory;
 use std::alloc::{AllocError, Global};
 
 pub(crate) fn add_cases(

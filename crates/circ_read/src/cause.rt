@@ -3,8 +3,9 @@ ghost use Rattle.std.specs.Prelude.{◌≡◌};
 ghost use Rattle.circ_read.specs.declared.cause.Fault.TheVariants.{Because};
 ghost use Rattle.circ_read.specs.Steps.{fault_of, byte_fault, done};
 
+use circ_form::Text;
 use circ_lexer::LexFault;
-use circ_theory::{Text, TheoryFault};
+use circ_theory::TheoryFault;
 use std::alloc::{AllocError, AllocFailed};
 
 /// Why a statement, an item or a line of a text is refused. The causes of one statement are tested

@@ -25,7 +25,7 @@ pub(crate) fn add_derivative(
 {
     match parse_one_declared(alloc, theory, tokens, term, true) {
         Ok(reading) => add_term(theory, reading.terms),
-        Err(fault) => Err(unread(alloc, theory, fault)),
+        Err(fault) => Err(unread(alloc, theory, true, fault)),
     }
 }
 

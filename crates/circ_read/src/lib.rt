@@ -27,4 +27,5 @@ pub use cause::{Cause, Fault, ReadFault, because, byte_fault, done};
 pub use names::{sort_named, word};
 pub use reader::read_theory;
 pub use statement::shape;
+pub use terms::unread;
 pub use text::{has_word, next_stop};

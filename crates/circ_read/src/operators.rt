@@ -4,7 +4,8 @@ ghost use Rattle.circ_lexer.specs.TokenList.{tokens_in, IsWithin};
 ghost use Rattle.circ_theory.specs.Operators.{operator_of};
 ghost use Rattle.circ_statement.specs.Said.{token_at, IsPlace, spelled_of};
 ghost use Rattle.circ_read.specs.Adding.{operator_with};
-ghost use Rattle.circ_read.specs.Outcomes.{operator_added, all_added, sort_named, sorts_named, followed_by};
+ghost use Rattle.circ_read.specs.Outcomes.{operator_added, all_added, sort_named, sorts_named};
+ghost use Rattle.circ_read.specs.Outcomes.{followed_by};
 ghost use Rattle.circ_read.specs.Steps.{StepAnswers};
 
 use crate::cause::{Fault, done};

@@ -3,7 +3,8 @@ ghost use Rattle.std.specs.Prelude.{◌≡◌, ◌+◌, IfOk, drop, nat_eq, fals
 ghost use Rattle.circ_lexer.specs.TokenList.{tokens_of};
 ghost use Rattle.circ_read.specs.Includes.{is_included, text_named};
 ghost use Rattle.circ_read.specs.ReadsAs.{begun, GivesTheory};
-ghost use Rattle.circ_read.specs.Steps.{StepAnswers, InclusionOutcome, IsHeadOf, GivesRead, fault_at, scope_of};
+ghost use Rattle.circ_read.specs.Steps.{StepAnswers, InclusionOutcome, IsHeadOf, GivesRead};
+ghost use Rattle.circ_read.specs.Steps.{fault_at, scope_of};
 
 use crate::body::{Receiver, add_body, fault_at};
 use crate::cause::{Cause, Fault, ReadFault, because, byte_fault};
@@ -11,9 +12,10 @@ use crate::library::add_text;
 use crate::names::{is_word, word};
 use crate::statement::add_statement;
 use crate::text::{Head, read_head};
+use circ_form::Text;
 use circ_lexer::Tokens;
 use circ_statement::Statement;
-use circ_theory::{Text, Theory};
+use circ_theory::Theory;
 use std::alloc::{AllocError, Global};
 
 /// The theory that the bytes read as. A fault has the number of the statement with the first

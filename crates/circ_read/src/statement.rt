@@ -14,9 +14,10 @@ use crate::names::word;
 use crate::operators::{Marks, add_operators};
 use crate::sorts::add_sorts;
 use crate::variables::add_variables;
+use circ_form::Text;
 use circ_lexer::{Span, Tokens};
 use circ_statement::{Statement, StatementFault, statement as read_statement};
-use circ_theory::{Text, Theory};
+use circ_theory::Theory;
 use std::alloc::Global;
 
 /// The statement that the tokens of a span are, without the stop that ends it. A statement that is
@@ -61,9 +62,12 @@ pub(crate) fn add_statement(
             add_operators(alloc, theory, tokens, forms, args, result, marks)
         }
         Statement::Variables { names, sort } => add_variables(theory, tokens, names, sort),
-        Statement::Equation { left, right, exec } => {
-            add_equation(alloc, theory, tokens, left, right, exec)
-        }
+        Statement::Equation {
+            left,
+            right,
+            conds,
+            exec,
+        } => add_equation(alloc, theory, tokens, left, right, &conds, exec),
         Statement::Derivative { term } => add_derivative(alloc, theory, tokens, term),
         Statement::Cases { sort, names } => add_cases(alloc, theory, tokens, sort, names),
     }

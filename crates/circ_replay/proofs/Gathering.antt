@@ -9,9 +9,10 @@ use Rattle.std.proofs.lemmas.Cmp.{nat_cmp_total, then_total, on_total, tied_itse
 use Rattle.std.proofs.lemmas.Bool.{eqb-true, and_parts}
 use Rattle.std.proofs.lemmas.Bool.Decides.{nat_tests}
 use Rattle.circ_term.specs.Tree.{Tree, Trees, Var, App, none, more, is_ground, are_ground}
-use Rattle.circ_theory.specs.Variables.{Variable, is_variable, is_before, put_in_order, sorted, seen, seen_in, seen_in_all}
+use Rattle.circ_theory.specs.Theory.{Pair}
+use Rattle.circ_theory.specs.Variables.{Variable, is_variable, is_before, put_in_order, sorted, seen, seen_in, seen_in_all, seen_in_pairs}
 use Rattle.circ_replay.specs.declared.variables.Variable.{Variable as Kept}
-use Rattle.circ_replay.specs.Gathering.{variable_of, variable_cmp, gathered, gathered_all}
+use Rattle.circ_replay.specs.Gathering.{variable_of, variable_cmp, gathered, gathered_all, gathered_pairs}
 
 -- ---- the order of variables
 
@@ -141,6 +142,12 @@ mutual
   pub gathered_all_seen : (ts : Trees) (vs : List Variable) → gathered_all ts (sorted vs) ≡ sorted (seen_in_all ts vs)
   gathered_all_seen none vs = refl
   gathered_all_seen (more t ts) vs = ap (gathered_all ts) (gathered_seen t vs) ∙ gathered_all_seen ts (seen_in t vs)
+
+pub gathered_pairs_seen : (ps : List Pair) (vs : List Variable) → gathered_pairs ps (sorted vs) ≡ sorted (seen_in_pairs ps vs)
+gathered_pairs_seen [] vs = refl
+gathered_pairs_seen (p ∷ ps) vs =
+    ap (λ us. gathered_pairs ps (gathered p.right us)) (gathered_seen p.left vs)
+    ∙ ap (gathered_pairs ps) (gathered_seen p.right (seen_in p.left vs)) ∙ gathered_pairs_seen ps (seen_in p.right (seen_in p.left vs))
 
 -- ---- what the code does
 

@@ -1,93 +1,139 @@
 -- What following a link of an equation or a hypothesis does is what the link says.
-use Rattle.std.proofs.Common.{◌≡◌, ℕ, List, Option, Some, None, Result, Ok, Err, IfOk, ap, sym, subst, ◌∙◌}
+use Rattle.std.proofs.Common.{◌≡◌, ℕ, List, [], ◌∷◌, map, Option, Some, None, Result, Ok, Err, IfOk, ap, sym, subst, ◌∙◌}
 use Rattle.std.specs.List.{slice_get}
+use Rattle.std.specs.Option.{option_map}
 use Rattle.std.proofs.lemmas.Option.{same_Some}
-use Rattle.circ_term.specs.Tree.{Tree, sort_of, replaced}
-use Rattle.circ_term.specs.Substitution.{instance}
+use Rattle.circ_term.specs.Tree.{Tree, sort_of}
+use Rattle.circ_term.specs.Substitution.{Substitution}
 use Rattle.circ_term.specs.Subst.{Bound, substitution_of}
-use Rattle.circ_term.proofs.Instances.{instance-same}
-use Rattle.circ_theory.specs.Theory.{Pair, pair_of, IsHidden}
+use Rattle.circ_theory.specs.Theory.{Pair, sides, goal_of, instance_pair, IsHidden}
 use Rattle.circ_theory.specs.Variables.{Variable, variables_of, sorted, FitVariables, given}
-use Rattle.circ_theory.specs.Rewriting.{from_side, to_side, RewritesBy}
+use Rattle.circ_theory.specs.Rewriting.{from_side, to_side, by_terms, RewritesBy}
 use Rattle.circ_theory.specs.declared.parts.Equation.{Equation}
 use Rattle.circ_theory.specs.declared.parts.Goal.{Goal}
 use Rattle.circ_theory.specs.declared.way.Way.{Way}
 use Rattle.circ_special.specs.Special.{IsSpecial}
-use Rattle.circ_proof.specs.Plain.{Equation_link, Hypothesis_link}
-use Rattle.circ_proof.specs.Goals.{sides}
-use Rattle.circ_proof.specs.Link.{Setting, EquationLeads}
+use Rattle.circ_proof.specs.Plain.{LinkOf, ChainsOf, Equation_link, Hypothesis_link, no_chain, more_chains, chains_in}
+use Rattle.circ_proof.specs.Link.{Setting, EquationLeads, ConditionsLead}
 use Rattle.circ_replay.specs.Following.{Follows}
-use Rattle.circ_replay.specs.Rewriting.{GivesExchange, GivesSubst}
+use Rattle.circ_replay.specs.Rewriting.{AreWithin, GivesSubst}
+use Rattle.circ_replay.specs.Usage.{AllMeet, Uses, GivesUse, unconditional}
+use Rattle.circ_replay.specs.declared.usage.Use.{Use}
 
--- the one term that rewriting by the pair leads to, or that there is none
-abbrev pub GivesRewriting : Pair → Way → (path : List ℕ) → (terms : List Tree) → Tree → Option Tree → Type 0
-GivesRewriting p way path terms t None = (u : Tree) → RewritesBy p way path terms t u → ⊥
-GivesRewriting p way path terms t (Some u) = RewritesBy p way path terms t u
+-- ---- conditions
+
+-- conditions lead where their sides' instances are within the limits and meet
+
+pub conditions_within : (c : Setting) (σ : Substitution) (E : List Pair) (cs : ChainsOf Tree) → ConditionsLead c σ E cs → AreWithin σ E
+conditions_within c σ [] cs r = tt
+conditions_within c σ (p ∷ ps) no_chain r = absurd r
+conditions_within c σ (p ∷ ps) (more_chains l m cs) r = ((r.0, r.1), conditions_within c σ ps cs r.3)
+
+pub conditions_meet : (c : Setting) (σ : Substitution) (E : List Pair) (cs : ChainsOf Tree) → ConditionsLead c σ E cs → AllMeet c (map (instance_pair σ) E) cs
+conditions_meet c σ [] no_chain r = tt
+conditions_meet c σ [] (more_chains l m cs) r = absurd r
+conditions_meet c σ (p ∷ ps) no_chain r = absurd r
+conditions_meet c σ (p ∷ ps) (more_chains l m cs) r = (r.2, conditions_meet c σ ps cs r.3)
+
+pub conditions_lead : (c : Setting) (σ : Substitution) (E : List Pair) (cs : ChainsOf Tree) → AreWithin σ E → AllMeet c (map (instance_pair σ) E) cs
+    → ConditionsLead c σ E cs
+conditions_lead c σ [] no_chain w r = tt
+conditions_lead c σ [] (more_chains l m cs) w r = absurd r
+conditions_lead c σ (p ∷ ps) no_chain w r = absurd r
+conditions_lead c σ (p ∷ ps) (more_chains l m cs) w r = (w.0.0, w.0.1, r.0, conditions_lead c σ ps cs w.1 r.1)
+
+-- a link without conditions
+pub unconditional_uses : (c : Setting) (l : LinkOf Tree) (t : Tree) (o : Option Tree) → chains_in l ≡ no_chain → Follows c l t o
+    → Uses c l t (option_map unconditional o)
+unconditional_uses c l t None e h = h
+unconditional_uses c l t (Some u) e h = record {
+  leads = λ m. h;
+  only = λ v r. let P : ChainsOf Tree → Type 0 = AllMeet c [] in subst P (sym e) tt;
+}
+
+-- ---- rewriting
+
+-- the one term that rewriting by the goal leads to, with its conditions' instances, or that there is none
+abbrev pub GivesRewriting : Goal → Way → (path : List ℕ) → (terms : List Tree) → Tree → Option Use → Type 0
+GivesRewriting g way path terms t None = (u : Tree) → RewritesBy g way path terms t u → AreWithin (by_terms g terms) g.conds → ⊥
+GivesRewriting g way path terms t (Some x) =
+    RewritesBy g way path terms t x.term × AreWithin (by_terms g terms) g.conds × (x.conds ≡ map (instance_pair (by_terms g terms)) g.conds)
 
 -- no term comes of terms that do not fit
-pub unfit_rewriting : (p : Pair) (vs : List Variable) (way : Way) (path : List ℕ) (terms : List Tree) (t u : Tree) → vs ≡ sorted (variables_of p)
-    → (FitVariables vs terms → ⊥) → RewritesBy p way path terms t u → ⊥
-unfit_rewriting p vs way path terms t u e unfit r = let P : List Variable → Type 0 = λ ws. FitVariables ws terms in unfit (subst P (sym e) r.fit)
+pub unfit_rewriting : (g : Goal) (vs : List Variable) (way : Way) (path : List ℕ) (terms : List Tree) (t u : Tree) → vs ≡ sorted (variables_of g)
+    → (FitVariables vs terms → ⊥) → RewritesBy g way path terms t u → ⊥
+unfit_rewriting g vs way path terms t u e unfit r = let P : List Variable → Type 0 = λ ws. FitVariables ws terms in unfit (subst P (sym e) r.fit)
 
 -- a rewriting under a substitution that gives the variables these terms
-pub gives_rewriting : {E : Type 0} (p : Pair) (vs : List Variable) (way : Way) (path : List ℕ) (terms : List Tree) (σ : List Bound) (t : Tree)
-    → vs ≡ sorted (variables_of p) → GivesSubst vs terms (Some σ) → (r : Result (Option Tree) E)
-    → IfOk r (GivesExchange t path (instance (substitution_of σ) (from_side way p)) (instance (substitution_of σ) (to_side way p)))
-    → IfOk r (GivesRewriting p way path terms t)
-gives_rewriting {E = E} p vs way path terms σ t e gives r rewrites = go r rewrites
+pub gives_rewriting : {E : Type 0} (g : Goal) (vs : List Variable) (way : Way) (path : List ℕ) (terms : List Tree) (σ : List Bound) (t : Tree)
+    → vs ≡ sorted (variables_of g) → GivesSubst vs terms (Some σ) → (r : Result (Option Use) E)
+    → IfOk r (GivesUse (substitution_of σ) (from_side way (sides g)) (to_side way (sides g)) g.conds path t)
+    → IfOk r (GivesRewriting g way path terms t)
+gives_rewriting {E = E} g vs way path terms σ t e gives r h =
+    let same : substitution_of σ ≡ by_terms g terms = (λ i n s. gives.1 n s i) ∙ ap (λ ws. given ws terms) e in
+    let P : Substitution → Type 0 = λ τ. IfOk r (GivesUse τ (from_side way (sides g)) (to_side way (sides g)) g.conds path t) in
+    go r (subst P same h)
   where
-    from : Tree
-    from = from_side way p
-
-    to : Tree
-    to = to_side way p
-
-    side : (x : Tree) → instance (substitution_of σ) x ≡ instance (given (sorted (variables_of p)) terms) x
-    side x = instance-same (substitution_of σ) (given vs terms) x gives.1 ∙ ap (λ ws. instance (given ws terms) x) e
-
-    fit : FitVariables (sorted (variables_of p)) terms
+    fit : FitVariables (sorted (variables_of g)) terms
     fit = let P : List Variable → Type 0 = λ ws. FitVariables ws terms in subst P e gives.0
 
-    go : (r : Result (Option Tree) E) → IfOk r (GivesExchange t path (instance (substitution_of σ) from) (instance (substitution_of σ) to))
-        → IfOk r (GivesRewriting p way path terms t)
+    go : (r : Result (Option Use) E) → IfOk r (GivesUse (by_terms g terms) (from_side way (sides g)) (to_side way (sides g)) g.conds path t)
+        → IfOk r (GivesRewriting g way path terms t)
     go (Err f) h = tt
-    go (Ok (Some u)) h = record {
-      fit = fit;
-      replaces = record { there = h.there ∙ ap Some (side from); made = ap (replaced t path) (sym (side to)) ∙ h.made; within = h.within };
-    }
-    go (Ok None) h = λ u r.
-        let x = r.replaces in
-        h u (record { there = x.there ∙ ap Some (sym (side from)); made = ap (replaced t path) (side to) ∙ x.made; within = x.within })
+    go (Ok (Some x)) h = (record { fit = fit; replaces = h.0 }, h.1, h.2)
+    go (Ok None) h = λ u r w. h u r.replaces w
 
 -- ---- equations
 
 pub equation_unfit : (c : Setting) (number : ℕ) (e : Equation) (vs : List Variable) (way : Way) (path : List ℕ) (terms : List Tree) (t u : Tree)
-    → Some e ≡ slice_get c.theory.equations number → vs ≡ sorted (variables_of (pair_of e)) → (FitVariables vs terms → ⊥)
+    → Some e ≡ slice_get c.theory.equations number → vs ≡ sorted (variables_of (goal_of e)) → (FitVariables vs terms → ⊥)
     → EquationLeads c number way path terms t u → ⊥
 equation_unfit c number e vs way path terms t u there same unfit r =
     let it : r.equation ≡ e = same_Some r.equation e (sym r.listed ∙ sym there) in
-    let P : Equation → Type 0 = λ d. RewritesBy (pair_of d) way path terms t u in
-    unfit_rewriting (pair_of e) vs way path terms t u same unfit (subst P it r.rewrites)
+    let P : Equation → Type 0 = λ d. RewritesBy (goal_of d) way path terms t u in
+    unfit_rewriting (goal_of e) vs way path terms t u same unfit (subst P it r.rewrites)
 
-pub equation_follows : {E : Type 0} (c : Setting) (number : ℕ) (e : Equation) (way : Way) (path : List ℕ) (terms : List Tree) (t : Tree)
-    → Some e ≡ slice_get c.theory.equations number → (r : Result (Option Tree) E) → IfOk r (GivesRewriting (pair_of e) way path terms t)
-    → IfOk r (Follows c (Equation_link number way path terms) t)
-equation_follows c number e way path terms t there (Err f) h = tt
-equation_follows c number e way path terms t there (Ok (Some u)) h = record { equation = e; listed = sym there; rewrites = h }
-equation_follows c number e way path terms t there (Ok None) h = λ u r.
-    let it : r.equation ≡ e = same_Some r.equation e (sym r.listed ∙ sym there) in
-    let P : Equation → Type 0 = λ d. RewritesBy (pair_of d) way path terms t u in
-    h u (subst P it r.rewrites)
+pub equation_uses : {E : Type 0} (c : Setting) (number : ℕ) (e : Equation) (way : Way) (path : List ℕ) (terms : List Tree) (t : Tree) (cs : ChainsOf Tree)
+    → Some e ≡ slice_get c.theory.equations number → (r : Result (Option Use) E) → IfOk r (GivesRewriting (goal_of e) way path terms t)
+    → IfOk r (Uses c (Equation_link number way path terms cs) t)
+equation_uses c number e way path terms t cs there (Err f) h = tt
+equation_uses c number e way path terms t cs there (Ok (Some x)) h = record {
+  leads = λ m.
+      let P : List Pair → Type 0 = λ ps. AllMeet c ps cs in
+      (record { equation = e; listed = sym there; rewrites = h.0 }, conditions_lead c (by_terms (goal_of e) terms) e.conds cs h.1 (subst P h.2 m));
+  only = λ v r.
+      let it : r.0.equation ≡ e = same_Some r.0.equation e (sym r.0.listed ∙ sym there) in
+      let P : List Pair → Type 0 = λ ps. AllMeet c ps cs in
+      let Q : Equation → Type 0 = λ d. ConditionsLead c (by_terms (goal_of d) terms) d.conds cs in
+      subst P (sym h.2) (conditions_meet c (by_terms (goal_of e) terms) e.conds cs (subst Q it r.1));
+}
+equation_uses c number e way path terms t cs there (Ok None) h = λ u r.
+    let it : r.0.equation ≡ e = same_Some r.0.equation e (sym r.0.listed ∙ sym there) in
+    let P : Equation → Type 0 = λ d. RewritesBy (goal_of d) way path terms t u in
+    let Q : Equation → Type 0 = λ d. ConditionsLead c (by_terms (goal_of d) terms) d.conds cs in
+    h u (subst P it r.0.rewrites) (conditions_within c (by_terms (goal_of e) terms) e.conds cs (subst Q it r.1))
 
 -- ---- hypotheses
 
-pub hypothesis_follows : {E : Type 0} (c : Setting) (number : ℕ) (g : Goal) (way : Way) (path : List ℕ) (terms : List Tree) (t : Tree)
+pub hypothesis_uses : {E : Type 0} (c : Setting) (number : ℕ) (g : Goal) (way : Way) (path : List ℕ) (terms : List Tree) (t : Tree) (cs : ChainsOf Tree)
     → Some g ≡ slice_get c.hypotheses number → (IsHidden c.theory (sort_of g.left) → IsSpecial c.places t path)
-    → (r : Result (Option Tree) E) → IfOk r (GivesRewriting (sides g) way path terms t)
-    → IfOk r (Follows c (Hypothesis_link number way path terms) t)
-hypothesis_follows c number g way path terms t there special (Err f) h = tt
-hypothesis_follows c number g way path terms t there special (Ok (Some u)) h = record { hypothesis = g; listed = sym there; rewrites = h; special = special }
-hypothesis_follows c number g way path terms t there special (Ok None) h = λ u r.
-    let it : r.hypothesis ≡ g = same_Some r.hypothesis g (sym r.listed ∙ sym there) in
-    let P : Goal → Type 0 = λ d. RewritesBy (sides d) way path terms t u in
-    h u (subst P it r.rewrites)
+    → (r : Result (Option Use) E) → IfOk r (GivesRewriting g way path terms t)
+    → IfOk r (Uses c (Hypothesis_link number way path terms cs) t)
+hypothesis_uses c number g way path terms t cs there special (Err f) h = tt
+hypothesis_uses c number g way path terms t cs there special (Ok (Some x)) h = record {
+  leads = λ m.
+      let P : List Pair → Type 0 = λ ps. AllMeet c ps cs in (
+        record { hypothesis = g; listed = sym there; rewrites = h.0; special = special },
+        conditions_lead c (by_terms g terms) g.conds cs h.1 (subst P h.2 m),
+      );
+  only = λ v r.
+      let it : r.0.hypothesis ≡ g = same_Some r.0.hypothesis g (sym r.0.listed ∙ sym there) in
+      let P : List Pair → Type 0 = λ ps. AllMeet c ps cs in
+      let Q : Goal → Type 0 = λ d. ConditionsLead c (by_terms d terms) d.conds cs in
+      subst P (sym h.2) (conditions_meet c (by_terms g terms) g.conds cs (subst Q it r.1));
+}
+hypothesis_uses c number g way path terms t cs there special (Ok None) h = λ u r.
+    let it : r.0.hypothesis ≡ g = same_Some r.0.hypothesis g (sym r.0.listed ∙ sym there) in
+    let P : Goal → Type 0 = λ d. RewritesBy d way path terms t u in
+    let Q : Goal → Type 0 = λ d. ConditionsLead c (by_terms d terms) d.conds cs in
+    h u (subst P it r.0.rewrites) (conditions_within c (by_terms g terms) g.conds cs (subst Q it r.1))

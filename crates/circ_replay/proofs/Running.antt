@@ -13,10 +13,10 @@ use Rattle.circ_replay.specs.Following.{Follows, FollowsAll}
 use Rattle.circ_proof.proofs.Leading.{one_link}
 
 -- the links from one on
-abbrev pub links_from : (table : List Tree) → List Link → ℕ → List (LinkOf Tree)
+abbrev pub links_from : (table : List Tree) → List (Link ℕ) → ℕ → List (LinkOf Tree)
 links_from table ls i = resolved_links table (plain_links (drop i ls))
 
-pub links_next : (table : List Tree) (ls : List Link) (i : ℕ) (l : Link) → i < length ls → l ≡ get_or ls i l
+pub links_next : (table : List Tree) (ls : List (Link ℕ)) (i : ℕ) (l : Link ℕ) → i < length ls → l ≡ get_or ls i l
     → links_from table ls i ≡ resolved_link table (plain_link l) ∷ links_from table ls (i + 1)
 links_next table ls i l h e = ap (λ xs. resolved_links table (plain_links xs)) (drop_read ls i l h e)
 
@@ -41,13 +41,13 @@ runs_stuck c l ls ms t e h u r =
     h x.0 x.1
 
 -- a property of the terms of all links is one of each
-pub each_link : (P : ℕ → Type 0) (ls : List Link) (i : ℕ) (l : Link) → AllOfLinks P (plain_links ls) → i < length ls → l ≡ get_or ls i l
+pub each_link : (P : ℕ → Type 0) (ls : List (Link ℕ)) (i : ℕ) (l : Link ℕ) → AllOfLinks P (plain_links ls) → i < length ls → l ≡ get_or ls i l
     → AllOfLink P (plain_link l)
 each_link P [] i l a h e = absurd (omega arith)
-each_link P (x ∷ ls) zero l a h e = let Q : Link → Type 0 = λ y. AllOfLink P (plain_link y) in subst Q (sym e) a.0
+each_link P (x ∷ ls) zero l a h e = let Q : Link ℕ → Type 0 = λ y. AllOfLink P (plain_link y) in subst Q (sym e) a.0
 each_link P (x ∷ ls) (suc i) l a h e = each_link P ls i l a.1 (omega arith) e
 
-pub links_end : (table : List Tree) (ls : List Link) (i : ℕ) → length ls ≤ i → links_from table ls i ≡ []
+pub links_end : (table : List Tree) (ls : List (Link ℕ)) (i : ℕ) → length ls ≤ i → links_from table ls i ≡ []
 links_end table ls i h = ap (λ xs. resolved_links table (plain_links xs)) (drop_all i ls h)
 
 -- what holds of each term that a link leads to holds of the term that following it gives; and so for links

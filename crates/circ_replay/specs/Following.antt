@@ -2,9 +2,9 @@
 use Rattle.std.specs.Prelude.{List, Option, Some, None}
 use Rattle.circ_term.specs.Tree.{Tree}
 use Rattle.circ_theory.specs.Theory.{Pair}
-use Rattle.circ_theory.specs.declared.parts.Goal.{Goal}
+use Rattle.circ_theory.specs.Pairs.{plain_pair}
+use Rattle.circ_theory.specs.declared.pairs.Pair.{Pair as PairOfTerms}
 use Rattle.circ_proof.specs.Plain.{LinkOf, ChainOf}
-use Rattle.circ_proof.specs.Goals.{sides}
 use Rattle.circ_proof.specs.Runs.{Runs}
 use Rattle.circ_proof.specs.Link.{Setting, Leads}
 use Rattle.circ_proof.specs.Justified.{ChainLeads}
@@ -19,7 +19,7 @@ abbrev pub FollowsAll : Setting → List (LinkOf Tree) → Tree → Option Tree 
 FollowsAll c ls t None = (u : Tree) → Runs (Leads c) ls t u → ⊥
 FollowsAll c ls t (Some u) = Runs (Leads c) ls t u
 
--- the one goal that the chain leads to, or that there is none
-abbrev pub FollowsChain : Setting → ChainOf Tree → Pair → Option Goal → Type 0
+-- the one pair that the chain leads to, or that there is none
+abbrev pub FollowsChain : Setting → ChainOf Tree → Pair → Option PairOfTerms → Type 0
 FollowsChain c chain p None = (q : Pair) → ChainLeads (Leads c) chain p q → ⊥
-FollowsChain c chain p (Some g) = ChainLeads (Leads c) chain p (sides g)
+FollowsChain c chain p (Some q) = ChainLeads (Leads c) chain p (plain_pair q)

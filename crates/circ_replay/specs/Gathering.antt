@@ -1,9 +1,10 @@
 -- The variables of a term that are gathered in order.
-use Rattle.std.specs.Prelude.{List}
+use Rattle.std.specs.Prelude.{List, [], ◌∷◌}
 use Rattle.std.specs.declared.cmp.Ordering.{Ordering}
 use Rattle.std.specs.Ordering.{nat_cmp, ordering_then}
 use Rattle.std.specs.BTreeSet.{insert_key}
 use Rattle.circ_term.specs.Tree.{Tree, Trees, Var, App, none, more}
+use Rattle.circ_theory.specs.Theory.{Pair}
 use Rattle.circ_theory.specs.Variables.{Variable as TheVariable}
 use Rattle.circ_replay.specs.declared.variables.Variable.{Variable}
 
@@ -24,3 +25,7 @@ abbrev mutual
   pub gathered_all : Trees → List TheVariable → List TheVariable
   gathered_all none vs = vs
   gathered_all (more t ts) vs = gathered_all ts (gathered t vs)
+
+abbrev pub gathered_pairs : List Pair → List TheVariable → List TheVariable
+gathered_pairs [] vs = vs
+gathered_pairs (p ∷ ps) vs = gathered_pairs ps (gathered p.right (gathered p.left vs))

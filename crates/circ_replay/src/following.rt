@@ -1,30 +1,27 @@
 //! What recorded links lead to.
-ghost use Rattle.std.specs.Prelude.{◌≡◌, ◌<◌, ◌↔◌, IsTrue, IfOk, List, length, map};
-ghost use Rattle.std.specs.List.{slice_get, AllByRecursion};
-ghost use Rattle.std.specs.Option.{option_copied, IfSome};
+ghost use Rattle.std.specs.Prelude.{◌≡◌, ◌<◌, ◌↔◌, IsTrue, IfOk, length, map};
+ghost use Rattle.std.specs.List.{AllByRecursion};
+ghost use Rattle.std.specs.Option.{IfSome};
 ghost use Rattle.circ_term.specs.Tree.{sort_of};
 ghost use Rattle.circ_theory.specs.Signature.{IsWellSorted};
-ghost use Rattle.circ_theory.specs.Theory.{Pair, IsHidden};
+ghost use Rattle.circ_theory.specs.Theory.{AreWellSortedPairs};
+ghost use Rattle.circ_theory.specs.Pairs.{plain_pair};
 ghost use Rattle.circ_theory.specs.Rewriting.{named};
-ghost use Rattle.circ_special.specs.Special.{IsSpecial};
-ghost use Rattle.circ_aci.specs.Content.{HasContentOf};
-ghost use Rattle.circ_proof.specs.Plain.{plain_link, plain_links};
-ghost use Rattle.circ_proof.specs.Plain.{Equation_link, Hypothesis_link};
-ghost use Rattle.circ_proof.specs.Plain.{Assumption_link, Content_link};
-ghost use Rattle.circ_proof.specs.Goals.{sides, AreSortedGoals};
-ghost use Rattle.circ_proof.specs.Link.{setting, resolved_link, resolved_links};
-ghost use Rattle.circ_proof.specs.Link.{IsInTable, AllOfLinks};
-ghost use Rattle.circ_proof.specs.Link.{LinkDerives};
-ghost use Rattle.circ_replay.specs.Following.{Follows, FollowsAll};
+ghost use Rattle.circ_proof.specs.Plain.{plain_link, plain_links, plain_chain, plain_chains};
+ghost use Rattle.circ_proof.specs.Plain.{map_chains, Same_why};
+ghost use Rattle.circ_proof.specs.Goals.{AreSortedGoals};
+ghost use Rattle.circ_proof.specs.Link.{setting, resolved_link, resolved_links, resolved_chain};
+ghost use Rattle.circ_proof.specs.Link.{IsInTable, AllOfLinks, AllOfChains, LinkDerives};
+ghost use Rattle.circ_proof.specs.Justified.{Justified, AllOfChain};
+ghost use Rattle.circ_replay.specs.Following.{Follows, FollowsAll, FollowsChain};
+ghost use Rattle.circ_replay.specs.Usage.{AllMeet};
 ghost use Rattle.circ_replay.specs.Sources.{setting_of};
 
-use crate::rewriting::{Sides, exchange, replaced_at, rewrite};
-use crate::substitution;
-use circ_aci::same_content;
-use circ_proof::Link;
+use crate::usage::{Sources, chains};
+use circ_proof::{Chain, Link};
 use circ_special::Gamma;
 use circ_term::Term;
-use circ_theory::{Goal, Theory, Way};
+use circ_theory::{Goal, Pair, Theory};
 use std::alloc::{AllocError, Global};
 
 /// The term that a link leads to. None where the link does not apply.
@@ -34,20 +31,21 @@ pub fn follow(
     table: &[Term],
     gamma: &Gamma,
     hyps: &[Goal],
-    assumptions: &[Goal],
+    assumptions: &[Pair],
     link: &Link,
     term: &Term,
 ) -> Result<Option<Term>, AllocError>
     requires in_table { IsInTable (length table.now) (plain_link link.now) }
     requires table_sorted { AllByRecursion (IsWellSorted theory.now.signature) table.now }
     requires hyps_sorted { AreSortedGoals theory.now hyps.now }
-    requires assumptions_sorted { AreSortedGoals theory.now assumptions.now }
+    requires assumptions_sorted { AreWellSortedPairs theory.now.signature
+        (map plain_pair assumptions.now) }
     requires term_sorted { IsWellSorted theory.now.signature term.now }
     ensures exact { IfOk result (Follows
-        (setting theory.now gamma.now hyps.now (map sides assumptions.now))
+        (setting theory.now gamma.now hyps.now (map plain_pair assumptions.now))
         (resolved_link table.now (plain_link link.now)) term.now) }
     ensures derivable { IfOk result (λ o. IfSome o
-        (LinkDerives theory.now (map sides assumptions.now) (plain_link link.now) term.now)) }
+        (LinkDerives theory.now (map plain_pair assumptions.now) (plain_link link.now) term.now)) }
     ensures well_sorted { IfOk result (λ o. IfSome o (IsWellSorted theory.now.signature)) }
     ensures same_sort { IfOk result (λ o. IfSome o (λ u. sort_of u ≡ sort_of term.now)) }
 {
@@ -69,17 +67,18 @@ pub fn follow_all(
     table: &[Term],
     gamma: &Gamma,
     hyps: &[Goal],
-    assumptions: &[Goal],
+    assumptions: &[Pair],
     links: &[Link],
     term: &Term,
 ) -> Result<Option<Term>, AllocError>
     requires in_table { AllOfLinks (λ n. n < length table.now) (plain_links links.now) }
     requires table_sorted { AllByRecursion (IsWellSorted theory.now.signature) table.now }
     requires hyps_sorted { AreSortedGoals theory.now hyps.now }
-    requires assumptions_sorted { AreSortedGoals theory.now assumptions.now }
+    requires assumptions_sorted { AreWellSortedPairs theory.now.signature
+        (map plain_pair assumptions.now) }
     requires term_sorted { IsWellSorted theory.now.signature term.now }
     ensures exact { IfOk result (FollowsAll
-        (setting theory.now gamma.now hyps.now (map sides assumptions.now))
+        (setting theory.now gamma.now hyps.now (map plain_pair assumptions.now))
         (resolved_links table.now (plain_links links.now)) term.now) }
     ensures well_sorted { IfOk result (λ o. IfSome o (IsWellSorted theory.now.signature)) }
     ensures same_sort { IfOk result (λ o. IfSome o (λ u. sort_of u ≡ sort_of term.now)) }
@@ -95,26 +94,17 @@ pub fn follow_all(
     sources.run(assumptions, links, term)
 }
 
-// What a link is read against, the assumptions apart, and the table of the terms that it names.
-#[derive(Clone, Copy)]
-pub(crate) struct Sources<'a> {
-    pub(crate) alloc: Global,
-    pub(crate) theory: &'a Theory,
-    pub(crate) table: &'a [Term],
-    pub(crate) gamma: &'a Gamma,
-    pub(crate) hyps: &'a [Goal],
-}
-
 impl Sources<'_> {
     // The term that the links lead to, one after another.
+    #[cycle(lead)]
     pub(crate) fn run(
         &self,
-        assumptions: &[Goal],
+        assumptions: &[Pair],
         links: &[Link],
         term: &Term,
     ) -> Result<Option<Term>, AllocError>
         requires { AllOfLinks (λ n. n < length self.now.table.now) (plain_links links.now) }
-        ensures { IfOk result (FollowsAll (setting_of self.now (map sides assumptions.now))
+        ensures { IfOk result (FollowsAll (setting_of self.now (map plain_pair assumptions.now))
             (resolved_links self.now.table.now (plain_links links.now)) term.now) }
     {
         let mut here = term.share()?;
@@ -128,159 +118,87 @@ impl Sources<'_> {
     }
 
     // The term that the link leads to.
+    #[cycle(lead)]
     fn lead(
         &self,
-        assumptions: &[Goal],
+        assumptions: &[Pair],
         link: &Link,
         term: &Term,
     ) -> Result<Option<Term>, AllocError>
         requires { IsInTable (length self.now.table.now) (plain_link link.now) }
-        ensures { IfOk result (Follows (setting_of self.now (map sides assumptions.now))
+        ensures { IfOk result (Follows (setting_of self.now (map plain_pair assumptions.now))
             (resolved_link self.now.table.now (plain_link link.now)) term.now) }
     {
-        match link {
-            Link::Equation {
-                number,
-                way,
-                path,
-                terms,
-            } => self.by_equation(*number, *way, path.as_slice(), terms.as_slice(), term),
-            Link::Hypothesis {
-                number,
-                way,
-                path,
-                terms,
-            } => self.by_hypothesis(*number, *way, path.as_slice(), terms.as_slice(), term),
-            Link::Assumption { number, way, path } => {
-                self.by_assumption(assumptions, *number, *way, path.as_slice(), term)
+        let Some(made) = self.used(assumptions, link, term)? else {
+            return Ok(None);
+        };
+        if !self.all_meet(assumptions, made.conds.as_slice(), chains(link))? {
+            return Ok(None);
+        }
+        Ok(Some(made.term))
+    }
+
+    // Whether each pair's sides lead to one term by its chain.
+    #[cycle(lead)]
+    fn all_meet(
+        &self,
+        assumptions: &[Pair],
+        pairs: &[Pair],
+        chains: &[Chain],
+    ) -> Result<bool, AllocError>
+        requires { AllOfChains (λ n. n < length self.now.table.now) (plain_chains chains.now) }
+        ensures { IfOk result (λ b. IsTrue b ↔ AllMeet
+            (setting_of self.now (map plain_pair assumptions.now)) (map plain_pair pairs.now)
+            (map_chains (named self.now.table.now) (plain_chains chains.now))) }
+    {
+        if pairs.len() != chains.len() {
+            return Ok(false);
+        }
+        for i in 0..chains.len() {
+            if !self.meets(assumptions, &chains[i], &pairs[i])? {
+                return Ok(false);
             }
-            Link::Content {
-                op,
-                path,
-                term: new,
-            } => self.by_content(*op, path.as_slice(), *new, term),
         }
+        Ok(true)
     }
 
-    fn by_equation(
+    // Whether the chain leads to two sides that are the same.
+    #[cycle(lead)]
+    pub(crate) fn meets(
         &self,
-        number: u32,
-        way: Way,
-        path: &[u16],
-        terms: &[u32],
-        term: &Term,
-    ) -> Result<Option<Term>, AllocError>
-        requires { AllByRecursion (λ n. n < length self.now.table.now) terms.now }
-        ensures { (A : List Pair) → IfOk result (Follows (setting_of self.now A)
-            (Equation_link number way path.now
-            (map (named self.now.table.now) terms.now)) term.now) }
+        assumptions: &[Pair],
+        chain: &Chain,
+        pair: &Pair,
+    ) -> Result<bool, AllocError>
+        requires { AllOfChain (λ n. n < length self.now.table.now) (plain_chain chain.now) }
+        ensures { IfOk result (λ b. IsTrue b ↔ Justified
+            (setting_of self.now (map plain_pair assumptions.now)) (plain_pair pair.now)
+            (Same_why (resolved_chain self.now.table.now (plain_chain chain.now)))) }
     {
-        self.theory.known();
-        let Some(equation) = self.theory.equation(number) else {
-            return Ok(None);
-        };
-        let Some(sorts) = self.theory.equation_sorts(number) else {
-            return Ok(None);
-        };
-        let Some(subst) = substitution::of_sorts(self.alloc, sorts, self.table, terms)? else {
-            return Ok(None);
-        };
-        let sides = Sides::of(way, &equation.left, &equation.right);
-        rewrite(self.alloc, &subst, &sides, path, term)
+        match self.follow_chain(assumptions, chain, pair)? {
+            Some(end) => Ok(end.left.same(&end.right)),
+            None => Ok(false),
+        }
     }
 
-    fn by_hypothesis(
+    // The pair that the chain leads to.
+    #[cycle(lead)]
+    pub(crate) fn follow_chain(
         &self,
-        number: u32,
-        way: Way,
-        path: &[u16],
-        terms: &[u32],
-        term: &Term,
-    ) -> Result<Option<Term>, AllocError>
-        requires { AllByRecursion (λ n. n < length self.now.table.now) terms.now }
-        ensures { (A : List Pair) → IfOk result (Follows (setting_of self.now A)
-            (Hypothesis_link number way path.now
-            (map (named self.now.table.now) terms.now)) term.now) }
+        assumptions: &[Pair],
+        chain: &Chain,
+        pair: &Pair,
+    ) -> Result<Option<Pair>, AllocError>
+        requires { AllOfChain (λ n. n < length self.now.table.now) (plain_chain chain.now) }
+        ensures { IfOk result (FollowsChain (setting_of self.now (map plain_pair assumptions.now))
+            (resolved_chain self.now.table.now (plain_chain chain.now)) (plain_pair pair.now)) }
     {
-        let Some(hypothesis) = goal_at(self.hyps, number) else {
+        let Some(left) = self.run(assumptions, chain.left.as_slice(), &pair.left)? else {
             return Ok(None);
         };
-        if !self.may_use(hypothesis, path, term) {
-            return Ok(None);
-        }
-        let Some(subst) = substitution::of_goal(self.alloc, hypothesis, self.table, terms)? else {
+        let Some(right) = self.run(assumptions, chain.right.as_slice(), &pair.right)? else {
             return Ok(None);
         };
-        let sides = Sides::of(way, &hypothesis.left, &hypothesis.right);
-        rewrite(self.alloc, &subst, &sides, path, term)
+        Ok(Some(Pair { left, right }))
     }
-
-    // A hypothesis of hidden sort may be used at special paths only.
-    fn may_use(&self, hypothesis: &Goal, path: &[u16], term: &Term) -> bool
-        ensures { IsTrue result ↔ (IsHidden self.now.theory.now (sort_of hypothesis.now.left)
-            → IsSpecial self.now.gamma.now term.now path.now) }
-    {
-        if !self.theory.is_hidden(hypothesis.left.sort()) {
-            return true;
-        }
-        self.gamma.on_path(term, path)
-    }
-
-    fn by_assumption(
-        &self,
-        assumptions: &[Goal],
-        number: u32,
-        way: Way,
-        path: &[u16],
-        term: &Term,
-    ) -> Result<Option<Term>, AllocError>
-        ensures { IfOk result (Follows (setting_of self.now (map sides assumptions.now))
-            (Assumption_link number way path.now) term.now) }
-    {
-        let Some(assumption) = goal_at(assumptions, number) else {
-            return Ok(None);
-        };
-        let sides = Sides::of(way, &assumption.left, &assumption.right);
-        exchange(self.alloc, &sides, path, term)
-    }
-
-    fn by_content(
-        &self,
-        op: u32,
-        path: &[u16],
-        new: u32,
-        term: &Term,
-    ) -> Result<Option<Term>, AllocError>
-        requires { new < length self.now.table.now }
-        ensures { (A : List Pair) → IfOk result (Follows (setting_of self.now A)
-            (Content_link op path.now (named self.now.table.now new)) term.now) }
-    {
-        let Some(old) = term.at(path) else {
-            return Ok(None);
-        };
-        let new = &self.table[new as usize];
-        if !self.has_content_of(op, old, new)? {
-            return Ok(None);
-        }
-        replaced_at(self.alloc, term, path, new)
-    }
-
-    fn has_content_of(&self, op: u32, old: &Term, new: &Term) -> Result<bool, AllocError>
-        ensures { IfOk result (λ b. IsTrue b ↔
-            HasContentOf self.now.theory.now.signature op old.now new.now) }
-    {
-        if op >= self.theory.op_count() {
-            return Ok(false);
-        }
-        if new.sort() != old.sort() {
-            return Ok(false);
-        }
-        same_content(self.alloc, self.theory, op, old, new)
-    }
-}
-
-fn goal_at(goals: &[Goal], number: u32) -> Option<&Goal>
-    ensures { option_copied result ≡ slice_get goals.now number }
-{
-    goals.get(number as usize)
 }

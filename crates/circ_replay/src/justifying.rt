@@ -4,25 +4,26 @@ ghost use Rattle.std.specs.Prelude.{IsTrue, IfOk, OnOk};
 ghost use Rattle.std.specs.List.{AllByRecursion};
 ghost use Rattle.circ_term.specs.Tree.{App, none, sort_of};
 ghost use Rattle.circ_theory.specs.Signature.{IsWellSorted};
+ghost use Rattle.circ_theory.specs.Theory.{sides, IsWellSortedGoal};
+ghost use Rattle.circ_theory.specs.Pairs.{plain_pair};
 ghost use Rattle.circ_theory.specs.Observing.{case_list};
 ghost use Rattle.circ_theory.specs.Rewriting.{named};
-ghost use Rattle.circ_proof.specs.Plain.{plain_why, plain_whys, plain_chain, map_whys, Same_why};
-ghost use Rattle.circ_proof.specs.Goals.{goal, sides, AreSortedGoals, IsWellSortedGoal};
-ghost use Rattle.circ_proof.specs.Link.{setting, resolved_chain, resolved_why};
-ghost use Rattle.circ_proof.specs.Justified.{Justified, EachJustified, IsWhyInTable};
-ghost use Rattle.circ_proof.specs.Justified.{AllOfChain, AllOfWhys};
-ghost use Rattle.circ_replay.specs.Following.{FollowsChain};
+ghost use Rattle.circ_proof.specs.Plain.{plain_why, plain_whys, map_whys};
+ghost use Rattle.circ_proof.specs.Goals.{AreSortedGoals};
+ghost use Rattle.circ_proof.specs.Link.{setting, resolved_why};
+ghost use Rattle.circ_proof.specs.Justified.{Justified, EachJustified, IsWhyInTable, AllOfWhys};
 ghost use Rattle.circ_replay.specs.Sources.{setting_of};
 
-use crate::following::Sources;
-use circ_proof::{Chain, Why};
+use crate::usage::Sources;
+use circ_proof::Why;
 use circ_special::Gamma;
-use circ_term::{Term, TermFault};
-use circ_theory::{Goal, Theory};
+use circ_term::Term;
+use circ_theory::{Goal, Pair, Theory, constant_of};
 use std::alloc::{AllocError, Global};
 
-/// Whether the goal holds by the reason: each of its links applies, in its splits each constant of
-/// the term's case list has a reason, and each reason ends with two sides that are the same.
+/// Whether the goal holds by the reason, with its conditions as assumptions: each of its links
+/// applies, in its splits each constant of the term's case list has a reason, and each reason ends
+/// with two sides that are the same.
 pub fn follow_why(
     alloc: Global,
     theory: &Theory,
@@ -36,8 +37,9 @@ pub fn follow_why(
     requires table_sorted { AllByRecursion (IsWellSorted theory.now.signature) table.now }
     requires hyps_sorted { AreSortedGoals theory.now hyps.now }
     requires goal_sorted { IsWellSortedGoal theory.now goal.now }
-    ensures { IfOk result (λ b. IsTrue b ↔ Justified (setting theory.now gamma.now hyps.now [])
-        (sides goal.now) (resolved_why table.now (plain_why why.now))) }
+    ensures { IfOk result (λ b. IsTrue b ↔ Justified
+        (setting theory.now gamma.now hyps.now goal.now.conds) (sides goal.now)
+        (resolved_why table.now (plain_why why.now))) }
 {
     let sources = Sources {
         alloc,
@@ -46,8 +48,24 @@ pub fn follow_why(
         gamma,
         hyps,
     };
-    let mut assumptions = Vec::new(alloc);
-    sources.is_justified(&mut assumptions, goal, why)
+    let mut assumptions = shared(alloc, goal.conds.as_slice())?;
+    let pair = Pair {
+        left: goal.left.share()?,
+        right: goal.right.share()?,
+    };
+    sources.is_justified(&mut assumptions, &pair, why)
+}
+
+fn shared(alloc: Global, pairs: &[Pair]) -> Result<Vec<Pair>, AllocError>
+    ensures { IfOk result (λ v. map plain_pair v.items ≡ map plain_pair pairs.now) }
+{
+    let mut made = Vec::new(alloc);
+    for pair in pairs {
+        let left = pair.left.share()?;
+        let right = pair.right.share()?;
+        made.push(Pair { left, right })?;
+    }
+    Ok(made)
 }
 
 impl Sources<'_> {
@@ -55,25 +73,25 @@ impl Sources<'_> {
     #[cycle(justify)]
     fn is_justified(
         &self,
-        assumptions: &mut Vec<Goal>,
-        goal: &Goal,
+        assumptions: &mut Vec<Pair>,
+        pair: &Pair,
         why: &Why,
     ) -> Result<bool, AllocError>
         requires { IsWhyInTable (length self.now.table.now) (plain_why why.now) }
         ensures exact { IfOk result (λ b. IsTrue b ↔ Justified
-            (setting_of self.now (map sides assumptions.old.items)) (sides goal.now)
+            (setting_of self.now (map plain_pair assumptions.old.items)) (plain_pair pair.now)
             (resolved_why self.now.table.now (plain_why why.now))) }
         ensures same { OnOk result (assumptions.new.items ≡ assumptions.old.items) }
     {
         match why {
-            Why::Same { chain } => self.meets(assumptions.as_slice(), chain, goal),
+            Why::Same { chain } => self.meets(assumptions.as_slice(), chain, pair),
             Why::Split { chain, term, whys } => {
                 self.theory.known();
                 let term = &self.table[*term as usize];
                 let Some(constants) = self.theory.cases(term.sort()) else {
                     return Ok(false);
                 };
-                let Some(left) = self.follow_chain(assumptions.as_slice(), chain, goal)? else {
+                let Some(left) = self.follow_chain(assumptions.as_slice(), chain, pair)? else {
                     return Ok(false);
                 };
                 self.each_justified(assumptions, &left, term, constants, whys.as_slice())
@@ -85,16 +103,16 @@ impl Sources<'_> {
     #[cycle(justify)]
     fn each_justified(
         &self,
-        assumptions: &mut Vec<Goal>,
-        goal: &Goal,
+        assumptions: &mut Vec<Pair>,
+        pair: &Pair,
         term: &Term,
         constants: &[u32],
         whys: &[Why],
     ) -> Result<bool, AllocError>
         requires { AllOfWhys (λ n. n < length self.now.table.now) (plain_whys whys.now) }
         ensures exact { IfOk result (λ b. IsTrue b ↔ EachJustified
-            (setting_of self.now (map sides assumptions.old.items)) (sides goal.now) term.now
-            (case_list (sort_of term.now) constants.now) constants.now
+            (setting_of self.now (map plain_pair assumptions.old.items)) (plain_pair pair.now)
+            term.now (case_list (sort_of term.now) constants.now) constants.now
             (map_whys (named self.now.table.now) (plain_whys whys.now))) }
         ensures same { OnOk result (assumptions.new.items ≡ assumptions.old.items) }
     {
@@ -104,7 +122,7 @@ impl Sources<'_> {
         let count = assumptions.len();
         for i in 0..whys.len() {
             assume(self.alloc, assumptions, term, constants[i])?;
-            let justified = self.is_justified(assumptions, goal, &whys[i])?;
+            let justified = self.is_justified(assumptions, pair, &whys[i])?;
             assumptions.truncate(count);
             if !justified {
                 return Ok(false);
@@ -112,64 +130,20 @@ impl Sources<'_> {
         }
         Ok(true)
     }
-
-    // Whether the chain leads to two sides that are the same.
-    fn meets(&self, assumptions: &[Goal], chain: &Chain, goal: &Goal) -> Result<bool, AllocError>
-        requires { AllOfChain (λ n. n < length self.now.table.now) (plain_chain chain.now) }
-        ensures { IfOk result (λ b. IsTrue b ↔ Justified
-            (setting_of self.now (map sides assumptions.now)) (sides goal.now)
-            (Same_why (resolved_chain self.now.table.now (plain_chain chain.now)))) }
-    {
-        match self.follow_chain(assumptions, chain, goal)? {
-            Some(end) => Ok(end.left.same(&end.right)),
-            None => Ok(false),
-        }
-    }
-
-    // The goal that the chain leads to.
-    fn follow_chain(
-        &self,
-        assumptions: &[Goal],
-        chain: &Chain,
-        goal: &Goal,
-    ) -> Result<Option<Goal>, AllocError>
-        requires { AllOfChain (λ n. n < length self.now.table.now) (plain_chain chain.now) }
-        ensures { IfOk result (FollowsChain (setting_of self.now (map sides assumptions.now))
-            (resolved_chain self.now.table.now (plain_chain chain.now)) (sides goal.now)) }
-    {
-        let Some(left) = self.run(assumptions, chain.left.as_slice(), &goal.left)? else {
-            return Ok(None);
-        };
-        let Some(right) = self.run(assumptions, chain.right.as_slice(), &goal.right)? else {
-            return Ok(None);
-        };
-        Ok(Some(Goal { left, right }))
-    }
 }
 
 // Adds the assumption that the term is the constant.
 fn assume(
     alloc: Global,
-    assumptions: &mut Vec<Goal>,
+    assumptions: &mut Vec<Pair>,
     term: &Term,
     constant: u32,
 ) -> Result<(), AllocError>
     ensures { OnOk result (assumptions.new.items ≡ assumptions.old.items ++
-        goal term.now (App constant (sort_of term.now) none) ∷ []) }
+        (record { left = term.now; right = App constant (sort_of term.now) none }) ∷ []) }
 {
     let left = term.share()?;
     let right = constant_of(alloc, constant, term.sort())?;
-    assumptions.push(Goal { left, right })?;
+    assumptions.push(Pair { left, right })?;
     Ok(())
-}
-
-fn constant_of(alloc: Global, constant: u32, sort: u32) -> Result<Term, AllocError>
-    ensures { IfOk result (λ t. t ≡ App constant sort none) }
-{
-    match Term::app(alloc, constant, sort, Vec::new(alloc)) {
-        Ok(term) => Ok(term),
-        Err(TermFault::Memory) => Err(AllocError),
-        Err(TermFault::TooBig { .. }) => unreachable!(),
-        Err(TermFault::TooDeep { .. }) => unreachable!(),
-    }
 }

@@ -12,6 +12,7 @@ mod justifying;
 mod rewriting;
 mod substitution;
 mod table;
+mod usage;
 mod variables;
 
 pub use following::{follow, follow_all};

@@ -1,13 +1,15 @@
 //! A subterm in place of another.
-ghost use Rattle.std.specs.Prelude.{◌≡◌, IfOk};
+ghost use Rattle.std.specs.Prelude.{◌≡◌, IfOk, map};
 ghost use Rattle.circ_term.specs.Substitution.{instance};
 ghost use Rattle.circ_term.specs.Subst.{substitution_of};
 ghost use Rattle.circ_theory.specs.Theory.{pair_with};
+ghost use Rattle.circ_theory.specs.Pairs.{plain_pair};
 ghost use Rattle.circ_theory.specs.Rewriting.{from_side, to_side};
 ghost use Rattle.circ_replay.specs.Rewriting.{GivesInstance, GivesReplaced, GivesExchange};
+ghost use Rattle.circ_replay.specs.Rewriting.{GivesPairs};
 
 use circ_term::{Subst, Term, TermFault};
-use circ_theory::Way;
+use circ_theory::{Pair, Pairs, Way};
 use std::alloc::{AllocError, Global};
 
 // The sides of a pair: the one that is looked for, and the one that replaces it.
@@ -75,6 +77,27 @@ pub(crate) fn exchange(
         return Ok(None);
     }
     replaced_at(alloc, term, path, sides.to)
+}
+
+// The pairs under the substitution. None where a term passes a limit.
+pub(crate) fn instances(
+    alloc: Global,
+    subst: &Subst,
+    pairs: &[Pair],
+) -> Result<Option<Pairs>, AllocError>
+    ensures { IfOk result (GivesPairs (substitution_of subst.now) (map plain_pair pairs.now)) }
+{
+    let mut made = Pairs::new(alloc);
+    for pair in pairs {
+        let Some(left) = instance(subst, &pair.left)? else {
+            return Ok(None);
+        };
+        let Some(right) = instance(subst, &pair.right)? else {
+            return Ok(None);
+        };
+        made.push(Pair { left, right })?;
+    }
+    Ok(Some(made))
 }
 
 fn instance(subst: &Subst, term: &Term) -> Result<Option<Term>, AllocError>

@@ -3,7 +3,6 @@ ghost use Rattle.std.specs.Prelude.{◌≡◌, ◌<◌, ◌≤◌, ◌^◌, map,
 ghost use Rattle.std.specs.List.{AllByRecursion};
 ghost use Rattle.circ_theory.specs.Rewriting.{named};
 ghost use Rattle.circ_theory.specs.Variables.{numbered, sorted, variables_of};
-ghost use Rattle.circ_proof.specs.Goals.{sides};
 ghost use Rattle.circ_replay.specs.Gathering.{variable_of};
 ghost use Rattle.circ_replay.specs.Rewriting.{GivesSubst};
 
@@ -47,7 +46,7 @@ pub(crate) fn of_goal(
     terms: &[u32],
 ) -> Result<Option<Subst>, AllocError>
     requires in_table { AllByRecursion (λ n. n < length table.now) terms.now }
-    ensures { IfOk result (GivesSubst (sorted (variables_of (sides goal.now)))
+    ensures { IfOk result (GivesSubst (sorted (variables_of goal.now))
         (map (named table.now) terms.now)) }
 {
     let variables = variables_of(alloc, goal)?;

@@ -1,5 +1,5 @@
 -- What is due at a root, as the code looks for it.
-use Rattle.std.proofs.Common.{◌≡◌, ℕ, Bool, true, false, List, [], Some, None, refl, ap, sym, ◌∙◌}
+use Rattle.std.proofs.Common.{◌≡◌, ℕ, Bool, true, false, List, Some, None, refl, ap, sym, ◌∙◌}
 use Rattle.circ_term.specs.Tree.{Tree, Var, App, operator_number}
 use Rattle.circ_term.specs.Order.{is_same}
 use Rattle.circ_term.specs.Substitution.{Substitution, KeepsSorts}
@@ -7,7 +7,7 @@ use Rattle.circ_term.proofs.Order.{same_here}
 use Rattle.std.proofs.lemmas.Option.{same_Some}
 use Rattle.circ_match.specs.Matcher.{Makes}
 use Rattle.circ_theory.specs.Signature.{Signature}
-use Rattle.circ_theory.specs.declared.parts.Goal.{Goal}
+use Rattle.circ_theory.specs.Theory.{Pair}
 use Rattle.circ_aci.specs.Canonical.{canonical_under}
 use Rattle.circ_rewrite.specs.Replacement.{Replacement, By_content}
 use Rattle.circ_rewrite.specs.Due.{assumed, content_due, rule_due, ruled, due_under}
@@ -23,14 +23,14 @@ differs s t h = go (is_same s t) refl
 
 -- ---- the order of the choices
 
-pub due_assumed : (sig : Signature) (rs : List Rule) (gs : List Goal) (t : Tree) (r : Replacement) → assumed 0 gs t ≡ Some r → due_under sig rs gs t ≡ Some r
-due_assumed sig rs gs (Var n s) r e = e
-due_assumed sig rs gs (App f s ts) r e = rw e refl
+pub due_assumed : (sig : Signature) (rs : List Rule) (A : List Pair) (t : Tree) (r : Replacement) → assumed 0 A t ≡ Some r → due_under sig rs A t ≡ Some r
+due_assumed sig rs A (Var n s) r e = e
+due_assumed sig rs A (App f s ts) r e = rw e refl
 
-pub due_content : (sig : Signature) (rs : List Rule) (gs : List Goal) (t : Tree) (f : ℕ) → assumed 0 gs t ≡ None → operator_number t ≡ Some f
-    → (canonical_under sig f t ≡ t → ⊥) → due_under sig rs gs t ≡ Some (record { reason = By_content f (canonical_under sig f t); new = canonical_under sig f t })
-due_content sig rs gs (Var n s) f e o h = absurd (cc)
-due_content sig rs gs (App g s ts) f e o h = rw (e, other (same_Some g f o) h) refl
+pub due_content : (sig : Signature) (rs : List Rule) (A : List Pair) (t : Tree) (f : ℕ) → assumed 0 A t ≡ None → operator_number t ≡ Some f
+    → (canonical_under sig f t ≡ t → ⊥) → due_under sig rs A t ≡ Some (record { reason = By_content f (canonical_under sig f t); new = canonical_under sig f t })
+due_content sig rs A (Var n s) f e o h = absurd (cc)
+due_content sig rs A (App g s ts) f e o h = rw (e, other (same_Some g f o) h) refl
   where
     other : g ≡ f → (canonical_under sig f (App g s ts) ≡ App g s ts → ⊥)
         → content_due sig (App g s ts) ≡ Some (record { reason = By_content f (canonical_under sig f (App g s ts)); new = canonical_under sig f (App g s ts) })
@@ -39,10 +39,10 @@ due_content sig rs gs (App g s ts) f e o h = rw (e, other (same_Some g f o) h) r
         differs (canonical_under sig g (App g s ts)) (App g s ts) (λ z. h (ap (λ k. canonical_under sig k (App g s ts)) (sym same) ∙ z)) in
         rw no (ap (λ k. Some (record { reason = By_content k (canonical_under sig k (App g s ts)); new = canonical_under sig k (App g s ts) })) same)
 
-pub due_ruled : (sig : Signature) (rs : List Rule) (gs : List Goal) (t : Tree) (f : ℕ) → assumed 0 gs t ≡ None → operator_number t ≡ Some f
-    → canonical_under sig f t ≡ t → due_under sig rs gs t ≡ ruled rs t
-due_ruled sig rs gs (Var n s) f e o h = absurd (cc)
-due_ruled sig rs gs (App g s ts) f e o h =
+pub due_ruled : (sig : Signature) (rs : List Rule) (A : List Pair) (t : Tree) (f : ℕ) → assumed 0 A t ≡ None → operator_number t ≡ Some f
+    → canonical_under sig f t ≡ t → due_under sig rs A t ≡ ruled rs t
+due_ruled sig rs A (Var n s) f e o h = absurd (cc)
+due_ruled sig rs A (App g s ts) f e o h =
     let same = same_Some g f o in
     rw (e, is_same_term (canonical_under sig g (App g s ts)) (App g s ts) (ap (λ k. canonical_under sig k (App g s ts)) same ∙ h)) refl
 

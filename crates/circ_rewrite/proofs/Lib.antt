@@ -5,3 +5,5 @@ pub mod Standings
 pub mod Runs
 pub mod Linked
 pub mod RuleLists
+pub mod TraceRows
+pub mod TraceLinks

@@ -1,5 +1,5 @@
 -- What is due is what a link asks, and keeps terms well-sorted.
-use Rattle.std.proofs.Common.{◌≡◌, ℕ, ◌+◌, zero, suc, Bool, true, false, ◌==◌, ◌&&◌, ◌||◌, if◌then◌else◌, List, [], ◌∷◌, map, Option, Some, None, refl, ap, sym, subst, ◌∙◌, arith}
+use Rattle.std.proofs.Common.{◌≡◌, ℕ, ◌+◌, zero, suc, Bool, true, false, ◌==◌, ◌&&◌, ◌||◌, if◌then◌else◌, List, [], ◌∷◌, Option, Some, None, refl, ap, sym, subst, ◌∙◌, arith}
 use Rattle.std.specs.List.{slice_get, list_any, AllByRecursion}
 use Rattle.std.specs.Option.{option_or}
 use Rattle.std.proofs.lemmas.Bool.{eqb-true, eq-eqb, and_parts}
@@ -10,10 +10,10 @@ use Rattle.circ_term.specs.Order.{is_same}
 use Rattle.circ_term.specs.Substitution.{Substitution, KeepsSorts, instance}
 use Rattle.circ_term.proofs.Order.{same_here}
 use Rattle.circ_theory.specs.Signature.{Signature, IsWellSorted, HaveSorts, IsSubstitution}
-use Rattle.circ_theory.specs.Theory.{Theory, pair_with, IsWellSortedPair}
+use Rattle.circ_theory.specs.Theory.{Theory, Pair, goal_of, IsWellSortedPair}
 use Rattle.circ_theory.specs.WellFormed.{IsWellFormed}
 use Rattle.circ_theory.specs.Variables.{Variable, is_variable, is_before, put_in_order, sorted, variables_of, FitVariables, given}
-use Rattle.circ_theory.specs.Rewriting.{RewritesBy}
+use Rattle.circ_theory.specs.Rewriting.{RewritesBy, by_terms}
 use Rattle.circ_theory.specs.declared.parts.Goal.{Goal}
 use Rattle.circ_theory.specs.declared.way.Way.TheVariants.{Forth}
 use Rattle.circ_theory.proofs.Instances.{sort_of-instance_by, instance_well_sorted}
@@ -21,13 +21,13 @@ use Rattle.circ_theory.proofs.Sorting.{KeepsSort, at_sorted, replaced_sorted}
 use Rattle.circ_aci.specs.Content.{HasContentOf}
 use Rattle.circ_aci.specs.Canonical.{canonical_under}
 use Rattle.circ_aci.proofs.Again.{is_canonical}
-use Rattle.circ_proof.specs.Goals.{sides}
-use Rattle.circ_proof.specs.Link.{Setting, Leads}
+use Rattle.circ_proof.specs.Plain.{no_chain}
+use Rattle.circ_proof.specs.Link.{Setting, Leads, ConditionsLead}
 use Rattle.circ_match.specs.Matcher.{has_variable}
 use Rattle.circ_match.proofs.Variables.{instance-variable}
-use Rattle.circ_rewrite.specs.Replacement.{Replacement, Traced, By_rule, By_assumption, By_content}
+use Rattle.circ_rewrite.specs.Replacement.{Replacement, Traced, By_rule, By_assumption, By_content, no_pass}
 use Rattle.circ_rewrite.specs.Matching.{image, images, matching, matches}
-use Rattle.circ_rewrite.specs.Due.{assumed, content_due, rule_variables, terms_by, ruled, due_under, IsRewriteRule}
+use Rattle.circ_rewrite.specs.Due.{assumed, content_due, rule_goal, rule_variables, terms_by, ruled, due_under, IsRewriteRule, AreUnconditional}
 use Rattle.circ_rewrite.specs.Reductions.{TracesLead}
 use Rattle.circ_rewrite.specs.Links.{link_by, link_of, IsNamed, IsRuleOf, AreLinks}
 use Rattle.circ_rewrite.specs.declared.parts.Rule.{Rule}
@@ -91,7 +91,7 @@ given_instance : (r : Rule) → IsRewriteRule r → (σ : Substitution) (t : Tre
 given_instance r ok σ t within =
     instance-variable (given (rule_variables r) (terms_by σ (rule_variables r))) σ t
     (λ n s h. given_back σ (rule_variables r) n s
-    (any_sorted (is_variable (record { number = n; sort = s })) (variables_of (pair_with r.left r.right)) ∙ sym (of_left r ok n s) ∙ within n s h))
+    (any_sorted (is_variable (record { number = n; sort = s })) (variables_of (rule_goal r)) ∙ sym (of_left r ok n s) ∙ within n s h))
 
 -- ---- what matching gives is well-sorted
 
@@ -137,10 +137,14 @@ module _ (c : Setting) (ok : IsWellFormed c.theory) where
   abbrev goals : List Goal
   goals = c.hypotheses
 
-  by_rule : (r : Rule) → IsRuleOf th goals r → (path : List ℕ) (t a u : Tree) → at t path ≡ Some a → IsWellSorted th.signature a → matches r.left a ≡ true
+  -- where a goal has no conditions, no chain is asked
+  nothing_asked : (σ : Substitution) (ps : List Pair) → ps ≡ [] → ConditionsLead c σ ps no_chain
+  nothing_asked σ ps e = subst (λ qs. ConditionsLead c σ qs no_chain) (sym e) tt
+
+  by_rule : (r : Rule) → IsRuleOf th goals r → r.conds ≡ [] → (path : List ℕ) (t a u : Tree) → at t path ≡ Some a → IsWellSorted th.signature a → matches r.left a ≡ true
       → replaced t path (instance (matching r.left a) r.right) ≡ Some u → IsWithinLimits u
-      → IsSound c path (record { reason = By_rule r.name (terms_by (matching r.left a) (rule_variables r)); new = instance (matching r.left a) r.right }) t a u
-  by_rule r rule path t a u there w m made within = record { leads = go r.name rule.named; keeps = keeps }
+      → IsSound c path (record { reason = By_rule r.name (terms_by (matching r.left a) (rule_variables r)) no_pass; new = instance (matching r.left a) r.right }) t a u
+  by_rule r rule plain path t a u there w m made within = record { leads = go r.name rule.named; keeps = keeps }
     where
       σ : Substitution
       σ = matching r.left a
@@ -157,46 +161,46 @@ module _ (c : Setting) (ok : IsWellFormed c.theory) where
       right : instance (given vs (terms_by σ vs)) r.right ≡ instance σ r.right
       right = given_instance r rule.rewrites σ r.right (bound_in_left r rule.rewrites)
 
-      rewrites : RewritesBy (pair_with r.left r.right) Forth path (terms_by σ vs) t u
+      rewrites : RewritesBy (rule_goal r) Forth path (terms_by σ vs) t u
       rewrites = record {
         fit = fit_given σ (matching-sorts r.left a) vs;
         replaces = record { there = there ∙ ap Some (sym left); made = ap (replaced t path) right ∙ made; within = within };
       }
 
-      go : (name : RuleName) → IsNamed th goals name r.left r.right → Leads c (link_by path (By_rule name (terms_by σ vs))) t u
-      go (name.Equation n) h =
-          record { equation = h.0; listed = h.1; rewrites = subst (λ p. RewritesBy p Forth path (terms_by σ vs) t u) (sym h.2) rewrites }
-      go (name.Lemma n) h = record {
-        hypothesis = h.0;
-        listed = h.1;
-        rewrites = subst (λ p. RewritesBy p Forth path (terms_by σ vs) t u) (sym h.2) rewrites;
-        special = λ hidden. absurd (h.3 hidden);
-      }
+      go : (name : RuleName) → IsNamed th goals name (rule_goal r) → Leads c (link_by path (By_rule name (terms_by σ vs) no_pass)) t u
+      go (name.Equation n) h = (
+        record { equation = h.0; listed = h.1; rewrites = subst (λ g. RewritesBy g Forth path (terms_by σ vs) t u) (sym h.2) rewrites },
+        nothing_asked (by_terms (goal_of h.0) (terms_by σ vs)) h.0.conds (ap (λ g. g.conds) h.2 ∙ plain),
+      )
+      go (name.Lemma n) h = (
+        record { hypothesis = rule_goal r; listed = h.0; rewrites = rewrites; special = λ hidden. absurd (h.1 hidden) },
+        nothing_asked (by_terms (rule_goal r) (terms_by σ vs)) r.conds plain,
+      )
 
       keeps : KeepsSort th a (instance σ r.right)
       keeps =
           let s = matching_substitution th.signature r.left a w in
           record {
-            well_sorted = instance_well_sorted th.signature σ r.right s rule.sorted.right;
+            well_sorted = instance_well_sorted th.signature σ r.right s rule.sorted.sorted.right;
             same_sort =
-                sort_of-instance_by th.signature σ r.right s rule.sorted.right ∙ rule.sorted.same_sort
-                ∙ sym (sort_of-instance_by th.signature σ r.left s rule.sorted.left) ∙ ap sort_of is;
+                sort_of-instance_by th.signature σ r.right s rule.sorted.sorted.right ∙ rule.sorted.sorted.same_sort
+                ∙ sym (sort_of-instance_by th.signature σ r.left s rule.sorted.sorted.left) ∙ ap sort_of is;
           }
 
-  by_rules : (rs : List Rule) → AllByRecursion (IsRuleOf th goals) rs → (path : List ℕ) (r : Replacement) (t a u : Tree) → at t path ≡ Some a
+  by_rules : (rs : List Rule) → AllByRecursion (IsRuleOf th goals) rs → AreUnconditional rs → (path : List ℕ) (r : Replacement) (t a u : Tree) → at t path ≡ Some a
       → IsWellSorted th.signature a → ruled rs a ≡ Some r → replaced t path r.new ≡ Some u → IsWithinLimits u → IsSound c path r t a u
-  by_rules [] all path r t a u there w e made within = absurd (cc)
-  by_rules (q ∷ rs) all path r t a u there w e made within = go (matches q.left a) refl e (λ x. by_rules rs all.1 path r t a u there w x made within)
+  by_rules [] all plain path r t a u there w e made within = absurd (cc)
+  by_rules (q ∷ rs) all plain path r t a u there w e made within = go (matches q.left a) refl e (λ x. by_rules rs all.1 plain.1 path r t a u there w x made within)
     where
       new : Replacement
-      new = record { reason = By_rule q.name (terms_by (matching q.left a) (rule_variables q)); new = instance (matching q.left a) q.right }
+      new = record { reason = By_rule q.name (terms_by (matching q.left a) (rule_variables q)) no_pass; new = instance (matching q.left a) q.right }
 
       go : (b : Bool) → matches q.left a ≡ b → option_or (if b then Some new else None) (ruled rs a) ≡ Some r → (ruled rs a ≡ Some r → IsSound c path r t a u)
           → IsSound c path r t a u
       go false m x ih = ih x
       go true m x ih =
           let is : new ≡ r = same_Some new r x in
-          subst (λ y. IsSound c path y t a u) is (by_rule q all.0 path t a u there w m (ap (λ y. replaced t path y.new) is ∙ made) within)
+          subst (λ y. IsSound c path y t a u) is (by_rule q all.0 plain.0 path t a u there w m (ap (λ y. replaced t path y.new) is ∙ made) within)
 
   by_content : (path : List ℕ) (r : Replacement) (t a u : Tree) → at t path ≡ Some a → IsWellSorted th.signature a → content_due th.signature a ≡ Some r
       → replaced t path r.new ≡ Some u → IsWithinLimits u → IsSound c path r t a u
@@ -232,71 +236,65 @@ module _ (c : Setting) (ok : IsWellFormed c.theory) where
             keeps = kept.0;
           })
 
-pub assumed_is : (n : ℕ) (gs : List Goal) (t : Tree) (r : Replacement) → assumed n gs t ≡ Some r
-    → (i : ℕ) × (g : Goal) × (slice_get gs i ≡ Some g) × (g.left ≡ t) × (r ≡ record { reason = By_assumption (n + i); new = g.right })
+pub assumed_is : (n : ℕ) (A : List Pair) (t : Tree) (r : Replacement) → assumed n A t ≡ Some r
+    → (i : ℕ) × (p : Pair) × (slice_get A i ≡ Some p) × (p.left ≡ t) × (r ≡ record { reason = By_assumption (n + i); new = p.right })
 assumed_is n [] t r e = absurd (cc)
-assumed_is n (g ∷ gs) t r e = go (is_same g.left t) refl (assumed_is (n + 1) gs t r) e
+assumed_is n (p ∷ ps) t r e = go (is_same p.left t) refl (assumed_is (n + 1) ps t r) e
   where
-    go : (b : Bool) → is_same g.left t ≡ b
-        → (assumed (n + 1) gs t ≡ Some r → (i : ℕ) × (h : Goal) × (slice_get gs i ≡ Some h) × (h.left ≡ t) × (r ≡ record { reason = By_assumption (n + 1 + i); new = h.right }))
-        → option_or (if b then Some (record { reason = By_assumption n; new = g.right }) else None) (assumed (n + 1) gs t) ≡ Some r
-        → (i : ℕ) × (h : Goal) × (slice_get (g ∷ gs) i ≡ Some h) × (h.left ≡ t) × (r ≡ record { reason = By_assumption (n + i); new = h.right })
+    go : (b : Bool) → is_same p.left t ≡ b
+        → (assumed (n + 1) ps t ≡ Some r → (i : ℕ) × (h : Pair) × (slice_get ps i ≡ Some h) × (h.left ≡ t) × (r ≡ record { reason = By_assumption (n + 1 + i); new = h.right }))
+        → option_or (if b then Some (record { reason = By_assumption n; new = p.right }) else None) (assumed (n + 1) ps t) ≡ Some r
+        → (i : ℕ) × (h : Pair) × (slice_get (p ∷ ps) i ≡ Some h) × (h.left ≡ t) × (r ≡ record { reason = By_assumption (n + i); new = h.right })
     go true m ih x =
         let z : n ≡ n + 0 = omega arith in
-        (0, g, refl, same_here g.left t m, sym (same_Some _ r x) ∙ ap (λ k. record { reason = By_assumption k; new = g.right }) z)
+        (0, p, refl, same_here p.left t m, sym (same_Some _ r x) ∙ ap (λ k. record { reason = By_assumption k; new = p.right }) z)
     go false m ih x =
         let h = ih x in
         let z : n + 1 + h.0 ≡ n + suc h.0 = omega arith in
         (suc h.0, h.1, h.2, h.3, h.4 ∙ ap (λ k. record { reason = By_assumption k; new = h.1.right }) z)
-
-get_map : {X Y : Type 0} (f : X → Y) (xs : List X) (i : ℕ) (x : X) → slice_get xs i ≡ Some x → slice_get (map f xs) i ≡ Some (f x)
-get_map f [] i x g = absurd (cc)
-get_map f (y ∷ xs) zero x g = ap (λ z. Some (f z)) (same_Some y x g)
-get_map f (y ∷ xs) (suc i) x g = get_map f xs i x g
 
 all_get : {X : Type 0} (P : X → Type 0) (xs : List X) (i : ℕ) (x : X) → AllByRecursion P xs → slice_get xs i ≡ Some x → P x
 all_get P [] i x a g = absurd (cc)
 all_get P (y ∷ xs) zero x a g = subst P (same_Some y x g) a.0
 all_get P (y ∷ xs) (suc i) x a g = all_get P xs i x a.1 g
 
-module _ (c : Setting) (ok : IsWellFormed c.theory) (assumptions : List Goal) (are : c.assumptions ≡ map sides assumptions)
-    (fine : AllByRecursion (λ g. IsWellSortedPair c.theory.signature (sides g)) assumptions) where
-  by_assumption : (path : List ℕ) (r : Replacement) (t a u : Tree) → at t path ≡ Some a → assumed 0 assumptions a ≡ Some r
+module _ (c : Setting) (ok : IsWellFormed c.theory) (fine : AllByRecursion (IsWellSortedPair c.theory.signature) c.assumptions) where
+  by_assumption : (path : List ℕ) (r : Replacement) (t a u : Tree) → at t path ≡ Some a → assumed 0 c.assumptions a ≡ Some r
       → replaced t path r.new ≡ Some u → IsWithinLimits u → IsSound c path r t a u
   by_assumption path r t a u there e made within =
-      let h = assumed_is 0 assumptions a r e in
+      let h = assumed_is 0 c.assumptions a r e in
       let new : Replacement = record { reason = By_assumption h.0; new = h.1.right } in
       let z : 0 + h.0 ≡ h.0 = omega arith in
       let is : new ≡ r = ap (λ k. record { reason = By_assumption k; new = h.1.right }) (sym z) ∙ sym h.4 in
-      let sorted = all_get (λ g. IsWellSortedPair c.theory.signature (sides g)) assumptions h.0 h.1 fine h.2 in
+      let sorted = all_get (IsWellSortedPair c.theory.signature) c.assumptions h.0 h.1 fine h.2 in
       subst (λ y. IsSound c path y t a u) is
       (record {
         leads = record {
-          assumed = sides h.1;
-          listed = ap (λ ps. slice_get ps h.0) are ∙ get_map sides assumptions h.0 h.1 h.2;
+          assumed = h.1;
+          listed = h.2;
           replaces = record { there = there ∙ ap Some (sym h.3); made = ap (λ y. replaced t path y.new) is ∙ made; within = within };
         };
         keeps = record { well_sorted = sorted.right; same_sort = sorted.same_sort ∙ ap sort_of h.3 };
       })
 
-  module _ (rules : List Rule) (all : AllByRecursion (IsRuleOf c.theory c.hypotheses) rules) where
-    sound : (path : List ℕ) (r : Replacement) (t a u : Tree) → at t path ≡ Some a → IsWellSorted c.theory.signature a → due_under c.theory.signature rules assumptions a ≡ Some r
+  module _ (rules : List Rule) (all : AllByRecursion (IsRuleOf c.theory c.hypotheses) rules) (plain : AreUnconditional rules) where
+    sound : (path : List ℕ) (r : Replacement) (t a u : Tree) → at t path ≡ Some a → IsWellSorted c.theory.signature a → due_under c.theory.signature rules c.assumptions a ≡ Some r
         → replaced t path r.new ≡ Some u → IsWithinLimits u → IsSound c path r t a u
     sound path r t (Var n s) u there w e made within = by_assumption path r t (Var n s) u there e made within
-    sound path r t (App f s ts) u there w e made within = first (assumed 0 assumptions (App f s ts)) refl e
+    sound path r t (App f s ts) u there w e made within = first (assumed 0 c.assumptions (App f s ts)) refl e
       where
         second : (o : Option Replacement) → content_due c.theory.signature (App f s ts) ≡ o → option_or o (ruled rules (App f s ts)) ≡ Some r
             → IsSound c path r t (App f s ts) u
-        second None g x = by_rules c ok rules all path r t (App f s ts) u there w x made within
+        second None g x = by_rules c ok rules all plain path r t (App f s ts) u there w x made within
         second (Some y) g x = by_content c ok path r t (App f s ts) u there w (g ∙ x) made within
 
-        first : (o : Option Replacement) → assumed 0 assumptions (App f s ts) ≡ o
+        first : (o : Option Replacement) → assumed 0 c.assumptions (App f s ts) ≡ o
             → option_or o (option_or (content_due c.theory.signature (App f s ts)) (ruled rules (App f s ts))) ≡ Some r
             → IsSound c path r t (App f s ts) u
         first None g x = second (content_due c.theory.signature (App f s ts)) refl x
         first (Some y) g x = by_assumption path r t (App f s ts) u there (g ∙ x) made within
 
-    pub are_links : (traces : List Traced) (t u : Tree) → IsWellSorted c.theory.signature t → TracesLead (due_under c.theory.signature rules assumptions) traces t u
+    pub are_links : (traces : List Traced) (t u : Tree) → IsWellSorted c.theory.signature t → TracesLead (due_under c.theory.signature rules c.assumptions) traces t u
         → AreLinks c traces t u
     are_links [] t u w e = subst (λ x. AreLinks c [] t x) e (record { lead = refl; well_sorted = w; same_sort = refl })
     are_links (tr ∷ ts) t u w h =

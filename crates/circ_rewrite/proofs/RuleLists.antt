@@ -2,18 +2,19 @@
 use Rattle.std.proofs.Common.{◌≡◌, ◌≤◌, ◌<◌, ◌^◌, ◌+◌, ◌&&◌, ℕ, zero, suc, Bool, true, false, List, [], ◌∷◌, ◌++◌, length, drop, if◌then◌else◌, Option, Some, None, refl, ap, sym, ◌∙◌, append_assoc, arith}
 use Rattle.std.specs.Prelude.{is_some, Result, Ok, Err, IfOk, Vec}
 use Rattle.std.proofs.Common.{Global}
-use Rattle.std.specs.List.{slice_get, AllByRecursion}
+use Rattle.std.specs.List.{slice_get, AllByRecursion, Contains}
 use Rattle.std.proofs.lemmas.Bool.{and_parts}
 use Rattle.std.proofs.lemmas.Option.{get_or_from_slice_get}
 use Rattle.circ_term.specs.Tree.{operator_number}
 use Rattle.circ_term.proofs.Within.{drop_read}
 use Rattle.circ_theory.specs.Rule.{is_rule, is_bound}
-use Rattle.circ_theory.specs.Theory.{Theory, pair_of}
+use Rattle.circ_theory.specs.Theory.{Theory, goal_of, HasNoConditions}
 use Rattle.circ_theory.specs.WellFormed.{IsWellFormed}
 use Rattle.circ_theory.specs.declared.parts.Equation.{Equation}
 use Rattle.circ_theory.specs.declared.parts.Goal.{Goal}
 use Rattle.circ_theory.proofs.Rewriting.{contains_at}
-use Rattle.circ_rewrite.specs.Due.{IsRewriteRule}
+use Rattle.circ_theory.proofs.Casing.{contains_first, contains_next}
+use Rattle.circ_rewrite.specs.Due.{IsRewriteRule, AreUnconditional}
 use Rattle.circ_rewrite.specs.Links.{IsRuleOf}
 use Rattle.circ_rewrite.specs.declared.parts.Rule.{Rule}
 use Rattle.circ_rewrite.specs.TheoryRules.{rule_of, rule_at, rules_from, theory_rules}
@@ -59,7 +60,7 @@ module _ (es : List Equation) (n : ℕ) (rs goal : List Rule) (h : n < length es
 
 a_rule : (n : ℕ) (e : Equation) → is_rule e ≡ true → IsRewriteRule (rule_of n e)
 a_rule n e b =
-    let parts = and_parts (e.exec && is_some (operator_number e.left)) (is_bound (pair_of e)) b in
+    let parts = and_parts (e.exec && is_some (operator_number e.left)) (is_bound (goal_of e)) b in
     record { application = (and_parts e.exec (is_some (operator_number e.left)) parts.0).1; bound = parts.1 }
 
 pub rules_rewrite : (n : ℕ) (es : List Equation) → AllByRecursion IsRewriteRule (rules_from n es)
@@ -70,6 +71,19 @@ rules_rewrite n (e ∷ es) = go (is_rule e) refl (rules_rewrite (n + 1) es)
         → AllByRecursion IsRewriteRule (if b then rule_of n e ∷ rules_from (n + 1) es else rules_from (n + 1) es)
     go true b ih = (a_rule n e b, ih)
     go false b ih = ih
+
+rules_unconditional : (n : ℕ) (es : List Equation) → ((e : Equation) → Contains es e → e.conds ≡ []) → AreUnconditional (rules_from n es)
+rules_unconditional n [] h = tt
+rules_unconditional n (e ∷ es) h = go (is_rule e) (rules_unconditional (n + 1) es (λ d i. h d (contains_next e d es i)))
+  where
+    go : (b : Bool) → AreUnconditional (rules_from (n + 1) es)
+        → AreUnconditional (if b then rule_of n e ∷ rules_from (n + 1) es else rules_from (n + 1) es)
+    go true ih = (h e (contains_first e es), ih)
+    go false ih = ih
+
+-- a theory without conditions has rules without conditions
+pub theory_unconditional : (th : Theory) → HasNoConditions th → AreUnconditional (theory_rules th)
+theory_unconditional th h = rules_unconditional 0 th.equations h
 
 rules_fewer : (n : ℕ) (es : List Equation) → length (rules_from n es) ≤ length es
 rules_fewer n [] = omega arith

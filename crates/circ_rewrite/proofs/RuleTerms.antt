@@ -7,11 +7,11 @@ use Rattle.std.proofs.lemmas.List.Folds.{list_any-append}
 use Rattle.std.proofs.Math.Bool.{or-false, or_assoc}
 use Rattle.circ_term.specs.Tree.{Tree, Trees, Var, App, none, more}
 use Rattle.circ_term.specs.Subst.{Bound, bound_cmp, substitution_of}
-use Rattle.circ_theory.specs.Theory.{pair_with}
-use Rattle.circ_theory.specs.Variables.{Variable, is_variable, seen, seen_in, seen_in_all, variables_of, occurrences, all_occurrences}
+use Rattle.circ_theory.specs.Theory.{Pair}
+use Rattle.circ_theory.specs.Variables.{Variable, is_variable, seen, seen_in, seen_in_all, seen_in_pairs, variables_of, occurrences, all_occurrences, pair_occurrences}
 use Rattle.circ_theory.proofs.BoundTerms.{bound_terms, variables_apart}
 use Rattle.circ_match.specs.Matcher.{IsMatcher, Makes, has_variable, have_variable}
-use Rattle.circ_rewrite.specs.Due.{IsRewriteRule, rule_variables, terms_by}
+use Rattle.circ_rewrite.specs.Due.{IsRewriteRule, rule_goal, rule_variables, terms_by}
 use Rattle.circ_rewrite.specs.declared.parts.Rule.{Rule}
 
 abbrev variable : ℕ → ℕ → Variable
@@ -52,6 +52,26 @@ mutual
       ∙ or_assoc (list_any (is_variable v) us) (list_any (is_variable v) (occurrences t)) (list_any (is_variable v) (all_occurrences ts))
       ∙ ap (λ b. list_any (is_variable v) us || b) (sym (list_any-append (is_variable v) (occurrences t) (all_occurrences ts)))
 
+any_seen_in_pairs : (v : Variable) (ps : List Pair) (us : List Variable)
+    → list_any (is_variable v) (seen_in_pairs ps us) ≡ (list_any (is_variable v) us || list_any (is_variable v) (pair_occurrences ps))
+any_seen_in_pairs v [] us = sym (or-false (list_any (is_variable v) us))
+any_seen_in_pairs v (p ∷ ps) us =
+    any_seen_in_pairs v ps (seen_in p.right (seen_in p.left us))
+    ∙ ap (λ b. b || rest) (any_seen_in v p.right (seen_in p.left us) ∙ ap (λ b. b || right) (any_seen_in v p.left us))
+    ∙ or_assoc (list_any (is_variable v) us || left) right rest
+    ∙ or_assoc (list_any (is_variable v) us) left (right || rest)
+    ∙ ap (λ b. list_any (is_variable v) us || b) (sym (list_any-append (is_variable v) (occurrences p.left) (occurrences p.right ++ pair_occurrences ps)
+    ∙ ap (λ b. left || b) (list_any-append (is_variable v) (occurrences p.right) (pair_occurrences ps))))
+  where
+    left : Bool
+    left = list_any (is_variable v) (occurrences p.left)
+
+    right : Bool
+    right = list_any (is_variable v) (occurrences p.right)
+
+    rest : Bool
+    rest = list_any (is_variable v) (pair_occurrences ps)
+
 eq_flip : (a b : ℕ) → (a == b) ≡ (b == a)
 eq_flip a b = go (a == b) refl (b == a) refl
   where
@@ -87,21 +107,41 @@ among v (w ∷ vs) us h e =
     (λ x. ap (λ u. list_any (is_variable u) us) (same_variable v w x) ∙ parts.0)
     (among v vs us parts.1)
 
+-- each variable of the right side and of the conditions is one of the left side
+abbrev others : Rule → List Variable
+others r = occurrences r.right ++ pair_occurrences r.conds
+
 -- the left side has the variables of the right side
 pub bound_in_left : (r : Rule) → IsRewriteRule r → (n s : ℕ) → has_variable r.right n s ≡ true → has_variable r.left n s ≡ true
 bound_in_left r ok n s h =
     has_variable-occurrences r.left n s
-    ∙ among (variable n s) (occurrences r.right) (occurrences r.left) ok.bound (sym (has_variable-occurrences r.right n s) ∙ h)
-
-pub of_left : (r : Rule) → IsRewriteRule r → (n s : ℕ) → has_variable r.left n s ≡ list_any (is_variable (variable n s)) (variables_of (pair_with r.left r.right))
-of_left r ok n s =
-    has_variable-occurrences r.left n s
-    ∙ no_more (list_any (is_variable v) (occurrences r.left)) (list_any (is_variable v) (occurrences r.right)) (among v (occurrences r.right) (occurrences r.left) ok.bound)
-    ∙ ap (λ b. b || list_any (is_variable v) (occurrences r.right)) (sym (any_seen_in v r.left []))
-    ∙ sym (any_seen_in v r.right (seen_in r.left []))
+    ∙ among v (others r) (occurrences r.left) ok.bound
+    (list_any-append (is_variable v) (occurrences r.right) (pair_occurrences r.conds)
+    ∙ ap (λ b. b || list_any (is_variable v) (pair_occurrences r.conds)) (sym (has_variable-occurrences r.right n s) ∙ h))
   where
     v : Variable
     v = variable n s
+
+pub of_left : (r : Rule) → IsRewriteRule r → (n s : ℕ) → has_variable r.left n s ≡ list_any (is_variable (variable n s)) (variables_of (rule_goal r))
+of_left r ok n s =
+    has_variable-occurrences r.left n s
+    ∙ no_more left (list_any (is_variable v) (others r)) (among v (others r) (occurrences r.left) ok.bound)
+    ∙ ap (λ b. left || b) (list_any-append (is_variable v) (occurrences r.right) (pair_occurrences r.conds))
+    ∙ sym (or_assoc left right conds)
+    ∙ ap (λ b. b || conds) (sym (any_seen_in v r.right (seen_in r.left []) ∙ ap (λ b. b || right) (any_seen_in v r.left [])))
+    ∙ sym (any_seen_in_pairs v r.conds (seen_in r.right (seen_in r.left [])))
+  where
+    v : Variable
+    v = variable n s
+
+    left : Bool
+    left = list_any (is_variable v) (occurrences r.left)
+
+    right : Bool
+    right = list_any (is_variable v) (occurrences r.right)
+
+    conds : Bool
+    conds = list_any (is_variable v) (pair_occurrences r.conds)
 
     no_more : (a b : Bool) → (b ≡ true → a ≡ true) → a ≡ (a || b)
     no_more true b h = refl
@@ -111,4 +151,4 @@ of_left r ok n s =
 pub terms_of_rule : (r : Rule) (t : Tree) (σ : List Bound) → IsRewriteRule r → IsMatcher (Makes r.left t) (has_variable r.left) σ → IsStrictlySortedBy bound_cmp σ
     → map (λ b. b.term) σ ≡ terms_by (substitution_of σ) (rule_variables r)
 terms_of_rule r t σ ok m o =
-    bound_terms σ (variables_of (pair_with r.left r.right)) o (variables_apart (pair_with r.left r.right)) (λ n s. m.binds n s ∙ of_left r ok n s)
+    bound_terms σ (variables_of (rule_goal r)) o (variables_apart (rule_goal r)) (λ n s. m.binds n s ∙ of_left r ok n s)

@@ -1,8 +1,9 @@
 -- How a proof tells rules and goals apart: each is the tuple of its parts.
-use Rattle.std.specs.Prelude.{◌≡◌, ℕ, zero, suc, refl}
+use Rattle.std.specs.Prelude.{◌≡◌, ℕ, List, zero, suc, refl}
 use Rattle.std.specs.Coded.{Coded, code_by, coded×, coded_ℕ}
 use Rattle.circ_term.specs.Tree.{Tree}
 use Rattle.circ_term.specs.Code.{tree_code}
+use Rattle.circ_theory.specs.Pair.{Pair, pairs_code}
 use Rattle.circ_theory.specs.declared.parts.Goal.{Goal}
 use Rattle.circ_rewrite.specs.declared.parts.Rule.{Rule}
 use Rattle.circ_rewrite.specs.declared.parts.RuleName.{RuleName}
@@ -26,8 +27,13 @@ name_code = code_by (ℕ × ℕ) (coded× coded_ℕ coded_ℕ) name_numbers (λ 
 
 abbrev pub rule_code : Coded Rule
 rule_code =
-    code_by (RuleName × (Tree × Tree)) (coded× name_code (coded× tree_code tree_code)) (λ r. (r.name, (r.left, r.right)))
-    (λ p. record { name = p.0; left = p.1.0; right = p.1.1 }) (λ _. refl)
+    code_by (RuleName × (Tree × (Tree × List Pair)))
+    (coded× name_code (coded× tree_code (coded× tree_code pairs_code)))
+    (λ r. (r.name, (r.left, (r.right, r.conds))))
+    (λ p. record { name = p.0; left = p.1.0; right = p.1.1.0; conds = p.1.1.1 })
+    (λ _. refl)
 
 abbrev pub goal_code : Coded Goal
-goal_code = code_by (Tree × Tree) (coded× tree_code tree_code) (λ g. (g.left, g.right)) (λ p. record { left = p.0; right = p.1 }) (λ _. refl)
+goal_code =
+    code_by (Tree × (Tree × List Pair)) (coded× tree_code (coded× tree_code pairs_code)) (λ g. (g.left, (g.right, g.conds)))
+    (λ p. record { conds = p.1.1; left = p.0; right = p.1.0 }) (λ _. refl)

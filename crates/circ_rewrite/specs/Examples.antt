@@ -3,7 +3,7 @@ use Rattle.std.specs.Prelude.{ℕ, Bool, List, [], ◌∷◌, false, true}
 use Rattle.circ_term.specs.Tree.{Tree, Var, App, none, more}
 use Rattle.circ_theory.specs.Signature.{Signature, Operator}
 use Rattle.circ_theory.specs.declared.parts.Side.TheVariants.{Neither}
-use Rattle.circ_theory.specs.declared.parts.Goal.{Goal}
+use Rattle.circ_theory.specs.Theory.{Pair, pair_with}
 use Rattle.circ_rewrite.specs.declared.parts.Rule.{Rule}
 use Rattle.circ_rewrite.specs.declared.parts.RuleName.TheVariants.{Equation, Lemma}
 
@@ -42,22 +42,22 @@ x = Var 0 0
 
 -- f(x) = x
 abbrev pub f_is : Rule
-f_is = record { name = Equation 0; left = f x; right = x }
+f_is = record { name = Equation 0; left = f x; right = x; conds = [] }
 
 -- g(x) = g(x), which never ends
 abbrev pub g_is : Rule
-g_is = record { name = Equation 1; left = g x; right = g x }
+g_is = record { name = Equation 1; left = g x; right = g x; conds = [] }
 
 -- x + x = b, which is never reached
 abbrev pub sum_is : Rule
-sum_is = record { name = Lemma 0; left = plus x x; right = b }
+sum_is = record { name = Lemma 0; left = plus x x; right = b; conds = [] }
 
 -- x + y = x
 abbrev pub first_is : Rule
-first_is = record { name = Equation 2; left = plus x (Var 1 0); right = x }
+first_is = record { name = Equation 2; left = plus x (Var 1 0); right = x; conds = [] }
 
-abbrev pub b_is : Goal
-b_is = record { left = b; right = f a }
+abbrev pub b_is : Pair
+b_is = pair_with b (f a)
 
 -- Languages over two letters, and whether they have the empty word: bits are 0 and 1, of sort 0, and languages are of sort 1. Of the
 -- operators, 0 and 1 are the bits, 2 joins two of them, 3 asks for the empty word, 4 and 5 are the letters a and b, and 6 is the union.
@@ -93,11 +93,11 @@ union s t = App 6 1 (more s (more t none))
 -- 0 or X = X, acc(a) = 0, acc(b) = 0, acc(R + S) = acc(R) or acc(S)
 abbrev pub empty_words : List Rule
 empty_words =
-    record { name = Equation 0; left = either no (Var 0 0); right = Var 0 0 }
-    ∷ record { name = Equation 18; left = acc letter_a; right = no }
-    ∷ record { name = Equation 19; left = acc letter_b; right = no }
-    ∷ record { name = Equation 20; left = acc (union (Var 0 1) (Var 1 1)); right = either (acc (Var 0 1)) (acc (Var 1 1)) }
+    record { name = Equation 0; left = either no (Var 0 0); right = Var 0 0; conds = [] }
+    ∷ record { name = Equation 18; left = acc letter_a; right = no; conds = [] }
+    ∷ record { name = Equation 19; left = acc letter_b; right = no; conds = [] }
+    ∷ record { name = Equation 20; left = acc (union (Var 0 1) (Var 1 1)); right = either (acc (Var 0 1)) (acc (Var 1 1)); conds = [] }
     ∷ []
 
-abbrev pub b_has : Goal
-b_has = record { left = acc letter_b; right = yes }
+abbrev pub b_has : Pair
+b_has = pair_with (acc letter_b) yes

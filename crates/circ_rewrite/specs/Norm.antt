@@ -4,7 +4,7 @@ use Rattle.std.specs.Option.{option_map, option_map_or, option_or, unwrap_or}
 use Rattle.circ_term.specs.Tree.{Tree, Trees, Var, App, none, more, replaced}
 use Rattle.circ_term.specs.Limits.{Limit, first_limit}
 use Rattle.circ_theory.specs.Signature.{Signature}
-use Rattle.circ_theory.specs.declared.parts.Goal.{Goal}
+use Rattle.circ_theory.specs.Theory.{Pair}
 use Rattle.circ_rewrite.specs.Replacement.{Replacement, Placed, Traced, placed, below, traced}
 use Rattle.circ_rewrite.specs.Due.{due_under}
 use Rattle.circ_rewrite.specs.declared.parts.Rule.{Rule}
@@ -41,5 +41,5 @@ module _ (due : Tree → Option Replacement) where
       (first_due t)
       (Normal_form t ts (suc k))
 
-abbrev pub norm : Signature → List Rule → (assumptions : List Goal) → (budget : ℕ) → Tree → Normalised
+abbrev pub norm : Signature → List Rule → (assumptions : List Pair) → (budget : ℕ) → Tree → Normalised
 norm sig rules assumptions budget t = run (due_under sig rules assumptions) budget t []

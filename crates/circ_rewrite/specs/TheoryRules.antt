@@ -8,7 +8,7 @@ use Rattle.circ_rewrite.specs.declared.parts.RuleName.TheVariants as name
 
 -- an equation as a rule, which its number names
 abbrev pub rule_of : (number : ℕ) → Equation → Rule
-rule_of n e = record { name = name.Equation n; left = e.left; right = e.right }
+rule_of n e = record { name = name.Equation n; left = e.left; right = e.right; conds = e.conds }
 
 -- the equation of a number as a rule, if it is one
 abbrev pub rule_at : (number : ℕ) → Option Equation → Option Rule

@@ -23,7 +23,7 @@ fn listed(alloc: Global, theory: &Theory) -> Result<Vec<Rule>, AllocError>
 {
     let mut rules = Vec::new(alloc);
     for number in 0..theory.equation_count() {
-        match rule(theory, number)? {
+        match rule(alloc, theory, number)? {
             Some(rule) => rules.push(rule)?,
             None => {}
         }
@@ -32,7 +32,7 @@ fn listed(alloc: Global, theory: &Theory) -> Result<Vec<Rule>, AllocError>
 }
 
 /// The equation of a number as a rule, if it is one.
-fn rule(theory: &Theory, number: u32) -> Result<Option<Rule>, AllocError>
+fn rule(alloc: Global, theory: &Theory, number: u32) -> Result<Option<Rule>, AllocError>
     ensures { IfOk result (λ o. o ≡ rule_at number (slice_get theory.now.equations number)) }
 {
     if !theory.is_rule(number) {
@@ -44,6 +44,7 @@ fn rule(theory: &Theory, number: u32) -> Result<Option<Rule>, AllocError>
             name: RuleName::Equation { number },
             left: equation.left.share()?,
             right: equation.right.share()?,
+            conds: equation.conds.share(alloc)?,
         })),
     }
 }

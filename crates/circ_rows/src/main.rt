@@ -16,7 +16,7 @@ use std::alloc::{AllocError, Global};
 use std::{fs, io};
 
 /// The tables, in the order in which they are run.
-const TABLES: [&str; 22] = [
+const TABLES: [&str; 23] = [
     "rows-words",
     "rows-faults",
     "rows-causes",
@@ -35,6 +35,7 @@ const TABLES: [&str; 22] = [
     "rows-lines",
     "rows-bytes",
     "rows-circular",
+    "rows-conditions",
     "rows-content",
     "rows-changed-contexts",
     "rows-changed-proofs",

@@ -22,7 +22,7 @@ use Rattle.circ_proof.proofs.Derivatives.{some_if_at, from_number, derivative_at
 
 -- ---- certificates, read by their numbers
 
-pub certificate_read : (b : Basis) (vs : List (Vec Link Global)) (i : ℕ) (v : Vec Link Global) → i < length vs → v ≡ get_or vs i v
+pub certificate_read : (b : Basis) (vs : List (Vec (Link ℕ) Global)) (i : ℕ) (v : Vec (Link ℕ) Global) → i < length vs → v ≡ get_or vs i v
     → drop i (certificates_in b vs) ≡ links_of b v.items ∷ drop (i + 1) (certificates_in b vs)
 certificate_read b [] i v h e = absurd (omega arith)
 certificate_read b (w ∷ vs) zero v h e = ap (λ x. links_of b x.items ∷ certificates_in b vs) (sym e)
@@ -30,13 +30,13 @@ certificate_read b (w ∷ vs) (suc i) v h e =
     let n : suc i + 1 ≡ suc (i + 1) = omega arith in
     rw n (certificate_read b vs i v (omega arith) e)
 
-pub certificate_in_table : (n : ℕ) (vs : List (Vec Link Global)) (i : ℕ) (v : Vec Link Global) → i < length vs → v ≡ get_or vs i v
+pub certificate_in_table : (n : ℕ) (vs : List (Vec (Link ℕ) Global)) (i : ℕ) (v : Vec (Link ℕ) Global) → i < length vs → v ≡ get_or vs i v
     → AllByRecursion (AllOfLinks (λ m. m < n)) (plain_certificates vs) → AllOfLinks (λ m. m < n) (plain_links v.items)
 certificate_in_table n [] i v h e a = absurd (omega arith)
-certificate_in_table n (w ∷ vs) zero v h e a = let P : Vec Link Global → Type 0 = λ x. AllOfLinks (λ m. m < n) (plain_links x.items) in subst P (sym e) a.0
+certificate_in_table n (w ∷ vs) zero v h e a = let P : Vec (Link ℕ) Global → Type 0 = λ x. AllOfLinks (λ m. m < n) (plain_links x.items) in subst P (sym e) a.0
 certificate_in_table n (w ∷ vs) (suc i) v h e a = certificate_in_table n vs i v (omega arith) e a.1
 
-pub length-certificates_in : (b : Basis) (vs : List (Vec Link Global)) → length (certificates_in b vs) ≡ length vs
+pub length-certificates_in : (b : Basis) (vs : List (Vec (Link ℕ) Global)) → length (certificates_in b vs) ≡ length vs
 length-certificates_in b [] = refl
 length-certificates_in b (v ∷ vs) = ap suc (length-certificates_in b vs)
 
@@ -69,13 +69,13 @@ pub due_is : (th : Theory) (g : Place) (o : Operator) → slice_get th.signature
 due_is th g o e = ap (λ x. map (λ d. (g, d)) (option_map_or (λ o. from_number th.derivatives o.result 0) x [])) e
 
 -- What the loop over the derivatives of a place keeps: old certificates hold before it, and `done` in all.
-pub record StandsAt (b : Basis) (g : Place) (s : ℕ) (vs : List (Vec Link Global)) (old done i : ℕ) : Type 0 where
+pub record StandsAt (b : Basis) (g : Place) (s : ℕ) (vs : List (Vec (Link ℕ) Global)) (old done i : ℕ) : Type 0 where
   pub enough : done + length (due_from b.theory.now g s i) ≤ length vs
   pub so_far : (ys : List (Place × Derivative)) → HoldSoFar b.theory.now b.gamma.now (certificates_in b vs) old (due_at b.theory.now g ++ ys)
       → HoldSoFar b.theory.now b.gamma.now (certificates_in b vs) done (due_from b.theory.now g s i ++ ys)
 
 -- behind the last derivative
-pub stands_last : (b : Basis) (g : Place) (s : ℕ) (vs : List (Vec Link Global)) (old done i : ℕ) → length b.theory.now.derivatives ≤ i
+pub stands_last : (b : Basis) (g : Place) (s : ℕ) (vs : List (Vec (Link ℕ) Global)) (old done i : ℕ) → length b.theory.now.derivatives ≤ i
     → StandsAt b g s vs old done i → (ys : List (Place × Derivative)) → HoldSoFar b.theory.now b.gamma.now (certificates_in b vs) old (due_at b.theory.now g ++ ys)
     → HoldSoFar b.theory.now b.gamma.now (certificates_in b vs) done ys
 stands_last b g s vs old done i h st ys f =
@@ -83,7 +83,7 @@ stands_last b g s vs old done i h st ys f =
     λ ds. HoldSoFar b.theory.now b.gamma.now (certificates_in b vs) done (map (λ d. (g, d)) (filter (λ d. d.hole == s) ds) ++ ys) in
     subst P (drop_of_length-le b.theory.now.derivatives h) (st.so_far ys f)
 
-module _ (b : Basis) (g : Place) (s : ℕ) (vs : List (Vec Link Global)) (old done i : ℕ) (within : i < length b.theory.now.derivatives)
+module _ (b : Basis) (g : Place) (s : ℕ) (vs : List (Vec (Link ℕ) Global)) (old done i : ℕ) (within : i < length b.theory.now.derivatives)
     (st : StandsAt b g s vs old done i) where
   abbrev th : Theory
   th = b.theory.now
@@ -119,7 +119,7 @@ module _ (b : Basis) (g : Place) (s : ℕ) (vs : List (Vec Link Global)) (old do
     one_there = omega (arith, st.enough, ap length next)
 
     -- what was told of it
-    module _ (v : Vec Link Global) (is : v ≡ get_or vs done v) (holds : Bool)
+    module _ (v : Vec (Link ℕ) Global) (is : v ≡ get_or vs done v) (holds : Bool)
         (told : IfSome (slice_get b.theory.now.derivatives i) (λ d. IsTrue holds ↔ Certified b.theory.now b.gamma.now g d (links_of b v.items))) where
       told_here : IsTrue holds ↔ Certified th G g here (links_of b v.items)
       told_here = some_if_at (λ d. IsTrue holds ↔ Certified th G g d (links_of b v.items)) (slice_get th.derivatives i) here there told
@@ -151,7 +151,7 @@ place_next th G Gs lss done i x within so_far =
     subst P (drop_more Gs i x within) so_far
 
 -- the certificate that fails is one of them
-pub fails_in_slice : (b : Basis) (vs : List (Vec Link Global)) (n : ℕ)
+pub fails_in_slice : (b : Basis) (vs : List (Vec (Link ℕ) Global)) (n : ℕ)
     → CertificateFails b.theory.now b.gamma.now (due b.theory.now b.gamma.now) (certificates_in b vs) n → n ≤ length vs
 fails_in_slice b vs n f =
     let r = fails_among b.theory.now b.gamma.now (due b.theory.now b.gamma.now) (certificates_in b vs) n f in

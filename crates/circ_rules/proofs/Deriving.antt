@@ -6,15 +6,15 @@ use Rattle.std.proofs.Common.{ap, sym, ◌∙◌, subst, arith, append_assoc, ge
 use Rattle.std.proofs.lemmas.List.{length-map}
 use Rattle.circ_term.specs.Tree.{Tree, sort_of}
 use Rattle.circ_term.specs.Limits.{IsWithinLimits}
-use Rattle.circ_theory.specs.Theory.{Theory, Derivative}
+use Rattle.circ_theory.specs.Theory.{Theory, goal, Derivative, IsWellSortedGoal}
 use Rattle.circ_theory.specs.WellFormed.{IsWellFormed}
 use Rattle.circ_theory.specs.Variables.{Variable, occurrences}
 use Rattle.circ_theory.specs.Observing.{is_parameter}
 use Rattle.circ_theory.specs.Experiment.{derived}
-use Rattle.circ_theory.specs.Fresh.{numbered_from, given_parameters, parameter_sorts, variables_from, derivatives_of}
+use Rattle.circ_theory.specs.Fresh.{fresh_in, numbered_from, given_parameters, parameter_sorts, variables_from, derivatives_of}
 use Rattle.circ_theory.specs.declared.parts.Goal.{Goal}
-use Rattle.circ_proof.specs.Goals.{goal, IsWellSortedGoal, AreSortedGoals}
-use Rattle.circ_proof.specs.Rules.{state, fresh_in, derived_goal, derivatives_on, IsDerivable, IsSortedState}
+use Rattle.circ_proof.specs.Goals.{AreSortedGoals}
+use Rattle.circ_proof.specs.Rules.{state, derived_goal, derivatives_on, IsDerivable, IsSortedState}
 use Rattle.circ_proof.proofs.Derivatives.{if_some_at, some_if_at, the_derivative, numbered, sorts_are, derivative_at, from_number, taken_next, passed_next}
 use Rattle.circ_rules.specs.Answers.{Gives}
 use Rattle.circ_rules.specs.Deriving.{IsWithin, AreInstances, IsDerivativeOn, AreDerivativesOn, moved_on}
@@ -53,6 +53,7 @@ module _ (th : Theory) (ok : IsWellFormed th) (n : ℕ) (g : Goal) (w : IsWellSo
       go (Ok None) x = λ h y. x h (record {
         left = record { within = subst IsWithinLimits (sym (renumbered g.left)) y.derivable.left; same = ap (λ a. a.left) y.same ∙ sym (renumbered g.left) };
         right = record { within = subst IsWithinLimits (sym (renumbered g.right)) y.derivable.right; same = ap (λ a. a.right) y.same ∙ sym (renumbered g.right) };
+        conds = ap (λ a. a.conds) y.same;
       })
       go (Ok (Some h)) x =
           let vs : List Variable = filter is_parameter (occurrences d.body) in
@@ -62,7 +63,9 @@ module _ (th : Theory) (ok : IsWellFormed th) (n : ℕ) (g : Goal) (w : IsWellSo
               left = subst IsWithinLimits (renumbered g.left) x.left.within;
               right = subst IsWithinLimits (renumbered g.right) x.right.within;
             };
-            same = ap (λ t. goal t h.right) (x.left.same ∙ renumbered g.left) ∙ ap (goal (derived d g.left (numbered_from (fresh_in g)))) (x.right.same ∙ renumbered g.right);
+            same = ap (λ t. goal h.conds t h.right) (x.left.same ∙ renumbered g.left)
+                ∙ ap (goal h.conds (derived d g.left (numbered_from (fresh_in g)))) (x.right.same ∙ renumbered g.right)
+                ∙ ap (λ E. goal E (derived d g.left (numbered_from (fresh_in g))) (derived d g.right (numbered_from (fresh_in g)))) x.conds;
           }
 
 -- What the loop keeps: the derivatives from a number on are what is left, and hs are those before.

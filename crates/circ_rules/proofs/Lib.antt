@@ -1,5 +1,6 @@
 pub mod Simplifying
 pub mod Deriving
+pub mod Splitting
 pub mod Starting
 pub mod Counting
 pub mod Next

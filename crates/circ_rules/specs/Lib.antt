@@ -2,4 +2,5 @@ pub mod Due
 pub mod Answers
 pub mod Basis
 pub mod Deriving
+pub mod Splitting
 pub mod Admitting

@@ -8,7 +8,7 @@ ghost use Rattle.circ_proof.specs.Plain.{plain_chain, plain_why};
 ghost use Rattle.circ_proof.specs.Link.{resolved_chain, resolved_why};
 ghost use Rattle.circ_proof.specs.Justified.{AllOfChain, IsWhyInTable};
 ghost use Rattle.circ_proof.specs.Rules.{map_step, AllOfStep, IsSortedState};
-ghost use Rattle.circ_proof.specs.Rules.{Simplify, Reduce, Derive};
+ghost use Rattle.circ_proof.specs.Rules.{Simplify, Reduce};
 ghost use Rattle.circ_proof.specs.PlainProof.{plain_state, plain_step};
 ghost use Rattle.circ_rules.specs.Answers.{Applies};
 ghost use Rattle.circ_rules.specs.Basis.{IsSortedBasis};
@@ -50,12 +50,13 @@ pub fn apply(
         Step::Simplify { chain } => basis.simplify(state, chain),
         Step::Reduce { why } => basis.reduce(state, why),
         Step::Derive => basis.derive(state),
+        Step::Cases { term } => basis.cases(state, *term),
         Step::Done => Ok(state.goals.is_empty()),
     }
 }
 
 impl Basis<'_> {
-    // The first goal is replaced by what the chain leads to.
+    // The first goal's sides are replaced by what the chain leads to.
     fn simplify(&self, state: &mut State, chain: &Chain) -> Result<bool, AllocError>
         requires basis_sorted { IsSortedBasis self.now }
         requires in_table { AllOfChain (λ n. n < length self.now.table.now)
@@ -71,8 +72,9 @@ impl Basis<'_> {
             return Ok(false);
         };
         match self.follow_chain(state.hyps.as_slice(), chain, first)? {
-            Some(goal) => {
-                *first = goal;
+            Some(end) => {
+                first.left = end.left;
+                first.right = end.right;
                 Ok(true)
             }
             None => Ok(false),

@@ -18,11 +18,11 @@ ghost use Rattle.circ_rules.specs.Deriving.{IsWithin};
 ghost use Rattle.circ_rules.specs.Admitting.{IsStartOf, IsStart, AdmitsAt};
 
 use crate::basis::Basis;
-use crate::derivatives::{instance, variables};
+use crate::derivatives::instance;
 use circ_proof::Link;
 use circ_special::{Place, guarded};
 use circ_term::{Term, TermFault};
-use circ_theory::{OpDecl, Theory};
+use circ_theory::{OpDecl, Theory, variables_from};
 use std::alloc::{AllocError, Global};
 
 /// A place, with its operator on variables: variable 0 at the place, and variables 1, 2 and so on
@@ -106,7 +106,7 @@ pub fn start_term(
     let Some(sorts) = theory.parameter_sorts(derivative) else {
         return Ok(None);
     };
-    let params = variables(alloc, start.decl.args.len() as u64, sorts)?;
+    let params = variables_from(alloc, start.decl.args.len() as u64, sorts)?;
     instance(alloc, theory, derivative, params.as_slice(), &start.term)
 }
 
@@ -132,7 +132,7 @@ impl Basis<'_> {
         let Some(first) = start_term(self.alloc, self.theory, start, derivative)? else {
             return Ok(false);
         };
-        let Some(last) = self.follow_all(&[], links, &first)? else {
+        let Some(last) = self.follow_all(&[], &[], links, &first)? else {
             return Ok(false);
         };
         Ok(guarded(self.theory, self.gamma, &last, 0, start.sort))
@@ -176,7 +176,7 @@ impl Basis<'_> {
             (certificates_in self.now certificates.now) done.old done.new) }
     {
         for derivative in 0..self.theory.derivative_count() {
-            if self.takes(derivative, start.decl.result) {
+            if self.theory.takes(derivative, start.decl.result) {
                 let links = certificates[*done].as_slice();
                 if !self.certifies(start, derivative, links)? {
                     return Ok(false);

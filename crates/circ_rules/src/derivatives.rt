@@ -6,8 +6,9 @@ ghost use Rattle.std.specs.Option.{IfSome, option_map, option_map_or};
 ghost use Rattle.circ_term.specs.Tree.{sort_of};
 ghost use Rattle.circ_theory.specs.Experiment.{derived};
 ghost use Rattle.circ_theory.specs.Fresh.{given_parameters, variables_from, FitSome};
-ghost use Rattle.circ_proof.specs.Goals.{IsWellSortedGoal};
-ghost use Rattle.circ_proof.specs.Rules.{IsSortedState, Derive, fresh_in};
+ghost use Rattle.circ_theory.specs.Fresh.{fresh_in};
+ghost use Rattle.circ_theory.specs.Theory.{IsWellSortedGoal};
+ghost use Rattle.circ_proof.specs.Rules.{IsSortedState, Derive};
 ghost use Rattle.circ_proof.specs.PlainProof.{plain_state};
 ghost use Rattle.circ_rules.specs.Answers.{Applies, Gives};
 ghost use Rattle.circ_rules.specs.Deriving.{IsWithin, AreInstances, IsDerivativeOn};
@@ -16,23 +17,9 @@ ghost use Rattle.circ_rules.specs.Deriving.{AreDerivativesOn, moved};
 use crate::basis::Basis;
 use circ_proof::State;
 use circ_term::{Term, TermFault};
-use circ_theory::{Goal, Theory, above};
+use circ_theory::{Goal, Theory, above, above_pairs, variables_from};
 use std::alloc::{AllocError, Global};
 use std::collections::VecDeque;
-
-// Variables of these sorts, numbered from `first`.
-pub(crate) fn variables(alloc: Global, first: u64, sorts: &[u32]) -> Result<Vec<Term>, AllocError>
-    requires { first + length sorts.now ≤ 2 ^ 32 }
-    ensures { IfOk result (λ v. v.items ≡ variables_from first sorts.now) }
-{
-    let mut made = Vec::with_capacity(alloc, sorts.len())?;
-    let mut next = first;
-    for sort in sorts {
-        made.push(Term::var(next as u32, *sort))?;
-        next += 1;
-    }
-    Ok(made)
-}
 
 // The derivative of this number on a term, with the terms of `params` for its parameters. None
 // where that passes a limit.
@@ -57,17 +44,6 @@ pub(crate) fn instance(
 }
 
 impl Basis<'_> {
-    // Whether the hole of the derivative of this number has the sort.
-    pub(crate) fn takes(&self, derivative: u32, sort: u32) -> bool
-        ensures { result ≡ option_map_or (λ d. d.hole == sort)
-            (slice_get self.now.theory.now.derivatives derivative) false }
-    {
-        match self.theory.hole_sort(derivative) {
-            Some(hole) => hole == sort,
-            None => false,
-        }
-    }
-
     // The derivative of this number on both sides of the goal, with fresh parameters: the greatest
     // variable number of the goal is below `fresh`. None where a term or a parameter's number
     // passes a limit.
@@ -93,12 +69,12 @@ impl Basis<'_> {
         if fresh + sorts.len() as u64 > 1 << 32 {
             return Ok(None);
         }
-        let params = variables(self.alloc, fresh, sorts)?;
+        let params = variables_from(self.alloc, fresh, sorts)?;
         self.both_sides(derivative, params.as_slice(), goal)
     }
 
     // The derivative of this number on both sides of the goal, with the terms of `params` for its
-    // parameters. None where a side passes a limit.
+    // parameters, under the goal's conditions. None where a side passes a limit.
     fn both_sides(
         &self,
         derivative: u32,
@@ -118,7 +94,8 @@ impl Basis<'_> {
         let Some(right) = instance(self.alloc, self.theory, derivative, params, &goal.right)? else {
             return Ok(None);
         };
-        Ok(Some(Goal { left, right }))
+        let conds = goal.conds.share(self.alloc)?;
+        Ok(Some(Goal { conds, left, right }))
     }
 
     // The derivatives of the goal. None where one passes a limit.
@@ -128,10 +105,10 @@ impl Basis<'_> {
             (option_map (λ q. q.items) o)) }
     {
         let sort = goal.left.sort();
-        let fresh = above(&goal.left).max(above(&goal.right));
+        let fresh = fresh_in(goal);
         let mut derived = VecDeque::new(self.alloc);
         for derivative in 0..self.theory.derivative_count() {
-            if self.takes(derivative, sort) {
+            if self.theory.takes(derivative, sort) {
                 match self.derivative_on(derivative, goal, fresh)? {
                     Some(goal) => derived.push_back(goal)?,
                     None => return Ok(None),
@@ -164,6 +141,15 @@ impl Basis<'_> {
             None => Ok(false),
         }
     }
+}
+
+// One above the greatest variable number of the goal, its conditions among it.
+fn fresh_in(goal: &Goal) -> u64
+    ensures exact { result ≡ fresh_in goal.now }
+    ensures within { result ≤ 2 ^ 32 }
+{
+    let sides = above(&goal.left).max(above(&goal.right));
+    sides.max(above_pairs(goal.conds.as_slice()))
 }
 
 // The first goal becomes the last hypothesis, and what was derived from it the last goals.

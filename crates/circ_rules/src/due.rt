@@ -137,7 +137,7 @@ impl Basis<'_> {
         ensures small { IfSome result (λ n. n < 2 ^ 32 - 1) }
     {
         for derivative in from..self.theory.derivative_count() {
-            if self.takes(derivative, sort) {
+            if self.theory.takes(derivative, sort) {
                 return Some(derivative);
             }
         }

@@ -9,6 +9,7 @@
 mod admitting;
 mod applying;
 mod basis;
+mod cases;
 mod certificates;
 mod derivatives;
 mod due;

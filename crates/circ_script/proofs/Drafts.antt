@@ -1,5 +1,5 @@
 -- What the functions that take one item answer.
-use Rattle.std.proofs.Common.{◌≡◌, ◌≢◌, ℕ, ◌==◌, not, length, Bool, true, false, arith, List, [], ◌∷◌, ◌++◌, map, codes, Option, None, Result, Ok}
+use Rattle.std.proofs.Common.{◌≡◌, ◌≢◌, ℕ, ◌==◌, not, length, Bool, true, false, arith, List, [], ◌∷◌, ◌++◌, codes, Option, None, Result, Ok}
 use Rattle.std.proofs.Common.{Err, OnOk, IfErr, refl, sym, ap, ◌∙◌, subst}
 use Rattle.std.proofs.Math.Bool.{beq}
 use Rattle.std.proofs.lemmas.Bool.{eqb-true}
@@ -25,10 +25,9 @@ use Rattle.circ_read.proofs.Once.{SaidOnce}
 use Rattle.circ_script.specs.declared.job.Job.{Job}
 use Rattle.circ_script.specs.declared.adding.Asked.{Asked}
 use Rattle.circ_script.specs.declared.items.FoundItem.{FoundItem}
-use Rattle.circ_script.specs.Script.{plain_goal}
 use Rattle.circ_script.specs.Items.{variables, goal, reduce, IsItem, IsFor, item_words, begins_with}
 use Rattle.circ_script.specs.Drafts.{Draft}
-use Rattle.circ_script.specs.Adding.{ReadsTerm, AddsItem}
+use Rattle.circ_script.specs.Adding.{ReadsTerm, AddsItem, bare_goal}
 use Rattle.circ_script.specs.Refusing.{reading_text, TakesNoItem, left_out, no_shape, is_refused}
 use Rattle.circ_script.specs.Steps.{item_of, GivesItem, IsNoItem, out, no_item, IsUnread, draft_of, ItemOutcome, TakingOutcome}
 use Rattle.circ_script.proofs.ItemWords.{item_once}
@@ -71,11 +70,11 @@ module _ (th : Theory) (a b : Asked) where
   -- what was read is a goal more
   pub goal_read : (left right : List Word) (ts : List Tree) (p : Pair) (r : Result (Unit {0}) Fault) → ts ≡ terms_of p
       → (long_sides left right ≡ None) × ReadsSides th left right ts × ((us : List Tree) → ReadsSides th left right us → us ≡ ts)
-      → draft_of th b ≡ record (draft_of th a) { goals = map plain_goal b.goals.items }
-      → OnOk r ((q : Pair) → ts ≡ terms_of q → map plain_goal b.goals.items ≡ map plain_goal a.goals.items ++ q ∷ [])
+      → draft_of th b ≡ record (draft_of th a) { goals = b.goals.items }
+      → OnOk r ((q : Pair) → ts ≡ terms_of q → b.goals.items ≡ a.goals.items ++ bare_goal q ∷ [])
       → IfErr r (λ f. f ≡ Memory) → StepAnswers r (draft_of th b) (ItemOutcome (draft_of th a) (goal left right))
   goal_read left right ts p (Ok n) e g same pushed fault = record {
-    goal = p;
+    pair = p;
     alone = subst (ReadsAlone (long_sides left right) (ReadsSides th left right)) e (read_alone (long_sides left right) (ReadsSides th left right) th ts g);
     is = same ∙ ap (λ gs. record (draft_of th a) { goals = gs }) (pushed p e);
   }
@@ -137,14 +136,14 @@ module _ (job : Job) (d : Draft) (before after ws : List Word) (is : ws ≡ item
 pub some_open : (th : Theory) (a : Asked) → false ≡ (a.goals.len == 0) → (draft_of th a).goals ≢ []
 some_open th a e = go a.goals.items a.goals.ok.0
   where
-    go : (gs : List Goal) → a.goals.len ≡ length gs → map plain_goal gs ≢ []
+    go : (gs : List Goal) → a.goals.len ≡ length gs → gs ≢ []
     go [] l n = absurd (let t = rw l at e in cc)
     go (g ∷ gs) l n = cc
 
 pub none_open : (th : Theory) (a : Asked) → true ≡ (a.goals.len == 0) → (draft_of th a).goals ≡ []
 none_open th a e = go a.goals.items a.goals.ok.0
   where
-    go : (gs : List Goal) → a.goals.len ≡ length gs → map plain_goal gs ≡ []
+    go : (gs : List Goal) → a.goals.len ≡ length gs → gs ≡ []
     go [] l = refl
     go (g ∷ gs) l = absurd (let z = eqb-true a.goals.len 0 (sym e) in omega (arith, z, l))
 

@@ -6,6 +6,7 @@ use Rattle.std.proofs.lemmas.List.Elements.{Contains-push_cases}
 use Rattle.std.proofs.lemmas.List.Quantifiers.{position-Some}
 use Rattle.circ_term.specs.Tree.{Tree}
 use Rattle.circ_theory.specs.Signature.{IsSort}
+use Rattle.circ_theory.specs.declared.parts.Goal.{Goal}
 use Rattle.circ_theory.specs.Theory.{Theory, Declared, declared, Pair}
 use Rattle.circ_theory.specs.Adding.{sort_number, var_number, with_var}
 use Rattle.circ_theory.specs.WellFormed.{IsWellFormed}
@@ -20,7 +21,7 @@ use Rattle.circ_script.specs.declared.job.Job.TheVariants.{Prove, Reduce}
 use Rattle.circ_script.specs.Script.{Script}
 use Rattle.circ_script.specs.Items.{Item, variables, goal, coinduction, reduce, IsFor}
 use Rattle.circ_script.specs.Drafts.{Draft, first_draft, script_of, AsksFor}
-use Rattle.circ_script.specs.Adding.{ReadsTerm, AddsItem, TakesItems, start, next}
+use Rattle.circ_script.specs.Adding.{ReadsTerm, AddsItem, bare_goal, TakesItems, start, next}
 use Rattle.circ_script.specs.ReadsAsScript.{ReadsAsScript}
 use Rattle.circ_script.specs.Fit.{IsFitGoal, IsFitTerm, IsFit, IsScriptFor}
 use Rattle.circ_script.specs.Steps.{IsButVariables}
@@ -57,9 +58,9 @@ module _ (th : Theory) (formed : IsWellFormed th) where
 
   record IsFitDraft (d : Draft) : Type 0 where
     theory : HasSorted d.theory
-    goals : (g : Pair) → Contains d.goals g → IsFitGoal th.signature g
-    blocks : (block : List Pair) (g : Pair) → Contains d.blocks block → Contains block g → IsFitGoal th.signature g
-    some : (block : List Pair) → Contains d.blocks block → block ≢ []
+    goals : (g : Goal) → Contains d.goals g → IsFitGoal th.signature g
+    blocks : (block : List Goal) (g : Goal) → Contains d.blocks block → Contains block g → IsFitGoal th.signature g
+    some : (block : List Goal) → Contains d.blocks block → block ≢ []
     terms : (t : Tree) → Contains d.terms t → IsFitTerm th.signature t
 
   none_in : {A : Type 0} (x : A) → Contains [] x → ⊥
@@ -78,7 +79,7 @@ module _ (th : Theory) (formed : IsWellFormed th) where
   same_signature d h = ap (λ x. x.signature) h.theory.but
 
   goal_fit : (d : Draft) (left right : List Word) (g : Pair) → IsFitDraft d → long_sides left right ≡ None → ReadsSides d.theory left right (terms_of g)
-      → IsFitGoal th.signature g
+      → IsFitGoal th.signature (bare_goal g)
   goal_fit d left right g h short r =
       let vars = d.theory.variables in
       let l : r.0 ≡ g.left = let z = r.2 in cc in
@@ -87,7 +88,7 @@ module _ (th : Theory) (formed : IsWellFormed th) where
       subst (λ x. ReadsPair th.signature vars left right g.left x) m
       (subst (λ x. ReadsPair th.signature vars left right x r.1) l (subst (λ x. ReadsPair x vars left right r.0 r.1) (same_signature d h) r.3)) in
       let low = pair_low th.signature vars left right g.left g.right short p in
-      record { sorted = pair_sorted th vars left right g.left g.right formed h.theory.sorts p; left = low.0; right = low.1 }
+      record { bare = refl; sorted = pair_sorted th vars left right g.left g.right formed h.theory.sorts p; left = low.0; right = low.1 }
 
   term_fit : (d : Draft) (ws : List Word) (t : Tree) → IsFitDraft d → long_count ws ≡ None → ReadsTerm d.theory ws (t ∷ []) → IsFitTerm th.signature t
   term_fit d ws t h short r =
@@ -103,11 +104,11 @@ module _ (th : Theory) (formed : IsWellFormed th) where
       (record { theory = declared_sorts d.theory e.theory names sort h.theory a.0; goals = h.goals; blocks = h.blocks; some = h.some; terms = h.terms })
   fit_added d (goal left right) e h a =
       subst IsFitDraft (sym a.is)
-      (record { theory = h.theory; goals = λ g c. either g (Contains-push_cases d.goals a.goal g c); blocks = h.blocks; some = h.some; terms = h.terms })
+      (record { theory = h.theory; goals = λ g c. either g (Contains-push_cases d.goals (bare_goal a.pair) g c); blocks = h.blocks; some = h.some; terms = h.terms })
     where
-      either : (g : Pair) → Contains d.goals g ⊎ (a.goal ≡ g) → IsFitGoal th.signature g
+      either : (g : Goal) → Contains d.goals g ⊎ (bare_goal a.pair ≡ g) → IsFitGoal th.signature g
       either g (inl c) = h.goals g c
-      either g (inr q) = subst (IsFitGoal th.signature) q (goal_fit d left right a.goal h a.alone.short a.alone.reads)
+      either g (inr q) = subst (IsFitGoal th.signature) q (goal_fit d left right a.pair h a.alone.short a.alone.reads)
   fit_added d coinduction e h a =
       subst IsFitDraft (sym a.1)
       (record {
@@ -118,11 +119,11 @@ module _ (th : Theory) (formed : IsWellFormed th) where
         terms = h.terms;
       })
     where
-      block_goals : (b : List Pair) (g : Pair) → Contains b g → Contains d.blocks b ⊎ (d.goals ≡ b) → IsFitGoal th.signature g
+      block_goals : (b : List Goal) (g : Goal) → Contains b g → Contains d.blocks b ⊎ (d.goals ≡ b) → IsFitGoal th.signature g
       block_goals b g k (inl c) = h.blocks b g c k
       block_goals b g k (inr q) = h.goals g (subst (λ x. Contains x g) (sym q) k)
 
-      block_some : (b : List Pair) → Contains d.blocks b ⊎ (d.goals ≡ b) → b ≢ []
+      block_some : (b : List Goal) → Contains d.blocks b ⊎ (d.goals ≡ b) → b ≢ []
       block_some b (inl c) = h.some b c
       block_some b (inr q) = λ n. a.0 (q ∙ n)
   fit_added d (reduce term) e h a =

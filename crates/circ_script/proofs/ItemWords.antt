@@ -22,7 +22,7 @@ as_item (statement.inclusion name) = coinduction
 as_item (statement.sorts names) = coinduction
 as_item (statement.operators forms args result a c i) = coinduction
 as_item (statement.variables names sort) = variables names sort
-as_item (statement.equation left right exec) = coinduction
+as_item (statement.equation left right conds exec) = coinduction
 as_item (statement.derivative term) = coinduction
 as_item (statement.cases sort names) = coinduction
 

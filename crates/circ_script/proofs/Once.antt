@@ -19,7 +19,7 @@ use Rattle.circ_script.specs.declared.job.Job.{Job}
 use Rattle.circ_script.specs.Script.{Script}
 use Rattle.circ_script.specs.Items.{Item, variables, goal, coinduction, reduce, IsItemFor, item_words, left_after}
 use Rattle.circ_script.specs.Drafts.{Draft, first_draft, IsFinished, script_of}
-use Rattle.circ_script.specs.Adding.{ReadsTerm, AddsItem, TakesItem, TakesItems, start, next}
+use Rattle.circ_script.specs.Adding.{ReadsTerm, AddsItem, bare_goal, TakesItem, TakesItems, start, next}
 use Rattle.circ_script.specs.Refusing.{reading_text, RefusesItem, TakesNoItem, left_out, no_shape, is_refused, IsUnfinished, open_goals, no_work}
 use Rattle.circ_script.specs.Refusing.{StopsAt, at_an_item, at_a_cut, at_the_end, FirstScriptCause, at_a_byte, in_the_text}
 use Rattle.circ_script.specs.ReadsAsScript.{ReadsAsScript}
@@ -38,8 +38,8 @@ adds_once d (variables names sort) e f h k =
     let t = ok_same e.theory f.theory (statement_once d.theory (statement.variables names sort) (Ok e.theory) (Ok f.theory) h.0 k.0) in
     k.1 ∙ ap (λ th. record d { theory = th }) (sym t) ∙ sym h.1
 adds_once d (goal left right) e f h k =
-    let g = pair_same k.goal h.goal (h.alone.only (terms_of k.goal) k.alone.reads) in
-    k.is ∙ ap (λ g. record d { goals = d.goals ++ g ∷ [] }) g ∙ sym h.is
+    let g = pair_same k.pair h.pair (h.alone.only (terms_of k.pair) k.alone.reads) in
+    k.is ∙ ap (λ g. record d { goals = d.goals ++ bare_goal g ∷ [] }) g ∙ sym h.is
 adds_once d coinduction e f h k = k.1 ∙ sym h.1
 adds_once d (reduce term) e f h k =
     let a = h.alone.only (k.term ∷ []) k.alone.reads in
@@ -48,7 +48,7 @@ adds_once d (reduce term) e f h k =
 
 adds_or_refuses : (d : Draft) (i : Item) (e : Draft) (c : Cause) → AddsItem d i e → RefusesItem d i c → ⊥
 adds_or_refuses d (variables names sort) e c h k = ok_err e.theory c (statement_once d.theory (statement.variables names sort) (Ok e.theory) (Err c) h.0 k)
-adds_or_refuses d (goal left right) e c h k = alone_or_not (long_sides left right) (ReadsSides d.theory left right) (reading_text d.theory) (terms_of h.goal)
+adds_or_refuses d (goal left right) e c h k = alone_or_not (long_sides left right) (ReadsSides d.theory left right) (reading_text d.theory) (terms_of h.pair)
     c h.alone k
 adds_or_refuses d coinduction e c h k = h.0 k.0
 adds_or_refuses d (reduce term) e c h k = alone_or_not (long_count term) (ReadsTerm d.theory term) (reading_text d.theory) (h.term ∷ []) c h.alone k

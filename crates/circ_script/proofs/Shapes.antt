@@ -57,7 +57,7 @@ module _ (law : SaidOnce) (ts : TokenList) (ws : List Word) where
       as_variables (st.Sorts n) none names sort e = cc
       as_variables (st.Operators forms args result a c i) none names sort e = cc
       as_variables (st.Variables n m) none names sort e = cc none
-      as_variables (st.Equation l r x) none names sort e = cc
+      as_variables (st.Equation l r cs x) none names sort e = cc
       as_variables (st.Derivative t) none names sort e = cc
       as_variables (st.Cases m n) none names sort e = cc
 
@@ -72,7 +72,7 @@ module _ (law : SaidOnce) (ts : TokenList) (ws : List Word) where
   declaration_as (st.Sorts n) h = another (st.Sorts n) refl h
   declaration_as (st.Operators forms args result a c i) h = another (st.Operators forms args result a c i) refl h
   declaration_as (st.Variables n m) h = (h.says, h.within, h.kept)
-  declaration_as (st.Equation l r x) h = another (st.Equation l r x) refl h
+  declaration_as (st.Equation l r cs x) h = another (st.Equation l r cs x) refl h
   declaration_as (st.Derivative t) h = another (st.Derivative t) refl h
   declaration_as (st.Cases m n) h = another (st.Cases m n) refl h
 

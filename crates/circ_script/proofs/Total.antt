@@ -36,7 +36,7 @@ module _ (d : Draft) where
       go : (ts : List Tree) → ReadsAlone (long_sides left right) (ReadsSides d.theory left right) ts → ⊥
       go [] h = let z = h.reads.2 in cc
       go (t ∷ []) h = let z = h.reads.2 in cc
-      go (t ∷ u ∷ []) h = accepted _ (record { goal = pair_with t u; alone = h; is = refl })
+      go (t ∷ u ∷ []) h = accepted _ (record { pair = pair_with t u; alone = h; is = refl })
       go (t ∷ u ∷ v ∷ ts) h = let z = h.reads.2 in cc
 
   term_total : (term : List Word) → Either (AddsItem d (reduce term)) (RefusesItem d (reduce term))

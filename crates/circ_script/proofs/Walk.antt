@@ -7,7 +7,7 @@ use Rattle.circ_lexer.specs.declared.fault.LexFault.{LexFault}
 use Rattle.circ_lexer.specs.declared.fault.LexFault.TheVariants as lex
 use Rattle.circ_lexer.specs.TokenList.{TokenList, tokens_of, tokens_in, IsWithin, AreTokens, GivesTokens}
 use Rattle.circ_theory.specs.Theory.{Theory}
-use Rattle.circ_theory.specs.declared.parts.Script as made
+use Rattle.circ_script.specs.declared.script.Script as made
 use Rattle.circ_lexer.specs.declared.tokens.Span.{Span}
 use Rattle.circ_statement.specs.Words.{Word}
 use Rattle.circ_read.specs.declared.cause.Cause.{Cause}

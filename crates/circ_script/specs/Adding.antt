@@ -1,7 +1,8 @@
 -- What an item that is accepted adds.
 use Rattle.std.specs.Prelude.{◌≡◌, ◌≢◌, ℕ, ◌+◌, List, [], ◌∷◌, ◌++◌, false, codes}
 use Rattle.circ_term.specs.Tree.{Tree}
-use Rattle.circ_theory.specs.Theory.{Theory, Pair}
+use Rattle.circ_theory.specs.Theory.{Theory, Pair, goal as goal_under}
+use Rattle.circ_theory.specs.declared.parts.Goal.{Goal}
 use Rattle.circ_mixfix.specs.Answers.{long_count, ReadsOnly}
 use Rattle.circ_mixfix.specs.Found.{terms_of}
 use Rattle.circ_statement.specs.Words.{Word}
@@ -16,11 +17,15 @@ use Rattle.circ_script.specs.Drafts.{Draft}
 abbrev pub ReadsTerm : Theory → (term : List Word) → List Tree → Type 0
 ReadsTerm th term ts = ReadsOnly th.signature th.variables false term ts
 
--- The only reading of the two sides is one goal more.
+-- a goal without conditions
+abbrev pub bare_goal : Pair → Goal
+bare_goal p = goal_under [] p.left p.right
+
+-- The only reading of the two sides is one goal more, without conditions.
 pub record AddsGoal (d : Draft) (left right : List Word) (e : Draft) : Type 0 where
-  pub goal : Pair
-  pub alone : ReadsAlone (long_sides left right) (ReadsSides d.theory left right) (terms_of goal)
-  pub is : e ≡ record d { goals = d.goals ++ goal ∷ [] }
+  pub pair : Pair
+  pub alone : ReadsAlone (long_sides left right) (ReadsSides d.theory left right) (terms_of pair)
+  pub is : e ≡ record d { goals = d.goals ++ bare_goal pair ∷ [] }
 
 -- The only reading of the words is one term more.
 pub record AddsTerm (d : Draft) (words : List Word) (e : Draft) : Type 0 where

@@ -1,7 +1,8 @@
 -- What the items of a script have said so far.
 use Rattle.std.specs.Prelude.{◌≡◌, ◌≢◌, List, []}
 use Rattle.circ_term.specs.Tree.{Tree}
-use Rattle.circ_theory.specs.Theory.{Theory, Pair}
+use Rattle.circ_theory.specs.declared.parts.Goal.{Goal}
+use Rattle.circ_theory.specs.Theory.{Theory}
 use Rattle.circ_script.specs.declared.job.Job.{Job}
 use Rattle.circ_script.specs.declared.job.Job.TheVariants.{Prove, Reduce}
 use Rattle.circ_script.specs.Script.{Script}
@@ -9,8 +10,8 @@ use Rattle.circ_script.specs.Script.{Script}
 -- the theory, in which the script's variables are declared after its own; the closed blocks; the goals since the last of them; the terms
 pub record Draft : Type 0 where
   pub theory : Theory
-  pub blocks : List (List Pair)
-  pub goals : List Pair
+  pub blocks : List (List Goal)
+  pub goals : List Goal
   pub terms : List Tree
 
 -- before the first item

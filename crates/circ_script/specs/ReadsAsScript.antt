@@ -2,7 +2,7 @@
 use Rattle.std.specs.Prelude.{◌≡◌, ℕ, List, [], Result, Ok, Err}
 use Rattle.circ_lexer.specs.TokenList.{AreTokens}
 use Rattle.circ_theory.specs.Theory.{Theory}
-use Rattle.circ_theory.specs.declared.parts.Script as made
+use Rattle.circ_script.specs.declared.script.Script as made
 use Rattle.circ_statement.specs.Words.{Word}
 use Rattle.circ_read.specs.declared.cause.Cause.{Cause}
 use Rattle.circ_read.specs.declared.cause.ReadFault.{ReadFault}

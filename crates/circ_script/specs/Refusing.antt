@@ -4,9 +4,8 @@ use Rattle.circ_term.specs.Tree.{Tree}
 use Rattle.circ_lexer.specs.declared.fault.LexFault.{LexFault}
 use Rattle.circ_lexer.specs.Cuts.{IsFirstBad}
 use Rattle.circ_lexer.specs.TokenList.{AreTokens}
-use Rattle.circ_theory.specs.Theory.{Theory, pair_with}
+use Rattle.circ_theory.specs.Theory.{Theory}
 use Rattle.circ_mixfix.specs.Answers.{long_count}
-use Rattle.circ_mixfix.specs.Printing.{text_of_term, text_of_pair}
 use Rattle.circ_statement.specs.Words.{Word}
 use Rattle.circ_statement.specs.Said as statement
 use Rattle.circ_statement.specs.Statement.{IsLeftOut}
@@ -14,7 +13,7 @@ use Rattle.circ_read.specs.declared.cause.Cause.{Cause}
 use Rattle.circ_read.specs.declared.cause.Cause.TheVariants as cause
 use Rattle.circ_read.specs.Causes.{byte_cause}
 use Rattle.circ_read.specs.Adding.{long_sides, ReadsSides}
-use Rattle.circ_read.specs.Refusing.{RefusesStatement, ReadsNotAlone}
+use Rattle.circ_read.specs.Refusing.{RefusesStatement, ReadsNotAlone, shown_text}
 use Rattle.circ_read.specs.Text.{HasNoStop}
 use Rattle.circ_script.specs.declared.job.Job.{Job}
 use Rattle.circ_script.specs.Items.{Item, variables, goal, coinduction, reduce, IsItemFor, item_words}
@@ -23,10 +22,7 @@ use Rattle.circ_script.specs.Adding.{ReadsTerm, TakesItems}
 
 -- a term as it is printed, and the two sides of a goal
 abbrev pub reading_text : Theory → List Tree → List ℕ
-reading_text th [] = []
-reading_text th (t ∷ []) = text_of_term th.signature false t
-reading_text th (t ∷ u ∷ []) = text_of_pair th.signature (pair_with t u)
-reading_text th (t ∷ u ∷ v ∷ ts) = []
+reading_text th ts = shown_text false th ts
 
 -- What an item says has this first cause.
 abbrev pub RefusesItem : Draft → Item → Cause → Type 0

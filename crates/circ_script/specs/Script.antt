@@ -1,17 +1,13 @@
 -- What a script asks for, as contracts see it.
 use Rattle.std.specs.Prelude.{List, map}
 use Rattle.circ_term.specs.Tree.{Tree}
-use Rattle.circ_theory.specs.Theory.{Pair, pair_with}
 use Rattle.circ_theory.specs.declared.parts.Goal.{Goal}
-use Rattle.circ_theory.specs.declared.parts.Script as made
+use Rattle.circ_script.specs.declared.script.Script as made
 
 -- blocks of goals, which are proved one after another, and terms, which are reduced
 pub record Script : Type 0 where
-  pub blocks : List (List Pair)
+  pub blocks : List (List Goal)
   pub terms : List Tree
 
-abbrev pub plain_goal : Goal → Pair
-plain_goal g = pair_with g.left g.right
-
 abbrev pub plain_script : made.Script → Script
-plain_script s = record { blocks = map (λ b. map plain_goal b.items) s.blocks.items; terms = s.terms.items }
+plain_script s = record { blocks = map (λ b. b.items) s.blocks.items; terms = s.terms.items }

@@ -3,9 +3,8 @@ use Rattle.std.specs.Prelude.{◌≡◌, ◌⊎◌, ◌<◌, ◌≤◌, ◌+◌,
 use Rattle.circ_lexer.specs.TokenList.{TokenList, tokens_in, IsWithin}
 use Rattle.circ_lexer.specs.declared.tokens.Span.{Span}
 use Rattle.circ_theory.specs.Theory.{Theory}
-use Rattle.circ_theory.specs.declared.parts.Script as made
+use Rattle.circ_script.specs.declared.script.Script as made
 use Rattle.circ_mixfix.specs.declared.parse.ParseFault.{ParseFault}
-use Rattle.circ_mixfix.specs.declared.parse.ParseFault.TheVariants as parse
 use Rattle.circ_statement.specs.declared.statements.Statement.{Statement}
 use Rattle.circ_statement.specs.declared.statements.Statement.TheVariants as said
 use Rattle.circ_statement.specs.Words.{Word, has_word}
@@ -19,16 +18,17 @@ use Rattle.circ_read.specs.declared.cause.Fault.TheVariants.{Because, Memory}
 use Rattle.circ_read.specs.declared.cause.ReadFault.{ReadFault}
 use Rattle.circ_read.specs.declared.cause.ReadFault.TheVariants as at
 use Rattle.circ_read.specs.Includes.{with_variables}
+use Rattle.circ_read.specs.Steps.{IsNoReading}
 use Rattle.circ_script.specs.declared.job.Job.{Job}
 use Rattle.circ_script.specs.declared.adding.Asked.{Asked}
 use Rattle.circ_script.specs.declared.items.FoundItem.{FoundItem}
 use Rattle.circ_script.specs.declared.items.FoundItem.TheVariants as at_tokens
 use Rattle.circ_script.specs.declared.spans.Halves.{Halves}
-use Rattle.circ_script.specs.Script.{plain_goal, plain_script}
+use Rattle.circ_script.specs.Script.{plain_script}
 use Rattle.circ_script.specs.Items.{Item, variables, goal, coinduction, reduce, IsItem, begins_with}
 use Rattle.circ_script.specs.Drafts.{Draft, IsFinished, script_of}
 use Rattle.circ_script.specs.Adding.{AddsItem, TakesItem, TakesItems}
-use Rattle.circ_script.specs.Refusing.{reading_text, RefusesItem, TakesNoItem, IsUnfinished, StopsAt}
+use Rattle.circ_script.specs.Refusing.{RefusesItem, TakesNoItem, IsUnfinished, StopsAt}
 
 -- the second theory is the first, perhaps with other variables
 abbrev pub IsButVariables : Theory → Theory → Type 0
@@ -93,7 +93,7 @@ declaration (said.Inclusion name) = None
 declaration (said.Sorts names) = None
 declaration (said.Operators forms args result a c i) = None
 declaration (said.Variables names sort) = Some (at_tokens.Variables names sort)
-declaration (said.Equation left right exec) = None
+declaration (said.Equation left right conds exec) = None
 declaration (said.Derivative term) = None
 declaration (said.Cases sort names) = None
 
@@ -111,18 +111,14 @@ abbrev pub shaped : Option FoundItem → Result FoundItem Fault
 shaped None = Err (Because cause.Shape)
 shaped (Some p) = Ok p
 
--- the cause that a fault of reading terms is, or want of memory
+-- the cause that a fault of reading terms is, or out of memory
 abbrev pub IsUnread : Fault → Theory → ParseFault → Type 0
-IsUnread (Because c) th (parse.TooLong n) = c ≡ cause.TooLong n
-IsUnread (Because c) th parse.NoParse = c ≡ cause.NoParse
-IsUnread (Because c) th (parse.Ambiguous a b) = c ≡ cause.Ambiguous (reading_text th a.terms.items) (reading_text th b.terms.items)
-IsUnread (Because c) th parse.Memory = ⊥
-IsUnread Memory th f = Unit {0}
+IsUnread f th fault = IsNoReading false f th fault
 
 -- the draft of what was asked for, in a theory
 abbrev pub draft_of : Theory → Asked → Draft
 draft_of th a =
-    record { theory = th; blocks = map (λ b. map plain_goal b.items) a.blocks.items; goals = map plain_goal a.goals.items; terms = a.terms.items }
+    record { theory = th; blocks = map (λ b. b.items) a.blocks.items; goals = a.goals.items; terms = a.terms.items }
 
 -- an item's outcome, and that of the tokens before and after a stop
 abbrev pub ItemOutcome : Draft → Item → Result Draft Cause → Type 0

@@ -1,24 +1,23 @@
 //! What the items of a script ask for.
-ghost use Rattle.std.specs.Prelude.{◌≡◌, ◌++◌, ◌∷◌, [], map, IfErr, OnOk};
+ghost use Rattle.std.specs.Prelude.{◌≡◌, ◌++◌, ◌∷◌, [], IfErr, OnOk};
 ghost use Rattle.circ_lexer.specs.TokenList.{tokens_in, IsWithin};
 ghost use Rattle.circ_term.specs.Tree.{Tree};
 ghost use Rattle.circ_theory.specs.Theory.{Theory, Pair};
 ghost use Rattle.circ_mixfix.specs.Found.{terms_of};
 ghost use Rattle.circ_read.specs.declared.cause.Fault.TheVariants.{Memory};
 ghost use Rattle.circ_read.specs.Steps.{StepAnswers};
-ghost use Rattle.circ_script.specs.Script.{plain_goal};
+ghost use Rattle.circ_script.specs.Adding.{bare_goal};
 ghost use Rattle.circ_script.specs.Items.{goal, coinduction, reduce};
 ghost use Rattle.circ_script.specs.Steps.{draft_of, item_of, ItemOutcome, LieWithin};
 ghost use Rattle.circ_script.specs.Steps.{IsButVariables};
 
 use crate::items::FoundItem;
-use crate::readings::unread;
 use crate::variables::add_variables;
 use circ_lexer::{Span, Tokens};
 use circ_mixfix::{parse_one_declared, parse_pair_declared};
-use circ_read::{Cause, Fault, because};
+use circ_read::{Cause, Fault, because, unread};
 use circ_term::Term;
-use circ_theory::{Goal, Theory};
+use circ_theory::{Goal, Pairs, Theory};
 use std::alloc::Global;
 use std::mem::replace;
 
@@ -67,23 +66,26 @@ fn add_goal(
         (goal (tokens_in tokens.now left) (tokens_in tokens.now right))) }
 {
     match parse_pair_declared(alloc, theory, tokens, left, right) {
-        Ok(reading) => push_goal(&mut asked.goals, reading.terms),
-        Err(fault) => Err(unread(alloc, theory, fault)),
+        Ok(reading) => push_goal(alloc, &mut asked.goals, reading.terms),
+        Err(fault) => Err(unread(alloc, theory, false, fault)),
     }
 }
 
-// Adds the goal of two sides.
-fn push_goal(goals: &mut Vec<Goal>, terms: Vec<Term>) -> Result<(), Fault>
+// Adds the goal of two sides, without conditions.
+fn push_goal(alloc: Global, goals: &mut Vec<Goal>, terms: Vec<Term>) -> Result<(), Fault>
     requires { (p : Pair) × (terms.items ≡ terms_of p) }
     ensures pushed { OnOk result ((p : Pair) → terms.items ≡ terms_of p →
-        map plain_goal goals.new.items ≡ map plain_goal goals.old.items ++ p ∷ []) }
+        goals.new.items ≡ goals.old.items ++ bare_goal p ∷ []) }
     ensures fault { IfErr result (λ f. f ≡ Memory) }
 {
     let mut terms = terms;
     let right = terms.pop();
     let left = terms.pop();
     match (left, right) {
-        (Some(left), Some(right)) => goals.push(Goal { left, right })?,
+        (Some(left), Some(right)) => {
+            let conds = Pairs::new(alloc);
+            goals.push(Goal { conds, left, right })?
+        }
         _ => unreachable!(),
     }
     Ok(())
@@ -115,7 +117,7 @@ fn add_term(
 {
     match parse_one_declared(alloc, theory, tokens, term, false) {
         Ok(reading) => push_term(&mut asked.terms, reading.terms),
-        Err(fault) => Err(unread(alloc, theory, fault)),
+        Err(fault) => Err(unread(alloc, theory, false, fault)),
     }
 }
 

@@ -11,9 +11,10 @@ mod items;
 mod job;
 pub mod laws;
 mod reader;
-mod readings;
+mod script;
 mod spans;
 mod variables;
 
 pub use job::Job;
 pub use reader::read_script;
+pub use script::Script;

@@ -5,17 +5,18 @@ ghost use Rattle.circ_theory.specs.Theory.{Theory};
 ghost use Rattle.circ_read.specs.Steps.{StepAnswers};
 ghost use Rattle.circ_script.specs.Drafts.{AsksFor, first_draft};
 ghost use Rattle.circ_script.specs.ReadsAsScript.{GivesScript};
-ghost use Rattle.circ_script.specs.Steps.{draft_of, TakingOutcome, GivesEnd, GivesDraft, GivesScriptFrom};
-ghost use Rattle.circ_script.specs.Steps.{IsButVariables};
+ghost use Rattle.circ_script.specs.Steps.{draft_of, TakingOutcome, GivesEnd, GivesDraft};
+ghost use Rattle.circ_script.specs.Steps.{GivesScriptFrom, IsButVariables};
 
 use crate::Job;
 use crate::adding::{Asked, add_item};
 use crate::items::{is_for, item};
+use crate::script::Script;
 use crate::spans::set_aside;
 use crate::variables::declare_copies;
 use circ_lexer::{Span, Tokens};
 use circ_read::{Cause, Fault, ReadFault, because, byte_fault, fault_at, next_stop};
-use circ_theory::{Script, Theory};
+use circ_theory::Theory;
 use std::alloc::Global;
 
 /// The script that the bytes read as for a job. The theory's variables are known in it, and its own

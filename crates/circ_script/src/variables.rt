@@ -9,9 +9,10 @@ ghost use Rattle.circ_read.specs.Outcomes.{variable_added, all_added, sort_named
 ghost use Rattle.circ_read.specs.Steps.{StepAnswers};
 ghost use Rattle.circ_script.specs.Steps.{IsButVariables};
 
+use circ_form::Text;
 use circ_lexer::{Span, Tokens};
 use circ_read::{Fault, done, sort_named, word};
-use circ_theory::{Text, Theory, TheoryFault, Vars};
+use circ_theory::{Theory, TheoryFault, Vars};
 use std::alloc::{AllocError, Global};
 
 // Declares the variables of an item.

@@ -1,5 +1,6 @@
 -- What contracts see of what a search finds.
 use Rattle.std.specs.Prelude.{List, map, Option, Some, None}
+use Rattle.circ_theory.specs.Pairs.{plain_pair}
 use Rattle.circ_rewrite.specs.Links.{link_of}
 use Rattle.circ_rewrite.specs.Replacement.{Traced}
 use Rattle.circ_proof.specs.PlainProof.{plain_proof}
@@ -16,14 +17,14 @@ use Rattle.circ_search.specs.declared.found.Found.TheVariants as found
 abbrev pub plain_found : TheFound → Found
 plain_found (found.Proved proof) = Proved (plain_proof proof)
 plain_found (found.LongTable terms) = LongTable terms
-plain_found (found.Stuck block goal s t A) = Stuck block goal s t A.items
+plain_found (found.Stuck block goal s t A) = Stuck block goal s t (map plain_pair A.items)
 plain_found (found.Spent rewrites derives steps) = Spent rewrites derives steps
 plain_found (found.TooBig nodes) = TooBig nodes
 plain_found (found.TooDeep depth) = TooDeep depth
 
 -- the ending that is told, unless memory ran out
 abbrev pub ending_of : End → Option Ending
-ending_of (end.Stuck block goal s t A) = Some (Is_stuck block goal s t A.items)
+ending_of (end.Stuck block goal s t A) = Some (Is_stuck block goal s t (map plain_pair A.items))
 ending_of (end.Spent rewrites derives steps) = Some (Is_spent rewrites derives steps)
 ending_of (end.TooBig nodes) = Some (Is_too_big nodes)
 ending_of (end.TooDeep depth) = Some (Is_too_deep depth)

@@ -1,7 +1,7 @@
 //! What a search finds.
 use circ_proof::Proof;
 use circ_term::Term;
-use circ_theory::Goal;
+use circ_theory::Pair;
 
 /// What a search finds.
 #[derive(Drop)]
@@ -20,7 +20,7 @@ pub enum Found {
         goal: u64,
         left: Term,
         right: Term,
-        assumptions: Vec<Goal>,
+        assumptions: Vec<Pair>,
     },
     /// A budget is spent, after so many rewrite steps, Derive steps and steps.
     Spent {

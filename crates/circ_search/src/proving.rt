@@ -1,12 +1,14 @@
 //! The search for a proof.
-ghost use Rattle.std.specs.Prelude.{◌≡◌, Some, [], map, IfOk};
+ghost use Rattle.std.specs.Prelude.{◌≡◌, List, Some, [], map, IfOk};
+ghost use Rattle.circ_theory.specs.declared.parts.Goal.{Goal as TheGoal};
 ghost use Rattle.circ_rewrite.specs.Links.{link_of};
 ghost use Rattle.circ_contexts.specs.Candidates.{plain_lists};
 ghost use Rattle.circ_plain_search.specs.Greatest.{GreatestSpecialSet};
 ghost use Rattle.circ_proof.specs.PlainProof.{plain_proof};
 ghost use Rattle.circ_plain_search.specs.Numbering.{Special, found_of, needed, proof_with};
 ghost use Rattle.circ_plain_search.specs.PlainSearch.{AreSearchable, PlainSearch, IsProofOf};
-ghost use Rattle.circ_plain_search.specs.Search.{All_done, Ending};
+ghost use Rattle.circ_plain_search.specs.Search.{All_done, Ending, start};
+ghost use Rattle.circ_turn.specs.Standing.{standing, IsStart};
 ghost use Rattle.circ_numbering.specs.Asking.{GivesProof};
 ghost use Rattle.circ_numbering.specs.Plain.{plain_term_blocks, plain_term_certificates};
 ghost use Rattle.circ_search.specs.Plain.{plain_found, plain_limits, ending_of, special_with};
@@ -16,10 +18,10 @@ use crate::found::Found;
 use circ_contexts::special_contexts;
 use circ_numbering::{NumberFault, numbered};
 use circ_plain_search::laws::proved_is_accepted;
-use circ_proof::{MOST_TERMS, Proof};
-use circ_record::{TermLink, term_links};
-use circ_rewrite::Trace;
+use circ_proof::{Link, MOST_TERMS, Proof};
+use circ_rewrite::{Trace, links_of};
 use circ_special::Gamma;
+use circ_term::Term;
 use circ_theory::{Goal, Theory};
 use circ_turn::{End, Limits, Search, State};
 use std::alloc::{AllocError, Global};
@@ -63,14 +65,34 @@ fn search_with(
         (plain_limits limits.now) (plain_found f)) }
 {
     let mut state = State::start(alloc, blocks, limits.steps)?;
+    search_from(alloc, theory, limits, gamma, traces, &mut state)
+}
+
+// The same from the start of the search.
+fn search_from(
+    alloc: Global,
+    theory: &Theory,
+    limits: &Limits,
+    gamma: Gamma,
+    traces: Vec<Vec<Trace>>,
+    state: &mut State<'_>,
+) -> Result<Found, AllocError>
+    requires start { IsStart theory.now (plain_limits limits.now) (standing state.old) }
+    requires greatest { GreatestSpecialSet theory.now limits.now.steps gamma
+        (plain_lists traces.items) }
+    ensures { (blocks : List (List TheGoal))
+        → standing state.old ≡ start (plain_limits limits.now) blocks
+        → IfOk result (λ f. PlainSearch theory.now blocks (plain_limits limits.now)
+        (plain_found f)) }
+{
     let search = Search {
         alloc,
         theory,
         gamma: &gamma,
         limits: *limits,
     };
-    match search.run(&mut state) {
-        Ok(()) => found(alloc, theory, gamma, traces, &state),
+    match search.run(state) {
+        Ok(()) => found(alloc, gamma, traces, state),
         Err(end) => ended(end),
     }
 }
@@ -112,7 +134,6 @@ fn ended(end: End) -> Result<Found, AllocError>
 // What is found where every goal is done.
 fn found(
     alloc: Global,
-    theory: &Theory,
     gamma: Gamma,
     traces: Vec<Vec<Trace>>,
     state: &State<'_>,
@@ -122,7 +143,7 @@ fn found(
         (All_done (plain_term_blocks state.now.finished.items) state.now.derives state.now.made
         state.now.deep)) }
 {
-    match needed_proof(alloc, theory, gamma, traces, state) {
+    match needed_proof(alloc, gamma, traces, state) {
         Ok(proof) => Ok(Found::Proved { proof }),
         Err(NumberFault::LongTable) => Ok(Found::LongTable {
             terms: LONG_TABLE_TERMS,
@@ -135,7 +156,6 @@ fn found(
 // hypothesis at a path that is not empty, and no places otherwise.
 fn needed_proof(
     alloc: Global,
-    theory: &Theory,
     gamma: Gamma,
     traces: Vec<Vec<Trace>>,
     state: &State<'_>,
@@ -154,32 +174,17 @@ fn needed_proof(
             state.finished.as_slice(),
         )
     } else {
-        numbered(
-            alloc,
-            no_places(alloc, theory),
-            &[],
-            state.finished.as_slice(),
-        )
+        numbered(alloc, Gamma::empty(alloc), &[], state.finished.as_slice())
     }
 }
 
-fn certificates(alloc: Global, traces: Vec<Vec<Trace>>) -> Result<Vec<Vec<TermLink>>, AllocError>
+fn certificates(alloc: Global, traces: Vec<Vec<Trace>>) -> Result<Vec<Vec<Link<Term>>>, AllocError>
     ensures { IfOk result (λ v. plain_term_certificates v.items
         ≡ map (map link_of) (plain_lists traces.items)) }
 {
     let mut certificates = Vec::with_capacity(alloc, traces.len())?;
     for links in traces {
-        certificates.push(term_links(alloc, links)?)?;
+        certificates.push(links_of(alloc, links)?)?;
     }
     Ok(certificates)
-}
-
-// The special set without places.
-fn no_places(alloc: Global, theory: &Theory) -> Gamma
-    ensures { result ≡ [] }
-{
-    match Gamma::of(theory, Vec::new(alloc)) {
-        Some(gamma) => gamma,
-        None => unreachable!(),
-    }
 }

@@ -2,4 +2,3 @@ mod Steps
 mod SortMarks
 mod Texts
 mod AttributeWords
-pub mod TakenBack

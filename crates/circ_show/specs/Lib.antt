@@ -5,4 +5,3 @@ pub mod GoalsText
 pub mod Observed
 pub mod SortMarks
 pub mod PlacesText
-pub mod Keeps

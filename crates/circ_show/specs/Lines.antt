@@ -3,16 +3,16 @@ use Rattle.std.specs.Prelude.{ℕ, ◌-◌, List, [], ◌∷◌, ◌++◌, Bool,
 use Rattle.std.specs.List.{slice_get}
 use Rattle.std.specs.Option.{option_map_or}
 use Rattle.circ_term.specs.Tree.{Tree}
-use Rattle.circ_theory.specs.declared.forms.Piece.{Piece}
+use Rattle.circ_form.specs.declared.forms.Piece.{Piece}
 use Rattle.circ_theory.specs.declared.parts.Side.{Side}
 use Rattle.circ_theory.specs.declared.parts.Side.TheVariants.{Neither, Left, Right}
 use Rattle.circ_theory.specs.declared.parts.Equation.{Equation}
-use Rattle.circ_theory.specs.Form.{text_of}
+use Rattle.circ_form.specs.Form.{text_of}
 use Rattle.circ_theory.specs.Signature.{Signature, Operator}
-use Rattle.circ_theory.specs.Theory.{Theory, Declared, pair_of}
-use Rattle.circ_theory.specs.Operators.{is_hole_piece, has_hole}
+use Rattle.circ_theory.specs.Theory.{Theory, Declared, Pair, goal_of}
+use Rattle.circ_form.specs.Form.{is_hole_piece, has_hole}
 use Rattle.circ_theory.specs.Observing.{cases_of}
-use Rattle.circ_mixfix.specs.Printing.{joined, text_of_term, text_of_pair}
+use Rattle.circ_mixfix.specs.Printing.{joined, text_of_term, text_of_goal}
 
 -- a word after a space; nothing where it is empty
 abbrev pub spaced_word : List ℕ → List ℕ
@@ -74,8 +74,15 @@ op_line sig o = codes "op " ++ declaration sig o ++ attributes_text o ++ codes "
 abbrev pub var_line : Signature → Declared → List ℕ
 var_line sig d = codes "var" ++ spaced_word d.name ++ codes " :" ++ spaced_sort sig d.sort ++ codes " .\n"
 
+-- the word that an equation with these conditions begins with
+abbrev pub equation_word : (conds : List Pair) → List ℕ
+equation_word [] = codes "eq "
+equation_word (_ ∷ _) = codes "ceq "
+
+-- an equation with its conditions, and whether it is no rewrite rule
 abbrev pub equation_line : Signature → Equation → List ℕ
-equation_line sig e = codes "eq " ++ text_of_pair sig (pair_of e) ++ (if e.exec then [] else codes " [nonexec]") ++ codes " .\n"
+equation_line sig e =
+    equation_word e.conds ++ text_of_goal sig (goal_of e) ++ (if e.exec then [] else codes " [nonexec]") ++ codes " .\n"
 
 abbrev pub derivative_line : Signature → Tree → List ℕ
 derivative_line sig t = codes "derivative " ++ text_of_term sig true t ++ codes " .\n"

@@ -1,10 +1,13 @@
 //! The attributes of an operator as text.
-ghost use Rattle.std.specs.Prelude.{◌≡◌, ◌++◌, ◌∷◌, [], ℕ, List, true, false, codes, decimal, IfOk, OnOk};
+ghost use Rattle.std.specs.Prelude.{◌≡◌, ◌++◌, ◌∷◌, [], ℕ, List, true, false, codes, decimal, IfOk};
+ghost use Rattle.std.specs.Prelude.{OnOk};
 ghost use Rattle.circ_theory.specs.Operators.{operator_of};
 ghost use Rattle.circ_show.specs.Brackets.{bracketed, WritesWords};
-ghost use Rattle.circ_show.specs.Lines.{is_hole_at, has_outer_holes, side_words, precedence_words, if_set, attributes_text};
+ghost use Rattle.circ_show.specs.Lines.{is_hole_at, has_outer_holes, side_words, precedence_words};
+ghost use Rattle.circ_show.specs.Lines.{if_set, attributes_text};
 
-use circ_theory::{OpDecl, Piece, Side};
+use circ_form::Piece;
+use circ_theory::{OpDecl, Side};
 use itoa::Buffer;
 use std::alloc::AllocError;
 

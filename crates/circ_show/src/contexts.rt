@@ -9,7 +9,7 @@ use itoa::Buffer;
 use std::alloc::{AllocError, Global};
 
 /// Appends for each place the line `place N of FORM : SORTS -> SORT`, where N is the number of the
-/// argument and the rest declares the operator. After want of memory the bytes are as before.
+/// argument and the rest declares the operator. If it runs out of memory the bytes are as before.
 pub fn contexts_text(
     alloc: Global,
     theory: &Theory,

@@ -1,15 +1,20 @@
 //! The lines of a theory's text.
-ghost use Rattle.std.specs.Prelude.{◌≡◌, ◌++◌, codes, flat_map, OnOk};
+ghost use Rattle.std.specs.Prelude.{◌≡◌, ◌++◌, codes, flat_map, map, IfOk, OnOk};
 ghost use Rattle.std.specs.Option.{option_copied};
-ghost use Rattle.circ_theory.specs.Form.{text_of};
-ghost use Rattle.circ_theory.specs.Theory.{declared};
+ghost use Rattle.circ_form.specs.Form.{text_of};
+ghost use Rattle.circ_theory.specs.Theory.{declared, goal_of};
+ghost use Rattle.circ_theory.specs.Pairs.{plain_pair};
 ghost use Rattle.circ_theory.specs.Operators.{operator_of};
-ghost use Rattle.circ_show.specs.Lines.{spaced_word, spaced_sort, spaced_form, sort_name, theory_line, sort_line, declaration, op_line, var_line, equation_line, derivative_line, cases_line, unobserved_line};
+ghost use Rattle.circ_show.specs.Lines.{spaced_word, spaced_sort, spaced_form, sort_name};
+ghost use Rattle.circ_show.specs.Lines.{theory_line, sort_line, declaration, op_line, var_line};
+ghost use Rattle.circ_show.specs.Lines.{equation_word, equation_line, derivative_line, cases_line};
+ghost use Rattle.circ_show.specs.Lines.{unobserved_line};
 
 use crate::attributes::put_attributes;
-use circ_mixfix::{print_derivative, print_pair};
+use circ_form::Piece;
+use circ_mixfix::{print_derivative, print_goal};
 use circ_term::Term;
-use circ_theory::{Equation, OpDecl, Piece, Theory};
+use circ_theory::{Equation, Goal, OpDecl, Pair, Theory};
 use std::alloc::{AllocError, Global};
 
 pub fn put_head(out: &mut Vec<u8>, name: &[u8]) -> Result<(), AllocError>
@@ -70,12 +75,34 @@ pub fn put_equation(
     ensures { OnOk result (out.new.items ≡
         out.old.items ++ equation_line theory.now.signature equation.now) }
 {
-    out.extend_from_slice(b"eq ")?;
-    print_pair(alloc, theory, &equation.left, &equation.right, out)?;
+    put_equation_word(out, equation.conds.as_slice())?;
+    let goal = goal_of(alloc, equation)?;
+    print_goal(alloc, theory, &goal, out)?;
     if !equation.exec {
         out.extend_from_slice(b" [nonexec]")?;
     }
     out.extend_from_slice(b" .\n")
+}
+
+// The word that an equation with these conditions begins with.
+fn put_equation_word(out: &mut Vec<u8>, conds: &[Pair]) -> Result<(), AllocError>
+    ensures { OnOk result (out.new.items ≡
+        out.old.items ++ equation_word (map plain_pair conds.now)) }
+{
+    if conds.is_empty() {
+        return out.extend_from_slice(b"eq ");
+    }
+    out.extend_from_slice(b"ceq ")
+}
+
+// What an equation says. Its terms are shared.
+fn goal_of(alloc: Global, equation: &Equation) -> Result<Goal, AllocError>
+    ensures { IfOk result (λ goal. goal ≡ goal_of equation.now) }
+{
+    let conds = equation.conds.share(alloc)?;
+    let left = equation.left.share()?;
+    let right = equation.right.share()?;
+    Ok(Goal { conds, left, right })
 }
 
 pub fn put_derivative(

@@ -4,13 +4,14 @@ ghost use Rattle.std.specs.List.{slice_get};
 ghost use Rattle.circ_theory.specs.Theory.{Derivative};
 ghost use Rattle.circ_theory.specs.Observing.{is_hidden};
 ghost use Rattle.circ_show.specs.Observed.{IsUnobserved};
-ghost use Rattle.circ_show.specs.SortMarks.{AreSortMarks, CarriesMarkAt, AreClosed, unmarked, is_unmarked, TellUnobserved};
+ghost use Rattle.circ_show.specs.SortMarks.{AreSortMarks, CarriesMarkAt, AreClosed, unmarked};
+ghost use Rattle.circ_show.specs.SortMarks.{is_unmarked, TellUnobserved};
 
 use circ_theory::Theory;
 use std::alloc::{AllocError, Global};
 
 /// Whether the sort is hidden and no experiment fits it. Then no experiment can tell two of its
-/// terms apart, and every pair behaves. The only fault is want of memory.
+/// terms apart, and every pair behaves. The only fault is that memory runs out.
 pub fn unobserved(alloc: Global, theory: &Theory, sort: u32) -> Result<bool, AllocError>
     ensures { IfOk result (λ b. IsTrue b ↔ IsUnobserved theory.now sort) }
 {

@@ -1,15 +1,15 @@
 //! The relation that a proof builds, as text: what each of its blocks derived.
 ghost use Rattle.std.specs.Prelude.{◌≡◌, ◌++◌, map, OnOk, OnErr};
-ghost use Rattle.circ_show.specs.Keeps.{Keeps};
-ghost use Rattle.circ_show.specs.GoalsText.{plain_goal, block_lines, relation_lines};
+ghost use Rattle.circ_show.specs.GoalsText.{block_lines, relation_lines};
 
-use crate::goals::put_pairs;
+use crate::goals::put_goals;
 use circ_theory::{Goal, Theory};
 use itoa::Buffer;
 use std::alloc::{AllocError, Global};
 
 /// Appends for each block the line `block N`, N from 1, and the line `pair: PAIR` of each goal that
-/// it derived, in order. After want of memory the bytes are as before.
+/// it derived, in order, or `pair: PAIR if PAIR /\ PAIR` where it has conditions. If it runs out
+/// of memory the bytes are as before.
 pub fn relation_text(
     alloc: Global,
     theory: &Theory,
@@ -17,17 +17,12 @@ pub fn relation_text(
     out: &mut Vec<u8>,
 ) -> Result<(), AllocError>
     ensures text { OnOk result (out.new.items ≡ out.old.items ++ relation_lines
-        theory.now.signature 1 (map (λ b. map plain_goal b.items) blocks.now)) }
+        theory.now.signature 1 (map (λ b. b.items) blocks.now)) }
     ensures err { OnErr result (out.new.items ≡ out.old.items) }
 {
-    let before = out.len();
-    match put_blocks(alloc, out, theory, blocks) {
-        Ok(()) => Ok(()),
-        Err(fault) => {
-            out.truncate(before);
-            Err(fault)
-        }
-    }
+    let mut text = Vec::new(alloc);
+    put_blocks(alloc, &mut text, theory, blocks)?;
+    out.extend_from_slice(&text)
 }
 
 fn put_blocks(
@@ -36,9 +31,8 @@ fn put_blocks(
     theory: &Theory,
     blocks: &[Vec<Goal>],
 ) -> Result<(), AllocError>
-    ensures text { OnOk result (out.new.items ≡ out.old.items ++ relation_lines
-        theory.now.signature 1 (map (λ b. map plain_goal b.items) blocks.now)) }
-    ensures keeps { Keeps out.old.items out.new.items }
+    ensures { OnOk result (out.new.items ≡ out.old.items ++ relation_lines
+        theory.now.signature 1 (map (λ b. b.items) blocks.now)) }
 {
     for (done, block) in blocks.iter().enumerate() {
         put_block(alloc, out, theory, done as u64 + 1, block.as_slice())?;
@@ -53,12 +47,11 @@ fn put_block(
     number: u64,
     derived: &[Goal],
 ) -> Result<(), AllocError>
-    ensures text { OnOk result (out.new.items ≡ out.old.items ++ block_lines
-        theory.now.signature number (map plain_goal derived.now)) }
-    ensures keeps { Keeps out.old.items out.new.items }
+    ensures { OnOk result (out.new.items ≡ out.old.items ++ block_lines
+        theory.now.signature number derived.now) }
 {
     out.extend_from_slice(b"block ")?;
     out.extend_from_slice(Buffer::new().format(number).as_bytes())?;
     out.extend_from_slice(b"\n")?;
-    put_pairs(alloc, out, theory, b"pair: ", derived)
+    put_goals(alloc, out, theory, b"pair: ", derived)
 }

@@ -1,8 +1,11 @@
 //! A whole theory as text.
-ghost use Rattle.std.specs.Prelude.{◌≡◌, ◌++◌, ℕ, List, codes, flat_map, map, length, Bool, IfOk, OnOk, OnErr};
+ghost use Rattle.std.specs.Prelude.{◌≡◌, ◌++◌, ℕ, List, codes, flat_map, map, length, Bool, IfOk};
+ghost use Rattle.std.specs.Prelude.{OnOk, OnErr};
 ghost use Rattle.circ_theory.specs.Theory.{Theory};
-ghost use Rattle.circ_show.specs.Lines.{sort_line, op_line, var_line, equation_line, derivative_line, cases_line, unobserved_line};
-ghost use Rattle.circ_show.specs.TheoryText.{IsTheoryText, by_number, parts_text, text_where, unobserved_lines, text_of_theory};
+ghost use Rattle.circ_show.specs.Lines.{sort_line, op_line, var_line, equation_line};
+ghost use Rattle.circ_show.specs.Lines.{derivative_line, cases_line, unobserved_line};
+ghost use Rattle.circ_show.specs.TheoryText.{IsTheoryText, by_number, parts_text, text_where};
+ghost use Rattle.circ_show.specs.TheoryText.{unobserved_lines, text_of_theory};
 ghost use Rattle.circ_show.specs.SortMarks.{is_unmarked};
 
 use crate::lines::{
@@ -13,7 +16,7 @@ use circ_theory::Theory;
 use std::alloc::{AllocError, Global};
 
 /// Appends the text of a theory: its parts, one a line, kind by kind, and behind them a line for
-/// each sort that is not observed. After want of memory the bytes are as before.
+/// each sort that is not observed. If it runs out of memory the bytes are as before.
 pub fn theory_text(alloc: Global, theory: &Theory, out: &mut Vec<u8>) -> Result<(), AllocError>
     ensures text { OnOk result ((text : List ℕ) × IsTheoryText theory.now text ×
         (out.new.items ≡ out.old.items ++ text)) }

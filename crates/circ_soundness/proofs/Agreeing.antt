@@ -9,15 +9,15 @@ use Rattle.circ_term.proofs.Paths.{list_of-instances}
 use Rattle.circ_theory.specs.Signature.{IsWellSorted, IsSubstitution}
 use Rattle.circ_theory.specs.Theory.{Theory, Pair, Derivative}
 use Rattle.circ_theory.specs.WellFormed.{IsWellFormed}
-use Rattle.circ_theory.specs.Derivable.{Derivable, by_same, by_symmetry, by_chain}
+use Rattle.circ_theory.specs.Derivable.{Derivable, Gives, by_same, by_symmetry, by_chain}
 use Rattle.circ_theory.specs.Experiment.{Entry, Fits, on, derived}
 use Rattle.circ_theory.proofs.Behaviour.{derivable_on}
 use Rattle.circ_theory.proofs.Sorting.{arg_well_sorted, put_well_sorted}
-use Rattle.circ_theory.proofs.Weakening.{weaken}
+use Rattle.circ_theory.proofs.Weakening.{weaken, cut}
 use Rattle.circ_special.specs.declared.place.Place.{Place}
 use Rattle.circ_special.specs.Special.{IsSpecial}
 use Rattle.circ_soundness.specs.Levels.{Agree, PlacesAgree, Stays}
-use Rattle.circ_soundness.proofs.Members.{nothing}
+use Rattle.circ_proof.proofs.Members.{nothing}
 
 -- what is derivable agrees at each level
 pub derivable_agrees : (th : Theory) → IsWellFormed th → (A : List Pair) (n : ℕ) (s t : Tree)
@@ -36,6 +36,10 @@ agree_symmetry th A n s t e a = λ cs l f. by_symmetry (a cs l (fits_same th cs 
 
 pub agree_chain : (th : Theory) (A : List Pair) (n : ℕ) (s m t : Tree) → sort_of m ≡ sort_of s → Agree th A n s m → Agree th A n m t → Agree th A n s t
 agree_chain th A n s m t e a b = λ cs l f. by_chain (on cs m) (a cs l f) (b cs l (fits_same th cs (sort_of s) (sort_of m) (sym e) f))
+
+-- assumptions that follow from others may be cut
+pub agree_cut : (th : Theory) (H K : List Pair) → Gives th H K → (n : ℕ) (s t : Tree) → Agree th H n s t → Agree th K n s t
+agree_cut th H K w n s t a = λ cs l f. cut th (a cs l f) K w
 
 -- what agrees under no assumptions does under any
 pub agree_weaken : (th : Theory) (A : List Pair) (n : ℕ) (s t : Tree) → Agree th [] n s t → Agree th A n s t

@@ -4,38 +4,53 @@ use Rattle.std.specs.List.{AllByRecursion, Contains}
 use Rattle.std.proofs.lemmas.List.Elements.{Contains-append_right, Contains-append_cases}
 use Rattle.circ_term.specs.Tree.{Tree}
 use Rattle.circ_theory.specs.Signature.{IsWellSorted}
-use Rattle.circ_theory.specs.Theory.{Theory}
+use Rattle.circ_theory.specs.Theory.{Theory, IsCondition, AreConditions, IsWellSortedGoal}
 use Rattle.circ_theory.specs.WellFormed.{IsWellFormed}
 use Rattle.circ_theory.specs.declared.parts.Goal.{Goal}
 use Rattle.circ_theory.proofs.Rewriting.{named_well_sorted}
-use Rattle.circ_proof.specs.Goals.{IsWellSortedGoal, AreSortedGoals}
+use Rattle.circ_proof.specs.Goals.{AreSortedGoals}
 use Rattle.circ_proof.specs.Rules.{State, state}
-use Rattle.circ_proof.specs.Proof.{Block, Proof, goal_of, IsNameFor, IsBlockFor}
+use Rattle.circ_proof.specs.Proof.{GoalNames, Block, Proof, pair_at, goal_at, IsConditionFor, IsNameFor, IsBlockFor}
 use Rattle.circ_proof.specs.Accepted.{steps_of, BlocksDerive}
 use Rattle.circ_proof.proofs.Sorted.{sorted_none, sorted_more, sorted_append}
 use Rattle.circ_soundness.specs.Levels.{AgreeGoal, HypothesesAgree, PlacesAgree}
-use Rattle.circ_soundness.proofs.Members.{nothing, pick}
+use Rattle.circ_proof.proofs.Members.{nothing, pick}
 use Rattle.circ_soundness.proofs.Running.{IsRun, goals_agree, levels}
 use Rattle.circ_soundness.proofs.Resolving.{steps_sorted_terms}
 
-name_sorted : (th : Theory) (table : List Tree) → AllByRecursion (IsWellSorted th.signature) table → (n : ℕ × ℕ) → IsNameFor table n
-    → IsWellSortedGoal th (goal_of table n)
+conditions_named : (th : Theory) (table : List Tree) → AllByRecursion (IsWellSorted th.signature) table → (ns : List (ℕ × ℕ))
+    → AllByRecursion (IsConditionFor th table) ns → AreConditions th (map (pair_at table) ns)
+conditions_named th table a [] f p k = nothing p k
+conditions_named th table a (n ∷ ns) f p k =
+    let first : IsCondition th (pair_at table n) = record {
+      sorted = record {
+        left = named_well_sorted th.signature table n.0 a f.0.left;
+        right = named_well_sorted th.signature table n.1 a f.0.right;
+        same_sort = f.0.same_sort;
+      };
+      visible = f.0.visible;
+    } in
+    pick (IsCondition th) (pair_at table n) p (map (pair_at table) ns) first (λ d. conditions_named th table a ns f.1 p d) k
+
+name_sorted : (th : Theory) (table : List Tree) → AllByRecursion (IsWellSorted th.signature) table → (n : GoalNames) → IsNameFor th table n
+    → IsWellSortedGoal th (goal_at table n)
 name_sorted th table a n f = record {
   sorted = record {
-    left = named_well_sorted th.signature table n.0 a f.left;
-    right = named_well_sorted th.signature table n.1 a f.right;
+    left = named_well_sorted th.signature table n.left a f.left;
+    right = named_well_sorted th.signature table n.right a f.right;
     same_sort = f.same_sort;
   };
+  conds = conditions_named th table a n.conds f.conds;
 }
 
-pub names_sorted : (th : Theory) (table : List Tree) → AllByRecursion (IsWellSorted th.signature) table → (ns : List (ℕ × ℕ))
-    → AllByRecursion (IsNameFor table) ns → AreSortedGoals th (map (goal_of table) ns)
+pub names_sorted : (th : Theory) (table : List Tree) → AllByRecursion (IsWellSorted th.signature) table → (ns : List GoalNames)
+    → AllByRecursion (IsNameFor th table) ns → AreSortedGoals th (map (goal_at table) ns)
 names_sorted th table a [] f = sorted_none th
 names_sorted th table a (n ∷ ns) f =
-    sorted_more th (goal_of table n) (map (goal_of table) ns) (name_sorted th table a n f.0) (names_sorted th table a ns f.1)
+    sorted_more th (goal_at table n) (map (goal_at table) ns) (name_sorted th table a n f.0) (names_sorted th table a ns f.1)
 
 -- the goals of a block are well-sorted
-pub block_sorted : (th : Theory) (table : List Tree) → AllByRecursion (IsWellSorted th.signature) table → (b : Block) → IsBlockFor table b
+pub block_sorted : (th : Theory) (table : List Tree) → AllByRecursion (IsWellSorted th.signature) table → (b : Block) → IsBlockFor th table b
     → AreSortedGoals th b.goals
 block_sorted th table a b f = subst (AreSortedGoals th) (sym f.goals) (names_sorted th table a b.names f.names)
 
@@ -54,7 +69,7 @@ both_agree th n H K a b = record {
 }
 
 pub blocks_agree : (th : Theory) (p : Proof) → IsWellFormed th → AllByRecursion (IsWellSorted th.signature) p.table → ((n : ℕ) → PlacesAgree th p.places n)
-    → (H : List Goal) → ((n : ℕ) → HypothesesAgree th n H) → (bs : List Block) → AllByRecursion (IsBlockFor p.table) bs
+    → (H : List Goal) → ((n : ℕ) → HypothesesAgree th n H) → (bs : List Block) → AllByRecursion (IsBlockFor th p.table) bs
     → (dss : List (List Goal)) → BlocksDerive th p H bs dss → BlocksAgree th bs dss
 blocks_agree th p ok a pl H start [] f [] r = record { goals = λ b c. nothing b c; derived = λ ds c. nothing ds c }
 blocks_agree th p ok a pl H start [] f (ds ∷ dss) r = absurd r

@@ -59,7 +59,7 @@ blocks_fail_once th p H (b ∷ bs) n m (inr f) (inl g) =
 blocks_fail_once th p H (b ∷ bs) n m (inr f) (inr g) =
     f.3 ∙ ap (λ k. length b.steps + k) (blocks_fail_once th p (H ++ b.goals) bs f.2 g.2 f.4 g.4) ∙ sym g.3
 
-derived_unless_fails : (th : Theory) (p : Proof) (H : List Goal) (bs : List Block) → AllByRecursion (IsBlockFor p.table) bs
+derived_unless_fails : (th : Theory) (p : Proof) (H : List Goal) (bs : List Block) → AllByRecursion (IsBlockFor th p.table) bs
     → ((n : ℕ) → BlockFails th p H bs n → ⊥) → ((dss : List (List Goal)) → BlocksDerive th p H bs dss → ⊥) → ⊥
 derived_unless_fails th p H [] a f r = r [] tt
 derived_unless_fails th p H (b ∷ bs) a f r =

@@ -1,12 +1,11 @@
 -- What is justified agrees at a level, under the assumptions of its setting.
-use Rattle.std.proofs.Common.{◌≡◌, ℕ, List, [], ◌∷◌, ◌++◌, map, inl, inr, sym, subst, ◌∙◌}
+use Rattle.std.proofs.Common.{◌≡◌, ℕ, List, [], ◌∷◌, ◌++◌, map, inl, inr, sym, ◌∙◌}
 use Rattle.std.specs.List.{Contains}
 use Rattle.std.proofs.lemmas.List.Elements.{Contains-append_cases}
-use Rattle.circ_term.specs.Tree.{Tree, none, sort_of}
+use Rattle.circ_term.specs.Tree.{Tree, sort_of}
 use Rattle.circ_term.specs.Substitution.{Substitution, instance}
-use Rattle.circ_theory.specs.Signature.{Signature, HaveSorts, IsWellSorted, IsSubstitution}
+use Rattle.circ_theory.specs.Signature.{Signature, IsWellSorted, IsSubstitution}
 use Rattle.circ_theory.specs.Theory.{Theory, Pair, pair_with, CaseList, IsWellSortedPair, instance_pair}
-use Rattle.circ_theory.specs.WellFormed.{IsWellFormed}
 use Rattle.circ_theory.specs.Derivable.{by_cases, is_case}
 use Rattle.circ_theory.proofs.Casing.{contains_first}
 use Rattle.circ_theory.proofs.Instances.{sort_of-instance_by, instance_well_sorted}
@@ -15,7 +14,8 @@ use Rattle.circ_proof.specs.Plain.{ChainOf, WhyOf, WhysOf, Same_why, Split_why, 
 use Rattle.circ_proof.specs.Link.{Setting, assuming, Leads}
 use Rattle.circ_proof.specs.Justified.{ChainLeads, Justified, EachJustified, AllOfChain, AllOfWhy, AllOfWhys}
 use Rattle.circ_soundness.specs.Levels.{Agree, Keeps}
-use Rattle.circ_soundness.proofs.Members.{nothing, pick, last_first}
+use Rattle.circ_proof.proofs.Cases.{case_sorted}
+use Rattle.circ_proof.proofs.Members.{nothing, pick, last_first}
 use Rattle.circ_soundness.proofs.Agreeing.{agree_same, agree_chain, agree_symmetry}
 use Rattle.circ_soundness.proofs.Keeping.{IsGood, links_keep}
 
@@ -58,14 +58,6 @@ joins_agree c n p q w j σ i a =
     (agree_symmetry th B n (instance σ p.right) (instance σ q.right) sr (j.right.agree σ i)))
 
 -- ---- cases
-
--- a case is a well-sorted pair
-case_sorted : (th : Theory) → IsWellFormed th → (u : Tree) (l : CaseList) (k : ℕ) → Contains th.cases l → Contains l.constants k
-    → IsWellSorted th.signature u → sort_of u ≡ l.sort → IsWellSortedPair th.signature (is_case u l k)
-case_sorted th ok u l k cl ck w e =
-    let o = (ok.cases l cl).constants k ck in
-    let P : List ℕ → Type 0 = λ ss. HaveSorts th.signature none ss in
-    record { left = w; right = (o.0, o.1.0, o.1.2, subst P (sym o.1.1) tt); same_sort = sym e }
 
 -- a setting stays good with one well-sorted assumption more
 good_assuming : (c : Setting) (n : ℕ) → IsGood c n → (p : Pair) → IsWellSortedPair c.theory.signature p → IsGood (assuming c p) n

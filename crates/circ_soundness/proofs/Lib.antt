@@ -1,4 +1,3 @@
-pub mod Members
 pub mod Filling
 pub mod Changing
 pub mod Parameters
@@ -15,3 +14,4 @@ pub mod Blocks
 pub mod Sound
 pub mod Failing
 pub mod Example
+pub mod GateExample

@@ -73,7 +73,7 @@ with_parameters_sorted sig k σ p a b n s h = elim (cases_Bool (nat_lt n k)) [
 ]
 
 mutual
-  instance_below : (k : ℕ) (σ p : Substitution) (t : Tree) → above t ≤ k → instance (with_parameters k σ p) t ≡ instance σ t
+  pub instance_below : (k : ℕ) (σ p : Substitution) (t : Tree) → above t ≤ k → instance (with_parameters k σ p) t ≡ instance σ t
   instance_below k σ p (Var n s) h = with_parameters_below k σ p n s (omega (arith, h))
   instance_below k σ p (App f s ts) h = ap (App f s) (instances_below k σ p ts h)
 

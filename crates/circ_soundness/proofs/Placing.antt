@@ -19,7 +19,7 @@ use Rattle.circ_proof.specs.Link.{setting, AllOfLinks}
 use Rattle.circ_theory.specs.Fresh.{numbered_from}
 use Rattle.circ_proof.specs.Certified.{start_args, start_term, Certified}
 use Rattle.circ_soundness.specs.Levels.{Agree, HypothesesAgree, PlacesAgree, Keeps}
-use Rattle.circ_soundness.proofs.Members.{nothing}
+use Rattle.circ_proof.proofs.Members.{nothing}
 use Rattle.circ_soundness.proofs.Changing.{DifferAt}
 use Rattle.circ_soundness.proofs.Agreeing.{fits_same, agree_chain, agree_symmetry, agree_weaken}
 use Rattle.circ_soundness.proofs.Guarding.{IsChange, guarded_stays}

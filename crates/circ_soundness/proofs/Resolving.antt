@@ -1,17 +1,18 @@
 -- The links and steps of a proof with the terms of its table in place of their numbers.
-use Rattle.std.proofs.Common.{◌<◌, ℕ, List, [], ◌∷◌, map, length}
+use Rattle.std.proofs.Common.{◌<◌, ◌-◌, ℕ, List, [], ◌∷◌, map, length}
 use Rattle.std.specs.List.{AllByRecursion}
 use Rattle.circ_term.specs.Tree.{Tree}
 use Rattle.circ_theory.specs.Signature.{Signature, IsWellSorted}
 use Rattle.circ_theory.specs.Rewriting.{named}
 use Rattle.circ_theory.proofs.Rewriting.{named_well_sorted}
-use Rattle.circ_proof.specs.Plain.{LinkOf, Equation_link, Hypothesis_link, Assumption_link, Content_link}
+use Rattle.circ_proof.specs.Plain.{LinkOf, LinksOf, ChainsOf, Equation_link, Hypothesis_link, Assumption_link, Content_link, no_link, more_links, no_chain, more_chains}
 use Rattle.circ_proof.specs.Plain.{WhyOf, WhysOf, Same_why, Split_why, no_why, more_whys}
-use Rattle.circ_proof.specs.Plain.{map_link, map_why, map_whys}
-use Rattle.circ_proof.specs.Link.{AllOfLink, AllOfLinks}
+use Rattle.circ_proof.specs.Plain.{map_link, map_row, map_chains, map_why, map_whys}
+use Rattle.circ_proof.specs.Link.{AllOfLink, AllOfRow, AllOfChains, AllOfLinks}
+use Rattle.circ_proof.specs.Nesting.{nesting_limit}
 use Rattle.circ_proof.specs.Justified.{AllOfWhy, AllOfWhys}
-use Rattle.circ_proof.specs.Rules.{ProofStep, Simplify, Reduce, Derive, Done, map_step, AllOfStep}
-use Rattle.circ_proof.specs.Proof.{IsLinkFor, AreLinksFor, IsWhyFor, AreWhysFor, IsStepFor, split_limit}
+use Rattle.circ_proof.specs.Rules.{ProofStep, Simplify, Reduce, Derive, Cases, Done, map_step, AllOfStep}
+use Rattle.circ_proof.specs.Proof.{IsLinkFor, IsRowFor, AreChainsFor, AreLinksFor, IsWhyFor, AreWhysFor, IsStepFor, split_limit}
 
 -- ---- what a property becomes
 
@@ -20,11 +21,20 @@ module _ {T U : Type 0} (f : T → U) (P : T → Type 0) (Q : U → Type 0) (w :
   all_mapped [] a = tt
   all_mapped (t ∷ ts) a = (w t a.0, all_mapped ts a.1)
 
-  link_mapped : (l : LinkOf T) → AllOfLink P l → AllOfLink Q (map_link f l)
-  link_mapped (Equation_link number way path terms) a = all_mapped terms a
-  link_mapped (Hypothesis_link number way path terms) a = all_mapped terms a
-  link_mapped (Assumption_link number way path) a = tt
-  link_mapped (Content_link op path term) a = (w term a.0, tt)
+  mutual
+    link_mapped : (l : LinkOf T) → AllOfLink P l → AllOfLink Q (map_link f l)
+    link_mapped (Equation_link number way path terms conds) a = (all_mapped terms a.0, chains_mapped conds a.1)
+    link_mapped (Hypothesis_link number way path terms conds) a = (all_mapped terms a.0, chains_mapped conds a.1)
+    link_mapped (Assumption_link number way path) a = tt
+    link_mapped (Content_link op path term) a = w term a
+
+    row_mapped : (ls : LinksOf T) → AllOfRow P ls → AllOfRow Q (map_row f ls)
+    row_mapped no_link a = tt
+    row_mapped (more_links l ls) a = (link_mapped l a.0, row_mapped ls a.1)
+
+    chains_mapped : (cs : ChainsOf T) → AllOfChains P cs → AllOfChains Q (map_chains f cs)
+    chains_mapped no_chain a = tt
+    chains_mapped (more_chains l r cs) a = (row_mapped l a.0, row_mapped r a.1, chains_mapped cs a.2)
 
   links_mapped : (ls : List (LinkOf T)) → AllOfLinks P ls → AllOfLinks Q (map (map_link f) ls)
   links_mapped [] a = tt
@@ -43,19 +53,30 @@ module _ {T U : Type 0} (f : T → U) (P : T → Type 0) (Q : U → Type 0) (w :
   step_mapped (Simplify chain) a = (links_mapped chain.left a.0, links_mapped chain.right a.1)
   step_mapped (Reduce why) a = why_mapped why a
   step_mapped Derive a = tt
+  step_mapped (Cases term) a = w term a
   step_mapped Done a = tt
 
 -- ---- numbers in the table
 
-link_in_table : (count : ℕ) (l : LinkOf ℕ) → IsLinkFor count l → AllOfLink (λ n. n < count) l
-link_in_table count (Equation_link number way path terms) f = f.2
-link_in_table count (Hypothesis_link number way path terms) f = f.2
-link_in_table count (Assumption_link number way path) f = tt
-link_in_table count (Content_link op path term) f = (f.2, tt)
+mutual
+  link_in_table : (count depth : ℕ) (l : LinkOf ℕ) → IsLinkFor count depth l → AllOfLink (λ n. n < count) l
+  link_in_table count depth (Equation_link number way path terms conds) f = (f.2, chains_in_table count depth conds f.3)
+  link_in_table count depth (Hypothesis_link number way path terms conds) f = (f.2, chains_in_table count depth conds f.3)
+  link_in_table count depth (Assumption_link number way path) f = tt
+  link_in_table count depth (Content_link op path term) f = f.2
+
+  row_in_table : (count depth : ℕ) (ls : LinksOf ℕ) → IsRowFor count depth ls → AllOfRow (λ n. n < count) ls
+  row_in_table count depth no_link f = tt
+  row_in_table count depth (more_links l ls) f = (link_in_table count depth l f.0, row_in_table count depth ls f.1)
+
+  chains_in_table : (count depth : ℕ) (cs : ChainsOf ℕ) → AreChainsFor count depth cs → AllOfChains (λ n. n < count) cs
+  chains_in_table count depth no_chain f = tt
+  chains_in_table count depth (more_chains l r cs) f =
+      (row_in_table count (depth - 1) l f.1, row_in_table count (depth - 1) r f.2, chains_in_table count depth cs f.3)
 
 links_in_table : (count : ℕ) (ls : List (LinkOf ℕ)) → AreLinksFor count ls → AllOfLinks (λ n. n < count) ls
 links_in_table count [] f = tt
-links_in_table count (l ∷ ls) f = (link_in_table count l f.0, links_in_table count ls f.1)
+links_in_table count (l ∷ ls) f = (link_in_table count nesting_limit l f.0, links_in_table count ls f.1)
 
 mutual
   why_in_table : (count splits : ℕ) (y : WhyOf ℕ) → IsWhyFor count splits y → AllOfWhy (λ n. n < count) y
@@ -71,6 +92,7 @@ step_in_table : (count : ℕ) (s : ProofStep ℕ) → IsStepFor count s → AllO
 step_in_table count (Simplify chain) f = (links_in_table count chain.left f.0, links_in_table count chain.right f.1)
 step_in_table count (Reduce why) f = why_in_table count split_limit why f
 step_in_table count Derive f = tt
+step_in_table count (Cases term) f = f
 step_in_table count Done f = tt
 
 pub certificates_in_table : (count : ℕ) (lss : List (List (LinkOf ℕ))) → AllByRecursion (AreLinksFor count) lss

@@ -1,5 +1,5 @@
 -- By induction on the level: the hypotheses at the end of a run agree at each level, and so do the goals at its start.
-use Rattle.std.proofs.Common.{◌≡◌, ◌⊎◌, ℕ, zero, suc, List, [], ◌∷◌, ◌++◌, length, ◌==◌, inl, inr, refl, ap, sym, subst, ◌∙◌, arith}
+use Rattle.std.proofs.Common.{◌≡◌, ◌⊎◌, ℕ, zero, suc, List, [], ◌∷◌, ◌++◌, map, length, ◌≤◌, ◌==◌, inl, inr, refl, ap, sym, subst, ◌∙◌, arith}
 use Rattle.std.specs.List.{AllByRecursion, Contains}
 use Rattle.std.proofs.lemmas.Bool.{eq-eqb}
 use Rattle.std.proofs.lemmas.List.Elements.{Contains-append_left, Contains-append_right, Contains-append_cases}
@@ -7,26 +7,30 @@ use Rattle.circ_term.specs.Tree.{Tree, Var, sort_of}
 use Rattle.circ_term.specs.Substitution.{Substitution, instance}
 use Rattle.circ_term.proofs.Instances.{instance-Var}
 use Rattle.circ_theory.specs.Signature.{Signature, IsWellSorted}
-use Rattle.circ_theory.specs.Theory.{Theory, Pair, Derivative, IsHidden}
+use Rattle.circ_theory.specs.Theory.{Theory, Pair, goal, sides, instance_pair, CaseList, Derivative, IsHidden, IsWellSortedGoal}
+use Rattle.circ_theory.specs.Derivable.{by_cases, is_case}
+use Rattle.circ_theory.specs.Observing.{case_list}
 use Rattle.circ_theory.specs.WellFormed.{IsWellFormed}
 use Rattle.circ_theory.specs.Experiment.{plug, derived, Behaves}
-use Rattle.circ_theory.specs.Fresh.{derivatives_of}
+use Rattle.circ_theory.specs.Fresh.{above_pairs, fresh_in, derivatives_of}
 use Rattle.circ_theory.specs.declared.parts.Goal.{Goal}
 use Rattle.circ_theory.proofs.Behaviour.{plug_substitution}
 use Rattle.circ_theory.proofs.Casing.{contains_first}
 use Rattle.circ_theory.proofs.Instances.{sort_of-instance_by, instance_well_sorted}
-use Rattle.circ_theory.proofs.Weakening.{in_rest}
+use Rattle.circ_theory.proofs.Weakening.{in_rest, weaken}
 use Rattle.circ_special.specs.declared.place.Place.{Place}
-use Rattle.circ_proof.specs.Goals.{goal, sides, IsWellSortedGoal, AreSortedGoals}
+use Rattle.circ_proof.specs.Goals.{AreSortedGoals, with_cond}
 use Rattle.circ_proof.specs.Link.{setting}
-use Rattle.circ_proof.specs.Rules.{State, state, ProofStep, Simplify, Reduce, Derive, Done, AllOfStep, IsSortedState, StepOn, StepsOf}
-use Rattle.circ_proof.specs.Rules.{fresh_in, derived_goal, derivatives_on}
+use Rattle.circ_proof.specs.Rules.{State, state, ProofStep, Simplify, Reduce, Derive, Cases, Done, AllOfStep, IsSortedState, StepOn, StepsOf}
+use Rattle.circ_proof.specs.Rules.{derived_goal, derivatives_on, cases_on}
+use Rattle.circ_proof.proofs.Cases.{cases_listed}
+use Rattle.circ_proof.proofs.Leading.{conditions_sorted}
 use Rattle.circ_proof.proofs.Stepping.{step_sorted, steps_sorted, steps_grow}
 use Rattle.circ_soundness.specs.Levels.{AgreeGoal, AgreeGoals, HypothesesAgree, PlacesAgree}
-use Rattle.circ_soundness.proofs.Members.{nothing, pick, in_map, in_filter}
-use Rattle.circ_soundness.proofs.Parameters.{with_parameters, with_parameters_sorted, derived-with_parameters}
+use Rattle.circ_proof.proofs.Members.{nothing, pick, in_map, in_filter, last_first}
+use Rattle.circ_soundness.proofs.Parameters.{with_parameters, with_parameters_sorted, derived-with_parameters, instance_below}
 use Rattle.circ_soundness.proofs.Agreeing.{fits_same}
-use Rattle.circ_soundness.proofs.Keeping.{IsGood}
+use Rattle.circ_soundness.proofs.Keeping.{IsGood, instance_pairs-Var}
 use Rattle.circ_soundness.proofs.Justifying.{chain_joins, joins_agree, justified_agrees}
 
 -- Steps that name well-sorted terms, and lead from a well-sorted state to one in which no goal is left.
@@ -60,17 +64,29 @@ fewer_agree th n H K w a = record { sorted = λ h c. a.sorted h (w h c); agree =
 
 -- ---- goals
 
+-- a goal agrees where it does in each case of a term
+cases_agree : (th : Theory) (n : ℕ) (g : Goal) (u : Tree) (l : CaseList) → Contains th.cases l → IsWellSorted th.signature u → sort_of u ≡ l.sort
+    → AgreeGoals th n (cases_on g u l) → AgreeGoal th n g
+cases_agree th n g u l cl wu e a σ i cs le fit =
+    by_cases (instance σ u) l cl (instance_well_sorted th.signature σ u i wu) (sort_of-instance_by th.signature σ u i wu ∙ e)
+    (λ k ck.
+    let case = with_cond g (is_case u l k) in
+    let there = in_map (λ m. with_cond g (is_case u l m)) l.constants k ck in
+    weaken th (a case there σ i cs le fit) (is_case (instance σ u) l k ∷ map (instance_pair σ) g.conds)
+    (λ y d. last_first (instance_pair σ) g.conds (is_case u l k) y d))
+
 -- where hypotheses, and the goals after a step, agree, so do the goals before it
 step_agrees : (th : Theory) → IsWellFormed th → (G : List Place) (n : ℕ) → PlacesAgree th G n → (s : ProofStep Tree) → AllOfStep (IsWellSorted th.signature) s
     → (H gs : List Goal) (b : State) → AreSortedGoals th gs → StepOn th G s H gs b → HypothesesAgree th n H → HypothesesAgree th n b.hypotheses
     → AgreeGoals th n b.goals → AgreeGoals th n gs
 step_agrees th ok G n pl (Simplify chain) f H [] b w r a k after g c = absurd r
 step_agrees th ok G n pl (Simplify chain) f H (h ∷ hs) b w r a k after g c =
-    let set = setting th G H [] in
-    let good : IsGood set n = record { well_formed = ok; assumptions = λ x y. nothing x y; hypotheses = a; places = pl } in
-    let sorted = (w h (contains_first h hs)).sorted in
+    let set = setting th G H h.conds in
+    let wh = w h (contains_first h hs) in
+    let good : IsGood set n = record { well_formed = ok; assumptions = conditions_sorted th h.conds wh.conds; hypotheses = a; places = pl } in
+    let sorted = wh.sorted in
     let q : Pair = r.0 in
-    let new : Goal = goal q.left q.right in
+    let new : Goal = goal h.conds q.left q.right in
     let join = chain_joins set n good chain f (sides h) q sorted r.1 in
     let P : State → Type 0 = λ x. AgreeGoals th n x.goals in
     let next : AgreeGoals th n (new ∷ hs) = subst P r.2 after in
@@ -78,10 +94,11 @@ step_agrees th ok G n pl (Simplify chain) f H (h ∷ hs) b w r a k after g c =
     pick (AgreeGoal th n) h g hs here (λ d. next g (in_rest new g hs d)) c
 step_agrees th ok G n pl (Reduce why) f H [] b w r a k after g c = absurd r
 step_agrees th ok G n pl (Reduce why) f H (h ∷ hs) b w r a k after g c =
-    let set = setting th G H [] in
-    let good : IsGood set n = record { well_formed = ok; assumptions = λ x y. nothing x y; hypotheses = a; places = pl } in
+    let set = setting th G H h.conds in
+    let wh = w h (contains_first h hs) in
+    let good : IsGood set n = record { well_formed = ok; assumptions = conditions_sorted th h.conds wh.conds; hypotheses = a; places = pl } in
     let P : State → Type 0 = λ x. AgreeGoals th n x.goals in
-    let here : AgreeGoal th n h = justified_agrees set n good (sides h) (w h (contains_first h hs)).sorted why f r.0 in
+    let here : AgreeGoal th n h = justified_agrees set n good (sides h) wh.sorted why f r.0 in
     pick (AgreeGoal th n) h g hs here (subst P r.1 after g) c
 step_agrees th ok G n pl Derive f H [] b w r a k after g c = absurd r
 step_agrees th ok G n pl Derive f H (h ∷ hs) b w r a k after g c =
@@ -90,6 +107,14 @@ step_agrees th ok G n pl Derive f H (h ∷ hs) b w r a k after g c =
     let new : HypothesesAgree th n (H ++ h ∷ []) = subst Q r.2 k in
     pick (AgreeGoal th n) h g hs (new.agree h (Contains-append_right H (h ∷ []) h (contains_first h [])))
     (λ d. subst P r.2 after g (Contains-append_left hs (derivatives_on th h) g d)) c
+step_agrees th ok G n pl (Cases u) f H [] b w r a k after g c = absurd r
+step_agrees th ok G n pl (Cases u) f H (h ∷ hs) b w r a k after g c =
+    let l = case_list (sort_of u) r.0 in
+    let new = cases_on h u l in
+    let P : State → Type 0 = λ x. AgreeGoals th n x.goals in
+    let next : AgreeGoals th n (new ++ hs) = subst P r.3 after in
+    let here : AgreeGoal th n h = cases_agree th n h u l (cases_listed th (sort_of u) r.0 r.1) f refl (λ x d. next x (Contains-append_left new hs x d)) in
+    pick (AgreeGoal th n) h g hs here (λ d. next g (Contains-append_right new hs g d)) c
 step_agrees th ok G n pl Done f H [] b w r a k after g c = nothing g c
 step_agrees th ok G n pl Done f H (h ∷ hs) b w r a k after g c = absurd r
 
@@ -117,7 +142,7 @@ same_hypotheses th H gs b h e c = let P : State → Type 0 = λ x. Contains x.hy
 step_appends : (th : Theory) (G : List Place) (s : ProofStep Tree) (H gs : List Goal) (b : State) → StepOn th G s H gs b
     → (h : Goal) → Contains b.hypotheses h → Contains H h ⊎ IsAppended th b h
 step_appends th G (Simplify chain) H [] b r h c = absurd r
-step_appends th G (Simplify chain) H (g ∷ gs) b r h c = same_hypotheses th H (goal r.0.left r.0.right ∷ gs) b h r.2 c
+step_appends th G (Simplify chain) H (g ∷ gs) b r h c = same_hypotheses th H (goal g.conds r.0.left r.0.right ∷ gs) b h r.2 c
 step_appends th G (Reduce why) H [] b r h c = absurd r
 step_appends th G (Reduce why) H (g ∷ gs) b r h c = same_hypotheses th H gs b h r.1 c
 step_appends th G Derive H [] b r h c = absurd r
@@ -131,6 +156,8 @@ step_appends th G Derive H (g ∷ gs) b r h c =
       | inl d ↦ inl d
       | inr d ↦ inr (pick (IsAppended th b) g h [] this (λ x. nothing h x) d)
     ]
+step_appends th G (Cases u) H [] b r h c = absurd r
+step_appends th G (Cases u) H (g ∷ gs) b r h c = same_hypotheses th H (cases_on g u (case_list (sort_of u) r.0) ++ gs) b h r.3 c
 step_appends th G Done H [] b r h c = same_hypotheses th H [] b h r c
 step_appends th G Done H (g ∷ gs) b r h c = absurd r
 
@@ -164,6 +191,14 @@ level_zero th h w x σ i [] l f =
     let P : ℕ → Type 0 = IsHidden th in absurd (f (subst P (sym (sort_of-instance_by th.signature σ h.left i w.sorted.left)) x))
 level_zero th h w x σ i (c ∷ cs) l f = absurd (omega (arith, l))
 
+instance_pairs_below : (k : ℕ) (σ p : Substitution) (E : List Pair) → above_pairs E ≤ k → map (instance_pair (with_parameters k σ p)) E ≡ map (instance_pair σ) E
+instance_pairs_below k σ p [] h = refl
+instance_pairs_below k σ p (q ∷ E) h =
+    let l = instance_below k σ p q.left (omega (arith, h)) in
+    let r = instance_below k σ p q.right (omega (arith, h)) in
+    let rest = instance_pairs_below k σ p E (omega (arith, h)) in
+    rw (l, r, rest) refl
+
 -- and at level n + 1 where their derivatives agree at level n
 level_next : (th : Theory) → IsWellFormed th → (n : ℕ) (h : Goal) → IsWellSortedGoal th h → IsHidden th (sort_of h.left) → AgreeGoals th n (derivatives_on th h)
     → AgreeGoal th (suc n) h
@@ -182,7 +217,8 @@ level_next th ok n h w x next σ i (c ∷ cs) l f =
     let a = next (derived_goal d h k) listed (with_parameters k σ p) (with_parameters_sorted sig k σ p i f.2) in
     let left = derived-with_parameters sig d der k σ p h.left (omega arith) in
     let right = derived-with_parameters sig d der k σ p h.right (omega arith) in
-    let b = rw (left, right) at a in
+    let conds = instance_pairs_below k σ p h.conds (omega arith) in
+    let b = rw (left, right, conds) at a in
     let whole = plug_substitution sig d.hole (instance σ h.left) p (sym f.1) (instance_well_sorted sig σ h.left i w.sorted.left) f.2 in
     let sort = sort_of-instance_by sig (plug d.hole (instance σ h.left) p) d.body whole der.body in
     b cs (omega (arith, l)) (fits_same th cs (sort_of d.body) (sort_of (derived d (instance σ h.left) p)) (sym sort) f.3)
@@ -212,7 +248,7 @@ levels th G pl ss a b r start (suc n) =
     }
 
 -- what agrees at each level behaves
-pub levels_behave : (th : Theory) (g : Goal) → ((n : ℕ) → AgreeGoal th n g) → Behaves th g.left g.right
+pub levels_behave : (th : Theory) (g : Goal) → ((n : ℕ) → AgreeGoal th n g) → Behaves th g
 levels_behave th g a cs f =
-    let b = rw (instance-Var g.left, instance-Var g.right) at (a (length cs) Var (λ n s h. (refl, h))) in
+    let b = rw (instance_pairs-Var g.conds, instance-Var g.left, instance-Var g.right) at (a (length cs) Var (λ n s h. (refl, h))) in
     b cs (omega arith) f

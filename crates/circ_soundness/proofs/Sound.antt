@@ -18,7 +18,7 @@ use Rattle.circ_proof.specs.Link.{AllOfLinks}
 use Rattle.circ_proof.specs.Certified.{derivatives_at, due, AreCertified}
 use Rattle.circ_proof.specs.Proof.{Block, Proof, ProofFor}
 use Rattle.circ_proof.specs.Accepted.{certificates_of, Admissible, Derives}
-use Rattle.circ_soundness.proofs.Members.{nothing, pick, all_of, in_map, in_filter}
+use Rattle.circ_proof.proofs.Members.{nothing, pick, all_of, in_map, in_filter}
 use Rattle.circ_soundness.proofs.Placing.{no_hypotheses, HasCertificate, IsCertifiedSet, places_agree}
 use Rattle.circ_soundness.proofs.Running.{levels_behave}
 use Rattle.circ_soundness.proofs.Resolving.{certificates_sorted}
@@ -68,10 +68,10 @@ proof_agrees th ok p f dss d =
 
 -- each goal of each block behaves
 pub goals_behave : (th : Theory) → IsWellFormed th → (p : Proof) → ProofFor th p → (dss : List (List Goal)) → Derives th p dss
-    → (b : Block) → Contains p.blocks b → (g : Goal) → Contains b.goals g → Behaves th g.left g.right
+    → (b : Block) → Contains p.blocks b → (g : Goal) → Contains b.goals g → Behaves th g
 goals_behave th ok p f dss d b c g e = levels_behave th g ((proof_agrees th ok p f dss d).goals b c g e)
 
 -- each hypothesis that a block derived behaves
 pub derived_behave : (th : Theory) → IsWellFormed th → (p : Proof) → ProofFor th p → (dss : List (List Goal)) → Derives th p dss
-    → (ds : List Goal) → Contains dss ds → (g : Goal) → Contains ds g → Behaves th g.left g.right
+    → (ds : List Goal) → Contains dss ds → (g : Goal) → Contains ds g → Behaves th g
 derived_behave th ok p f dss d ds c g e = levels_behave th g ((proof_agrees th ok p f dss d).derived ds c g e)

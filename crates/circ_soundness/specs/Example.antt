@@ -1,14 +1,13 @@
 -- An example: streams, and a proof of f(x) = k(x) in which the hypothesis is used at the argument of the operator g.
 use Rattle.std.specs.Prelude.{ℕ, List, [], ◌∷◌, codes, true}
 use Rattle.circ_term.specs.Tree.{Tree, Var, App, none, more}
-use Rattle.circ_theory.specs.Theory.{Theory, Derivative}
+use Rattle.circ_theory.specs.Theory.{Theory, goal, Derivative}
 use Rattle.circ_theory.specs.Examples.{plain_op}
 use Rattle.circ_theory.specs.declared.way.Way.TheVariants.{Forth}
 use Rattle.circ_special.specs.Special.{place}
-use Rattle.circ_proof.specs.Plain.{LinkOf, Equation_link, Hypothesis_link, ChainOf, Same_why}
-use Rattle.circ_proof.specs.Goals.{goal}
+use Rattle.circ_proof.specs.Plain.{LinkOf, Equation_link, Hypothesis_link, no_chain, ChainOf, Same_why}
 use Rattle.circ_proof.specs.Rules.{ProofStep, Reduce, Derive, Done}
-use Rattle.circ_proof.specs.Proof.{Proof}
+use Rattle.circ_proof.specs.Proof.{GoalNames, Proof}
 
 -- sort 0 is Bit, sort 1 is Stream; the operators are hd, tl, g, f and k
 abbrev pub hd : Tree → Tree
@@ -45,16 +44,16 @@ twins = record {
         ∷ plain_op (codes "g") (1 ∷ []) 1 ∷ plain_op (codes "f") (1 ∷ []) 1 ∷ plain_op (codes "k") (1 ∷ []) 1 ∷ [];
   };
   variables = [];
-  equations = record { left = hd (g x); right = hd x; exec = true } ∷ record { left = tl (g x); right = g (tl x); exec = true }
-      ∷ record { left = hd (f x); right = hd x; exec = true } ∷ record { left = tl (f x); right = g (f (tl x)); exec = true }
-      ∷ record { left = hd (k x); right = hd x; exec = true } ∷ record { left = tl (k x); right = g (k (tl x)); exec = true } ∷ [];
+  equations = record { left = hd (g x); right = hd x; conds = []; exec = true } ∷ record { left = tl (g x); right = g (tl x); conds = []; exec = true }
+      ∷ record { left = hd (f x); right = hd x; conds = []; exec = true } ∷ record { left = tl (f x); right = g (f (tl x)); conds = []; exec = true }
+      ∷ record { left = hd (k x); right = hd x; conds = []; exec = true } ∷ record { left = tl (k x); right = g (k (tl x)); conds = []; exec = true } ∷ [];
   derivatives = head_derivative ∷ tail_derivative ∷ [];
   cases = [];
 }
 
 -- the equation of this number at the root, for x
 abbrev pub by : ℕ → LinkOf ℕ
-by number = Equation_link number Forth [] (0 ∷ [])
+by number = Equation_link number Forth [] (0 ∷ []) no_chain
 
 abbrev pub chain_of : List (LinkOf ℕ) → List (LinkOf ℕ) → ChainOf ℕ
 chain_of ls rs = record { left = ls; right = rs }
@@ -63,7 +62,7 @@ chain_of ls rs = record { left = ls; right = rs }
 abbrev pub steps : List (ProofStep ℕ)
 steps = Derive
     ∷ Reduce (Same_why (chain_of (by 2 ∷ []) (by 4 ∷ [])))
-    ∷ Reduce (Same_why (chain_of (by 3 ∷ Hypothesis_link 0 Forth (0 ∷ []) (1 ∷ []) ∷ []) (by 5 ∷ [])))
+    ∷ Reduce (Same_why (chain_of (by 3 ∷ Hypothesis_link 0 Forth (0 ∷ []) (1 ∷ []) no_chain ∷ []) (by 5 ∷ [])))
     ∷ Done ∷ []
 
 abbrev pub first : Tree
@@ -72,13 +71,17 @@ first = f x
 abbrev pub second : Tree
 second = k x
 
+abbrev pub names : GoalNames
+names = record { conds = []; left = 2; right = 3 }
+
 -- the table is x, tl(x), f(x), k(x), and the special set is the argument of g, with a certificate for each derivative
 abbrev pub twins_alike : Proof
 twins_alike = record {
+  version = 1;
   table = x ∷ tl x ∷ f x ∷ k x ∷ [];
   places = place 2 0 ∷ [];
   certificates = (by 0 ∷ []) ∷ (by 1 ∷ []) ∷ [];
-  blocks = record { goals = goal first second ∷ []; names = (2, 3) ∷ []; steps = steps } ∷ [];
+  blocks = record { goals = goal [] first second ∷ []; names = names ∷ []; steps = steps } ∷ [];
 }
 
 -- the same proof without the place

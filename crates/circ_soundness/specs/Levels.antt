@@ -1,10 +1,10 @@
 -- Terms that no experiment of so many entries tells apart, and what keeps terms so. The argument for soundness goes by induction on this number, the level.
-use Rattle.std.specs.Prelude.{◌≡◌, ◌≤◌, ℕ, List, [], Some, length, map}
+use Rattle.std.specs.Prelude.{◌≡◌, ◌≤◌, ℕ, List, Some, length, map}
 use Rattle.std.specs.List.{slice_get, Contains}
 use Rattle.circ_term.specs.Tree.{Tree, Trees, App, sort_of, list_of, put_at}
 use Rattle.circ_term.specs.Substitution.{Substitution, instance}
 use Rattle.circ_theory.specs.Signature.{IsWellSorted, IsSubstitution}
-use Rattle.circ_theory.specs.Theory.{Theory, Pair, IsWellSortedPair, instance_pair}
+use Rattle.circ_theory.specs.Theory.{Theory, Pair, instance_pair}
 use Rattle.circ_theory.specs.Derivable.{Derivable}
 use Rattle.circ_theory.specs.Experiment.{Entry, Fits, on}
 use Rattle.circ_theory.specs.declared.parts.Goal.{Goal}
@@ -16,9 +16,10 @@ use Rattle.circ_proof.specs.Goals.{AreSortedGoals}
 abbrev pub Agree : Theory → (assumptions : List Pair) → (level : ℕ) → Tree → Tree → Type 0
 Agree th A n s t = (cs : List Entry) → length cs ≤ n → Fits th cs (sort_of s) → Derivable th A (on cs s) (on cs t)
 
--- A goal agrees where the two sides of each of its instances do.
+-- A goal agrees where the two sides of each of its instances do, under that instance of its conditions.
 abbrev pub AgreeGoal : Theory → (level : ℕ) → Goal → Type 0
-AgreeGoal th n g = (σ : Substitution) → IsSubstitution th.signature σ → Agree th [] n (instance σ g.left) (instance σ g.right)
+AgreeGoal th n g =
+    (σ : Substitution) → IsSubstitution th.signature σ → Agree th (map (instance_pair σ) g.conds) n (instance σ g.left) (instance σ g.right)
 
 abbrev pub AgreeGoals : Theory → (level : ℕ) → List Goal → Type 0
 AgreeGoals th n gs = (g : Goal) → Contains gs g → AgreeGoal th n g
@@ -45,6 +46,3 @@ pub record Keeps (th : Theory) (A : List Pair) (level : ℕ) (t u : Tree) : Type
   pub well_sorted : IsWellSorted th.signature u
   pub same_sort : sort_of u ≡ sort_of t
   pub agree : (σ : Substitution) → IsSubstitution th.signature σ → Agree th (map (instance_pair σ) A) level (instance σ t) (instance σ u)
-
-abbrev pub AreSortedPairs : Theory → List Pair → Type 0
-AreSortedPairs th A = (p : Pair) → Contains A p → IsWellSortedPair th.signature p

@@ -1,19 +1,27 @@
 //! What accepted proofs show. The functions do nothing: a law is a contract.
-ghost use Rattle.std.specs.Prelude.{◌≡◌, ℕ, List};
+ghost use Rattle.std.specs.Prelude.{◌≡◌, ℕ, List, [], ◌∷◌};
 ghost use Rattle.std.specs.List.{Contains};
-ghost use Rattle.circ_theory.specs.Theory.{Theory};
+ghost use Rattle.circ_theory.specs.Theory.{Theory, goal};
 ghost use Rattle.circ_theory.specs.WellFormed.{IsWellFormed};
 ghost use Rattle.circ_theory.specs.Experiment.{Behaves};
 ghost use Rattle.circ_theory.specs.declared.parts.Goal.{Goal};
 ghost use Rattle.circ_proof.specs.Proof.{Block, Proof, ProofFor};
 ghost use Rattle.circ_proof.specs.Accepted.{Accepted, Derives, FirstFail};
+ghost use Rattle.circ_theory.specs.Rewriting.{named};
+ghost use Rattle.circ_proof.specs.Plain.{no_link};
+ghost use Rattle.circ_proof.specs.Rules.{State, state, map_step, StepOf};
+ghost use Rattle.circ_soundness.specs.GateExample.{gates, lets_through, through, gate_table};
+ghost use Rattle.circ_soundness.specs.GateExample.{first_step, tails_step, if_x, on, gate, tl};
+ghost use Rattle.circ_soundness.specs.GateExample.{x, s};
 ghost use Rattle.circ_soundness.specs.Example.{twins, twins_alike, twins_bare, first, second};
 
-/// Where a proof that fits a well-formed theory is accepted, each goal of each block behaves.
+/// Where a proof that fits a well-formed theory is accepted, each goal of each block behaves: each
+/// fitting experiment gives on its two sides results that are derivable from the goal's
+/// conditions.
 pub fn goals_behave()
     ensures { (th : Theory) → IsWellFormed th → (p : Proof) → ProofFor th p → Accepted th p →
         (b : Block) → Contains p.blocks b → (g : Goal) → Contains b.goals g →
-        Behaves th g.left g.right }
+        Behaves th g }
 {}
 
 /// So does each goal that a Derive step of it appended to the hypotheses.
@@ -21,7 +29,7 @@ pub fn derived_behave()
     ensures { (th : Theory) → IsWellFormed th → (p : Proof) → ProofFor th p →
         (dss : List (List Goal)) → Derives th p dss →
         (ds : List Goal) → Contains dss ds → (g : Goal) → Contains ds g →
-        Behaves th g.left g.right }
+        Behaves th g }
 {}
 
 /// No proof is both accepted and refused, a refused one is refused at one number, and an accepted
@@ -46,6 +54,22 @@ pub fn a_place_is_used()
     ensures theory { IsWellFormed twins }
     ensures fits { ProofFor twins twins_alike }
     ensures accepted { Accepted twins twins_alike }
-    ensures so { Behaves twins first second }
+    ensures so { Behaves twins (goal [] first second) }
     ensures needed { FirstFail twins twins_bare 3 }
+{}
+
+/// An accepted proof of a goal with a condition, which uses an equation and a hypothesis with
+/// conditions. Without the goal's condition its first step fails, and without the link of the
+/// hypothesis's condition its last but one.
+pub fn conditions_are_used()
+    ensures theory { IsWellFormed gates }
+    ensures fits { ProofFor gates lets_through }
+    ensures accepted { Accepted gates lets_through }
+    ensures so { Behaves gates through }
+    ensures given { (b : State) → StepOf gates [] (map_step (named gate_table) first_step)
+        (state [] (goal [] (gate x s) s ∷ [])) b → ⊥ }
+    ensures followed { (b : State) → StepOf gates []
+        (map_step (named gate_table) (tails_step no_link))
+        (state (goal (if_x on) (gate on s) s ∷ [])
+        (goal (if_x on) (tl (gate on s)) (tl s) ∷ [])) b → ⊥ }
 {}

@@ -11,4 +11,4 @@ mod guard;
 mod place;
 
 pub use guard::guarded;
-pub use place::{Gamma, Place};
+pub use place::{Gamma, Place, is_place};

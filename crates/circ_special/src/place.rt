@@ -1,5 +1,5 @@
 //! Places of operators, and special sets.
-ghost use Rattle.std.specs.Prelude.{◌≡◌, ◌↔◌, IsTrue};
+ghost use Rattle.std.specs.Prelude.{◌≡◌, ◌↔◌, [], IsTrue};
 ghost use Rattle.std.specs.Option.{option_copied};
 ghost use Rattle.std.specs.List.{Contains, AllByRecursion};
 ghost use Rattle.circ_special.specs.Special.{IsPlace, IsIncreasing, IsSpecial, place};
@@ -7,6 +7,7 @@ ghost use Rattle.circ_special.specs.Places.{GivesSet, GoesBelow, comes_before_fi
 
 use circ_term::{Kind, Term};
 use circ_theory::Theory;
+use std::alloc::Global;
 use std::marker::Model;
 
 /// An argument of an operator.
@@ -55,6 +56,15 @@ impl Gamma {
             return None;
         }
         Some(Gamma { places })
+    }
+
+    /// The set without places.
+    pub fn empty(alloc: Global) -> Gamma
+        ensures { result ≡ [] }
+    {
+        Gamma {
+            places: Vec::new(alloc),
+        }
     }
 
     /// The places of the set, in increasing order.
@@ -141,8 +151,8 @@ fn are_places(theory: &Theory, places: &[Place]) -> bool
     true
 }
 
-// Whether the place is an argument of hidden sort of an operator of hidden sort.
-fn is_place(theory: &Theory, place: Place) -> bool
+/// Whether the place is an argument of hidden sort of an operator of hidden sort.
+pub fn is_place(theory: &Theory, place: Place) -> bool
     ensures { IsTrue result ↔ IsPlace theory.now place }
 {
     let Some(decl) = theory.op(place.op) else {

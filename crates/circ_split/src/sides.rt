@@ -5,7 +5,8 @@ ghost use Rattle.circ_split.specs.Answers.{GivesSide, GivesSides};
 
 use circ_join::Stop;
 use circ_memo::Memo;
-use circ_record::{TermChain, TermLink, term_links};
+use circ_proof::{Chain, Link};
+use circ_rewrite::links_of;
 use circ_term::Term;
 use std::alloc::Global;
 
@@ -17,14 +18,14 @@ pub struct Sides {
     /// The right side.
     pub right: Term,
     /// The links.
-    pub chain: TermChain,
+    pub chain: Chain<Term>,
 }
 
 // A side in normal form, with the links that led to it.
 #[derive(Drop)]
 struct Side {
     term: Term,
-    links: Vec<TermLink>,
+    links: Vec<Link<Term>>,
 }
 
 /// The normal forms of the left side and then of the right side, under the memo's assumptions. The
@@ -48,7 +49,7 @@ pub fn normal_sides(
             Ok(other) => Ok(Sides {
                 left: one.term,
                 right: other.term,
-                chain: TermChain {
+                chain: Chain {
                     left: one.links,
                     right: other.links,
                 },
@@ -71,7 +72,7 @@ fn normal_side(
     match memo.normal(side, budget) {
         Err(fault) => Err(Stop::of_rewrite(fault)),
         Ok(normal) => {
-            let links = term_links(alloc, normal.traces)?;
+            let links = links_of(alloc, normal.traces)?;
             Ok(Side {
                 term: normal.term,
                 links,

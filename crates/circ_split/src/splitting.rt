@@ -1,7 +1,8 @@
 //! The splits of a goal into cases.
 ghost use Rattle.std.specs.Prelude.{◌≡◌, ◌≤◌, ◌<◌, ◌+◌, ◌^◌, ℕ, []};
-ghost use Rattle.std.specs.Prelude.{◌∷◌, ◌++◌, length, Err, IfOk, OnOk};
-ghost use Rattle.circ_term.specs.Tree.{App, none, sort_of};
+ghost use Rattle.std.specs.Prelude.{◌∷◌, ◌++◌, length, map, Err, IfOk, OnOk};
+ghost use Rattle.circ_term.specs.Tree.{sort_of};
+ghost use Rattle.circ_theory.specs.Pairs.{plain_pair};
 ghost use Rattle.circ_proof.specs.Proof.{split_limit};
 ghost use Rattle.circ_plain_search.specs.Joining.{Not_split};
 ghost use Rattle.circ_plain_search.specs.Search.{normal_sides, split_cases, each_case};
@@ -13,10 +14,9 @@ use crate::opening::{constants_of, open_of};
 use crate::sides::{Sides, normal_sides};
 use circ_join::Stop;
 use circ_memo::Memo;
-use circ_record::TermWhy;
-use circ_rewrite::share_goals;
-use circ_term::{Term, TermFault};
-use circ_theory::{Goal, Theory};
+use circ_proof::Why;
+use circ_term::Term;
+use circ_theory::{Pair, Theory, constant_of};
 use std::alloc::{AllocError, Global};
 
 /// What goals are split by.
@@ -34,7 +34,7 @@ pub struct Cases {
     /// The term.
     pub term: Term,
     /// The reasons.
-    pub whys: Vec<TermWhy>,
+    pub whys: Vec<Why<Term>>,
 }
 
 impl Splitting<'_> {
@@ -67,7 +67,7 @@ impl Splitting<'_> {
         &self,
         room: u32,
         memo: &mut Memo<'_>,
-        assumptions: &mut Vec<Goal>,
+        assumptions: &mut Vec<Pair>,
         left: &Term,
         right: &Term,
         budget: &mut u64,
@@ -75,7 +75,8 @@ impl Splitting<'_> {
         requires theory { memo.old.theory ≡ self.now.theory.now }
         requires few { length assumptions.old.items + room ≤ split_limit }
         ensures exact { GivesCases (split_cases self.now.theory.now memo.old.rules room
-            assumptions.old.items left.now right.now budget.old) budget.new result }
+            (map plain_pair assumptions.old.items) left.now right.now budget.old)
+            budget.new result }
         ensures less { budget.new ≤ budget.old }
         ensures theory { memo.new.theory ≡ memo.old.theory }
         ensures rules { memo.new.rules ≡ memo.old.rules }
@@ -104,18 +105,19 @@ impl Splitting<'_> {
         &self,
         room: u32,
         memo: &mut Memo<'_>,
-        assumptions: &mut Vec<Goal>,
+        assumptions: &mut Vec<Pair>,
         term: &Term,
         left: &Term,
         right: &Term,
         budget: &mut u64,
-    ) -> Result<Vec<TermWhy>, Stop>
+    ) -> Result<Vec<Why<Term>>, Stop>
         requires theory { memo.old.theory ≡ self.now.theory.now }
         requires few { length assumptions.old.items + room + 1 ≤ split_limit }
         ensures exact { GivesWhys (each_case self.now.theory.now memo.old.rules
-            (split_cases self.now.theory.now memo.old.rules room) assumptions.old.items
-            term.now left.now right.now (constants_of self.now.theory.now (sort_of term.now))
-            budget.old) term.now budget.new result }
+            (split_cases self.now.theory.now memo.old.rules room)
+            (map plain_pair assumptions.old.items) term.now left.now right.now
+            (constants_of self.now.theory.now (sort_of term.now)) budget.old)
+            term.now budget.new result }
         ensures less { budget.new ≤ budget.old }
         ensures theory { memo.new.theory ≡ memo.old.theory }
         ensures rules { memo.new.rules ≡ memo.old.rules }
@@ -147,18 +149,18 @@ impl Splitting<'_> {
         &self,
         room: u32,
         memo: &mut Memo<'_>,
-        assumptions: &mut Vec<Goal>,
+        assumptions: &mut Vec<Pair>,
         term: &Term,
         constant: u32,
         left: &Term,
         right: &Term,
         budget: &mut u64,
-    ) -> Result<TermWhy, Stop>
+    ) -> Result<Why<Term>, Stop>
         requires theory { memo.old.theory ≡ self.now.theory.now }
         requires few { length assumptions.old.items + room + 1 ≤ split_limit }
         ensures exact { GivesReason (case_answer self.now.theory.now memo.old.rules room
-            (assumptions.old.items ++ case_of term.now constant ∷ []) left.now right.now
-            budget.old) budget.new result }
+            (map plain_pair assumptions.old.items ++ case_of term.now constant ∷ [])
+            left.now right.now budget.old) budget.new result }
         ensures less { budget.new ≤ budget.old }
         ensures theory { memo.new.theory ≡ memo.old.theory }
         ensures rules { memo.new.rules ≡ memo.old.rules }
@@ -181,15 +183,16 @@ impl Splitting<'_> {
         &self,
         room: u32,
         memo: &mut Memo<'_>,
-        assumptions: &mut Vec<Goal>,
+        assumptions: &mut Vec<Pair>,
         left: &Term,
         right: &Term,
         budget: &mut u64,
-    ) -> Result<TermWhy, Stop>
+    ) -> Result<Why<Term>, Stop>
         requires theory { memo.old.theory ≡ self.now.theory.now }
         requires few { length assumptions.old.items + room ≤ split_limit }
         ensures exact { GivesReason (case_answer self.now.theory.now memo.old.rules room
-            assumptions.old.items left.now right.now budget.old) budget.new result }
+            (map plain_pair assumptions.old.items) left.now right.now budget.old)
+            budget.new result }
         ensures less { budget.new ≤ budget.old }
         ensures theory { memo.new.theory ≡ memo.old.theory }
         ensures rules { memo.new.rules ≡ memo.old.rules }
@@ -199,11 +202,15 @@ impl Splitting<'_> {
             Err(stop) => Err(stop),
             Ok(sides) => {
                 if sides.left.same(&sides.right) {
-                    return Ok(TermWhy::same(sides.chain));
+                    return Ok(Why::Same { chain: sides.chain });
                 }
                 match self.split_with(room, memo, assumptions, &sides.left, &sides.right, budget) {
                     Err(stop) => Err(stop),
-                    Ok(cases) => Ok(TermWhy::split(sides.chain, cases.term, cases.whys)),
+                    Ok(cases) => Ok(Why::Split {
+                        chain: sides.chain,
+                        term: cases.term,
+                        whys: cases.whys,
+                    }),
                 }
             }
         }
@@ -213,7 +220,7 @@ impl Splitting<'_> {
     fn case_sides(
         &self,
         memo: &mut Memo<'_>,
-        assumptions: &[Goal],
+        assumptions: &[Pair],
         left: &Term,
         right: &Term,
         budget: &mut u64,
@@ -221,7 +228,7 @@ impl Splitting<'_> {
         requires theory { memo.old.theory ≡ self.now.theory.now }
         requires few { length assumptions.now < 2 ^ 32 }
         ensures exact { GivesSides (normal_sides self.now.theory.now memo.old.rules
-            assumptions.now left.now right.now budget.old) budget.new result }
+            (map plain_pair assumptions.now) left.now right.now budget.old) budget.new result }
         ensures less { budget.new ≤ budget.old }
         ensures theory { memo.new.theory ≡ memo.old.theory }
         ensures rules { memo.new.rules ≡ memo.old.rules }
@@ -232,13 +239,13 @@ impl Splitting<'_> {
 }
 
 // The two sides cannot be split further under the assumptions.
-fn stuck(alloc: Global, left: &Term, right: &Term, assumptions: &[Goal]) -> Result<Cases, Stop>
-    ensures { (n : ℕ) → GivesCases (Err (Not_split left.now right.now assumptions.now))
-        n result }
+fn stuck(alloc: Global, left: &Term, right: &Term, assumptions: &[Pair]) -> Result<Cases, Stop>
+    ensures { (n : ℕ) → GivesCases (Err (Not_split left.now right.now
+        (map plain_pair assumptions.now))) n result }
 {
     let left = left.share()?;
     let right = right.share()?;
-    let assumptions = share_goals(alloc, assumptions)?;
+    let assumptions = share_pairs(alloc, assumptions)?;
     Err(Stop::Stuck {
         left,
         right,
@@ -247,21 +254,23 @@ fn stuck(alloc: Global, left: &Term, right: &Term, assumptions: &[Goal]) -> Resu
 }
 
 // The term is the constant.
-fn case_of(alloc: Global, term: &Term, constant: u32) -> Result<Goal, AllocError>
-    ensures { IfOk result (λ g. g ≡ case_of term.now constant) }
+fn case_of(alloc: Global, term: &Term, constant: u32) -> Result<Pair, AllocError>
+    ensures { IfOk result (λ p. plain_pair p ≡ case_of term.now constant) }
 {
     let left = term.share()?;
     let right = constant_of(alloc, constant, term.sort())?;
-    Ok(Goal { left, right })
+    Ok(Pair { left, right })
 }
 
-fn constant_of(alloc: Global, constant: u32, sort: u32) -> Result<Term, AllocError>
-    ensures { IfOk result (λ t. t ≡ App constant sort none) }
+// The same pairs, whose terms are shared.
+fn share_pairs(alloc: Global, pairs: &[Pair]) -> Result<Vec<Pair>, AllocError>
+    ensures { IfOk result (λ v. map plain_pair v.items ≡ map plain_pair pairs.now) }
 {
-    match Term::app(alloc, constant, sort, Vec::new(alloc)) {
-        Ok(term) => Ok(term),
-        Err(TermFault::Memory) => Err(AllocError),
-        Err(TermFault::TooBig { .. }) => unreachable!(),
-        Err(TermFault::TooDeep { .. }) => unreachable!(),
+    let mut copy = Vec::with_capacity(alloc, pairs.len())?;
+    for pair in pairs {
+        let left = pair.left.share()?;
+        let right = pair.right.share()?;
+        copy.push(Pair { left, right })?;
     }
+    Ok(copy)
 }

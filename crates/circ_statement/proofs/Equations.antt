@@ -4,8 +4,8 @@ use Rattle.std.proofs.lemmas.List.{length-append, length-take, length-drop}
 use Rattle.circ_lexer.specs.TokenList.{TokenList, tokens_of, tokens_in, IsWithin}
 use Rattle.circ_lexer.specs.declared.tokens.Span.{Span}
 use Rattle.circ_statement.specs.Words.{Word, has_word}
-use Rattle.circ_statement.specs.Said.{Said, equation}
-use Rattle.circ_statement.specs.Statement.{nonexec, IsUnmarked, IsEquation}
+use Rattle.circ_statement.specs.Said.{Said, SaidSides, equation}
+use Rattle.circ_statement.specs.Statement.{nonexec, IsUnmarked, AreSides, IsEquation}
 use Rattle.circ_statement.proofs.WordLists.{split_same, split_lacks}
 use Rattle.circ_statement.proofs.Ranges.{range_split}
 
@@ -28,28 +28,26 @@ unmarked_same ws r s true false h k = absurd (h.1 s k)
 unmarked_same ws r s false true h k = absurd (k.1 r h)
 unmarked_same ws r s false false h k = ((same_ends r nonexec s nonexec refl (sym h ∙ k)).0, refl)
 
-module _ (ws sides : List Word) (exec : Bool) (h : IsUnmarked ws sides exec) where
-  sides_of : (said : Said) (e : IsEquation ws said) → (e.left ++ codes "=" ∷ e.right ≡ sides) × (e.exec ≡ exec)
-  sides_of said e = unmarked_same ws _ sides e.exec exec e.unmarked h
+-- the sides of one equals sign
+pub sides_same : (ws : List Word) (s t : SaidSides) → AreSides ws s → AreSides ws t → s ≡ t
+sides_same ws s t h k =
+    let cut = split_same (codes "=") s.left s.right t.left t.right h.one_left k.one_left (sym h.words ∙ k.words) in
+    λ i. record { left = cut.0 i; right = cut.1 i }
 
-  pub no_equals : has_word (codes "=") sides ≡ false → (said : Said) → IsEquation ws said → ⊥
-  no_equals k said e = split_lacks (codes "=") sides e.left e.right k (sym (sides_of said e).0)
+pub no_equals : (ws : List Word) → has_word (codes "=") ws ≡ false → (s : SaidSides) → AreSides ws s → ⊥
+no_equals ws lacks s h = split_lacks (codes "=") ws s.left s.right lacks h.words
 
-  module _ (left right : List Word) (words : sides ≡ left ++ codes "=" ∷ right) (lacks : has_word (codes "=") left ≡ false) where
-    cut_of : (said : Said) (e : IsEquation ws said) → (e.left ≡ left) × (e.right ≡ right)
-    cut_of said e = split_same (codes "=") e.left e.right left right e.one_left lacks ((sides_of said e).0 ∙ words)
-
-    pub two_equals : (a b : List Word) → right ≡ a ++ codes "=" ∷ b → (said : Said) → IsEquation ws said → ⊥
-    two_equals a b e said m = split_lacks (codes "=") m.right a b m.one_right ((cut_of said m).1 ∙ e)
-
-    pub is_equation : has_word (codes "=") right ≡ false → IsEquation ws (equation left right exec)
-    is_equation k = record { left = left; right = right; exec = exec; unmarked = subst (λ r. IsUnmarked ws r exec) words h; one_left = lacks; one_right = k; says = refl }
+pub two_equals : (ws left right a b : List Word) → ws ≡ left ++ codes "=" ∷ right → has_word (codes "=") left ≡ false → right ≡ a ++ codes "=" ∷ b
+    → (s : SaidSides) → AreSides ws s → ⊥
+two_equals ws left right a b words lacks e s h =
+    let cut = split_same (codes "=") s.left s.right left right h.one_left lacks (sym h.words ∙ words) in
+    split_lacks (codes "=") s.right a b h.one_right (cut.1 ∙ e)
 
 pub equation_same : (ws : List Word) (a b : Said) → IsEquation ws a → IsEquation ws b → a ≡ b
 equation_same ws a b h k =
-    let sides = sides_of ws (k.left ++ codes "=" ∷ k.right) k.exec k.unmarked a h in
-    let cut = cut_of ws (k.left ++ codes "=" ∷ k.right) k.exec k.unmarked k.left k.right refl k.one_left a h in
-    h.says ∙ (λ i. equation (cut.0 i) (cut.1 i) (sides.1 i)) ∙ sym k.says
+    let same = unmarked_same ws h.body k.body h.exec k.exec h.unmarked k.unmarked in
+    let sides = sides_same k.body h.sides k.sides (subst (λ r. AreSides r h.sides) same.0 h.are_sides) k.are_sides in
+    h.says ∙ (λ i. equation (sides i).left (sides i).right [] (same.1 i)) ∙ sym k.says
 
 -- the last three tokens are the mark exactly where the tokens end with it
 module _ (ts : TokenList) (span : Span) (h : IsWithin ts span) (long : 3 ≤ span.to - span.from) where

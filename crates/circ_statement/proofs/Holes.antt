@@ -1,7 +1,7 @@
 -- The last piece of a form.
 use Rattle.std.proofs.Common.{◌≡◌, ◌≤◌, ◌-◌, suc, List, [], ◌∷◌, length, get_or, ap, ◌∙◌, arith}
-use Rattle.circ_theory.specs.declared.forms.Piece.{Piece}
-use Rattle.circ_theory.specs.Operators.{is_hole_piece}
+use Rattle.circ_form.specs.declared.forms.Piece.{Piece}
+use Rattle.circ_form.specs.Form.{is_hole_piece}
 use Rattle.circ_statement.specs.Attributes.{ends_with_hole}
 
 pub last_piece : (ps : List Piece) (p : Piece) → 1 ≤ length ps → p ≡ get_or ps (length ps - 1) p → is_hole_piece p ≡ ends_with_hole ps

@@ -9,5 +9,6 @@ mod Marks
 mod Holes
 mod Spelt
 mod Equations
+mod Conditions
 mod Declaring
 mod Once

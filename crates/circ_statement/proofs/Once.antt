@@ -1,7 +1,7 @@
 -- A statement says one thing, and is left out by one word.
 use Rattle.std.proofs.Common.{◌≡◌, List, [], ◌∷◌, ◌++◌, Bool, true, false, Option, Some, None, codes, sym, ap, ◌∙◌, subst}
 use Rattle.circ_statement.specs.declared.keywords.Keyword.{Keyword}
-use Rattle.circ_statement.specs.declared.keywords.Keyword.TheVariants.{Inclusion, Sorts, Operator, Operators, Variables, Equation, Derivative, Cases, LeftOut}
+use Rattle.circ_statement.specs.declared.keywords.Keyword.TheVariants.{Inclusion, Sorts, Operator, Operators, Variables, Equation, Conditional, Derivative, Cases, LeftOut}
 use Rattle.circ_statement.specs.Words.{Word, has_word, keyword_of}
 use Rattle.circ_statement.specs.Heads.{HasForeign, IsFirstForeign}
 use Rattle.circ_statement.specs.Said.{Said, inclusion, variables, cases}
@@ -10,6 +10,7 @@ use Rattle.circ_statement.proofs.WordLists.{split_same, some_names_lack}
 use Rattle.circ_statement.proofs.HeadParts.{bracket_same}
 use Rattle.circ_statement.proofs.Foreign.{first_same}
 use Rattle.circ_statement.proofs.Equations.{equation_same}
+use Rattle.circ_statement.proofs.Conditions.{conditional_same}
 use Rattle.circ_statement.proofs.Declaring.{declared_by, foreign_in, declares_same}
 
 inclusion_same : (ws : List Word) (a b : Said) → IsInclusion ws a → IsInclusion ws b → a ≡ b
@@ -49,6 +50,7 @@ kind_same (Some Operator) ws a b h k = operators_same true ws a b h k
 kind_same (Some Operators) ws a b h k = operators_same false ws a b h k
 kind_same (Some Variables) ws a b h k = variables_same ws a b h k
 kind_same (Some Equation) ws a b h k = equation_same ws a b h k
+kind_same (Some Conditional) ws a b h k = conditional_same ws a b h k
 kind_same (Some Derivative) ws a b h k = h ∙ sym k
 kind_same (Some Cases) ws a b h k = cases_same ws a b h k
 
@@ -70,6 +72,7 @@ out_same (Some Operator) first ws v w h k = foreign_same ws v w h k
 out_same (Some Operators) first ws v w h k = foreign_same ws v w h k
 out_same (Some Variables) first ws v w h k = absurd h
 out_same (Some Equation) first ws v w h k = absurd h
+out_same (Some Conditional) first ws v w h k = absurd h
 out_same (Some Derivative) first ws v w h k = absurd h
 out_same (Some Cases) first ws v w h k = absurd h
 

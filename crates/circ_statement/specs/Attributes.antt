@@ -1,11 +1,11 @@
 -- The attributes of operators, and what they make of a form.
 use Rattle.std.specs.Prelude.{◌≡◌, ◌⊎◌, ℕ, List, [], ◌∷◌, ◌++◌, Bool, true, false, ◌==◌, ◌&&◌, ◌||◌, not, nat_le, is_none, codes, decimal, if◌then◌else◌, Option, Some, None}
 use Rattle.std.specs.Option.{option_and_then}
-use Rattle.circ_theory.specs.declared.forms.Piece.{Piece}
+use Rattle.circ_form.specs.declared.forms.Piece.{Piece}
 use Rattle.circ_theory.specs.declared.parts.Side.{Side}
 use Rattle.circ_theory.specs.declared.parts.Side.TheVariants.{Neither, Left, Right}
-use Rattle.circ_theory.specs.Form.{pieces_of, form_fault}
-use Rattle.circ_theory.specs.Operators.{is_hole_piece, has_hole}
+use Rattle.circ_form.specs.Form.{pieces_of, form_fault}
+use Rattle.circ_form.specs.Form.{is_hole_piece, has_hole}
 use Rattle.circ_statement.specs.declared.attributes.Attribute.{Attribute}
 use Rattle.circ_statement.specs.declared.attributes.Attribute.TheVariants.{Prec, ToLeft, ToRight, Assoc, Comm, Idem}
 use Rattle.circ_statement.specs.declared.attributes.Attributes.{Attributes}

@@ -1,6 +1,6 @@
 -- Statements that try the definitions.
 use Rattle.std.specs.Prelude.{List, [], ◌∷◌, true, false, codes}
-use Rattle.circ_theory.specs.declared.forms.Piece.TheVariants.{Hole, Word as OneWord}
+use Rattle.circ_form.specs.declared.forms.Piece.TheVariants.{Hole, Word as OneWord}
 use Rattle.circ_theory.specs.declared.parts.Side.TheVariants.{Right}
 use Rattle.circ_statement.specs.Words.{Word}
 use Rattle.circ_statement.specs.Said.{Said, operators}

@@ -1,4 +1,5 @@
 pub mod Words
+pub mod Outside
 pub mod Heads
 pub mod Attributes
 pub mod Said

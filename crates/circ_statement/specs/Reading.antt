@@ -1,16 +1,20 @@
 -- What the steps of reading a statement answer.
 use Rattle.std.specs.Prelude.{◌≡◌, ◌≢◌, ◌≤◌, ◌+◌, ◌-◌, ◌*◌, ◌<◌, ◌==◌, ℕ, codes, if◌then◌else◌, List, [], ◌∷◌, ◌++◌, Bool, true, false, map, Option, Some, None, Result, Ok, Err}
 use Rattle.std.specs.Global.{Vec}
+use Rattle.std.specs.List.{AllByRecursion}
 use Rattle.std.specs.Char.{is_ascii_digit}
 use Rattle.std.specs.Option.{option_map, option_and_then}
 use Rattle.circ_lexer.specs.TokenList.{TokenList, tokens_in, IsWithin}
 use Rattle.circ_lexer.specs.declared.tokens.Span.{Span}
-use Rattle.circ_theory.specs.declared.forms.Piece.{Piece}
-use Rattle.circ_theory.specs.Form.{pieces_of, form_fault}
+use Rattle.circ_form.specs.declared.forms.Piece.{Piece}
+use Rattle.circ_form.specs.Form.{pieces_of, form_fault}
 use Rattle.circ_statement.specs.declared.attributes.Attribute.{Attribute}
 use Rattle.circ_statement.specs.declared.attributes.Attribute.TheVariants.{Prec, ToLeft, ToRight, Assoc, Comm, Idem}
 use Rattle.circ_statement.specs.declared.attributes.Attributes.{Attributes}
 use Rattle.circ_statement.specs.declared.places.First.{First}
+use Rattle.circ_statement.specs.declared.outside.Cut.{Cut}
+use Rattle.circ_statement.specs.declared.outside.Cut.TheVariants.{At, Nowhere, Unopened}
+use Rattle.circ_statement.specs.declared.statements.Sides.{Sides}
 use Rattle.circ_statement.specs.declared.heads.Head.{Head}
 use Rattle.circ_statement.specs.declared.statements.Spelling.{Spelling}
 use Rattle.circ_statement.specs.declared.statements.Statement.{Statement}
@@ -19,8 +23,9 @@ use Rattle.circ_statement.specs.declared.fault.StatementFault.TheVariants.{LeftO
 use Rattle.circ_statement.specs.Words.{Word, is_word, has_word, is_name, are_names}
 use Rattle.circ_statement.specs.Heads.{IsHead, IsBracket, IsFirstForeign, HasForeign}
 use Rattle.circ_statement.specs.Attributes.{Spelled, AddsAttributes, HasAttributes, IsSpelled, AreSpelled}
-use Rattle.circ_statement.specs.Said.{Said, said_of, spelled_of, LiesWithin, LiesIn, IsPlace, token_at}
-use Rattle.circ_statement.specs.Statement.{IsUnmarked, IsOperators, SaysOrLeavesOut}
+use Rattle.circ_statement.specs.Outside.{parts_at}
+use Rattle.circ_statement.specs.Said.{Said, SaidSides, sides_of, said_of, spelled_of, LiesWithin, LiesIn, IsPlace, token_at}
+use Rattle.circ_statement.specs.Statement.{IsUnmarked, IsOperators, AreSides, AreEachSides, SaysOrLeavesOut}
 
 -- one span lies in another
 pub record IsPart (span part : Span) : Type 0 where
@@ -168,3 +173,37 @@ pub record IsNamed (ts : TokenList) (h : Head) : Type 0 where
   pub some : tokens_in ts h.front ≢ []
   pub are_names : are_names (tokens_in ts h.args) ≡ true
   pub is_name : is_name (token_at ts h.result) ≡ true
+
+-- what stands before and behind the first such word outside parentheses
+abbrev pub GivesCut : Cut → TokenList → Span → Word → Type 0
+GivesCut (At before after) ts span w =
+    IsWithin ts before × IsWithin ts after × (parts_at w (tokens_in ts span) ≡ option_map (λ ps. tokens_in ts before ∷ ps) (parts_at w (tokens_in ts after)))
+    × (after.to - after.from < span.to - span.from)
+GivesCut Nowhere ts span w = parts_at w (tokens_in ts span) ≡ Some (tokens_in ts span ∷ [])
+GivesCut Unopened ts span w = parts_at w (tokens_in ts span) ≡ None
+
+-- the sides of the only equals sign
+abbrev pub GivesSides : Option Sides → TokenList → Span → Type 0
+GivesSides None ts span = (s : SaidSides) → AreSides (tokens_in ts span) s → ⊥
+GivesSides (Some s) ts span = AreSides (tokens_in ts span) (sides_of ts s) × IsWithin ts s.left × IsWithin ts s.right
+
+-- conditions, cut at each /\ outside parentheses
+pub record AreConditions (ws : List Word) (conds : List SaidSides) : Type 0 where
+  pub parts : List (List Word)
+  pub cut : parts_at (codes "/\\") ws ≡ Some parts
+  pub each : AreEachSides parts conds
+
+abbrev pub GivesConditions : Option (Vec Sides) → TokenList → Span → Type 0
+GivesConditions None ts span = (conds : List SaidSides) → AreConditions (tokens_in ts span) conds → ⊥
+GivesConditions (Some v) ts span =
+    AreConditions (tokens_in ts span) (map (sides_of ts) v.items) × AllByRecursion (λ s. IsWithin ts s.left × IsWithin ts s.right) v.items
+
+-- the only such word outside parentheses
+abbrev pub GivesOneCut : Option (Span × Span) → TokenList → Span → Word → Type 0
+GivesOneCut None ts span w = (front rest : List Word) → parts_at w (tokens_in ts span) ≡ Some (front ∷ (rest ∷ [])) → ⊥
+GivesOneCut (Some r) ts span w = IsWithin ts r.0 × IsWithin ts r.1 × (parts_at w (tokens_in ts span) ≡ Some (tokens_in ts r.0 ∷ (tokens_in ts r.1 ∷ [])))
+
+-- a condition more, or there is none
+abbrev pub PushesCondition : Bool → TokenList → Span → (old new : List Sides) → Type 0
+PushesCondition true ts span old new = (s : Sides) × (new ≡ old ++ s ∷ []) × AreSides (tokens_in ts span) (sides_of ts s) × IsWithin ts s.left × IsWithin ts s.right
+PushesCondition false ts span old new = (s : SaidSides) → AreSides (tokens_in ts span) s → ⊥

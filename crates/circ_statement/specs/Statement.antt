@@ -3,15 +3,16 @@ use Rattle.std.specs.Prelude.{◌≡◌, ◌≢◌, List, [], ◌∷◌, ◌++�
 use Rattle.circ_lexer.specs.TokenList.{TokenList, tokens_in}
 use Rattle.circ_lexer.specs.declared.tokens.Span.{Span}
 use Rattle.circ_statement.specs.declared.keywords.Keyword.{Keyword}
-use Rattle.circ_statement.specs.declared.keywords.Keyword.TheVariants.{Inclusion, Sorts, Operator, Operators, Variables, Equation, Derivative, Cases, LeftOut}
+use Rattle.circ_statement.specs.declared.keywords.Keyword.TheVariants.{Inclusion, Sorts, Operator, Operators, Variables, Equation, Conditional, Derivative, Cases, LeftOut}
 use Rattle.circ_statement.specs.declared.attributes.Attributes.{Attributes}
 use Rattle.circ_statement.specs.declared.statements.Statement.{Statement}
 use Rattle.circ_statement.specs.declared.fault.StatementFault.{StatementFault}
 use Rattle.circ_statement.specs.declared.fault.StatementFault.TheVariants.{LeftOut as OutBy, Shape, Memory}
 use Rattle.circ_statement.specs.Words.{Word, has_word, is_name, are_names, are_some_names, keyword_of}
+use Rattle.circ_statement.specs.Outside.{parts_at}
 use Rattle.circ_statement.specs.Heads.{IsHead, HasForeign}
 use Rattle.circ_statement.specs.Attributes.{HasAttributes, Spelled, AreSpelled}
-use Rattle.circ_statement.specs.Said.{Said, inclusion, sorts, operators, variables, equation, derivative, cases, said_of, LiesWithin, LiesIn, IsPlace, token_at}
+use Rattle.circ_statement.specs.Said.{Said, SaidSides, inclusion, sorts, operators, variables, equation, derivative, cases, said_of, LiesWithin, LiesIn, IsPlace, token_at}
 
 -- What the words after a statement's first word say, kind by kind.
 
@@ -71,14 +72,41 @@ IsUnmarked ws rest true = (ws ≡ rest) × ((front : List Word) → ws ≡ front
 IsUnmarked ws rest false = ws ≡ rest ++ nonexec
 
 -- one equals sign, between any words
+pub record AreSides (ws : List Word) (s : SaidSides) : Type 0 where
+  pub words : ws ≡ s.left ++ codes "=" ∷ s.right
+  pub one_left : has_word (codes "=") s.left ≡ false
+  pub one_right : has_word (codes "=") s.right ≡ false
+
+-- each list of words has one equals sign
+abbrev pub AreEachSides : List (List Word) → List SaidSides → Type 0
+AreEachSides [] [] = Unit {0}
+AreEachSides [] (s ∷ ss) = ⊥
+AreEachSides (ws ∷ wss) [] = ⊥
+AreEachSides (ws ∷ wss) (s ∷ ss) = AreSides ws s × AreEachSides wss ss
+
 pub record IsEquation (ws : List Word) (said : Said) : Type 0 where
-  pub left : List Word
-  pub right : List Word
+  pub body : List Word
+  pub sides : SaidSides
   pub exec : Bool
-  pub unmarked : IsUnmarked ws (left ++ codes "=" ∷ right) exec
-  pub one_left : has_word (codes "=") left ≡ false
-  pub one_right : has_word (codes "=") right ≡ false
-  pub says : said ≡ equation left right exec
+  pub unmarked : IsUnmarked ws body exec
+  pub are_sides : AreSides body sides
+  pub says : said ≡ equation sides.left sides.right [] exec
+
+-- one `if` outside parentheses, and conditions behind it that are cut at each /\ outside parentheses
+pub record IsConditional (ws : List Word) (said : Said) : Type 0 where
+  pub body : List Word
+  pub front : List Word
+  pub rest : List Word
+  pub parts : List (List Word)
+  pub sides : SaidSides
+  pub conds : List SaidSides
+  pub exec : Bool
+  pub unmarked : IsUnmarked ws body exec
+  pub one_if : parts_at (codes "if") body ≡ Some (front ∷ (rest ∷ []))
+  pub cut : parts_at (codes "/\\") rest ≡ Some parts
+  pub are_sides : AreSides front sides
+  pub each : AreEachSides parts conds
+  pub says : said ≡ equation sides.left sides.right conds exec
 
 pub record IsCases (ws : List Word) (said : Said) : Type 0 where
   pub sort : Word
@@ -97,6 +125,7 @@ IsOfKind (Some Operator) ws said = IsOperators true ws said
 IsOfKind (Some Operators) ws said = IsOperators false ws said
 IsOfKind (Some Variables) ws said = IsVariables ws said
 IsOfKind (Some Equation) ws said = IsEquation ws said
+IsOfKind (Some Conditional) ws said = IsConditional ws said
 IsOfKind (Some Derivative) ws said = said ≡ derivative ws
 IsOfKind (Some Cases) ws said = IsCases ws said
 
@@ -114,6 +143,7 @@ IsOutByKind (Some Operator) first ws w = HasForeign ws w
 IsOutByKind (Some Operators) first ws w = HasForeign ws w
 IsOutByKind (Some Variables) first ws w = ⊥
 IsOutByKind (Some Equation) first ws w = ⊥
+IsOutByKind (Some Conditional) first ws w = ⊥
 IsOutByKind (Some Derivative) first ws w = ⊥
 IsOutByKind (Some Cases) first ws w = ⊥
 

@@ -4,7 +4,7 @@ use Rattle.std.specs.List.{list_any, list_all}
 use Rattle.std.specs.Cmp.Lexicographic.{pointwise}
 use Rattle.circ_lexer.specs.Bytes.{is_special}
 use Rattle.circ_statement.specs.declared.keywords.Keyword.{Keyword}
-use Rattle.circ_statement.specs.declared.keywords.Keyword.TheVariants.{Inclusion, Sorts, Operator, Operators, Variables, Equation, Derivative, Cases, LeftOut}
+use Rattle.circ_statement.specs.declared.keywords.Keyword.TheVariants.{Inclusion, Sorts, Operator, Operators, Variables, Equation, Conditional, Derivative, Cases, LeftOut}
 
 -- a token as a text
 abbrev pub Word : Type 0
@@ -45,7 +45,7 @@ are_some_names (w ∷ ws) = are_names (w ∷ ws)
 -- the words of statements that are left out
 abbrev pub is_left_out_word : Word → Bool
 is_left_out_word w =
-    is_word w (codes "subsort") || is_word w (codes "subsorts") || is_word w (codes "mb") || is_word w (codes "cmb") || is_word w (codes "ceq")
+    is_word w (codes "subsort") || is_word w (codes "subsorts") || is_word w (codes "mb") || is_word w (codes "cmb")
     || is_word w (codes "rl") || is_word w (codes "crl") || is_word w (codes "extending") || is_word w (codes "ex") || is_word w (codes "class")
     || is_word w (codes "msg")
 
@@ -62,6 +62,7 @@ keyword_of w =
     else if is_word w (codes "ops") then Some Operators
     else if is_word w (codes "var") || is_word w (codes "vars") then Some Variables
     else if is_word w (codes "eq") then Some Equation
+    else if is_word w (codes "ceq") then Some Conditional
     else if is_word w (codes "derivative") then Some Derivative
     else if is_word w (codes "cases") then Some Cases
     else None

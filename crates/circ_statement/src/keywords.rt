@@ -14,6 +14,8 @@ pub(crate) enum Keyword {
     Operators,
     Variables,
     Equation,
+    // An equation with conditions.
+    Conditional,
     Derivative,
     Cases,
     // A kind that is not read.
@@ -51,6 +53,9 @@ pub(crate) fn keyword_of(word: &[u8]) -> Option<Keyword>
     if is_word(word, b"eq") {
         return Some(Keyword::Equation);
     }
+    if is_word(word, b"ceq") {
+        return Some(Keyword::Conditional);
+    }
     if is_word(word, b"derivative") {
         return Some(Keyword::Derivative);
     }
@@ -67,7 +72,6 @@ fn is_left_out_word(word: &[u8]) -> bool
         || is_word(word, b"subsorts")
         || is_word(word, b"mb")
         || is_word(word, b"cmb")
-        || is_word(word, b"ceq")
         || is_word(word, b"rl")
         || is_word(word, b"crl")
         || is_word(word, b"extending")

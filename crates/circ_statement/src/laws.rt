@@ -15,6 +15,6 @@ pub fn said_in_one_way()
 pub fn what_statements_say()
     ensures operator { IsStatement plus_words plus }
     ensures equation { IsStatement (codes "eq" ∷ (codes "a" ∷ (codes "=" ∷ nonexec)))
-        (equation (codes "a" ∷ []) [] false) }
+        (equation (codes "a" ∷ []) [] [] false) }
     ensures left_out { IsLeftOut foreign_words (codes "ctor") }
 {}

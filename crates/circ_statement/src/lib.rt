@@ -11,6 +11,7 @@ mod fault;
 mod heads;
 mod keywords;
 pub mod laws;
+mod outside;
 mod places;
 mod reading;
 mod spellings;
@@ -19,7 +20,7 @@ mod statements;
 pub use fault::StatementFault;
 pub use keywords::is_name;
 pub use reading::statement;
-pub use statements::{Spelling, Statement};
+pub use statements::{Sides, Spelling, Statement};
 
 /// The greatest precedence that can be given.
 pub const MOST_PRECEDENCE: u8 = 127;

@@ -1,18 +1,21 @@
 //! One statement read from its tokens.
 ghost use Rattle.circ_lexer.specs.TokenList.{tokens_in, IsWithin};
-ghost use Rattle.std.specs.Prelude.{◌≡◌, ◌↔◌, IsTrue};
-ghost use Rattle.circ_statement.specs.Statement.{IsInclusion, IsSorts, IsVariables, IsEquation, IsCases, nonexec, GivesStatement};
+ghost use Rattle.std.specs.Prelude.{◌≡◌, ◌↔◌, IsTrue, IfOk};
+ghost use Rattle.circ_statement.specs.Statement.{IsInclusion, IsSorts, IsVariables, IsEquation, IsCases};
+ghost use Rattle.circ_statement.specs.Statement.{IsConditional, nonexec, GivesStatement};
 ghost use Rattle.circ_statement.specs.Said.{IsPlace};
 ghost use Rattle.circ_statement.specs.Reading.{GivesSaid, GivesOperators, GivesUnmarked, IsNamed, shaped};
+ghost use Rattle.circ_statement.specs.Reading.{GivesSides, GivesOneCut, GivesConditions, PushesCondition};
 
 use crate::attributes::attributes_of;
 use crate::heads::{Head, foreign_mark, head_of};
 use crate::keywords::{Keyword, is_name, keyword_of};
+use crate::outside::{Cut, cut_outside};
 use crate::places::{after, are_names, are_some_names, first_of, is_name_at, only_name, split};
 use crate::spellings::forms;
-use crate::{Statement, StatementFault};
+use crate::{Sides, Statement, StatementFault};
 use circ_lexer::{Span, Tokens};
-use std::alloc::Global;
+use std::alloc::{AllocError, Global};
 
 // How many tokens the mark of an equation that is no rewrite rule has.
 const MARK_TOKENS: usize = 3;
@@ -39,7 +42,8 @@ pub fn statement(
         Some(Keyword::Operator) => operators(alloc, tokens, words, true),
         Some(Keyword::Operators) => operators(alloc, tokens, words, false),
         Some(Keyword::Variables) => shaped(variables(tokens, words)),
-        Some(Keyword::Equation) => shaped(equation(tokens, words)),
+        Some(Keyword::Equation) => shaped(equation(alloc, tokens, words)),
+        Some(Keyword::Conditional) => shaped(conditional(alloc, tokens, words)?),
         Some(Keyword::Derivative) => Ok(Statement::Derivative { term: words }),
         Some(Keyword::Cases) => shaped(cases(tokens, words)),
     }
@@ -106,17 +110,123 @@ fn cases(tokens: &Tokens<'_>, span: Span) -> Option<Statement>
     }
 }
 
-fn equation(tokens: &Tokens<'_>, span: Span) -> Option<Statement>
+fn equation(alloc: Global, tokens: &Tokens<'_>, span: Span) -> Option<Statement>
     requires { IsWithin tokens.now span }
     ensures { GivesSaid result tokens.now (IsEquation (tokens_in tokens.now span)) }
 {
-    let (sides, exec) = unmarked(tokens, span);
-    let Some((left, right)) = split(tokens, sides, b"=") else {
+    let (body, exec) = unmarked(tokens, span);
+    match sides(tokens, body) {
+        Some(Sides { left, right }) => Some(Statement::Equation {
+            left,
+            right,
+            conds: Vec::new(alloc),
+            exec,
+        }),
+        None => None,
+    }
+}
+
+fn conditional(
+    alloc: Global,
+    tokens: &Tokens<'_>,
+    span: Span,
+) -> Result<Option<Statement>, AllocError>
+    requires { IsWithin tokens.now span }
+    ensures { IfOk result
+        (λ o. GivesSaid o tokens.now (IsConditional (tokens_in tokens.now span))) }
+{
+    let (body, exec) = unmarked(tokens, span);
+    let Some((front, rest)) = cut_once(tokens, body, b"if") else {
+        return Ok(None);
+    };
+    let Some(Sides { left, right }) = sides(tokens, front) else {
+        return Ok(None);
+    };
+    match conditions(alloc, tokens, rest)? {
+        Some(conds) => Ok(Some(Statement::Equation {
+            left,
+            right,
+            conds,
+            exec,
+        })),
+        None => Ok(None),
+    }
+}
+
+// The tokens before and behind the only such word outside parentheses.
+fn cut_once(tokens: &Tokens<'_>, span: Span, word: &[u8]) -> Option<(Span, Span)>
+    requires { IsWithin tokens.now span }
+    ensures { GivesOneCut result tokens.now span word.now }
+{
+    let Cut::At { before, after } = cut_outside(tokens, span, word) else {
+        return None;
+    };
+    match cut_outside(tokens, after, word) {
+        Cut::Nowhere => Some((before, after)),
+        Cut::At { .. } => None,
+        Cut::Unopened => None,
+    }
+}
+
+fn conditions(
+    alloc: Global,
+    tokens: &Tokens<'_>,
+    span: Span,
+) -> Result<Option<Vec<Sides>>, AllocError>
+    requires { IsWithin tokens.now span }
+    ensures { IfOk result (λ o. GivesConditions o tokens.now span) }
+{
+    let mut conds = Vec::new(alloc);
+    let mut rest = span;
+    loop {
+        match cut_outside(tokens, rest, b"/\\") {
+            Cut::At { before, after } => {
+                if !push_condition(tokens, before, &mut conds)? {
+                    return Ok(None);
+                }
+                rest = after;
+            }
+            Cut::Nowhere => {
+                if !push_condition(tokens, rest, &mut conds)? {
+                    return Ok(None);
+                }
+                return Ok(Some(conds));
+            }
+            Cut::Unopened => return Ok(None),
+        }
+    }
+}
+
+// Appends the sides of the only equals sign, and answers whether there is one.
+fn push_condition(
+    tokens: &Tokens<'_>,
+    span: Span,
+    conds: &mut Vec<Sides>,
+) -> Result<bool, AllocError>
+    requires { IsWithin tokens.now span }
+    ensures { IfOk result
+        (λ b. PushesCondition b tokens.now span conds.old.items conds.new.items) }
+{
+    match sides(tokens, span) {
+        Some(condition) => {
+            conds.push(condition)?;
+            Ok(true)
+        }
+        None => Ok(false),
+    }
+}
+
+// The sides of the only equals sign.
+fn sides(tokens: &Tokens<'_>, span: Span) -> Option<Sides>
+    requires { IsWithin tokens.now span }
+    ensures { GivesSides result tokens.now span }
+{
+    let Some((left, right)) = split(tokens, span, b"=") else {
         return None;
     };
     match split(tokens, right, b"=") {
         Some(_) => None,
-        None => Some(Statement::Equation { left, right, exec }),
+        None => Some(Sides { left, right }),
     }
 }
 

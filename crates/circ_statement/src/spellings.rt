@@ -1,7 +1,7 @@
 //! Forms, and what attributes make of them.
 ghost use Rattle.std.specs.Prelude.{◌≡◌, true};
 ghost use Rattle.circ_lexer.specs.TokenList.{tokens_in, IsWithin};
-ghost use Rattle.circ_theory.specs.Operators.{is_hole_piece};
+ghost use Rattle.circ_form.specs.Form.{is_hole_piece};
 ghost use Rattle.circ_statement.specs.Attributes.{begins_with_hole, ends_with_hole, is_between};
 ghost use Rattle.circ_statement.specs.Attributes.{precedence_of, side_of, is_fitting};
 ghost use Rattle.circ_statement.specs.Statement.{forms_of};
@@ -10,8 +10,9 @@ ghost use Rattle.circ_statement.specs.Reading.{GivesForm, GivesSpelling, GivesSp
 use crate::attributes::{Attributes, is_neither};
 use crate::places::{first_of, joined};
 use crate::{Spelling, StatementFault, USUAL_PRECEDENCE};
+use circ_form::{Form, FormFault, Piece};
 use circ_lexer::{Span, Tokens};
-use circ_theory::{Form, FormFault, Piece, Side};
+use circ_theory::Side;
 use std::alloc::Global;
 
 fn is_hole(piece: &Piece) -> bool

@@ -1,6 +1,7 @@
 //! What a statement of a theory text says.
+use circ_form::Form;
 use circ_lexer::Span;
-use circ_theory::{Form, Side};
+use circ_theory::Side;
 
 /// A form with the precedence and the side that its statement gives it.
 #[derive(Drop)]
@@ -11,6 +12,15 @@ pub struct Spelling {
     pub prec: u8,
     /// The side to which it groups.
     pub side: Side,
+}
+
+/// The two sides of an equals sign.
+#[derive(Clone, Copy)]
+pub struct Sides {
+    /// The tokens before it.
+    pub left: Span,
+    /// The tokens behind it.
+    pub right: Span,
 }
 
 /// A statement. Places and spans count tokens from 0.
@@ -38,10 +48,11 @@ pub enum Statement {
         names: Span,
         sort: usize,
     },
-    /// An equation between two terms. One that is not `exec` is no rewrite rule.
+    /// An equation between two terms, under conditions. One that is not `exec` is no rewrite rule.
     Equation {
         left: Span,
         right: Span,
+        conds: Vec<Sides>,
         exec: bool,
     },
     /// A derivative, a term with a hole.

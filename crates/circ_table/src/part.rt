@@ -1,6 +1,6 @@
 //! The parts of a proof.
 use crate::table::Table;
-use circ_proof::{Link, Step};
+use circ_proof::{GoalNames, Link, Step};
 use circ_special::Gamma;
 use circ_theory::Goal;
 
@@ -19,7 +19,7 @@ pub enum Part {
     /// The goals of a block, and the numbers of their sides in the table.
     Goals {
         goals: Vec<Goal>,
-        names: Vec<(u32, u32)>,
+        names: Vec<GoalNames>,
     },
     /// A step of a block.
     Step {

@@ -1,4 +1,5 @@
 pub mod Tree
+pub mod Fingerprint
 pub mod Code
 pub mod Limits
 pub mod Substitution

@@ -6,6 +6,7 @@ ghost use Rattle.std.specs.Option.{option_copied};
 ghost use Rattle.circ_term.specs.Tree.{Var, App, trees_of, args_of, at, replaced};
 ghost use Rattle.circ_term.specs.Tree.{size_of, depth_of, sort_of, is_ground};
 ghost use Rattle.circ_term.specs.Tree.{variable_number, operator_number};
+ghost use Rattle.circ_term.specs.Fingerprint.{mixed, fingerprint_of};
 ghost use Rattle.circ_term.specs.Kind.{tree_of_kind};
 ghost use Rattle.circ_term.specs.Order.{tree_cmp, trees_cmp};
 ghost use Rattle.circ_term.specs.Limits.{Builds, BuildsSome, IsWithinLimits};
@@ -16,6 +17,11 @@ use std::alloc::{AllocError, Global};
 use std::cmp::Ordering;
 use std::marker::Model;
 use std::rc::Rc;
+
+// What fingerprints begin with.
+const VARIABLE: u32 = 1;
+
+const APPLICATION: u32 = 2;
 
 /// A variable, or an operator on terms. Two variables are the same where number and sort are equal.
 #[cycle(term)]
@@ -31,8 +37,8 @@ enum Shape {
     Application(Rc<Node>),
 }
 
-// An application, with its size, its depth and whether it has no variable, so that nothing is
-// counted twice.
+// An application, with its size, its depth, whether it has no variable and its fingerprint, so that
+// nothing is counted twice.
 #[cycle(term)]
 #[derive(Drop)]
 struct Node {
@@ -41,6 +47,7 @@ struct Node {
     size: u64,
     depth: u64,
     is_ground: bool,
+    fingerprint: u32,
     args: Vec<Term>,
 }
 
@@ -100,10 +107,12 @@ impl Term {
         let mut size: u64 = 1;
         let mut depth: u64 = 0;
         let mut is_ground = true;
+        let mut fingerprint = first_mixed(APPLICATION, op, sort);
         for arg in &args {
             size += arg.size();
             depth = depth.max(arg.depth());
             is_ground &= arg.is_ground();
+            fingerprint = mixed(fingerprint, arg.fingerprint());
         }
         let depth = depth + 1;
         if size > MOST_NODES {
@@ -118,6 +127,7 @@ impl Term {
             size,
             depth,
             is_ground,
+            fingerprint,
             args,
         };
         let node = Rc::new(alloc, node).map_err(AllocError::from)?;
@@ -191,6 +201,16 @@ impl Term {
         match &self.shape {
             Shape::Variable { .. } => false,
             Shape::Application(node) => node.is_ground,
+        }
+    }
+
+    /// A number by which most different terms differ at once: equal terms have equal ones.
+    pub fn fingerprint(&self) -> u32
+        ensures { result ≡ fingerprint_of self.now }
+    {
+        match &self.shape {
+            Shape::Variable { number, sort } => first_mixed(VARIABLE, *number, *sort),
+            Shape::Application(node) => node.fingerprint,
         }
     }
 
@@ -276,7 +296,7 @@ impl Term {
     pub fn same(&self, other: &Term) -> bool
         ensures { IsTrue result ↔ (self.now ≡ other.now) }
     {
-        if self.size() != other.size() || self.depth() != other.depth() {
+        if self.fingerprint() != other.fingerprint() {
             return false;
         }
         match (self.kind(), other.kind()) {
@@ -362,6 +382,21 @@ impl Term {
             Ok(Some(arg)) => rebuilt(alloc, node.op, node.sort, self.args(), place, arg),
         }
     }
+}
+
+// One more number goes into a fingerprint.
+fn mixed(fingerprint: u32, next: u32) -> u32
+    ensures { result ≡ mixed fingerprint next }
+{
+    let sum = fingerprint as u64 + next as u64 + 1;
+    (sum * 625_341_585 % 4_294_967_296) as u32
+}
+
+// The fingerprint of a variable, and of an application before its arguments.
+fn first_mixed(kind: u32, first: u32, second: u32) -> u32
+    ensures { result ≡ mixed (mixed kind first) second }
+{
+    mixed(mixed(kind, first), second)
 }
 
 // The operator on these arguments, with another one at a place.

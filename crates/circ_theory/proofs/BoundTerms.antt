@@ -12,8 +12,9 @@ use Rattle.std.proofs.lemmas.Cmp.{nat_cmp_total, then_total, on_total}
 use Rattle.std.proofs.lemmas.List.Folds.{list_any-append}
 use Rattle.circ_term.specs.Tree.{Tree, Trees, Var, App, none, more}
 use Rattle.circ_term.specs.Subst.{Bound, bound_cmp, found, substitution_of}
-use Rattle.circ_theory.specs.Theory.{Pair}
-use Rattle.circ_theory.specs.Variables.{Variable, is_variable, seen, seen_in, seen_in_all, variables_of, is_before, put_in_order, sorted}
+use Rattle.circ_theory.specs.declared.parts.Goal.{Goal}
+use Rattle.circ_theory.specs.Theory.{Pair, sides}
+use Rattle.circ_theory.specs.Variables.{Variable, is_variable, seen, seen_in, seen_in_all, seen_in_pairs, variables_of, is_before, put_in_order, sorted}
 
 -- ---- the order of variables
 
@@ -101,8 +102,12 @@ mutual
   apart_seen_in_all none vs a = a
   apart_seen_in_all (more t ts) vs a = apart_seen_in_all ts (seen_in t vs) (apart_seen_in t vs a)
 
-pub variables_apart : (p : Pair) → AreApart (variables_of p)
-variables_apart p = apart_seen_in p.right (seen_in p.left []) (apart_seen_in p.left [] tt)
+apart_seen_in_pairs : (ps : List Pair) (vs : List Variable) → AreApart vs → AreApart (seen_in_pairs ps vs)
+apart_seen_in_pairs [] vs a = a
+apart_seen_in_pairs (p ∷ ps) vs a = apart_seen_in_pairs ps _ (apart_seen_in p.right _ (apart_seen_in p.left vs a))
+
+pub variables_apart : (g : Goal) → AreApart (variables_of g)
+variables_apart g = apart_seen_in_pairs (sides g ∷ g.conds) [] tt
 
 -- ---- a list of variables and of what they are given, in order
 

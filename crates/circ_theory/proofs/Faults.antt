@@ -10,7 +10,7 @@ use Rattle.std.proofs.lemmas.Grind.{common_steps}
 use Rattle.circ_theory.specs.declared.fault.TheoryFault.{TheoryFault}
 use Rattle.circ_theory.specs.declared.fault.TheoryFault.TheVariants.{Twice, UnknownSort, IllSorted, Limit}
 use Rattle.circ_theory.specs.Limits.{argument_limit, operator_limit, variable_limit}
-use Rattle.circ_theory.specs.Form.{IsForm}
+use Rattle.circ_form.specs.Form.{IsForm}
 use Rattle.circ_theory.specs.Signature.{Signature, Operator, IsSort}
 use Rattle.circ_theory.specs.Theory.{Theory}
 use Rattle.circ_theory.specs.Operators.{form_fits, has_mark, is_binary, is_ill_sorted, IsOperator}

@@ -4,15 +4,13 @@ use Rattle.std.specs.List.{list_any}
 use Rattle.std.proofs.lemmas.List.{length-map, map-append}
 use Rattle.indexmap.specs.IndexSet.{insert_key}
 use Rattle.circ_term.specs.Tree.{Tree}
-use Rattle.circ_term.specs.Limits.{IsWithinLimits}
-use Rattle.circ_term.proofs.Limits.{within_limits}
 use Rattle.circ_term.proofs.Instances.{instance-same}
 use Rattle.circ_term.specs.Substitution.{Substitution, instance}
 use Rattle.circ_theory.specs.declared.renumber.Occurring.{Occurring}
-use Rattle.circ_theory.specs.Variables.{Variable, is_variable, seen, seen_in, variables_of}
-use Rattle.circ_theory.proofs.Numbering.{length-seen_in}
-use Rattle.circ_theory.specs.Theory.{Pair, pair_with, instance_pair}
-use Rattle.circ_theory.specs.Renumbering.{renumbering, renumbered, Renumbers}
+use Rattle.circ_theory.specs.Variables.{Variable, is_variable, seen, seen_in, seen_in_pairs, variables_of}
+use Rattle.circ_theory.specs.declared.parts.Goal.{Goal}
+use Rattle.circ_theory.specs.Theory.{Pair, goal, pair_with, instance_pair}
+use Rattle.circ_theory.specs.Renumbering.{renumbering, renumbered, instance_goal, Renumbers}
 use Rattle.circ_theory.specs.Occurring.{variable_of}
 use Rattle.circ_theory.proofs.Lists.{list_any-map}
 
@@ -27,19 +25,23 @@ inserted ks k = go (list_any (λ b. (k.number == b.number) && (k.sort == b.sort)
     go true = refl
     go false = map-append variable_of ks (k ∷ [])
 
--- two terms have so few variables
-pub few_variables : (s t : Tree) (ks : List Occurring) → IsWithinLimits s → IsWithinLimits t → map variable_of ks ≡ seen_in t (seen_in s []) → length ks ≤ 4294967296
-few_variables s t ks a b e =
-    omega (arith, length-map ks variable_of, ap length e, length-seen_in t (seen_in s []), length-seen_in s [], (within_limits s a).0, (within_limits t b).0)
+-- the goal's variables
+pub goal_seen : (g : Goal) (new both shown : List Occurring) → new ≡ []
+    → map variable_of both ≡ seen_in_pairs g.conds (seen_in g.right (seen_in g.left (map variable_of new))) → shown ≡ both
+    → map variable_of shown ≡ variables_of g
+goal_seen g new both shown a b c = ap (map variable_of) c ∙ b ∙ ap (λ ks. seen_in_pairs g.conds (seen_in g.right (seen_in g.left (map variable_of ks)))) a
 
--- the variables of the first term, then of the second
-pub both_seen : (s t : Tree) (new both shown : List Occurring) → new ≡ [] → map variable_of both ≡ seen_in t (seen_in s (map variable_of new)) → shown ≡ both
-    → map variable_of shown ≡ variables_of (pair_with s t)
-both_seen s t new both shown a b c = ap (map variable_of) c ∙ b ∙ ap (λ ks. seen_in t (seen_in s (map variable_of ks))) a
+pub few_occurring : (ks : List Occurring) (vs : List Variable) → map variable_of ks ≡ vs → length vs ≤ 4294967296 → length ks ≤ 4294967296
+few_occurring ks vs e few = omega (arith, length-map ks variable_of, ap length e)
 
--- the pair under what numbers its variables anew
-pub numbered_anew : (p q : Pair) (σ : Substitution) → Renumbers σ (variables_of p) → q ≡ instance_pair σ p → q ≡ renumbered p
-numbered_anew p q σ n e =
-    let whole = variables_of p in
-    let same : (u : Tree) → instance σ u ≡ instance (renumbering 0 whole) u = λ u. instance-same σ (renumbering 0 whole) u n in
-    e ∙ ap (λ x. pair_with x (instance σ p.right)) (same p.left) ∙ ap (pair_with (instance (renumbering 0 whole) p.left)) (same p.right)
+-- the goal under what numbers its variables anew
+pub numbered_anew : (g h : Goal) (σ : Substitution) → Renumbers σ (variables_of g) → h ≡ instance_goal σ g → h ≡ renumbered g
+numbered_anew g h σ n e =
+    let whole = variables_of g in
+    let τ : Substitution = renumbering 0 whole in
+    let same : (u : Tree) → instance σ u ≡ instance τ u = λ u. instance-same σ τ u n in
+    e ∙ (λ i. goal (map-same (instance_pair σ) (instance_pair τ) (λ p j. pair_with (same p.left j) (same p.right j)) g.conds i) (same g.left i) (same g.right i))
+  where
+    map-same : (f k : Pair → Pair) → ((p : Pair) → f p ≡ k p) → (ps : List Pair) → map f ps ≡ map k ps
+    map-same f k s [] = refl
+    map-same f k s (p ∷ ps) = λ i. s p i ∷ map-same f k s ps i

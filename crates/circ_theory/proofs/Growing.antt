@@ -2,11 +2,12 @@
 use Rattle.std.proofs.Common.{◌≡◌, ◌<◌, ◌≤◌, ◌+◌, ℕ, List, [], ◌∷◌, ◌++◌, length, Some, ◌⊎◌, inl, inr, refl, subst, arith}
 use Rattle.std.specs.List.{slice_get, Contains}
 use Rattle.std.proofs.lemmas.List.Elements.{Contains-push_cases}
-use Rattle.circ_term.specs.Tree.{Tree, Trees, Var, App, none, more}
+use Rattle.circ_term.specs.Tree.{Tree, Trees, Var, App, none, more, sort_of}
 use Rattle.circ_theory.specs.declared.parts.Equation.{Equation}
-use Rattle.circ_theory.specs.Limits.{sort_limit, variable_limit, operator_limit, equation_limit}
+use Rattle.circ_theory.specs.declared.parts.Goal.{Goal}
+use Rattle.circ_theory.specs.Limits.{sort_limit, variable_limit, operator_limit, equation_limit, condition_limit}
 use Rattle.circ_theory.specs.Signature.{Signature, Operator, IsSort, IsWellSorted, HaveSorts}
-use Rattle.circ_theory.specs.Theory.{Theory, Declared, Derivative, CaseList, IsWellSortedPair, pair_of}
+use Rattle.circ_theory.specs.Theory.{Theory, Pair, Declared, Derivative, CaseList, IsHidden, IsWellSortedPair, IsWellSortedGoal, goal_of, sides}
 use Rattle.circ_theory.specs.Variables.{IsInOrder}
 use Rattle.circ_theory.specs.Operators.{IsOperator}
 use Rattle.circ_theory.specs.WellFormed.{IsDerivative, IsCaseList, IsWellFormed}
@@ -29,8 +30,25 @@ mutual
   keep_sorts a b e (more t ts) [] h = h
   keep_sorts a b e (more t ts) (s ∷ ss) h = (h.0, stays_sorted a b e t h.1, keep_sorts a b e ts ss h.2)
 
-pair_stays : (a b : Signature) → Extends a b → (e : Equation) → IsWellSortedPair a (pair_of e) → IsWellSortedPair b (pair_of e)
-pair_stays a b x e h = record { left = stays_sorted a b x e.left h.left; right = stays_sorted a b x e.right h.right; same_sort = h.same_sort }
+pair_stays : (a b : Signature) → Extends a b → (p : Pair) → IsWellSortedPair a p → IsWellSortedPair b p
+pair_stays a b x p h = record { left = stays_sorted a b x p.left h.left; right = stays_sorted a b x p.right h.right; same_sort = h.same_sort }
+
+-- what is hidden in u is so in th
+abbrev pub HidesNoMore : Theory → Theory → Type 0
+HidesNoMore th u = (s : ℕ) → IsHidden u s → IsHidden th s
+
+pub same_hidden : (th u : Theory) → u.derivatives ≡ th.derivatives → HidesNoMore th u
+same_hidden th u e s i =
+    record { derivative = i.derivative; listed = (let P : List Derivative → Type 0 = λ ds. Contains ds i.derivative in subst P e i.listed); hole = i.hole }
+
+pub goal_stays : (th u : Theory) → Extends th.signature u.signature → HidesNoMore th u → (g : Goal) → IsWellSortedGoal th g → IsWellSortedGoal u g
+goal_stays th u x v g h = record {
+  sorted = pair_stays th.signature u.signature x (sides g) h.sorted;
+  conds = λ p c. record {
+    sorted = pair_stays th.signature u.signature x p (h.conds p c).sorted;
+    visible = λ i. (h.conds p c).visible (v (sort_of p.left) i);
+  };
+}
 
 operator_stays : (a b : Signature) → Extends a b → (o : Operator) → IsOperator a o → IsOperator b o
 operator_stays a b x o h = record { is_form = h.is_form; args = λ s c. x.sorts s (h.args s c); result = x.sorts o.result h.result; few = h.few; fits = h.fits; marked = h.marked }
@@ -47,7 +65,7 @@ derivative_stays a b x d h = record {
 pub case_list_stays : (th u : Theory) → Extends th.signature u.signature → u.derivatives ≡ th.derivatives → (l : CaseList) → IsCaseList th l → IsCaseList u l
 case_list_stays th u x e l h = record {
   sort = x.sorts l.sort h.sort;
-  visible = λ i. h.visible (record { derivative = i.derivative; listed = (let P : List Derivative → Type 0 = λ ds. Contains ds i.derivative in subst P e i.listed); hole = i.hole });
+  visible = λ i. h.visible (same_hidden th u e l.sort i);
   some = h.some;
   different = h.different;
   constants = λ c k. let o = h.constants c k in (o.0, (x.ops c o.0 o.1.0, o.1.1, o.1.2));
@@ -64,8 +82,9 @@ sort_grows th name h room =
     let l = length-push th.signature.sorts name in
     let x : Extends th.signature b = record { sorts = λ s i. omega arith; ops = λ f o g. g } in
     record {
-      equations = λ e c. pair_stays th.signature b x e (h.equations e c);
+      equations = λ e c. goal_stays th (with_sort th name) x (same_hidden th (with_sort th name) refl) (goal_of e) (h.equations e c);
       in_order = h.in_order;
+      few_conds = h.few_conds;
       variables = λ d c. x.sorts d.sort (h.variables d c);
       operators = λ o c. operator_stays th.signature b x o (h.operators o c);
       derivatives = λ d c. derivative_stays th.signature b x d (h.derivatives d c);
@@ -83,8 +102,9 @@ pub vars_change : (th : Theory) (ds : List Declared) → IsWellFormed th → ((d
     → length ds ≤ variable_limit
     → IsWellFormed (record th { variables = ds })
 vars_change th ds h sorts few = record {
-  equations = h.equations;
+  equations = λ e c. goal_stays th (record th { variables = ds }) (record { sorts = λ s i. i; ops = λ f o g. g }) (same_hidden th (record th { variables = ds }) refl) (goal_of e) (h.equations e c);
   in_order = h.in_order;
+  few_conds = h.few_conds;
   variables = sorts;
   operators = h.operators;
   derivatives = h.derivatives;
@@ -114,8 +134,9 @@ op_grows th o h new room =
     let l = length-push th.signature.ops o in
     let x : Extends th.signature b = record { sorts = λ s i. i; ops = λ f p g. slice_get-front th.signature.ops (o ∷ []) f p g } in
     record {
-      equations = λ e c. pair_stays th.signature b x e (h.equations e c);
+      equations = λ e c. goal_stays th (with_op th o) x (same_hidden th (with_op th o) refl) (goal_of e) (h.equations e c);
       in_order = h.in_order;
+      few_conds = h.few_conds;
       variables = h.variables;
       operators = λ p c. either x p (Contains-push_cases th.signature.ops o p c);
       derivatives = λ d c. derivative_stays th.signature b x d (h.derivatives d c);
@@ -132,18 +153,21 @@ op_grows th o h new room =
     either x p (inl c) = operator_stays th.signature (with_op th o).signature x p (h.operators p c)
     either x p (inr e) = let P : Operator → Type 0 = IsOperator (with_op th o).signature in subst P e (operator_stays th.signature (with_op th o).signature x o new)
 
-pub equation_grows : (th : Theory) (e : Equation) → IsWellFormed th → IsWellSortedPair th.signature (pair_of e) → IsInOrder (pair_of e)
-    → length th.equations < equation_limit
+pub equation_grows : (th : Theory) (e : Equation) → IsWellFormed th → IsWellSortedGoal th (goal_of e) → IsInOrder (goal_of e)
+    → length e.conds ≤ condition_limit → length th.equations < equation_limit
     → IsWellFormed (with_equation th e)
-equation_grows th e h sorted order room =
+equation_grows th e h sorted order few room =
     let l = length-push th.equations e in
+    let x : Extends th.signature th.signature = record { sorts = λ s i. i; ops = λ f p g. g } in
+    let same = same_hidden th (with_equation th e) refl in
     record {
-      equations = λ d c. either d (Contains-push_cases th.equations e d c);
+      equations = λ d c. goal_stays th (with_equation th e) x same (goal_of d) (either d (Contains-push_cases th.equations e d c));
       in_order = λ d c. ordered d (Contains-push_cases th.equations e d c);
+      few_conds = λ d c. short d (Contains-push_cases th.equations e d c);
       variables = h.variables;
       operators = h.operators;
       derivatives = h.derivatives;
-      cases = λ m c. case_list_stays th (with_equation th e) (record { sorts = λ s i. i; ops = λ f p g. g }) refl m (h.cases m c);
+      cases = λ m c. case_list_stays th (with_equation th e) x refl m (h.cases m c);
       one_list = h.one_list;
       few_sorts = h.few_sorts;
       few_variables = h.few_variables;
@@ -152,10 +176,14 @@ equation_grows th e h sorted order room =
       few_derivatives = h.few_derivatives;
     }
   where
-    either : (d : Equation) → Contains th.equations d ⊎ (e ≡ d) → IsWellSortedPair th.signature (pair_of d)
+    either : (d : Equation) → Contains th.equations d ⊎ (e ≡ d) → IsWellSortedGoal th (goal_of d)
     either d (inl c) = h.equations d c
-    either d (inr q) = let P : Equation → Type 0 = λ x. IsWellSortedPair th.signature (pair_of x) in subst P q sorted
+    either d (inr q) = let P : Equation → Type 0 = λ x. IsWellSortedGoal th (goal_of x) in subst P q sorted
 
-    ordered : (d : Equation) → Contains th.equations d ⊎ (e ≡ d) → IsInOrder (pair_of d)
+    ordered : (d : Equation) → Contains th.equations d ⊎ (e ≡ d) → IsInOrder (goal_of d)
     ordered d (inl c) = h.in_order d c
-    ordered d (inr q) = let P : Equation → Type 0 = λ x. IsInOrder (pair_of x) in subst P q order
+    ordered d (inr q) = let P : Equation → Type 0 = λ x. IsInOrder (goal_of x) in subst P q order
+
+    short : (d : Equation) → Contains th.equations d ⊎ (e ≡ d) → length d.conds ≤ condition_limit
+    short d (inl c) = h.few_conds d c
+    short d (inr q) = let P : Equation → Type 0 = λ x. length x.conds ≤ condition_limit in subst P q few

@@ -53,8 +53,10 @@ mutual
   derivable_instance th τ w (by_operator {ss = ss} {ts = ts} f k a b ds) =
       by_operator f k (instance_well_sorted th.signature τ (App f k ss) w a) (instance_well_sorted th.signature τ (App f k ts) w b)
       (derivable_instances th τ w ds)
-  derivable_instance th τ w (by_equation {H = H} e σ c s) =
-      rw (instance-instance τ σ e.left, instance-instance τ σ e.right) (by_equation e (composed τ σ) c (composed_substitution th.signature τ σ w s))
+  derivable_instance th τ w (by_equation {H = H} e σ c s d) =
+      rw (instance-instance τ σ e.left, instance-instance τ σ e.right)
+      (by_equation e (composed τ σ) c (composed_substitution th.signature τ σ w s)
+      (λ p k. rw (instance-instance τ σ p.left, instance-instance τ σ p.right) at (derivable_instance th τ w (d p k))))
   derivable_instance th τ w (by_premise {H = H} p c s) = by_premise (instance_pair τ p) (contains_instance τ H p c) (pair_instance th.signature τ p w s)
   derivable_instance th τ w (by_cases u l c a b f) =
       by_cases (instance τ u) l c (instance_well_sorted th.signature τ u w a) (sort_of-instance_by th.signature τ u w a ∙ b)

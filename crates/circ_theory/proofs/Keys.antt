@@ -4,13 +4,14 @@ use Rattle.std.specs.Bool.{Decides}
 use Rattle.std.specs.List.{AllByRecursion, position}
 use Rattle.std.specs.Cmp.Lexicographic.{pointwise, pointwise_decides, bytes_decides}
 use Rattle.std.proofs.lemmas.Bool.Decides.{same_from_decides}
-use Rattle.circ_theory.specs.declared.forms.Piece.{Piece}
-use Rattle.circ_theory.specs.declared.forms.Piece.TheVariants.{Hole, Word}
+use Rattle.circ_form.specs.declared.forms.Piece.{Piece}
+use Rattle.circ_form.specs.declared.forms.Piece.TheVariants.{Hole, Word}
 use Rattle.circ_theory.specs.declared.parts.OpDecl.{OpDecl}
 use Rattle.circ_theory.specs.declared.theories.OpKey.{OpKey}
-use Rattle.circ_theory.specs.Form.{pieces_of, text_of}
+use Rattle.circ_form.specs.Form.{pieces_of, text_of}
 use Rattle.circ_theory.specs.Signature.{Operator}
-use Rattle.circ_theory.specs.Operators.{operator_of, is_same_piece, is_same_operator}
+use Rattle.circ_form.specs.Form.{is_same_piece}
+use Rattle.circ_theory.specs.Operators.{operator_of, is_same_operator}
 use Rattle.circ_theory.specs.Inside.{IsKeyOf, IsEntry}
 use Rattle.circ_theory.proofs.Lists.{position-map, position-same}
 

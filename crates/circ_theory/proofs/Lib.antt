@@ -7,7 +7,6 @@ pub mod Behaviour
 pub mod Numbering
 pub mod Renumbering
 pub mod Rewriting
-pub mod Cutting
 pub mod Lists
 pub mod Growing
 pub mod Keys
@@ -22,5 +21,6 @@ pub mod Casing
 pub mod Noting
 pub mod Linear
 pub mod Observers
+pub mod Conditions
 pub mod Ground
 pub mod Derived

@@ -1,15 +1,15 @@
 -- Variables that are numbered in order, by their sorts alone.
 use Rattle.std.proofs.Common.{◌≡◌, ◌≢◌, ◌≤◌, ◌↔◌, ℕ, ◌+◌, zero, suc, List, [], ◌∷◌, ◌++◌, map, length, Bool, true, false, ◌==◌, ◌&&◌, ◌||◌, nat_lt}
 use Rattle.std.proofs.Common.{if◌then◌else◌, Some, IsTrue, refl, ap, sym, subst, ◌∙◌, arith, length-append}
-use Rattle.std.proofs.lemmas.List.{length-map}
 use Rattle.std.specs.List.{list_any, slice_get}
 use Rattle.std.specs.Bool.{OnTrue}
 use Rattle.std.proofs.lemmas.Bool.{eqb-true, eqb-false, eq-eqb, and_parts}
 use Rattle.std.proofs.lemmas.Option.{same_Some, slice_get_within}
 use Rattle.std.proofs.lemmas.Grind.{common_steps}
 use Rattle.circ_term.specs.Tree.{Tree, Trees, Var, App, none, more, size_of, sizes_of}
+use Rattle.circ_theory.specs.declared.parts.Goal.{Goal}
 use Rattle.circ_theory.specs.Theory.{Pair}
-use Rattle.circ_theory.specs.Variables.{Variable, is_variable, seen, seen_in, seen_in_all, AreNumberedFrom, IsInOrder, variables_of, sorts_of}
+use Rattle.circ_theory.specs.Variables.{Variable, is_variable, seen, seen_in, seen_in_all, seen_in_pairs, AreNumberedFrom, IsInOrder, variables_of, sorts_of}
 use Rattle.circ_theory.specs.Variables.{numbered, is_before, put_in_order, sorted}
 
 pub numbered_are : (k : ℕ) (ss : List ℕ) → AreNumberedFrom k (numbered k ss)
@@ -43,8 +43,8 @@ sorted_in_order k (v ∷ w ∷ ws) h =
     ap (put_in_order v) (sorted_in_order (k + 1) (w ∷ ws) h.1)
     ∙ ap (λ b. if b then w ∷ put_in_order v ws else v ∷ w ∷ ws) (not_before k v w h.0 h.1.0)
 
--- the variables of a pair in order, sorted, are those of its sorts
-pub numbered-sorts_of : (p : Pair) → IsInOrder p → numbered 0 (sorts_of p) ≡ sorted (variables_of p)
+-- the variables of a goal in order, sorted, are those of its sorts
+pub numbered-sorts_of : (p : Goal) → IsInOrder p → numbered 0 (sorts_of p) ≡ sorted (variables_of p)
 numbered-sorts_of p h = numbered-sorts 0 (variables_of p) h ∙ sym (sorted_in_order 0 (variables_of p) h)
 
 pub numbered-push : (k : ℕ) (ss : List ℕ) (s : ℕ) → numbered k (ss ++ s ∷ []) ≡ numbered k ss ++ record { number = k + length ss; sort = s } ∷ []
@@ -158,8 +158,9 @@ mutual
   length-seen_in_all none vs = omega arith
   length-seen_in_all (more t ts) vs = omega (arith, length-seen_in_all ts (seen_in t vs), length-seen_in t vs)
 
-pub length-sorts_of : (p : Pair) → length (sorts_of p) ≤ size_of p.left + size_of p.right
-length-sorts_of p = omega (arith, length-map (variables_of p) (λ v. v.sort), length-seen_in p.right (seen_in p.left []), length-seen_in p.left [])
+pub seen_in_pairs_before : (ps : List Pair) (vs : List Variable) → AreNumberedFrom 0 (seen_in_pairs ps vs) → AreNumberedFrom 0 vs
+seen_in_pairs_before [] vs h = h
+seen_in_pairs_before (p ∷ ps) vs h = seen_in_before p.left vs (seen_in_before p.right (seen_in p.left vs) (seen_in_pairs_before ps _ h))
 
 -- a variable whose number was seen is in order where its sort is the one that was seen
 pub record Checks (b : Bool) (n s : ℕ) (ss : List ℕ) : Type 0 where

@@ -1,5 +1,5 @@
 -- Theories with one derivative or case list more are well-formed.
-use Rattle.std.proofs.Common.{◌≡◌, ◌≤◌, ◌<◌, ℕ, Bool, true, false, ◌==◌, ◌||◌, not, nat_lt, nat_eq, if◌then◌else◌, List, [], ◌∷◌, ◌++◌, map, find}
+use Rattle.std.proofs.Common.{◌≡◌, ◌≤◌, ◌<◌, ℕ, zero, suc, Bool, true, false, ◌==◌, ◌||◌, not, nat_lt, nat_eq, if◌then◌else◌, List, [], ◌∷◌, ◌++◌, map, find}
 use Rattle.std.proofs.Common.{length, Option, Some, None, is_some, ◌⊎◌, inl, inr, refl, ap, sym, subst, ◌∙◌, arith}
 use Rattle.std.specs.List.{IsDistinct, Contains, list_any, slice_get}
 use Rattle.std.specs.Option.{option_map}
@@ -9,20 +9,21 @@ use Rattle.std.proofs.lemmas.List.Elements.{Contains-push_cases}
 use Rattle.std.proofs.lemmas.List.Folds.{list_any-append}
 use Rattle.std.proofs.lemmas.Map.Keys.{IsDistinct-push}
 use Rattle.std.specs.Cmp.{nat_eq_equiv}
-use Rattle.circ_term.specs.Tree.{Tree}
+use Rattle.circ_term.specs.Tree.{Tree, sort_of}
 use Rattle.circ_theory.specs.declared.fault.TheoryFault.{TheoryFault}
 use Rattle.circ_theory.specs.declared.fault.TheoryFault.TheVariants.{Twice, UnknownSort, IllSorted, NotLinear, NoConstant, NotVisible, NowHidden, Limit}
 use Rattle.circ_theory.specs.Limits.{derivative_limit, parameter_limit, constant_limit}
 use Rattle.circ_theory.specs.Signature.{Signature, Operator, IsWellSorted}
-use Rattle.circ_theory.specs.Theory.{Theory, Derivative, CaseList}
+use Rattle.circ_theory.specs.declared.parts.Equation.{Equation}
+use Rattle.circ_theory.specs.Theory.{Theory, Pair, Derivative, CaseList, IsVisible, goal_of}
 use Rattle.circ_theory.specs.Adding.{is_no_sort}
 use Rattle.circ_theory.specs.WellFormed.{IsDerivative, IsCaseList, IsWellFormed}
 use Rattle.circ_theory.specs.Observing.{holes_in, parameters_in, first_repeated, first_or_zero, derivative_of, AreParametersInOrder, cases_of}
 use Rattle.circ_theory.specs.Observing.{is_hidden, hole_fault, now_hidden, long_fault, derivative_fault, with_derivative, is_constant, twice_listed}
-use Rattle.circ_theory.specs.Observing.{no_constants, cases_fault, case_list, with_cases}
+use Rattle.circ_theory.specs.Observing.{no_constants, cases_fault, case_list, with_cases, has_condition_of, is_condition_sort}
 use Rattle.circ_theory.proofs.Lists.{map-push}
 use Rattle.circ_theory.proofs.Faults.{option_or_none, option_map_none, only_if, not_false, known_sort, find_none, room_left}
-use Rattle.circ_theory.proofs.Growing.{length-push, case_list_stays}
+use Rattle.circ_theory.proofs.Growing.{length-push, case_list_stays, goal_stays, same_hidden}
 use Rattle.circ_theory.proofs.Casing.{hidden_tells}
 use Rattle.circ_theory.proofs.Linear.{numbered_once, one_item, hole_sorted, distinct_by}
 
@@ -31,12 +32,18 @@ pub record IsNewDerivative (th : Theory) (t : Tree) : Type 0 where
   pub linear : first_repeated (parameters_in t) ≡ None
   pub one_hole : length (holes_in t) ≡ 1
   pub no_cases : cases_of th (first_or_zero (holes_in t)) ≡ None
+  pub no_condition : is_condition_sort th (first_or_zero (holes_in t)) ≡ false
   pub few : length (parameters_in t) ≤ parameter_limit
   pub room : length th.derivatives < derivative_limit
 
 no_list : (o : Option (List ℕ)) (f : TheoryFault) → (if is_some o then Some f else None) ≡ None → o ≡ None
 no_list None f e = refl
 no_list (Some x) f e = absurd (cc)
+
+neither : (o : Option (List ℕ)) (b : Bool) (f : TheoryFault) → (if is_some o || b then Some f else None) ≡ None → (o ≡ None) × (b ≡ false)
+neither None false f e = (refl, refl)
+neither None true f e = absurd (cc)
+neither (Some x) b f e = absurd (cc)
 
 one_hole_by : (n : ℕ) → hole_fault n ≡ None → n ≡ 1
 one_hole_by n e = go (n == 1) refl
@@ -45,7 +52,7 @@ one_hole_by n e = go (n == 1) refl
     go true f = eqb-true n 1 f
     go false f = absurd (let z = rw f at e in cc)
 
-short_by : (most n : ℕ) → long_fault most n ≡ None → n ≤ most
+pub short_by : (most n : ℕ) → long_fault most n ≡ None → n ≤ most
 short_by most n e = let few : nat_lt most n ≡ false = only_if (nat_lt most n) (Limit n) e in grind (arith, common_steps)
 
 pub new_derivative : (th : Theory) (t : Tree) → derivative_fault th t ≡ None → IsNewDerivative th t
@@ -54,10 +61,13 @@ new_derivative th t e =
     let b = option_or_none (hole_fault (length (holes_in t))) _ a.1 in
     let c = option_or_none (now_hidden th (first_or_zero (holes_in t))) _ b.1 in
     let d = option_or_none (long_fault parameter_limit (length (parameters_in t))) _ c.1 in
+    let hole : ℕ = first_or_zero (holes_in t) in
+    let visible = neither (cases_of th hole) (is_condition_sort th hole) (NowHidden hole) c.0 in
     record {
       linear = option_map_none NotLinear (first_repeated (parameters_in t)) a.0;
       one_hole = one_hole_by (length (holes_in t)) b.0;
-      no_cases = no_list (cases_of th (first_or_zero (holes_in t))) (NowHidden (first_or_zero (holes_in t))) c.0;
+      no_cases = visible.0;
+      no_condition = visible.1;
       few = short_by parameter_limit (length (parameters_in t)) d.0;
       room = room_left derivative_limit (length th.derivatives) d.1;
     }
@@ -69,13 +79,38 @@ no_case_list th s l e c same =
     let there : (s == l.sort) ≡ true = eq-eqb s l.sort (sym same) in
     absurd (let z = sym there ∙ none in cc)
 
+not_any : {X : Type 0} (p : X → Bool) (xs : List X) (x : X) → list_any p xs ≡ false → Contains xs x → p x ≡ false
+not_any p [] x e c = absurd (omega (arith, c.1))
+not_any p (y ∷ ys) x e c = go (p y) refl (λ f d. not_any p ys x f d) c
+  where
+    go : (b : Bool) → p y ≡ b → (list_any p ys ≡ false → Contains ys x → p x ≡ false) → Contains (y ∷ ys) x → p x ≡ false
+    go true f ih c = absurd (let z = rw f at e in cc)
+    go false f ih (zero, h, g) = ap p (sym g) ∙ f
+    go false f ih (suc k, h, g) = ih (rw f at e) (k, omega arith, g)
+
+-- a sort that is no condition's is that of none
+no_such_condition : (th : Theory) (s : ℕ) (e : Equation) (p : Pair) → is_condition_sort th s ≡ false → Contains th.equations e → Contains e.conds p
+    → sort_of p.left ≡ s → ⊥
+no_such_condition th s e p none c d same =
+    let others : has_condition_of s e.conds ≡ false = not_any (λ x. has_condition_of s x.conds) th.equations e none c in
+    let other : (s == sort_of p.left) ≡ false = not_any (λ x. s == sort_of x.left) e.conds p others d in
+    let there : (s == sort_of p.left) ≡ true = eq-eqb s (sort_of p.left) (sym same) in
+    absurd (let z = sym there ∙ other in cc)
+
 pub derivative_grows : (th : Theory) (t : Tree) → IsWellFormed th → IsWellSorted th.signature t → AreParametersInOrder t → IsNewDerivative th t
     → IsWellFormed (with_derivative th t)
 derivative_grows th t h sorted order new =
     let l = length-push th.derivatives (derivative_of t) in
     record {
-      equations = h.equations;
+      equations = λ e c. let g = h.equations e c in record {
+        sorted = g.sorted;
+        conds = λ p d. record {
+          sorted = (g.conds p d).sorted;
+          visible = λ i. shown e p c d (g.conds p d).visible (Contains-push_cases th.derivatives (derivative_of t) i.derivative i.listed) i.hole;
+        };
+      };
       in_order = h.in_order;
+      few_conds = h.few_conds;
       variables = h.variables;
       operators = h.operators;
       derivatives = λ d c. either d (Contains-push_cases th.derivatives (derivative_of t) d c);
@@ -107,6 +142,11 @@ derivative_grows th t h sorted order new =
     either : (d : Derivative) → Contains th.derivatives d ⊎ (derivative_of t ≡ d) → IsDerivative th.signature d
     either d (inl c) = h.derivatives d c
     either d (inr q) = let P : Derivative → Type 0 = IsDerivative th.signature in subst P q added
+
+    shown : (e : Equation) (p : Pair) → Contains th.equations e → Contains e.conds p → IsVisible th (sort_of p.left)
+        → {d : Derivative} → Contains th.derivatives d ⊎ (derivative_of t ≡ d) → d.hole ≡ sort_of p.left → ⊥
+    shown e p c k v {d} (inl l) q = v (record { derivative = d; listed = l; hole = q })
+    shown e p c k v {d} (inr l) q = no_such_condition th (first_or_zero (holes_in t)) e p new.no_condition c k (sym q ∙ sym (ap (λ d. d.hole) l))
 
     still : (m : CaseList) → Contains th.cases m → {d : Derivative} → Contains th.derivatives d ⊎ (derivative_of t ≡ d) → d.hole ≡ m.sort → ⊥
     still m c {d} (inl k) e = (h.cases m c).visible (record { derivative = d; listed = k; hole = e })
@@ -177,8 +217,9 @@ pub cases_grow : (th : Theory) (s : ℕ) (cs : List ℕ) → IsWellFormed th →
 cases_grow th s cs h new =
     let P : List ℕ → Type 0 = IsDistinct nat_eq in
     record {
-      equations = h.equations;
+      equations = λ e c. goal_stays th (with_cases th s cs) (record { sorts = λ s i. i; ops = λ f o g. g }) (same_hidden th (with_cases th s cs) refl) (goal_of e) (h.equations e c);
       in_order = h.in_order;
+      few_conds = h.few_conds;
       variables = h.variables;
       operators = h.operators;
       derivatives = h.derivatives;

@@ -1,14 +1,15 @@
--- A pair with its variables numbered anew is numbered in order.
+-- A goal with its variables numbered anew is numbered in order.
 use Rattle.std.proofs.Common.{◌≡◌, ℕ, suc, ◌+◌, List, [], ◌∷◌, ◌++◌, map, length, Bool, true, false, ◌==◌, if◌then◌else◌, Some, refl, ap, sym, subst}
 use Rattle.std.proofs.Common.{◌∙◌, arith, append_assoc, append-nil}
 use Rattle.std.proofs.lemmas.List.{length-map, map-append}
 use Rattle.std.specs.List.{list_any, slice_get}
 use Rattle.std.proofs.lemmas.Bool.{eqb-true, eq-eqb, and_parts}
 use Rattle.circ_term.specs.Tree.{Tree, Trees, Var, App, none, more, sort_of}
-use Rattle.circ_term.specs.Substitution.{instance, instances}
+use Rattle.circ_term.specs.Substitution.{Substitution, instance, instances}
 use Rattle.circ_theory.specs.Signature.{Signature, IsWellSorted, IsSubstitution}
-use Rattle.circ_theory.specs.Theory.{Pair, IsWellSortedPair}
-use Rattle.circ_theory.specs.Variables.{Variable, is_variable, seen, seen_in, seen_in_all, variables_of, numbered, IsInOrder, AreNumberedFrom}
+use Rattle.circ_theory.specs.declared.parts.Goal.{Goal}
+use Rattle.circ_theory.specs.Theory.{Pair, sides, instance_pair, IsWellSortedPair}
+use Rattle.circ_theory.specs.Variables.{Variable, is_variable, seen, seen_in, seen_in_all, seen_in_pairs, variables_of, numbered, IsInOrder, AreNumberedFrom}
 use Rattle.circ_theory.specs.Renumbering.{renumbering, renumbered}
 use Rattle.circ_theory.proofs.Numbering.{numbered_are, seen_there, seen_next}
 use Rattle.circ_theory.proofs.Instances.{pair_instance}
@@ -25,8 +26,8 @@ renumbering_sorted sig k (v ∷ vs) n s l = go (renumbering_sorted sig (k + 1) v
     go rest true = (refl, l)
     go rest false = rest
 
-pub renumbered_sorted : (sig : Signature) (p : Pair) → IsWellSortedPair sig p → IsWellSortedPair sig (renumbered p)
-renumbered_sorted sig p h = pair_instance sig (renumbering 0 (variables_of p)) p (renumbering_sorted sig 0 (variables_of p)) h
+pub renumbered_sorted : (sig : Signature) (g : Goal) → IsWellSortedPair sig (sides g) → IsWellSortedPair sig (sides (renumbered g))
+renumbered_sorted sig g h = pair_instance sig (renumbering 0 (variables_of g)) (sides g) (renumbering_sorted sig 0 (variables_of g)) h
 
 -- a variable that was seen is given its place
 pub record Placed (k n s : ℕ) (vs rest : List Variable) : Type 0 where
@@ -127,15 +128,38 @@ mutual
       (ap (λ us. seen_in (instance (renumbering 0 us) t) (numbered 0 (sorts_in vs))) whole ∙ term_in_order t vs (b.0 ++ rest))
       ∙ terms_in_order ts (seen_in t vs) rest
 
-pub renumbered_in_order : (p : Pair) → IsInOrder (renumbered p)
-renumbered_in_order p =
-    let l = seen_in p.left [] in
+pairs_seen_more : (ps : List Pair) (vs : List Variable) → (ws : List Variable) × (seen_in_pairs ps vs ≡ vs ++ ws)
+pairs_seen_more [] vs = ([], sym (append-nil vs))
+pairs_seen_more (p ∷ ps) vs =
+    let a = seen_more p.left vs in
+    let b = seen_more p.right (seen_in p.left vs) in
+    let c = pairs_seen_more ps (seen_in p.right (seen_in p.left vs)) in (
+      a.0 ++ (b.0 ++ c.0),
+      c.1 ∙ ap (λ us. us ++ c.0) (b.1 ∙ ap (λ us. us ++ b.0) a.1 ∙ append_assoc vs a.0 b.0) ∙ append_assoc vs (a.0 ++ b.0) c.0 ∙ ap (λ us. vs ++ us) (append_assoc a.0 b.0 c.0),
+    )
+
+-- a term whose variables are in front of the longer list
+one_in_order : (t : Tree) (vs whole : List Variable) (ws : List Variable) → whole ≡ seen_in t vs ++ ws
+    → seen_in (instance (renumbering 0 whole) t) (numbered 0 (sorts_in vs)) ≡ numbered 0 (sorts_in (seen_in t vs))
+one_in_order t vs whole ws e = ap (λ us. seen_in (instance (renumbering 0 us) t) (numbered 0 (sorts_in vs))) e ∙ term_in_order t vs ws
+
+pairs_in_order : (ps : List Pair) (vs whole : List Variable) → whole ≡ seen_in_pairs ps vs
+    → seen_in_pairs (map (instance_pair (renumbering 0 whole)) ps) (numbered 0 (sorts_in vs)) ≡ numbered 0 (sorts_in (seen_in_pairs ps vs))
+pairs_in_order [] vs whole e = refl
+pairs_in_order (p ∷ ps) vs whole e =
+    let σ : Substitution = renumbering 0 whole in
+    let l = seen_in p.left vs in
+    let r = seen_in p.right l in
     let b = seen_more p.right l in
-    let W = seen_in p.right l in
-    let nil : W ++ [] ≡ W = append-nil W in
-    let left : seen_in (instance (renumbering 0 W) p.left) [] ≡ numbered 0 (sorts_in l) =
-    ap (λ us. seen_in (instance (renumbering 0 us) p.left) []) b.1 ∙ term_in_order p.left [] b.0 in
-    let both : seen_in (instance (renumbering 0 W) p.right) (numbered 0 (sorts_in l)) ≡ numbered 0 (sorts_in W) =
-    ap (λ us. seen_in (instance (renumbering 0 us) p.right) (numbered 0 (sorts_in l))) (sym nil) ∙ term_in_order p.right l [] in
+    let c = pairs_seen_more ps r in
+    let left : whole ≡ l ++ (b.0 ++ c.0) = e ∙ c.1 ∙ ap (λ us. us ++ c.0) b.1 ∙ append_assoc l b.0 c.0 in
+    let right : whole ≡ r ++ c.0 = e ∙ c.1 in
+    ap (λ us. seen_in_pairs (map (instance_pair σ) ps) (seen_in (instance σ p.right) us)) (one_in_order p.left vs whole (b.0 ++ c.0) left)
+    ∙ ap (seen_in_pairs (map (instance_pair σ) ps)) (one_in_order p.right l whole c.0 right)
+    ∙ pairs_in_order ps r whole e
+
+pub renumbered_in_order : (g : Goal) → IsInOrder (renumbered g)
+renumbered_in_order g =
+    let W = variables_of g in
     let P : List Variable → Type 0 = AreNumberedFrom 0 in
-    subst P (sym (ap (seen_in (instance (renumbering 0 W) p.right)) left ∙ both)) (numbered_are 0 (sorts_in W))
+    subst P (sym (pairs_in_order (sides g ∷ g.conds) [] W refl)) (numbered_are 0 (sorts_in W))

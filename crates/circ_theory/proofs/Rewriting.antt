@@ -1,14 +1,15 @@
 -- Rewriting by an equation leads to a derivable term.
 use Rattle.std.proofs.Common.{◌≡◌, ◌<◌, ℕ, zero, suc, Bool, true, false, ◌==◌, ◌&&◌, if◌then◌else◌, List, [], ◌∷◌, length, get_or, Some}
-use Rattle.std.proofs.Common.{unwrap_or, refl, ap, sym, ◌∙◌, arith}
+use Rattle.std.proofs.Common.{unwrap_or, refl, ap, sym, subst, ◌∙◌, arith}
 use Rattle.std.specs.List.{slice_get, AllByRecursion, Contains}
 use Rattle.std.specs.Option.{option_map}
 use Rattle.std.proofs.lemmas.Bool.{eqb-true, and_parts}
 use Rattle.std.proofs.lemmas.Option.{same_Some, slice_get_within, slice_get_read, get_or_from_slice_get}
-use Rattle.circ_term.specs.Tree.{Tree, Var, sort_of, replaced}
+use Rattle.circ_term.specs.Tree.{Tree, Var, sort_of}
 use Rattle.circ_term.specs.Substitution.{Substitution, instance}
 use Rattle.circ_theory.specs.Signature.{Signature, IsSort, IsWellSorted, IsSubstitution}
-use Rattle.circ_theory.specs.Theory.{Theory, Pair, pair_of, IsEquation, listed, IsWellSortedPair}
+use Rattle.circ_theory.specs.declared.parts.Goal.{Goal}
+use Rattle.circ_theory.specs.Theory.{Theory, Pair, sides, goal_of, IsEquation, listed, IsWellSortedPair}
 use Rattle.circ_theory.specs.Variables.{Variable, sorts_of, FitVariables, given}
 use Rattle.circ_theory.specs.Derivable.{Derivable, by_equation, by_symmetry}
 use Rattle.circ_theory.specs.WellFormed.{IsWellFormed}
@@ -41,29 +42,36 @@ given_substitution sig (v ∷ vs) (t ∷ ts) f a = λ n s h. go n s h (given_sub
     go n s h ih true e = (f.0 ∙ eqb-true v.sort s (and_parts (v.number == n) (v.sort == s) e).1, a.0)
     go n s h ih false e = ih
 
-sides_derivable : (th : Theory) (w : Way) (p : Pair) (σ : Substitution) → IsEquation th p → IsSubstitution th.signature σ
-    → Derivable th [] (instance σ (from_side w p)) (instance σ (to_side w p))
-sides_derivable th Forth p σ e s = by_equation p σ e s
-sides_derivable th Back p σ e s = by_symmetry (by_equation p σ e s)
+-- the conditions of a goal hold under a substitution, by the theory and the premises
+abbrev pub ConditionsHold : Theory → List Pair → Substitution → List Pair → Type 0
+ConditionsHold th A σ E = (p : Pair) → Contains E p → Derivable th A (instance σ p.left) (instance σ p.right)
+
+pub none_hold : (th : Theory) (A : List Pair) (σ : Substitution) (E : List Pair) → E ≡ [] → ConditionsHold th A σ E
+none_hold th A σ E none p c = let P : List Pair → Type 0 = λ ps. Contains ps p in let k = subst P none c in absurd (omega (arith, k.1))
+
+sides_derivable : (th : Theory) (A : List Pair) (w : Way) (g : Goal) (σ : Substitution) → IsEquation th g → IsSubstitution th.signature σ → ConditionsHold th A σ g.conds
+    → Derivable th A (instance σ (from_side w (sides g))) (instance σ (to_side w (sides g)))
+sides_derivable th A Forth g σ e s h = by_equation g σ e s h
+sides_derivable th A Back g σ e s h = by_symmetry (by_equation g σ e s h)
 
 -- the instance of one side of an equation, replaced by that of the other
-pub rewrite_keeps : (th : Theory) → IsWellFormed th → (e : Equation) (w : Way) (σ : Substitution) (path : List ℕ) (t u : Tree)
-    → Contains th.equations e → IsSubstitution th.signature σ → IsWellSorted th.signature t
-    → Replaces t path (instance σ (from_side w (pair_of e))) (instance σ (to_side w (pair_of e))) u → KeepsDerivable th [] t u
-rewrite_keeps th ok e w σ path t u c s wt r =
-    let p : Pair = pair_of e in
-    let h : IsWellSortedPair th.signature p = ok.equations e c in
-    replaced_keeps th [] path t (instance σ (from_side w p)) (instance σ (to_side w p)) u wt r.there
+pub rewrite_keeps : (th : Theory) → IsWellFormed th → (A : List Pair) (e : Equation) (w : Way) (σ : Substitution) (path : List ℕ) (t u : Tree)
+    → Contains th.equations e → IsSubstitution th.signature σ → ConditionsHold th A σ e.conds → IsWellSorted th.signature t
+    → Replaces t path (instance σ (from_side w (sides (goal_of e)))) (instance σ (to_side w (sides (goal_of e)))) u → KeepsDerivable th A t u
+rewrite_keeps th ok A e w σ path t u c s holds wt r =
+    let p : Pair = sides (goal_of e) in
+    let h : IsWellSortedPair th.signature p = (ok.equations e c).sorted in
+    replaced_keeps th A path t (instance σ (from_side w p)) (instance σ (to_side w p)) u wt r.there
     (instance_well_sorted th.signature σ (to_side w p) s (sorted_to th.signature w p h)) (sort_instances th.signature w p σ h s)
-    (sides_derivable th w p σ (listed e c) s) r.made
+    (sides_derivable th A w (goal_of e) σ (listed e c) s holds) r.made
 
 pub named_at : (table : List Tree) (n : ℕ) (t : Tree) → n < length table → t ≡ get_or table n t → named table n ≡ t
 named_at table n t h e = ap (λ o. unwrap_or o (Var 0 0)) (slice_get_read table (length table) n t refl h e)
 
 -- the sorts that go with an equation
 pub sorts_are : (es : List Equation) (number : ℕ) (e : Equation) (ss : List ℕ) → Some e ≡ slice_get es number
-    → Some ss ≡ option_map (λ d. sorts_of (pair_of d)) (slice_get es number) → ss ≡ sorts_of (pair_of e)
-sorts_are es number e ss p q = same_Some ss (sorts_of (pair_of e)) (q ∙ ap (option_map (λ d. sorts_of (pair_of d))) (sym p))
+    → Some ss ≡ option_map (λ d. sorts_of (goal_of d)) (slice_get es number) → ss ≡ sorts_of (goal_of e)
+sorts_are es number e ss p q = same_Some ss (sorts_of (goal_of e)) (q ∙ ap (option_map (λ d. sorts_of (goal_of d))) (sym p))
 
 pub fit_length : (vs : List Variable) (ts : List Tree) → FitVariables vs ts → length vs ≡ length ts
 fit_length [] [] h = refl

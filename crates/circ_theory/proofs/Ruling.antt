@@ -1,4 +1,4 @@
--- Which variables of a pair's right side are in its left side.
+-- Which variables of a goal's right side and conditions are in its left side.
 use Rattle.std.proofs.Common.{◌≡◌, ◌≤◌, ℕ, Bool, true, false, ◌==◌, ◌&&◌, ◌||◌, if◌then◌else◌, List, [], ◌∷◌, ◌++◌, length, refl, ap, sym, ◌∙◌, arith}
 use Rattle.std.proofs.Common.{length-append}
 use Rattle.std.specs.List.{list_any, list_all}
@@ -6,8 +6,8 @@ use Rattle.std.proofs.lemmas.List.Folds.{list_any-append}
 use Rattle.std.proofs.lemmas.Bool.{eqb-true, eq-eqb, ne_eqb, and_parts}
 use Rattle.std.proofs.Math.Bool.{or-false, or_assoc}
 use Rattle.circ_term.specs.Tree.{Tree, Trees, Var, App, none, more}
-use Rattle.circ_theory.specs.Variables.{Variable, is_variable, seen, seen_in, seen_in_all, occurrences, all_occurrences, numbered}
-use Rattle.circ_theory.specs.Theory.{pair_with}
+use Rattle.circ_theory.specs.Variables.{Variable, is_variable, seen, seen_in, seen_in_all, seen_in_pairs, occurrences, all_occurrences, pair_occurrences, numbered}
+use Rattle.circ_theory.specs.Theory.{Pair, goal}
 use Rattle.circ_theory.proofs.Numbering.{length-numbered}
 use Rattle.circ_theory.specs.Rule.{is_bound}
 
@@ -78,12 +78,24 @@ list_all-same : {X : Type 0} (p q : X → Bool) → ((x : X) → p x ≡ q x) �
 list_all-same p q h [] = refl
 list_all-same p q h (x ∷ xs) = λ i. h x i && list_all-same p q h xs i
 
--- the right side has none that the left lacks where the count stays
-pub bound_by : (l r : Tree) (first both : List ℕ) → numbered 0 first ≡ seen_in l [] → numbered 0 both ≡ seen_in r (seen_in l [])
-    → (length both == length first) ≡ is_bound (pair_with l r)
-bound_by l r first both a b =
+pairs_seen-occurrences : (ps : List Pair) (us : List Variable) → seen_in_pairs ps us ≡ all_seen (pair_occurrences ps) us
+pairs_seen-occurrences [] us = refl
+pairs_seen-occurrences (p ∷ ps) us =
+    pairs_seen-occurrences ps (seen_in p.right (seen_in p.left us))
+    ∙ ap (all_seen (pair_occurrences ps)) (seen-occurrences p.right (seen_in p.left us) ∙ ap (all_seen (occurrences p.right)) (seen-occurrences p.left us))
+    ∙ sym (all_seen-append (occurrences p.right) (pair_occurrences ps) (all_seen (occurrences p.left) us))
+    ∙ sym (all_seen-append (occurrences p.left) (occurrences p.right ++ pair_occurrences ps) us)
+
+-- the right side and the conditions have none that the left lacks where the count stays
+pub bound_by : (l r : Tree) (E : List Pair) (first both : List ℕ) → numbered 0 first ≡ seen_in l [] → numbered 0 both ≡ seen_in_pairs E (seen_in r (seen_in l []))
+    → (length both == length first) ≡ is_bound (goal E l r)
+bound_by l r E first both a b =
     let us = all_seen (occurrences l) [] in
+    let others = occurrences r ++ pair_occurrences E in
     let left : length first ≡ length us = sym (length-numbered 0 first) ∙ ap length (a ∙ seen-occurrences l []) in
-    let right : length both ≡ length (all_seen (occurrences r) us) =
-    sym (length-numbered 0 both) ∙ ap length (b ∙ seen-occurrences r (seen_in l []) ∙ ap (all_seen (occurrences r)) (seen-occurrences l [])) in
-    rw (left, right) (none_new (occurrences r) us ∙ list_all-same (λ v. list_any (is_variable v) us) (λ v. list_any (is_variable v) (occurrences l)) (λ v. any_all_seen v (occurrences l) []) (occurrences r))
+    let seen : seen_in_pairs E (seen_in r (seen_in l [])) ≡ all_seen others us =
+    pairs_seen-occurrences E (seen_in r (seen_in l []))
+    ∙ ap (all_seen (pair_occurrences E)) (seen-occurrences r (seen_in l []) ∙ ap (all_seen (occurrences r)) (seen-occurrences l []))
+    ∙ sym (all_seen-append (occurrences r) (pair_occurrences E) us) in
+    let right : length both ≡ length (all_seen others us) = sym (length-numbered 0 both) ∙ ap length (b ∙ seen) in
+    rw (left, right) (none_new others us ∙ list_all-same (λ v. list_any (is_variable v) us) (λ v. list_any (is_variable v) (occurrences l)) (λ v. any_all_seen v (occurrences l) []) others)

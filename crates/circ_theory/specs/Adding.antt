@@ -1,17 +1,18 @@
 -- Adding a part to a theory: when it is refused, and what is there afterwards.
 use Rattle.std.specs.Prelude.{◌≡◌, ℕ, ◌+◌, List, [], ◌∷◌, ◌++◌, Bool, not, ◌==◌, ◌&&◌, nat_eq, nat_lt, if◌then◌else◌, length, map, position, find, Option, Some, None, is_some, unwrap_or, Result, Ok, Err}
-use Rattle.std.specs.List.{slice_get}
+use Rattle.std.specs.List.{slice_get, list_any}
 use Rattle.std.specs.Option.{option_map, option_or, option_and_then}
 use Rattle.std.specs.Cmp.Lexicographic.{pointwise}
 use Rattle.circ_term.specs.Tree.{Tree, App, sort_of, trees_of}
-use Rattle.circ_theory.specs.declared.forms.Piece.{Piece}
+use Rattle.circ_form.specs.declared.forms.Piece.{Piece}
 use Rattle.circ_theory.specs.declared.parts.Equation.{Equation}
 use Rattle.circ_theory.specs.declared.fault.TheoryFault.{TheoryFault}
-use Rattle.circ_theory.specs.declared.fault.TheoryFault.TheVariants.{Twice, UnknownSort, IllSorted, Limit, Memory}
-use Rattle.circ_theory.specs.Limits.{sort_limit, variable_limit, operator_limit, equation_limit, argument_limit}
+use Rattle.circ_theory.specs.declared.fault.TheoryFault.TheVariants.{Twice, UnknownSort, IllSorted, NotVisible, Limit, Memory}
+use Rattle.circ_theory.specs.Limits.{sort_limit, variable_limit, operator_limit, equation_limit, argument_limit, condition_limit}
 use Rattle.circ_theory.specs.Signature.{Signature, Operator}
-use Rattle.circ_theory.specs.Theory.{Theory, declared}
-use Rattle.circ_theory.specs.Operators.{is_same_piece, is_same_operator, is_ill_sorted}
+use Rattle.circ_theory.specs.Theory.{Theory, Pair, declared}
+use Rattle.circ_form.specs.Form.{is_same_piece}
+use Rattle.circ_theory.specs.Operators.{is_same_operator, is_ill_sorted}
 
 -- the number of the sort of this name
 abbrev pub sort_number : Signature → List ℕ → Option ℕ
@@ -65,9 +66,23 @@ op_fault th o =
     (option_or (if nat_lt argument_limit (length o.args) then Some (Limit (length o.args)) else None)
     (count_fault operator_limit (length th.signature.ops)))))
 
--- why an equation is not added
-abbrev pub equation_fault : Theory → Option TheoryFault
-equation_fault th = count_fault equation_limit (length th.equations)
+-- a part with so many items is too large
+abbrev pub long_fault : (most count : ℕ) → Option TheoryFault
+long_fault most count = if nat_lt most count then Some (Limit count) else None
+
+-- whether a sort is the hole's sort of a derivative
+abbrev pub is_hidden : Theory → ℕ → Bool
+is_hidden th s = list_any (λ d. s == d.hole) th.derivatives
+
+-- the sort of the first condition of a hidden sort
+abbrev pub hidden_condition : Theory → List Pair → Option ℕ
+hidden_condition th E = option_map (λ p. sort_of p.left) (find (λ p. is_hidden th (sort_of p.left)) E)
+
+-- why an equation with these conditions is not added
+abbrev pub equation_fault : Theory → (conds : List Pair) → Option TheoryFault
+equation_fault th E =
+    option_or (option_map NotVisible (hidden_condition th E))
+    (option_or (count_fault equation_limit (length th.equations)) (long_fault condition_limit (length E)))
 
 abbrev pub with_sort : Theory → List ℕ → Theory
 with_sort th name = record th { signature = record th.signature { sorts = th.signature.sorts ++ name ∷ [] } }

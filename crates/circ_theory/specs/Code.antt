@@ -3,11 +3,12 @@ use Rattle.std.specs.Prelude.{◌≡◌, ℕ, List, zero, suc, Bool, refl}
 use Rattle.std.specs.Coded.{Coded, code_by, coded×, coded_ℕ, coded_bool, coded_list}
 use Rattle.circ_term.specs.Tree.{Tree}
 use Rattle.circ_term.specs.Code.{tree_code}
-use Rattle.circ_theory.specs.declared.forms.Piece.{Piece}
+use Rattle.circ_form.specs.declared.forms.Piece.{Piece}
 use Rattle.circ_theory.specs.declared.parts.Side.{Side}
 use Rattle.circ_theory.specs.declared.parts.Side.TheVariants.{Neither, Left, Right}
 use Rattle.circ_theory.specs.declared.parts.Equation.{Equation}
-use Rattle.circ_theory.specs.Form.{form_code}
+use Rattle.circ_form.specs.Form.{form_code}
+use Rattle.circ_theory.specs.Pair.{Pair, pairs_code}
 use Rattle.circ_theory.specs.Signature.{Signature, Operator}
 use Rattle.circ_theory.specs.Theory.{Theory, Derivative, CaseList, Declared}
 
@@ -52,7 +53,11 @@ signature_code =
 
 abbrev pub equation_code : Coded Equation
 equation_code =
-    code_by (Tree × (Tree × Bool)) (coded× tree_code (coded× tree_code coded_bool)) (λ e. (e.left, (e.right, e.exec))) (λ p. record { left = p.0; right = p.1.0; exec = p.1.1 }) (λ _. refl)
+    code_by (Tree × (Tree × (List Pair × Bool)))
+    (coded× tree_code (coded× tree_code (coded× pairs_code coded_bool)))
+    (λ e. (e.left, (e.right, (e.conds, e.exec))))
+    (λ p. record { left = p.0; right = p.1.0; conds = p.1.1.0; exec = p.1.1.1 })
+    (λ _. refl)
 
 abbrev pub declared_code : Coded Declared
 declared_code = code_by (List ℕ × ℕ) (coded× (coded_list coded_ℕ) coded_ℕ) (λ d. (d.name, d.sort)) (λ p. record { name = p.0; sort = p.1 }) (λ _. refl)

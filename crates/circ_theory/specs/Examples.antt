@@ -2,10 +2,11 @@
 use Rattle.std.specs.Prelude.{ℕ, List, [], ◌∷◌, ◌==◌, if◌then◌else◌, codes, true, false}
 use Rattle.circ_term.specs.Tree.{Tree, Var, App, none, more}
 use Rattle.circ_term.specs.Substitution.{Substitution}
-use Rattle.circ_theory.specs.declared.forms.Piece.TheVariants.{Word}
+use Rattle.circ_form.specs.declared.forms.Piece.TheVariants.{Word}
 use Rattle.circ_theory.specs.declared.parts.Side.TheVariants.{Neither}
 use Rattle.circ_theory.specs.Signature.{Operator}
-use Rattle.circ_theory.specs.Theory.{Theory, Pair}
+use Rattle.circ_theory.specs.declared.parts.Goal.{Goal}
+use Rattle.circ_theory.specs.Theory.{Theory, goal}
 use Rattle.circ_theory.specs.Experiment.{Entry}
 
 -- an operator of one word
@@ -18,8 +19,8 @@ bits = record {
   name = codes "NOT";
   signature = record { sorts = codes "Bit" ∷ []; ops = plain_op (codes "0") [] 0 ∷ plain_op (codes "1") [] 0 ∷ plain_op (codes "not") (0 ∷ []) 0 ∷ [] };
   variables = [];
-  equations = record { left = App 2 0 (more (App 0 0 none) none); right = App 1 0 none; exec = true }
-      ∷ record { left = App 2 0 (more (App 1 0 none) none); right = App 0 0 none; exec = true } ∷ [];
+  equations = record { left = App 2 0 (more (App 0 0 none) none); right = App 1 0 none; conds = []; exec = true }
+      ∷ record { left = App 2 0 (more (App 1 0 none) none); right = App 0 0 none; conds = []; exec = true } ∷ [];
   derivatives = [];
   cases = [];
 }
@@ -53,5 +54,6 @@ swapped n s = if n == 0 then Var 1 s else if n == 1 then Var 0 s else Var n s
 abbrev pub on_variables : ℕ → ℕ → Tree
 on_variables m n = App 5 0 (more (Var m 0) (more (Var n 0) none))
 
-abbrev pub pair : Tree → Tree → Pair
-pair s t = record { left = s; right = t }
+-- two sides without conditions
+abbrev pub plain_goal : Tree → Tree → Goal
+plain_goal s t = goal [] s t

@@ -6,6 +6,7 @@ use Rattle.circ_term.specs.Substitution.{Substitution, instance}
 use Rattle.circ_theory.specs.Signature.{IsSubstitution}
 use Rattle.circ_theory.specs.Theory.{Theory, Pair, Derivative, IsVisible}
 use Rattle.circ_theory.specs.Derivable.{Derivable}
+use Rattle.circ_theory.specs.declared.parts.Goal.{Goal}
 
 -- a derivative with terms for its parameters
 pub record Entry : Type 0 where
@@ -35,6 +36,6 @@ on (c ∷ cs) t = on cs (derived c.derivative t c.parameters)
 abbrev pub BehavesFrom : Theory → List Pair → Tree → Tree → Type 0
 BehavesFrom th H s t = (cs : List Entry) → Fits th cs (sort_of s) → Derivable th H (on cs s) (on cs t)
 
--- .. by the theory alone
-abbrev pub Behaves : Theory → Tree → Tree → Type 0
-Behaves th s t = BehavesFrom th [] s t
+-- .. by the theory and the goal's conditions
+abbrev pub Behaves : Theory → Goal → Type 0
+Behaves th g = BehavesFrom th g.conds g.left g.right

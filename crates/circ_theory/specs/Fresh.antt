@@ -3,7 +3,8 @@ use Rattle.std.specs.Prelude.{◌≡◌, ℕ, ◌+◌, ◌-◌, ◌==◌, max, L
 use Rattle.std.specs.List.{filter}
 use Rattle.circ_term.specs.Tree.{Tree, Trees, Var, App, none, more, sort_of}
 use Rattle.circ_term.specs.Substitution.{Substitution}
-use Rattle.circ_theory.specs.Theory.{Theory, Derivative}
+use Rattle.circ_theory.specs.declared.parts.Goal.{Goal}
+use Rattle.circ_theory.specs.Theory.{Theory, Pair, Derivative}
 use Rattle.circ_theory.specs.Variables.{numbered, given}
 use Rattle.circ_theory.specs.Observing.{parameter_sorts_in}
 
@@ -20,6 +21,15 @@ abbrev mutual
 -- one above the greatest variable number of both terms
 abbrev pub fresh_after : Tree → Tree → ℕ
 fresh_after s t = max (above s) (above t)
+
+-- the same of pairs
+abbrev pub above_pairs : List Pair → ℕ
+above_pairs [] = 0
+above_pairs (p ∷ ps) = max (fresh_after p.left p.right) (above_pairs ps)
+
+-- one above the greatest variable number of a goal, its conditions among it
+abbrev pub fresh_in : Goal → ℕ
+fresh_in g = max (fresh_after g.left g.right) (above_pairs g.conds)
 
 -- parameters 1, 2 and so on as variables numbered from k
 abbrev pub numbered_from : ℕ → Substitution

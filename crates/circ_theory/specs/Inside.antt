@@ -1,5 +1,5 @@
 -- How a theory lies in memory.
-use Rattle.std.specs.Prelude.{◌≡◌, ◌≤◌, ℕ, List, [], Bool, ◌&&◌, nat_eq, length, map, Vec}
+use Rattle.std.specs.Prelude.{◌≡◌, ◌≤◌, ℕ, List, [], Bool, true, ◌&&◌, nat_eq, length, map, Vec}
 use Rattle.std.specs.List.{AllByRecursion, list_any}
 use Rattle.std.specs.Map.{lookup}
 use Rattle.std.specs.Option.{option_map_or}
@@ -9,13 +9,13 @@ use Rattle.circ_theory.specs.declared.theories.OpKey.{OpKey}
 use Rattle.circ_theory.specs.declared.theories.Listed.{Listed}
 use Rattle.circ_theory.specs.declared.theories.Observer.{Observer}
 use Rattle.circ_theory.specs.declared.theories.Parts.{Parts}
-use Rattle.circ_theory.specs.Form.{text_of, IsForm}
+use Rattle.circ_form.specs.Form.{text_of, IsForm}
 use Rattle.circ_theory.specs.Signature.{Operator}
-use Rattle.circ_theory.specs.Theory.{Theory, declared, pair_of}
+use Rattle.circ_theory.specs.Theory.{Theory, declared, goal_of}
 use Rattle.circ_theory.specs.Variables.{sorts_of}
 use Rattle.circ_theory.specs.Operators.{operator_of, ops_by_word}
 use Rattle.circ_theory.specs.Rule.{is_rule}
-use Rattle.circ_theory.specs.Observing.{parameter_sorts_in, derivative_with, is_hidden, case_list}
+use Rattle.circ_theory.specs.Observing.{parameter_sorts_in, derivative_with, is_hidden, case_list, is_condition_sort}
 use Rattle.circ_theory.specs.WellFormed.{IsWellFormed}
 
 -- the key of an operator in the map of operators: the text of its form, which gives the form back, and the argument sorts
@@ -34,7 +34,7 @@ IsEntry e = IsKeyOf e.0 (operator_of e.1)
 
 -- what is kept with an equation: the sorts of its variables, no more than there are numbers, and whether it is a rule
 pub record IsListed (l : Listed) : Type 0 where
-  pub sorts : l.sorts.items ≡ sorts_of (pair_of l.equation)
+  pub sorts : l.sorts.items ≡ sorts_of (goal_of l.equation)
   pub few : length l.sorts.items ≤ 4294967296
   pub rule : l.rule ≡ is_rule l.equation
 
@@ -62,4 +62,5 @@ pub record IsKept (a : Parts) : Type 0 where
   pub listed : AllByRecursion IsListed a.equations.items
   pub observers : AllByRecursion IsObserver a.derivatives.items
   pub hidden : (s : ℕ) → list_any (nat_eq s) a.hidden.keys ≡ is_hidden (theory_of a) s
+  pub conditions : (s : ℕ) → is_condition_sort (theory_of a) s ≡ true → list_any (nat_eq s) a.condition_sorts.keys ≡ true
   pub by_word : (w : List ℕ) → kept_under a.by_word.entries w ≡ ops_by_word (theory_of a).signature w

@@ -1,7 +1,8 @@
 pub mod Limits
-pub mod Form
 pub mod Signature
 pub mod Pair
+pub mod Pairs
+pub mod Goal
 pub mod Theory
 pub mod Variables
 pub mod Derivable

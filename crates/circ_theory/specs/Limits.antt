@@ -29,6 +29,10 @@ argument_limit = 16
 abbrev pub parameter_limit : ℕ
 parameter_limit = 8
 
+-- the most conditions of an equation or a goal
+abbrev pub condition_limit : ℕ
+condition_limit = 8
+
 -- the most constants of a case list
 abbrev pub constant_limit : ℕ
 constant_limit = 64

@@ -1,17 +1,18 @@
 -- What a term has to be for a derivative, and when derivatives and case lists are refused.
-use Rattle.std.specs.Prelude.{ℕ, List, [], ◌∷◌, ◌++◌, Bool, false, not, ◌==◌, ◌&&◌, nat_eq, nat_lt, if◌then◌else◌, length, map, find, Option, Some}
+use Rattle.std.specs.Prelude.{ℕ, List, [], ◌∷◌, ◌++◌, Bool, false, not, ◌==◌, ◌&&◌, ◌||◌, nat_eq, if◌then◌else◌, length, map, find, Option, Some}
 use Rattle.std.specs.Prelude.{None, is_some}
 use Rattle.std.specs.List.{list_any, filter, slice_get}
 use Rattle.std.specs.Option.{option_map, option_map_or, option_or}
-use Rattle.circ_term.specs.Tree.{Tree, Trees}
+use Rattle.circ_term.specs.Tree.{Tree, Trees, sort_of}
 use Rattle.circ_theory.specs.declared.fault.TheoryFault.{TheoryFault}
 use Rattle.circ_theory.specs.declared.fault.TheoryFault.TheVariants.{Twice, UnknownSort, IllSorted, NotLinear, HoleCount, NoConstant, NotVisible}
-use Rattle.circ_theory.specs.declared.fault.TheoryFault.TheVariants.{NowHidden, Limit}
+use Rattle.circ_theory.specs.declared.fault.TheoryFault.TheVariants.{NowHidden}
 use Rattle.circ_theory.specs.Limits.{derivative_limit, parameter_limit, constant_limit}
 use Rattle.circ_theory.specs.Signature.{Signature}
-use Rattle.circ_theory.specs.Theory.{Theory, Derivative, CaseList}
+use Rattle.circ_theory.specs.Theory.{Theory, Pair, Derivative, CaseList}
 use Rattle.circ_theory.specs.Variables.{Variable, occurrences, all_occurrences, seen_in, AreNumberedFrom}
 use Rattle.circ_theory.specs.Adding.{count_fault, is_no_sort}
+pub use Rattle.circ_theory.specs.Adding.{long_fault, is_hidden}
 
 -- variable 0 of any sort
 abbrev pub is_hole : Variable → Bool
@@ -65,20 +66,20 @@ derivative_of t = derivative_with (first_or_zero (holes_in t)) t
 abbrev pub cases_of : Theory → ℕ → Option (List ℕ)
 cases_of th s = option_map (λ l. l.constants) (find (λ l. s == l.sort) th.cases)
 
--- whether a sort is the hole's sort of a derivative
-abbrev pub is_hidden : Theory → ℕ → Bool
-is_hidden th s = list_any (λ d. s == d.hole) th.derivatives
+-- whether one of the conditions is of this sort
+abbrev pub has_condition_of : ℕ → List Pair → Bool
+has_condition_of s E = list_any (λ p. s == sort_of p.left) E
 
--- a part with so many items is too large
-abbrev pub long_fault : (most count : ℕ) → Option TheoryFault
-long_fault most count = if nat_lt most count then Some (Limit count) else None
+-- whether a condition of an equation is of this sort
+abbrev pub is_condition_sort : Theory → ℕ → Bool
+is_condition_sort th s = list_any (λ e. has_condition_of s e.conds) th.equations
 
 abbrev pub hole_fault : ℕ → Option TheoryFault
 hole_fault count = if count == 1 then None else Some (HoleCount count)
 
--- why a sort cannot become hidden: it has a case list
+-- why a sort cannot become hidden: it has a case list, or a condition is of it
 abbrev pub now_hidden : Theory → ℕ → Option TheoryFault
-now_hidden th s = if is_some (cases_of th s) then Some (NowHidden s) else None
+now_hidden th s = if is_some (cases_of th s) || is_condition_sort th s then Some (NowHidden s) else None
 
 -- why a derivative is not added, by its least parameter that is repeated, its holes and the number of its parameters
 abbrev pub slots_fault : Theory → (repeated : Option ℕ) → (holes : List ℕ) → (params : ℕ) → Option TheoryFault

@@ -1,12 +1,10 @@
 -- Declared operators, and when two of them are the same.
-use Rattle.std.specs.Prelude.{◌≡◌, ℕ, ◌+◌, ◌≤◌, if◌then◌else◌, List, [], ◌∷◌, Bool, true, false, ◌==◌, ◌&&◌, ◌||◌, not, nat_eq, length}
-use Rattle.std.specs.List.{list_any, count_by, Contains}
+use Rattle.std.specs.Prelude.{◌≡◌, ℕ, ◌+◌, ◌≤◌, if◌then◌else◌, List, [], ◌∷◌, Bool, true, ◌==◌, ◌&&◌, ◌||◌, not, nat_eq, length}
+use Rattle.std.specs.List.{Contains}
 use Rattle.std.specs.Cmp.Lexicographic.{pointwise}
-use Rattle.circ_theory.specs.declared.forms.Piece.{Piece}
-use Rattle.circ_theory.specs.declared.forms.Piece.TheVariants.{Hole, Word}
 use Rattle.circ_theory.specs.declared.parts.OpDecl.{OpDecl}
 use Rattle.circ_theory.specs.Limits.{argument_limit}
-use Rattle.circ_theory.specs.Form.{IsForm, first_word}
+use Rattle.circ_form.specs.Form.{IsForm, first_word, is_same_piece, hole_count}
 use Rattle.circ_theory.specs.Signature.{Signature, Operator, IsSort}
 
 -- the operator that a declaration declares
@@ -22,25 +20,9 @@ operator_of d = record {
   idem = d.idem;
 }
 
-abbrev pub is_same_piece : Piece → Piece → Bool
-is_same_piece Hole Hole = true
-is_same_piece Hole (Word w) = false
-is_same_piece (Word v) Hole = false
-is_same_piece (Word v) (Word w) = pointwise nat_eq v w
-
 -- the same form, and the same argument sorts
 abbrev pub is_same_operator : Operator → Operator → Bool
 is_same_operator o p = pointwise is_same_piece o.form p.form && pointwise nat_eq o.args p.args
-
-abbrev pub is_hole_piece : Piece → Bool
-is_hole_piece Hole = true
-is_hole_piece (Word w) = false
-
-abbrev pub has_hole : List Piece → Bool
-has_hole ps = list_any is_hole_piece ps
-
-abbrev pub hole_count : List Piece → ℕ
-hole_count ps = count_by is_hole_piece ps
 
 -- A form has a hole for each argument, or no hole.
 abbrev pub form_fits : Operator → Bool

@@ -1,7 +1,9 @@
--- Pairs of terms, as equations, goals and premises are.
-use Rattle.std.specs.Prelude.{List}
+-- Pairs of terms, as conditions and premises are.
+use Rattle.std.specs.Prelude.{List, refl}
 use Rattle.std.specs.List.{Contains}
+use Rattle.std.specs.Coded.{Coded, code_by, coded×, coded_list}
 use Rattle.circ_term.specs.Tree.{Tree}
+use Rattle.circ_term.specs.Code.{tree_code}
 use Rattle.circ_term.specs.Substitution.{Substitution, instance}
 
 pub record Pair : Type 0 where
@@ -18,3 +20,10 @@ Within H K = (p : Pair) → Contains H p → Contains K p
 -- both sides under a substitution
 abbrev pub instance_pair : Substitution → Pair → Pair
 instance_pair σ p = pair_with (instance σ p.left) (instance σ p.right)
+
+-- how a proof tells pairs and lists of them apart
+abbrev pub pair_code : Coded Pair
+pair_code = code_by (Tree × Tree) (coded× tree_code tree_code) (λ p. (p.left, p.right)) (λ x. pair_with x.0 x.1) (λ p. refl)
+
+abbrev pub pairs_code : Coded (List Pair)
+pairs_code = coded_list pair_code

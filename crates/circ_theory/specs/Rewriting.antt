@@ -4,8 +4,9 @@ use Rattle.std.specs.List.{slice_get}
 use Rattle.std.specs.Option.{unwrap_or}
 use Rattle.circ_term.specs.Tree.{Tree, Var, at, replaced}
 use Rattle.circ_term.specs.Limits.{IsWithinLimits}
-use Rattle.circ_term.specs.Substitution.{instance}
-use Rattle.circ_theory.specs.Theory.{Pair}
+use Rattle.circ_term.specs.Substitution.{Substitution, instance}
+use Rattle.circ_theory.specs.declared.parts.Goal.{Goal}
+use Rattle.circ_theory.specs.Theory.{Pair, sides}
 use Rattle.circ_theory.specs.Variables.{variables_of, sorted, FitVariables, given}
 use Rattle.circ_theory.specs.declared.way.Way.{Way}
 use Rattle.circ_theory.specs.declared.way.Way.TheVariants.{Forth, Back}
@@ -29,9 +30,13 @@ pub record Replaces (t : Tree) (path : List ℕ) (old new u : Tree) : Type 0 whe
 abbrev pub named : List Tree → ℕ → Tree
 named table n = unwrap_or (slice_get table n) (Var 0 0)
 
--- One side of the pair under the substitution that the terms give is replaced by the other side under it.
-pub record RewritesBy (p : Pair) (way : Way) (path : List ℕ) (terms : List Tree) (t u : Tree) : Type 0 where
-  pub fit : FitVariables (sorted (variables_of p)) terms
+-- the substitution that the terms give to the goal's variables, by number and then sort
+abbrev pub by_terms : Goal → List Tree → Substitution
+by_terms g terms = given (sorted (variables_of g)) terms
+
+-- One side of the goal under the substitution that the terms give is replaced by the other side under it.
+pub record RewritesBy (g : Goal) (way : Way) (path : List ℕ) (terms : List Tree) (t u : Tree) : Type 0 where
+  pub fit : FitVariables (sorted (variables_of g)) terms
   pub replaces : Replaces t path
-      (instance (given (sorted (variables_of p)) terms) (from_side way p))
-      (instance (given (sorted (variables_of p)) terms) (to_side way p)) u
+      (instance (by_terms g terms) (from_side way (sides g)))
+      (instance (by_terms g terms) (to_side way (sides g))) u

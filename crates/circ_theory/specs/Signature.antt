@@ -3,7 +3,7 @@ use Rattle.std.specs.Prelude.{◌≡◌, ℕ, ◌<◌, List, [], ◌∷◌, Some
 use Rattle.std.specs.List.{slice_get}
 use Rattle.circ_term.specs.Tree.{Tree, Trees, Var, App, none, more, sort_of}
 use Rattle.circ_term.specs.Substitution.{Substitution}
-use Rattle.circ_theory.specs.declared.forms.Piece.{Piece}
+use Rattle.circ_form.specs.declared.forms.Piece.{Piece}
 use Rattle.circ_theory.specs.declared.parts.Side.{Side}
 
 -- An operator has a form, the sorts of its arguments and of its result, a precedence with a side, and three marks.

@@ -4,6 +4,7 @@ use Rattle.std.specs.List.{list_any}
 use Rattle.circ_term.specs.Tree.{Tree, Trees, Var, App, none, more, sort_of}
 use Rattle.circ_term.specs.Substitution.{Substitution}
 use Rattle.circ_theory.specs.Theory.{Pair}
+use Rattle.circ_theory.specs.declared.parts.Goal.{Goal}
 
 -- Two variables are the same where number and sort are equal.
 pub record Variable : Type 0 where
@@ -26,9 +27,13 @@ abbrev mutual
   seen_in_all none vs = vs
   seen_in_all (more t ts) vs = seen_in_all ts (seen_in t vs)
 
--- the variables of a pair by first occurrence, left side first
-abbrev pub variables_of : Pair → List Variable
-variables_of p = seen_in p.right (seen_in p.left [])
+abbrev pub seen_in_pairs : List Pair → List Variable → List Variable
+seen_in_pairs [] vs = vs
+seen_in_pairs (p ∷ ps) vs = seen_in_pairs ps (seen_in p.right (seen_in p.left vs))
+
+-- the variables of a goal by first occurrence: left side, right side, conditions
+abbrev pub variables_of : Goal → List Variable
+variables_of g = seen_in_pairs g.conds (seen_in g.right (seen_in g.left []))
 
 -- every occurrence of a variable, from the left
 abbrev mutual
@@ -40,14 +45,18 @@ abbrev mutual
   all_occurrences none = []
   all_occurrences (more t ts) = occurrences t ++ all_occurrences ts
 
+abbrev pub pair_occurrences : List Pair → List Variable
+pair_occurrences [] = []
+pair_occurrences (p ∷ ps) = occurrences p.left ++ (occurrences p.right ++ pair_occurrences ps)
+
 -- the variables have the numbers k, k + 1, and so on
 abbrev pub AreNumberedFrom : ℕ → List Variable → Type 0
 AreNumberedFrom k [] = Unit {0}
 AreNumberedFrom k (v ∷ vs) = (v.number ≡ k) × AreNumberedFrom (k + 1) vs
 
--- A pair is numbered in order: its m variables have the numbers 0 to m - 1 by first occurrence, left side first.
-abbrev pub IsInOrder : Pair → Type 0
-IsInOrder p = AreNumberedFrom 0 (variables_of p)
+-- A goal is numbered in order: its m variables have the numbers 0 to m - 1 by first occurrence, left side first, conditions last.
+abbrev pub IsInOrder : Goal → Type 0
+IsInOrder g = AreNumberedFrom 0 (variables_of g)
 
 -- by number, then sort
 abbrev pub is_before : Variable → Variable → Bool
@@ -74,9 +83,9 @@ given [] ts = Var
 given (v ∷ vs) [] = Var
 given (v ∷ vs) (t ∷ ts) = λ n s. if (v.number == n) && (v.sort == s) then t else given vs ts n s
 
--- the sorts of a pair's variables, in the order of their first occurrence
-abbrev pub sorts_of : Pair → List ℕ
-sorts_of p = map (λ v. v.sort) (variables_of p)
+-- the sorts of a goal's variables, in the order of their first occurrence
+abbrev pub sorts_of : Goal → List ℕ
+sorts_of g = map (λ v. v.sort) (variables_of g)
 
 -- the variables of these sorts, with the numbers from k on
 abbrev pub numbered : ℕ → List ℕ → List Variable

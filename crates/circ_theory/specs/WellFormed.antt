@@ -2,9 +2,9 @@
 use Rattle.std.specs.Prelude.{◌≡◌, ◌≢◌, ℕ, ◌≤◌, [], ◌∷◌, Some, nat_eq, length, map}
 use Rattle.std.specs.List.{slice_get, filter, Contains, IsDistinct}
 use Rattle.circ_theory.specs.declared.parts.Equation.{Equation}
-use Rattle.circ_theory.specs.Limits.{sort_limit, variable_limit, operator_limit, equation_limit, derivative_limit, parameter_limit, constant_limit}
+use Rattle.circ_theory.specs.Limits.{sort_limit, variable_limit, operator_limit, equation_limit, derivative_limit, parameter_limit, constant_limit, condition_limit}
 use Rattle.circ_theory.specs.Signature.{Signature, Operator, IsSort, IsWellSorted}
-use Rattle.circ_theory.specs.Theory.{Theory, Declared, Derivative, CaseList, IsVisible, pair_of, IsWellSortedPair}
+use Rattle.circ_theory.specs.Theory.{Theory, Declared, Derivative, CaseList, IsVisible, goal_of, IsWellSortedGoal}
 use Rattle.circ_theory.specs.Variables.{occurrences, AreNumberedFrom, IsInOrder}
 use Rattle.circ_theory.specs.Operators.{IsOperator}
 use Rattle.circ_theory.specs.Observing.{is_parameter, holes_in, parameters_in}
@@ -26,11 +26,12 @@ pub record IsCaseList (th : Theory) (l : CaseList) : Type 0 where
   pub constants : (c : ℕ) → Contains l.constants c → (o : Operator) × ((slice_get th.signature.ops c ≡ Some o) × (o.args ≡ []) × (o.result ≡ l.sort))
   pub few : length l.constants ≤ constant_limit
 
--- Each listed equation is a well-sorted pair and numbered in order; declared variables have sorts; operators, derivatives
+-- Each listed equation is well-sorted, numbered in order, and has few conditions; declared variables have sorts; operators, derivatives
 -- and case lists are such; a sort has one case list at most; and no kind has too many parts.
 pub record IsWellFormed (th : Theory) : Type 0 where
-  pub equations : (e : Equation) → Contains th.equations e → IsWellSortedPair th.signature (pair_of e)
-  pub in_order : (e : Equation) → Contains th.equations e → IsInOrder (pair_of e)
+  pub equations : (e : Equation) → Contains th.equations e → IsWellSortedGoal th (goal_of e)
+  pub in_order : (e : Equation) → Contains th.equations e → IsInOrder (goal_of e)
+  pub few_conds : (e : Equation) → Contains th.equations e → length e.conds ≤ condition_limit
   pub variables : (d : Declared) → Contains th.variables d → IsSort th.signature d.sort
   pub operators : (o : Operator) → Contains th.signature.ops o → IsOperator th.signature o
   pub derivatives : (d : Derivative) → Contains th.derivatives d → IsDerivative th.signature d

@@ -3,14 +3,15 @@ ghost use Rattle.std.specs.Prelude.{◌≡◌, ℕ, List, [], ◌∷◌, ◌++�
 ghost use Rattle.std.specs.Prelude.{nat_lt, not, find, is_some, OnOk, OnErr};
 ghost use Rattle.std.specs.Cmp.Lexicographic.{pointwise};
 ghost use Rattle.circ_term.specs.Tree.{operator_number};
-ghost use Rattle.circ_theory.specs.Operators.{operator_of, is_ill_sorted, hole_count};
+ghost use Rattle.circ_form.specs.Form.{hole_count};
+ghost use Rattle.circ_theory.specs.Operators.{operator_of, is_ill_sorted};
 ghost use Rattle.circ_theory.specs.Adding.{count_fault};
 ghost use Rattle.circ_theory.specs.Observing.{first_or_zero, long_fault};
 ghost use Rattle.circ_theory.specs.Inside.{kept_under};
 
 use crate::fault::TheoryFault;
-use crate::forms::Piece;
 use crate::parts::OpDecl;
+use circ_form::Piece;
 use circ_term::Term;
 use indexmap::IndexMap;
 use std::alloc::{AllocError, Global};

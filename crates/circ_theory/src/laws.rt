@@ -3,23 +3,25 @@
 ghost use Rattle.std.specs.Prelude.{◌≡◌, ℕ, List, [], ◌∷◌, codes, Some, None, map};
 ghost use Rattle.circ_term.specs.Tree.{Tree, Var, App, none, more, sort_of};
 ghost use Rattle.circ_term.specs.Substitution.{Substitution, instance};
-ghost use Rattle.circ_theory.specs.declared.forms.Piece.TheVariants.{Hole, Word};
-ghost use Rattle.circ_theory.specs.declared.forms.FormFault.TheVariants.{NoWord, BadWord};
+ghost use Rattle.circ_form.specs.declared.forms.Piece.TheVariants.{Hole, Word};
+ghost use Rattle.circ_form.specs.declared.forms.FormFault.TheVariants.{NoWord, BadWord};
 ghost use Rattle.circ_theory.specs.declared.TheConstants.{MOST_SORTS, MOST_VARS, MOST_OPS};
 ghost use Rattle.circ_theory.specs.declared.TheConstants.{MOST_EQUATIONS, MOST_DERIVATIVES};
 ghost use Rattle.circ_theory.specs.declared.TheConstants.{MOST_ARGS, MOST_PARAMS, MOST_CASES};
+ghost use Rattle.circ_theory.specs.declared.TheConstants.{MOST_CONDITIONS};
 ghost use Rattle.circ_theory.specs.Limits.{sort_limit, variable_limit, operator_limit};
 ghost use Rattle.circ_theory.specs.Limits.{equation_limit, derivative_limit};
 ghost use Rattle.circ_theory.specs.Limits.{argument_limit, parameter_limit, constant_limit};
-ghost use Rattle.circ_theory.specs.Form.{pieces_of, form_fault};
+ghost use Rattle.circ_theory.specs.Limits.{condition_limit};
+ghost use Rattle.circ_form.specs.Form.{pieces_of, form_fault};
 ghost use Rattle.circ_theory.specs.Signature.{IsWellSorted, IsSubstitution};
 ghost use Rattle.circ_theory.specs.Theory.{Theory, Pair, Within, instance_pair};
 ghost use Rattle.circ_theory.specs.Variables.{IsInOrder};
-ghost use Rattle.circ_theory.specs.Derivable.{Derivable};
+ghost use Rattle.circ_theory.specs.Derivable.{Derivable, Gives};
 ghost use Rattle.circ_theory.specs.Experiment.{Fits, on, BehavesFrom};
 ghost use Rattle.circ_theory.specs.WellFormed.{IsWellFormed};
 ghost use Rattle.circ_theory.specs.Examples.{bits, zero_bit, negation, streams, head};
-ghost use Rattle.circ_theory.specs.Examples.{swapped, on_variables, pair};
+ghost use Rattle.circ_theory.specs.Examples.{swapped, on_variables, plain_goal};
 
 /// An instance of what is derivable is derivable from the instances of the premises.
 pub fn derivable_instances()
@@ -32,6 +34,12 @@ pub fn derivable_instances()
 pub fn more_premises()
     ensures { (th : Theory) (H K : List Pair) (s t : Tree)
         → Within H K → Derivable th H s t → Derivable th K s t }
+{}
+
+/// Premises that follow from others may be cut.
+pub fn premises_cut()
+    ensures { (th : Theory) (H K : List Pair) (s t : Tree)
+        → Gives th H K → Derivable th H s t → Derivable th K s t }
 {}
 
 /// Well-sorted terms of one sort that are derivable from one another behave alike, whatever their
@@ -60,18 +68,8 @@ pub fn swap_at_once()
 
 /// Variables are numbered by first occurrence, the left side first.
 pub fn numbered_left_first()
-    ensures in_order { IsInOrder (pair (on_variables 0 1) (on_variables 1 0)) }
-    ensures out_of_order { IsInOrder (pair (on_variables 1 0) (on_variables 0 1)) → ⊥ }
-{}
-
-/// A form is cut at its holes, and each bracket is a word by itself.
-pub fn forms_are_cut()
-    ensures plus { pieces_of (codes "_+_") ≡ Hole ∷ Word (codes "+") ∷ Hole ∷ [] }
-    ensures brackets { pieces_of (codes "a[_]")
-        ≡ Word (codes "a") ∷ Word (codes "[") ∷ Hole ∷ Word (codes "]") ∷ [] }
-    ensures no_word { form_fault (codes "__") ≡ Some NoWord }
-    ensures bad_word { form_fault (codes "_=_") ≡ Some BadWord }
-    ensures good { form_fault (codes "_==_") ≡ None }
+    ensures in_order { IsInOrder (plain_goal (on_variables 0 1) (on_variables 1 0)) }
+    ensures out_of_order { IsInOrder (plain_goal (on_variables 1 0) (on_variables 0 1)) → ⊥ }
 {}
 
 /// The limits of the code are those that the definitions state.
@@ -84,4 +82,5 @@ pub fn limits_are_stated()
     ensures arguments { MOST_ARGS ≡ argument_limit }
     ensures parameters { MOST_PARAMS ≡ parameter_limit }
     ensures constants { MOST_CASES ≡ constant_limit }
+    ensures conditions { MOST_CONDITIONS ≡ condition_limit }
 {}

@@ -6,23 +6,25 @@
 #![tactic(auto)]
 
 mod adding;
+mod building;
 mod fault;
-mod forms;
 mod fresh;
 pub mod laws;
 mod observing;
 mod order;
+mod pairs;
 mod parts;
 mod renumber;
 mod theories;
 mod way;
 
+pub use building::{constant_of, variables_from};
 pub use fault::TheoryFault;
-pub use forms::{Form, FormFault, Piece, Text};
-pub use fresh::{above, fresh_after};
+pub use fresh::{above, above_pairs, fresh_after, fresh_in};
 pub use observing::parameters_in_order;
 pub use order::in_order;
-pub use parts::{Equation, Goal, OpDecl, Script, Side};
+pub use pairs::{Pair, Pairs};
+pub use parts::{Equation, Goal, OpDecl, Side};
 pub use renumber::{Occurring, gather, renumbered};
 pub use theories::{Theory, Vars};
 pub use way::Way;
@@ -47,6 +49,9 @@ pub const MOST_ARGS: usize = 16;
 
 /// The most parameters of a derivative.
 pub const MOST_PARAMS: usize = 8;
+
+/// The most conditions of an equation or a goal.
+pub const MOST_CONDITIONS: usize = 8;
 
 /// The most constants of a case list.
 pub const MOST_CASES: usize = 64;

@@ -1,14 +1,19 @@
-//! Pairs with their variables numbered anew.
+//! Goals with their variables numbered anew.
 ghost use Rattle.std.specs.Prelude.{◌≡◌, ◌≤◌, ◌^◌, map, length, IfOk, OnOk};
 ghost use Rattle.circ_term.specs.Tree.{trees_of};
 ghost use Rattle.circ_term.specs.Substitution.{instance};
 ghost use Rattle.circ_term.specs.Subst.{substitution_of};
-ghost use Rattle.circ_theory.specs.Theory.{pair_with, IsWellSortedPair, instance_pair};
+ghost use Rattle.circ_theory.specs.Theory.{sides, IsWellSortedPair, instance_pair};
+ghost use Rattle.circ_theory.specs.Pairs.{plain_pair};
 ghost use Rattle.circ_theory.specs.Signature.{Signature};
 ghost use Rattle.circ_theory.specs.Variables.{IsInOrder, variables_of, seen, seen_in, seen_in_all};
+ghost use Rattle.circ_theory.specs.Variables.{seen_in_pairs};
 ghost use Rattle.circ_theory.specs.Renumbering.{renumbered, renumbering, Renumbers};
+ghost use Rattle.circ_theory.specs.Renumbering.{instance_goal};
 ghost use Rattle.circ_theory.specs.Occurring.{variable_of};
 
+use crate::pairs::{Pair, Pairs};
+use crate::parts::Goal;
 use circ_term::{Kind, Subst, Term};
 use indexmap::IndexSet;
 use std::alloc::{AllocError, Global};
@@ -20,17 +25,17 @@ pub struct Occurring {
     pub sort: u32,
 }
 
-/// The two terms with their variables numbered anew: they get the numbers 0, 1 and so on by their
-/// first occurrence, the left term first. Costs as much as the terms have nodes.
-pub fn renumbered(alloc: Global, left: &Term, right: &Term) -> Result<(Term, Term), AllocError>
-    ensures exact { IfOk result (λ r. pair_with r.0 r.1 ≡
-        renumbered (pair_with left.now right.now)) }
-    ensures in_order { IfOk result (λ r. IsInOrder (pair_with r.0 r.1)) }
-    ensures sorted { (sig : Signature) → IsWellSortedPair sig (pair_with left.now right.now) →
-        IfOk result (λ r. IsWellSortedPair sig (pair_with r.0 r.1)) }
+/// The goal with its variables numbered anew: they get the numbers 0, 1 and so on by their first
+/// occurrence, the left side first, the conditions last. Costs as much as the terms have nodes.
+pub fn renumbered(alloc: Global, goal: &Goal) -> Result<Goal, AllocError>
+    requires few { length (variables_of goal.now) ≤ 2 ^ 32 }
+    ensures exact { IfOk result (λ g. g ≡ renumbered goal.now) }
+    ensures in_order { IfOk result (λ g. IsInOrder g) }
+    ensures sorted { (sig : Signature) → IsWellSortedPair sig (sides goal.now) →
+        IfOk result (λ g. IsWellSortedPair sig (sides g)) }
 {
-    let subst = pair_renumbering(alloc, left, right)?;
-    instances(&subst, left, right)
+    let subst = goal_renumbering(alloc, goal)?;
+    instances(alloc, &subst, goal)
 }
 
 /// Adds the term's variables to those that were seen so far, by first occurrence. After want of
@@ -60,28 +65,35 @@ fn gather_all(terms: &[Term], variables: &mut IndexSet<Occurring>) -> Result<(),
     Ok(())
 }
 
-// What numbers the variables of two terms anew.
-fn pair_renumbering(alloc: Global, left: &Term, right: &Term) -> Result<Subst, AllocError>
-    ensures { IfOk result (λ σ. Renumbers (substitution_of σ)
-        (variables_of (pair_with left.now right.now))) }
+// What numbers the variables of a goal anew.
+fn goal_renumbering(alloc: Global, goal: &Goal) -> Result<Subst, AllocError>
+    requires { length (variables_of goal.now) ≤ 2 ^ 32 }
+    ensures { IfOk result (λ σ. Renumbers (substitution_of σ) (variables_of goal.now)) }
 {
-    left.known();
-    right.known();
     let mut variables = IndexSet::new(alloc);
-    gather_pair(left, right, &mut variables)?;
+    gather_goal(goal, &mut variables)?;
     renumbering(alloc, variables.as_slice())
 }
 
-fn gather_pair(
-    left: &Term,
-    right: &Term,
-    variables: &mut IndexSet<Occurring>,
-) -> Result<(), AllocError>
+fn gather_goal(goal: &Goal, variables: &mut IndexSet<Occurring>) -> Result<(), AllocError>
     ensures { OnOk result (map variable_of variables.new.keys ≡
-        seen_in right.now (seen_in left.now (map variable_of variables.old.keys))) }
+        seen_in_pairs goal.now.conds (seen_in goal.now.right
+        (seen_in goal.now.left (map variable_of variables.old.keys)))) }
 {
-    gather(left, variables)?;
-    gather(right, variables)
+    gather(&goal.left, variables)?;
+    gather(&goal.right, variables)?;
+    gather_pairs(goal.conds.as_slice(), variables)
+}
+
+fn gather_pairs(pairs: &[Pair], variables: &mut IndexSet<Occurring>) -> Result<(), AllocError>
+    ensures { OnOk result (map variable_of variables.new.keys ≡
+        seen_in_pairs (map plain_pair pairs.now) (map variable_of variables.old.keys)) }
+{
+    for pair in pairs {
+        gather(&pair.left, variables)?;
+        gather(&pair.right, variables)?;
+    }
+    Ok(())
 }
 
 // Each variable is bound to the one that has its place as number.
@@ -98,13 +110,26 @@ fn renumbering(alloc: Global, variables: &[Occurring]) -> Result<Subst, AllocErr
     Ok(subst)
 }
 
-fn instances(subst: &Subst, left: &Term, right: &Term) -> Result<(Term, Term), AllocError>
-    ensures { IfOk result (λ r. pair_with r.0 r.1 ≡
-        instance_pair (substitution_of subst.now) (pair_with left.now right.now)) }
+fn instances(alloc: Global, subst: &Subst, goal: &Goal) -> Result<Goal, AllocError>
+    ensures { IfOk result (λ g. g ≡ instance_goal (substitution_of subst.now) goal.now) }
 {
-    let left = instance(subst, left)?;
-    let right = instance(subst, right)?;
-    Ok((left, right))
+    let left = instance(subst, &goal.left)?;
+    let right = instance(subst, &goal.right)?;
+    let conds = pair_instances(alloc, subst, goal.conds.as_slice())?;
+    Ok(Goal { conds, left, right })
+}
+
+fn pair_instances(alloc: Global, subst: &Subst, pairs: &[Pair]) -> Result<Pairs, AllocError>
+    ensures { IfOk result (λ ps. ps ≡
+        map (instance_pair (substitution_of subst.now)) (map plain_pair pairs.now)) }
+{
+    let mut made = Pairs::new(alloc);
+    for pair in pairs {
+        let left = instance(subst, &pair.left)?;
+        let right = instance(subst, &pair.right)?;
+        made.push(Pair { left, right })?;
+    }
+    Ok(made)
 }
 
 // A variable for each variable: the term keeps its shape, so it passes no limit.

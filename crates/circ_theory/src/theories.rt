@@ -9,8 +9,8 @@ mod faults;
 mod reading;
 mod terms;
 
-use crate::forms::Text;
 use crate::parts::{Equation, OpDecl};
+use circ_form::Text;
 use circ_term::Term;
 use indexmap::{IndexMap, IndexSet};
 use std::alloc::{AllocError, Global};
@@ -52,6 +52,8 @@ struct Parts {
     derivatives: Vec<Observer>,
     // The sorts of the derivatives' holes.
     hidden: IndexSet<u32>,
+    // The sorts of the equations' conditions, and perhaps others.
+    condition_sorts: IndexSet<u32>,
     // The constants of a sort that has a case list.
     cases: IndexMap<u32, Vec<u32>>,
 }
@@ -125,6 +127,7 @@ impl Theory {
             equations: Vec::new(alloc),
             derivatives: Vec::new(alloc),
             hidden: IndexSet::new(alloc),
+            condition_sorts: IndexSet::new(alloc),
             cases: IndexMap::new(alloc),
         };
         Ok(Theory {

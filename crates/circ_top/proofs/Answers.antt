@@ -19,12 +19,12 @@ use Rattle.circ_top.specs.Prove.{IsSearched, StoresProof}
 use Rattle.circ_top.specs.Delivery.{Prints, Delivers, whole, write_failed, memory_wanted, text_wanted}
 use Rattle.circ_files.specs.Files.{Held, IsUnread, IsTooLong, IsFileFault}
 use Rattle.circ_found.specs.Ending.{Stored, ending}
-use Rattle.circ_found.specs.Answering.{blocks_of, SearchEnds}
+use Rattle.circ_found.specs.Answering.{SearchEnds}
 use Rattle.circ_top.specs.Outcome.{Outcome, command}
 use Rattle.circ_top.specs.Storing.{HoldsAfter, IsUnstored, Ends, stored_first, not_stored}
 use Rattle.circ_files.specs.Texts.{refused_text}
 use Rattle.circ_top.specs.Refusals.{refusal_text}
-use Rattle.circ_files.specs.TheoryFile.{TheoryRefusal}
+use Rattle.circ_files.specs.TheoryFile.{TheoryRefusal, PlainTheoryRefusal}
 use Rattle.circ_top.specs.declared.request.Report.{Report}
 use Rattle.circ_turn.specs.declared.search.Limits.{Limits}
 use Rattle.circ_files.specs.declared.status.Status.{Status}
@@ -47,7 +47,7 @@ module _ (before after : ShelfState) where
   command_not_ok (Check report theory proof) s r e = check_not_ok theory proof before after s r e
   command_not_ok (Prove limits theory script proof) s r e = prove_not_ok theory script before after s r e
   command_not_ok (Show theory) s r e = file_fault_not_ok 1 theory TheoryRefusal before after s e r
-  command_not_ok (Contexts budget theory) s r e = file_fault_not_ok 1 theory TheoryRefusal before after s e r
+  command_not_ok (Contexts budget theory) s r e = file_fault_not_ok 1 theory PlainTheoryRefusal before after s e r
   command_not_ok (Reduce budget theory script) s r e = reduce_not_ok budget theory script before after s r e
   command_not_ok (Same first second) s r e = same_not_ok first second before after s r e
   command_not_ok (Library text) s r e = let never : status.Memory ≡ status.Ok = sym r ∙ e in cc
@@ -61,7 +61,7 @@ module _ (before after : ShelfState) where
   unread_command (Check report theory proof) s n r e = unread_check theory proof before after s n r e
   unread_command (Prove limits theory script proof) s n r e = unread_prove theory script before after s n r e
   unread_command (Show theory) s n r e = let P : Status → Type 0 = IsFileFault 1 theory TheoryRefusal before after in subst P e r
-  unread_command (Contexts budget theory) s n r e = let P : Status → Type 0 = IsFileFault 1 theory TheoryRefusal before after in subst P e r
+  unread_command (Contexts budget theory) s n r e = let P : Status → Type 0 = IsFileFault 1 theory PlainTheoryRefusal before after in subst P e r
   unread_command (Reduce budget theory script) s n r e = unread_reduce budget theory script before after s n r e
   unread_command (Same first second) s n r e = unread_same first second before after s n r e
   unread_command (Library text) s n r e = absurd (let never : status.Memory ≡ status.ReadFault n = sym r ∙ e in cc)
@@ -73,7 +73,7 @@ module _ (before after : ShelfState) where
   past_command (Prove limits theory script proof) s file n r e = past_prove theory script before after s file n r e
   past_command (Show theory) s file n r e = let P : Status → Type 0 = IsFileFault 1 theory TheoryRefusal before after in let x = subst P e r in (sym x.0, x.1)
   past_command (Contexts budget theory) s file n r e =
-      let P : Status → Type 0 = IsFileFault 1 theory TheoryRefusal before after in let x = subst P e r in (sym x.0, x.1)
+      let P : Status → Type 0 = IsFileFault 1 theory PlainTheoryRefusal before after in let x = subst P e r in (sym x.0, x.1)
   past_command (Reduce budget theory script) s file n r e = past_reduce budget theory script before after s file n r e
   past_command (Same first second) s file n r e = past_same first second before after s file n r e
   past_command (Library text) s file n r e = absurd (let never : status.Memory ≡ status.TooLong file n = sym r ∙ e in cc)
@@ -83,7 +83,7 @@ module _ (before after : ShelfState) where
   unwritten_command (Check report theory proof) s n r e = unwritten_check theory proof before after s n r e
   unwritten_command (Prove limits theory script proof) s n r e = unwritten_prove theory script before after s n r e
   unwritten_command (Show theory) s n r e = let P : Status → Type 0 = IsFileFault 1 theory TheoryRefusal before after in subst P e r
-  unwritten_command (Contexts budget theory) s n r e = let P : Status → Type 0 = IsFileFault 1 theory TheoryRefusal before after in subst P e r
+  unwritten_command (Contexts budget theory) s n r e = let P : Status → Type 0 = IsFileFault 1 theory PlainTheoryRefusal before after in subst P e r
   unwritten_command (Reduce budget theory script) s n r e = unwritten_reduce budget theory script before after s n r e
   unwritten_command (Same first second) s n r e = unwritten_same first second before after s n r e
   unwritten_command (Library text) s n r e = let never : status.Memory ≡ status.WriteFault n = sym r ∙ e in cc
@@ -103,7 +103,7 @@ module _ (before : ShelfState) where
 
   pub work_end : (c : Command) (s : Status) (text : List ℕ) (stored : Option Stored) → Comes c s text stored before → IsSearchEnd s
   work_end (Check report theory proof) s text stored a = ok_end s a.0
-  work_end (Prove limits theory script proof) s text stored a = search_end a.th (plain_limits limits) proof (blocks_of a.sc) s text stored a.ends
+  work_end (Prove limits theory script proof) s text stored a = search_end a.th (plain_limits limits) proof a.sc.blocks s text stored a.ends
   work_end (Show theory) s text stored a = ok_end s a.0
   work_end (Contexts budget theory) s text stored a = ok_end s a.0
   work_end (Reduce budget theory script) s text stored a = ok_end s a.0
@@ -148,8 +148,8 @@ module _ (before : ShelfState) where
       → stored_name c ≡ Some x.name
   work_name (Check report theory proof) s text stored x a e = nothing_stored stored x a.1.1 e
   work_name (Prove limits theory script proof) s text stored x a e =
-      let P : Option Stored → Type 0 = λ y. SearchEnds a.th (plain_limits limits) proof (blocks_of a.sc) (ending s text y) in
-      ap Some (sym (search_name a.th (plain_limits limits) proof (blocks_of a.sc) s text x (subst P e a.ends)))
+      let P : Option Stored → Type 0 = λ y. SearchEnds a.th (plain_limits limits) proof a.sc.blocks (ending s text y) in
+      ap Some (sym (search_name a.th (plain_limits limits) proof a.sc.blocks s text x (subst P e a.ends)))
   work_name (Show theory) s text stored x a e = nothing_stored stored x a.1.1 e
   work_name (Contexts budget theory) s text stored x a e = nothing_stored stored x a.1.1 e
   work_name (Reduce budget theory script) s text stored x a e = nothing_stored stored x a.1.1 e
@@ -217,8 +217,8 @@ module _ (words : List (List ℕ)) (before after : ShelfState) (start end : Sink
       let s = answers_succeed q e in
       let P : Command → Type 0 = λ c. Succeeds c s.text s.stored before in
       let a = subst P (same_command words s.command (Prove limits theory script proof) s.asks i) s.succeeds in
-      let ok = search_ok a.th (plain_limits limits) proof (blocks_of a.sc) s.text s.stored a.ends in
-      let says = found a.th a.takes_theory.well_formed (blocks_of a.sc) a.searchable (plain_limits limits) ok.p ok.search in
+      let ok = search_ok a.th (plain_limits limits) proof a.sc.blocks s.text s.stored a.ends in
+      let says = found a.th a.takes_theory.well_formed a.sc.blocks a.searchable (plain_limits limits) ok.p ok.search in
       let H : Option Stored → Type 0 = λ x. HoldsAfter x before after in
       let T : List ℕ → Type 0 = λ x. Prints x start end in
       let held = subst H ok.stored_is s.held in
@@ -249,7 +249,7 @@ module _ (words : List (List ℕ)) (before after : ShelfState) (start end : Sink
           record { report = report; theory = theory; proof = proof; asks = i; refused = check_refused theory proof before after s n f e; quiet = q; prints = subst P e p }
       rejects (Prove limits theory script proof) s i f e p q = absurd (prove_not_refused theory script before after s n f e)
       rejects (Show theory) s i f e p q = absurd (command_not_refused before after theory s n f e)
-      rejects (Contexts budget theory) s i f e p q = absurd (command_not_refused before after theory s n f e)
+      rejects (Contexts budget theory) s i f e p q = absurd (file_fault_not_refused 1 theory PlainTheoryRefusal before after s n e f)
       rejects (Reduce budget theory script) s i f e p q = absurd (reduce_not_refused budget theory script before after s n f e)
       rejects (Same first second) s i f e p q = absurd (same_not_refused first second before after s n f e)
       rejects (Library text) s i f e p q = absurd (let never : status.Memory ≡ status.Refused n = sym f ∙ e in cc)

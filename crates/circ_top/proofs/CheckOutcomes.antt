@@ -18,7 +18,7 @@ use Rattle.circ_top.specs.Outcome.{command}
 use Rattle.circ_files.specs.ProofFile.{ReadsProof, ProofRefusal}
 use Rattle.circ_files.specs.Texts.{refused_text}
 use Rattle.circ_top.specs.Refusals.{refusal_text}
-use Rattle.circ_files.specs.TheoryFile.{ReadsTheory, TheoryRefusal}
+use Rattle.circ_files.specs.TheoryFile.{ReadsTheory, TheoryRefusal, TakesTheory}
 use Rattle.circ_top.specs.declared.request.Report.{Report}
 use Rattle.circ_files.specs.declared.status.Status.{Status}
 use Rattle.circ_files.specs.declared.status.Status.TheVariants as status
@@ -45,14 +45,14 @@ module _ (theory proof : List ℕ) (before after : ShelfState) where
       subst P same f
 
   pub unread_check : (s : Status) (n : ℕ) → RefusesCheck theory proof before after s → s ≡ status.ReadFault n
-      → (n ≡ after.count) × AtEither before theory proof (λ f name. IsUnread name before after)
+      → (n ≡ after.count) × AtEither (λ th. TakesTheory theory th before) theory proof (λ f name. IsUnread name before after)
   unread_check s n (theory_fault _ f) e = let P : Status → Type 0 = IsFileFault 1 theory TheoryRefusal before after in let r = subst P e f in (r.0, inl r.1)
   unread_check s n (proof_fault _ th a f) e =
       let P : Status → Type 0 = IsFileFault 2 proof (ProofRefusal th) before after in let r = subst P e f in (r.0, inr (th, (a, r.1)))
   unread_check _ n (step_fails m f) e = absurd (cc)
 
   pub past_check : (s : Status) (file n : ℕ) → RefusesCheck theory proof before after s → s ≡ status.TooLong file n
-      → AtEither before theory proof (λ f name. (f ≡ file) × IsTooLong name n before)
+      → AtEither (λ th. TakesTheory theory th before) theory proof (λ f name. (f ≡ file) × IsTooLong name n before)
   past_check s file n (theory_fault _ f) e =
       let P : Status → Type 0 = IsFileFault 1 theory TheoryRefusal before after in let r = subst P e f in inl (sym r.0, r.1)
   past_check s file n (proof_fault _ th a f) e =

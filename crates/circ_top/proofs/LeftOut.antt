@@ -21,7 +21,7 @@ use Rattle.circ_plain_search.specs.Numbering.{Found}
 use Rattle.circ_plain_search.specs.PlainSearch.{PlainSearch}
 use Rattle.circ_plain_search.specs.Search.{Limits as SearchLimits}
 use Rattle.circ_found.specs.Ending.{Stored, Ending}
-use Rattle.circ_found.specs.Answering.{blocks_of, found_ending}
+use Rattle.circ_found.specs.Answering.{found_ending}
 use Rattle.circ_top.specs.Outcome.{Outcome, usage, command}
 use Rattle.circ_files.specs.ProofFile.{ProofRefusal}
 use Rattle.circ_top.specs.Reduce.{reduced, results_text, not_reduced, all_reduced}
@@ -42,7 +42,8 @@ use Rattle.circ_files.specs.ScriptFile.{ScriptRefusal}
 use Rattle.circ_top.specs.Show.{not_shown, shown}
 use Rattle.circ_files.specs.Texts.{refused_text}
 use Rattle.circ_top.specs.Refusals.{usage_text, refusal_text}
-use Rattle.circ_files.specs.TheoryFile.{TheoryRefusal}
+use Rattle.circ_files.specs.TheoryFile.{TheoryRefusal, ReadsAsPlain, PlainTheoryRefusal}
+use Rattle.circ_files.proofs.Readings.{plain_or_refused}
 use Rattle.circ_files.specs.declared.files.TheConstants.{MOST_BYTES}
 use Rattle.circ_top.specs.declared.request.Report.{Report}
 use Rattle.circ_turn.specs.declared.search.Limits.{Limits}
@@ -98,6 +99,9 @@ module _ (reads : (bytes : List ℕ) → ReadOrRefused bytes) (proofs : ProofsDe
     (automata : AutomataDecided)
     (searches : (th : Theory) (blocks : List (List Goal)) (limits : SearchLimits) → ((f : Found) → PlainSearch th blocks limits f → ⊥) → ⊥) (words : List (List ℕ)) (held : Held)
     (none_is : (s : Status) (text : List ℕ) (stored : Option Stored) → Outcome words held s text stored → ⊥) where
+  plain_reads : (bytes : List ℕ) → ((th : Theory) → ReadsAsPlain bytes th → ⊥) → ((n : ℕ) (c : Cause) → PlainTheoryRefusal n c bytes → ⊥) → ⊥
+  plain_reads bytes = plain_or_refused bytes (reads bytes)
+
   no_check : (report : Report) (theory proof : List ℕ) → Asks words (Check report theory proof) → HoldsFilesOf held (Check report theory proof) → ⊥
   no_check report theory proof i h = file_decides held 1 theory TheoryRefusal ReadsAs h.0 reads
       (λ th rt. file_decides held 2 proof (ProofRefusal th) (ReadsAsProof th) h.1
@@ -118,7 +122,7 @@ module _ (reads : (bytes : List ℕ) → ReadOrRefused bytes) (proofs : ProofsDe
       (λ s x. let text : List ℕ = refusal_text (Show theory) s in none_is s text None (command (Show theory) s text None i (not_shown s x, refl)))
 
   no_reduce : (budget : ℕ) (theory script : List ℕ) → Asks words (Reduce budget theory script) → HoldsFilesOf held (Reduce budget theory script) → ⊥
-  no_reduce budget theory script i h = file_decides held 1 theory TheoryRefusal ReadsAs h.0 reads
+  no_reduce budget theory script i h = file_decides held 1 theory PlainTheoryRefusal ReadsAsPlain h.0 plain_reads
       (λ th rt. file_decides held 2 script (ScriptRefusal th job.Reduce) (ReadsAsScript th job.Reduce) h.1 (scripts th job.Reduce)
       (λ q rq. forms_or_end budget (reduced th budget q.terms)
       (λ results left e. let text : List ℕ = results_text th.signature results (budget - left) in none_is status.Ok text None
@@ -143,9 +147,9 @@ module _ (reads : (bytes : List ℕ) → ReadOrRefused bytes) (proofs : ProofsDe
 
   no_prove : (limits : Limits) (theory script proof : List ℕ) → Asks words (Prove limits theory script proof)
       → HoldsFilesOf held (Prove limits theory script proof) → ⊥
-  no_prove limits theory script proof i h = file_decides held 1 theory TheoryRefusal ReadsAs h.0 reads
+  no_prove limits theory script proof i h = file_decides held 1 theory PlainTheoryRefusal ReadsAsPlain h.0 plain_reads
       (λ th rt. file_decides held 2 script (ScriptRefusal th job.Prove) (ReadsAsScript th job.Prove) h.1 (scripts th job.Prove)
-      (λ q rq. searches th (blocks_of q) (plain_limits limits)
+      (λ q rq. searches th q.blocks (plain_limits limits)
       (λ f x. let e : Ending = found_ending th.signature proof f in none_is e.status e.text e.stored
       (command (Prove limits theory script proof) e.status e.text e.stored i
       (searched e.status e.text e.stored th q rt rq (record { found = f; search = x; is = refl })))))
@@ -155,7 +159,7 @@ module _ (reads : (bytes : List ℕ) → ReadOrRefused bytes) (proofs : ProofsDe
       (command (Prove limits theory script proof) s text None i (prove.no_theory s x)))
 
   no_contexts : (budget : ℕ) (theory : List ℕ) → Asks words (Contexts budget theory) → HoldsFilesOf held (Contexts budget theory) → ⊥
-  no_contexts budget theory i h = file_decides held 1 theory TheoryRefusal ReadsAs h reads
+  no_contexts budget theory i h = file_decides held 1 theory PlainTheoryRefusal ReadsAsPlain h plain_reads
       (λ th rt. some_set th budget (λ G tss g. let text : List ℕ = place_lines th.signature G in none_is status.Ok text None
       (command (Contexts budget theory) status.Ok text None i
       (listed th text rt (record { places = G; traces = tss; greatest = g; text_is = refl }), refl))))
@@ -166,9 +170,9 @@ module _ (reads : (bytes : List ℕ) → ReadOrRefused bytes) (proofs : ProofsDe
   ended n i e g = none_is e.status e.text e.stored (command (Generate n) e.status e.text e.stored i g)
 
   no_generate : (n : ℕ) → Asks words (Generate n) → ⊥
-  no_generate n i = reads (chain_theory n)
+  no_generate n i = plain_reads (chain_theory n)
       (λ th rt. scripts th job.Prove (chain_script n)
-      (λ sc rs. searches th (blocks_of sc) greatest_limits
+      (λ sc rs. searches th sc.blocks greatest_limits
       (λ f x. ended n i (chain_ending th.signature n f) (generating.searched (chain_ending th.signature n f) th sc f rt rs x refl)))
       (λ place c f. ended n i (unread_ending 2 place c) (generating.no_script (unread_ending 2 place c) th place c rt f refl)))
       (λ place c f. ended n i (unread_ending 1 place c) (generating.no_theory (unread_ending 1 place c) place c f refl))

@@ -1,4 +1,3 @@
-pub mod Reporting
 pub mod Printing
 pub mod WordRows
 pub mod ProofFiles

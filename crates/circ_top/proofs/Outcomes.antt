@@ -16,7 +16,7 @@ use Rattle.circ_top.specs.Storing.{HoldsAfter, IsUnstored, Ends, stored_first, n
 use Rattle.circ_top.specs.Refusals.{usage_text, refusal_text}
 use Rattle.circ_files.specs.declared.status.Status.{Status}
 use Rattle.circ_files.specs.declared.status.Status.TheVariants as status
-use Rattle.circ_files.proofs.Readings.{ReadsOnce}
+use Rattle.circ_files.proofs.Readings.{ReadsOnce, reads_plain_once}
 use Rattle.circ_top.proofs.Agreeing.{DueIs, outcome, nothing_read, no_memory_left, Agrees, alike, AgreesWith, agreed, memory_with, stored_nothing, PrintsOnce, agree_answers, answers_part}
 use Rattle.circ_found.specs.Ending.{ending}
 use Rattle.circ_top.specs.Contexts.{ContextsOutcome}
@@ -82,15 +82,15 @@ module _ (once : ReadsOnce) (proofs : ProofsOnce) (scripts : ScriptsOnce) (autom
       stored_nothing before after s text stored r (refusal_text (Check report theory proof) r) c.1
       (check_agrees once proofs report theory proof before after t r s text f c.0)
   refusal_agrees (Prove limits theory script proof) s r text stored c f =
-      prove_agrees once scripts searches limits theory script proof before after t r s text stored f c
+      prove_agrees (reads_plain_once once) scripts searches limits theory script proof before after t r s text stored f c
   refusal_agrees (Show theory) s r text stored c f =
       stored_nothing before after s text stored r (refusal_text (Show theory) r) c.1 (show_agrees once theory before after t r s text f c.0)
   refusal_agrees (Contexts budget theory) s r text stored c f =
       stored_nothing before after s text stored r (refusal_text (Contexts budget theory) r) c.1
-      (contexts_agrees once budget theory before after t r s text f c.0)
+      (contexts_agrees (reads_plain_once once) budget theory before after t r s text f c.0)
   refusal_agrees (Reduce budget theory script) s r text stored c f =
       stored_nothing before after s text stored r (refusal_text (Reduce budget theory script) r) c.1
-      (reduce_agrees once scripts budget theory script before after t r s text f c.0)
+      (reduce_agrees (reads_plain_once once) scripts budget theory script before after t r s text f c.0)
   refusal_agrees (Same first second) s r text stored c f =
       stored_nothing before after s text stored r (refusal_text (Same first second) r) c.1
       (same_agrees automata first second before after t r s text f c.0)
@@ -112,13 +112,13 @@ module _ (once : ReadsOnce) (proofs : ProofsOnce) (scripts : ScriptsOnce) (autom
   work_agrees (Check report theory proof) s r text given stored other c a =
       ok_agrees s r text given stored other a.0 a.1.1 c.1 (accepted_agrees once proofs report theory proof before after t given a.1.0 s text c.0)
   work_agrees (Prove limits theory script proof) s r text given stored other c a =
-      searched_agrees once scripts searches limits theory script proof before after t r given other a s text stored c
+      searched_agrees (reads_plain_once once) scripts searches limits theory script proof before after t r given other a s text stored c
   work_agrees (Show theory) s r text given stored other c a =
       ok_agrees s r text given stored other a.0 a.1.1 c.1 (shown_agrees once theory before after t printed_once given a.1.0 s text c.0)
   work_agrees (Contexts budget theory) s r text given stored other c a =
-      ok_agrees s r text given stored other a.0 a.1.1 c.1 (listed_agrees once budget theory before after t given a.1.0 s text c.0)
+      ok_agrees s r text given stored other a.0 a.1.1 c.1 (listed_agrees (reads_plain_once once) budget theory before after t given a.1.0 s text c.0)
   work_agrees (Reduce budget theory script) s r text given stored other c a =
-      ok_agrees s r text given stored other a.0 a.1.1 c.1 (reduced_agrees once scripts budget theory script before after t given a.1.0 s text c.0)
+      ok_agrees s r text given stored other a.0 a.1.1 c.1 (reduced_agrees (reads_plain_once once) scripts budget theory script before after t given a.1.0 s text c.0)
   work_agrees (Same first second) s r text given stored other c a =
       let Q : Option Stored → Type 0 = λ x. AgreesWith before after s text stored r given x in
       subst Q (sym a.1) (stored_nothing before after s text stored r given c.1 (compared_agrees automata first second before after t r given a.0 s text c.0))
@@ -128,7 +128,7 @@ module _ (once : ReadsOnce) (proofs : ProofsOnce) (scripts : ScriptsOnce) (autom
       ok_agrees s r text given stored other a.0 a.1.1 c.1
       (subst Q (sym c.0.0) (alike status.Ok given (subst P (c.0.1 ∙ sym a.1.0) (itself status.Ok text))))
   work_agrees (Generate n) s r text given stored other c a =
-      let same = generates_alike once scripts searches n (ending s text stored) (ending r given other) c a in agreed r given other same.0 (sym same.1)
+      let same = generates_alike (reads_plain_once once) scripts searches n (ending s text stored) (ending r given other) c a in agreed r given other same.0 (sym same.1)
 
   due_agrees : (s r : Status) (text given : List ℕ) (stored other : Option Stored) → Outcome words before.holds s text stored
       → DueAnswer words before after r given other

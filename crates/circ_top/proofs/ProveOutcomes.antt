@@ -2,22 +2,21 @@
 use Rattle.std.proofs.Common.{◌≡◌, ℕ, List, refl, ap, sym, subst, inl, inr, true, Option, None}
 use Rattle.circ_outer.specs.Shelf.{ShelfState}
 use Rattle.circ_theory.specs.Theory.{Theory}
-use Rattle.circ_read.specs.ReadsAs.{ReadsAs}
 use Rattle.circ_script.specs.Script.{Script}
 use Rattle.circ_script.specs.ReadsAsScript.{ReadsAsScript}
 use Rattle.circ_script.specs.declared.job.Job.TheVariants as job
 use Rattle.circ_files.specs.Files.{IsOnly, RefusesFile, IsUnread, IsTooLong, IsFileFault}
 use Rattle.circ_files.specs.ScriptFile.{ReadsScript, ScriptRefusal}
-use Rattle.circ_files.specs.TheoryFile.{ReadsTheory, TheoryRefusal}
+use Rattle.circ_files.specs.TheoryFile.{ReadsAsPlain, ReadsPlainTheory, PlainTheoryRefusal, TakesPlainTheory}
 use Rattle.circ_files.specs.Like.{IsLike, itself}
 use Rattle.circ_files.specs.declared.status.Status.{Status}
 use Rattle.circ_files.specs.declared.status.Status.TheVariants as status
 use Rattle.circ_files.proofs.FileFaults.{FaultOf, fault_of, refuses, unread, out_of_memory, reads_not_refused, refused_held, holds_held}
 use Rattle.circ_files.proofs.FileFaults.{unread_rose, file_fault_not_ok, file_fault_not_refused}
-use Rattle.circ_files.proofs.Readings.{ReadsOnce}
+use Rattle.circ_files.proofs.Readings.{ReadsPlainOnce}
 use Rattle.circ_files.proofs.Scripts.{ScriptsOnce}
 use Rattle.circ_found.specs.Ending.{Stored, ending}
-use Rattle.circ_found.specs.Answering.{blocks_of, SearchEnds}
+use Rattle.circ_found.specs.Answering.{SearchEnds}
 use Rattle.circ_top.specs.Causes.{AtEither}
 use Rattle.circ_top.specs.Command.{Prove, Asks}
 use Rattle.circ_search.specs.Plain.{plain_limits}
@@ -30,28 +29,28 @@ use Rattle.circ_top.proofs.Searches.{SearchesOnce, one_ending}
 
 module _ (theory script : List ℕ) (before after : ShelfState) where
   pub prove_not_ok : (s : Status) → RefusesProve theory script before after s → s ≡ status.Ok → ⊥
-  prove_not_ok s (theory_fault _ f) e = file_fault_not_ok 1 theory TheoryRefusal before after s e f
+  prove_not_ok s (theory_fault _ f) e = file_fault_not_ok 1 theory PlainTheoryRefusal before after s e f
   prove_not_ok s (script_fault _ th a f) e = file_fault_not_ok 2 script (ScriptRefusal th job.Prove) before after s e f
 
   pub prove_not_refused : (s : Status) (n : ℕ) → RefusesProve theory script before after s → s ≡ status.Refused n → ⊥
-  prove_not_refused s n (theory_fault _ f) e = file_fault_not_refused 1 theory TheoryRefusal before after s n e f
+  prove_not_refused s n (theory_fault _ f) e = file_fault_not_refused 1 theory PlainTheoryRefusal before after s n e f
   prove_not_refused s n (script_fault _ th a f) e = file_fault_not_refused 2 script (ScriptRefusal th job.Prove) before after s n e f
 
   pub unread_prove : (s : Status) (n : ℕ) → RefusesProve theory script before after s → s ≡ status.ReadFault n
-      → (n ≡ after.count) × AtEither before theory script (λ f name. IsUnread name before after)
-  unread_prove s n (theory_fault _ f) e = let P : Status → Type 0 = IsFileFault 1 theory TheoryRefusal before after in let r = subst P e f in (r.0, inl r.1)
+      → (n ≡ after.count) × AtEither (λ th. TakesPlainTheory theory th before) theory script (λ f name. IsUnread name before after)
+  unread_prove s n (theory_fault _ f) e = let P : Status → Type 0 = IsFileFault 1 theory PlainTheoryRefusal before after in let r = subst P e f in (r.0, inl r.1)
   unread_prove s n (script_fault _ th a f) e =
       let P : Status → Type 0 = IsFileFault 2 script (ScriptRefusal th job.Prove) before after in let r = subst P e f in (r.0, inr (th, (a, r.1)))
 
   pub past_prove : (s : Status) (file n : ℕ) → RefusesProve theory script before after s → s ≡ status.TooLong file n
-      → AtEither before theory script (λ f name. (f ≡ file) × IsTooLong name n before)
+      → AtEither (λ th. TakesPlainTheory theory th before) theory script (λ f name. (f ≡ file) × IsTooLong name n before)
   past_prove s file n (theory_fault _ f) e =
-      let P : Status → Type 0 = IsFileFault 1 theory TheoryRefusal before after in let r = subst P e f in inl (sym r.0, r.1)
+      let P : Status → Type 0 = IsFileFault 1 theory PlainTheoryRefusal before after in let r = subst P e f in inl (sym r.0, r.1)
   past_prove s file n (script_fault _ th a f) e =
       let P : Status → Type 0 = IsFileFault 2 script (ScriptRefusal th job.Prove) before after in let r = subst P e f in inr (th, (a, (sym r.0, r.1)))
 
   pub unwritten_prove : (s : Status) (n : ℕ) → RefusesProve theory script before after s → s ≡ status.WriteFault n → ⊥
-  unwritten_prove s n (theory_fault _ f) e = let P : Status → Type 0 = IsFileFault 1 theory TheoryRefusal before after in subst P e f
+  unwritten_prove s n (theory_fault _ f) e = let P : Status → Type 0 = IsFileFault 1 theory PlainTheoryRefusal before after in subst P e f
   unwritten_prove s n (script_fault _ th a f) e = let P : Status → Type 0 = IsFileFault 2 script (ScriptRefusal th job.Prove) before after in subst P e f
 
 module _ (limits : Limits) (theory script name : List ℕ) (before after : ShelfState) where
@@ -62,20 +61,20 @@ module _ (limits : Limits) (theory script name : List ℕ) (before after : Shelf
   pub due_prove : (words : List (List ℕ)) (s : Status) → before.tells ≡ true → Asks words (Prove limits theory script name)
       → RefusesProve theory script before after s → DueIs words before after s (refusal_text (Prove limits theory script name) s) None
   due_prove words s t i (theory_fault _ f) =
-      file_due words (Prove limits theory script name) before after 1 theory TheoryRefusal s t i f (λ r x. no_theory r x)
+      file_due words (Prove limits theory script name) before after 1 theory PlainTheoryRefusal s t i f (λ r x. no_theory r x)
   due_prove words s t i (script_fault _ th a f) =
       file_due words (Prove limits theory script name) before after 2 script (ScriptRefusal th job.Prove) s t i f (λ r x. no_script r th (a.reads t).0 x)
 
-module _ (once : ReadsOnce) (scripts : ScriptsOnce) (searches : SearchesOnce) (limits : Limits) (theory script name : List ℕ) (before after : ShelfState)
+module _ (once : ReadsPlainOnce) (scripts : ScriptsOnce) (searches : SearchesOnce) (limits : Limits) (theory script name : List ℕ) (before after : ShelfState)
     (t : before.tells ≡ true) where
   theory_held : (s : Status) (text : List ℕ) (stored : Option Stored) → ProveOutcome before.holds limits theory script name s text stored
       → before.holds theory ≡ None → ⊥
-  theory_held s _ _ (no_theory _ r) e = refused_held before.holds 1 theory TheoryRefusal s r e
-  theory_held s _ _ (no_script _ u ru r) e = holds_held before.holds theory (λ b. ReadsAs b u) ru e
-  theory_held s text stored (searched _ _ _ u q ru rq x) e = holds_held before.holds theory (λ b. ReadsAs b u) ru e
+  theory_held s _ _ (no_theory _ r) e = refused_held before.holds 1 theory PlainTheoryRefusal s r e
+  theory_held s _ _ (no_script _ u ru r) e = holds_held before.holds theory (λ b. ReadsAsPlain b u) ru e
+  theory_held s text stored (searched _ _ _ u q ru rq x) e = holds_held before.holds theory (λ b. ReadsAsPlain b u) ru e
 
-  not_theory : (s : Status) (u : Theory) → ReadsTheory before.holds theory u → RefusesFile before.holds 1 theory TheoryRefusal s → ⊥
-  not_theory s u ru x = reads_not_refused before.holds 1 theory TheoryRefusal (λ b. ReadsAs b u) s ru (λ p c b h n. once.either b u p c h n) x
+  not_theory : (s : Status) (u : Theory) → ReadsPlainTheory before.holds theory u → RefusesFile before.holds 1 theory PlainTheoryRefusal s → ⊥
+  not_theory s u ru x = reads_not_refused before.holds 1 theory PlainTheoryRefusal (λ b. ReadsAsPlain b u) s ru (λ p c b h n. once.either b u p c h n) x
 
   not_script : (s : Status) (u : Theory) (q : Script) → ReadsScript before.holds script u job.Prove q
       → RefusesFile before.holds 2 script (ScriptRefusal u job.Prove) s → ⊥
@@ -88,16 +87,16 @@ module _ (once : ReadsOnce) (scripts : ScriptsOnce) (searches : SearchesOnce) (l
     script_refused : (s : Status) → RefusesFile before.holds 2 script (ScriptRefusal th job.Prove) s
         → Fixed th s (refusal_text (Prove limits theory script name) s) None
     search_ends : (s : Status) (text : List ℕ) (stored : Option Stored) (q : Script) → ReadsScript before.holds script th job.Prove q
-        → SearchEnds th (plain_limits limits) name (blocks_of q) (ending s text stored) → Fixed th s text stored
+        → SearchEnds th (plain_limits limits) name q.blocks (ending s text stored) → Fixed th s text stored
 
-  fixed : (th : Theory) → IsOnly th (ReadsTheory before.holds theory) → (s : Status) (text : List ℕ) (stored : Option Stored)
+  fixed : (th : Theory) → IsOnly th (ReadsPlainTheory before.holds theory) → (s : Status) (text : List ℕ) (stored : Option Stored)
       → ProveOutcome before.holds limits theory script name s text stored → Fixed th s text stored
   fixed th only s _ _ (no_theory _ r) = absurd (not_theory s th only.0 r)
   fixed th only s _ _ (no_script _ u ru r) =
       let P : Theory → Type 0 = λ v. RefusesFile before.holds 2 script (ScriptRefusal v job.Prove) s in script_refused s (subst P (only.1 u ru) r)
   fixed th only s text stored (searched _ _ _ u q ru rq x) =
       let P : Theory → Type 0 = λ v. ReadsScript before.holds script v job.Prove q in
-      let Q : Theory → Type 0 = λ v. SearchEnds v (plain_limits limits) name (blocks_of q) (ending s text stored) in
+      let Q : Theory → Type 0 = λ v. SearchEnds v (plain_limits limits) name q.blocks (ending s text stored) in
       search_ends s text stored q (subst P (only.1 u ru) rq) (subst Q (only.1 u ru) x)
 
   pub searched_agrees : (r : Status) (given : List ℕ) (other : Option Stored) → IsSearched limits theory script name (ending r given other) before
@@ -108,9 +107,9 @@ module _ (once : ReadsOnce) (scripts : ScriptsOnce) (searches : SearchesOnce) (l
       go : (s : Status) (text : List ℕ) (stored : Option Stored) → Fixed a.th s text stored → AgreesWith before after s text stored r given other
       go s _ _ (script_refused _ x) = absurd (not_script s a.th a.sc (a.takes_script.reads t).0 x)
       go s text stored (search_ends _ _ _ q rq x) =
-          let P : Script → Type 0 = λ v. SearchEnds a.th (plain_limits limits) name (blocks_of v) (ending s text stored) in
+          let P : Script → Type 0 = λ v. SearchEnds a.th (plain_limits limits) name v.blocks (ending s text stored) in
           let same : ending s text stored ≡ ending r given other =
-          one_ending a.th (plain_limits limits) name (blocks_of a.sc) searches (ending s text stored) (ending r given other)
+          one_ending a.th (plain_limits limits) name a.sc.blocks searches (ending s text stored) (ending r given other)
           (subst P ((a.takes_script.reads t).1 q rq) x) a.ends in
           let Q : Status → Type 0 = λ y. IsLike s text y text in
           let R : List ℕ → Type 0 = λ y. IsLike s text r y in
@@ -129,12 +128,12 @@ module _ (once : ReadsOnce) (scripts : ScriptsOnce) (searches : SearchesOnce) (l
   script_agrees th _ s text stored (unread n e u) f = unread_file_with n (unread_rose script before after (script_held th s text stored f) u)
   script_agrees th _ s text stored out_of_memory f = memory_with
 
-  theory_agrees : (r s : Status) (text : List ℕ) (stored : Option Stored) → FaultOf 1 theory TheoryRefusal before after r
+  theory_agrees : (r s : Status) (text : List ℕ) (stored : Option Stored) → FaultOf 1 theory PlainTheoryRefusal before after r
       → ProveOutcome before.holds limits theory script name s text stored
       → AgreesWith before after s text stored r (refusal_text (Prove limits theory script name) r) None
   theory_agrees r s _ _ (refuses _ x) (no_theory _ y) =
       agreed r (refusal_text (Prove limits theory script name) r) None
-      (refused_alike (Prove limits theory script name) before.holds 1 theory TheoryRefusal s r once.alike y x) refl
+      (refused_alike (Prove limits theory script name) before.holds 1 theory PlainTheoryRefusal s r once.alike y x) refl
   theory_agrees r s _ _ (refuses _ x) (no_script _ u ru y) = absurd (not_theory r u ru x)
   theory_agrees r s text stored (refuses _ x) (searched _ _ _ u q ru rq f) = absurd (not_theory r u ru x)
   theory_agrees _ s text stored (unread n e u) c = unread_file_with n (unread_rose theory before after (theory_held s text stored c) u)
@@ -143,6 +142,6 @@ module _ (once : ReadsOnce) (scripts : ScriptsOnce) (searches : SearchesOnce) (l
   pub prove_agrees : (r s : Status) (text : List ℕ) (stored : Option Stored) → RefusesProve theory script before after r
       → ProveOutcome before.holds limits theory script name s text stored
       → AgreesWith before after s text stored r (refusal_text (Prove limits theory script name) r) None
-  prove_agrees r s text stored (theory_fault _ f) c = theory_agrees r s text stored (fault_of 1 theory TheoryRefusal before after r t f) c
+  prove_agrees r s text stored (theory_fault _ f) c = theory_agrees r s text stored (fault_of 1 theory PlainTheoryRefusal before after r t f) c
   prove_agrees r s text stored (script_fault _ th a f) c =
       script_agrees th r s text stored (fault_of 2 script (ScriptRefusal th job.Prove) before after r t f) (fixed th (a.reads t) s text stored c)

@@ -15,7 +15,7 @@ use Rattle.circ_top.specs.Prove.{IsSearched}
 use Rattle.circ_top.specs.Same.{AtAutomaton}
 use Rattle.circ_found.specs.Ending.{Stored}
 use Rattle.circ_top.specs.Storing.{HoldsAfter}
-use Rattle.circ_files.specs.TheoryFile.{TakesTheory}
+use Rattle.circ_files.specs.TheoryFile.{TakesTheory, TakesPlainTheory}
 use Rattle.circ_files.specs.declared.status.Status.{Status}
 use Rattle.circ_files.specs.declared.status.Status.TheVariants as status
 
@@ -54,16 +54,16 @@ pub data AnswersOutcome (before after : ShelfState) (start end : SinkState) (s :
   no_memory : PrintsPartOf s text start end → AnswersOutcome before after start end s text stored status.Memory
 
 -- The first of two files has the fact, by its number and name; or it reads as a theory, and the second has the fact.
-abbrev pub AtEither : ShelfState → (theory second : List ℕ) → (ℕ → List ℕ → Type 0) → Type 0
-AtEither before theory second P = P 1 theory ⊎ ((th : Theory) × (TakesTheory theory th before × P 2 second))
+abbrev pub AtEither : (takes : Theory → Type 0) → (theory second : List ℕ) → (ℕ → List ℕ → Type 0) → Type 0
+AtEither takes theory second P = P 1 theory ⊎ ((th : Theory) × (takes th × P 2 second))
 
 -- A file of the command has the fact.
 abbrev pub AtFile : ShelfState → Command → (ℕ → List ℕ → Type 0) → Type 0
-AtFile before (Check report theory proof) P = AtEither before theory proof P
-AtFile before (Prove limits theory script proof) P = AtEither before theory script P
+AtFile before (Check report theory proof) P = AtEither (λ th. TakesTheory theory th before) theory proof P
+AtFile before (Prove limits theory script proof) P = AtEither (λ th. TakesPlainTheory theory th before) theory script P
 AtFile before (Show theory) P = P 1 theory
 AtFile before (Contexts budget theory) P = P 1 theory
-AtFile before (Reduce budget theory script) P = AtEither before theory script P
+AtFile before (Reduce budget theory script) P = AtEither (λ th. TakesPlainTheory theory th before) theory script P
 AtFile before (Same first second) P = AtAutomaton before first second P
 AtFile before (Library text) P = ⊥
 AtFile before (Generate n) P = ⊥

@@ -9,7 +9,7 @@ use Rattle.circ_theory.specs.Experiment.{Behaves}
 use Rattle.circ_theory.specs.declared.parts.Goal.{Goal}
 use Rattle.circ_proof.specs.Proof.{Block, Proof}
 use Rattle.circ_proof.specs.Accepted.{Derives, FirstFail}
-use Rattle.circ_show.specs.GoalsText.{plain_goal, relation_lines}
+use Rattle.circ_show.specs.GoalsText.{relation_lines}
 use Rattle.circ_found.specs.Answering.{all_goal_lines}
 use Rattle.circ_top.specs.Command.{Check, Asks}
 use Rattle.circ_top.specs.Delivery.{Prints}
@@ -30,7 +30,7 @@ accepted_text sig p = codes "accepted\n" ++ all_goal_lines sig (map (λ b. b.goa
 -- what is printed of an accepted proof: its goals; or the relation too, that is the goals that each block derived
 abbrev pub report_text : Report → Signature → Proof → (derived : List (List Goal)) → List ℕ
 report_text Goals sig p derived = accepted_text sig p
-report_text Relation sig p derived = accepted_text sig p ++ relation_lines sig 1 (map (map plain_goal) derived)
+report_text Relation sig p derived = accepted_text sig p ++ relation_lines sig 1 derived
 
 -- The outcome of `check` or `relation`, with its text: the theory file refuses the command; or this reads, and the proof file refuses it; or both read, and
 -- step n is the first that is no instance of its rule; or both read, and every step is one.
@@ -48,8 +48,8 @@ pub data CheckOutcome (held : Held) (report : Report) (theory proof : List ℕ) 
 pub record Proves (report : Report) (th : Theory) (p : Proof) (text : List ℕ) : Type 0 where
   pub derived : List (List Goal)
   pub accepted : Derives th p derived
-  pub behave : (b : Block) → Contains p.blocks b → (g : Goal) → Contains b.goals g → Behaves th g.left g.right
-  pub derived_behave : (ds : List Goal) → Contains derived ds → (g : Goal) → Contains ds g → Behaves th g.left g.right
+  pub behave : (b : Block) → Contains p.blocks b → (g : Goal) → Contains b.goals g → Behaves th g
+  pub derived_behave : (ds : List Goal) → Contains derived ds → (g : Goal) → Contains ds g → Behaves th g
   pub text_is : text ≡ report_text report th.signature p derived
 
 -- The two files read, and the proof is accepted, with this text.

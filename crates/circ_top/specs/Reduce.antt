@@ -16,7 +16,7 @@ use Rattle.circ_top.specs.Command.{Reduce}
 use Rattle.circ_files.specs.Files.{Held, RefusesFile}
 use Rattle.circ_files.specs.ScriptFile.{ReadsScript, TakesScript, ScriptRefusal, IsScriptFault}
 use Rattle.circ_top.specs.Refusals.{refusal_text}
-use Rattle.circ_files.specs.TheoryFile.{ReadsTheory, TakesTheory, TheoryRefusal, IsTheoryFault}
+use Rattle.circ_files.specs.TheoryFile.{ReadsPlainTheory, TakesPlainTheory, PlainTheoryRefusal, IsPlainTheoryFault}
 use Rattle.circ_files.specs.declared.status.Status.{Status}
 use Rattle.circ_files.specs.declared.status.Status.TheVariants as status
 
@@ -77,13 +77,13 @@ results_text sig results rewrites = flat_map (result_line sig) results ++ codes 
 -- The outcome, with its text: the theory file refuses the command; or this reads, and the script file refuses it; or both read, and a term has no normal
 -- form; or all have.
 pub data ReduceOutcome (held : Held) (budget : ℕ) (theory script : List ℕ) : Status → (text : List ℕ) → Type 0 where
-  no_theory : (s : Status) → RefusesFile held 1 theory TheoryRefusal s
+  no_theory : (s : Status) → RefusesFile held 1 theory PlainTheoryRefusal s
       → ReduceOutcome held budget theory script s (refusal_text (Reduce budget theory script) s)
-  no_script : (s : Status) (th : Theory) → ReadsTheory held theory th → RefusesFile held 2 script (ScriptRefusal th job.Reduce) s
+  no_script : (s : Status) (th : Theory) → ReadsPlainTheory held theory th → RefusesFile held 2 script (ScriptRefusal th job.Reduce) s
       → ReduceOutcome held budget theory script s (refusal_text (Reduce budget theory script) s)
-  not_reduced : (s : Status) (th : Theory) (sc : Script) → ReadsTheory held theory th → ReadsScript held script th job.Reduce sc
+  not_reduced : (s : Status) (th : Theory) (sc : Script) → ReadsPlainTheory held theory th → ReadsScript held script th job.Reduce sc
       → EndsWith budget (reduced th budget sc.terms) s → ReduceOutcome held budget theory script s (refusal_text (Reduce budget theory script) s)
-  all_reduced : (th : Theory) (sc : Script) (results : List Tree) (left : ℕ) → ReadsTheory held theory th → ReadsScript held script th job.Reduce sc
+  all_reduced : (th : Theory) (sc : Script) (results : List Tree) (left : ℕ) → ReadsPlainTheory held theory th → ReadsScript held script th job.Reduce sc
       → reduced th budget sc.terms ≡ Results results left
       → ReduceOutcome held budget theory script status.Ok (results_text th.signature results (budget - left))
 
@@ -104,7 +104,7 @@ pub record IsReduced (budget : ℕ) (theory script : List ℕ) (text : List ℕ)
   pub th : Theory
   pub sc : Script
   pub reduces : Reduces th budget sc.terms text
-  pub takes_theory : TakesTheory theory th before
+  pub takes_theory : TakesPlainTheory theory th before
   pub takes_script : TakesScript script th job.Reduce sc before
 
 -- The two files read, and the terms of the script end with this status.
@@ -112,12 +112,12 @@ pub record TermsEnd (budget : ℕ) (theory script : List ℕ) (s : Status) (befo
   pub th : Theory
   pub sc : Script
   pub ends : EndsWith budget (reduced th budget sc.terms) s
-  pub takes_theory : TakesTheory theory th before
+  pub takes_theory : TakesPlainTheory theory th before
   pub takes_script : TakesScript script th job.Reduce sc before
 
 -- Why it is refused: the theory file is at fault; or it reads, and the script file is at fault; or both read, and a term has no normal form.
 pub data RefusesReduce (budget : ℕ) (theory script : List ℕ) (before after : ShelfState) : Status → Type 0 where
-  theory_fault : (s : Status) → IsTheoryFault theory before after s → RefusesReduce budget theory script before after s
-  script_fault : (s : Status) (th : Theory) → TakesTheory theory th before → IsScriptFault script th job.Reduce before after s
+  theory_fault : (s : Status) → IsPlainTheoryFault theory before after s → RefusesReduce budget theory script before after s
+  script_fault : (s : Status) (th : Theory) → TakesPlainTheory theory th before → IsScriptFault script th job.Reduce before after s
       → RefusesReduce budget theory script before after s
   term_ends : (s : Status) → TermsEnd budget theory script s before → RefusesReduce budget theory script before after s

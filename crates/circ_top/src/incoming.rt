@@ -151,18 +151,9 @@ fn shared(alloc: Global, goals: &[Goal]) -> Result<Vec<Goal>, AllocError>
 {
     let mut list = Vec::new(alloc);
     for goal in goals {
-        list.push(share(goal)?)?;
+        list.push(goal.share(alloc)?)?;
     }
     Ok(list)
-}
-
-fn share(goal: &Goal) -> Result<Goal, AllocError>
-    ensures { IfOk result (λ g. g ≡ goal.now) }
-{
-    Ok(Goal {
-        left: goal.left.share()?,
-        right: goal.right.share()?,
-    })
 }
 
 // The answer to a text at fault.

@@ -5,7 +5,7 @@ ghost use Rattle.circ_files.specs.Quiet.{IsQuietCall};
 ghost use Rattle.circ_found.specs.Ending.{plain_ending};
 ghost use Rattle.circ_top.specs.Prove.{IsSearched, RefusesProve};
 
-use circ_files::{Status, take_script, take_theory};
+use circ_files::{Status, take_plain_theory, take_script};
 use circ_found::{Ending, search, searchable};
 use circ_outer::Shelf;
 use circ_script::Job;
@@ -30,7 +30,7 @@ pub(crate) fn prove<'a, S: Shelf>(
     ensures quiet { IsQuietCall (S.state shelf.old) (S.state shelf.new) result }
     ensures frame { ShelfFrame (S.state shelf.old) (S.state shelf.new) }
 {
-    let mut theory = match take_theory(alloc, shelf, theory) {
+    let mut theory = match take_plain_theory(alloc, shelf, theory) {
         Ok(theory) => theory,
         Err(status) => return Err(status),
     };

@@ -3,12 +3,11 @@ use Rattle.std.proofs.Common.{◌≡◌, ℕ, ◌+◌, ◌<◌, Bool, true, fals
 use Rattle.std.specs.Prelude.{nat_le}
 use Rattle.std.proofs.lemmas.Bool.{eqb-true}
 use Rattle.circ_term.specs.Tree.{Tree, sort_of}
-use Rattle.circ_theory.specs.Theory.{Theory}
+use Rattle.circ_theory.specs.Theory.{Theory, goal}
 use Rattle.circ_theory.specs.Observing.{is_hidden}
 use Rattle.circ_theory.specs.declared.parts.Goal.{Goal}
 use Rattle.circ_special.specs.declared.place.Place.{Place}
 use Rattle.circ_proof.specs.Plain.{WhyOf, Same_why, Split_why}
-use Rattle.circ_proof.specs.Goals.{goal}
 use Rattle.circ_proof.specs.Rules.{ProofStep, Simplify, Reduce, Derive, Done, derivatives_on}
 use Rattle.circ_proof.specs.Proof.{step_limit, split_limit}
 use Rattle.circ_plain_search.specs.BlockRules.{block_rules}
@@ -95,8 +94,8 @@ module _ (th : Theory) (l : Limits) where
   pub goal_keeps : (G : List Place) (st y : Standing) (g : Goal) (rest : List Goal) → goal_turn th G l st g rest ≡ Ok y → y.earlier ≡ st.earlier
   goal_keeps G st y g rest e =
       let x : Through (or_end l st (normal_sides th (block_rules th st.earlier) [] g.left g.right st.budget))
-      (λ n. sides_turn th G l (with_sides st rest n) (goal n.left n.right) rest) y = through _ _ y e in
-      join_keeps G (with_sides st rest x.value) y (goal x.value.left x.value.right) rest (joined G st.hypotheses [] x.value.left x.value.right) x.last
+      (λ n. sides_turn th G l (with_sides st rest n) (goal [] n.left n.right) rest) y = through _ _ y e in
+      join_keeps G (with_sides st rest x.value) y (goal [] x.value.left x.value.right) rest (joined G st.hypotheses [] x.value.left x.value.right) x.last
 
 -- the next block has the goals of this one behind those of earlier blocks
 pub done_earlier : (th : Theory) (l : Limits) (st y : Standing) → done_turn th l st ≡ Ok y → y.earlier ≡ st.earlier ++ st.goals

@@ -3,18 +3,18 @@ use Rattle.std.proofs.Common.{◌≡◌, ◌≤◌, ◌+◌, length, Bool, true,
 use Rattle.std.specs.Prelude.{nat_le}
 use Rattle.circ_term.specs.Tree.{Tree, sort_of}
 use Rattle.circ_term.specs.Limits.{Limit}
-use Rattle.circ_theory.specs.Theory.{Theory}
+use Rattle.circ_theory.specs.Theory.{Theory, goal}
 use Rattle.circ_theory.specs.Observing.{is_hidden}
 use Rattle.circ_theory.specs.declared.parts.Goal.{Goal}
 use Rattle.circ_special.specs.declared.place.Place.{Place}
 use Rattle.circ_proof.specs.Plain.{LinkOf, ChainOf, WhyOf, Same_why, Split_why}
-use Rattle.circ_proof.specs.Goals.{goal}
 use Rattle.circ_proof.specs.Rules.{Simplify, Done, derivatives_on}
 use Rattle.circ_proof.specs.Proof.{step_limit, split_limit}
-use Rattle.circ_plain_search.specs.BlockRules.{block_rules}
+use Rattle.circ_plain_search.specs.BlockRules.{HaveNoConditions, block_rules}
 use Rattle.circ_plain_search.specs.Joining.{Stop, HypothesisUse, use_link, and_then, put_all}
 use Rattle.circ_plain_search.specs.Search.{Limits, Standing, Ending, Sides, SplitReason, chain_with, chained, no_links, has_links, is_nil, normal_sides, split_cases, or_end, record_step, reduced, goals_limit, derive_turn, simplified, hidden_turn, visible_turn, open_turn, swept_sides, pass_turn, join_turn, sides_turn, goal_turn, with_sides, with_this, begun, next_block, done_turn, is_deep_step}
 use Rattle.circ_plain_search.specs.Coming.{IsSmall}
+use Rattle.circ_plain_search.proofs.Led.{all_parts}
 use Rattle.circ_join.specs.Stopping.{Stops}
 use Rattle.circ_join.specs.declared.stop.Stop.{Stop as TheStop}
 use Rattle.circ_join.specs.declared.stop.Stop.TheVariants as stop
@@ -147,9 +147,9 @@ pass_goes th G l st g rest n b e h =
 
 pub goal_goes : (th : Theory) (G : List Place) (l : Limits) (st : Standing) (g : Goal) (rest : List Goal) (n : Sides)
     → normal_sides th (block_rules th st.earlier) [] g.left g.right st.budget ≡ Ok n
-    → goal_turn th G l st g rest ≡ sides_turn th G l (with_sides st rest n) (goal n.left n.right) rest
+    → goal_turn th G l st g rest ≡ sides_turn th G l (with_sides st rest n) (goal [] n.left n.right) rest
 goal_goes th G l st g rest n e =
-    let f : Sides → Result Standing Ending = λ n. sides_turn th G l (with_sides st rest n) (goal n.left n.right) rest in
+    let f : Sides → Result Standing Ending = λ n. sides_turn th G l (with_sides st rest n) (goal [] n.left n.right) rest in
     ap (λ x. and_then (or_end l st x) f) e
 
 pub open_hidden : (th : Theory) (l : Limits) (st : Standing) (g : Goal) (rest : List Goal) (b : Bool) → is_hidden th (sort_of g.left) ≡ b
@@ -166,6 +166,14 @@ few_earlier th l st x b bs e later next =
     let y : Standing = begun (with_this x) (x.earlier ++ x.goals) b bs x.budget x.derives x.made x.deep in
     let small : IsSmall y = next y (done_goes th l st x e ∙ ap (next_block x) later) in
     small.earlier
+
+-- and have no conditions
+pub plain_earlier : (th : Theory) (l : Limits) (st x : Standing) (b : List Goal) (bs : List (List Goal)) → record_step th l st Done ≡ Ok x → x.later ≡ b ∷ bs
+    → ((y : Standing) → done_turn th l st ≡ Ok y → IsSmall y) → HaveNoConditions x.goals
+plain_earlier th l st x b bs e later next =
+    let y : Standing = begun (with_this x) (x.earlier ++ x.goals) b bs x.budget x.derives x.made x.deep in
+    let small : IsSmall y = next y (done_goes th l st x e ∙ ap (next_block x) later) in
+    (all_parts (λ g. g.conds ≡ []) x.earlier x.goals small.no_conds).1
 
 -- the chain that Join leaves
 pub joined_why : (c : ChainOf Tree) (ls rs more us new : List (LinkOf Tree)) → chain_with ls rs ≡ c → more ≡ us → new ≡ ls ++ more
@@ -194,20 +202,20 @@ each_front Q h P a p g rest e =
     first R h g xs ys a b = let z = sym a ∙ b in cc
 
 pub normal_turn_goes : {X : Type 0} (th : Theory) (G : List Place) (l : Limits) (st mid : Standing) (rest : List Goal) (n : Sides) (q : Goal) (Q : List Goal) (new : Standing)
-    (r : Result X End) → mid ≡ with_sides st rest n → q ≡ goal n.left n.right → Q ≡ mid.queue
-    → GoesTo (sides_turn th G l mid q (drop 1 Q)) new r → GoesTo (sides_turn th G l (with_sides st rest n) (goal n.left n.right) rest) new r
+    (r : Result X End) → mid ≡ with_sides st rest n → q ≡ goal [] n.left n.right → Q ≡ mid.queue
+    → GoesTo (sides_turn th G l mid q (drop 1 Q)) new r → GoesTo (sides_turn th G l (with_sides st rest n) (goal [] n.left n.right) rest) new r
 normal_turn_goes {X = X} th G l st mid rest n q Q new r m same queue h =
     let tail : drop 1 Q ≡ rest = ap (drop 1) (queue ∙ ap (λ x. x.queue) m) in
     let P : List Goal → Type 0 = λ x. GoesTo {X = X} (sides_turn th G l mid q x) new r in
     let N : Goal → Type 0 = λ x. GoesTo {X = X} (sides_turn th G l mid x rest) new r in
-    let M : Standing → Type 0 = λ x. GoesTo {X = X} (sides_turn th G l x (goal n.left n.right) rest) new r in
+    let M : Standing → Type 0 = λ x. GoesTo {X = X} (sides_turn th G l x (goal [] n.left n.right) rest) new r in
     subst M m (subst N same (subst P tail h))
 
 pub goal_turn_goes : {X : Type 0} (th : Theory) (G : List Place) (l : Limits) (st : Standing) (g : Goal) (rest : List Goal) (n : Sides) (new : Standing)
     (r : Result X End) → normal_sides th (block_rules th st.earlier) [] g.left g.right st.budget ≡ Ok n
-    → GoesTo (sides_turn th G l (with_sides st rest n) (goal n.left n.right) rest) new r → GoesTo (goal_turn th G l st g rest) new r
+    → GoesTo (sides_turn th G l (with_sides st rest n) (goal [] n.left n.right) rest) new r → GoesTo (goal_turn th G l st g rest) new r
 goal_turn_goes th G l st g rest n new r e h =
-    goes_same (goal_turn th G l st g rest) (sides_turn th G l (with_sides st rest n) (goal n.left n.right) rest) new r (goal_goes th G l st g rest n e) h
+    goes_same (goal_turn th G l st g rest) (sides_turn th G l (with_sides st rest n) (goal [] n.left n.right) rest) new r (goal_goes th G l st g rest n e) h
 
 -- the ending that is told is such
 pub is_end : {A : Type 0} (R : Ending → Type 0) (r : Result A Ending) (e : End) → ((x : Ending) → r ≡ Err x → R x) → Ends r e → IsEnd R e

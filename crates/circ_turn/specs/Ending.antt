@@ -1,10 +1,11 @@
 -- What parts of a turn answer.
 use Rattle.std.specs.Prelude.{◌≡◌, ℕ, ◌+◌, ◌-◌, Bool, true, false, List, map, length, Result, Ok, Err, Vec}
 use Rattle.circ_term.specs.Tree.{Tree}
+use Rattle.circ_theory.specs.Pairs.{plain_pair}
 use Rattle.circ_plain_search.specs.Joining.{Stop as PlainStop, HypothesisUse, use_link}
 use Rattle.circ_plain_search.specs.Search.{Limits, Standing, Ending, All_done, Is_stuck, Is_spent, Is_too_big, Is_too_deep}
-use Rattle.circ_record.specs.Plain.{plain_term_links}
-use Rattle.circ_record.specs.declared.links.TermLink.{TermLink}
+use Rattle.circ_proof.specs.Plain.{plain_links}
+use Rattle.circ_proof.specs.declared.links.Link.{Link}
 use Rattle.circ_join.specs.Stopping.{Stops}
 use Rattle.circ_join.specs.declared.stop.Stop.{Stop}
 use Rattle.circ_join.specs.declared.stop.Stop.TheVariants as stop
@@ -14,7 +15,7 @@ use Rattle.circ_turn.specs.Standing.{unlinked}
 
 -- the search ends so, or memory ran out
 abbrev pub Ends : {A : Type 0} → Result A Ending → End → Type 0
-Ends r (end.Stuck block goal s t A) = r ≡ Err (Is_stuck block goal s t A.items)
+Ends r (end.Stuck block goal s t A) = r ≡ Err (Is_stuck block goal s t (map plain_pair A.items))
 Ends r (end.Spent rewrites derives steps) = r ≡ Err (Is_spent rewrites derives steps)
 Ends r (end.TooBig nodes) = r ≡ Err (Is_too_big nodes)
 Ends r (end.TooDeep depth) = r ≡ Err (Is_too_deep depth)
@@ -50,7 +51,7 @@ end_spent l st = end.Spent (l.steps - st.budget) st.derives st.made
 
 -- the ending is such
 abbrev pub IsEnd : (Ending → Type 0) → End → Type 0
-IsEnd R (end.Stuck block goal s t A) = R (Is_stuck block goal s t A.items)
+IsEnd R (end.Stuck block goal s t A) = R (Is_stuck block goal s t (map plain_pair A.items))
 IsEnd R (end.Spent rewrites derives steps) = R (Is_spent rewrites derives steps)
 IsEnd R (end.TooBig nodes) = R (Is_too_big nodes)
 IsEnd R (end.TooDeep depth) = R (Is_too_deep depth)
@@ -62,6 +63,6 @@ RunEnds R st (Ok x) = R (All_done st.finished st.derives st.made st.deep)
 RunEnds R st (Err e) = IsEnd R e
 
 -- a lemma pass over a side: the term that these uses make, with their links and what is left of the budget
-abbrev pub Sweeps : {A : Type 0} → Result (Tree × ℕ) PlainStop → List HypothesisUse → (left : ℕ) → Result (Tree × Vec TermLink A) Stop → Type 0
-Sweeps r us left (Ok s) = (r ≡ Ok (s.0, left)) × (plain_term_links s.1.items ≡ map use_link us)
+abbrev pub Sweeps : {A : Type 0} → Result (Tree × ℕ) PlainStop → List HypothesisUse → (left : ℕ) → Result (Tree × Vec (Link Tree) A) Stop → Type 0
+Sweeps r us left (Ok s) = (r ≡ Ok (s.0, left)) × (plain_links s.1.items ≡ map use_link us)
 Sweeps r us left (Err e) = Stops r e

@@ -4,7 +4,8 @@ use Rattle.circ_plain_search.specs.Search.{Limits, Standing, no_links, start}
 use Rattle.circ_plain_search.specs.PlainSearch.{AreSearchable}
 use Rattle.circ_theory.specs.Theory.{Theory}
 use Rattle.circ_theory.specs.declared.parts.Goal.{Goal}
-use Rattle.circ_record.specs.Plain.{plain_term_chain, plain_term_steps}
+use Rattle.circ_proof.specs.Plain.{plain_chain}
+use Rattle.circ_proof.specs.PlainProof.{plain_steps}
 use Rattle.circ_numbering.specs.Plain.{plain_term_blocks}
 use Rattle.circ_turn.specs.declared.search.Limits.{Limits as TheLimits}
 use Rattle.circ_turn.specs.declared.state.State.{State}
@@ -20,8 +21,8 @@ standing s = record {
   later = map (λ v. v.items) s.later.now;
   hypotheses = s.hyps.all;
   queue = s.queue.items;
-  chain = plain_term_chain s.chain;
-  steps = plain_term_steps s.steps.items;
+  chain = plain_chain s.chain;
+  steps = plain_steps s.steps.items;
   taken = s.taken;
   budget = s.budget;
   derives = s.derives;

@@ -1,7 +1,7 @@
 //! How a search ends where not every goal is done.
 use circ_join::Stop;
 use circ_term::Term;
-use circ_theory::Goal;
+use circ_theory::Pair;
 use std::alloc::{AllocError, AllocFailed};
 
 /// How a search ends where not every goal is done.
@@ -13,7 +13,7 @@ pub enum End {
         goal: u64,
         left: Term,
         right: Term,
-        assumptions: Vec<Goal>,
+        assumptions: Vec<Pair>,
     },
     /// A budget is spent, after so many rewrite steps, Derive steps and steps.
     Spent {

@@ -2,7 +2,7 @@
 ghost use Rattle.std.specs.Prelude.{◌≡◌, ◌∷◌, [], List, Ok, IfOk};
 ghost use Rattle.std.specs.Bool.{OnTrue};
 ghost use Rattle.circ_theory.specs.declared.parts.Goal.{Goal as TheGoal};
-ghost use Rattle.circ_proof.specs.Goals.{goal};
+ghost use Rattle.circ_theory.specs.Theory.{goal};
 ghost use Rattle.circ_plain_search.specs.BlockRules.{block_rules};
 ghost use Rattle.circ_plain_search.specs.Coming.{IsReady, IsSmall};
 ghost use Rattle.circ_plain_search.specs.Search.{Reaches, Standing, Sides, normal_sides, turn};
@@ -75,7 +75,7 @@ impl<'a> Search<'a> {
             → normal_sides self.now.theory.now
             (block_rules self.now.theory.now state.old.hyps.earlier) []
             g.left g.right state.old.budget ≡ Ok n
-            → IsReady self.now.theory.now (goal n.left n.right) }
+            → IsReady self.now.theory.now (goal [] n.left n.right) }
         requires next { (y : Standing) → turn self.now.theory.now self.now.gamma.now
             (plain_limits self.now.limits) (standing state.old) ≡ Ok y → IsSmall y }
         ensures exact { GoesOrDone (turn self.now.theory.now self.now.gamma.now

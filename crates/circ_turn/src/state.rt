@@ -1,17 +1,18 @@
 //! Where a search stands.
-
-ghost use Rattle.std.specs.Prelude.{◌≡◌, ◌<◌, ◌≤◌, [], ◌∷◌, length, drop, map, false, ℕ, IfOk, OnOk};
+ghost use Rattle.std.specs.Prelude.{◌≡◌, ◌<◌, ◌≤◌, [], ◌∷◌, length, drop, map, false, ℕ};
+ghost use Rattle.std.specs.Prelude.{IfOk, OnOk};
 ghost use Rattle.circ_plain_search.specs.Search.{no_links, next_goal, with_sides, sides_with};
 ghost use Rattle.circ_plain_search.specs.Search.{chained, start};
-ghost use Rattle.circ_record.specs.Plain.{plain_term_chain};
+ghost use Rattle.circ_proof.specs.Plain.{plain_chain};
 ghost use Rattle.circ_turn.specs.Standing.{standing, unlinked, limits_with, Keeps};
 
 use circ_join::Hypotheses;
 use circ_numbering::TermBlock;
-use circ_record::{TermChain, TermStep};
-use circ_rewrite::{share_goal, share_goals};
+use circ_proof::{Chain, Step};
+use circ_rewrite::share_goals;
 use circ_split::Sides;
-use circ_theory::Goal;
+use circ_term::Term;
+use circ_theory::{Goal, Pairs};
 use std::alloc::{AllocError, Global};
 use std::collections::VecDeque;
 use std::mem;
@@ -31,9 +32,9 @@ pub struct State<'a> {
     /// The goals that are left.
     pub queue: VecDeque<Goal>,
     /// The links that have led to the goal in hand.
-    pub chain: TermChain,
+    pub chain: Chain<Term>,
     /// The steps of this block.
-    pub steps: Vec<TermStep>,
+    pub steps: Vec<Step<Term>>,
     /// The goals of this block that are dropped or derived.
     pub taken: u64,
     /// The rewrite steps that are left.
@@ -110,14 +111,20 @@ impl<'a> State<'a> {
     }
 
     // The goal in hand has these sides now, to which these links have led.
-    pub(crate) fn set_sides(&mut self, sides: Sides, budget: u64) -> Result<(), AllocError>
+    pub(crate) fn set_sides(
+        &mut self,
+        alloc: Global,
+        sides: Sides,
+        budget: u64,
+    ) -> Result<(), AllocError>
         requires { 0 < length self.old.queue.items }
         ensures { OnOk result (standing self.new
             ≡ with_sides (standing self.old) (drop 1 self.old.queue.items)
-            (sides_with sides.left sides.right (plain_term_chain sides.chain) budget)) }
+            (sides_with sides.left sides.right (plain_chain sides.chain) budget)) }
     {
         let Sides { left, right, chain } = sides;
-        self.set_hand(Goal { left, right }, budget);
+        let conds = Pairs::new(alloc);
+        self.set_hand(Goal { conds, left, right }, budget);
         append(&mut self.chain, chain)
     }
 
@@ -135,8 +142,8 @@ impl<'a> State<'a> {
     }
 
     // The chain, which has no links afterwards.
-    pub(crate) fn take_chain(&mut self, alloc: Global) -> TermChain
-        ensures taken { plain_term_chain result ≡ plain_term_chain self.old.chain }
+    pub(crate) fn take_chain(&mut self, alloc: Global) -> Chain<Term>
+        ensures taken { plain_chain result ≡ plain_chain self.old.chain }
         ensures left { standing self.new ≡ unlinked (standing self.old) }
         ensures kept { Keeps self.old self.new }
     {
@@ -156,11 +163,11 @@ impl<'a> State<'a> {
 }
 
 // Puts the links of a chain behind those of another.
-fn append(chain: &mut TermChain, more: TermChain) -> Result<(), AllocError>
-    ensures { OnOk result (plain_term_chain chain.new
-        ≡ chained (plain_term_chain chain.old) (plain_term_chain more)) }
+fn append(chain: &mut Chain<Term>, more: Chain<Term>) -> Result<(), AllocError>
+    ensures { OnOk result (plain_chain chain.new
+        ≡ chained (plain_chain chain.old) (plain_chain more)) }
 {
-    let TermChain {
+    let Chain {
         mut left,
         mut right,
     } = more;
@@ -170,10 +177,10 @@ fn append(chain: &mut TermChain, more: TermChain) -> Result<(), AllocError>
 }
 
 // A chain without links.
-fn no_links(alloc: Global) -> TermChain
-    ensures { plain_term_chain result ≡ no_links }
+fn no_links(alloc: Global) -> Chain<Term>
+    ensures { plain_chain result ≡ no_links }
 {
-    TermChain {
+    Chain {
         left: Vec::new(alloc),
         right: Vec::new(alloc),
     }
@@ -185,7 +192,7 @@ pub(crate) fn share_queue(alloc: Global, goals: &[Goal]) -> Result<VecDeque<Goal
 {
     let mut queue = VecDeque::new(alloc);
     for goal in goals {
-        queue.push_back(share_goal(goal)?)?;
+        queue.push_back(goal.share(alloc)?)?;
     }
     Ok(queue)
 }

@@ -1,11 +1,13 @@
 //! Steps that are recorded.
 ghost use Rattle.std.specs.Prelude.{◌≡◌, ◌<◌, ◌≤◌, ◌+◌, ◌++◌, ◌∷◌, []};
 ghost use Rattle.std.specs.Prelude.{length, drop, Ok, OnOk};
+ghost use Rattle.circ_plain_search.specs.BlockRules.{HaveNoConditions};
 ghost use Rattle.circ_plain_search.specs.Coming.{IsReady, IsSmall};
 ghost use Rattle.circ_plain_search.specs.Search.{record_step, reduced, simplified, derive_turn};
 ghost use Rattle.circ_plain_search.specs.Search.{hidden_turn, done_turn, next_goal, with_this};
 ghost use Rattle.circ_plain_search.specs.Search.{no_links, has_links, Standing};
-ghost use Rattle.circ_record.specs.Plain.{plain_term_chain, plain_term_step, plain_term_why};
+ghost use Rattle.circ_proof.specs.Plain.{plain_chain, plain_why};
+ghost use Rattle.circ_proof.specs.PlainProof.{plain_step};
 ghost use Rattle.circ_turn.specs.Standing.{standing, plain_limits, Keeps};
 ghost use Rattle.circ_turn.specs.Ending.{GoesTo, GoesUnlinked, GoesOrDone, end_by, end_spent};
 
@@ -16,16 +18,17 @@ use crate::state::{State, share_queue};
 use circ_block::{derivatives_on, is_deep_step};
 use circ_join::Stop;
 use circ_numbering::TermBlock;
-use circ_record::{TermChain, TermStep, TermWhy};
+use circ_proof::{Chain, Step, Why};
 use circ_rewrite::share_goals;
+use circ_term::Term;
 use circ_theory::Goal;
 use std::alloc::AllocError;
 use std::collections::VecDeque;
 use std::mem;
 
 /// Whether a chain has a link.
-pub(crate) fn has_links(chain: &TermChain) -> bool
-    ensures { result ≡ has_links (plain_term_chain chain.now) }
+pub(crate) fn has_links(chain: &Chain<Term>) -> bool
+    ensures { result ≡ has_links (plain_chain chain.now) }
 {
     if !chain.left.as_slice().is_empty() {
         return true;
@@ -75,9 +78,9 @@ impl Search<'_> {
     }
 
     // A step is recorded, unless it would be one too many.
-    fn record_step(&self, state: &mut State<'_>, step: TermStep) -> Result<(), End>
+    fn record_step(&self, state: &mut State<'_>, step: Step<Term>) -> Result<(), End>
         ensures exact { GoesTo (record_step self.now.theory.now (plain_limits self.now.limits)
-            (standing state.old) (plain_term_step step)) (standing state.new) result }
+            (standing state.old) (plain_step step)) (standing state.new) result }
         ensures kept { Keeps state.old state.new }
     {
         if state.made >= MOST_STEPS {
@@ -91,13 +94,13 @@ impl Search<'_> {
     }
 
     // The goal in hand is reduced by the reason.
-    pub(crate) fn reduced(&self, state: &mut State<'_>, why: TermWhy) -> Result<(), End>
+    pub(crate) fn reduced(&self, state: &mut State<'_>, why: Why<Term>) -> Result<(), End>
         requires taken { state.old.taken ≤ 100000 }
         ensures { GoesTo (reduced self.now.theory.now (plain_limits self.now.limits)
-            (standing state.old) (drop 1 state.old.queue.items) (plain_term_why why))
+            (standing state.old) (drop 1 state.old.queue.items) (plain_why why))
             (standing state.new) result }
     {
-        match self.record_step(state, TermStep::Reduce { why }) {
+        match self.record_step(state, Step::Reduce { why }) {
             Err(end) => return Err(end),
             Ok(()) => {}
         }
@@ -135,7 +138,7 @@ impl Search<'_> {
             return Ok(());
         }
         let chain = state.take_chain(self.alloc);
-        self.record_step(state, TermStep::Simplify { chain })
+        self.record_step(state, Step::Simplify { chain })
     }
 
     // The goal in hand becomes a hypothesis, and its derivatives become goals.
@@ -155,7 +158,7 @@ impl Search<'_> {
         match derivatives_on(self.alloc, self.theory, goal) {
             Err(stop) => Err(self.end(state, stop)),
             Ok(derived) => {
-                match self.record_step(state, TermStep::Derive) {
+                match self.record_step(state, Step::Derive) {
                     Err(end) => return Err(end),
                     Ok(()) => {}
                 }
@@ -171,6 +174,7 @@ impl Search<'_> {
         goal: &Goal,
         derived: VecDeque<Goal>,
     ) -> Result<(), AllocError>
+        requires plain { goal.now.conds ≡ [] }
         requires taken { state.old.taken ≤ 100000 }
         requires derives { state.old.derives ≤ 100000 }
         requires hyps { length state.old.hyps.all ≤ 100000 }
@@ -195,7 +199,7 @@ impl Search<'_> {
         ensures { GoesOrDone (done_turn self.now.theory.now (plain_limits self.now.limits)
             (standing state.old)) (standing state.new) result }
     {
-        match self.record_step(state, TermStep::Done) {
+        match self.record_step(state, Step::Done) {
             Err(end) => return Err(end),
             Ok(()) => {}
         }
@@ -229,6 +233,7 @@ impl Search<'_> {
     // The block is finished, and one with these goals begins.
     fn next_block(&self, state: &mut State<'_>, block: &[Goal]) -> Result<(), AllocError>
         requires few { length state.old.hyps.earlier + length state.old.goals.items ≤ 100000 }
+        requires plain { HaveNoConditions state.old.goals.items }
         ensures { OnOk result (standing state.new ≡ record (standing state.old) {
           finished = with_this (standing state.old);
           earlier = state.old.hyps.earlier ++ state.old.goals.items;

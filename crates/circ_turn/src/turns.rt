@@ -1,7 +1,7 @@
 //! The turns of a search.
 ghost use Rattle.std.specs.Prelude.{◌≡◌, ◌<◌, ◌∷◌, [], List, length, drop, Some, Ok, IfOk};
 ghost use Rattle.circ_theory.specs.declared.parts.Goal.{Goal as TheGoal};
-ghost use Rattle.circ_proof.specs.Goals.{goal};
+ghost use Rattle.circ_theory.specs.Theory.{goal};
 ghost use Rattle.circ_plain_search.specs.BlockRules.{block_rules, hidden_lemmas};
 ghost use Rattle.circ_plain_search.specs.Coming.{IsReady, IsSmall};
 ghost use Rattle.circ_plain_search.specs.Joining.{put_counted};
@@ -11,7 +11,7 @@ ghost use Rattle.circ_plain_search.specs.Search.{pass_uses, with_sides, sides_wi
 ghost use Rattle.circ_plain_search.specs.Search.{normal_sides, Sides as TheSides};
 ghost use Rattle.circ_block.specs.Rules.{IsRulesOf};
 ghost use Rattle.circ_join.specs.Uses.{plain_uses};
-ghost use Rattle.circ_record.specs.Plain.{plain_term_chain};
+ghost use Rattle.circ_proof.specs.Plain.{plain_chain};
 ghost use Rattle.circ_split.specs.Answers.{GivesSides};
 ghost use Rattle.circ_turn.specs.Standing.{standing, plain_limits};
 ghost use Rattle.circ_turn.specs.Ending.{GoesTo, Sweeps};
@@ -24,12 +24,11 @@ use circ_block::BlockRules;
 use circ_join::{
     HypothesisUse, Joining, Lemmas, Passing, Stop, lemma_links, put_all, use_all, use_links,
 };
-use circ_record::{TermChain, TermLink, TermWhy};
-use circ_rewrite::share_goal;
+use circ_proof::{Chain, Link, Why};
 use circ_split::{Sides, Splitting, normal_sides};
 use circ_term::Term;
-use circ_theory::Goal;
-use std::alloc::AllocError;
+use circ_theory::{Goal, Pairs};
+use std::alloc::{AllocError, Global};
 
 impl Search<'_> {
     // One goal: both sides are normalised, and then it is looked at.
@@ -45,7 +44,7 @@ impl Search<'_> {
             → normal_sides self.now.theory.now
             (block_rules self.now.theory.now state.old.hyps.earlier) []
             g.left g.right state.old.budget ≡ Ok n
-            → IsReady self.now.theory.now (goal n.left n.right) }
+            → IsReady self.now.theory.now (goal [] n.left n.right) }
         ensures exact { (g : TheGoal) (rest : List TheGoal) → state.old.queue.items ≡ g ∷ rest
             → GoesTo (goal_turn self.now.theory.now self.now.gamma.now
             (plain_limits self.now.limits) (standing state.old) g rest)
@@ -79,17 +78,17 @@ impl Search<'_> {
         requires rules { IsRulesOf self.now.theory.now state.old.hyps.earlier rules.old }
         requires some { 0 < length state.old.queue.items }
         requires small { IsSmall (standing state.old) }
-        requires ready { IsReady self.now.theory.now (goal sides.left sides.right) }
+        requires ready { IsReady self.now.theory.now (goal [] sides.left sides.right) }
         ensures exact { GoesTo (sides_turn self.now.theory.now self.now.gamma.now
             (plain_limits self.now.limits)
             (with_sides (standing state.old) (drop 1 state.old.queue.items)
-            (sides_with sides.left sides.right (plain_term_chain sides.chain) budget))
-            (goal sides.left sides.right) (drop 1 state.old.queue.items))
+            (sides_with sides.left sides.right (plain_chain sides.chain) budget))
+            (goal [] sides.left sides.right) (drop 1 state.old.queue.items))
             (standing state.new) result }
         ensures rules { IsRulesOf self.now.theory.now state.old.hyps.earlier rules.new }
     {
-        let goal = goal_of(&sides)?;
-        state.set_sides(sides, budget)?;
+        let goal = goal_of(self.alloc, &sides)?;
+        state.set_sides(self.alloc, sides, budget)?;
         self.sides_turn(rules, state, &goal)
     }
 
@@ -140,7 +139,7 @@ impl Search<'_> {
         let mut links = use_links(self.alloc, uses)?;
         let mut chain = state.take_chain(self.alloc);
         chain.left.append(&mut links)?;
-        self.reduced(state, TermWhy::same(chain))
+        self.reduced(state, Why::Same { chain })
     }
 
     // A lemma pass over both sides. Where a replacement was made, the goal goes on.
@@ -166,7 +165,7 @@ impl Search<'_> {
                 if !has_links(&sides.chain) {
                     return self.open_turn(rules, state, goal);
                 }
-                state.set_sides(sides, budget)?;
+                state.set_sides(self.alloc, sides, budget)?;
                 Ok(())
             }
         }
@@ -185,7 +184,7 @@ impl Search<'_> {
         match self.swept_side(lemmas, &goal.right, budget) {
             Err(stop) => Err(stop),
             Ok((right, rights)) => {
-                let chain = TermChain {
+                let chain = Chain {
                     left: lefts,
                     right: rights,
                 };
@@ -200,7 +199,7 @@ impl Search<'_> {
         lemmas: &Lemmas,
         term: &Term,
         budget: &mut u64,
-    ) -> Result<(Term, Vec<TermLink>), Stop>
+    ) -> Result<(Term, Vec<Link<Term>>), Stop>
         ensures { (E : List TheGoal) → lemmas.now ≡ hidden_lemmas self.now.theory.now 0 E
             → Sweeps (put_counted budget.old term.now
             (pass_uses self.now.theory.now self.now.gamma.now E term.now))
@@ -267,17 +266,23 @@ impl Search<'_> {
             Ok(cases) => {
                 state.budget = budget;
                 let chain = state.take_chain(self.alloc);
-                self.reduced(state, TermWhy::split(chain, cases.term, cases.whys))
+                let why = Why::Split {
+                    chain,
+                    term: cases.term,
+                    whys: cases.whys,
+                };
+                self.reduced(state, why)
             }
         }
     }
 }
 
-// The sides as a goal.
-fn goal_of(sides: &Sides) -> Result<Goal, AllocError>
-    ensures { IfOk result (λ g. g ≡ goal sides.now.left sides.now.right) }
+// The sides as a goal without conditions.
+fn goal_of(alloc: Global, sides: &Sides) -> Result<Goal, AllocError>
+    ensures { IfOk result (λ g. g ≡ goal [] sides.now.left sides.now.right) }
 {
     let left = sides.left.share()?;
     let right = sides.right.share()?;
-    Ok(Goal { left, right })
+    let conds = Pairs::new(alloc);
+    Ok(Goal { conds, left, right })
 }

@@ -5,7 +5,7 @@ endif
 syntax iskeyword @,48-57,_,-
 syntax match circComment "\(^\|[[:blank:]()[\]{},]\)\zs\(---\|\*\*\*\).*$"
 syntax keyword circFrame theory is endtheory including inc protecting pr
-syntax keyword circPart sort sorts op ops var vars eq derivative cases by
+syntax keyword circPart sort sorts op ops var vars eq ceq if derivative cases by
 syntax keyword circItem add goal coinduction reduce red
 syntax keyword circMark prec left right assoc comm idem nonexec contained
 syntax region circMarks start="\[" end="\]" contains=circMark,circNumber oneline
@@ -13,7 +13,7 @@ syntax match circNumber "\<\d\+\>" contained
 syntax match circArrow "->"
 syntax match circStop "\(^\|[[:blank:]]\)\zs\.\ze\([[:blank:]]\|$\)"
 syntax match circHole "\*:[^[:blank:]()[\]{},]\+"
-syntax keyword circLeftOut subsort subsorts mb cmb ceq rl crl extending ex class msg
+syntax keyword circLeftOut subsort subsorts mb cmb rl crl extending ex class msg
 highlight default link circComment Comment
 highlight default link circFrame Structure
 highlight default link circPart Keyword

@@ -1,13 +1,16 @@
 //! The calls that add parts to a theory.
 ghost use Rattle.std.specs.Prelude.{◌≡◌, ◌≤◌, ◌<◌, ◌^◌, ℕ, List, [], ◌∷◌, ◌++◌, nat_eq, None};
-ghost use Rattle.std.specs.Prelude.{if◌then◌else◌, IfOk, IfErr, OnOk, OnErr, length, unwrap_or};
+ghost use Rattle.std.specs.Prelude.{if◌then◌else◌, IfOk, IfErr, OnOk, OnErr, length, map, true, unwrap_or};
 ghost use Rattle.std.specs.Prelude.{vec_len, vec_capacity};
 ghost use Rattle.std.specs.Cmp.Lexicographic.{pointwise};
 ghost use Rattle.indexmap.specs.IndexMap.{spare, insert_entry};
 ghost use Rattle.indexmap.specs.IndexSet.{insert_key};
-ghost use Rattle.std.specs.List.{Contains};
+ghost use Rattle.std.specs.List.{Contains, list_any};
 ghost use Rattle.circ_theory.specs.Signature.{IsSort, IsWellSorted};
-ghost use Rattle.circ_theory.specs.Theory.{Declared, IsWellSortedPair};
+ghost use Rattle.circ_theory.specs.Theory.{Declared, IsWellSortedPair, AreWellSortedPairs};
+ghost use Rattle.circ_theory.specs.Theory.{goal, pair_with};
+ghost use Rattle.circ_theory.specs.Pairs.{plain_pair};
+ghost use Rattle.circ_theory.specs.Observing.{has_condition_of};
 ghost use Rattle.circ_theory.specs.Variables.{IsInOrder, sorts_of};
 ghost use Rattle.circ_theory.specs.Operators.{operator_of};
 ghost use Rattle.circ_theory.specs.Adding.{Numbers, sort_fault, op_fault, equation_fault};
@@ -19,12 +22,13 @@ ghost use Rattle.circ_theory.specs.Observing.{AreParametersInOrder, derivative_f
 ghost use Rattle.circ_theory.specs.Observing.{with_derivative, cases_fault, with_cases};
 
 use super::{Listed, Observer, OpKey, Theory, Vars};
+use crate::MOST_SORTS;
 use crate::adding::{count_fault, is_rule_with, note_word};
 use crate::fault::TheoryFault;
 use crate::observing::first_repeated;
-use crate::order::{PairVariables, pair_variables};
+use crate::order::{EquationVariables, equation_variables};
+use crate::pairs::{Pair, Pairs};
 use crate::parts::{Equation, OpDecl};
-use crate::{MOST_EQUATIONS, MOST_SORTS};
 use circ_term::Term;
 use indexmap::{IndexMap, IndexSet};
 use std::alloc::{AllocError, Global};
@@ -92,20 +96,34 @@ impl Theory {
     }
 
     /// Adds an equation, and answers its number.
-    pub fn add_equation(&mut self, left: Term, right: Term, exec: bool) -> Result<u32, TheoryFault>
-        requires sorted { IsWellSortedPair self.old.signature
-            (record { left = left; right = right }) }
-        requires in_order { IsInOrder (record { left = left; right = right }) }
-        ensures number { Numbers result (equation_fault self.old) (length self.old.equations) }
+    pub fn add_equation(
+        &mut self,
+        left: Term,
+        right: Term,
+        conds: Pairs,
+        exec: bool,
+    ) -> Result<u32, TheoryFault>
+        requires sorted { IsWellSortedPair self.old.signature (pair_with left right) }
+        requires conds_sorted { AreWellSortedPairs self.old.signature conds }
+        requires in_order { IsInOrder (goal conds left right) }
+        ensures number { Numbers result (equation_fault self.old conds)
+            (length self.old.equations) }
         ensures added { OnOk result (self.new ≡ with_equation self.old
-            (record { left = left; right = right; exec = exec })) }
+            (record { left = left; right = right; conds = conds; exec = exec })) }
         ensures err { OnErr result (self.new ≡ self.old) }
     {
         let number = self.equation_count();
-        let variables = self.new_variables(&left, &right)?;
+        let variables = self.new_variables(&left, &right, &conds)?;
         let rule = is_rule_with(exec, &left, variables.bound);
-        self.parts.equations.push(Listed {
-            equation: Equation { left, right, exec },
+        let parts = &mut *self.parts;
+        note_sorts(&mut parts.condition_sorts, conds.as_slice())?;
+        parts.equations.push(Listed {
+            equation: Equation {
+                left,
+                right,
+                conds,
+                exec,
+            },
             sorts: variables.sorts,
             rule,
         })?;
@@ -170,19 +188,24 @@ impl Theory {
     }
 
     // The variables of an equation that can be added.
-    fn new_variables(&self, left: &Term, right: &Term) -> Result<PairVariables, TheoryFault>
-        requires { IsInOrder (record { left = left.now; right = right.now }) }
-        ensures fault { IfErr result (λ f. IsFaultOf f (equation_fault self.now)) }
-        ensures new { IfOk result (λ _. equation_fault self.now ≡ None) }
+    fn new_variables(
+        &self,
+        left: &Term,
+        right: &Term,
+        conds: &Pairs,
+    ) -> Result<EquationVariables, TheoryFault>
+        requires { IsInOrder (goal conds.now left.now right.now) }
+        ensures fault { IfErr result (λ f. IsFaultOf f (equation_fault self.now conds.now)) }
+        ensures new { IfOk result (λ _. equation_fault self.now conds.now ≡ None) }
         ensures sorts { IfOk result (λ v. v.sorts.items ≡
-            sorts_of (record { left = left.now; right = right.now })) }
+            sorts_of (goal conds.now left.now right.now)) }
         ensures few { IfOk result (λ v. length v.sorts.items ≤ 2 ^ 32) }
         ensures bound { IfOk result (λ v. v.bound ≡ is_bound
-            (record { left = left.now; right = right.now })) }
+            (goal conds.now left.now right.now)) }
     {
-        match count_fault(self.equation_count(), MOST_EQUATIONS) {
+        match self.equation_fault(conds) {
             Some(fault) => Err(fault),
-            None => Ok(pair_variables(self.alloc, left, right)?),
+            None => Ok(equation_variables(self.alloc, left, right, conds)?),
         }
     }
 
@@ -221,6 +244,19 @@ fn put_op(ops: &mut IndexMap<OpKey, OpDecl>, key: OpKey, decl: OpDecl)
         Ok(_) => {}
         Err(_) => unreachable!(),
     }
+}
+
+// Keeps the sorts of conditions. After want of memory some of them are kept.
+fn note_sorts(kept: &mut IndexSet<u32>, conds: &[Pair]) -> Result<(), AllocError>
+    ensures more { (s : ℕ) → list_any (nat_eq s) kept.old.keys ≡ true
+        → list_any (nat_eq s) kept.new.keys ≡ true }
+    ensures noted { OnOk result ((s : ℕ) → has_condition_of s (map plain_pair conds.now) ≡ true
+        → list_any (nat_eq s) kept.new.keys ≡ true) }
+{
+    for pair in conds {
+        kept.insert(pair.left.sort())?;
+    }
+    Ok(())
 }
 
 // Makes room for a derivative, and keeps the sort of its hole.

@@ -1,19 +1,27 @@
 //! Why a part is not added to a theory.
-ghost use Rattle.std.specs.Prelude.{◌≡◌, ◌≤◌, IfOk, IfErr, None, not, find, length};
+ghost use Rattle.std.specs.Prelude.{◌≡◌, ◌≤◌, IfOk, IfErr, None, not, find, length, map};
+ghost use Rattle.std.specs.List.{list_any};
 ghost use Rattle.circ_theory.specs.Operators.{operator_of};
 ghost use Rattle.circ_theory.specs.Adding.{Numbers, IsFaultOf, op_fault, old_var_fault};
-ghost use Rattle.circ_theory.specs.Adding.{new_var_fault, unknown_sort};
+ghost use Rattle.circ_theory.specs.Adding.{new_var_fault, unknown_sort, equation_fault};
+ghost use Rattle.circ_theory.specs.Adding.{hidden_condition};
+ghost use Rattle.circ_theory.specs.Pairs.{plain_pair};
+ghost use Rattle.circ_theory.specs.Observing.{has_condition_of, is_condition_sort};
 ghost use Rattle.circ_theory.specs.Observing.{holes_in, parameter_sorts_in, first_repeated};
 ghost use Rattle.circ_theory.specs.Observing.{first_or_zero, slots_fault, derivative_fault};
 ghost use Rattle.circ_theory.specs.Observing.{cases_fault, is_constant, no_constants};
 ghost use Rattle.circ_theory.specs.Inside.{IsKeyOf};
 
-use super::{OpKey, Theory};
+use super::{Listed, OpKey, Theory};
 use crate::adding::{count_fault, first_from, first_or_zero, is_ill_sorted, long_fault};
 use crate::fault::TheoryFault;
 use crate::observing::{Slots, first_repeated, slots_of};
+use crate::pairs::{Pair, Pairs, has_condition_of};
 use crate::parts::OpDecl;
-use crate::{MOST_ARGS, MOST_CASES, MOST_DERIVATIVES, MOST_OPS, MOST_PARAMS, MOST_VARS};
+use crate::{
+    MOST_ARGS, MOST_CASES, MOST_CONDITIONS, MOST_DERIVATIVES, MOST_EQUATIONS, MOST_OPS,
+    MOST_PARAMS, MOST_VARS,
+};
 use circ_term::{MOST_NODES, Term};
 use std::alloc::{AllocError, Global};
 
@@ -88,6 +96,42 @@ impl Theory {
         }
     }
 
+    // Why an equation with these conditions cannot be added.
+    pub(super) fn equation_fault(&self, conds: &Pairs) -> Option<TheoryFault>
+        ensures { result ≡ equation_fault self.now conds.now }
+    {
+        if let Some(sort) = self.hidden_condition(conds.as_slice()) {
+            return Some(TheoryFault::NotVisible { sort });
+        }
+        if let Some(fault) = count_fault(self.equation_count(), MOST_EQUATIONS) {
+            return Some(fault);
+        }
+        long_fault(conds.len(), MOST_CONDITIONS)
+    }
+
+    // The sort of the first condition of a hidden sort.
+    fn hidden_condition(&self, conds: &[Pair]) -> Option<u32>
+        ensures { result ≡ hidden_condition self.now (map plain_pair conds.now) }
+    {
+        for pair in conds {
+            let sort = pair.left.sort();
+            if self.is_hidden(sort) {
+                return Some(sort);
+            }
+        }
+        None
+    }
+
+    // Whether a condition of an equation is of this sort.
+    fn is_condition_sort(&self, sort: u32) -> bool
+        ensures { result ≡ is_condition_sort self.now sort }
+    {
+        if !self.parts.condition_sorts.contains(&sort) {
+            return false;
+        }
+        has_conditions_of(sort, self.parts.equations.as_slice())
+    }
+
     // The sort of the hole and the sorts of the parameters of a term that can be added as a
     // derivative.
     pub(super) fn hole_and_params(&self, term: &Term) -> Result<(u32, Vec<u32>), TheoryFault>
@@ -119,6 +163,9 @@ impl Theory {
             });
         };
         if self.cases(*hole).is_some() {
+            return Some(TheoryFault::NowHidden { sort: *hole });
+        }
+        if self.is_condition_sort(*hole) {
             return Some(TheoryFault::NowHidden { sort: *hole });
         }
         if let Some(fault) = long_fault(slots.params.len(), MOST_PARAMS) {
@@ -184,6 +231,15 @@ impl Theory {
             None => false,
         }
     }
+}
+
+// Whether one of the equations has a condition of this sort.
+fn has_conditions_of(sort: u32, equations: &[Listed]) -> bool
+    ensures { result ≡ list_any (λ l. has_condition_of sort l.equation.conds) equations.now }
+{
+    equations
+        .iter()
+        .any(|listed| has_condition_of(sort, &listed.equation.conds))
 }
 
 fn key_of(alloc: Global, decl: &OpDecl) -> Result<OpKey, AllocError>

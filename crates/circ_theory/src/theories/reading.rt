@@ -1,23 +1,23 @@
 //! The calls that read a theory's parts.
-ghost use Rattle.std.specs.Prelude.{◌≡◌, ◌↔◌, ◌≤◌, ◌^◌, false, IsTrue};
+ghost use Rattle.std.specs.Prelude.{◌≡◌, ◌↔◌, ◌≤◌, ◌^◌, ◌==◌, false, IsTrue};
 ghost use Rattle.std.specs.Prelude.{IfOk, IfSome, length};
-ghost use Rattle.std.specs.List.{slice_get};
+ghost use Rattle.std.specs.List.{slice_get, list_any};
 ghost use Rattle.std.specs.Option.{option_copied, option_map, option_map_or};
 ghost use Rattle.circ_theory.specs.Limits.{sort_limit, variable_limit, operator_limit};
 ghost use Rattle.circ_theory.specs.Limits.{equation_limit, derivative_limit};
-ghost use Rattle.circ_theory.specs.Theory.{pair_of, declared, IsHidden};
+ghost use Rattle.circ_theory.specs.Theory.{goal_of, declared, IsHidden, HasNoConditions};
 ghost use Rattle.circ_theory.specs.Variables.{sorts_of};
 ghost use Rattle.circ_theory.specs.Operators.{operator_of, ops_by_word};
 ghost use Rattle.circ_theory.specs.Adding.{sort_number, var_number, op_of_form};
 ghost use Rattle.circ_theory.specs.Names.{AreDifferent, names_of};
-ghost use Rattle.circ_theory.specs.Rule.{is_rule};
+ghost use Rattle.circ_theory.specs.Rule.{is_rule, is_conditional};
 ghost use Rattle.circ_theory.specs.Observing.{derivative_with, cases_of, is_hidden};
 ghost use Rattle.circ_theory.specs.Observing.{parameter_sorts_in};
 ghost use Rattle.circ_theory.specs.Fresh.{parameter_sorts};
 
 use super::{Listed, Observer, OpKey, Theory};
-use crate::forms::Form;
 use crate::parts::{Equation, OpDecl};
+use circ_form::Form;
 use circ_term::Term;
 use std::alloc::AllocError;
 
@@ -119,7 +119,7 @@ impl Theory {
         ensures equation { option_map (λ l. l.now.equation) result ≡
             slice_get self.now.equations n }
         ensures sorts { IfSome result (λ l.
-            l.now.sorts.items ≡ sorts_of (pair_of l.now.equation)) }
+            l.now.sorts.items ≡ sorts_of (goal_of l.now.equation)) }
         ensures few { IfSome result (λ l. length l.now.sorts.items ≤ 2 ^ 32) }
         ensures rule { IfSome result (λ l. l.now.rule ≡ is_rule l.now.equation) }
     {
@@ -136,11 +136,18 @@ impl Theory {
         }
     }
 
+    /// Whether an equation has conditions. It looks at each of them in turn.
+    pub fn has_conditions(&self) -> bool
+        ensures { (result ≡ false) ↔ HasNoConditions self.now }
+    {
+        has_conditions(self.parts.equations.as_slice())
+    }
+
     /// The sorts of an equation's variables, by the variables' numbers.
     pub fn equation_sorts(&self, n: u32) -> Option<&[u32]>
         ensures few { IfSome result (λ sorts. length sorts.now ≤ 2 ^ 32) }
         ensures exact { option_copied result ≡ option_map
-            (λ e. sorts_of (pair_of e)) (slice_get self.now.equations n) }
+            (λ e. sorts_of (goal_of e)) (slice_get self.now.equations n) }
     {
         match self.listed(n) {
             Some(listed) => Some(listed.sorts.as_slice()),
@@ -149,7 +156,7 @@ impl Theory {
     }
 
     /// Whether an equation is a rewrite rule: it may be used as one, its left side is no variable,
-    /// and each variable of its right side is in its left side. False where there is no such
+    /// and each variable of its right side and its conditions is in its left side. False where there is no such
     /// equation.
     pub fn is_rule(&self, equation: u32) -> bool
         ensures { result ≡ option_map_or is_rule (slice_get self.now.equations equation) false }
@@ -194,6 +201,17 @@ impl Theory {
         match self.observer(n) {
             Some(observer) => Some(observer.hole),
             None => None,
+        }
+    }
+
+    /// Whether the derivative of this number takes terms of the sort: its hole has it.
+    pub fn takes(&self, derivative: u32, sort: u32) -> bool
+        ensures { result ≡ option_map_or (λ d. d.hole == sort)
+            (slice_get self.now.derivatives derivative) false }
+    {
+        match self.hole_sort(derivative) {
+            Some(hole) => hole == sort,
+            None => false,
         }
     }
 
@@ -252,4 +270,13 @@ impl Theory {
             None => Ok(None),
         }
     }
+}
+
+// Whether one of the equations has a condition.
+fn has_conditions(equations: &[Listed]) -> bool
+    ensures { result ≡ list_any (λ l. is_conditional l.equation) equations.now }
+{
+    equations
+        .iter()
+        .any(|listed| listed.equation.conds.len() > 0)
 }

@@ -5,7 +5,7 @@ use Rattle.circ_proof.specs.Plain.{WhyOf, plain_chain, plain_why, plain_whys}
 use Rattle.circ_proof.specs.Justified.{AllOfWhy}
 use Rattle.circ_proof.specs.declared.links.Why.{Why, Split}
 use Rattle.circ_proof.specs.declared.links.Why as whys
-use Rattle.circ_replay.proofs.Whys.{split_plain}
+use Rattle.circ_proof.proofs.Rows.{split_plain}
 use Rattle.circ_replay.proofs.Reasons.{why_depth, whys_depth, depth_at, each_why}
 use Rattle.circ_check.specs.Placing.{PlacesWhy, PlacesWhys}
 use Rattle.circ_check.proofs.Watching.{on_ok}
@@ -40,7 +40,7 @@ place_why-returns-in_ok-term-in-Split-clause-placed t c =
     let same = c.place_chain-in-Split.ensures.table in
     let number = number_placed table c.place.new.self.1 x.term term.field-0 (rw (x.term-is, same) at term.ensures.placed) term.ensures.there in
     let rest = rw (x.whys-is, c.place.ensures.table ∙ same) at c.place_whys.ensures.placed in
-    let P : Why → Type 0 = λ w. OnOk c.place_whys.result (PlacesWhy table terms (plain_why w) (plain_why (Split first.chain term.field-0 c.place_whys.new.whys))) in
+    let P : Why ℕ → Type 0 = λ w. OnOk c.place_whys.result (PlacesWhy table terms (plain_why w) (plain_why (Split first.chain term.field-0 c.place_whys.new.whys))) in
     subst P (sym x.is)
     (on_ok c.place_whys.result
     (split_why_placed table first.named.1 c.place.new.self.1 terms x.chain first.chain x.term term.field-0 x.whys c.place_whys.new.whys
@@ -89,8 +89,8 @@ place_whys-returns-clause-placed t c =
     let l = c.loop-why in
     let old = c.args.whys.now in
     let same = c.deref_mut-why-items.ensures.value in
-    let P : List Why → Type 0 = λ ws. PlacesWhys c.args.named.now.0 l.named.1 (plain_whys old.items) (plain_whys ws) in
-    let Q : List Why → Type 0 = λ ws. PlacesWhys c.args.named.now.0 l.named.1 (plain_whys ws) (plain_whys l.why-items) in
+    let P : List (Why ℕ) → Type 0 = λ ws. PlacesWhys c.args.named.now.0 l.named.1 (plain_whys old.items) (plain_whys ws) in
+    let Q : List (Why ℕ) → Type 0 = λ ws. PlacesWhys c.args.named.now.0 l.named.1 (plain_whys ws) (plain_whys l.why-items) in
     subst P (sym (written old.items l.why-items old.len old.ok.0 (l.auto.why-items ∙ ap length same)))
     (subst Q same
     (whys_placed c.args.named.now.0 l.named.1 l.why-index c.deref_mut-why-items.result.now l.why-items l.invariant.done

@@ -1,4 +1,4 @@
-use Rattle.std.proofs.Common.{map, subst, List, ◌<◌, length}
+use Rattle.std.proofs.Common.{map, subst, ℕ, List, ◌<◌, length}
 use Rattle.std.specs.List.{AllByRecursion}
 use Rattle.circ_term.proofs.Within.{drop_read}
 use Rattle.circ_theory.specs.Rewriting.{named}
@@ -25,7 +25,7 @@ loop-done-preserved c =
     let x = c.index-steps-done.result in
     let e = drop_read steps i x c.loop-done-test.true c.index-steps-done.is in
     let r = rw c.if-not-branch.false at c.in_ok-apply_known.ensures.exact in
-    let P : List Step → Type 0 = λ xs. AllByRecursion (AllOfStep (λ n. n < length table)) (plain_steps xs) in
+    let P : List (Step ℕ) → Type 0 = λ xs. AllByRecursion (AllOfStep (λ n. n < length table)) (plain_steps xs) in
     record {
       stands = stands_done plain_step (map_step (named table)) c.args.theory.now c.args.proof.now.gamma
           (map (map_step (named table)) (plain_steps steps)) (plain_state c.args.state.now) (plain_state c.loop-done.state) (plain_state c.apply_known.new.state)

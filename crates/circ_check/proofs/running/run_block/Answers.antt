@@ -1,6 +1,6 @@
-use Rattle.std.proofs.Common.{◌≡◌, ◌++◌, Bool, List, length, ap, sym, subst, ◌∙◌}
+use Rattle.std.proofs.Common.{◌≡◌, ◌++◌, Bool, List, length, map, ap, sym, subst, ◌∙◌}
 use Rattle.circ_proof.specs.Goals.{AreSortedGoals}
-use Rattle.circ_proof.specs.PlainProof.{plain_block, plain_steps}
+use Rattle.circ_proof.specs.PlainProof.{plain_block, plain_names, plain_steps}
 use Rattle.circ_soundness.proofs.Blocks.{block_sorted}
 use Rattle.circ_soundness.proofs.Resolving.{steps_in_table}
 use Rattle.circ_check.specs.Knowing.{AreKnown, marks_of}
@@ -25,7 +25,7 @@ run-requires-clause-known c =
     let b = c.args.block.now in
     let put : c.put.new.queue.items ≡ b.goals.items =
     c.in_ok-put.ensures ∙ ap (λ gs. gs ++ c.as_slice-2.result.now) c.requires.no_goal ∙ c.as_slice-2.ensures.value in
-    let marks : c.in_ok-known.known.items ≡ marks_of b.names.items = c.in_ok-known.ensures ∙ ap marks_of c.as_slice.ensures.value in
+    let marks : c.in_ok-known.known.items ≡ marks_of (map plain_names b.names.items) = c.in_ok-known.ensures ∙ ap (λ ns. marks_of (map plain_names ns)) c.as_slice.ensures.value in
     let K : List Bool → Type 0 = λ bs. AreKnown bs c.put.new.queue.items in
     subst K (sym marks)
-    (subst (AreKnown (marks_of b.names.items)) (sym (put ∙ c.requires.fits.goals)) (marks_known c.args.proof.now.table.items b.names.items))
+    (subst (AreKnown (marks_of (map plain_names b.names.items))) (sym (put ∙ c.requires.fits.goals)) (marks_known c.args.proof.now.table.items (map plain_names b.names.items)))

@@ -9,6 +9,7 @@ abbrev pub invariant-loop-part : goal.invariant-loop-part
 invariant-loop-part l = record {
   sound : IsSound l.reader;
   fault : l.reader.fault ≡ None;
+  version : l.gathering.proof.version ≡ l.version;
   gathered : gather_all (gathered_of l.gathering) (queue_of l.reader.reader.machine) ≡ gather_all nothing_gathered (queue_of l.fn.reader.reader.machine);
 }
 

@@ -1,7 +1,7 @@
 use Rattle.std.proofs.Common.{◌≡◌, ◌-◌, ◌++◌, ◌∙◌, ◌∷◌, ℕ, refl, ap, sym, subst, arith}
 use Rattle.std.proofs.lemmas.Result.{on_ok_weaker}
 use Rattle.circ_proof.specs.Plain.{WhyOf, plain_why, plain_whys}
-use Rattle.circ_replay.proofs.Whys.{split_plain}
+use Rattle.circ_proof.proofs.Rows.{split_plain}
 use Rattle.circ_replay.proofs.Reasons.{why_depth, whys_depth, depth_at}
 use Rattle.circ_proof.specs.Proof.{IsWhyFor}
 use Rattle.circ_line.specs.Line.{split_line}

@@ -1,6 +1,6 @@
 use Rattle.std.proofs.Common.{sym, ◌∙◌, ap, arith, [], None}
 use Rattle.circ_proof.specs.Plain.{plain_why}
-use Rattle.circ_replay.proofs.Whys.{split_plain}
+use Rattle.circ_proof.proofs.Rows.{split_plain}
 use Rattle.circ_file.specs.Splits.{given, tops}
 use Rattle.circ_file.specs.declared.splits.OpenSplit.{OpenSplit}
 use Rattle.circ_file.proofs.Given.{tops-push, given_waits, given_whole}

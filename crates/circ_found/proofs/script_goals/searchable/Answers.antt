@@ -1,12 +1,9 @@
 use Rattle.std.proofs.Common.{sym}
 use Rattle.circ_script.specs.Script.{plain_script}
-use Rattle.circ_found.proofs.Searchables.{same_blocks, script_searchable}
+use Rattle.circ_found.proofs.Searchables.{script_searchable}
 use Rattle.circ_found.proofs.script_goals.searchable.Goals as goal
 
 pub returns-clause-searchable : goal.returns-clause-searchable
 returns-clause-searchable c =
-    script_searchable c.args.theory.now (plain_script c.args.script.now) c.requires.fit c.requires.goals
-    (rw (same_blocks c.args.script.now.blocks.items, sym c.as_slice.ensures.value) c.blocks_within.ensures)
-
-pub returns-clause-same : goal.returns-clause-same
-returns-clause-same c = same_blocks c.args.script.now.blocks.items
+    script_searchable c.args.theory.now (plain_script c.args.script.now) c.requires.plain c.requires.fit c.requires.goals
+    (rw (sym c.as_slice.ensures.value) c.blocks_within.ensures)

@@ -14,13 +14,13 @@ number_tokens-requires-clause-few_right c =
 pub read_each_sort-requires-clause-few : goal.read_each_sort-requires-clause-few
 read_each_sort-requires-clause-few c =
     let n = c.in_ok-both.ensures.numbered in
-    rw (c.deref-3.ensures.value, c.deref-2.ensures) (few_numbers n.texts c.in_ok-both.both.value.left.items _ n.left _ c.requires.few)
+    rw (c.deref-3.ensures.value, c.deref-2.ensures) (few_numbers c.number_tokens.new.words c.in_ok-both.both.value.left.items _ n.left _ c.requires.few)
 
 pub returns-clause-reading : goal.returns-clause-reading
 returns-clause-reading c =
     let n = c.in_ok-both.ensures.numbered in
     let both = c.in_ok-both.both.value in
-    one_kept c.args.scope.now.theory.now.signature (vars_in c.args.scope.now) c.args.scope.now.hole n.texts n.count both.grammar n.grammar n.begin both.left.items
+    one_kept c.args.scope.now.theory.now.signature (vars_in c.args.scope.now) c.args.scope.now.hole c.number_tokens.new.words n.count both.grammar n.grammar n.begin both.left.items
     (tokens_in c.args.tokens.now c.args.span) c.in_ok-terms.terms.items c.in_ok-readings_of_one.field-0 n.left_below n.left
     (rw (c.deref.ensures, c.deref-3.ensures.value, c.deref-2.ensures) at c.in_ok-terms.ensures) (rw c.deref-4.ensures.value at c.in_ok-readings_of_one.ensures)
 

@@ -1,7 +1,7 @@
 use Rattle.std.proofs.Common.{◌≡◌, ℕ, zero, suc, List, [], ◌∷◌, false, refl, subst, arith, codes}
 use Rattle.std.specs.List.{Contains}
 use Rattle.circ_lexer.specs.Bytes.{begins_comment}
-use Rattle.circ_theory.specs.declared.forms.Piece.TheVariants.{Word}
+use Rattle.circ_form.specs.declared.forms.Piece.TheVariants.{Word}
 use Rattle.circ_theory.specs.Signature.{Operator}
 use Rattle.circ_mixfix.specs.Printed.{IsName, IsPrintableOperator}
 use Rattle.circ_mixfix.specs.PrintedExamples.{plus, call, sums}

@@ -34,7 +34,7 @@ returns c =
     let b = blocks.1 c.named_certificates.new.table
     (later_too c.named_blocks.new.table c.named_certificates.new.table (flat_map links_terms cs) c.named_certificates.new.table links.0 here) in
     let l = links.1 c.named_certificates.new.table here in
-    let P : List Tree → List (List (LinkOf ℕ)) → List Block → Proof = λ t ls xs. record { table = t; places = c.args.gamma; certificates = ls; blocks = xs } in
+    let P : List Tree → List (List (LinkOf ℕ)) → List Block → Proof = λ t ls xs. record { version = 1; table = t; places = c.args.gamma; certificates = ls; blocks = xs } in
     let few : length (table_for cs bs) ≤ term_limit = omega (arith, ap length all, ap length c.terms.ensures.value, c.terms.ensures.table.few) in (
       ap (λ t. P t (plain_certificates c.in-Ok-named_certificates.certificates.items) (map plain_block c.in-Ok.blocks.items)) (c.in_ok-shared.ensures ∙ c.terms.ensures.value)
           ∙ ap (λ ls. P c.named_certificates.new.table ls (map plain_block c.in-Ok.blocks.items)) l

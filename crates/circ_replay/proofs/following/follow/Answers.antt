@@ -2,7 +2,7 @@ use Rattle.std.proofs.Common.{◌≡◌, map}
 use Rattle.circ_term.specs.Tree.{sort_of}
 use Rattle.circ_theory.specs.Signature.{IsWellSorted}
 use Rattle.circ_proof.specs.Plain.{plain_link}
-use Rattle.circ_proof.specs.Goals.{sides}
+use Rattle.circ_theory.specs.Pairs.{plain_pair}
 use Rattle.circ_proof.specs.Link.{setting, resolved_link}
 use Rattle.circ_proof.specs.Link.{LinkDerives}
 use Rattle.circ_proof.proofs.Leading.{link_sorted, link_derives, link_resolved, derives_resolved, sorted_setting}
@@ -12,9 +12,9 @@ use Rattle.circ_replay.proofs.following.follow.Goals as goal
 pub returns-clause-derivable : goal.returns-clause-derivable
 returns-clause-derivable c =
     let th = c.args.theory.now in
-    let A = map sides c.args.assumptions.now in
+    let A = map plain_pair c.args.assumptions.now in
     let s = setting th c.args.gamma.now c.args.hyps.now A in
-    let is = sorted_setting th c.known.ensures c.args.gamma.now c.args.hyps.now c.args.assumptions.now c.requires.hyps_sorted c.requires.assumptions_sorted in
+    let is = sorted_setting th c.known.ensures c.args.gamma.now c.args.hyps.now (map plain_pair c.args.assumptions.now) c.requires.hyps_sorted c.requires.assumptions_sorted in
     let table = c.args.table.now in
     let l = plain_link c.args.link.now in
     let a = link_resolved th.signature table c.requires.table_sorted l c.requires.in_table in
@@ -25,8 +25,8 @@ returns-clause-derivable c =
 pub returns-clause-well_sorted : goal.returns-clause-well_sorted
 returns-clause-well_sorted c =
     let th = c.args.theory.now in
-    let s = setting th c.args.gamma.now c.args.hyps.now (map sides c.args.assumptions.now) in
-    let is = sorted_setting th c.known.ensures c.args.gamma.now c.args.hyps.now c.args.assumptions.now c.requires.hyps_sorted c.requires.assumptions_sorted in
+    let s = setting th c.args.gamma.now c.args.hyps.now (map plain_pair c.args.assumptions.now) in
+    let is = sorted_setting th c.known.ensures c.args.gamma.now c.args.hyps.now (map plain_pair c.args.assumptions.now) c.requires.hyps_sorted c.requires.assumptions_sorted in
     let table = c.args.table.now in
     let l = plain_link c.args.link.now in
     let a = link_resolved th.signature table c.requires.table_sorted l c.requires.in_table in
@@ -37,8 +37,8 @@ returns-clause-well_sorted c =
 pub returns-clause-same_sort : goal.returns-clause-same_sort
 returns-clause-same_sort c =
     let th = c.args.theory.now in
-    let s = setting th c.args.gamma.now c.args.hyps.now (map sides c.args.assumptions.now) in
-    let is = sorted_setting th c.known.ensures c.args.gamma.now c.args.hyps.now c.args.assumptions.now c.requires.hyps_sorted c.requires.assumptions_sorted in
+    let s = setting th c.args.gamma.now c.args.hyps.now (map plain_pair c.args.assumptions.now) in
+    let is = sorted_setting th c.known.ensures c.args.gamma.now c.args.hyps.now (map plain_pair c.args.assumptions.now) c.requires.hyps_sorted c.requires.assumptions_sorted in
     let table = c.args.table.now in
     let l = plain_link c.args.link.now in
     let a = link_resolved th.signature table c.requires.table_sorted l c.requires.in_table in

@@ -1,5 +1,5 @@
 use Rattle.std.proofs.Common.{ℕ, List, ◌++◌, codes, flat_map}
-use Rattle.circ_theory.specs.Form.{text_of}
+use Rattle.circ_form.specs.Form.{text_of}
 use Rattle.circ_theory.specs.Operators.{operator_of}
 use Rattle.circ_show.specs.Lines.{spaced_sort}
 use Rattle.circ_show.proofs.Steps.{joins, joins_ok}

@@ -1,5 +1,5 @@
 use Rattle.std.proofs.Common.{◌≡◌, ◌++◌, drop}
-use Rattle.circ_theory.specs.Form.{text_of}
+use Rattle.circ_form.specs.Form.{text_of}
 use Rattle.circ_show.proofs.lines.put_form.Given as goal
 
 abbrev pub invariant-loop-piece : goal.invariant-loop-piece

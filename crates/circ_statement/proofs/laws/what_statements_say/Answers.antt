@@ -1,6 +1,6 @@
 use Rattle.std.proofs.Common.{◌≡◌, ◌<◌, ℕ, zero, suc, [], ◌∷◌, true, false, codes, Some, inr, refl, ap, ◌∙◌, arith}
 use Rattle.std.proofs.lemmas.Option.{same_Some}
-use Rattle.circ_theory.specs.declared.forms.Piece.TheVariants.{Hole, Word as OneWord}
+use Rattle.circ_form.specs.declared.forms.Piece.TheVariants.{Hole, Word as OneWord}
 use Rattle.circ_theory.specs.declared.parts.Side.TheVariants.{Neither, Right}
 use Rattle.circ_statement.specs.declared.attributes.Attribute.TheVariants.{Prec, Assoc}
 use Rattle.circ_statement.specs.Words.{Word}
@@ -9,7 +9,14 @@ use Rattle.circ_statement.proofs.Decimals.{number_gives}
 use Rattle.circ_statement.proofs.laws.what_statements_say.Goals as goal
 
 pub returns-clause-equation : goal.returns-clause-equation
-returns-clause-equation c = record { left = codes "a" ∷ []; right = []; exec = false; unmarked = refl; one_left = refl; one_right = refl; says = refl }
+returns-clause-equation c = record {
+  body = codes "a" ∷ (codes "=" ∷ []);
+  sides = record { left = codes "a" ∷ []; right = [] };
+  exec = false;
+  unmarked = refl;
+  are_sides = record { words = refl; one_left = refl; one_right = refl };
+  says = refl;
+}
 
 pub returns-clause-operator : goal.returns-clause-operator
 returns-clause-operator c = record {

@@ -15,7 +15,7 @@ pub visit_all-returns-then-not-branch-clause-answer : goal.visit_all-returns-the
 visit_all-returns-then-not-branch-clause-answer t c =
     let P : List Variable → Type 0 = AreNumberedFrom 0 in
     let read = drop_read c.args.terms.now c.loop-term.term-index c.term-item.result c.loop-term-test.true c.term-item.is in
-    let whole = rw read at c.loop-term.invariant in (
+    let whole = rw read at c.loop-term.invariant.0 in (
       (λ never. absurd (cc)),
       (λ a. rw c.if-not-branch.true at (c.in_ok-visit.ensures.answer.1
           (seen_in_all_before (trees_of (drop (c.loop-term.term-index + 1) c.args.terms.now)) (seen_in c.term-item.result (numbered 0 c.loop-term.sorts.items)) (subst P (sym whole) a)))),
@@ -25,5 +25,5 @@ pub visit_all-returns-clause-answer : goal.visit_all-returns-clause-answer
 visit_all-returns-clause-answer t c =
     let P : List Variable → Type 0 = AreNumberedFrom 0 in
     let done : drop c.loop-term.term-index c.args.terms.now ≡ [] = drop_all c.loop-term.term-index c.args.terms.now c.loop-term-test.false in
-    let whole = rw done at c.loop-term.invariant in
+    let whole = rw done at c.loop-term.invariant.0 in
     ((λ _. subst P whole (numbered_are 0 c.loop-term.sorts.items)), (λ _. refl))

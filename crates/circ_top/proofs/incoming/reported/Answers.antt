@@ -1,5 +1,4 @@
 use Rattle.std.proofs.Common.{refl}
-use Rattle.circ_top.proofs.Reporting.{pairs_of_lists}
 use Rattle.circ_top.proofs.incoming.reported.Goals as goal
 
 pub returns-in_ok-relation_text-in-Relation : goal.returns-in_ok-relation_text-in-Relation
@@ -10,5 +9,4 @@ returns-in_ok-relation_text-in-Relation c p e =
       c.in_ok-out.ensures.items,
       c.in-Relation.is,
       e,
-      pairs_of_lists c.args.derived.now,
     ) refl

@@ -46,3 +46,6 @@ returns-clause-refused g c = theory_fault status.Memory tt
 
 pub search-requires : goal.search-requires
 search-requires g c = rw (c.as_slice.ensures.value, sym c.searchable.ensures.same) c.searchable.ensures.searchable
+
+pub searchable-requires-clause-plain : goal.searchable-requires-clause-plain
+searchable-requires-clause-plain g c = rw c.in-Ok-take_script.ensures.kept c.in-Ok.ensures.takes.plain

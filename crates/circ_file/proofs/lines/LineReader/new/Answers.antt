@@ -18,4 +18,6 @@ returns-clause-reader c =
       due = c.new-3.ensures.due ∙ sym (ap (λ x. length (due th x)) c.new.ensures.places);
       certificates = omega (arith, c.new-3.ensures.certificates);
       steps = omega (arith, c.new-3.ensures.steps);
+      givens = omega (arith, c.new-3.ensures.givens);
+      ifs = omega (arith, c.new-3.ensures.ifs);
     }

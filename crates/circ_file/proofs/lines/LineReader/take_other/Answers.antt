@@ -22,7 +22,7 @@ advance-requires-clause-ready c =
     let old = c.args.self.now in
     let l = plain_line c.args.line in
     let passes : passes_at old.theory.now (seen_of [] old) l ≡ true = sym (c.if-not-passes.ensures []) in
-    ready_then old.theory.now (seen_of [] old) l c.known.ensures passes
+    ready_then old.theory.now (seen_of [] old) l c.known.ensures c.requires.in_range passes
 
 pub returns-clause-taken : goal.returns-clause-taken
 returns-clause-taken c w open_splits =
@@ -34,4 +34,14 @@ returns-clause-taken c w open_splits =
     let new : LineReader = record c.advance.new.self { counts = c.with-counts.result } in
     let moved : Advances true old l c.advance.new.self = rw c.if-not-branch.false at c.in_ok-advance.ensures.taken in
     other_handled w old new l c.requires.reader c.requires.other c.advance.ensures.theory passes within moved
-    (counted.due old.machine.places.items c.requires.reader.due) counted.certificates counted.steps
+    (counted.due old.machine.places.items c.requires.reader.due)
+    (λ i. record {
+      version = counted.version i;
+      certificates = counted.certificates i;
+      steps = counted.steps i;
+      givens = counted.givens i;
+      ifs = counted.ifs i;
+    })
+
+pub with-counts-requires-clause-ifs : goal.with-counts-requires-clause-ifs
+with-counts-requires-clause-ifs c = omega (arith, c.requires.reader.ifs)

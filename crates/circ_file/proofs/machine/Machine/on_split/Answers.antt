@@ -1,7 +1,7 @@
 use Rattle.std.proofs.Common.{ap, ◌∙◌, []}
 use Rattle.circ_proof.specs.Plain.{plain_chain, plain_why, plain_whys, Split_why}
 use Rattle.circ_proof.specs.declared.links.Why.{Split}
-use Rattle.circ_replay.proofs.Whys.{split_plain}
+use Rattle.circ_proof.proofs.Rows.{split_plain}
 use Rattle.circ_grammar.specs.Machine.{open_split}
 use Rattle.circ_file.specs.Splits.{tops}
 use Rattle.circ_file.specs.View.{now_at, now_of, queue_of}

@@ -10,4 +10,4 @@ pub returns-clause-next : goal.returns-clause-next
 returns-clause-next c =
     let old = c.args.self.now in
     let new : Machine = record old { queue = c.pop_front.new.self } in
-    now_same old.mode old new refl refl refl refl refl
+    now_same old.mode old new refl refl refl refl refl refl refl refl

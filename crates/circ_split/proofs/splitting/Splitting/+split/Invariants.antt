@@ -1,4 +1,5 @@
-use Rattle.std.proofs.Common.{◌≡◌, ◌+◌, ◌*◌, ◌≤◌, drop}
+use Rattle.std.proofs.Common.{◌≡◌, ◌+◌, ◌*◌, ◌≤◌, drop, map}
+use Rattle.circ_theory.specs.Pairs.{plain_pair}
 use Rattle.circ_plain_search.specs.Search.{each_case, split_cases}
 use Rattle.circ_split.proofs.Splits.{Rest}
 use Rattle.circ_split.proofs.splitting.Splitting.+split.Given as goal
@@ -22,7 +23,7 @@ invariant-each_case-loop-i l = record {
   less : l.budget ≤ l.fn.budget;
   same : l.assumptions.items ≡ l.fn.assumptions.items;
   rest : Rest
-      (each_case l.self.theory.now l.fn.memo.rules (split_cases l.self.theory.now l.fn.memo.rules l.room) l.fn.assumptions.items l.term l.left l.right l.constants l.fn.budget)
-      (each_case l.self.theory.now l.fn.memo.rules (split_cases l.self.theory.now l.fn.memo.rules l.room) l.fn.assumptions.items l.term l.left l.right (drop l.i l.constants) l.budget)
+      (each_case l.self.theory.now l.fn.memo.rules (split_cases l.self.theory.now l.fn.memo.rules l.room) (map plain_pair l.fn.assumptions.items) l.term l.left l.right l.constants l.fn.budget)
+      (each_case l.self.theory.now l.fn.memo.rules (split_cases l.self.theory.now l.fn.memo.rules l.room) (map plain_pair l.fn.assumptions.items) l.term l.left l.right (drop l.i l.constants) l.budget)
       l.whys.items;
 }

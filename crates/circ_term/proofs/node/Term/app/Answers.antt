@@ -1,6 +1,7 @@
 use Rattle.std.proofs.Common.{◌≡◌, ◌+◌, drop, ◌&&◌, arith, sym, ◌∙◌, ap, None}
 use Rattle.std.proofs.Math.Bool.{and_assoc}
 use Rattle.circ_term.specs.Tree.{trees_of, are_ground}
+use Rattle.circ_term.specs.Fingerprint.{mixed, fingerprint_after}
 use Rattle.circ_term.specs.Limits.{first_limit, first_limits, or_else}
 use Rattle.circ_term.proofs.Within.{drop_read}
 use Rattle.circ_term.proofs.Limits.{first_limit_none}
@@ -23,6 +24,11 @@ loop-arg-preserved c =
           and_assoc c.loop-arg.is_ground c.is_ground-is_ground.result rest
           ∙ ap (λ b. c.loop-arg.is_ground && (b && rest)) c.is_ground-is_ground.ensures
           ∙ without_variable;
+      fingerprint =
+          ap (λ h. fingerprint_after h (trees_of (drop (c.loop-arg.arg-index + 1) c.deref-arg-items.result.now))) c.mixed-fingerprint.ensures
+          ∙ ap (λ k. fingerprint_after (mixed c.loop-arg.fingerprint k) (trees_of (drop (c.loop-arg.arg-index + 1) c.deref-arg-items.result.now)))
+          c.fingerprint.ensures
+          ∙ rw e at c.loop-arg.invariant.fingerprint;
       few = omega arith;
       depth_small = omega arith;
     }

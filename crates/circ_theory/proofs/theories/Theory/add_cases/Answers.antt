@@ -33,6 +33,7 @@ invariant_of-self-2 c =
       listed = (is_kept c).listed;
       observers = (is_kept c).observers;
       hidden = (is_kept c).hidden;
+      conditions = (is_kept c).conditions;
       by_word = (is_kept c).by_word;
     }
 

@@ -39,6 +39,7 @@ invariant_of-self-2 c =
       hidden = λ s. hidden_more th p.hidden.keys c.note_hole.new.hidden.keys c.in_ok-hole.hole s (observed o) (kept.hidden s)
           (ap (list_any (nat_eq s)) c.in_ok-note_hole.ensures.noted ∙ any_inserted p.hidden.keys c.in_ok-hole.hole s) refl
           ∙ ap (list_any (λ d. s == d.hole)) (sym more);
+      conditions = kept.conditions;
       by_word = kept.by_word;
     }
 

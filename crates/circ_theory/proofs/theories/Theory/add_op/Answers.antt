@@ -4,7 +4,7 @@ use Rattle.std.specs.Cmp.Lexicographic.{pointwise}
 use Rattle.indexmap.specs.IndexMap.{insert_entry}
 use Rattle.circ_theory.specs.declared.parts.OpDecl.{OpDecl}
 use Rattle.circ_theory.specs.declared.theories.OpKey.{OpKey}
-use Rattle.circ_theory.specs.Form.{first_word}
+use Rattle.circ_form.specs.Form.{first_word}
 use Rattle.circ_theory.specs.Signature.{Operator}
 use Rattle.circ_theory.specs.Theory.{Theory}
 use Rattle.circ_theory.specs.Operators.{operator_of, is_same_operator, places_from}
@@ -46,6 +46,7 @@ invariant_of-self-2 c =
       listed = kept.listed;
       observers = kept.observers;
       hidden = kept.hidden;
+      conditions = kept.conditions;
       by_word = λ w. c.in_ok-note_op.ensures.noted w
           ∙ word_more th.signature (operator_of d) w c.first_word-word.result.now _ c.op_count-number.result c.first_word-word.ensures (kept.by_word w) number
           ∙ ap (places_from (λ o. pointwise nat_eq w (first_word o.form)) 0) (sym ops);

@@ -1,6 +1,6 @@
 use Rattle.std.proofs.Common.{List, ℕ, false, ◌∙◌}
 use Rattle.circ_theory.specs.declared.theories.OpKey.{OpKey}
-use Rattle.circ_theory.specs.declared.forms.Piece.{Piece}
+use Rattle.circ_form.specs.declared.forms.Piece.{Piece}
 use Rattle.circ_theory.specs.declared.parts.Side.TheVariants.{Neither}
 use Rattle.circ_theory.specs.Signature.{Operator}
 use Rattle.circ_theory.proofs.Keys.{key_position}

@@ -18,5 +18,6 @@ invariant_of-self c =
       listed = kept.listed;
       observers = kept.observers;
       hidden = kept.hidden;
+      conditions = kept.conditions;
       by_word = kept.by_word;
     }

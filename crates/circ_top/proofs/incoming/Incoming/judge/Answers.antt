@@ -12,13 +12,13 @@ returns-in-Err c th bytes t =
 
 pub returns-in-Some : goal.returns-in-Some
 returns-in-Some c th bytes t =
-    let w = whole th bytes c.args.self.now t.follows (λ parts s. c.in_default.ensures.stands th bytes parts s)
+    let w = whole th bytes c.args.self.now t.follows (λ parts s. let e = c.in_default.ensures.stands th bytes parts s in (e.0, e.1, e.2))
     (λ f k. let never = c.in_default.ensures.again f k in cc) in
     (w.0, w.1.reads, c.in-Some.ensures.exact th w.0 w.1.reads.proof_for w.1.checked)
 
 pub returns-in-Ok : goal.returns-in-Ok
 returns-in-Ok c th bytes t =
-    let w = whole th bytes c.args.self.now t.follows (λ parts s. c.in_default.ensures.stands th bytes parts s)
+    let w = whole th bytes c.args.self.now t.follows (λ parts s. let e = c.in_default.ensures.stands th bytes parts s in (e.0, e.1, e.2))
     (λ f k. let never = c.in_default.ensures.again f k in cc) in
     let p = w.0 in
     let fits = w.1.reads.proof_for in

@@ -1,6 +1,6 @@
 use Rattle.std.proofs.Common.{map, ap, length-append, arith}
 use Rattle.circ_turn.specs.Standing.{standing, plain_limits}
-use Rattle.circ_turn.proofs.Turning.{few_earlier}
+use Rattle.circ_turn.proofs.Turning.{few_earlier, plain_earlier}
 use Rattle.circ_turn.proofs.search.Search.done_turn.Goals as goal
 
 pub next_block-requires : goal.next_block-requires
@@ -10,4 +10,8 @@ next_block-requires c =
     let later = ap (map (λ v. v.items)) left.0 in
     let few = few_earlier c.args.self.now.theory.now (plain_limits c.args.self.now.limits) (standing c.args.state.now) x c.in-Some.block.now.items (map (λ v. v.items) c.in-Some.later.now)
     c.in-Ok.ensures.exact later c.requires.next in
-    record { few = omega (arith, few, length-append x.earlier x.goals) }
+    record {
+      few = omega (arith, few, length-append x.earlier x.goals);
+      plain = plain_earlier c.args.self.now.theory.now (plain_limits c.args.self.now.limits) (standing c.args.state.now) x c.in-Some.block.now.items
+          (map (λ v. v.items) c.in-Some.later.now) c.in-Ok.ensures.exact later c.requires.next;
+    }

@@ -1,9 +1,10 @@
 use Rattle.std.proofs.Common.{List, map, drop, ap, subst, ◌∙◌}
 use Rattle.circ_plain_search.specs.Joining.{use_link}
 use Rattle.circ_join.specs.Uses.{plain_uses}
-use Rattle.circ_record.specs.Plain.{plain_term_why, plain_term_link, plain_term_links}
+use Rattle.circ_term.specs.Tree.{Tree}
+use Rattle.circ_proof.specs.Plain.{WhyOf, Same_why, plain_link, plain_links}
 use Rattle.circ_theory.specs.declared.parts.Goal.{Goal}
-use Rattle.circ_plain_search.specs.Search.{reduced}
+use Rattle.circ_plain_search.specs.Search.{chain_with, reduced}
 use Rattle.circ_turn.specs.Ending.{GoesTo}
 use Rattle.circ_turn.specs.Standing.{standing, plain_limits}
 use Rattle.circ_turn.proofs.Turning.{join_goes, goes_same, joined_why, map_append}
@@ -13,13 +14,13 @@ pub returns : goal.returns
 returns c =
     let st = standing c.args.state.now in
     let put = rw (c.in-Ok.is, c.as_slice.ensures.value) at c.put_all.ensures in
-    let new = ap plain_term_links c.in_ok-append.ensures.items ∙ map_append plain_term_link c.take_chain-chain.result.left.items c.in_ok-links.links.items in
-    let why = c.same.ensures
-    ∙ joined_why st.chain (plain_term_links c.take_chain-chain.result.left.items) (plain_term_links c.take_chain-chain.result.right.items) (plain_term_links c.in_ok-links.links.items)
-    (map use_link (plain_uses c.args.uses.items)) (plain_term_links c.append.new.self.items) c.take_chain-chain.ensures.taken c.in_ok-links.ensures new in
-    let P : List Goal → Type 0 = λ q. GoesTo (reduced c.args.self.now.theory.now (plain_limits c.args.self.now.limits) (standing c.take_chain-chain.new.self) (drop 1 q) (plain_term_why c.same.result))
+    let new = ap plain_links c.in_ok-append.ensures.items ∙ map_append plain_link c.take_chain-chain.result.left.items c.in_ok-links.links.items in
+    let why = joined_why st.chain (plain_links c.take_chain-chain.result.left.items) (plain_links c.take_chain-chain.result.right.items) (plain_links c.in_ok-links.links.items)
+    (map use_link (plain_uses c.args.uses.items)) (plain_links c.append.new.self.items) c.take_chain-chain.ensures.taken c.in_ok-links.ensures new in
+    let w : WhyOf Tree = Same_why (chain_with (plain_links c.append.new.self.items) (plain_links c.take_chain-chain.result.right.items)) in
+    let P : List Goal → Type 0 = λ q. GoesTo (reduced c.args.self.now.theory.now (plain_limits c.args.self.now.limits) (standing c.take_chain-chain.new.self) (drop 1 q) w)
     (standing c.reduced.new.state) c.reduced.result in
     let goes = subst P c.take_chain-chain.ensures.kept.queue c.reduced.ensures in
     goes_same _ _ _ _
     (join_goes c.args.self.now.theory.now c.args.self.now.gamma.now (plain_limits c.args.self.now.limits) st (standing c.take_chain-chain.new.self) c.args.goal.now
-    (drop 1 c.args.state.now.queue.items) (plain_uses c.args.uses.items) c.in-Ok.field-0 (plain_term_why c.same.result) put c.take_chain-chain.ensures.left why) goes
+    (drop 1 c.args.state.now.queue.items) (plain_uses c.args.uses.items) c.in-Ok.field-0 w put c.take_chain-chain.ensures.left why) goes

@@ -3,6 +3,7 @@ use Rattle.std.proofs.lemmas.List.{take_at}
 use Rattle.circ_term.proofs.Within.{drop_read}
 use Rattle.circ_theory.specs.declared.parts.Goal.{Goal}
 use Rattle.circ_block.specs.Rules.{IsRulesOf}
+use Rattle.circ_plain_search.specs.BlockRules.{HaveNoConditions}
 use Rattle.circ_plain_search.specs.Search.{turn, turn_at}
 use Rattle.circ_turn.specs.Standing.{standing, plain_limits}
 use Rattle.circ_turn.proofs.Earlier.{goal_keeps, done_earlier, none_there}
@@ -19,6 +20,16 @@ next_block-requires-clause-few c =
     = ap (turn_at c.args.self.now.theory.now c.args.self.now.gamma.now (plain_limits c.args.self.now.limits) st) (empty c) ∙ d in
     let small = c.requires.next (standing c.done_turn.new.state) t in
     omega (arith, small.earlier, ap length c.earlier.ensures)
+
+pub next_block-requires-clause-plain : goal.next_block-requires-clause-plain
+next_block-requires-clause-plain c =
+    let st = standing c.args.state.now in
+    let d = rw (c.in-Ok-true.is, c.in-Ok-true.field-0-test) at c.done_turn.ensures in
+    let t : turn c.args.self.now.theory.now c.args.self.now.gamma.now (plain_limits c.args.self.now.limits) st ≡ Ok (standing c.done_turn.new.state)
+    = ap (turn_at c.args.self.now.theory.now c.args.self.now.gamma.now (plain_limits c.args.self.now.limits) st) (empty c) ∙ d in
+    let small = c.requires.next (standing c.done_turn.new.state) t in
+    let P : List Goal → Type 0 = HaveNoConditions in
+    subst P (sym c.earlier.ensures) small.no_conds
 
 pub next_block-requires-clause-before : goal.next_block-requires-clause-before
 next_block-requires-clause-before c =

@@ -1,7 +1,10 @@
 use Rattle.std.proofs.Common.{List, drop, ap, subst, ◌∙◌}
 use Rattle.circ_proof.specs.Plain.{Split_why}
 use Rattle.circ_plain_search.specs.Search.{split_with, reduced}
-use Rattle.circ_record.specs.Plain.{plain_term_why, plain_term_whys}
+use Rattle.circ_term.specs.Tree.{Tree}
+use Rattle.circ_proof.specs.Plain.{plain_why, plain_whys}
+use Rattle.circ_proof.specs.declared.links.Why.{Why, Split}
+use Rattle.circ_proof.proofs.Rows.{split_plain}
 use Rattle.circ_theory.specs.declared.parts.Goal.{Goal}
 use Rattle.circ_turn.specs.Ending.{GoesTo}
 use Rattle.circ_turn.specs.Standing.{standing, plain_limits}
@@ -17,11 +20,12 @@ pub returns-in-Ok-clause-exact : goal.returns-in-Ok-clause-exact
 returns-in-Ok-clause-exact c =
     let st = standing c.args.state.now in
     let h = rw (c.in-Ok.is, c.requires.rules.rules) at c.split_cases.ensures.exact in
-    let why = c.split.ensures ∙ ap (λ x. Split_why x c.in-Ok.cases.term (plain_term_whys c.in-Ok.cases.whys.items)) c.take_chain-chain.ensures.taken in
-    let P : List Goal → Type 0 = λ q. GoesTo (reduced c.args.self.now.theory.now (plain_limits c.args.self.now.limits) (standing c.take_chain-chain.new.self) (drop 1 q) (plain_term_why c.split.result))
+    let w : Why Tree = Split c.take_chain-chain.result c.in-Ok.cases.term c.in-Ok.cases.whys in
+    let why = split_plain c.take_chain-chain.result c.in-Ok.cases.term c.in-Ok.cases.whys ∙ ap (λ x. Split_why x c.in-Ok.cases.term (plain_whys c.in-Ok.cases.whys.items)) c.take_chain-chain.ensures.taken in
+    let P : List Goal → Type 0 = λ q. GoesTo (reduced c.args.self.now.theory.now (plain_limits c.args.self.now.limits) (standing c.take_chain-chain.new.self) (drop 1 q) (plain_why w))
     (standing c.reduced.new.state) c.reduced.result in
     let goes = subst P c.take_chain-chain.ensures.kept.queue c.reduced.ensures in
     goes_same _ _ _ _
     (visible_goes c.args.self.now.theory.now (plain_limits c.args.self.now.limits) st (standing c.take_chain-chain.new.self) c.args.goal.now
-    (drop 1 c.args.state.now.queue.items) (split_with c.in-Ok.cases.term (plain_term_whys c.in-Ok.cases.whys.items) c.split_cases.new.budget) (plain_term_why c.split.result) h
+    (drop 1 c.args.state.now.queue.items) (split_with c.in-Ok.cases.term (plain_whys c.in-Ok.cases.whys.items) c.split_cases.new.budget) (plain_why w) h
     c.take_chain-chain.ensures.left why) goes

@@ -1,0 +1,5 @@
+use Rattle.circ_proof.proofs.Rows.{equation_plain}
+use Rattle.circ_numbering.proofs.asking.equation_link.Goals as goal
+
+pub returns : goal.returns
+returns c = equation_plain c.args.number c.args.way c.args.parts.path c.args.parts.terms c.args.parts.conds

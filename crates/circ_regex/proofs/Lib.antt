@@ -1,0 +1,16 @@
+pub mod Bools
+pub mod Words
+pub mod Truth
+pub mod Keeps
+pub mod Sorted
+pub mod Spelling
+pub mod Agrees
+pub mod Complete
+pub mod Sound
+pub mod Finish
+pub mod Within
+pub mod Once
+pub mod Parts
+pub mod Meaning
+pub mod Rules
+pub mod Evaluates
