@@ -1,135 +1,121 @@
-"""Draws the pairs of a block as SVG: a tree of boxes by derivatives, and dashed arrows that close the circle."""
+"""Draws the pairs of a block as SVG: boxes below one another, on their left the derivatives that lead on to new pairs, on their right those
+that a hypothesis closes."""
 import textwrap
 from html import escape
 
 from proof_relation import Closed
 
 CHARACTER, LINE = 7.85, 18  # of a letter's width and a line's height, in pixels
-MOST, GAP, DOWN, PAD = 38, 34, 62, 10  # columns of a box; between boxes, between layers, within a box
+MOST, GAP, PAD, LANE = 60, 26, 10, 14  # columns of a box; pixels between boxes, within a box, between arrows
+
+
+class Row:
+    """A line of a box: a derivative, and where it leads."""
+
+    def __init__(self, text, kind, ends=()):
+        self.text, self.kind, self.ends = text, kind, list(ends)
+        self.y = 0
 
 
 class Box:
-    def __init__(self, node, lines, notes):
-        self.node, self.lines, self.notes, self.below = node, lines, notes, []
-        columns = max(len(line) for line in [*lines, *notes, "hypothesis 00"])
-        self.width = columns * CHARACTER + 2 * PAD
-        self.height = (len(lines) + len(notes)) * LINE + 2 * PAD + 14
-        self.x = self.y = 0
+    def __init__(self, node, lines, rows):
+        self.node, self.lines, self.rows = node, lines, rows
+        self.columns = max(len(line) for line in [*lines, *(row.text for row in rows), "hypothesis 00"])
+        self.height = (len(lines) + len(rows)) * LINE + 2 * PAD + 16
+        self.y = 0
 
-    def span(self):
-        """The width of the box with what is below it."""
-        below = sum(box.span() for _, box in self.below) + GAP * (len(self.below) - 1)
-        return max(self.width, below)
+    def put(self, top):
+        self.y = top
+        for number, row in enumerate(self.rows):
+            row.y = top + PAD + 12 + (len(self.lines) + number + 1) * LINE
 
-    def place(self, left, top, layers, depth):
-        """Puts the box above the middle of what is below it."""
-        layers.setdefault(depth, []).append(self)
-        span, at = self.span(), left
-        below = sum(box.span() for _, box in self.below) + GAP * (len(self.below) - 1)
-        self.x = left + (span - self.width) / 2
-        at = left + (span - below) / 2
-        for _, box in self.below:
-            box.place(at, top, layers, depth + 1)
-            at += box.span() + GAP
+    def head(self):
+        """Where arrows end: at the first line of the pair."""
+        return self.y + PAD + 8 + LINE - 4
 
 
 def wrapped(text, first="", later="  "):
     return textwrap.wrap(text, MOST, initial_indent=first, subsequent_indent=later, break_long_words=True) or [""]
 
 
-def box_of(theory, writer, node, edges, lemmas):
-    """The box of a pair, with a line for each derivative that no pair and no hypothesis of the block closes."""
-    goal, notes = node.goal, []
+def row_of(theory, writer, edge, block):
+    """The row of a derivative of a pair."""
+    label = writer.derivative(theory.derivatives[edge.derivative])
+    ahead = len(block.lemmas) - block.first
+    if not isinstance(edge.end, Closed):
+        return Row(f"{label} leads to {edge.end + ahead}", "on", [edge.end])
+    lemmas = [n for n in edge.end.hypotheses if n < len(block.lemmas)]
+    own = [n for n in edge.end.hypotheses if n >= len(block.lemmas)]
+    by = [f"hypothesis {n}" for n in own] + [f"lemma {n}" for n in lemmas]
+    if by:
+        return Row(f"{label} closes by {', '.join(by)}", "closes" if own else "plain", [n - ahead for n in own])
+    ends = " or ".join(dict.fromkeys(writer.text(term) for term in edge.end.ends))
+    return Row(f"{label}: both sides are {ends}"[: MOST + 6], "plain")
+
+
+def box_of(theory, writer, node, block):
+    goal = node.goal
     lines = [*wrapped(writer.text(goal.left)), *wrapped(writer.text(goal.right), "= ")]
     for pair in goal.conditions:
         lines += wrapped(writer.pair(pair), "if ")
-    for edge in edges:
-        if edge.start == node.number and isinstance(edge.end, Closed) and not own(edge.end, lemmas):
-            label = writer.derivative(theory.derivatives[edge.derivative])
-            by = f" by lemma {', '.join(map(str, edge.end.hypotheses))}" if edge.end.hypotheses else ""
-            ends = " or ".join(dict.fromkeys(writer.text(term) for term in edge.end.ends))
-            notes += wrapped(f"{label}: {ends}{by}")
-    return Box(node, lines, notes)
-
-
-def own(closed, lemmas):
-    """The hypotheses of the block itself by which a goal was closed."""
-    return [number for number in closed.hypotheses if number >= len(lemmas)]
+    return Box(node, lines, [row_of(theory, writer, edge, block) for edge in block.edges if edge.start == node.number])
 
 
 def draw(theory, writer, block):
     """The drawing of a block, or nothing if it has no pair."""
     if not block.nodes:
         return ""
-    boxes = {node.number: box_of(theory, writer, node, block.edges, block.lemmas) for node in block.nodes}
-    has_parent = set()
-    for edge in block.edges:
-        if not isinstance(edge.end, Closed):
-            boxes[edge.start].below.append((edge.derivative, boxes[edge.end]))
-            has_parent.add(edge.end)
-    layers, left = {}, 0
-    for number, box in boxes.items():
-        if number not in has_parent:
-            box.place(left, 0, layers, 0)
-            left += box.span() + GAP
+    boxes = {node.number: box_of(theory, writer, node, block) for node in block.nodes}
     top = 8
-    for depth in sorted(layers):
-        for box in layers[depth]:
-            box.y = top
-        top += max(box.height for box in layers[depth]) + DOWN
-    return picture(theory, writer, block, boxes, left, top)
+    for box in boxes.values():
+        box.put(top)
+        top += box.height + GAP
+    width = max(box.columns for box in boxes.values()) * CHARACTER + 2 * PAD
+    on = in_lanes([(row.y, boxes[end].head()) for box in boxes.values() for row in box.rows if row.kind == "on" for end in row.ends])
+    back = in_lanes([(row.y, boxes[end].head()) for box in boxes.values() for row in box.rows if row.kind == "closes" for end in row.ends])
+    left = LANE * (1 + max((lane for *_, lane in on), default=0)) + 10
+    right = left + width
+    whole = right + LANE * (1 + max((lane for *_, lane in back), default=0)) + 10
+    arrows = [arrow(left, -1, *it, "on") for it in on] + [arrow(right, 1, *it, "closes") for it in back]
+    shapes = [shape(box, left, width, len(block.lemmas) - block.first) for box in boxes.values()]
+    return f'<svg width="{whole:.0f}" height="{top - GAP + 8:.0f}" role="img" aria-label="the pairs of the proof">{"".join(arrows)}{"".join(shapes)}</svg>'
 
 
-def picture(theory, writer, block, boxes, width, height):
-    edges, arcs = [], 0
-    for edge in block.edges:
-        label = writer.derivative(theory.derivatives[edge.derivative])
-        start = boxes[edge.start]
-        if not isinstance(edge.end, Closed):
-            edges.append(down(start, boxes[edge.end], label))
-            continue
-        for number in own(edge.end, block.lemmas):
-            arcs += 1
-            end = boxes[number - len(block.lemmas) + block.first]
-            edges.append(back(start, end, f"{label} by {number}", width, arcs))
-    right = width + 26 * arcs + 190
-    shapes = "".join(shape(box, len(block.lemmas) - block.first) for box in boxes.values())
-    return f'<svg width="{right:.0f}" height="{height - DOWN + 16:.0f}" role="img" aria-label="the pairs of the proof">{"".join(edges)}{shapes}</svg>'
+def in_lanes(spans):
+    """Arrows from one height to another, each with a lane, so that those of one lane do not meet; short ones are near the boxes."""
+    lanes, found = [], []
+    for start, end in sorted(spans, key=lambda span: abs(span[0] - span[1])):
+        low, high = sorted((start, end))
+        number = next((n for n, taken in enumerate(lanes) if all(high < a or b < low for a, b in taken)), len(lanes))
+        if number == len(lanes):
+            lanes.append([])
+        lanes[number].append((low, high))
+        found.append((start, end, number + 1))
+    return found
 
 
-def shape(box, ahead):
+def arrow(x, way, start, end, lane, kind):
+    """From the side of a box outwards, along a lane, and back to the side of a box."""
+    out = x + way * (LANE * lane + 4)
+    turn = 6 if end > start else -6
+    path = (f"M{x:.1f} {start:.1f}H{out - way * 6:.1f}Q{out:.1f} {start:.1f} {out:.1f} {start + turn:.1f}V{end - turn:.1f}"
+            f"Q{out:.1f} {end:.1f} {out - way * 6:.1f} {end:.1f}H{x + way * 7:.1f}")
+    head = f"M{x + way * 8:.1f} {end - 4:.1f}L{x:.1f} {end:.1f}L{x + way * 8:.1f} {end + 4:.1f}z"
+    return f'<path class="edge {kind}" d="{path}"/><path class="head {kind}" d="{head}"/>'
+
+
+def shape(box, left, width, ahead):
     kind = "box goal" if box.node.is_goal else "box"
-    parts = [f'<a href="#step-{box.node.step.number}"><rect class="{kind}" x="{box.x:.1f}" y="{box.y:.1f}" width="{box.width:.1f}" height="{box.height:.1f}" rx="7"/></a>']
+    parts = [f'<a href="#step-{box.node.step.number}"><rect class="{kind}" x="{left:.1f}" y="{box.y:.1f}" width="{width:.1f}" height="{box.height:.1f}" rx="7"/></a>']
     y = box.y + PAD + 8
-    parts.append(text(box.x + PAD, y, f"hypothesis {box.node.number + ahead}", "name"))
+    parts.append(text(left + PAD, y, f"hypothesis {box.node.number + ahead}" + (", a goal" if box.node.is_goal else ""), "name"))
     for line in box.lines:
         y += LINE
-        parts.append(text(box.x + PAD, y, line))
-    for note in box.notes:
-        y += LINE
-        parts.append(text(box.x + PAD, y, note, "small"))
+        parts.append(text(left + PAD, y, line))
+    for row in box.rows:
+        parts.append(text(left + PAD, row.y + 4, row.text, f"row {row.kind}"))
     return "".join(parts)
 
 
-def text(x, y, words, kind="", anchor="start"):
-    return f'<text class="{kind}" x="{x:.1f}" y="{y:.1f}" text-anchor="{anchor}" xml:space="preserve">{escape(words)}</text>'
-
-
-def down(start, end, label):
-    x1, y1 = start.x + start.width / 2, start.y + start.height
-    x2, y2 = end.x + end.width / 2, end.y
-    middle = (y1 + y2) / 2
-    path = f'<path class="edge" d="M{x1:.1f} {y1:.1f}C{x1:.1f} {middle:.1f} {x2:.1f} {middle:.1f} {x2:.1f} {y2 - 7:.1f}"/>'
-    head = f'<path class="head" d="M{x2 - 4:.1f} {y2 - 8:.1f}l4 8l4 -8z"/>'
-    return path + head + text((x1 + x2) / 2, middle + 4, label, "label", "middle")
-
-
-def back(start, end, label, width, number):
-    """From the right side of a box round to the right side of another one."""
-    x1, y1 = start.x + start.width, start.y + start.height * 0.7
-    x2, y2 = end.x + end.width, end.y + end.height * 0.35
-    out = max(x1, x2) + 60 if start is end else width + 26 * number
-    path = f'<path class="edge closes" d="M{x1:.1f} {y1:.1f}C{out:.1f} {y1:.1f} {out:.1f} {y2:.1f} {x2 + 8:.1f} {y2:.1f}"/>'
-    head = f'<path class="head closes" d="M{x2 + 8:.1f} {y2 - 4:.1f}l-8 4l8 4z"/>'
-    x, y = x1 * 0.125 + out * 0.75 + x2 * 0.125, (y1 + y2) / 2
-    return path + head + text(x + 6, y + 4, label, "label closes")
+def text(x, y, words, kind=""):
+    return f'<text class="{kind}" x="{x:.1f}" y="{y:.1f}" xml:space="preserve">{escape(words)}</text>'
