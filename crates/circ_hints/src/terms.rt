@@ -49,9 +49,13 @@ fn undeclared(tokens: &Tokens<'_>, from: usize, to: usize, known: &Known<'_>) ->
 fn is_of_any_term(word: &[u8]) -> bool {
     word.iter().any(|byte| *byte == b':')
         || is_one_of(word, b"()[]{},=")
-        || word == b"if"
-        || word == b"/\\"
-        || word == b"nonexec"
+        || is_same(word, b"if")
+        || is_same(word, b"/\\")
+        || is_same(word, b"nonexec")
+}
+
+fn is_same(word: &[u8], text: &[u8]) -> bool {
+    word == text
 }
 
 fn is_one_of(word: &[u8], signs: &[u8]) -> bool {

@@ -1,6 +1,6 @@
 //! Lines on standard error that help with an answer: where a text is wrong, which goal is stuck, which
 //! word is no command.
-use circ_hints::{Asked, Source, SourceKind, asked, stuck, unreadable, usage};
+use circ_hints::{Asked, Source, SourceKind, asked_for, stuck, unreadable, usage};
 use circ_read::Cause;
 use circ_top::Status;
 use std::alloc::AllocError;
@@ -34,10 +34,10 @@ fn hint<R: Files + AllocGlobal>(
     match status {
         Status::Usage => Ok(Some(usage(rt.alloc(), words)?)),
         Status::Unreadable { file, place, cause } => {
-            unreadable_hint(rt, &asked(rt.alloc(), words)?, *file, *place, cause)
+            unreadable_hint(rt, &asked_for(rt.alloc(), words)?, *file, *place, cause)
         }
         Status::Stuck { block, goal } => {
-            stuck_hint(rt, &asked(rt.alloc(), words)?, *block, *goal, cases)
+            stuck_hint(rt, &asked_for(rt.alloc(), words)?, *block, *goal, cases)
         }
         _ => Ok(None),
     }

@@ -1,5 +1,5 @@
 //! The words of a run, without its options.
-use crate::unreadable::SourceKind;
+use crate::unreadable_hint::SourceKind;
 use std::alloc::{AllocError, Global};
 
 /// A command and the words that it takes.
@@ -34,7 +34,7 @@ impl<'a> Asked<'a> {
 
 /// What the words of a run ask for, of which the first is the program's name. The options and their
 /// values are left out.
-pub fn asked<'a>(alloc: Global, words: &'a [String]) -> Result<Asked<'a>, AllocError> {
+pub fn asked_for<'a>(alloc: Global, words: &'a [String]) -> Result<Asked<'a>, AllocError> {
     let mut asked = Asked {
         command: "",
         names: Vec::new(alloc),

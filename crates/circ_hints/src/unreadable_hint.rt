@@ -47,7 +47,7 @@ pub fn unreadable(
     number: u64,
     cause: &Cause,
 ) -> Result<String, AllocError> {
-    let finding = finding(alloc, source, number, cause)?;
+    let finding = find(alloc, source, number, cause)?;
     let mut out = String::new(alloc);
     push_position(&mut out, source.name, source.bytes, finding.place.at)?;
     out.push_str(name_of(cause))?;
@@ -58,7 +58,7 @@ pub fn unreadable(
     Ok(out)
 }
 
-fn finding(
+fn find(
     alloc: Global,
     source: &Source<'_>,
     number: u64,
@@ -207,8 +207,7 @@ fn unknown_sort(tokens: &Tokens<'_>, part: Part, known: &Known<'_>) -> Mark {
     };
     for number in from..part.to {
         match tokens.token(number) {
-            Some(name) if name == b"->" => {}
-            Some(name) if known.sorts.contains(name) => {}
+            Some(name) if known.sorts.contains(name) || is(tokens, number, b"->") => {}
             _ => return Mark::at(number, says),
         }
     }

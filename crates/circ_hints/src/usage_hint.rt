@@ -1,5 +1,5 @@
 //! The hint for words that are no command.
-use crate::asked::{Asked, asked, is_option, takes_value};
+use crate::run_words::{Asked, asked_for, is_option, takes_value};
 use crate::commands::{COMMANDS, CommandWords, command_named};
 use std::alloc::{AllocError, Global};
 use std::fmt::Write;
@@ -31,7 +31,7 @@ fn push_fault(alloc: Global, out: &mut String, words: &[String]) -> Result<(), A
     if let Some(option) = unknown_option(words) {
         return writeln!(out, "circ: there is no option {option}");
     }
-    let asked = asked(alloc, words)?;
+    let asked = asked_for(alloc, words)?;
     if asked.command.is_empty() {
         return out.push_str("circ: a command is missing\n");
     }
