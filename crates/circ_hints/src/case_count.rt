@@ -1,4 +1,6 @@
 //! A sink that counts the cases that are printed.
+ghost use Rattle.std.specs.Prelude.{◌≡◌};
+
 use circ_outer::{OuterFault, Sink};
 
 /// A sink that hands everything on to another one, and counts the lines that begin with `c`: in the
