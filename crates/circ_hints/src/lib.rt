@@ -1,0 +1,29 @@
+//! Hints for standard error: where an answer points to, and what was expected there.
+//!
+//! Nothing is promised of a hint but that it is made safely and in finite time. [`asked_for`] takes the
+//! words of a run apart; [`unreadable`], [`stuck`] and [`usage`] give the hint of an answer, from
+//! the same words and the same files. [`CaseCount`] sees how many cases an answer has printed.
+#![tactic(auto)]
+
+mod automata;
+mod case_count;
+mod causes;
+mod commands;
+mod drawing;
+mod known;
+mod marks;
+mod parts;
+mod run_words;
+mod scripts;
+mod shapes;
+mod signatures;
+mod stuck_hint;
+mod terms;
+mod unreadable_hint;
+mod usage_hint;
+
+pub use run_words::{Asked, asked_for};
+pub use case_count::CaseCount;
+pub use stuck_hint::stuck;
+pub use unreadable_hint::{Source, SourceKind, unreadable};
+pub use usage_hint::usage;
