@@ -1,9 +1,9 @@
 -- Marks on sorts, one operator or one word more, and what is marked.
-use Rattle.std.proofs.Common.{◌≡◌, ◌⊎◌, ◌<◌, ◌+◌, ◌++◌, ℕ, List, [], ◌∷◌, length, Bool, true, false, nat_eq, Some, inl, inr, sym, ◌∙◌, ap, subst, refl, arith}
+use Rattle.std.proofs.Common.{◌≡◌, ◌⊎◌, ◌<◌, ◌+◌, ◌++◌, ℕ, List, [], ◌∷◌, length, get_or, Bool, true, false, nat_eq, Some, inl, inr, sym, ◌∙◌, ap, subst, refl, arith}
 use Rattle.std.specs.List.{slice_get, list_any}
 use Rattle.std.specs.Cmp.Lexicographic.{pointwise, bytes_decides}
 use Rattle.std.proofs.lemmas.Bool.{cases_eq}
-use Rattle.std.proofs.lemmas.Option.{slice_get_within}
+use Rattle.std.proofs.lemmas.Option.{slice_get_within, slice_get-get_or}
 use Rattle.circ_spelling.specs.declared.grammar.Variable.{Variable}
 use Rattle.circ_spelling.specs.Usable.{IsMarked, StayMarked}
 use Rattle.circ_form.specs.declared.forms.Piece.{Piece}
@@ -22,14 +22,14 @@ all_stay old new [] stay h = tt
 all_stay old new (s ∷ ss) stay h = (stay s h.0, all_stay old new ss stay h.1)
 
 -- an operator more
-pub listed_step : (sig : Signature) (fs : List ℕ) (m f : ℕ) (old mid new : List Bool) → slice_get fs m ≡ Some f → ListedMarked sig fs m old mid → StayMarked old mid
-    → StayMarked mid new → OperatorMarked sig f mid new → ListedMarked sig fs (m + 1) old new
-listed_step sig fs m f old mid new at h before after here k g l e o is a = go (cases_eq k m)
+pub listed_step : (sig : Signature) (fs : List ℕ) (m d : ℕ) (old mid new : List Bool) → m < length fs → ListedMarked sig fs m old mid → StayMarked old mid
+    → StayMarked mid new → OperatorMarked sig (get_or fs m d) mid new → ListedMarked sig fs (m + 1) old new
+listed_step sig fs m d old mid new within h before after here k g l e o is a = go (cases_eq k m)
   where
     go : ((k ≡ m) ⊎ (k ≡ m → ⊥)) → IsMarked new o.result
     go (inl i) =
-        let z : Some f ≡ Some g = sym at ∙ ap (slice_get fs) (sym i) ∙ e in
-        let q : f ≡ g = cc z in
+        let z : Some (get_or fs m d) ≡ Some g = sym (slice_get-get_or fs m d within) ∙ ap (slice_get fs) (sym i) ∙ e in
+        let q : get_or fs m d ≡ g = cc z in
         here o (ap (slice_get sig.ops) q ∙ is) (all_stay old mid o.args before a)
     go (inr i) = after o.result (h k g (omega arith) e o is a)
 
