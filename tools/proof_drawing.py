@@ -50,7 +50,7 @@ def row_of(theory, writer, edge, block):
     if by:
         return Row(f"{label} closes by {', '.join(by)}", "closes" if own else "plain", [n - ahead for n in own])
     ends = " or ".join(dict.fromkeys(writer.text(term) for term in edge.end.ends))
-    return Row(f"{label}: both sides are {ends}"[: MOST + 6], "plain")
+    return Row(textwrap.shorten(f"{label}: both sides are {ends}", MOST + 6, placeholder=" .."), "plain")
 
 
 def box_of(theory, writer, node, block):

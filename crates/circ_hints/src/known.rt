@@ -45,7 +45,7 @@ impl<'a> Known<'a> {
         Ok(())
     }
 
-    /// Adds what a text of the library declares, if the statement includes one.
+    /// Adds what a text of the library declares, if the statement includes one: all but its variables.
     fn include(&mut self, tokens: &Tokens<'_>, part: Part) -> Result<(), AllocError> {
         let Some(text) = included(tokens, part) else {
             return Ok(());
@@ -63,7 +63,9 @@ impl<'a> Known<'a> {
                 to: n,
                 is_ended: true,
             };
-            self.declare(&inside, part)?;
+            if !is(&inside, part.from, b"var") && !is(&inside, part.from, b"vars") {
+                self.declare(&inside, part)?;
+            }
             from = next(n);
         }
         Ok(())

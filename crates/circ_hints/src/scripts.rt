@@ -37,7 +37,7 @@ pub(crate) fn item_shape(tokens: &Tokens<'_>, part: Part) -> Mark {
 /// The mark of a goal.
 fn goal(tokens: &Tokens<'_>, part: Part) -> Mark {
     if !is(tokens, part.nth(1), b"goal") {
-        return Mark::behind(part.from, "`goal` is expected here");
+        return Mark::at(part.nth(1), "`goal` is expected here");
     }
     if let Some(number) = first(tokens, part.nth(2), part.to, b"add") {
         return Mark::behind(number.saturating_sub(1), "` .` is expected here");

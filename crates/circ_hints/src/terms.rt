@@ -11,7 +11,7 @@ pub(crate) fn unread_word(tokens: &Tokens<'_>, part: Part, known: &Known<'_>) ->
     if let Some(number) = undeclared(tokens, from, part.to, known) {
         return Mark::at(
             number,
-            "no variable and no operator that is declared before has this word",
+            "nothing that is declared before has this word (an inclusion brings no variables)",
         );
     }
     if let Some(mark) = unbalanced(tokens, from, part.to) {

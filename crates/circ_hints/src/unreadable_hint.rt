@@ -10,6 +10,7 @@ use crate::shapes::statement_shape;
 use crate::terms::unread_word;
 use circ_lexer::Tokens;
 use circ_read::Cause;
+use indexmap::IndexSet;
 use std::alloc::{AllocError, Global};
 
 /// What a text is to be read as.
@@ -149,7 +150,7 @@ fn mark_of(
         }),
         Cause::UnknownSort | Cause::NoParse | Cause::Twice { .. } => {
             let known = known_before(alloc, source, tokens, part)?;
-            Ok(by_names(tokens, part, cause, &known))
+            by_names(alloc, tokens, part, cause, &known)
         }
         Cause::NoGoal | Cause::Limit { .. } => Ok(Mark::at(part.from, says)),
         Cause::Unclosed => Ok(Mark::behind(tokens.count().saturating_sub(1), says)),
@@ -190,11 +191,17 @@ fn known_before<'a>(
 }
 
 /// The mark of a cause that depends on what is declared.
-fn by_names(tokens: &Tokens<'_>, part: Part, cause: &Cause, known: &Known<'_>) -> Mark {
+fn by_names(
+    alloc: Global,
+    tokens: &Tokens<'_>,
+    part: Part,
+    cause: &Cause,
+    known: &Known<'_>,
+) -> Result<Mark, AllocError> {
     match cause {
-        Cause::UnknownSort => unknown_sort(tokens, part, known),
-        Cause::Twice { .. } => declared_twice(tokens, part, known),
-        _ => unread_word(tokens, part, known),
+        Cause::UnknownSort => Ok(unknown_sort(tokens, part, known)),
+        Cause::Twice { .. } => declared_twice(alloc, tokens, part, known),
+        _ => Ok(unread_word(tokens, part, known)),
     }
 }
 
@@ -214,21 +221,25 @@ fn unknown_sort(tokens: &Tokens<'_>, part: Part, known: &Known<'_>) -> Mark {
     Mark::at(from, says)
 }
 
-/// The first name of a statement that is declared before it.
-fn declared_twice(tokens: &Tokens<'_>, part: Part, known: &Known<'_>) -> Mark {
+/// The first name of a statement that is declared before it, or stands in it before.
+fn declared_twice(
+    alloc: Global,
+    tokens: &Tokens<'_>,
+    part: Part,
+    known: &Known<'_>,
+) -> Result<Mark, AllocError> {
     let says = "this is declared before";
     let is_sort = is(tokens, part.from, b"sort") || is(tokens, part.from, b"sorts");
-    for number in part.nth(1)..part.to {
+    let names = if is_sort { &known.sorts } else { &known.words };
+    let end = first(tokens, part.from, part.to, b":").unwrap_or(part.to);
+    let mut here: IndexSet<&[u8]> = IndexSet::new(alloc);
+    for number in part.nth(1)..end {
         if let Some(name) = tokens.token(number) {
-            let is_known = if is_sort {
-                known.sorts.contains(name)
-            } else {
-                known.words.contains(name)
-            };
-            if is_known {
-                return Mark::at(number, says);
+            if names.contains(name) || here.contains(name) {
+                return Ok(Mark::at(number, says));
             }
+            here.insert(name)?;
         }
     }
-    Mark::at(part.nth(1), says)
+    Ok(Mark::at(part.nth(1), says))
 }

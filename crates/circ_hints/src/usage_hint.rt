@@ -75,7 +75,7 @@ fn push_words(
     let name = command.name;
     if command.takes.split(' ').count() != asked.names.len() {
         let given = asked.names.len();
-        return writeln!(out, "circ: {name} takes {}, and {given} words are there", command.takes);
+        return writeln!(out, "circ: {name} takes {}, and there are {given}", command.takes);
     }
     match name {
         "library" => out.push_str("circ: library takes BITS, STREAM, TREE, LANG or PROC\n"),
