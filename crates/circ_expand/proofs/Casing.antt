@@ -1,13 +1,13 @@
 -- The case of an occurrence is what it says, and what stands at its path is an instance of its derivative.
-use Rattle.std.proofs.Common.{◌≡◌, ℕ, ◌+◌, ◌-◌, List, [], ◌∷◌, ◌++◌, zero, suc, Bool, true, false, nat_eq, ◌==◌, ◌&&◌, if◌then◌else◌, length, take, Option, Some, None, unwrap_or, refl, ap, sym, ◌∙◌, subst, arith, inl, inr}
+use Rattle.std.proofs.Common.{◌≡◌, ◌⊎◌, ℕ, ◌+◌, ◌-◌, ◌||◌, length-append, List, [], ◌∷◌, ◌++◌, zero, suc, Bool, true, false, nat_eq, ◌==◌, ◌&&◌, if◌then◌else◌, length, take, Option, Some, None, unwrap_or, refl, ap, sym, ◌∙◌, subst, arith, inl, inr}
 use Rattle.std.specs.List.{slice_get, list_any, Contains}
 use Rattle.std.specs.Option.{option_map, option_map_or, option_or}
 use Rattle.std.specs.Cmp.Lexicographic.{pointwise}
-use Rattle.std.proofs.lemmas.Bool.{eqb-true, and_parts, lt-ltb, cases_Bool}
+use Rattle.std.proofs.lemmas.Bool.{eqb-true, eq-eqb, and_parts, lt-ltb, cases_Bool}
 use Rattle.std.proofs.lemmas.Option.{same_Some}
-use Rattle.circ_term.specs.Tree.{Tree, Var, App, sort_of, list_of, at, replaced}
+use Rattle.circ_term.specs.Tree.{Tree, Trees, Var, App, none, more, sort_of, list_of, at, walk, replaced}
 use Rattle.circ_term.specs.Substitution.{Substitution, instance}
-use Rattle.circ_term.proofs.Paths.{at-append, at_instance, replaced_below}
+use Rattle.circ_term.proofs.Paths.{nowhere, at-append, at_instance, replaced_below}
 use Rattle.circ_theory.specs.Signature.{Signature, IsWellSorted, IsSubstitution}
 use Rattle.circ_theory.specs.Theory.{Theory, Derivative}
 use Rattle.circ_theory.specs.WellFormed.{IsWellFormed, IsDerivative}
@@ -19,15 +19,20 @@ use Rattle.circ_rewrite.specs.Matching.{matching}
 use Rattle.circ_rewrite.proofs.MatchingFacts.{matching-instance}
 use Rattle.circ_special.specs.declared.place.Place.{Place}
 use Rattle.circ_special.specs.Special.{place, IsSpecial}
-use Rattle.circ_special.specs.Guarded.{IsInstanceAt}
+use Rattle.circ_special.specs.Guarded.{IsInstanceAt, IsGuardedAt, by_visible, by_place, by_hidden}
 use Rattle.circ_special.specs.Fitting.{fits}
-use Rattle.circ_special.proofs.Distinct.{body_distinct}
+use Rattle.circ_special.proofs.Agreeing.{stands}
+use Rattle.circ_special.proofs.Distinct.{AreDistinct, parts_apart, body_distinct}
 use Rattle.circ_special.proofs.Instances.{fits_exactly}
 use Rattle.circ_special.proofs.Sorted.{instance_sorted}
 use Rattle.circ_soundness.proofs.Filling.{Fills, FillsAt, OfSort, Makes, fills_instance, fills_sorted, fills_also, fills_at, distinct_makes}
-use Rattle.circ_soundness.proofs.Changing.{Mixed, mixed_sorted, Changes}
+use Rattle.circ_proof.proofs.Members.{nothing}
+use Rattle.circ_theory.proofs.Casing.{hidden_tells}
+use Rattle.circ_theory.proofs.Weakening.{first_or_rest}
+use Rattle.circ_theory.specs.Variables.{occurrences, all_occurrences}
+use Rattle.circ_soundness.proofs.Changing.{stands_at, Mixed, mixed_sorted, Changes}
 use Rattle.circ_soundness.proofs.Parameters.{plug_hole, plug_parameter, same_body}
-use Rattle.circ_expand.specs.Expand.{hole_path, is_special_path, above_hole, Case, Visible_case, Place_case, Hidden_case, No_case, visible_case, hidden_case, guard_case}
+use Rattle.circ_expand.specs.Expand.{next_arg, hole_path, is_special_path, above_hole, Case, Visible_case, Place_case, Hidden_case, No_case, visible_case, hidden_case, guard_case}
 use Rattle.circ_expand.proofs.Lifting.{hole_there, derived_there, derived_put}
 use Rattle.circ_expand.proofs.Matched.{masked, masked_keeps, masked_sorted, masked_same, matching_sorted}
 
@@ -187,7 +192,7 @@ abbrev pub IsCase : Theory → List Place → Tree → List ℕ → Case → Typ
 IsCase th G t p (Visible_case k q) = (d : Derivative) × (slice_get th.derivatives k ≡ Some d) × (is_hidden th (sort_of d.body) ≡ false) × Above d t p q
 IsCase th G t p Place_case = IsSpecial G t p
 IsCase th G t p (Hidden_case k q) = (d : Derivative) × (slice_get th.derivatives k ≡ Some d) × Above d t p q × IsSpecial G t q
-IsCase th G t p No_case = Unit {0}
+IsCase th G t p No_case = ⊥
 
 visible_holds : (th : Theory) (G : List Place) (t : Tree) (p : List ℕ) (j : ℕ) (ds : List Derivative) → ((i : ℕ) (d : Derivative) → slice_get ds i ≡ Some d → slice_get th.derivatives (j + i) ≡ Some d)
     → (c : Case) → visible_case th j ds t p ≡ Some c → IsCase th G t p c
@@ -221,16 +226,146 @@ hidden_holds th G t p j (d ∷ ds) w c e =
     go ih true None eo g = ih g
     go ih true (Some q) eo g = found ih q eo (is_special_path G t q) refl g
 
--- (`case_of`)
-pub case_holds : (th : Theory) (G : List Place) (t : Tree) (p : List ℕ) → IsCase th G t p (guard_case th G t p)
-case_holds th G t p = go (visible_case th 0 th.derivatives t p) refl (is_special_path G t p) refl (hidden_case th G 0 th.derivatives t p) refl
+-- ---- an occurrence that is guarded has a case
+
+none_of_either : {A : Type 0} (a b : Option A) → option_or a b ≡ None → (a ≡ None) × (b ≡ None)
+none_of_either None b e = (refl, e)
+none_of_either (Some x) b e = absurd (cc)
+
+any_in : {X : Type 0} (f : X → Bool) (xs : List X) (x : X) → Contains xs x → f x ≡ true → list_any f xs ≡ true
+any_in f [] x c h = nothing x c
+any_in f (y ∷ ys) x c h = go (f y) refl (first_or_rest y x ys c) (λ d. any_in f ys x d h)
+  where
+    go : (b : Bool) → f y ≡ b → (y ≡ x) ⊎ Contains ys x → (Contains ys x → list_any f ys ≡ true) → (b || list_any f ys) ≡ true
+    go true e w ih = refl
+    go false e (inl q) ih = absurd (let z = ap f q in cc)
+    go false e (inr d) ih = ih d
+
+special_told : (G : List Place) (t : Tree) (p : List ℕ) → IsSpecial G t p → is_special_path G t p ≡ true
+special_told G t [] s = refl
+special_told G (Var n s) (i ∷ p) sp = absurd sp
+special_told G (App f s ts) (i ∷ p) sp =
+    let here : list_any (λ (g : Place). (g.op == f) && (g.arg == i)) G ≡ true =
+    any_in (λ (g : Place). (g.op == f) && (g.arg == i)) G (place f i) sp.0 (rw (eq-eqb f f refl, eq-eqb i i refl) refl) in
+    let below = special_told G sp.1 p sp.3 in
+    let there = sp.2 in
+    rw (here, there, below) refl
+
+path_itself : (p : List ℕ) → pointwise nat_eq p p ≡ true
+path_itself [] = refl
+path_itself (i ∷ p) = rw (eq-eqb i i refl, path_itself p) refl
+
+take_none : (r : List ℕ) → take zero r ≡ []
+take_none [] = refl
+take_none (i ∷ r) = refl
+
+front_of : (q r : List ℕ) → take (length (q ++ r) - length r) (q ++ r) ≡ q
+front_of q r = ap (λ k. take k (q ++ r)) (ap (λ k. k - length r) (length-append q r) ∙ less) ∙ front q
+  where
+    less : (length q + length r) - length r ≡ length q
+    less = omega arith
+
+    front : (q : List ℕ) → take (length q) (q ++ r) ≡ q
+    front [] = take_none r
+    front (i ∷ q) = ap (λ x. i ∷ x) (front q)
+
+-- a variable that stands once has one path
+mutual
+  one_path : (n s : ℕ) (t : Tree) (p q : List ℕ) → AreDistinct (occurrences t) → at t p ≡ Some (Var n s) → at t q ≡ Some (Var n s) → p ≡ q
+  one_path n s (Var m k) [] [] d e h = refl
+  one_path n s (Var m k) [] (j ∷ q) d e h = nowhere q (Var n s) h
+  one_path n s (Var m k) (i ∷ p) q d e h = nowhere p (Var n s) e
+  one_path n s (App f r ts) [] q d e h = absurd (let z : App f r ts ≡ Var n s = same_Some (App f r ts) (Var n s) e in cc)
+  one_path n s (App f r ts) (i ∷ p) [] d e h = absurd (let z : App f r ts ≡ Var n s = same_Some (App f r ts) (Var n s) h in cc)
+  one_path n s (App f r ts) (i ∷ p) (j ∷ q) d e h = one_path_in n s ts i j p q d e h
+
+  one_path_in : (n s : ℕ) (ts : Trees) (i j : ℕ) (p q : List ℕ) → AreDistinct (all_occurrences ts) → walk (slice_get (list_of ts) i) p ≡ Some (Var n s)
+      → walk (slice_get (list_of ts) j) q ≡ Some (Var n s) → i ∷ p ≡ j ∷ q
+  one_path_in n s none i j p q d e h = nowhere p (Var n s) e
+  one_path_in n s (more t ts) zero zero p q d e h =
+      ap (λ x. zero ∷ x) (one_path n s t p q (parts_apart (occurrences t) (all_occurrences ts) d).first e h)
+  one_path_in n s (more t ts) zero (suc j) p q d e h =
+      absurd (let x = (parts_apart (occurrences t) (all_occurrences ts) d).apart n s (stands_at n s p t e) in
+      let y : stands n s (all_occurrences ts) ≡ true = stands_at n s (j ∷ q) (App 0 0 ts) h in cc)
+  one_path_in n s (more t ts) (suc i) zero p q d e h =
+      absurd (let x = (parts_apart (occurrences t) (all_occurrences ts) d).apart n s (stands_at n s q t h) in
+      let y : stands n s (all_occurrences ts) ≡ true = stands_at n s (i ∷ p) (App 0 0 ts) e in cc)
+  one_path_in n s (more t ts) (suc i) (suc j) p q d e h =
+      ap next_arg (one_path_in n s ts i j p q (parts_apart (occurrences t) (all_occurrences ts) d).second e h)
+
+above_found : (th : Theory) → IsWellFormed th → (t : Tree) (s : ℕ) (d : Derivative) (q r p : List ℕ) → p ≡ q ++ r → IsInstanceAt th t 0 s d q r → above_hole d t p ≡ Some q
+above_found th ok t s d q r p e i =
+    let der = ok.derivatives d i.listed in
+    let hp : List ℕ = hole_path d in
+    let same : r ≡ hp = one_path 0 d.hole d.body r hp (body_distinct th.signature d der) i.hole (hole_there th.signature d der) in
+    let I : ℕ → Type 0 = λ k. IsInstanceAt th t 0 k d q r in
+    let part : Tree = derived d (Var 0 s) i.parameters in
+    let shape : fits 0 d.hole d.body part ≡ true = (fits_exactly th d der i.listed 0 d.hole t part q r refl i.hole i.there).from (subst I (sym i.sort) i) in
+    let A : List ℕ → Type 0 = λ x. above_hole d t x ≡ Some q in
+    let front = front_of q hp in
+    let there : option_map_or (λ u. fits 0 d.hole d.body u) (at t q) false ≡ true = ap (λ o. option_map_or (λ u. fits 0 d.hole d.body u) o false) i.there ∙ shape in
+    let B : List ℕ → Type 0 =
+    λ x. (if pointwise nat_eq (x ++ hp) (q ++ hp) && option_map_or (λ u. fits 0 d.hole d.body u) (at t x) false then Some x else None) ≡ Some q in
+    let whole = path_itself (q ++ hp) in
+    let found : A (q ++ hp) = subst B (sym front) (rw (whole, there) refl) in
+    subst A (sym (e ∙ ap (λ x. q ++ x) same)) found
+
+visible_found : (th : Theory) (t : Tree) (p q : List ℕ) (d : Derivative) → is_hidden th (sort_of d.body) ≡ false → above_hole d t p ≡ Some q → (j : ℕ) (ds : List Derivative) → Contains ds d
+    → visible_case th j ds t p ≡ None → ⊥
+visible_found th t p q d hid ab j [] c e = nothing d c
+visible_found th t p q d hid ab j (x ∷ ds) c e =
+    let o = none_of_either (if is_hidden th (sort_of x.body) then None else option_map (Visible_case j) (above_hole x t p)) (visible_case th (j + 1) ds t p) e in
+    go (first_or_rest x d ds c) o.0 (λ k. visible_found th t p q d hid ab (j + 1) ds k o.1)
+  where
+    here : Derivative → Type 0
+    here y = (if is_hidden th (sort_of y.body) then None else option_map (Visible_case j) (above_hole y t p)) ≡ None
+
+    go : (x ≡ d) ⊎ Contains ds d → here x → (Contains ds d → ⊥) → ⊥
+    go (inl w) n ih = absurd (let z : here d = subst here w n in let y = rw (hid, ab) at z in cc)
+    go (inr k) n ih = ih k
+
+hidden_found : (th : Theory) (G : List Place) (t : Tree) (p q : List ℕ) (d : Derivative) → is_hidden th (sort_of d.body) ≡ true → above_hole d t p ≡ Some q → is_special_path G t q ≡ true
+    → (j : ℕ) (ds : List Derivative) → Contains ds d → hidden_case th G j ds t p ≡ None → ⊥
+hidden_found th G t p q d hid ab sp j [] c e = nothing d c
+hidden_found th G t p q d hid ab sp j (x ∷ ds) c e =
+    let o = none_of_either (first x) (hidden_case th G (j + 1) ds t p) e in
+    go (first_or_rest x d ds c) o.0 (λ k. hidden_found th G t p q d hid ab sp (j + 1) ds k o.1)
+  where
+    first : Derivative → Option Case
+    first y = if is_hidden th (sort_of y.body) then option_map_or (λ z. if is_special_path G t z then Some (Hidden_case j z) else None) (above_hole y t p) None else None
+
+    here : Derivative → Type 0
+    here y = first y ≡ None
+
+    go : (x ≡ d) ⊎ Contains ds d → here x → (Contains ds d → ⊥) → ⊥
+    go (inl w) n ih = absurd (let z : here d = subst here w n in let y = rw (hid, ab, sp) at z in cc)
+    go (inr k) n ih = ih k
+
+-- so the case of an occurrence that is guarded is one of the three
+pub case_holds : (th : Theory) → IsWellFormed th → (G : List Place) (t : Tree) (s : ℕ) (p : List ℕ) → IsGuardedAt th G t 0 s p → IsCase th G t p (guard_case th G t p)
+case_holds th ok G t s p gd = go (visible_case th 0 th.derivatives t p) refl (is_special_path G t p) refl (hidden_case th G 0 th.derivatives t p) refl
   where
     start : (i : ℕ) (d : Derivative) → slice_get th.derivatives i ≡ Some d → slice_get th.derivatives (0 + i) ≡ Some d
     start i d e = (let z : 0 + i ≡ i = omega arith in ap (slice_get th.derivatives) z) ∙ e
+
+    no_case : IsGuardedAt th G t 0 s p → visible_case th 0 th.derivatives t p ≡ None → is_special_path G t p ≡ false → hidden_case th G 0 th.derivatives t p ≡ None → ⊥
+    no_case (by_visible d q r e i v) ev eb eh =
+        seen (is_hidden th (sort_of d.body)) refl
+      where
+        seen : (b : Bool) → is_hidden th (sort_of d.body) ≡ b → ⊥
+        seen true h = v ((hidden_tells th (sort_of d.body)).0 h)
+        seen false h = visible_found th t p q d h (above_found th ok t s d q r p e i) 0 th.derivatives i.listed ev
+    no_case (by_place sp) ev eb eh = absurd (let z = special_told G t p sp in cc)
+    no_case (by_hidden d q r e i v sp) ev eb eh =
+        seen (is_hidden th (sort_of d.body)) refl
+      where
+        seen : (b : Bool) → is_hidden th (sort_of d.body) ≡ b → ⊥
+        seen true h = hidden_found th G t p q d h (above_found th ok t s d q r p e i) (special_told G t q sp) 0 th.derivatives i.listed eh
+        seen false h = absurd (let z = (hidden_tells th (sort_of d.body)).1 v in cc)
 
     go : (v : Option Case) → visible_case th 0 th.derivatives t p ≡ v → (b : Bool) → is_special_path G t p ≡ b → (h : Option Case) → hidden_case th G 0 th.derivatives t p ≡ h
         → IsCase th G t p (unwrap_or (option_or v (option_or (if b then Some Place_case else None) h)) No_case)
     go (Some c) ev b eb h eh = visible_holds th G t p 0 th.derivatives start c ev
     go None ev true eb h eh = special_holds G t p eb
-    go None ev false eb None eh = tt
+    go None ev false eb None eh = no_case gd ev eb eh
     go None ev false eb (Some c) eh = hidden_holds th G t p 0 th.derivatives start c eh

@@ -31,12 +31,13 @@ use Rattle.circ_entry.specs.Entries.{Numbered, bare_entries, Written, numbered_e
 use Rattle.circ_entry.proofs.Written.{derivative_is, written_fits}
 use Rattle.circ_expand.specs.Answers.{all_goals, LeadsOnGoal}
 use Rattle.circ_expand.specs.Followed.{Histories, no_history, more_histories, goal_in, list_in, Followed, followed_in, told_in, hypotheses_of, goals_of, Told}
-use Rattle.circ_expand.specs.Pieces.{Pieces}
-use Rattle.circ_expand.specs.Expand.{Yields, counted, tested, Background, followed_goals, uses, followed_at, first_links, later_links, links_for, links_after, result_sort, certificate_of, background_of, expansion}
+use Rattle.circ_expand.specs.Pieces.{Pieces, PiecesLead}
+use Rattle.circ_expand.specs.Expand.{Spending, Yields, Stopped, counted, tested, Background, followed_goals, uses, followed_at, first_links, later_links, links_for, links_after, result_sort, certificate_of, background_of, expansion}
+use Rattle.circ_expand.proofs.Going.{Goes, goes_so, goes_counted, goes_tested}
 use Rattle.circ_expand.proofs.Plainness.{AreBare, AreBareGoals, steps_bare, certificates_bare}
 use Rattle.circ_expand.proofs.Lifting.{AreNumbered}
 use Rattle.circ_expand.proofs.Listed.{one_list_found}
-use Rattle.circ_expand.proofs.Standing.{block_hypotheses, IsHistory, AreHistories, history_sorted, IsFollowed, IsCertificate, IsBackground, IsEnd, begun_gives, within_gives}
+use Rattle.circ_expand.proofs.Standing.{block_hypotheses, IsHistory, AreHistories, history_sorted, IsFollowed, IsCertificate, IsBackground, IsEnd}
 use Rattle.circ_expand.proofs.Telling.{IsTold, told_holds}
 use Rattle.circ_expand.proofs.Using.{whole_call, expanded_leads, expanded_derivable}
 
@@ -193,6 +194,7 @@ whole_blocks th ok p f pl dss d = blocks_hold th ok p f.sorted (hypotheses_of th
 pub frame_holds : (th : Theory) → IsWellFormed th → (p : Proof) → ProofFor th p → IsPlain p → (dss : List (List Goal)) → Derives th p dss → IsBackground (background_of th p)
 frame_holds th ok p f pl dss d = record {
   well_formed = ok;
+  places = f.places.places;
   one_list = λ l c s e. one_list_found th ok l c s e;
   followed = λ b x c. (whole_blocks th ok p f pl dss d).hypotheses b x c;
   certified = λ g o k e c lo ld h.
@@ -224,10 +226,13 @@ numbered_are th ok (w ∷ ws) s f =
     let I : Derivative → Type 0 = IsDerivative th.signature in
     (subst D e f.1.listed, subst I e (ok.derivatives d (contains_at th.derivatives w.derivative d f.1.listed)), numbered_are th ok ws (sort_of d.body) f.2)
 
-pub expansion_leads : (th : Theory) → IsWellFormed th → (p : Proof) → ProofFor th p → IsPlain p → Accepted th p
-    → (n : ℕ) (g : Goal) → slice_get (all_goals p.blocks) n ≡ Some g → (ws : List Written) → FitsWritten th ws (sort_of g.left)
-    → (k m : ℕ) (xs : Pieces) → expansion k th p n ws ≡ Yields xs m → LeadsOnGoal th xs ws g
-expansion_leads th ok p f pl a n g listed ws fw k m xs e =
+-- what the whole comes to
+abbrev IsAnswered : Theory → Proof → (units n : ℕ) → Goal → List Written → Type 0
+IsAnswered th p k n g ws = Goes (λ xs. LeadsOnGoal th xs ws g) k (expansion k th p n ws)
+
+pub expansion_goes : (th : Theory) → IsWellFormed th → (p : Proof) → ProofFor th p → IsPlain p → Accepted th p
+    → (n : ℕ) (g : Goal) → slice_get (all_goals p.blocks) n ≡ Some g → (ws : List Written) → FitsWritten th ws (sort_of g.left) → (k : ℕ) → IsAnswered th p k n g ws
+expansion_goes th ok p f pl a n g listed ws fw k =
     let F : Background = background_of th p in
     let fr = frame_holds th ok p f pl a.0 a.1 in
     let cs : List Numbered = numbered_entries th ws in
@@ -243,13 +248,22 @@ expansion_leads th ok p f pl a n g listed ws fw k m xs e =
     let s : Tree = on (bare_entries cs) q.left in
     let t : Tree = on (bare_entries cs) q.right in
     let FI : ℕ → Type 0 = Fits th (bare_entries cs) in
-    let g1 = within_gives s (tested t (counted k (uses k F (whole_call h cs)))) xs m e in
-    let g2 = within_gives t (counted k (uses k F (whole_call h cs))) xs m g1.1 in
-    let g3 = begun_gives k m (uses k F (whole_call h cs)) xs g2.1 in
-    let es : IsEnd th s = record { well_sorted = on_sorted th ok (bare_entries cs) q.left fit sp.left; within = g1.0 } in
-    let et : IsEnd th t = record { well_sorted = on_sorted th ok (bare_entries cs) q.right (subst FI (sym sp.same_sort) fit) sp.right; within = g2.0 } in
-    let X : Goal → Type 0 = LeadsOnGoal th xs ws in
-    subst X there.1 (record {
-      lead = expanded_leads F fr h fo cs num fit es et k g3.0 m xs g3.1;
-      derivable = expanded_derivable F fr h fo cs num fit es et k g3.0 m xs g3.1;
-    })
+    let W : Pieces → Type 0 = λ xs. LeadsOnGoal th xs ws q in
+    let L : Pieces → Type 0 = λ xs. PiecesLead th [] xs s t in
+    let work : ℕ → Spending Pieces = uses k F (whole_call h cs) in
+    let X : Goal → Type 0 = λ y. Goes (λ xs. LeadsOnGoal th xs ws y) k (expansion k th p n ws) in
+    subst X there.1
+    (goes_tested W k s (tested t (counted k work)) (λ ws_in.
+    goes_tested W k t (counted k work) (λ wt_in.
+    goes_counted W k work (λ j lt.
+    let es : IsEnd th s = record { well_sorted = on_sorted th ok (bare_entries cs) q.left fit sp.left; within = ws_in } in
+    let et : IsEnd th t = record { well_sorted = on_sorted th ok (bare_entries cs) q.right (subst FI (sym sp.same_sort) fit) sp.right; within = wt_in } in
+    goes_so L W j (λ xs l. record { lead = l; derivable = expanded_derivable F fr s t es xs l }) (work j) (expanded_leads F fr h fo cs num fit es et k j lt)))))
+
+-- what is given leads from the one side to the other
+pub given_leads : (th : Theory) (p : Proof) (k n : ℕ) (g : Goal) (ws : List Written) → IsAnswered th p k n g ws → (m : ℕ) (xs : Pieces) → expansion k th p n ws ≡ Yields xs m → LeadsOnGoal th xs ws g
+given_leads th p k n g ws a m xs e = let P : Spending Pieces → Type 0 = Goes (λ ys. LeadsOnGoal th ys ws g) k in (subst P e a).1
+
+-- and it never stops
+pub never_stops : (th : Theory) (p : Proof) (k n : ℕ) (g : Goal) (ws : List Written) → IsAnswered th p k n g ws → expansion k th p n ws ≡ Stopped → ⊥
+never_stops th p k n g ws a e = let P : Spending Pieces → Type 0 = Goes (λ ys. LeadsOnGoal th ys ws g) k in subst P e a

@@ -1,4 +1,5 @@
 pub mod Putting
+pub mod Going
 pub mod Derives
 pub mod Lifting
 pub mod Led

@@ -1,6 +1,6 @@
 -- A use of Ly that begins with a place leads to its end: by the place's certificate on the one term, its occurrences one by one, and the certificate back on
 -- the other.
-use Rattle.std.proofs.Common.{◌≡◌, ℕ, List, [], ◌∷◌, ◌++◌, Option, Some, unwrap_or, refl, ap, sym, ◌∙◌, subst, true, length}
+use Rattle.std.proofs.Common.{◌≡◌, ◌≤◌, ℕ, List, [], ◌∷◌, ◌++◌, Option, Some, unwrap_or, refl, ap, sym, ◌∙◌, subst, true, length, arith}
 use Rattle.std.specs.List.{slice_get, Contains}
 use Rattle.std.specs.Option.{option_map_or}
 use Rattle.std.proofs.lemmas.Bool.{lt-ltb}
@@ -9,7 +9,7 @@ use Rattle.circ_term.specs.Tree.{Tree, Trees, Var, App, sort_of, list_of, at, re
 use Rattle.circ_term.specs.Substitution.{Substitution, instance}
 use Rattle.circ_term.proofs.Paths.{at-append, at_replaced, replaced_twice}
 use Rattle.circ_theory.specs.Signature.{Signature, Operator, IsSort, IsWellSorted, HaveSorts, IsSubstitution}
-use Rattle.circ_theory.specs.Theory.{Theory, Derivative}
+use Rattle.circ_theory.specs.Theory.{Theory, Derivative, IsHidden}
 use Rattle.circ_theory.specs.WellFormed.{IsWellFormed, IsDerivative}
 use Rattle.circ_theory.specs.Experiment.{Fits, derived, on}
 use Rattle.circ_theory.specs.Fresh.{numbered_from}
@@ -20,14 +20,15 @@ use Rattle.circ_theory.proofs.Sorting.{at_sorted}
 use Rattle.circ_match.specs.Matcher.{has_variable}
 use Rattle.circ_rewrite.specs.Matching.{matching}
 use Rattle.circ_rewrite.proofs.RuleTerms.{has_variable-occurrences}
-use Rattle.circ_special.specs.Special.{place}
+use Rattle.circ_special.specs.Special.{place, IsPlace}
+use Rattle.circ_special.specs.Guarded.{Guarded}
 use Rattle.circ_proof.specs.Plain.{LinkOf}
 use Rattle.circ_proof.specs.Runs.{Runs}
 use Rattle.circ_proof.specs.Link.{Leads, AllOfLinks}
 use Rattle.circ_proof.specs.Certified.{start_args, start_term}
 use Rattle.circ_proof.proofs.Leading.{links_sorted}
 use Rattle.circ_soundness.proofs.Changing.{DifferAt, stands_at}
-use Rattle.circ_proof.proofs.Members.{nothing}
+use Rattle.circ_proof.proofs.Members.{nothing, all_of}
 use Rattle.circ_soundness.proofs.Placing.{start_sorted}
 use Rattle.circ_soundness.proofs.Starting.{starts, arg_sort, start_place}
 use Rattle.circ_entry.specs.Entries.{Numbered, bare_entries}
@@ -36,6 +37,7 @@ use Rattle.circ_expand.specs.Pieces.{Pieces, pieces_joined, turned, PiecesLead}
 use Rattle.circ_expand.specs.Expand.{Spending, Yields, continued, Layer, At_place, layered, Background, Call, Expander, base, whole_with, around, Basis, basis, link_setting, links_written, paths_of, holes, hole_path}
 use Rattle.circ_expand.specs.Expand.{start_at, certified_call, no_basis, derived_place, left_here, right_here, occurrences_written, through_place}
 use Rattle.circ_expand.specs.Expand as expand
+use Rattle.circ_expand.proofs.Going.{Goes, goes_on, goes_value}
 use Rattle.circ_expand.proofs.Putting.{put_there}
 use Rattle.circ_expand.proofs.Derives.{joined_lead, pieces_turned}
 use Rattle.circ_expand.proofs.Lifting.{AreNumbered, on_there, derived_there}
@@ -43,7 +45,7 @@ use Rattle.circ_expand.proofs.Plainness.{AreBare}
 use Rattle.circ_expand.proofs.Led.{links_led}
 use Rattle.circ_expand.proofs.Matched.{masked, masked_keeps, masked_sorted, masked_same, masked_differ, matching_is, matching_makes, matching_sorted, matching_differ}
 use Rattle.circ_expand.proofs.Moving.{moved}
-use Rattle.circ_expand.proofs.Standing.{IsBackground, end_of, IsEnd, Stands, IsCall, IsSound, gives_value, next_gives, base_there, whole_self, whole_on}
+use Rattle.circ_expand.proofs.Standing.{IsBackground, end_of, IsEnd, Stands, IsCall, IsSound, base_there, whole_self, whole_on}
 use Rattle.circ_expand.proofs.Linking.{Sided, IsBasis, basis_setting, links_lead}
 use Rattle.circ_expand.proofs.Turning.{occurrences_lead}
 
@@ -118,6 +120,7 @@ record Through (f : Background) (g s i : ℕ) (ts : Trees) (e : Numbered) (a b :
   bare : AreBare (f.certificate (place g i) e.number)
   last : Tree
   leads : Runs (Leads (link_setting f (basis [] 0 []))) (f.certificate (place g i) e.number) (start_at f.theory (place g i) e.entry.derivative) last
+  guarded : Guarded f.theory f.places last 0 sort
   start_sorted : IsWellSorted f.theory.signature (start_at f.theory (place g i) e.entry.derivative)
   matched : Matched f.theory (start_at f.theory (place g i) e.entry.derivative) a b (derived e.entry.derivative (App g s (put_at ts i a)) e.entry.parameters) (derived e.entry.derivative (App g s (put_at ts i b)) e.entry.parameters) sort
 
@@ -170,6 +173,7 @@ through f fr g s i ts e x a b listed there wa wb num hole iq =
       links_sorted = cert.sorted;
       bare = cert.bare;
       last = cert.certified.last;
+      guarded = cert.certified.guarded;
       leads = subst L (sym start_is) cert.certified.leads;
       start_sorted = subst W (sym start_is) ws;
       matched = subst M (sym start_is) m;
@@ -179,7 +183,7 @@ through f fr g s i ts e x a b listed there wa wb num hole iq =
 abbrev pub along : Call → Option (List Layer) → Call
 along c o = record c { along = o }
 
-module _ (f : Background) (fr : IsBackground f) (run : Expander) (so : IsSound f run) (c : Call) (g s i : ℕ) (ts : Trees) (xs : List Layer) (ic : IsCall f (along c (Some (At_place g s i ts ∷ xs)))) where
+module _ (f : Background) (fr : IsBackground f) (run : Expander) (depth : ℕ) (so : IsSound f depth run) (c : Call) (g s i : ℕ) (ts : Trees) (xs : List Layer) (ic : IsCall f (along c (Some (At_place g s i ts ∷ xs)))) where
   abbrev a : Tree
   a = left_here run f c xs
 
@@ -195,16 +199,28 @@ module _ (f : Background) (fr : IsBackground f) (run : Expander) (so : IsSound f
   -- the certificate on one of the terms
   certificate_leads : (e : Numbered) (cs : List Numbered) → (t : Through f g s i ts e a b) → (x : Tree) (ρ : Substitution) → Stands f (certified_call run f c cs ρ) x
       → sort_of (instance ρ (start_at f.theory (place g i) e.entry.derivative)) ≡ sort_of x → IsEnd f.theory (whole_with (certified_call run f c cs ρ) (instance ρ (start_at f.theory (place g i) e.entry.derivative)))
-      → (n m : ℕ) (ys : Pieces) → links_written run f (certified_call run f c cs ρ) (no_basis run f) (f.certificate (place g i) e.number) (start_at f.theory (place g i) e.entry.derivative) n ≡ Yields ys m
-      → Sided f (certified_call run f c cs ρ) (instance ρ (start_at f.theory (place g i) e.entry.derivative)) (instance ρ t.last) ys
-  certificate_leads e cs t x ρ st se en n m ys r =
-      links_lead f fr run so (certified_call run f c cs ρ) x st (no_basis run f) (record { followed = λ y z. nothing y z; sorted = λ y z. nothing y z; raised = λ k p z. absurd (cc) })
-      (f.certificate (place g i) e.number) t.links_sorted t.bare (start_at f.theory (place g i) e.entry.derivative) t.last t.start_sorted t.leads en se n m ys r
+      → (n : ℕ) → n ≤ depth → Goes (Sided f (certified_call run f c cs ρ) (instance ρ (start_at f.theory (place g i) e.entry.derivative)) (instance ρ t.last)) n
+      (links_written run f (certified_call run f c cs ρ) (no_basis run f) (f.certificate (place g i) e.number) (start_at f.theory (place g i) e.entry.derivative) n)
+  certificate_leads e cs t x ρ st se en n le =
+      links_lead f fr run depth so (certified_call run f c cs ρ) x st (no_basis run f) (record { followed = λ y z. nothing y z; sorted = λ y z. nothing y z; raised = λ k p z. absurd (cc) })
+      (f.certificate (place g i) e.number) t.links_sorted t.bare (start_at f.theory (place g i) e.entry.derivative) t.last t.start_sorted t.leads en se n le
 
-  pub through_leads : (es : List Numbered) → c.entries ≡ es → (n m : ℕ) (ys : Pieces) → through_place run f c (place g i) s ts xs es n ≡ Yields ys m
-      → PiecesLead f.theory c.assumptions ys c.whole (end_of (along c (Some (At_place g s i ts ∷ xs))))
-  through_leads [] ee n m ys r = absurd (cc)
-  through_leads (e ∷ cs) ee n m ys r =
+  -- the operator of a place has a hidden result, so no experiment on it is empty
+  entry_due : c.entries ≡ [] → ⊥
+  entry_due ee =
+      let st : Stands f c here = record { by = ic.stands.by; numbered = ic.stands.numbered; there = ic.stands.there; fits = ic.stands.fits; assumptions = ic.stands.assumptions } in
+      let wa : IsWellSorted f.theory.signature here = at_sorted f.theory (base c) c.whole here ic.left.well_sorted (base_there f c here st) in
+      let p = all_of (IsPlace f.theory) f.places (place g i) fr.places ic.items.0 in
+      let same : p.operator ≡ wa.0 = same_Some p.operator wa.0 (sym p.listed ∙ wa.1) in
+      let result : p.operator.result ≡ s = ap (λ (o : Operator). o.result) same ∙ wa.2 in
+      let H : ℕ → Type 0 = IsHidden f.theory in
+      let F : List Numbered → Type 0 = λ es. Fits f.theory (bare_entries es) s in
+      subst F ee st.fits (subst H result p.hidden)
+
+  pub through_leads : (es : List Numbered) → c.entries ≡ es → (n : ℕ) → n ≤ depth
+      → Goes (λ ys. PiecesLead f.theory c.assumptions ys c.whole (end_of (along c (Some (At_place g s i ts ∷ xs))))) n (through_place run f c (place g i) s ts xs es n)
+  through_leads [] ee n le = absurd (entry_due ee)
+  through_leads (e ∷ cs) ee n le =
       let th = f.theory in
       let sig = th.signature in
       let d : Derivative = e.entry.derivative in
@@ -251,27 +267,34 @@ module _ (f : Background) (fr : IsBackground f) (run : Expander) (so : IsSound f
       let ps : Tree → List (List ℕ) = λ z. paths_of 0 (expand.arg_sort th (place g i)) z in
       let middle : Tree → ℕ → Spending Pieces = λ z k. occurrences_written run f co xs b z (ps z) (instance σ z) k in
       let whole3 : Pieces → Pieces → Pieces → ℕ → Spending Pieces = λ l w o j. Yields (pieces_joined l (pieces_joined o (turned w))) j in
-      let g1 = next_gives (links_written run f cl (no_basis run f) ls start n) (λ l k. continued (links_written run f cr (no_basis run f) ls start k) (λ w j. continued (middle last j) (whole3 l w))) ys m r in
-      let g2 = next_gives (links_written run f cr (no_basis run f) ls start g1.1) (λ w j. continued (middle last j) (whole3 g1.0 w)) ys m g1.3 in
-      let O : Tree → Type 0 = λ z. continued (middle z g2.1) (whole3 g1.0 g2.0) ≡ Yields ys m in
-      let g3 = next_gives (middle t.last g2.1) (whole3 g1.0 g2.0) ys m (subst O last_is g2.3) in
-      let same : pieces_joined g1.0 (pieces_joined g3.0 (turned g2.0)) ≡ ys = gives_value (pieces_joined g1.0 (pieces_joined g3.0 (turned g2.0))) ys g3.1 m g3.3 in
-      let l = certificate_leads e cs t x σ stl sx el n g1.1 g1.0 g1.2 in
-      let w = certificate_leads e cs t x τ str sy en g1.1 g2.1 g2.0 g2.2 in
       let bare : IsBasis f cl (no_basis run f) = record { followed = λ h z. nothing h z; sorted = λ h z. nothing h z; raised = λ k p z. absurd (cc) } in
       let kept = links_sorted (link_setting f (no_basis run f)) (basis_setting f fr cl (no_basis run f) bare) ls t.links_sorted start t.last t.start_sorted t.leads in
       let sl : sort_of (instance σ t.last) ≡ sort_of x =
       sort_of-instance_by sig σ t.last t.matched.left kept.well_sorted ∙ kept.same_sort ∙ sym (sort_of-instance_by sig σ start t.matched.left t.start_sorted) ∙ sx in
       let moves = moved σ τ 0 t.sort t.matched.differ t.last in
-      let PS : ℕ → Type 0 = λ k. occurrences_written run f co xs b t.last (paths_of 0 k t.last) (instance σ t.last) g2.1 ≡ Yields g3.0 g3.1 in
-      let o = occurrences_lead f fr run so co x sto ic.followed xs ic.items.3 σ τ t.matched.left t.matched.right t.sort t.is_sort t.matched.left_here t.matched.right_here t.last kept.well_sorted
-      (paths_of 0 t.sort t.last) (instance σ t.last) (instance τ t.last) moves l.end sl g2.1 g3.1 g3.0 (subst PS t.named g3.2) in
-      let back = pieces_turned th fr.well_formed c.assumptions g2.0 (whole_with cr (instance τ start)) (whole_with cr (instance τ t.last)) w.lead en.within in
-      let all : PiecesLead th c.assumptions (pieces_joined g1.0 (pieces_joined g3.0 (turned g2.0))) (whole_with cl (instance σ start)) (whole_with cr (instance τ start)) =
-      joined_lead th c.assumptions g1.0 (pieces_joined g3.0 (turned g2.0)) (whole_with cl (instance σ start)) (whole_with cl (instance σ t.last)) (whole_with cr (instance τ start)) l.lead
-      (joined_lead th c.assumptions g3.0 (turned g2.0) (whole_with cl (instance σ t.last)) (whole_with cr (instance τ t.last)) (whole_with cr (instance τ start)) o.lead back) in
-      let LL : Tree → Type 0 = λ z. PiecesLead th c.assumptions (pieces_joined g1.0 (pieces_joined g3.0 (turned g2.0))) z (whole_with cr (instance τ start)) in
-      let LR : Tree → Type 0 = λ z. PiecesLead th c.assumptions (pieces_joined g1.0 (pieces_joined g3.0 (turned g2.0))) c.whole z in
       let back_entries : put_or_same c.whole c.path (on (bare_entries (e ∷ cs)) there) ≡ put_or_same c.whole c.path (on (bare_entries c.entries) there) = ap (λ es. put_or_same c.whole c.path (on (bare_entries es) there)) (sym ee) in
       let P : Pieces → Type 0 = λ zs. PiecesLead th c.assumptions zs c.whole (put_or_same c.whole c.path (on (bare_entries c.entries) there)) in
-      subst P same (subst LR (whole_r ∙ back_entries) (subst LL whole_l all))
+      let SL : Pieces → Type 0 = Sided f cl (instance σ start) (instance σ t.last) in
+      let SR : Pieces → Type 0 = Sided f cr (instance τ start) (instance τ t.last) in
+      let SO : Pieces → Type 0 = Sided f co (instance σ t.last) (instance τ t.last) in
+      let all : Tree → Pieces → Pieces → ℕ → Spending Pieces = λ z l w j. continued (middle z j) (whole3 l w) in
+      goes_on SL P n (links_written run f cl (no_basis run f) ls start n) (λ l k. continued (links_written run f cr (no_basis run f) ls start k) (λ w j. all last l w j))
+      (certificate_leads e cs t x σ stl sx el n le)
+      (λ l k lk gl. goes_on SR P k (links_written run f cr (no_basis run f) ls start k) (λ w j. all last l w j)
+      (certificate_leads e cs t x τ str sy en k (omega (arith, lk, le)))
+      (λ w j lj gw.
+      let O : Tree → Type 0 = λ z. Goes P j (all z l w j) in
+      let PS : ℕ → Type 0 = λ z. Goes SO j (occurrences_written run f co xs b t.last (paths_of 0 z t.last) (instance σ t.last) j) in
+      let done : PS t.sort = occurrences_lead f fr run depth so co x sto ic.followed xs ic.items.3 σ τ t.matched.left t.matched.right t.sort t.is_sort t.matched.left_here t.matched.right_here t.last kept.well_sorted t.guarded
+      (paths_of 0 t.sort t.last) (instance σ t.last) (instance τ t.last) moves gl.end sl j (omega (arith, lj, lk, le)) in
+      let back = pieces_turned th fr.well_formed c.assumptions w (whole_with cr (instance τ start)) (whole_with cr (instance τ t.last)) gw.lead en.within in
+      subst O (sym last_is)
+      (goes_on SO P j (middle t.last j) (whole3 l w) (subst PS (sym t.named) done)
+      (λ o i2 li go.
+      let zs : Pieces = pieces_joined l (pieces_joined o (turned w)) in
+      let lead : PiecesLead th c.assumptions zs (whole_with cl (instance σ start)) (whole_with cr (instance τ start)) =
+      joined_lead th c.assumptions l (pieces_joined o (turned w)) (whole_with cl (instance σ start)) (whole_with cl (instance σ t.last)) (whole_with cr (instance τ start)) gl.lead
+      (joined_lead th c.assumptions o (turned w) (whole_with cl (instance σ t.last)) (whole_with cr (instance τ t.last)) (whole_with cr (instance τ start)) go.lead back) in
+      let LL : Tree → Type 0 = λ z. PiecesLead th c.assumptions zs z (whole_with cr (instance τ start)) in
+      let LR : Tree → Type 0 = λ z. PiecesLead th c.assumptions zs c.whole z in
+      goes_value P i2 zs (subst LR (whole_r ∙ back_entries) (subst LL whole_l lead))))))

@@ -1,9 +1,8 @@
 -- What is known of a use.
-use Rattle.std.proofs.Common.{◌≡◌, ℕ, List, [], ◌∷◌, ◌++◌, zero, suc, ◌==◌, map, Option, Some, None, unwrap_or, find, refl, ap, sym, ◌∙◌, subst}
-use Rattle.std.specs.List.{slice_get, Contains}
-use Rattle.std.specs.Option.{option_map_or}
+use Rattle.std.proofs.Common.{◌≡◌, ◌<◌, ℕ, List, [], ◌∷◌, ◌++◌, ◌==◌, map, Option, Some, None, unwrap_or, find, ap, sym, ◌∙◌, subst}
+use Rattle.std.specs.List.{slice_get, AllByRecursion, Contains}
 use Rattle.circ_term.specs.Tree.{Tree, Var, App, sort_of, list_of, at, replaced}
-use Rattle.circ_term.specs.Limits.{Limit, first_limit, IsWithinLimits}
+use Rattle.circ_term.specs.Limits.{IsWithinLimits}
 use Rattle.circ_term.specs.Substitution.{instance}
 use Rattle.circ_term.proofs.Paths.{at-append, at_replaced, replaced_below, replaced_self, replaced_twice}
 use Rattle.circ_theory.specs.Signature.{Operator, IsWellSorted, IsSubstitution}
@@ -13,7 +12,7 @@ use Rattle.circ_theory.specs.Experiment.{Fits, on}
 use Rattle.circ_theory.specs.declared.parts.Goal.{Goal}
 use Rattle.circ_theory.proofs.Sorting.{replaced_sorted}
 use Rattle.circ_special.specs.declared.place.Place.{Place}
-use Rattle.circ_special.specs.Special.{place, IsSpecial}
+use Rattle.circ_special.specs.Special.{place, IsPlace, IsSpecial}
 use Rattle.circ_proof.specs.Plain.{LinkOf}
 use Rattle.circ_proof.specs.Goals.{AreSortedGoals}
 use Rattle.circ_proof.specs.Link.{Setting, setting, Leads, AllOfLinks}
@@ -23,8 +22,9 @@ use Rattle.circ_proof.specs.Rules.{derivatives_on}
 use Rattle.circ_proof.proofs.Members.{nothing, from_map}
 use Rattle.circ_entry.specs.Entries.{bare_entries}
 use Rattle.circ_expand.specs.Followed.{History, Histories, Simplified, Reduced, Derived, Open, no_history, more_histories, goal_in, list_in, Followed, put_or_same}
-use Rattle.circ_expand.specs.Pieces.{Pieces, PiecesLead}
-use Rattle.circ_expand.specs.Expand.{Spending, Yields, Long, Past, continued, counted, tested, all_tested, holes, Layer, At_place, By_entry, layered, places_on, Background, Call, Expander, base, whole_with, followed_goals}
+use Rattle.circ_expand.specs.Pieces.{PiecesLead}
+use Rattle.circ_expand.specs.Expand.{holes, Layer, At_place, By_entry, layered, places_on, Background, Call, Expander, base, whole_with, followed_goals}
+use Rattle.circ_expand.proofs.Going.{Goes}
 use Rattle.circ_expand.proofs.Putting.{put_is, put_there}
 use Rattle.circ_expand.proofs.Plainness.{AreBare, IsBareChain, IsBareWhy}
 use Rattle.circ_expand.proofs.Lifting.{AreNumbered, on_there, on_put}
@@ -79,6 +79,7 @@ pub record IsCertificate (th : Theory) (G : List Place) (g : Place) (d : Derivat
 
 pub record IsBackground (f : Background) : Type 0 where
   pub well_formed : IsWellFormed f.theory
+  pub places : AllByRecursion (IsPlace f.theory) f.places
   pub one_list : (l : CaseList) → Contains f.theory.cases l → (s : ℕ) → s ≡ l.sort → unwrap_or (find (λ k. s == k.sort) f.theory.cases) (record { sort = s; constants = [] }) ≡ l
   pub followed : (b : ℕ) → AreFollowed f (block_hypotheses f b)
   pub certified : (g : Place) (o : Operator) (k : ℕ) (d : Derivative) → Contains f.places g → slice_get f.theory.signature.ops g.op ≡ Some o
@@ -133,34 +134,9 @@ pub record IsCall (f : Background) (c : Call) : Type 0 where
   pub left : IsEnd f.theory c.whole
   pub right : IsEnd f.theory (end_of c)
 
--- what a use gives leads from its whole term to its end
-abbrev pub IsSound : Background → Expander → Type 0
-IsSound f run = (c : Call) (n m : ℕ) (xs : Pieces) → IsCall f c → run c n ≡ Yields xs m → PiecesLead f.theory c.assumptions xs c.whole (end_of c)
-
--- ---- what was given
-
-pub gives_value : {A : Type 0} (a b : A) (n m : ℕ) → Yields a n ≡ Yields b m → a ≡ b
-gives_value a b n m e = cc
-
-pub begun_gives : {B : Type 0} (n m : ℕ) (f : ℕ → Spending B) (x : B) → counted n f ≡ Yields x m → (k : ℕ) × (f k ≡ Yields x m)
-begun_gives zero m f x e = absurd (cc)
-begun_gives (suc n) m f x e = (n, e)
-
-pub within_gives : {B : Type 0} (t : Tree) (o : Spending B) (x : B) (m : ℕ) → tested t o ≡ Yields x m → IsWithinLimits t × (o ≡ Yields x m)
-within_gives t o x m e = go (first_limit t) refl e
-  where
-    go : (l : Option Limit) → first_limit t ≡ l → option_map_or Past l o ≡ Yields x m → IsWithinLimits t × (o ≡ Yields x m)
-    go None h g = (h, g)
-    go (Some l) h g = absurd (cc)
-
-pub all_within_gives : {B : Type 0} (ts : List Tree) (o : Spending B) (x : B) (m : ℕ) → all_tested ts o ≡ Yields x m → o ≡ Yields x m
-all_within_gives [] o x m e = e
-all_within_gives (t ∷ ts) o x m e = all_within_gives ts o x m (within_gives t (all_tested ts o) x m e).1
-
-pub next_gives : {A B : Type 0} (o : Spending A) (f : A → ℕ → Spending B) (x : B) (m : ℕ) → continued o f ≡ Yields x m → (a : A) × (k : ℕ) × (o ≡ Yields a k) × (f a k ≡ Yields x m)
-next_gives (Yields a k) f x m e = (a, k, refl, e)
-next_gives Long f x m e = absurd (cc)
-next_gives (Past l) f x m e = absurd (cc)
+-- what a use gives leads from its whole term to its end, with fewer units than the depth at first
+abbrev pub IsSound : Background → (depth : ℕ) → Expander → Type 0
+IsSound f d run = (c : Call) (n : ℕ) → n < d → IsCall f c → Goes (λ xs. PiecesLead f.theory c.assumptions xs c.whole (end_of c)) n (run c n)
 
 -- ---- the whole term round a term at the hole
 

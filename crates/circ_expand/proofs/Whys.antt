@@ -1,5 +1,5 @@
 -- What justifies a goal leads from one side to the other, in each case.
-use Rattle.std.proofs.Common.{◌≡◌, ◌⊎◌, ℕ, ◌+◌, List, [], ◌∷◌, ◌++◌, zero, suc, length, Some, refl, ap, sym, ◌∙◌, subst, arith, inl, inr}
+use Rattle.std.proofs.Common.{◌≡◌, ◌≤◌, ◌⊎◌, ℕ, ◌+◌, List, [], ◌∷◌, ◌++◌, zero, suc, length, Some, refl, ap, sym, ◌∙◌, subst, arith, inl, inr}
 use Rattle.std.specs.List.{slice_get, Contains}
 use Rattle.std.proofs.lemmas.Option.{same_Some}
 use Rattle.circ_term.specs.Tree.{Tree, sort_of}
@@ -18,13 +18,14 @@ use Rattle.circ_entry.specs.Entries.{bare_entries}
 use Rattle.circ_expand.specs.Followed.{led_all}
 use Rattle.circ_expand.specs.Pieces.{Pieces, Parts, Cases_piece, more_pieces, no_part, more_parts, pieces_joined, turned, PiecesLead, PartsLead}
 use Rattle.circ_expand.specs.Expand.{Spending, Yields, continued, counted, tested, Background, Call, Expander, base, around, Basis, link_setting, links_written, cases_at, case_basis, case_call, whys_written, each_why}
+use Rattle.circ_expand.proofs.Going.{Goes, goes_on, goes_counted, goes_tested, goes_value}
 use Rattle.circ_expand.proofs.Putting.{put_is}
 use Rattle.circ_proof.proofs.Cases.{case_sorted}
 use Rattle.circ_expand.proofs.Plainness.{IsBareWhy, AreBareWhys}
 use Rattle.circ_expand.proofs.Derives.{more_sorted, joined_lead, pieces_turned}
 use Rattle.circ_expand.proofs.Led.{links_led}
-use Rattle.circ_expand.proofs.Standing.{IsBackground, IsEnd, Stands, IsSound, gives_value, begun_gives, within_gives, next_gives, whole_over, path_there}
-use Rattle.circ_expand.proofs.Linking.{IsBasis, basis_setting, links_lead}
+use Rattle.circ_expand.proofs.Standing.{IsBackground, IsEnd, Stands, IsSound, whole_over, path_there}
+use Rattle.circ_expand.proofs.Linking.{Sided, IsBasis, basis_setting, links_lead}
 
 get_left : {X : Type 0} (xs ys : List X) (n : ℕ) (y : X) → slice_get xs n ≡ Some y → slice_get (xs ++ ys) n ≡ Some y
 get_left [] ys n y e = absurd (cc)
@@ -98,27 +99,36 @@ case_full f run c b i s v l k w =
       whole = length_last c.assumptions e ∙ ap suc i.whole ∙ (let z : suc (b.raised + length b.assumptions) ≡ b.raised + suc (length b.assumptions) = omega arith in z) ∙ ap (λ j. b.raised + j) (sym (length_last b.assumptions p));
     }
 
-module _ (f : Background) (fr : IsBackground f) (run : Expander) (so : IsSound f run) where
+-- what is written for a reason leads from the one side to the other
+abbrev pub WhyLeads : Background → Call → Pair → Pieces → Type 0
+WhyLeads f c p xs = PiecesLead f.theory c.assumptions xs (around c p.left) (around c p.right)
+
+module _ (f : Background) (fr : IsBackground f) (run : Expander) (d : ℕ) (so : IsSound f d run) where
+  -- the right side's instance has the sort of the left one's
+  sort_right : (c : Call) (x : Tree) → Stands f c x → (p : Pair) → IsWellSortedPair f.theory.signature p → sort_of (instance c.by p.left) ≡ sort_of x → sort_of (instance c.by p.right) ≡ sort_of x
+  sort_right c x st p sp se =
+      let sig = f.theory.signature in
+      sort_of-instance_by sig c.by p.right st.by sp.right ∙ sp.same_sort ∙ sym (sort_of-instance_by sig c.by p.left st.by sp.left) ∙ se
+
   mutual
     pub whys_lead : (c : Call) (x : Tree) → Stands f c x → (b : Basis) → IsFull f c b → (p : Pair) → IsWellSortedPair f.theory.signature p → (w : WhyOf Tree) → AllOfWhy (IsWellSorted f.theory.signature) w → IsBareWhy w → Justified (link_setting f b) p w
         → IsEnd f.theory (around c p.left) → IsEnd f.theory (around c p.right) → sort_of (instance c.by p.left) ≡ sort_of x
-        → (n m : ℕ) (xs : Pieces) → whys_written run f c b w p.left p.right n ≡ Yields xs m → PiecesLead f.theory c.assumptions xs (around c p.left) (around c p.right)
-    whys_lead c x st b i p sp (Same_why chain) a bw j el er se n m xs g =
+        → (n : ℕ) → n ≤ d → Goes (WhyLeads f c p) n (whys_written run f c b w p.left p.right n)
+    whys_lead c x st b i p sp (Same_why chain) a bw j el er se n le =
         let th = f.theory in
-        let sig = th.signature in
         let s = p.left in
         let t = p.right in
-        let se_r : sort_of (instance c.by t) ≡ sort_of x = sort_of-instance_by sig c.by t st.by sp.right ∙ sp.same_sort ∙ sym (sort_of-instance_by sig c.by s st.by sp.left) ∙ se in
-        let g1 = next_gives (links_written run f c b chain.left s n) (λ l k. continued (links_written run f c b chain.right t k) (λ r h. Yields (pieces_joined l (turned r)) h)) xs m g in
-        let g2 = next_gives (links_written run f c b chain.right t g1.1) (λ r h. Yields (pieces_joined g1.0 (turned r)) h) xs m g1.3 in
-        let same : pieces_joined g1.0 (turned g2.0) ≡ xs = gives_value (pieces_joined g1.0 (turned g2.0)) xs g2.1 m g2.3 in
-        let l = links_lead f fr run so c x st b i.basis chain.left a.0 bw.0 s j.0 sp.left j.1.left el se n g1.1 g1.0 g1.2 in
-        let r = links_lead f fr run so c x st b i.basis chain.right a.1 bw.1 t j.0 sp.right j.1.right er se_r g1.1 g2.1 g2.0 g2.2 in
-        let P : Pieces → Type 0 = λ ys. PiecesLead th c.assumptions ys (around c s) (around c t) in
-        subst P same
-        (joined_lead th c.assumptions g1.0 (turned g2.0) (around c s) (around c j.0) (around c t) l.lead
-        (pieces_turned th fr.well_formed c.assumptions g2.0 (around c t) (around c j.0) r.lead er.within))
-    whys_lead c x st b i p sp (Split_why chain v ws) a bw j el er se n m xs g =
+        let P : Pieces → Type 0 = WhyLeads f c p in
+        let SL : Pieces → Type 0 = Sided f c (instance c.by s) (instance c.by j.0) in
+        let SR : Pieces → Type 0 = Sided f c (instance c.by t) (instance c.by j.0) in
+        goes_on SL P n (links_written run f c b chain.left s n) (λ l k. continued (links_written run f c b chain.right t k) (λ r h. Yields (pieces_joined l (turned r)) h))
+        (links_lead f fr run d so c x st b i.basis chain.left a.0 bw.0 s j.0 sp.left j.1.left el se n le)
+        (λ l k lk gl. goes_on SR P k (links_written run f c b chain.right t k) (λ r h. Yields (pieces_joined l (turned r)) h)
+        (links_lead f fr run d so c x st b i.basis chain.right a.1 bw.1 t j.0 sp.right j.1.right er (sort_right c x st p sp se) k (omega (arith, lk, le)))
+        (λ r h lh gr. goes_value P h (pieces_joined l (turned r))
+        (joined_lead th c.assumptions l (turned r) (around c s) (around c j.0) (around c t) gl.lead
+        (pieces_turned th fr.well_formed c.assumptions r (around c t) (around c j.0) gr.lead er.within))))
+    whys_lead c x st b i p sp (Split_why chain v ws) a bw j el er se n le =
         let th = f.theory in
         let sig = th.signature in
         let S = link_setting f b in
@@ -130,49 +140,50 @@ module _ (f : Background) (fr : IsBackground f) (run : Expander) (so : IsSound f
         let u : Tree = instance c.by v in
         let wu = instance_well_sorted sig c.by v st.by wv in
         let su : sort_of u ≡ cl.sort = sort_of-instance_by sig c.by v st.by wv ∙ j.4 in
-        let se_r : sort_of (instance c.by t) ≡ sort_of x = sort_of-instance_by sig c.by t st.by sp.right ∙ sp.same_sort ∙ sym (sort_of-instance_by sig c.by s st.by sp.left) ∙ se in
         let cases : CaseList = cases_at run f (sort_of v) in
+        let P : Pieces → Type 0 = WhyLeads f c p in
+        let SL : Pieces → Type 0 = Sided f c (instance c.by s) (instance c.by q.left) in
+        let SR : Pieces → Type 0 = Sided f c (instance c.by t) (instance c.by q.right) in
+        let PP : Parts → Type 0 = λ ps. PartsLead th c.assumptions u cl cl.constants ps (around c q.left) (around c q.right) in
+        let each : CaseList → Tree → Tree → ℕ → Spending Parts = λ k y z h. each_why run f c b ws v k k.constants y z h in
+        let last : Pieces → Pieces → Parts → ℕ → Spending Pieces = λ l r ps e. Yields (pieces_joined l (more_pieces (Cases_piece u ps) (turned r))) e in
+        let split : CaseList → Tree → Tree → Pieces → Pieces → ℕ → Spending Pieces = λ k y z l r h. counted h (λ e. tested u (continued (each k y z e) (last l r))) in
+        let list_is : cases ≡ cl = fr.one_list cl j.3 (sort_of v) j.4 in
         let sl : Tree = led_all S chain.left s in
         let sr : Tree = led_all S chain.right t in
-        let each : ℕ → Spending Parts = λ h. each_why run f c b ws v cases cases.constants sl sr h in
-        let last : Pieces → Pieces → Parts → ℕ → Spending Pieces = λ l r ps e. Yields (pieces_joined l (more_pieces (Cases_piece u ps) (turned r))) e in
-        let g1 = next_gives (links_written run f c b chain.left s n) (λ l k. continued (links_written run f c b chain.right t k) (λ r h. counted h (λ y. tested u (continued (each y) (last l r))))) xs m g in
-        let g2 = next_gives (links_written run f c b chain.right t g1.1) (λ r h. counted h (λ y. tested u (continued (each y) (last g1.0 r)))) xs m g1.3 in
-        let g3 = begun_gives g2.1 m (λ y. tested u (continued (each y) (last g1.0 g2.0))) xs g2.3 in
-        let g4 = within_gives u (continued (each g3.0) (last g1.0 g2.0)) xs m g3.1 in
-        let g5 = next_gives (each g3.0) (last g1.0 g2.0) xs m g4.1 in
-        let same : pieces_joined g1.0 (more_pieces (Cases_piece u g5.0) (turned g2.0)) ≡ xs = gives_value (pieces_joined g1.0 (more_pieces (Cases_piece u g5.0) (turned g2.0))) xs g5.1 m g5.3 in
-        let l = links_lead f fr run so c x st b i.basis chain.left a.0.0 bw.0.0 s q.left sp.left j.1.left el se n g1.1 g1.0 g1.2 in
-        let r = links_lead f fr run so c x st b i.basis chain.right a.0.1 bw.0.1 t q.right sp.right j.1.right er se_r g1.1 g2.1 g2.0 g2.2 in
-        let list_is : cases ≡ cl = fr.one_list cl j.3 (sort_of v) j.4 in
-        let B : Tree → Tree → CaseList → Type 0 = λ b1 b2 k. each_why run f c b ws v k k.constants b1 b2 g3.0 ≡ Yields g5.0 g5.1 in
-        let B1 : Tree → Type 0 = λ b1. B b1 sr cases in
-        let B2 : Tree → Type 0 = λ b2. B q.left b2 cases in
-        let B3 : CaseList → Type 0 = λ k. B q.left q.right k in
-        let g6 : each_why run f c b ws v cl cl.constants q.left q.right g3.0 ≡ Yields g5.0 g5.1 =
-        subst B3 list_is (subst B2 (links_led S chain.right t q.right j.1.right) (subst B1 (links_led S chain.left s q.left j.1.left) g5.2)) in
+        let left_is : sl ≡ q.left = links_led S chain.left s q.left j.1.left in
+        let right_is : sr ≡ q.right = links_led S chain.right t q.right j.1.right in
         let good = basis_setting f fr c b i.basis in
         let sq = chain_sorted S good chain a.0 p q sp j.1 in
         let kl = links_sorted S good chain.left a.0.0 s q.left sp.left j.1.left in
         let sort_y : sort_of (instance c.by q.left) ≡ sort_of x = sort_of-instance_by sig c.by q.left st.by kl.well_sorted ∙ kl.same_sort ∙ sym (sort_of-instance_by sig c.by s st.by sp.left) ∙ se in
-        let parts = each_leads c x st b i q sq v cl j.3 wv j.4 wu su cl.constants (λ k d. d) ws a.2 bw.1 j.5 l.end r.end sort_y g3.0 g5.1 g5.0 g6 in
-        let P : Pieces → Type 0 = λ ys. PiecesLead th c.assumptions ys (around c s) (around c t) in
-        subst P same
-        (joined_lead th c.assumptions g1.0 (more_pieces (Cases_piece u g5.0) (turned g2.0)) (around c s) (around c q.left) (around c t) l.lead
-        (around c q.right, (cl, j.3, wu, su, parts), pieces_turned th fr.well_formed c.assumptions g2.0 (around c t) (around c q.right) r.lead er.within))
+        goes_on SL P n (links_written run f c b chain.left s n) (λ l k. continued (links_written run f c b chain.right t k) (λ r h. split cases sl sr l r h))
+        (links_lead f fr run d so c x st b i.basis chain.left a.0.0 bw.0.0 s q.left sp.left j.1.left el se n le)
+        (λ l k lk gl. goes_on SR P k (links_written run f c b chain.right t k) (λ r h. split cases sl sr l r h)
+        (links_lead f fr run d so c x st b i.basis chain.right a.0.1 bw.0.1 t q.right sp.right j.1.right er (sort_right c x st p sp se) k (omega (arith, lk, le)))
+        (λ r h lh gr.
+        let G1 : CaseList → Type 0 = λ y. Goes P h (split y q.left q.right l r h) in
+        let G2 : Tree → Type 0 = λ y. Goes P h (split cases y q.right l r h) in
+        let G3 : Tree → Type 0 = λ y. Goes P h (split cases sl y l r h) in
+        subst G3 (sym right_is) (subst G2 (sym left_is) (subst G1 (sym list_is)
+        (goes_counted P h (λ e. tested u (continued (each cl q.left q.right e) (last l r))) (λ e lt.
+        goes_tested P e u (continued (each cl q.left q.right e) (last l r)) (λ w.
+        goes_on PP P e (each cl q.left q.right e) (last l r)
+        (each_leads c x st b i q sq v cl j.3 wv j.4 wu su cl.constants (λ k z. z) ws a.2 bw.1 j.5 gl.end gr.end sort_y e (omega (arith, lt, lh, lk, le)))
+        (λ ps y ly parts. goes_value P y (pieces_joined l (more_pieces (Cases_piece u ps) (turned r)))
+        (joined_lead th c.assumptions l (more_pieces (Cases_piece u ps) (turned r)) (around c s) (around c q.left) (around c t) gl.lead
+        (around c q.right, (cl, j.3, wu, su, parts), pieces_turned th fr.well_formed c.assumptions r (around c t) (around c q.right) gr.lead er.within))))))))))
 
     each_leads : (c : Call) (x : Tree) → Stands f c x → (b : Basis) → IsFull f c b → (q : Pair) → IsWellSortedPair f.theory.signature q → (v : Tree) (l : CaseList) → Contains f.theory.cases l → IsWellSorted f.theory.signature v → sort_of v ≡ l.sort
         → IsWellSorted f.theory.signature (instance c.by v) → sort_of (instance c.by v) ≡ l.sort
         → (ks : List ℕ) → ((k : ℕ) → Contains ks k → Contains l.constants k) → (ws : WhysOf Tree) → AllOfWhys (IsWellSorted f.theory.signature) ws → AreBareWhys ws → EachJustified (link_setting f b) q v l ks ws
         → IsEnd f.theory (around c q.left) → IsEnd f.theory (around c q.right) → sort_of (instance c.by q.left) ≡ sort_of x
-        → (n m : ℕ) (ps : Parts) → each_why run f c b ws v l ks q.left q.right n ≡ Yields ps m
-        → PartsLead f.theory c.assumptions (instance c.by v) l ks ps (around c q.left) (around c q.right)
-    each_leads c x st b i q sq v l cl wv sv wu su [] wi no_why a bw j el er se n m ps g =
-        let P : Parts → Type 0 = λ y. PartsLead f.theory c.assumptions (instance c.by v) l [] y (around c q.left) (around c q.right) in
-        subst P (gives_value no_part ps n m g) tt
-    each_leads c x st b i q sq v l cl wv sv wu su [] wi (more_whys w ws) a bw j el er se n m ps g = absurd j
-    each_leads c x st b i q sq v l cl wv sv wu su (k ∷ ks) wi no_why a bw j el er se n m ps g = absurd j
-    each_leads c x st b i q sq v l cl wv sv wu su (k ∷ ks) wi (more_whys w ws) a bw j el er se n m ps g =
+        → (n : ℕ) → n ≤ d → Goes (λ ps. PartsLead f.theory c.assumptions (instance c.by v) l ks ps (around c q.left) (around c q.right)) n (each_why run f c b ws v l ks q.left q.right n)
+    each_leads c x st b i q sq v l cl wv sv wu su [] wi no_why a bw j el er se n le =
+        goes_value (λ ps. PartsLead f.theory c.assumptions (instance c.by v) l [] ps (around c q.left) (around c q.right)) n no_part tt
+    each_leads c x st b i q sq v l cl wv sv wu su [] wi (more_whys w ws) a bw j el er se n le = absurd j
+    each_leads c x st b i q sq v l cl wv sv wu su (k ∷ ks) wi no_why a bw j el er se n le = absurd j
+    each_leads c x st b i q sq v l cl wv sv wu su (k ∷ ks) wi (more_whys w ws) a bw j el er se n le =
         let th = f.theory in
         let u = instance c.by v in
         let s = q.left in
@@ -184,17 +195,18 @@ module _ (f : Background) (fr : IsBackground f) (run : Expander) (so : IsSound f
         let we = case_sorted th fr.well_formed u l k cl ck wu su in
         let wp = case_sorted th fr.well_formed v l k cl ck wv sv in
         let st1 = case_stands f run c x st s e se we in
-        let g1 = next_gives (whys_written run f c1 b1 w s t n) (λ p h. continued (each_why run f c b ws v l ks s t h) (λ qs y. Yields (more_parts p qs) y)) ps m g in
-        let g2 = next_gives (each_why run f c b ws v l ks s t g1.1) (λ qs y. Yields (more_parts g1.0 qs) y) ps m g1.3 in
-        let same : more_parts g1.0 g2.0 ≡ ps = gives_value (more_parts g1.0 g2.0) ps g2.1 m g2.3 in
         let E : Tree → Type 0 = IsEnd th in
         let ws_s = case_whole f run c x st s e s in
         let ws_t = case_whole f run c x st s e t in
-        let one = whys_lead c1 (instance c.by s) st1 b1 (case_full f run c b i s v l k wp) q sq w a.0 bw.0 j.0 (subst E (sym ws_s) el) (subst E (sym ws_t) er) refl n g1.1 g1.0 g1.2 in
-        let L : Tree → Type 0 = λ y. PiecesLead th (c.assumptions ++ e ∷ []) g1.0 y (around c1 t) in
-        let R : Tree → Type 0 = λ y. PiecesLead th (c.assumptions ++ e ∷ []) g1.0 (around c s) y in
-        let P : Parts → Type 0 = λ y. PartsLead th c.assumptions u l (k ∷ ks) y (around c s) (around c t) in
-        subst P same (
-          subst R ws_t (subst L ws_s one),
-          each_leads c x st b i q sq v l cl wv sv wu su ks (λ y d. wi y (in_rest k y ks d)) ws a.1 bw.1 j.1 el er se g1.1 g2.1 g2.0 g2.2,
-        )
+        let Q1 : Pieces → Type 0 = WhyLeads f c1 q in
+        let Q2 : Parts → Type 0 = λ ps. PartsLead th c.assumptions u l ks ps (around c s) (around c t) in
+        let P : Parts → Type 0 = λ ps. PartsLead th c.assumptions u l (k ∷ ks) ps (around c s) (around c t) in
+        let others : Pieces → ℕ → Spending Parts = λ p m. continued (each_why run f c b ws v l ks s t m) (λ ps y. Yields (more_parts p ps) y) in
+        goes_on Q1 P n (whys_written run f c1 b1 w s t n) others
+        (whys_lead c1 (instance c.by s) st1 b1 (case_full f run c b i s v l k wp) q sq w a.0 bw.0 j.0 (subst E (sym ws_s) el) (subst E (sym ws_t) er) refl n le)
+        (λ p m lm one. goes_on Q2 P m (each_why run f c b ws v l ks s t m) (λ ps y. Yields (more_parts p ps) y)
+        (each_leads c x st b i q sq v l cl wv sv wu su ks (λ y z. wi y (in_rest k y ks z)) ws a.1 bw.1 j.1 el er se m (omega (arith, lm, le)))
+        (λ ps y ly rest.
+        let L : Tree → Type 0 = λ z. PiecesLead th (c.assumptions ++ e ∷ []) p z (around c1 t) in
+        let R : Tree → Type 0 = λ z. PiecesLead th (c.assumptions ++ e ∷ []) p (around c s) z in
+        goes_value P y (more_parts p ps) (subst R ws_t (subst L ws_s one), rest)))

@@ -12,7 +12,7 @@ use Rattle.circ_proof.specs.Rules.{Reduce, Derive, Done}
 use Rattle.circ_proof.specs.Proof.{GoalNames, Proof}
 use Rattle.circ_entry.specs.Entries.{Written, written_entry}
 use Rattle.circ_expand.specs.Pieces.{Piece, Pieces, Equation_piece, Content_piece, Assumption_piece, Cases_piece, no_piece, more_pieces}
-use Rattle.circ_expand.specs.Expand.{Spending, Yields, Long, Past, expansion}
+use Rattle.circ_expand.specs.Expand.{Spending, Yields, Long, Past, Stopped, expansion}
 
 abbrev pub one : ℕ → ℕ → Tree → Tree
 one f s t = App f s (more t none)
@@ -155,6 +155,7 @@ abbrev pub lines_in : Spending Pieces → List (ℕ × List ℕ)
 lines_in (Yields xs n) = lines_of xs
 lines_in Long = []
 lines_in (Past l) = []
+lines_in Stopped = []
 
 -- one tl deeper: the certificate for tl, a hidden instance at a special path, and the place with an entry below it
 pub row_8_deeper : lines_in (expansion 100000 bits summed 0 (entry 1 ∷ entry 1 ∷ entry 0 ∷ [])) ≡

@@ -33,15 +33,18 @@ use Rattle.circ_expand.specs.Pieces.{Piece, Pieces, Parts, Equation_piece, Conte
 
 -- ---- the order of work: units are counted down, and the first thing that fails decides
 
+-- A value with the units that are left; no unit is left (Long); a term is past a limit; or nothing fits, which never comes of an accepted proof.
 pub data Spending (A : Type 0) : Type 0 where
   Yields : (value : A) (left : ℕ) → Spending A
   Long : Spending A
   Past : (limit : Limit) → Spending A
+  Stopped : Spending A
 
 abbrev pub continued : {A B : Type 0} → Spending A → (A → ℕ → Spending B) → Spending B
 continued (Yields a n) f = f a n
 continued Long f = Long
 continued (Past l) f = Past l
+continued Stopped f = Stopped
 
 -- one unit is begun
 abbrev pub counted : {B : Type 0} → ℕ → (ℕ → Spending B) → Spending B
@@ -253,14 +256,14 @@ module _ (run : Expander) (f : Background) where
   basis_in c = basis (unwrap_or (slice_get f.hypotheses c.goal.block) []) (length c.assumptions) []
 
   abbrev pub ex : Call → History → List Numbered → ℕ → Spending Pieces
-  ex c Open cs n = Long
+  ex c Open cs n = Stopped
   ex c (Simplified g chain h) cs n =
       continued (links_written run f c (basis_in c) chain.left g.left n) (λ xs m.
       continued (links_written run f c (basis_in c) chain.right g.right m) (λ ys k.
       counted k (λ j. continued (run (simplified_call c (led_all (link_setting f (basis_in c)) chain.left g.left) h) j)
       (λ zs i. Yields (pieces_joined xs (pieces_joined zs (turned ys))) i))))
   ex c (Reduced g why) cs n = whys_written run f c (basis_in c) why g.left g.right n
-  ex c (Derived g children) [] n = Long
+  ex c (Derived g children) [] n = Stopped
   ex c (Derived g children) (e ∷ cs) n = counted n (run (derive_call c g children e cs))
 
 -- ---- Ly
@@ -337,7 +340,7 @@ module _ (run : Expander) (f : Background) where
   occurrence_use (Visible_case k q) c n = run c n
   occurrence_use Place_case c n = run c n
   occurrence_use (Hidden_case k q) c n = run c n
-  occurrence_use No_case c n = Long
+  occurrence_use No_case c n = Stopped
 
   -- the occurrences from the left, each changed to the term b
   abbrev pub occurrences_written : Call → List Layer → (b last : Tree) → List (List ℕ) → (here : Tree) → ℕ → Spending Pieces
@@ -366,7 +369,7 @@ module _ (run : Expander) (f : Background) where
 
   -- the certificate of a place and the first entry, forwards from the left end and from the right end, and between them its occurrences
   abbrev pub through_place : Call → Place → (sort : ℕ) → Trees → List Layer → List Numbered → ℕ → Spending Pieces
-  through_place c g s ts xs [] n = Long
+  through_place c g s ts xs [] n = Stopped
   through_place c g s ts xs (e ∷ cs) n =
       let start = start_at f.theory g e.entry.derivative in
       let ls = f.certificate g e.number in
@@ -388,7 +391,7 @@ module _ (run : Expander) (f : Background) where
 
 -- so many uses stand inside one another at most
 abbrev pub uses : (depth : ℕ) → Background → Expander
-uses zero f = λ c n. Long
+uses zero f = λ c n. Stopped
 uses (suc k) f = single_use (uses k f) f
 
 -- ---- the whole

@@ -9,14 +9,19 @@ ghost use Rattle.circ_proof.specs.Proof.{Proof, ProofFor, IsPlain};
 ghost use Rattle.circ_proof.specs.Accepted.{Accepted};
 ghost use Rattle.circ_entry.specs.Entries.{Written, FitsWritten};
 ghost use Rattle.circ_expand.specs.Pieces.{Pieces};
-ghost use Rattle.circ_expand.specs.Expand.{Yields, expansion};
+ghost use Rattle.circ_expand.specs.Expand.{Yields, Stopped, expansion};
 ghost use Rattle.circ_expand.specs.Answers.{all_goals, LeadsOnGoal};
 
 /// What is written out from an accepted proof, for one of its goals and a fitting experiment, leads
 /// from the experiment on the goal's left side to that on its right side, with no hypothesis.
 pub fn expansion_leads()
-    ensures { (th : Theory) → IsWellFormed th → (p : Proof) → ProofFor th p → IsPlain p → Accepted th p →
+    ensures leads { (th : Theory) → IsWellFormed th → (p : Proof) → ProofFor th p → IsPlain p → Accepted th p →
         (n : ℕ) (g : Goal) → slice_get (all_goals p.blocks) n ≡ Some g →
         (ws : List Written) → FitsWritten th ws (sort_of g.left) → (units left : ℕ) (xs : Pieces) →
         expansion units th p n ws ≡ Yields xs left → LeadsOnGoal th xs ws g }
+    ensures never_stops { (th : Theory) → IsWellFormed th →
+        (p : Proof) → ProofFor th p → IsPlain p → Accepted th p →
+        (n : ℕ) (g : Goal) → slice_get (all_goals p.blocks) n ≡ Some g →
+        (ws : List Written) → FitsWritten th ws (sort_of g.left) → (units : ℕ) →
+        expansion units th p n ws ≡ Stopped → ⊥ }
 {}
