@@ -1,5 +1,5 @@
 -- A pattern that matches has one of the keys that are looked for, and one of the seats; and it is no larger than what it becomes.
-use Rattle.std.proofs.Common.{Bool, true, false, ◌&&◌, ◌≡◌, ℕ, ◌≤◌, ◌<◌, ◌^◌, List, [], ◌∷◌, ◌++◌, map, length, Option, Some, None, refl, ap, sym, subst, ◌∙◌, arith, ◌⊎◌, inl, inr}
+use Rattle.std.proofs.Common.{Bool, true, false, ◌&&◌, ◌≡◌, ℕ, ◌≤◌, ◌<◌, ◌^◌, List, map, length, Option, None, refl, ap, sym, subst, ◌∙◌, arith, ◌⊎◌, inl, inr}
 use Rattle.std.specs.Prelude.{slice_index}
 use Rattle.std.proofs.lemmas.Bool.{and_parts}
 use Rattle.circ_term.specs.Tree.{Tree, Trees, Var, App, none, more, size_of, sizes_of, is_ground}
@@ -8,10 +8,9 @@ use Rattle.circ_term.proofs.Instances.{instance-is_ground}
 use Rattle.circ_term.specs.Subst.{Bound}
 use Rattle.circ_match.specs.Matcher.{Makes}
 use Rattle.circ_index.specs.Finding.{LeftMatches, PairMatches, both_ways}
-use Rattle.circ_index.specs.Indexed.{HaveSeats, HasLefts, HasPairs, ArePairs, AreLefts}
+use Rattle.circ_index.specs.Indexed.{HaveSeats, ArePairs, AreLefts}
 use Rattle.circ_index.specs.Keys.{root, key, ground_key, left_key, term_keys, pair_key, pair_keys}
 use Rattle.circ_index.specs.declared.keys.TheConstants.{ANY}
-use Rattle.circ_index.specs.Linked.{Keyed}
 use Rattle.circ_index.specs.Paths.{key_of_left, key_of_pair, keys_of_term, keys_of_two}
 use Rattle.circ_index.specs.Walking.{term_seats, pair_seats}
 use Rattle.circ_index.specs.declared.finder.Finder.{Finder}

@@ -52,7 +52,13 @@ impl Finder {
             → OnErr result (HasLefts self.new lefts) }
     {
         self.rows.add(&[left_key(left)])?;
-        self.whole = seat_left(&self.rows, &mut self.paths, &mut self.seats, self.whole, left);
+        self.whole = seat_left(
+            &self.rows,
+            &mut self.paths,
+            &mut self.seats,
+            self.whole,
+            left,
+        );
         Ok(())
     }
 
@@ -179,13 +185,7 @@ impl Finder {
 }
 
 // Puts the seat of a left side last. Whether the seats are whole then.
-fn seat_left(
-    rows: &Rows,
-    paths: &mut Paths,
-    seats: &mut Rows,
-    whole: bool,
-    left: &Term,
-) -> bool
+fn seat_left(rows: &Rows, paths: &mut Paths, seats: &mut Rows, whole: bool, left: &Term) -> bool
     requires { whole ≡ true → length seats.old.keys + 1 < 2 ^ 32 }
     ensures { (before : List Tree)
         → HaveSeats whole (key_of_left paths.old) left_key before seats.old

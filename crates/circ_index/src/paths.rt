@@ -320,12 +320,7 @@ impl Paths {
     }
 
     #[cycle(after)]
-    fn after_all(
-        &self,
-        from: Spots,
-        terms: &[Term],
-        left: &mut usize,
-    ) -> Result<Spots, PathFault>
+    fn after_all(&self, from: Spots, terms: &[Term], left: &mut usize) -> Result<Spots, PathFault>
         ensures { IfOk result (λ v.
             v.items ≡ after_all self.now.branches.keys from.items (trees_of terms.now)) }
     {

@@ -1,4 +1,4 @@
-use Rattle.std.proofs.Common.{map, length, take, arith}
+use Rattle.std.proofs.Common.{map, take, arith}
 use Rattle.std.proofs.lemmas.List.{length-map, length-take}
 use Rattle.circ_due.specs.Chosen.{left_side}
 use Rattle.circ_due.proofs.means.finder_of.Goals as goal
