@@ -1,5 +1,6 @@
 pub mod Putting
 pub mod Going
+pub mod Depth
 pub mod Derives
 pub mod Lifting
 pub mod Led
