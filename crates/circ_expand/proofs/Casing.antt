@@ -1,5 +1,6 @@
 -- The case of an occurrence is what it says, and what stands at its path is an instance of its derivative.
-use Rattle.std.proofs.Common.{◌≡◌, ◌⊎◌, ℕ, ◌+◌, ◌-◌, ◌||◌, length-append, List, [], ◌∷◌, ◌++◌, zero, suc, Bool, true, false, nat_eq, ◌==◌, ◌&&◌, if◌then◌else◌, length, take, Option, Some, None, unwrap_or, refl, ap, sym, ◌∙◌, subst, arith, inl, inr}
+use Rattle.std.proofs.Common.{◌≡◌, ◌⊎◌, ℕ, ◌+◌, ◌-◌, ◌||◌, length-append, List, [], ◌∷◌, ◌++◌, zero, suc, Bool, true, false, nat_eq, ◌==◌, ◌&&◌}
+use Rattle.std.proofs.Common.{if◌then◌else◌, length, take, Option, Some, None, unwrap_or, refl, ap, sym, ◌∙◌, subst, arith, inl, inr}
 use Rattle.std.specs.List.{slice_get, list_any, Contains}
 use Rattle.std.specs.Option.{option_map, option_map_or, option_or}
 use Rattle.std.specs.Cmp.Lexicographic.{pointwise}
@@ -32,7 +33,8 @@ use Rattle.circ_theory.proofs.Weakening.{first_or_rest}
 use Rattle.circ_theory.specs.Variables.{occurrences, all_occurrences}
 use Rattle.circ_soundness.proofs.Changing.{stands_at, Mixed, mixed_sorted, Changes}
 use Rattle.circ_soundness.proofs.Parameters.{plug_hole, plug_parameter, same_body}
-use Rattle.circ_expand.specs.Expand.{next_arg, hole_path, is_special_path, above_hole, Case, Visible_case, Place_case, Hidden_case, No_case, visible_case, hidden_case, guard_case}
+use Rattle.circ_expand.specs.Expand.{next_arg, hole_path, is_special_path, above_hole, Case, Visible_case, Place_case, Hidden_case, No_case, visible_case}
+use Rattle.circ_expand.specs.Expand.{hidden_case, guard_case}
 use Rattle.circ_expand.proofs.Lifting.{hole_there, derived_there, derived_put}
 use Rattle.circ_expand.proofs.Matched.{masked, masked_keeps, masked_sorted, masked_same, matching_sorted}
 
@@ -40,7 +42,8 @@ in_any : {X : Type 0} (f : X → Bool) (xs : List X) → list_any f xs ≡ true 
 in_any f [] e = absurd (cc)
 in_any f (x ∷ xs) e = go (f x) refl (in_any f xs) e
   where
-    go : (b : Bool) → f x ≡ b → (list_any f xs ≡ true → (y : _) × Contains xs y × (f y ≡ true)) → list_any f (x ∷ xs) ≡ true → (y : _) × Contains (x ∷ xs) y × (f y ≡ true)
+    go : (b : Bool) → f x ≡ b → (list_any f xs ≡ true → (y : _) × Contains xs y × (f y ≡ true)) → list_any f (x ∷ xs) ≡ true
+        → (y : _) × Contains (x ∷ xs) y × (f y ≡ true)
     go true h ih g = (x, (zero, omega arith, refl), h)
     go false h ih g = let r = ih (rw h at g) in (r.0, (suc r.1.0, omega (arith, r.1.1), r.1.2), r.2)
 
@@ -49,7 +52,8 @@ special_holds G t [] e = tt
 special_holds G (Var n s) (i ∷ p) e = absurd (cc)
 special_holds G (App f s ts) (i ∷ p) e = go (slice_get (list_of ts) i) refl (λ x. special_holds G x p) both.1
   where
-    both : (list_any (λ (g : Place). (g.op == f) && (g.arg == i)) G ≡ true) × (option_map_or (λ a. is_special_path G a p) (slice_get (list_of ts) i) false ≡ true)
+    both : (list_any (λ (g : Place). (g.op == f) && (g.arg == i)) G ≡ true) ×
+        (option_map_or (λ a. is_special_path G a p) (slice_get (list_of ts) i) false ≡ true)
     both = and_parts (list_any (λ (g : Place). (g.op == f) && (g.arg == i)) G) (option_map_or (λ a. is_special_path G a p) (slice_get (list_of ts) i) false) e
 
     listed : Contains G (place f i)
@@ -60,7 +64,8 @@ special_holds G (App f s ts) (i ∷ p) e = go (slice_get (list_of ts) i) refl (�
         let P : Place → Type 0 = Contains G in
         subst P same r.1
 
-    go : (o : Option Tree) → slice_get (list_of ts) i ≡ o → ((x : Tree) → is_special_path G x p ≡ true → IsSpecial G x p) → option_map_or (λ a. is_special_path G a p) o false ≡ true → IsSpecial G (App f s ts) (i ∷ p)
+    go : (o : Option Tree) → slice_get (list_of ts) i ≡ o → ((x : Tree) → is_special_path G x p ≡ true → IsSpecial G x p)
+        → option_map_or (λ a. is_special_path G a p) o false ≡ true → IsSpecial G (App f s ts) (i ∷ p)
     go None c ih h = absurd (cc)
     go (Some x) c ih h = (listed, x, c, ih x h)
 
@@ -68,7 +73,8 @@ same_path : (p q : List ℕ) → pointwise nat_eq p q ≡ true → p ≡ q
 same_path [] [] e = refl
 same_path [] (j ∷ q) e = absurd (cc)
 same_path (i ∷ p) [] e = absurd (cc)
-same_path (i ∷ p) (j ∷ q) e = let r = and_parts (nat_eq i j) (pointwise nat_eq p q) e in ap (λ k. k ∷ p) (eqb-true i j r.0) ∙ ap (λ x. j ∷ x) (same_path p q r.1)
+same_path (i ∷ p) (j ∷ q) e = let r = and_parts (nat_eq i j) (pointwise nat_eq p q) e in ap (λ k. k ∷ p) (eqb-true i j r.0)
+    ∙ ap (λ x. j ∷ x) (same_path p q r.1)
 
 -- an instance of the derivative with its hole at the path
 pub record Above (d : Derivative) (t : Tree) (p q : List ℕ) : Type 0 where
@@ -83,13 +89,15 @@ above_holds d t p q e = go (pointwise nat_eq (x ++ hole_path d) p) refl (at t x)
     x : List ℕ
     x = take (length p - length (hole_path d)) p
 
-    last : (b : Bool) → pointwise nat_eq (x ++ hole_path d) p ≡ true → (u : Tree) → at t x ≡ Some u → fits 0 d.hole d.body u ≡ b → (if b then Some x else None) ≡ Some q → Above d t p q
+    last : (b : Bool) → pointwise nat_eq (x ++ hole_path d) p ≡ true → (u : Tree) → at t x ≡ Some u → fits 0 d.hole d.body u ≡ b
+        → (if b then Some x else None) ≡ Some q → Above d t p q
     last true h u c k g =
         let P : List ℕ → Type 0 = Above d t p in
         subst P (same_Some x q g) (record { path = same_path (x ++ hole_path d) p h; term = u; there = c; shape = k })
     last false h u c k g = absurd (cc)
 
-    go : (b : Bool) → pointwise nat_eq (x ++ hole_path d) p ≡ b → (o : Option Tree) → at t x ≡ o → (if b && option_map_or (λ u. fits 0 d.hole d.body u) o false then Some x else None) ≡ Some q → Above d t p q
+    go : (b : Bool) → pointwise nat_eq (x ++ hole_path d) p ≡ b → (o : Option Tree) → at t x ≡ o
+        → (if b && option_map_or (λ u. fits 0 d.hole d.body u) o false then Some x else None) ≡ Some q → Above d t p q
     go false h o c g = absurd (cc)
     go true h None c g = absurd (cc)
     go true h (Some u) c g = last (fits 0 d.hole d.body u) h u c refl g
@@ -97,19 +105,22 @@ above_holds d t p q e = go (pointwise nat_eq (x ++ hole_path d) p) refl (at t x)
 -- ---- what stands there, with the parameters that matching gives
 
 -- in the certificate's last term it is the derivative on the variable
-above_instance : (th : Theory) → IsWellFormed th → (d : Derivative) → Contains th.derivatives d → (t : Tree) (p q : List ℕ) → Above d t p q → IsInstanceAt th t 0 d.hole d q (hole_path d)
+above_instance : (th : Theory) → IsWellFormed th → (d : Derivative) → Contains th.derivatives d → (t : Tree) (p q : List ℕ) → Above d t p q
+    → IsInstanceAt th t 0 d.hole d q (hole_path d)
 above_instance th ok d l t p q ab =
     let der = ok.derivatives d l in
     (fits_exactly th d der l 0 d.hole t ab.term q (hole_path d) refl (hole_there th.signature d der) ab.there).to ab.shape
 
 -- so the variable has the hole's sort
-pub above_sort : (th : Theory) → IsWellFormed th → (d : Derivative) → Contains th.derivatives d → (t : Tree) (p q : List ℕ) → Above d t p q → (s : ℕ) → at t p ≡ Some (Var 0 s) → d.hole ≡ s
+pub above_sort : (th : Theory) → IsWellFormed th → (d : Derivative) → Contains th.derivatives d → (t : Tree) (p q : List ℕ) → Above d t p q → (s : ℕ)
+    → at t p ≡ Some (Var 0 s) → d.hole ≡ s
 above_sort th ok d l t p q ab s e =
     let i = above_instance th ok d l t p q ab in
     let x : Tree = derived d (Var 0 d.hole) i.parameters in
     let A : List ℕ → Type 0 = λ y. at t y ≡ Some (Var 0 s) in
     let here : Some (Var 0 d.hole) ≡ Some (Var 0 s) =
-    sym (derived_there th.signature d (ok.derivatives d l) (Var 0 d.hole) i.parameters) ∙ sym (at-append t x q (hole_path d) i.there) ∙ subst A (sym ab.path) e in
+    sym (derived_there th.signature d (ok.derivatives d l) (Var 0 d.hole) i.parameters) ∙ sym (at-append t x q (hole_path d) i.there)
+    ∙ subst A (sym ab.path) e in
     cc
 
 pub record Stood (sig : Signature) (d : Derivative) (a b u v : Tree) (q : List ℕ) (part : Tree) : Type 0 where
@@ -119,7 +130,8 @@ pub record Stood (sig : Signature) (d : Derivative) (a b u v : Tree) (q : List �
   pub made : replaced u q (derived d b (matching d.body part)) ≡ Some v
 
 -- a term that is the derivative on a is the derivative on a with the parameters that matching gives
-matched_parameters : (sig : Signature) (d : Derivative) → IsDerivative sig d → (a : Tree) (ρ : Substitution) → IsSubstitution sig ρ → sort_of a ≡ d.hole → IsWellSorted sig a → (part : Tree) → part ≡ derived d a ρ
+matched_parameters : (sig : Signature) (d : Derivative) → IsDerivative sig d → (a : Tree) (ρ : Substitution) → IsSubstitution sig ρ → sort_of a ≡ d.hole
+    → IsWellSorted sig a → (part : Tree) → part ≡ derived d a ρ
     → part ≡ derived d a (matching d.body part)
 matched_parameters sig d der a ρ i sa wa part e =
     let π : Substitution = plug d.hole a ρ in
@@ -139,7 +151,8 @@ matched_parameters sig d der a ρ i sa wa part e =
     ])
 
 -- they are well-sorted
-matched_sorted : (sig : Signature) (d : Derivative) → IsDerivative sig d → (a : Tree) (ρ : Substitution) → IsSubstitution sig ρ → sort_of a ≡ d.hole → IsWellSorted sig a → (part : Tree) → part ≡ derived d a ρ
+matched_sorted : (sig : Signature) (d : Derivative) → IsDerivative sig d → (a : Tree) (ρ : Substitution) → IsSubstitution sig ρ → sort_of a ≡ d.hole
+    → IsWellSorted sig a → (part : Tree) → part ≡ derived d a ρ
     → IsSubstitution sig (matching d.body part)
 matched_sorted sig d der a ρ i sa wa part e =
     let π : Substitution = plug d.hole a ρ in
@@ -148,8 +161,10 @@ matched_sorted sig d der a ρ i sa wa part e =
     let M : Tree → Type 0 = λ y. IsSubstitution sig (matching d.body y) in
     subst M made (matching_sorted sig (masked sig π) (masked_keeps sig π iπ) (masked_sorted sig π iπ) d.body)
 
-pub stood : (th : Theory) → IsWellFormed th → (d : Derivative) → Contains th.derivatives d → (σ τ : Substitution) → IsSubstitution th.signature σ → IsSubstitution th.signature τ
-    → (t u v : Tree) (p q : List ℕ) → IsWellSorted th.signature t → Changes σ τ 0 d.hole t p u v → Above d t p q → IsWellSorted th.signature u → (part : Tree) × Stood th.signature d (σ 0 d.hole) (τ 0 d.hole) u v q part
+pub stood : (th : Theory) → IsWellFormed th → (d : Derivative) → Contains th.derivatives d → (σ τ : Substitution) → IsSubstitution th.signature σ
+    → IsSubstitution th.signature τ
+    → (t u v : Tree) (p q : List ℕ) → IsWellSorted th.signature t → Changes σ τ 0 d.hole t p u v → Above d t p q → IsWellSorted th.signature u
+    → (part : Tree) × Stood th.signature d (σ 0 d.hole) (τ 0 d.hole) u v q part
 stood th ok d l σ τ iσ iτ t u v p q w c ab wu =
     let sig : Signature = th.signature in
     let der = ok.derivatives d l in
@@ -170,7 +185,8 @@ stood th ok d l σ τ iσ iτ t u v p q w c ab wu =
     let old : at u (q ++ r) ≡ Some (σ 0 d.hole) = subst O (sym ab.path) c.old in
     let hole : ρ 0 d.hole ≡ σ 0 d.hole = same_Some (ρ 0 d.hole) (σ 0 d.hole) (sym here ∙ sym (at-append u f.part q r f.there) ∙ old) in
     let before : f.part ≡ derived d (σ 0 d.hole) ρ =
-    sym by.made ∙ same_body sig d der ρ (plug d.hole (σ 0 d.hole) ρ) (hole ∙ sym (plug_hole d.hole (σ 0 d.hole) ρ)) (λ n j. sym (plug_parameter d.hole (σ 0 d.hole) ρ n j)) in
+    sym by.made ∙ same_body sig d der ρ (plug d.hole (σ 0 d.hole) ρ) (hole
+    ∙ sym (plug_hole d.hole (σ 0 d.hole) ρ)) (λ n j. sym (plug_parameter d.hole (σ 0 d.hole) ρ n j)) in
     let a = iσ 0 d.hole der.hole in
     let μ : Substitution = matching d.body f.part in
     let is : f.part ≡ derived d (σ 0 d.hole) μ = matched_parameters sig d der (σ 0 d.hole) ρ by.sorted a.0 a.1 f.part before in
@@ -194,34 +210,53 @@ IsCase th G t p Place_case = IsSpecial G t p
 IsCase th G t p (Hidden_case k q) = (d : Derivative) × (slice_get th.derivatives k ≡ Some d) × Above d t p q × IsSpecial G t q
 IsCase th G t p No_case = ⊥
 
-visible_holds : (th : Theory) (G : List Place) (t : Tree) (p : List ℕ) (j : ℕ) (ds : List Derivative) → ((i : ℕ) (d : Derivative) → slice_get ds i ≡ Some d → slice_get th.derivatives (j + i) ≡ Some d)
+visible_holds : (th : Theory) (G : List Place) (t : Tree) (p : List ℕ) (j : ℕ) (ds : List Derivative)
+    → ((i : ℕ) (d : Derivative) → slice_get ds i ≡ Some d → slice_get th.derivatives (j + i) ≡ Some d)
     → (c : Case) → visible_case th j ds t p ≡ Some c → IsCase th G t p c
 visible_holds th G t p j [] w c e = absurd (cc)
-visible_holds th G t p j (d ∷ ds) w c e = go (λ g. visible_holds th G t p (j + 1) ds (λ i b h. (let z : j + 1 + i ≡ j + suc i = omega arith in ap (slice_get th.derivatives) z) ∙ w (suc i) b h) c g) (is_hidden th (sort_of d.body)) refl (above_hole d t p) refl e
+visible_holds th G t p j (d ∷ ds) w c e = go (λ g. visible_holds th G t p (j + 1) ds
+    (λ i b h. (let z : j + 1 + i ≡ j + suc i = omega arith in ap (slice_get th.derivatives) z) ∙ w (suc i) b h) c g) (is_hidden th (sort_of d.body)) refl
+    (above_hole d t p) refl e
   where
-    go : (visible_case th (j + 1) ds t p ≡ Some c → IsCase th G t p c) → (h : Bool) → is_hidden th (sort_of d.body) ≡ h → (o : Option (List ℕ)) → above_hole d t p ≡ o
+    go : (visible_case th (j + 1) ds t p ≡ Some c → IsCase th G t p c) → (h : Bool) → is_hidden th (sort_of d.body) ≡ h → (o : Option (List ℕ))
+        → above_hole d t p ≡ o
         → option_or (if h then None else option_map (Visible_case j) o) (visible_case th (j + 1) ds t p) ≡ Some c → IsCase th G t p c
     go ih true eh o eo g = ih g
     go ih false eh None eo g = ih g
     go ih false eh (Some q) eo g =
         let P : Case → Type 0 = IsCase th G t p in
-        subst P (same_Some (Visible_case j q) c g) (d, (let z : j ≡ j + 0 = omega arith in ap (slice_get th.derivatives) z) ∙ w 0 d refl, eh, above_holds d t p q eo)
+        subst P (same_Some (Visible_case j q) c g) (
+          d,
+          (let z : j ≡ j + 0 = omega arith in ap (slice_get th.derivatives) z)
+              ∙ w 0 d refl,
+          eh,
+          above_holds d t p q eo,
+        )
 
-hidden_holds : (th : Theory) (G : List Place) (t : Tree) (p : List ℕ) (j : ℕ) (ds : List Derivative) → ((i : ℕ) (d : Derivative) → slice_get ds i ≡ Some d → slice_get th.derivatives (j + i) ≡ Some d)
+hidden_holds : (th : Theory) (G : List Place) (t : Tree) (p : List ℕ) (j : ℕ) (ds : List Derivative)
+    → ((i : ℕ) (d : Derivative) → slice_get ds i ≡ Some d → slice_get th.derivatives (j + i) ≡ Some d)
     → (c : Case) → hidden_case th G j ds t p ≡ Some c → IsCase th G t p c
 hidden_holds th G t p j [] w c e = absurd (cc)
 hidden_holds th G t p j (d ∷ ds) w c e =
-    go (λ g. hidden_holds th G t p (j + 1) ds (λ i b h. (let z : j + 1 + i ≡ j + suc i = omega arith in ap (slice_get th.derivatives) z) ∙ w (suc i) b h) c g) (is_hidden th (sort_of d.body)) (above_hole d t p) refl e
+    go (λ g. hidden_holds th G t p (j + 1) ds (λ i b h. (let z : j + 1 + i ≡ j + suc i = omega arith in ap (slice_get th.derivatives) z)
+    ∙ w (suc i) b h) c g) (is_hidden th (sort_of d.body)) (above_hole d t p) refl e
   where
     found : (hidden_case th G (j + 1) ds t p ≡ Some c → IsCase th G t p c) → (q : List ℕ) → above_hole d t p ≡ Some q → (b : Bool) → is_special_path G t q ≡ b
         → option_or (if b then Some (Hidden_case j q) else None) (hidden_case th G (j + 1) ds t p) ≡ Some c → IsCase th G t p c
     found ih q eo false eb g = ih g
     found ih q eo true eb g =
         let P : Case → Type 0 = IsCase th G t p in
-        subst P (same_Some (Hidden_case j q) c g) (d, (let z : j ≡ j + 0 = omega arith in ap (slice_get th.derivatives) z) ∙ w 0 d refl, above_holds d t p q eo, special_holds G t q eb)
+        subst P (same_Some (Hidden_case j q) c g) (
+          d,
+          (let z : j ≡ j + 0 = omega arith in ap (slice_get th.derivatives) z)
+              ∙ w 0 d refl,
+          above_holds d t p q eo,
+          special_holds G t q eb,
+        )
 
     go : (hidden_case th G (j + 1) ds t p ≡ Some c → IsCase th G t p c) → (h : Bool) → (o : Option (List ℕ)) → above_hole d t p ≡ o
-        → option_or (if h then option_map_or (λ q. if is_special_path G t q then Some (Hidden_case j q) else None) o None else None) (hidden_case th G (j + 1) ds t p) ≡ Some c → IsCase th G t p c
+        → option_or (if h then option_map_or (λ q. if is_special_path G t q then Some (Hidden_case j q) else None) o None else None)
+        (hidden_case th G (j + 1) ds t p) ≡ Some c → IsCase th G t p c
     go ih false o eo g = ih g
     go ih true None eo g = ih g
     go ih true (Some q) eo g = found ih q eo (is_special_path G t q) refl g
@@ -293,7 +328,8 @@ mutual
   one_path_in n s (more t ts) (suc i) (suc j) p q d e h =
       ap next_arg (one_path_in n s ts i j p q (parts_apart (occurrences t) (all_occurrences ts) d).second e h)
 
-above_found : (th : Theory) → IsWellFormed th → (t : Tree) (s : ℕ) (d : Derivative) (q r p : List ℕ) → p ≡ q ++ r → IsInstanceAt th t 0 s d q r → above_hole d t p ≡ Some q
+above_found : (th : Theory) → IsWellFormed th → (t : Tree) (s : ℕ) (d : Derivative) (q r p : List ℕ) → p ≡ q ++ r → IsInstanceAt th t 0 s d q r
+    → above_hole d t p ≡ Some q
 above_found th ok t s d q r p e i =
     let der = ok.derivatives d i.listed in
     let hp : List ℕ = hole_path d in
@@ -303,18 +339,21 @@ above_found th ok t s d q r p e i =
     let shape : fits 0 d.hole d.body part ≡ true = (fits_exactly th d der i.listed 0 d.hole t part q r refl i.hole i.there).from (subst I (sym i.sort) i) in
     let A : List ℕ → Type 0 = λ x. above_hole d t x ≡ Some q in
     let front = front_of q hp in
-    let there : option_map_or (λ u. fits 0 d.hole d.body u) (at t q) false ≡ true = ap (λ o. option_map_or (λ u. fits 0 d.hole d.body u) o false) i.there ∙ shape in
+    let there : option_map_or (λ u. fits 0 d.hole d.body u) (at t q) false ≡ true =
+    ap (λ o. option_map_or (λ u. fits 0 d.hole d.body u) o false) i.there ∙ shape in
     let B : List ℕ → Type 0 =
     λ x. (if pointwise nat_eq (x ++ hp) (q ++ hp) && option_map_or (λ u. fits 0 d.hole d.body u) (at t x) false then Some x else None) ≡ Some q in
     let whole = path_itself (q ++ hp) in
     let found : A (q ++ hp) = subst B (sym front) (rw (whole, there) refl) in
     subst A (sym (e ∙ ap (λ x. q ++ x) same)) found
 
-visible_found : (th : Theory) (t : Tree) (p q : List ℕ) (d : Derivative) → is_hidden th (sort_of d.body) ≡ false → above_hole d t p ≡ Some q → (j : ℕ) (ds : List Derivative) → Contains ds d
+visible_found : (th : Theory) (t : Tree) (p q : List ℕ) (d : Derivative) → is_hidden th (sort_of d.body) ≡ false → above_hole d t p ≡ Some q
+    → (j : ℕ) (ds : List Derivative) → Contains ds d
     → visible_case th j ds t p ≡ None → ⊥
 visible_found th t p q d hid ab j [] c e = nothing d c
 visible_found th t p q d hid ab j (x ∷ ds) c e =
-    let o = none_of_either (if is_hidden th (sort_of x.body) then None else option_map (Visible_case j) (above_hole x t p)) (visible_case th (j + 1) ds t p) e in
+    let o = none_of_either (if is_hidden th (sort_of x.body) then None else option_map (Visible_case j) (above_hole x t p))
+    (visible_case th (j + 1) ds t p) e in
     go (first_or_rest x d ds c) o.0 (λ k. visible_found th t p q d hid ab (j + 1) ds k o.1)
   where
     here : Derivative → Type 0
@@ -324,7 +363,8 @@ visible_found th t p q d hid ab j (x ∷ ds) c e =
     go (inl w) n ih = absurd (let z : here d = subst here w n in let y = rw (hid, ab) at z in cc)
     go (inr k) n ih = ih k
 
-hidden_found : (th : Theory) (G : List Place) (t : Tree) (p q : List ℕ) (d : Derivative) → is_hidden th (sort_of d.body) ≡ true → above_hole d t p ≡ Some q → is_special_path G t q ≡ true
+hidden_found : (th : Theory) (G : List Place) (t : Tree) (p q : List ℕ) (d : Derivative) → is_hidden th (sort_of d.body) ≡ true → above_hole d t p ≡ Some q
+    → is_special_path G t q ≡ true
     → (j : ℕ) (ds : List Derivative) → Contains ds d → hidden_case th G j ds t p ≡ None → ⊥
 hidden_found th G t p q d hid ab sp j [] c e = nothing d c
 hidden_found th G t p q d hid ab sp j (x ∷ ds) c e =
@@ -332,7 +372,8 @@ hidden_found th G t p q d hid ab sp j (x ∷ ds) c e =
     go (first_or_rest x d ds c) o.0 (λ k. hidden_found th G t p q d hid ab sp (j + 1) ds k o.1)
   where
     first : Derivative → Option Case
-    first y = if is_hidden th (sort_of y.body) then option_map_or (λ z. if is_special_path G t z then Some (Hidden_case j z) else None) (above_hole y t p) None else None
+    first y = if is_hidden th (sort_of y.body) then option_map_or (λ z. if is_special_path G t z then Some (Hidden_case j z) else None)
+        (above_hole y t p) None else None
 
     here : Derivative → Type 0
     here y = first y ≡ None
@@ -342,13 +383,15 @@ hidden_found th G t p q d hid ab sp j (x ∷ ds) c e =
     go (inr k) n ih = ih k
 
 -- so the case of an occurrence that is guarded is one of the three
-pub case_holds : (th : Theory) → IsWellFormed th → (G : List Place) (t : Tree) (s : ℕ) (p : List ℕ) → IsGuardedAt th G t 0 s p → IsCase th G t p (guard_case th G t p)
+pub case_holds : (th : Theory) → IsWellFormed th → (G : List Place) (t : Tree) (s : ℕ) (p : List ℕ) → IsGuardedAt th G t 0 s p
+    → IsCase th G t p (guard_case th G t p)
 case_holds th ok G t s p gd = go (visible_case th 0 th.derivatives t p) refl (is_special_path G t p) refl (hidden_case th G 0 th.derivatives t p) refl
   where
     start : (i : ℕ) (d : Derivative) → slice_get th.derivatives i ≡ Some d → slice_get th.derivatives (0 + i) ≡ Some d
     start i d e = (let z : 0 + i ≡ i = omega arith in ap (slice_get th.derivatives) z) ∙ e
 
-    no_case : IsGuardedAt th G t 0 s p → visible_case th 0 th.derivatives t p ≡ None → is_special_path G t p ≡ false → hidden_case th G 0 th.derivatives t p ≡ None → ⊥
+    no_case : IsGuardedAt th G t 0 s p → visible_case th 0 th.derivatives t p ≡ None → is_special_path G t p ≡ false
+        → hidden_case th G 0 th.derivatives t p ≡ None → ⊥
     no_case (by_visible d q r e i v) ev eb eh =
         seen (is_hidden th (sort_of d.body)) refl
       where
@@ -363,7 +406,8 @@ case_holds th ok G t s p gd = go (visible_case th 0 th.derivatives t p) refl (is
         seen true h = hidden_found th G t p q d h (above_found th ok t s d q r p e i) (special_told G t q sp) 0 th.derivatives i.listed eh
         seen false h = absurd (let z = (hidden_tells th (sort_of d.body)).1 v in cc)
 
-    go : (v : Option Case) → visible_case th 0 th.derivatives t p ≡ v → (b : Bool) → is_special_path G t p ≡ b → (h : Option Case) → hidden_case th G 0 th.derivatives t p ≡ h
+    go : (v : Option Case) → visible_case th 0 th.derivatives t p ≡ v → (b : Bool) → is_special_path G t p ≡ b → (h : Option Case)
+        → hidden_case th G 0 th.derivatives t p ≡ h
         → IsCase th G t p (unwrap_or (option_or v (option_or (if b then Some Place_case else None) h)) No_case)
     go (Some c) ev b eb h eh = visible_holds th G t p 0 th.derivatives start c ev
     go None ev true eb h eh = special_holds G t p eb

@@ -23,7 +23,8 @@ use Rattle.circ_proof.specs.Link.{setting}
 use Rattle.circ_proof.proofs.Cases.{case_sorted}
 use Rattle.circ_proof.proofs.Leading.{IsSortedSetting, link_follows}
 use Rattle.circ_proof.proofs.Members.{nothing, pick}
-use Rattle.circ_expand.specs.Pieces.{Piece, Pieces, Parts, Equation_piece, Content_piece, Assumption_piece, Cases_piece, no_piece, more_pieces, no_part, more_parts, pieces_joined, other_way, turned_piece, turned, turned_parts, PieceLeads, PiecesLead, PartsLead}
+use Rattle.circ_expand.specs.Pieces.{Piece, Pieces, Parts, Equation_piece, Content_piece, Assumption_piece, Cases_piece, no_piece, more_pieces, no_part}
+use Rattle.circ_expand.specs.Pieces.{more_parts, pieces_joined, other_way, turned_piece, turned, turned_parts, PieceLeads, PiecesLead, PartsLead}
 use Rattle.circ_expand.proofs.Putting.{replaced_back}
 
 -- ---- derivable
@@ -39,7 +40,8 @@ last_to_first {X = X} (x ∷ A) p q c =
     pick P x q (A ++ p ∷ []) (in_rest p x (x ∷ A) (contains_first x A))
     (λ d. pick P p q A (contains_first p (x ∷ A)) (λ e. in_rest p q (x ∷ A) (in_rest x q A e)) (last_to_first A p q d)) c
 
-pub more_sorted : (th : Theory) (A : List Pair) (p : Pair) → AreWellSortedPairs th.signature A → IsWellSortedPair th.signature p → AreWellSortedPairs th.signature (A ++ p ∷ [])
+pub more_sorted : (th : Theory) (A : List Pair) (p : Pair) → AreWellSortedPairs th.signature A → IsWellSortedPair th.signature p
+    → AreWellSortedPairs th.signature (A ++ p ∷ [])
 more_sorted th A p a w q c = pick (IsWellSortedPair th.signature) p q A w (λ d. a q d) (last_to_first A p q c)
 
 some_constant : (ks : List ℕ) → (ks ≡ [] → ⊥) → (k : ℕ) × Contains ks k
@@ -50,7 +52,8 @@ bare : (th : Theory) → IsWellFormed th → (A : List Pair) → AreWellSortedPa
 bare th ok A sa = record { well_formed = ok; hypotheses = λ g c. nothing g c; assumptions = sa }
 
 mutual
-  pub piece_follows : (th : Theory) → IsWellFormed th → (A : List Pair) → AreWellSortedPairs th.signature A → (x : Piece) (a b : Tree) → IsWellSorted th.signature a → PieceLeads th A x a b → KeepsDerivable th A a b
+  pub piece_follows : (th : Theory) → IsWellFormed th → (A : List Pair) → AreWellSortedPairs th.signature A → (x : Piece) (a b : Tree)
+      → IsWellSorted th.signature a → PieceLeads th A x a b → KeepsDerivable th A a b
   piece_follows th ok A sa (Equation_piece number way path terms) a b wa r =
       link_follows (setting th [] [] A) (bare th ok A sa) (Equation_link number way path terms no_chain) (r.0, tt) tt a b wa r.1
   piece_follows th ok A sa (Content_piece op path old new by) a b wa r =
@@ -75,7 +78,8 @@ mutual
         same_sort = one.same_sort;
       }
 
-  pub pieces_follow : (th : Theory) → IsWellFormed th → (A : List Pair) → AreWellSortedPairs th.signature A → (xs : Pieces) (a b : Tree) → IsWellSorted th.signature a → PiecesLead th A xs a b → KeepsDerivable th A a b
+  pub pieces_follow : (th : Theory) → IsWellFormed th → (A : List Pair) → AreWellSortedPairs th.signature A → (xs : Pieces) (a b : Tree)
+      → IsWellSorted th.signature a → PiecesLead th A xs a b → KeepsDerivable th A a b
   pieces_follow th ok A sa no_piece a b wa r =
       let P : Tree → Type 0 = KeepsDerivable th A a in
       subst P r (record { derivable = by_same a wa; well_sorted = wa; same_sort = refl })
@@ -84,8 +88,10 @@ mutual
       let q = pieces_follow th ok A sa xs r.0 b k.well_sorted r.2 in
       record { derivable = by_chain r.0 k.derivable q.derivable; well_sorted = q.well_sorted; same_sort = q.same_sort ∙ k.same_sort }
 
-  parts_follow : (th : Theory) → IsWellFormed th → (A : List Pair) → AreWellSortedPairs th.signature A → (u : Tree) (l : CaseList) → Contains th.cases l → IsWellSorted th.signature u → sort_of u ≡ l.sort
-      → (ks : List ℕ) → ((k : ℕ) → Contains ks k → Contains l.constants k) → (ps : Parts) (a b : Tree) → IsWellSorted th.signature a → PartsLead th A u l ks ps a b
+  parts_follow : (th : Theory) → IsWellFormed th → (A : List Pair) → AreWellSortedPairs th.signature A → (u : Tree) (l : CaseList) → Contains th.cases l
+      → IsWellSorted th.signature u → sort_of u ≡ l.sort
+      → (ks : List ℕ) → ((k : ℕ) → Contains ks k → Contains l.constants k) → (ps : Parts) (a b : Tree) → IsWellSorted th.signature a
+      → PartsLead th A u l ks ps a b
       → (k : ℕ) → Contains ks k → KeepsDerivable th (A ++ is_case u l k ∷ []) a b
   parts_follow th ok A sa u l cl wu su [] h no_part a b wa r k c = nothing k c
   parts_follow th ok A sa u l cl wu su [] h (more_parts p ps) a b wa r k c = absurd r
@@ -93,12 +99,14 @@ mutual
   parts_follow th ok A sa u l cl wu su (j ∷ ks) h (more_parts p ps) a b wa r k c =
       let P : ℕ → Type 0 = λ x. KeepsDerivable th (A ++ is_case u l x ∷ []) a b in
       pick P j k ks
-      (pieces_follow th ok (A ++ is_case u l j ∷ []) (more_sorted th A (is_case u l j) sa (case_sorted th ok u l j cl (h j (contains_first j ks)) wu su)) p a b wa r.0)
+      (pieces_follow th ok (A ++ is_case u l j ∷ []) (more_sorted th A (is_case u l j) sa
+      (case_sorted th ok u l j cl (h j (contains_first j ks)) wu su)) p a b wa r.0)
       (λ d. parts_follow th ok A sa u l cl wu su ks (λ y e. h y (in_rest j y ks e)) ps a b wa r.1 k d) c
 
 -- ---- joined and turned
 
-pub joined_lead : (th : Theory) (A : List Pair) (xs ys : Pieces) (a b c : Tree) → PiecesLead th A xs a b → PiecesLead th A ys b c → PiecesLead th A (pieces_joined xs ys) a c
+pub joined_lead : (th : Theory) (A : List Pair) (xs ys : Pieces) (a b c : Tree) → PiecesLead th A xs a b → PiecesLead th A ys b c
+    → PiecesLead th A (pieces_joined xs ys) a c
 joined_lead th A no_piece ys a b c r s = let P : Tree → Type 0 = λ x. PiecesLead th A ys x c in subst P (sym r) s
 joined_lead th A (more_pieces x xs) ys a b c r s = (r.0, r.1, joined_lead th A xs ys r.0 b c r.2 s)
 
@@ -121,17 +129,20 @@ mutual
   piece_within th ok A (Assumption_piece number way path) a b r w = r.replaces.within
   piece_within th ok A (Cases_piece u parts) a b r w = parts_within th ok A u r.0 r.0.constants (ok.cases r.0 r.1).some parts a b r.4 w
 
-  pub pieces_within : (th : Theory) → IsWellFormed th → (A : List Pair) (xs : Pieces) (a b : Tree) → PiecesLead th A xs a b → IsWithinLimits a → IsWithinLimits b
+  pub pieces_within : (th : Theory) → IsWellFormed th → (A : List Pair) (xs : Pieces) (a b : Tree) → PiecesLead th A xs a b → IsWithinLimits a
+      → IsWithinLimits b
   pieces_within th ok A no_piece a b r w = subst IsWithinLimits r w
   pieces_within th ok A (more_pieces x xs) a b r w = pieces_within th ok A xs r.0 b r.2 (piece_within th ok A x a r.0 r.1 w)
 
-  parts_within : (th : Theory) → IsWellFormed th → (A : List Pair) (u : Tree) (l : CaseList) (ks : List ℕ) → (ks ≡ [] → ⊥) → (ps : Parts) (a b : Tree) → PartsLead th A u l ks ps a b → IsWithinLimits a → IsWithinLimits b
+  parts_within : (th : Theory) → IsWellFormed th → (A : List Pair) (u : Tree) (l : CaseList) (ks : List ℕ) → (ks ≡ [] → ⊥) → (ps : Parts) (a b : Tree)
+      → PartsLead th A u l ks ps a b → IsWithinLimits a → IsWithinLimits b
   parts_within th ok A u l [] h ps a b r w = absurd (h refl)
   parts_within th ok A u l (k ∷ ks) h no_part a b r w = absurd r
   parts_within th ok A u l (k ∷ ks) h (more_parts p ps) a b r w = pieces_within th ok (A ++ is_case u l k ∷ []) p a b r.0 w
 
 mutual
-  pub piece_turned : (th : Theory) → IsWellFormed th → (A : List Pair) (x : Piece) (a b : Tree) → PieceLeads th A x a b → IsWithinLimits a → PieceLeads th A (turned_piece x) b a
+  pub piece_turned : (th : Theory) → IsWellFormed th → (A : List Pair) (x : Piece) (a b : Tree) → PieceLeads th A x a b → IsWithinLimits a
+      → PieceLeads th A (turned_piece x) b a
   piece_turned th ok A (Equation_piece number way path terms) a b r w =
       let lead = r.1.0 in
       let p : Pair = sides (goal_of lead.equation) in
@@ -151,23 +162,35 @@ mutual
         ),
       )
   piece_turned th ok A (Content_piece op path old new by) a b r w = record {
-    content = record { operator = r.content.operator; there = r.content.there; same_sort = sym r.content.same_sort; same_content = sym r.content.same_content };
+    content = record {
+      operator = r.content.operator;
+      there = r.content.there;
+      same_sort = sym r.content.same_sort;
+      same_content = sym r.content.same_content;
+    };
     old_sorted = r.new_sorted;
     new_sorted = r.old_sorted;
     by_sorted = r.by_sorted;
     replaces = replaces_back a path (instance (substitution_of by) old) (instance (substitution_of by) new) b w r.replaces;
   }
   piece_turned th ok A (Assumption_piece number way path) a b r w =
-      record { assumed = r.assumed; listed = r.listed; replaces = rw (from_other way r.assumed, to_other way r.assumed) (replaces_back a path (from_side way r.assumed) (to_side way r.assumed) b w r.replaces) }
+      record {
+        assumed = r.assumed;
+        listed = r.listed;
+        replaces = rw (from_other way r.assumed, to_other way r.assumed)
+            (replaces_back a path (from_side way r.assumed) (to_side way r.assumed) b w r.replaces);
+      }
   piece_turned th ok A (Cases_piece u parts) a b r w = (r.0, r.1, r.2, r.3, parts_turned th ok A u r.0 r.0.constants parts a b r.4 w)
 
-  pub pieces_turned : (th : Theory) → IsWellFormed th → (A : List Pair) (xs : Pieces) (a b : Tree) → PiecesLead th A xs a b → IsWithinLimits a → PiecesLead th A (turned xs) b a
+  pub pieces_turned : (th : Theory) → IsWellFormed th → (A : List Pair) (xs : Pieces) (a b : Tree) → PiecesLead th A xs a b → IsWithinLimits a
+      → PiecesLead th A (turned xs) b a
   pieces_turned th ok A no_piece a b r w = sym r
   pieces_turned th ok A (more_pieces x xs) a b r w =
       joined_lead th A (turned xs) (more_pieces (turned_piece x) no_piece) b r.0 a
       (pieces_turned th ok A xs r.0 b r.2 (piece_within th ok A x a r.0 r.1 w)) (a, piece_turned th ok A x a r.0 r.1 w, refl)
 
-  parts_turned : (th : Theory) → IsWellFormed th → (A : List Pair) (u : Tree) (l : CaseList) (ks : List ℕ) (ps : Parts) (a b : Tree) → PartsLead th A u l ks ps a b → IsWithinLimits a → PartsLead th A u l ks (turned_parts ps) b a
+  parts_turned : (th : Theory) → IsWellFormed th → (A : List Pair) (u : Tree) (l : CaseList) (ks : List ℕ) (ps : Parts) (a b : Tree)
+      → PartsLead th A u l ks ps a b → IsWithinLimits a → PartsLead th A u l ks (turned_parts ps) b a
   parts_turned th ok A u l [] no_part a b r w = tt
   parts_turned th ok A u l [] (more_parts p ps) a b r w = absurd r
   parts_turned th ok A u l (k ∷ ks) no_part a b r w = absurd r

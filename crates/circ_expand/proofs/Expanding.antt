@@ -1,5 +1,6 @@
 -- What `expansion` gives for an accepted proof leads from the one side to the other in the experiment (`expansion-answer`).
-use Rattle.std.proofs.Common.{◌≡◌, ◌⊎◌, ℕ, ◌+◌, List, [], ◌∷◌, ◌++◌, zero, suc, Bool, true, false, ◌==◌, ◌&&◌, if◌then◌else◌, map, Option, Some, unwrap_or, refl, ap, sym, ◌∙◌, subst, arith, inl, inr}
+use Rattle.std.proofs.Common.{◌≡◌, ◌⊎◌, ℕ, ◌+◌, List, [], ◌∷◌, ◌++◌, zero, suc, Bool, true, false, ◌==◌, ◌&&◌, if◌then◌else◌, map, Option, Some, unwrap_or}
+use Rattle.std.proofs.Common.{refl, ap, sym, ◌∙◌, subst, arith, inl, inr}
 use Rattle.std.specs.List.{slice_get, filter, AllByRecursion, Contains}
 use Rattle.std.specs.Option.{option_map_or}
 use Rattle.std.proofs.lemmas.Bool.{eqb-true, eq-eqb, and_parts}
@@ -32,7 +33,8 @@ use Rattle.circ_entry.proofs.Written.{derivative_is, written_fits}
 use Rattle.circ_expand.specs.Answers.{all_goals, LeadsOnGoal}
 use Rattle.circ_expand.specs.Followed.{Histories, no_history, more_histories, goal_in, list_in, Followed, followed_in, told_in, hypotheses_of, goals_of, Told}
 use Rattle.circ_expand.specs.Pieces.{Pieces, PiecesLead}
-use Rattle.circ_expand.specs.Expand.{Spending, Yields, Stopped, counted, tested, Background, followed_goals, uses, followed_at, first_links, later_links, links_for, links_after, result_sort, certificate_of, background_of, expansion}
+use Rattle.circ_expand.specs.Expand.{Spending, Yields, Stopped, counted, tested, Background, followed_goals, uses, followed_at, first_links, later_links}
+use Rattle.circ_expand.specs.Expand.{links_for, links_after, result_sort, certificate_of, background_of, expansion}
 use Rattle.circ_expand.proofs.Going.{Goes, goes_so, goes_counted, goes_tested}
 use Rattle.circ_expand.proofs.Plainness.{AreBare, AreBareGoals, steps_bare, certificates_bare}
 use Rattle.circ_expand.proofs.Lifting.{AreNumbered}
@@ -45,7 +47,8 @@ use Rattle.circ_expand.proofs.Using.{whole_call, expanded_leads, expanded_deriva
 abbrev pub IsGoodIn : Theory → Proof → List (List Followed) → Followed → Type 0
 IsGoodIn th p all x = IsHistory (setting th p.places (followed_goals (unwrap_or (slice_get all x.block) [])) []) x.history
 
-in_followed : (th : Theory) (p : Proof) (all : List (List Followed)) (n : ℕ) (F : List Goal) → followed_goals (unwrap_or (slice_get all n) []) ≡ F → (hs : Histories) → AreHistories (setting th p.places F []) hs
+in_followed : (th : Theory) (p : Proof) (all : List (List Followed)) (n : ℕ) (F : List Goal) → followed_goals (unwrap_or (slice_get all n) []) ≡ F
+    → (hs : Histories) → AreHistories (setting th p.places F []) hs
     → (x : Followed) → Contains (followed_in n hs) x → IsGoodIn th p all x
 in_followed th p all n F e no_history a x c = nothing x c
 in_followed th p all n F e (more_histories h hs) a x c =
@@ -61,7 +64,8 @@ goals_append [] ys = refl
 goals_append (x ∷ xs) ys = ap (λ ps. goal_in x.history ∷ ps) (goals_append xs ys)
 
 -- the goals of a plain block have no conditions
-block_bare : (table : List Tree) (gs : List Goal) (ns : List GoalNames) → gs ≡ map (goal_at table) ns → AllByRecursion (λ (n : GoalNames). n.conds ≡ []) ns → AreBareGoals gs
+block_bare : (table : List Tree) (gs : List Goal) (ns : List GoalNames) → gs ≡ map (goal_at table) ns → AllByRecursion (λ (n : GoalNames). n.conds ≡ []) ns
+    → AreBareGoals gs
 block_bare table gs ns e a = subst AreBareGoals (sym e) (named_bare ns a)
   where
     named_bare : (ns : List GoalNames) → AllByRecursion (λ (n : GoalNames). n.conds ≡ []) ns → AreBareGoals (map (goal_at table) ns)
@@ -73,9 +77,12 @@ record BlocksHold (th : Theory) (p : Proof) (all hyps : List (List Followed)) (g
   hypotheses : (k : ℕ) (x : Followed) → Contains (unwrap_or (slice_get hyps k) []) x → IsGoodIn th p all x
   goals : (x : Followed) → Contains gs x → IsGoodIn th p all x
 
-blocks_hold : (th : Theory) → IsWellFormed th → (p : Proof) → AllByRecursion (IsWellSorted th.signature) p.table → (all : List (List Followed)) (n : ℕ) (H : List Goal) (fs : List Followed) (bs : List Block)
-    → AllByRecursion (IsBlockFor th p.table) bs → AllByRecursion IsPlainBlock bs → (dss : List (List Goal)) → BlocksDerive th p H bs dss → AreSortedGoals th H → followed_goals fs ≡ H
-    → ((k : ℕ) → slice_get all (n + k) ≡ slice_get (hypotheses_of th p n H fs bs) k) → ((x : Followed) → Contains fs x → IsGoodIn th p all x) → BlocksHold th p all (hypotheses_of th p n H fs bs) (goals_of th p n H bs) bs
+blocks_hold : (th : Theory) → IsWellFormed th → (p : Proof) → AllByRecursion (IsWellSorted th.signature) p.table
+    → (all : List (List Followed)) (n : ℕ) (H : List Goal) (fs : List Followed) (bs : List Block)
+    → AllByRecursion (IsBlockFor th p.table) bs → AllByRecursion IsPlainBlock bs → (dss : List (List Goal)) → BlocksDerive th p H bs dss
+    → AreSortedGoals th H → followed_goals fs ≡ H
+    → ((k : ℕ) → slice_get all (n + k) ≡ slice_get (hypotheses_of th p n H fs bs) k) → ((x : Followed) → Contains fs x → IsGoodIn th p all x)
+    → BlocksHold th p all (hypotheses_of th p n H fs bs) (goals_of th p n H bs) bs
 blocks_hold th ok p ts all n H fs [] f pb [] r sh e at good = record { are = refl; hypotheses = λ k x c. nothing x c; goals = λ x c. nothing x c }
 blocks_hold th ok p ts all n H fs [] f pb (ds ∷ dss) r sh e at good = absurd r
 blocks_hold th ok p ts all n H fs (b ∷ bs) f pb [] r sh e at good = absurd r
@@ -83,32 +90,44 @@ blocks_hold th ok p ts all n H fs (b ∷ bs) f pb (ds ∷ dss) r sh e at good =
     let F : List Goal = H ++ ds in
     let t : Told = told_in th p H b in
     let sg : AreSortedGoals th b.goals = block_sorted th p.table ts b f.0 in
-    let i : IsTold th p.places H b.goals F t = told_holds th ok p.places H b.goals F sh sg (block_bare p.table b.goals b.names f.0.goals pb.0.names) (steps_of p.table b)
+    let i : IsTold th p.places H b.goals F t =
+    told_holds th ok p.places H b.goals F sh sg (block_bare p.table b.goals b.names f.0.goals pb.0.names) (steps_of p.table b)
     (steps_sorted_terms th.signature p.table ts b.steps f.0.steps) (steps_bare (named p.table) b.steps pb.0.steps) r.0 in
     let mine : List Followed = fs ++ followed_in n t.derived in
     let here : slice_get all n ≡ Some mine = (let z : n ≡ n + 0 = omega arith in ap (slice_get all) z) ∙ at 0 in
-    let mine_is : followed_goals mine ≡ F = goals_append fs (followed_in n t.derived) ∙ ap (λ ps. ps ++ followed_goals (followed_in n t.derived)) e ∙ ap (λ ps. H ++ ps) (goals_followed n t.derived) ∙ i.whole in
+    let mine_is : followed_goals mine ≡ F =
+    goals_append fs (followed_in n t.derived) ∙ ap (λ ps. ps ++ followed_goals (followed_in n t.derived)) e ∙ ap (λ ps. H ++ ps) (goals_followed n t.derived)
+    ∙ i.whole in
     let is : followed_goals (unwrap_or (slice_get all n) []) ≡ F = ap (λ o. followed_goals (unwrap_or o [])) here ∙ mine_is in
     let own : (x : Followed) → Contains (followed_in n t.derived) x → IsGoodIn th p all x = λ x c. in_followed th p all n F is t.derived i.derived_hold x c in
     let ours : (x : Followed) → Contains (followed_in n t.goals) x → IsGoodIn th p all x = λ x c. in_followed th p all n F is t.goals i.goals_hold x c in
     let later : List Followed = fs ++ followed_in n t.goals in
-    let later_is : followed_goals later ≡ H ++ b.goals = goals_append fs (followed_in n t.goals) ∙ ap (λ ps. ps ++ followed_goals (followed_in n t.goals)) e ∙ ap (λ ps. H ++ ps) (goals_followed n t.goals ∙ i.goals_are) in
+    let later_is : followed_goals later ≡ H ++ b.goals =
+    goals_append fs (followed_in n t.goals) ∙ ap (λ ps. ps ++ followed_goals (followed_in n t.goals)) e
+    ∙ ap (λ ps. H ++ ps) (goals_followed n t.goals ∙ i.goals_are) in
     let rest = blocks_hold th ok p ts all (n + 1) (H ++ b.goals) later bs f.1 pb.1 dss r.1 (sorted_append th H b.goals sh sg) later_is
-    (λ k. (let z : n + 1 + k ≡ n + suc k = omega arith in ap (slice_get all) z) ∙ at (suc k)) (λ x c. both x fs (followed_in n t.goals) good ours (Contains-append_cases fs (followed_in n t.goals) x c)) in
+    (λ k. (let z : n + 1 + k ≡ n + suc k = omega arith in ap (slice_get all) z)
+    ∙ at (suc k)) (λ x c. both x fs (followed_in n t.goals) good ours (Contains-append_cases fs (followed_in n t.goals) x c)) in
     record {
-      are = goals_append (followed_in n t.goals) (goals_of th p (n + 1) (H ++ b.goals) bs) ∙ ap (λ ps. ps ++ followed_goals (goals_of th p (n + 1) (H ++ b.goals) bs)) (goals_followed n t.goals ∙ i.goals_are) ∙ ap (λ ps. b.goals ++ ps) rest.are;
+      are = goals_append (followed_in n t.goals) (goals_of th p (n + 1) (H ++ b.goals) bs)
+          ∙ ap (λ ps. ps ++ followed_goals (goals_of th p (n + 1) (H ++ b.goals) bs)) (goals_followed n t.goals ∙ i.goals_are)
+          ∙ ap (λ ps. b.goals ++ ps) rest.are;
       hypotheses = split mine (hypotheses_of th p (n + 1) (H ++ b.goals) later bs) (both_in fs (followed_in n t.derived) good own) rest.hypotheses;
-      goals = λ x c. both x (followed_in n t.goals) (goals_of th p (n + 1) (H ++ b.goals) bs) ours rest.goals (Contains-append_cases (followed_in n t.goals) (goals_of th p (n + 1) (H ++ b.goals) bs) x c);
+      goals = λ x c. both x (followed_in n t.goals) (goals_of th p (n + 1) (H ++ b.goals) bs) ours rest.goals
+          (Contains-append_cases (followed_in n t.goals) (goals_of th p (n + 1) (H ++ b.goals) bs) x c);
     }
   where
-    both : (x : Followed) (xs ys : List Followed) → ((y : Followed) → Contains xs y → IsGoodIn th p all y) → ((y : Followed) → Contains ys y → IsGoodIn th p all y) → Contains xs x ⊎ Contains ys x → IsGoodIn th p all x
+    both : (x : Followed) (xs ys : List Followed) → ((y : Followed) → Contains xs y → IsGoodIn th p all y)
+        → ((y : Followed) → Contains ys y → IsGoodIn th p all y) → Contains xs x ⊎ Contains ys x → IsGoodIn th p all x
     both x xs ys g h (inl c) = g x c
     both x xs ys g h (inr c) = h x c
 
-    both_in : (xs ys : List Followed) → ((y : Followed) → Contains xs y → IsGoodIn th p all y) → ((y : Followed) → Contains ys y → IsGoodIn th p all y) → (x : Followed) → Contains (xs ++ ys) x → IsGoodIn th p all x
+    both_in : (xs ys : List Followed) → ((y : Followed) → Contains xs y → IsGoodIn th p all y) → ((y : Followed) → Contains ys y → IsGoodIn th p all y)
+        → (x : Followed) → Contains (xs ++ ys) x → IsGoodIn th p all x
     both_in xs ys g h x c = both x xs ys g h (Contains-append_cases xs ys x c)
 
-    split : (first : List Followed) (others : List (List Followed)) → ((x : Followed) → Contains first x → IsGoodIn th p all x) → ((k : ℕ) (x : Followed) → Contains (unwrap_or (slice_get others k) []) x → IsGoodIn th p all x)
+    split : (first : List Followed) (others : List (List Followed)) → ((x : Followed) → Contains first x → IsGoodIn th p all x)
+        → ((k : ℕ) (x : Followed) → Contains (unwrap_or (slice_get others k) []) x → IsGoodIn th p all x)
         → (k : ℕ) (x : Followed) → Contains (unwrap_or (slice_get (first ∷ others) k) []) x → IsGoodIn th p all x
     split first others g h zero x c = g x c
     split first others g h (suc k) x c = h k x c
@@ -124,11 +143,20 @@ record After (th : Theory) (G : List Place) (rest : List (Place × Derivative)) 
 abbrev of_place : Place → (sort : ℕ) → List Derivative → List (Place × Derivative)
 of_place g s ds = map (λ d. (g, d)) (filter (λ d. d.hole == s) ds)
 
-after_one : (th : Theory) (G : List Place) (x : Place × Derivative) (xs : List (Place × Derivative)) (lss : List (List (LinkOf Tree))) → After th G (x ∷ xs) lss → IsCertificate th G x.0 x.1 (first_links lss) × After th G xs (later_links lss)
+after_one : (th : Theory) (G : List Place) (x : Place × Derivative) (xs : List (Place × Derivative)) (lss : List (List (LinkOf Tree)))
+    → After th G (x ∷ xs) lss → IsCertificate th G x.0 x.1 (first_links lss) × After th G xs (later_links lss)
 after_one th G x xs [] a = absurd a.certified
-after_one th G x xs (ls ∷ lss) a = (record { sorted = a.sorted.0; bare = a.bare.0; certified = a.certified.0 }, record { certified = a.certified.1; sorted = a.sorted.1; bare = a.bare.1 })
+after_one th G x xs (ls ∷ lss) a = (
+  record { sorted = a.sorted.0; bare = a.bare.0; certified = a.certified.0 },
+  record {
+    certified = a.certified.1;
+    sorted = a.sorted.1;
+    bare = a.bare.1;
+  },
+)
 
-links_for_holds : (th : Theory) (G : List Place) (g : Place) (ds : List Derivative) (s : ℕ) (rest : List (Place × Derivative)) (lss : List (List (LinkOf Tree))) → After th G (of_place g s ds ++ rest) lss
+links_for_holds : (th : Theory) (G : List Place) (g : Place) (ds : List Derivative) (s : ℕ) (rest : List (Place × Derivative))
+    (lss : List (List (LinkOf Tree))) → After th G (of_place g s ds ++ rest) lss
     → (k : ℕ) (d : Derivative) → slice_get ds k ≡ Some d → d.hole ≡ s → IsCertificate th G g d (links_for ds s lss k)
 links_for_holds th G g [] s rest lss a k d e h = absurd (cc)
 links_for_holds th G g (x ∷ ds) s rest lss a zero d e h =
@@ -138,21 +166,26 @@ links_for_holds th G g (x ∷ ds) s rest lss a zero d e h =
     subst P same (after_one th G (g, x) (of_place g s ds ++ rest) lss (rw t at a)).0
 links_for_holds th G g (x ∷ ds) s rest lss a (suc k) d e h = go (x.hole == s) refl (λ l b. links_for_holds th G g ds s rest l b k d e h)
   where
-    go : (v : Bool) → (x.hole == s) ≡ v → ((l : List (List (LinkOf Tree))) → After th G (of_place g s ds ++ rest) l → IsCertificate th G g d (links_for ds s l k)) → IsCertificate th G g d (links_for ds s (if v then later_links lss else lss) k)
+    go : (v : Bool) → (x.hole == s) ≡ v
+        → ((l : List (List (LinkOf Tree))) → After th G (of_place g s ds ++ rest) l → IsCertificate th G g d (links_for ds s l k))
+        → IsCertificate th G g d (links_for ds s (if v then later_links lss else lss) k)
     go true t ih = ih (later_links lss) (after_one th G (g, x) (of_place g s ds ++ rest) lss (rw t at a)).1
     go false t ih = ih lss (rw t at a)
 
-links_after_hold : (th : Theory) (G : List Place) (g : Place) (ds : List Derivative) (s : ℕ) (rest : List (Place × Derivative)) (lss : List (List (LinkOf Tree))) → After th G (of_place g s ds ++ rest) lss
+links_after_hold : (th : Theory) (G : List Place) (g : Place) (ds : List Derivative) (s : ℕ) (rest : List (Place × Derivative))
+    (lss : List (List (LinkOf Tree))) → After th G (of_place g s ds ++ rest) lss
     → After th G rest (links_after ds s lss)
 links_after_hold th G g [] s rest lss a = a
 links_after_hold th G g (x ∷ ds) s rest lss a = go (x.hole == s) refl (λ l b. links_after_hold th G g ds s rest l b)
   where
-    go : (v : Bool) → (x.hole == s) ≡ v → ((l : List (List (LinkOf Tree))) → After th G (of_place g s ds ++ rest) l → After th G rest (links_after ds s l)) → After th G rest (links_after ds s (if v then later_links lss else lss))
+    go : (v : Bool) → (x.hole == s) ≡ v → ((l : List (List (LinkOf Tree))) → After th G (of_place g s ds ++ rest) l → After th G rest (links_after ds s l))
+        → After th G rest (links_after ds s (if v then later_links lss else lss))
     go true t ih = ih (later_links lss) (after_one th G (g, x) (of_place g s ds ++ rest) lss (rw t at a)).1
     go false t ih = ih lss (rw t at a)
 
 certificate_holds : (th : Theory) (G gs : List Place) → AllByRecursion (IsPlace th) gs → (lss : List (List (LinkOf Tree))) → After th G (due th gs) lss
-    → (g : Place) (o : Operator) (k : ℕ) (d : Derivative) → Contains gs g → slice_get th.signature.ops g.op ≡ Some o → slice_get th.derivatives k ≡ Some d → d.hole ≡ o.result
+    → (g : Place) (o : Operator) (k : ℕ) (d : Derivative) → Contains gs g → slice_get th.signature.ops g.op ≡ Some o → slice_get th.derivatives k ≡ Some d
+    → d.hole ≡ o.result
     → IsCertificate th G g d (certificate_of th gs lss g k)
 certificate_holds th G [] is lss a g o k d c lo ld h = nothing g c
 certificate_holds th G (x ∷ xs) is lss a g o k d c lo ld h =
@@ -170,12 +203,15 @@ certificate_holds th G (x ∷ xs) is lss a g o k d c lo ld h =
     here : x ≡ g → IsCertificate th G g d (links_for th.derivatives r lss k)
     here e =
         let P : Place → Type 0 = λ y. IsCertificate th G y d (links_for th.derivatives r lss k) in
-        let hr : d.hole ≡ r = h ∙ sym (ap (λ (y : Option Operator). option_map_or (λ q. q.result) y 0) (ap (λ (y : Place). slice_get th.signature.ops y.op) e ∙ lo)) in
+        let hr : d.hole ≡ r = h ∙ sym (ap (λ (y : Option Operator). option_map_or (λ q. q.result) y 0) (ap (λ (y : Place). slice_get th.signature.ops y.op) e
+        ∙ lo)) in
         subst P e (links_for_holds th G x th.derivatives r (due th xs) lss all k d ld hr)
 
     go : (v : Bool) → ((x.op == g.op) && (x.arg == g.arg)) ≡ v
-        → ((b : List (List (LinkOf Tree))) → After th G (due th xs) b → Contains xs g → slice_get th.signature.ops g.op ≡ Some o → slice_get th.derivatives k ≡ Some d → d.hole ≡ o.result → IsCertificate th G g d (certificate_of th xs b g k))
-        → (x ≡ g) ⊎ Contains xs g → IsCertificate th G g d (if v then links_for th.derivatives r lss k else certificate_of th xs (links_after th.derivatives r lss) g k)
+        → ((b : List (List (LinkOf Tree))) → After th G (due th xs) b → Contains xs g → slice_get th.signature.ops g.op ≡ Some o
+        → slice_get th.derivatives k ≡ Some d → d.hole ≡ o.result → IsCertificate th G g d (certificate_of th xs b g k))
+        → (x ≡ g) ⊎ Contains xs g → IsCertificate th G g d
+        (if v then links_for th.derivatives r lss k else certificate_of th xs (links_after th.derivatives r lss) g k)
     go true e ih w =
         let p = and_parts (x.op == g.op) (x.arg == g.arg) e in
         here (ap (λ y. place y x.arg) (eqb-true x.op g.op p.0) ∙ ap (place g.op) (eqb-true x.arg g.arg p.1))
@@ -189,9 +225,11 @@ certificate_holds th G (x ∷ xs) is lss a g o k d c lo ld h =
 
 whole_blocks : (th : Theory) → IsWellFormed th → (p : Proof) → ProofFor th p → IsPlain p → (dss : List (List Goal)) → Derives th p dss
     → BlocksHold th p (hypotheses_of th p 0 [] [] p.blocks) (hypotheses_of th p 0 [] [] p.blocks) (goals_of th p 0 [] p.blocks) p.blocks
-whole_blocks th ok p f pl dss d = blocks_hold th ok p f.sorted (hypotheses_of th p 0 [] [] p.blocks) 0 [] [] p.blocks f.blocks pl.blocks dss d.blocks (λ q c. nothing q c) refl (λ k. let z : 0 + k ≡ k = omega arith in ap (slice_get (hypotheses_of th p 0 [] [] p.blocks)) z) (λ x c. nothing x c)
+whole_blocks th ok p f pl dss d = blocks_hold th ok p f.sorted (hypotheses_of th p 0 [] [] p.blocks) 0 [] [] p.blocks f.blocks pl.blocks dss d.blocks
+    (λ q c. nothing q c) refl (λ k. let z : 0 + k ≡ k = omega arith in ap (slice_get (hypotheses_of th p 0 [] [] p.blocks)) z) (λ x c. nothing x c)
 
-pub frame_holds : (th : Theory) → IsWellFormed th → (p : Proof) → ProofFor th p → IsPlain p → (dss : List (List Goal)) → Derives th p dss → IsBackground (background_of th p)
+pub frame_holds : (th : Theory) → IsWellFormed th → (p : Proof) → ProofFor th p → IsPlain p → (dss : List (List Goal)) → Derives th p dss
+    → IsBackground (background_of th p)
 frame_holds th ok p f pl dss d = record {
   well_formed = ok;
   places = f.places.places;
@@ -199,12 +237,17 @@ frame_holds th ok p f pl dss d = record {
   followed = λ b x c. (whole_blocks th ok p f pl dss d).hypotheses b x c;
   certified = λ g o k e c lo ld h.
       certificate_holds th p.places p.places f.places.places (certificates_of p)
-      (record { certified = d.admissible; sorted = certificates_sorted th.signature p.table f.sorted p.certificates f.certificates; bare = certificates_bare (named p.table) p.certificates pl.certificates }) g o k e c lo ld h;
+      (record {
+        certified = d.admissible;
+        sorted = certificates_sorted th.signature p.table f.sorted p.certificates f.certificates;
+        bare = certificates_bare (named p.table) p.certificates pl.certificates;
+      }) g o k e c lo ld h;
 }
 
 -- ---- the whole
 
-on_sorted : (th : Theory) → IsWellFormed th → (cs : List Entry) (t : Tree) → Fits th cs (sort_of t) → IsWellSorted th.signature t → IsWellSorted th.signature (on cs t)
+on_sorted : (th : Theory) → IsWellFormed th → (cs : List Entry) (t : Tree) → Fits th cs (sort_of t) → IsWellSorted th.signature t
+    → IsWellSorted th.signature (on cs t)
 on_sorted th ok [] t f w = w
 on_sorted th ok (c ∷ cs) t f w =
     let d = c.derivative in
@@ -212,7 +255,8 @@ on_sorted th ok (c ∷ cs) t f w =
     let F : ℕ → Type 0 = Fits th cs in
     on_sorted th ok cs (derived d t c.parameters) (subst F (sym k.same_sort) f.3) k.well_sorted
 
-in_list : (xs : List Followed) (n : ℕ) (g : Goal) → slice_get (followed_goals xs) n ≡ Some g → Contains xs (followed_at xs n) × (goal_in (followed_at xs n).history ≡ g)
+in_list : (xs : List Followed) (n : ℕ) (g : Goal) → slice_get (followed_goals xs) n ≡ Some g
+    → Contains xs (followed_at xs n) × (goal_in (followed_at xs n).history ≡ g)
 in_list [] n g e = absurd (cc)
 in_list (x ∷ xs) zero g e = ((zero, omega arith, refl), same_Some (goal_in x.history) g e)
 in_list (x ∷ xs) (suc n) g e = let r = in_list xs n g e in ((suc r.0.0, omega (arith, r.0.1), r.0.2), r.1)
@@ -231,7 +275,8 @@ abbrev IsAnswered : Theory → Proof → (units n : ℕ) → Goal → List Writt
 IsAnswered th p k n g ws = Goes (λ xs. LeadsOnGoal th xs ws g) k (expansion k th p n ws)
 
 pub expansion_goes : (th : Theory) → IsWellFormed th → (p : Proof) → ProofFor th p → IsPlain p → Accepted th p
-    → (n : ℕ) (g : Goal) → slice_get (all_goals p.blocks) n ≡ Some g → (ws : List Written) → FitsWritten th ws (sort_of g.left) → (k : ℕ) → IsAnswered th p k n g ws
+    → (n : ℕ) (g : Goal) → slice_get (all_goals p.blocks) n ≡ Some g → (ws : List Written) → FitsWritten th ws (sort_of g.left) → (k : ℕ)
+    → IsAnswered th p k n g ws
 expansion_goes th ok p f pl a n g listed ws fw k =
     let F : Background = background_of th p in
     let fr = frame_holds th ok p f pl a.0 a.1 in
@@ -258,10 +303,12 @@ expansion_goes th ok p f pl a n g listed ws fw k =
     goes_counted W k work (λ j lt.
     let es : IsEnd th s = record { well_sorted = on_sorted th ok (bare_entries cs) q.left fit sp.left; within = ws_in } in
     let et : IsEnd th t = record { well_sorted = on_sorted th ok (bare_entries cs) q.right (subst FI (sym sp.same_sort) fit) sp.right; within = wt_in } in
-    goes_so L W j (λ xs l. record { lead = l; derivable = expanded_derivable F fr s t es xs l }) (work j) (expanded_leads F fr h fo cs num fit es et k j lt)))))
+    goes_so L W j (λ xs l. record { lead = l; derivable = expanded_derivable F fr s t es xs l }) (work j)
+    (expanded_leads F fr h fo cs num fit es et k j lt)))))
 
 -- what is given leads from the one side to the other
-pub given_leads : (th : Theory) (p : Proof) (k n : ℕ) (g : Goal) (ws : List Written) → IsAnswered th p k n g ws → (m : ℕ) (xs : Pieces) → expansion k th p n ws ≡ Yields xs m → LeadsOnGoal th xs ws g
+pub given_leads : (th : Theory) (p : Proof) (k n : ℕ) (g : Goal) (ws : List Written) → IsAnswered th p k n g ws → (m : ℕ) (xs : Pieces)
+    → expansion k th p n ws ≡ Yields xs m → LeadsOnGoal th xs ws g
 given_leads th p k n g ws a m xs e = let P : Spending Pieces → Type 0 = Goes (λ ys. LeadsOnGoal th ys ws g) k in (subst P e a).1
 
 -- and it never stops

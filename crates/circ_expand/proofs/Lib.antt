@@ -1,5 +1,7 @@
 pub mod Putting
 pub mod Going
+pub mod Depth
+pub mod Working
 pub mod Derives
 pub mod Lifting
 pub mod Led

@@ -1,5 +1,6 @@
 -- Links under a substitution.
-use Rattle.std.proofs.Common.{◌≡◌, ◌≤◌, ◌<◌, ℕ, ◌+◌, ◌-◌, List, [], ◌∷◌, ◌++◌, zero, suc, Bool, true, false, not, nat_lt, ◌==◌, ◌&&◌, ◌||◌, if◌then◌else◌, map, Option, Some, None, unwrap_or, refl, ap, sym, ◌∙◌, subst, arith}
+use Rattle.std.proofs.Common.{◌≡◌, ◌≤◌, ◌<◌, ℕ, ◌+◌, ◌-◌, List, [], ◌∷◌, ◌++◌, zero, suc, Bool, true, false, not, nat_lt, ◌==◌, ◌&&◌, ◌||◌, if◌then◌else◌}
+use Rattle.std.proofs.Common.{map, Option, Some, None, unwrap_or, refl, ap, sym, ◌∙◌, subst, arith}
 use Rattle.std.specs.List.{slice_get, list_any, AllByRecursion}
 use Rattle.std.specs.Option.{option_map, option_or}
 use Rattle.std.proofs.lemmas.Bool.{eqb-true, eq-eqb, and_parts, le-ltb, lt-ltb}
@@ -50,12 +51,14 @@ among_left g n s o =
     (any_seen_in v g.right (seen_in g.left [])
     ∙ ap (λ b. b || list_any (is_variable v) (occurrences g.right)) (any_seen_in v g.left [] ∙ sym (has_variable-occurrences g.left n s) ∙ o))
 
-among_right : (g : Goal) (n s : ℕ) → has_variable g.right n s ≡ true → list_any (is_variable (record { number = n; sort = s })) (sorted (variables_of g)) ≡ true
+among_right : (g : Goal) (n s : ℕ) → has_variable g.right n s ≡ true
+    → list_any (is_variable (record { number = n; sort = s })) (sorted (variables_of g)) ≡ true
 among_right g n s o =
     let v : Variable = record { number = n; sort = s } in
     any_sorted (is_variable v) (variables_of g) ∙ any_more v g.conds (seen_in g.right (seen_in g.left []))
     (any_seen_in v g.right (seen_in g.left [])
-    ∙ ap (λ b. list_any (is_variable v) (seen_in g.left []) || b) (sym (has_variable-occurrences g.right n s) ∙ o) ∙ or_true (list_any (is_variable v) (seen_in g.left [])))
+    ∙ ap (λ b. list_any (is_variable v) (seen_in g.left []) || b) (sym (has_variable-occurrences g.right n s) ∙ o)
+    ∙ or_true (list_any (is_variable v) (seen_in g.left [])))
   where
     or_true : (b : Bool) → (b || true) ≡ true
     or_true true = refl
@@ -63,12 +66,15 @@ among_right g n s o =
 
 -- ---- the variables of two terms with what a substitution gives them
 
-found_back : (σ : Substitution) (vs : List Variable) (n s : ℕ) → list_any (is_variable (record { number = n; sort = s })) vs ≡ true → substitution_of (bounds_by σ vs) n s ≡ σ n s
+found_back : (σ : Substitution) (vs : List Variable) (n s : ℕ) → list_any (is_variable (record { number = n; sort = s })) vs ≡ true
+    → substitution_of (bounds_by σ vs) n s ≡ σ n s
 found_back σ [] n s e = absurd (cc)
 found_back σ (v ∷ vs) n s e = go ((n == v.number) && (s == v.sort)) refl (found_back σ vs n s) e
   where
-    go : (b : Bool) → ((n == v.number) && (s == v.sort)) ≡ b → (list_any (is_variable (record { number = n; sort = s })) vs ≡ true → substitution_of (bounds_by σ vs) n s ≡ σ n s)
-        → (b || list_any (is_variable (record { number = n; sort = s })) vs) ≡ true → unwrap_or (if b then Some (σ v.number v.sort) else found (bounds_by σ vs) n s) (Var n s) ≡ σ n s
+    go : (b : Bool) → ((n == v.number) && (s == v.sort)) ≡ b
+        → (list_any (is_variable (record { number = n; sort = s })) vs ≡ true → substitution_of (bounds_by σ vs) n s ≡ σ n s)
+        → (b || list_any (is_variable (record { number = n; sort = s })) vs) ≡ true
+        → unwrap_or (if b then Some (σ v.number v.sort) else found (bounds_by σ vs) n s) (Var n s) ≡ σ n s
     go true h ih x =
         let p = and_parts (n == v.number) (s == v.sort) h in
         ap (λ m. σ m v.sort) (sym (eqb-true n v.number p.0)) ∙ ap (σ n) (sym (eqb-true s v.sort p.1))
@@ -96,21 +102,25 @@ bounds_sorted sig σ i a b = bounds_sorted_by sig σ i (sorted (variables_of (go
 
 pub bounds_first : (σ : Substitution) (a b : Tree) → instance (substitution_of (bounds_of σ a b)) a ≡ instance σ a
 bounds_first σ a b =
-    instance-variable (substitution_of (bounds_of σ a b)) σ a (λ n s o. found_back σ (sorted (variables_of (goal [] a b))) n s (among_left (goal [] a b) n s o))
+    instance-variable (substitution_of (bounds_of σ a b)) σ a
+    (λ n s o. found_back σ (sorted (variables_of (goal [] a b))) n s (among_left (goal [] a b) n s o))
 
 pub bounds_second : (σ : Substitution) (a b : Tree) → instance (substitution_of (bounds_of σ a b)) b ≡ instance σ b
 bounds_second σ a b =
-    instance-variable (substitution_of (bounds_of σ a b)) σ b (λ n s o. found_back σ (sorted (variables_of (goal [] a b))) n s (among_right (goal [] a b) n s o))
+    instance-variable (substitution_of (bounds_of σ a b)) σ b
+    (λ n s o. found_back σ (sorted (variables_of (goal [] a b))) n s (among_right (goal [] a b) n s o))
 
 -- a substitution after terms that are given
-given_after : (σ : Substitution) (vs : List Variable) (ts : List Tree) (n s : ℕ) → FitVariables vs ts → list_any (is_variable (record { number = n; sort = s })) vs ≡ true
+given_after : (σ : Substitution) (vs : List Variable) (ts : List Tree) (n s : ℕ) → FitVariables vs ts
+    → list_any (is_variable (record { number = n; sort = s })) vs ≡ true
     → instance σ (given vs ts n s) ≡ given vs (map (instance σ) ts) n s
 given_after σ [] ts n s f e = absurd (cc)
 given_after σ (v ∷ vs) [] n s f e = absurd f
 given_after σ (v ∷ vs) (t ∷ ts) n s f e = go (given_after σ vs ts n s f.1) ((v.number == n) && (v.sort == s)) refl
   where
     go : (list_any (is_variable (record { number = n; sort = s })) vs ≡ true → instance σ (given vs ts n s) ≡ given vs (map (instance σ) ts) n s)
-        → (b : Bool) → ((v.number == n) && (v.sort == s)) ≡ b → instance σ (if b then t else given vs ts n s) ≡ (if b then instance σ t else given vs (map (instance σ) ts) n s)
+        → (b : Bool) → ((v.number == n) && (v.sort == s)) ≡ b
+        → instance σ (if b then t else given vs ts n s) ≡ (if b then instance σ t else given vs (map (instance σ) ts) n s)
     go ih true h = refl
     go ih false h = ih (later (is_variable (record { number = n; sort = s }) v) refl e)
       where
@@ -121,15 +131,18 @@ given_after σ (v ∷ vs) (t ∷ ts) n s f e = go (given_after σ vs ts n s f.1)
             let p = and_parts (n == v.number) (s == v.sort) g in
             let a : n ≡ v.number = eqb-true n v.number p.0 in
             let b : s ≡ v.sort = eqb-true s v.sort p.1 in
-            absurd (let k : ((v.number == n) && (v.sort == s)) ≡ true = rw (eq-eqb v.number n (sym a), eq-eqb v.sort s (sym b)) refl in let z = sym k ∙ h in cc)
+            absurd (let k : ((v.number == n) && (v.sort == s)) ≡ true = rw (eq-eqb v.number n (sym a), eq-eqb v.sort s (sym b)) refl in let z = sym k
+            ∙ h in cc)
 
-pub fit_after : (sig : Signature) (σ : Substitution) → IsSubstitution sig σ → (vs : List Variable) (ts : List Tree) → AllByRecursion (IsWellSorted sig) ts → FitVariables vs ts → FitVariables vs (map (instance σ) ts)
+pub fit_after : (sig : Signature) (σ : Substitution) → IsSubstitution sig σ → (vs : List Variable) (ts : List Tree) → AllByRecursion (IsWellSorted sig) ts
+    → FitVariables vs ts → FitVariables vs (map (instance σ) ts)
 fit_after sig σ i [] [] a f = tt
 fit_after sig σ i [] (t ∷ ts) a f = absurd f
 fit_after sig σ i (v ∷ vs) [] a f = absurd f
 fit_after sig σ i (v ∷ vs) (t ∷ ts) a f = (sort_of-instance_by sig σ t i a.0 ∙ f.0, fit_after sig σ i vs ts a.1 f.1)
 
-pub values_sorted : (sig : Signature) (σ : Substitution) → IsSubstitution sig σ → (ts : List Tree) → AllByRecursion (IsWellSorted sig) ts → AllByRecursion (IsWellSorted sig) (map (instance σ) ts)
+pub values_sorted : (sig : Signature) (σ : Substitution) → IsSubstitution sig σ → (ts : List Tree) → AllByRecursion (IsWellSorted sig) ts
+    → AllByRecursion (IsWellSorted sig) (map (instance σ) ts)
 values_sorted sig σ i [] a = tt
 values_sorted sig σ i (t ∷ ts) a = (instance_well_sorted sig σ t i a.0, values_sorted sig σ i ts a.1)
 
@@ -189,14 +202,21 @@ mutual
   hole_told : (t : Tree) → Told (first_path 0 t) t (holes_in t)
   hole_told (Var n s) = go (n == 0) refl
     where
-      go : (b : Bool) → (n == 0) ≡ b → Told (if b then Some [] else None) (Var n s) (map (λ (v : Variable). v.sort) (if b then record { number = n; sort = s } ∷ [] else []))
+      go : (b : Bool) → (n == 0) ≡ b
+          → Told (if b then Some [] else None) (Var n s) (map (λ (v : Variable). v.sort) (if b then record { number = n; sort = s } ∷ [] else []))
       go true e = record { sort = s; rest = []; there = ap (λ k. Some (Var k s)) (eqb-true n 0 e); first = refl }
       go false e = refl
   hole_told (App f s ts) = go (first_path_in 0 0 ts) (hole_told_in 0 ts)
     where
       go : (o : Option (List ℕ)) → ToldIn o 0 ts (all_holes_in ts) → Told o (App f s ts) (holes_in (App f s ts))
       go None h = h
-      go (Some q) h = record { sort = h.sort; rest = h.rest; there = ap (λ p. at (App f s ts) p) (h.is ∙ ap (λ j. j ∷ h.path) zero_plus) ∙ (let g = h.given in rw g h.there); first = h.first }
+      go (Some q) h = record {
+        sort = h.sort;
+        rest = h.rest;
+        there = ap (λ p. at (App f s ts) p) (h.is ∙ ap (λ j. j ∷ h.path) zero_plus)
+            ∙ (let g = h.given in rw g h.there);
+        first = h.first;
+      }
         where
           zero_plus : 0 + h.arg ≡ h.arg
           zero_plus = omega arith
@@ -208,7 +228,8 @@ mutual
       parts : all_holes_in (more t ts) ≡ holes_in t ++ all_holes_in ts
       parts = holes_more t ts
 
-      go : (o : Option (List ℕ)) → Told o t (holes_in t) → (r : Option (List ℕ)) → ToldIn r (i + 1) ts (all_holes_in ts) → ToldIn (option_or (option_map (λ p. i ∷ p) o) r) i (more t ts) (all_holes_in (more t ts))
+      go : (o : Option (List ℕ)) → Told o t (holes_in t) → (r : Option (List ℕ)) → ToldIn r (i + 1) ts (all_holes_in ts)
+          → ToldIn (option_or (option_map (λ p. i ∷ p) o) r) i (more t ts) (all_holes_in (more t ts))
       go None h None k = parts ∙ ap (λ xs. xs ++ all_holes_in ts) h ∙ k
       go None h (Some q) k = record {
         arg = suc k.arg;
@@ -238,7 +259,8 @@ hole_there sig d i = go (first_path 0 d.body) refl (hole_told d.body)
   where
     go : (o : Option (List ℕ)) → first_path 0 d.body ≡ o → Told o d.body (holes_in d.body) → at d.body (unwrap_or o []) ≡ Some (Var 0 d.hole)
     go None e h = absurd (let z = sym h ∙ i.one_hole in cc)
-    go (Some p) e h = let same : h.sort ≡ d.hole = (let z : h.sort ∷ h.rest ≡ d.hole ∷ [] = sym h.first ∙ i.one_hole in cc) in h.there ∙ ap (λ s. Some (Var 0 s)) same
+    go (Some p) e h = let same : h.sort ≡ d.hole =
+        (let z : h.sort ∷ h.rest ≡ d.hole ∷ [] = sym h.first ∙ i.one_hole in cc) in h.there ∙ ap (λ s. Some (Var 0 s)) same
 
 pub plugs_differ : (h : ℕ) (x y : Tree) (p : Substitution) → DifferAt 0 h (plug h x p) (plug h y p)
 plugs_differ h x y p n s e = rw e refl
@@ -246,7 +268,8 @@ plugs_differ h x y p n s e = rw e refl
 pub derived_there : (sig : Signature) (d : Derivative) → IsDerivative sig d → (t : Tree) (p : Substitution) → at (derived d t p) (hole_path d) ≡ Some t
 derived_there sig d i t p = at_instance (plug d.hole t p) (hole_path d) d.body (Var 0 d.hole) (hole_there sig d i) ∙ ap Some (plug_hole d.hole t p)
 
-pub derived_put : (sig : Signature) (d : Derivative) → IsDerivative sig d → (t u : Tree) (p : Substitution) → replaced (derived d t p) (hole_path d) u ≡ Some (derived d u p)
+pub derived_put : (sig : Signature) (d : Derivative) → IsDerivative sig d → (t u : Tree) (p : Substitution)
+    → replaced (derived d t p) (hole_path d) u ≡ Some (derived d u p)
 derived_put sig d i t u p =
     ap (replaced (derived d t p) (hole_path d)) (sym (plug_hole d.hole u p))
     ∙ replaced_once 0 d.hole (plug d.hole t p) (plug d.hole u p) (plugs_differ d.hole t u p) (hole_path d) d.body (body_distinct sig d i) (hole_there sig d i)
@@ -263,13 +286,15 @@ on_there th (c ∷ cs) a t =
     let x = derived d t c.entry.parameters in
     at-append (on (bare_entries cs) x) x (holes cs) (hole_path d) (on_there th cs a.2 x) ∙ derived_there th.signature d a.1 t c.entry.parameters
 
-pub on_put : (th : Theory) (cs : List Numbered) → AreNumbered th cs → (t u : Tree) → replaced (on (bare_entries cs) t) (holes cs) u ≡ Some (on (bare_entries cs) u)
+pub on_put : (th : Theory) (cs : List Numbered) → AreNumbered th cs → (t u : Tree)
+    → replaced (on (bare_entries cs) t) (holes cs) u ≡ Some (on (bare_entries cs) u)
 on_put th [] a t u = refl
 on_put th (c ∷ cs) a t u =
     let d = c.entry.derivative in
     let x = derived d t c.entry.parameters in
     let y = derived d u c.entry.parameters in
-    replaced_below (holes cs) (hole_path d) (on (bare_entries cs) x) x u y (on_there th cs a.2 x) (derived_put th.signature d a.1 t u c.entry.parameters) ∙ on_put th cs a.2 x y
+    replaced_below (holes cs) (hole_path d) (on (bare_entries cs) x) x u y (on_there th cs a.2 x) (derived_put th.signature d a.1 t u c.entry.parameters)
+    ∙ on_put th cs a.2 x y
 
 -- ---- places on a path
 
@@ -278,7 +303,8 @@ places_filled [] t a x e = refl
 places_filled (i ∷ p) (Var n s) a x e = nowhere p a e
 places_filled (i ∷ p) (App f s ts) a x e = go (slice_get (list_of ts) i) refl (λ y. places_filled p y a x)
   where
-    go : (o : Option Tree) → slice_get (list_of ts) i ≡ o → ((y : Tree) → at y p ≡ Some a → layered (places_on y p) x ≡ put_or_same y p x) → layered (places_on (App f s ts) (i ∷ p)) x ≡ put_or_same (App f s ts) (i ∷ p) x
+    go : (o : Option Tree) → slice_get (list_of ts) i ≡ o → ((y : Tree) → at y p ≡ Some a → layered (places_on y p) x ≡ put_or_same y p x)
+        → layered (places_on (App f s ts) (i ∷ p)) x ≡ put_or_same (App f s ts) (i ∷ p) x
     go None c ih = nowhere p a (rw c at e)
     go (Some y) c ih =
         let h = ih y (rw c at e) in
@@ -294,7 +320,8 @@ body_agree sig d i σ τ hole params = instance-variable σ τ d.body go
   where
     go : (n s : ℕ) → has_variable d.body n s ≡ true → σ n s ≡ τ n s
     go zero s o =
-        let h : s ≡ d.hole = stands_where (IsHoleOfSort d.hole) (occurrences d.body) (body_holes sig d i) 0 s (sym (has_variable-occurrences d.body 0 s) ∙ o) refl in
+        let h : s ≡ d.hole = stands_where (IsHoleOfSort d.hole) (occurrences d.body) (body_holes sig d i) 0 s (sym (has_variable-occurrences d.body 0 s)
+        ∙ o) refl in
         ap (σ 0) h ∙ hole ∙ ap (τ 0) (sym h)
     go (suc n) s o = params n s o
 
@@ -309,7 +336,8 @@ mutual
   instances_extended : (d : Derivative) (k : ℕ) (σ p : Substitution) (ts : Trees) → all_above ts ≤ k → instances (extended d k σ p) ts ≡ instances σ ts
   instances_extended d k σ p none h = refl
   instances_extended d k σ p (more t ts) h =
-      ap (λ x. more x (instances (extended d k σ p) ts)) (instance_extended d k σ p t (omega (arith, h))) ∙ ap (more (instance σ t)) (instances_extended d k σ p ts (omega (arith, h)))
+      ap (λ x. more x (instances (extended d k σ p) ts)) (instance_extended d k σ p t (omega (arith, h)))
+      ∙ ap (more (instance σ t)) (instances_extended d k σ p ts (omega (arith, h)))
 
 extended_above : (d : Derivative) (k : ℕ) (σ p : Substitution) (n s : ℕ) → has_variable d.body (suc n) s ≡ true → extended d k σ p (k + n) s ≡ p (suc n) s
 extended_above d k σ p n s o =
@@ -325,9 +353,11 @@ extended_derived sig d i k σ p t h =
     ∙ body_agree sig d i (composed (extended d k σ p) (plug d.hole t (numbered_from k))) (plug d.hole (instance σ t) p)
     (ap (instance (extended d k σ p)) (plug_hole d.hole t (numbered_from k)) ∙ instance_extended d k σ p t h ∙ sym (plug_hole d.hole (instance σ t) p))
     (λ n s o. ap (instance (extended d k σ p)) (plug_parameter d.hole t (numbered_from k) n s)
-    ∙ (let e : k + (suc n - 1) ≡ k + n = omega arith in ap (λ j. extended d k σ p j s) e) ∙ extended_above d k σ p n s o ∙ sym (plug_parameter d.hole (instance σ t) p n s))
+    ∙ (let e : k + (suc n - 1) ≡ k + n = omega arith in ap (λ j. extended d k σ p j s) e) ∙ extended_above d k σ p n s o
+    ∙ sym (plug_parameter d.hole (instance σ t) p n s))
 
-pub extended_substitution : (sig : Signature) (d : Derivative) (k : ℕ) (σ p : Substitution) → IsSubstitution sig σ → IsSubstitution sig p → IsSubstitution sig (extended d k σ p)
+pub extended_substitution : (sig : Signature) (d : Derivative) (k : ℕ) (σ p : Substitution) → IsSubstitution sig σ → IsSubstitution sig p
+    → IsSubstitution sig (extended d k σ p)
 extended_substitution sig d k σ p a b n s h = go (not (nat_lt n k) && has_variable d.body (suc (n - k)) s)
   where
     go : (v : Bool) → (sort_of (if v then p (suc (n - k)) s else σ n s) ≡ s) × IsWellSorted sig (if v then p (suc (n - k)) s else σ n s)

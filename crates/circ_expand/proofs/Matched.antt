@@ -32,7 +32,8 @@ mutual
   pub masked_sames : (sig : Signature) (σ : Substitution) (ts : Trees) (ss : List ℕ) → HaveSorts sig ts ss → instances (masked sig σ) ts ≡ instances σ ts
   masked_sames sig σ none ss h = refl
   masked_sames sig σ (more t ts) [] h = absurd h
-  masked_sames sig σ (more t ts) (s ∷ ss) h = ap (λ x. more x (instances (masked sig σ) ts)) (masked_same sig σ t h.1) ∙ ap (more (instance σ t)) (masked_sames sig σ ts ss h.2)
+  masked_sames sig σ (more t ts) (s ∷ ss) h =
+      ap (λ x. more x (instances (masked sig σ) ts)) (masked_same sig σ t h.1) ∙ ap (more (instance σ t)) (masked_sames sig σ ts ss h.2)
 
 -- what matching gives for an instance
 pub matching_is : (τ : Substitution) → KeepsSorts τ → (p : Tree) (n s : ℕ) → matching p (instance τ p) n s ≡ (if has_variable p n s then τ n s else Var n s)
@@ -55,7 +56,8 @@ matching_sorted sig τ k i p n s h =
     go false = (refl, h)
 
 -- two instances whose substitutions differ at one variable are matched by two that do
-pub matching_differ : (k s : ℕ) (σ τ : Substitution) → KeepsSorts σ → KeepsSorts τ → DifferAt k s σ τ → (p : Tree) → DifferAt k s (matching p (instance σ p)) (matching p (instance τ p))
+pub matching_differ : (k s : ℕ) (σ τ : Substitution) → KeepsSorts σ → KeepsSorts τ → DifferAt k s σ τ → (p : Tree)
+    → DifferAt k s (matching p (instance σ p)) (matching p (instance τ p))
 matching_differ k s σ τ a b d p n r ne = matching_is σ a p n r ∙ go (has_variable p n r) ∙ sym (matching_is τ b p n r)
   where
     go : (v : Bool) → (if v then σ n r else Var n r) ≡ (if v then τ n r else Var n r)

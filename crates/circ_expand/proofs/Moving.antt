@@ -1,5 +1,6 @@
 -- From one instance to the other, one occurrence at a time, by the paths of the variable from the left.
-use Rattle.std.proofs.Common.{◌≡◌, ℕ, List, [], ◌∷◌, ◌++◌, zero, suc, Bool, true, false, ◌==◌, ◌&&◌, if◌then◌else◌, map, Option, Some, None, refl, ap, sym, ◌∙◌, subst, inl}
+use Rattle.std.proofs.Common.{◌≡◌, ℕ, List, [], ◌∷◌, ◌++◌, zero, suc, Bool, true, false, ◌==◌, ◌&&◌, if◌then◌else◌, map, Option, Some, None, refl, ap, sym}
+use Rattle.std.proofs.Common.{◌∙◌, subst, inl}
 use Rattle.std.specs.List.{slice_get}
 use Rattle.std.proofs.lemmas.Bool.{eqb-true, and_parts}
 use Rattle.std.proofs.lemmas.Option.{same_Some}
@@ -14,11 +15,13 @@ abbrev pub Moves : (σ τ : Substitution) (k s : ℕ) (t : Tree) → List (List 
 Moves σ τ k s t [] u w = u ≡ w
 Moves σ τ k s t (p ∷ ps) u w = (v : Tree) × Changes σ τ k s t p u v × Moves σ τ k s t ps v w
 
-pub moves_append : (σ τ : Substitution) (k s : ℕ) (t : Tree) (ps qs : List (List ℕ)) (u v w : Tree) → Moves σ τ k s t ps u v → Moves σ τ k s t qs v w → Moves σ τ k s t (ps ++ qs) u w
+pub moves_append : (σ τ : Substitution) (k s : ℕ) (t : Tree) (ps qs : List (List ℕ)) (u v w : Tree) → Moves σ τ k s t ps u v → Moves σ τ k s t qs v w
+    → Moves σ τ k s t (ps ++ qs) u w
 moves_append σ τ k s t [] qs u v w m n = let P : Tree → Type 0 = λ x. Moves σ τ k s t qs x w in subst P (sym m) n
 moves_append σ τ k s t (p ∷ ps) qs u v w m n = (m.0, m.1, moves_append σ τ k s t ps qs m.0 v w m.2 n)
 
-in_first : (σ τ : Substitution) (k s f r : ℕ) (t : Tree) (ts us : Trees) → FillsAll (Mixed σ τ) ts us → (ps : List (List ℕ)) (u w : Tree) → Moves σ τ k s t ps u w
+in_first : (σ τ : Substitution) (k s f r : ℕ) (t : Tree) (ts us : Trees) → FillsAll (Mixed σ τ) ts us → (ps : List (List ℕ)) (u w : Tree)
+    → Moves σ τ k s t ps u w
     → Moves σ τ k s (App f r (more t ts)) (map (λ p. zero ∷ p) ps) (App f r (more u us)) (App f r (more w us))
 in_first σ τ k s f r t ts us h [] u w m = ap (λ x. App f r (more x us)) m
 in_first σ τ k s f r t ts us h (p ∷ ps) u w m =
@@ -33,7 +36,8 @@ in_first σ τ k s f r t ts us h (p ∷ ps) u w m =
       in_first σ τ k s f r t ts us h ps m.0 w m.2,
     )
 
-in_others : (σ τ : Substitution) (k s f r : ℕ) (t u : Tree) (ts : Trees) → Fills (Mixed σ τ) t u → (ps : List (List ℕ)) (us ws : Trees) → Moves σ τ k s (App f r ts) ps (App f r us) (App f r ws)
+in_others : (σ τ : Substitution) (k s f r : ℕ) (t u : Tree) (ts : Trees) → Fills (Mixed σ τ) t u → (ps : List (List ℕ)) (us ws : Trees)
+    → Moves σ τ k s (App f r ts) ps (App f r us) (App f r ws)
     → Moves σ τ k s (App f r (more t ts)) (map next_arg ps) (App f r (more u us)) (App f r (more u ws))
 in_others σ τ k s f r t u ts h [] us ws m = let e : us ≡ ws = cc in ap (λ x. App f r (more u x)) e
 in_others σ τ k s f r t u ts h ([] ∷ ps) us ws m = absurd (let e : App f r ts ≡ Var k s = same_Some (App f r ts) (Var k s) m.1.variable in cc)
@@ -43,7 +47,8 @@ in_others σ τ k s f r t u ts h ((i ∷ p) ∷ ps) us ws m = go (slice_get (lis
     onward = Moves σ τ k s (App f r (more t ts)) ((suc i ∷ p) ∷ map next_arg ps) (App f r (more u us)) (App f r (more u ws))
 
     there : (x : Tree) → slice_get (list_of us) i ≡ Some x → (o : Option Tree) → replaced x p (τ k s) ≡ o
-        → ((vs : Trees) → Moves σ τ k s (App f r ts) ps (App f r vs) (App f r ws) → Moves σ τ k s (App f r (more t ts)) (map next_arg ps) (App f r (more u vs)) (App f r (more u ws))) → onward
+        → ((vs : Trees) → Moves σ τ k s (App f r ts) ps (App f r vs) (App f r ws)
+        → Moves σ τ k s (App f r (more t ts)) (map next_arg ps) (App f r (more u vs)) (App f r (more u ws))) → onward
     there x c None n ih = absurd (let z = m.1.new in let y = rw (c, n) at z in cc)
     there x c (Some y) n ih =
         let z = m.1.new in
@@ -56,7 +61,8 @@ in_others σ τ k s f r t u ts h ((i ∷ p) ∷ ps) us ws m = go (slice_get (lis
         )
 
     go : (o : Option Tree) → slice_get (list_of us) i ≡ o
-        → ((vs : Trees) → Moves σ τ k s (App f r ts) ps (App f r vs) (App f r ws) → Moves σ τ k s (App f r (more t ts)) (map next_arg ps) (App f r (more u vs)) (App f r (more u ws))) → onward
+        → ((vs : Trees) → Moves σ τ k s (App f r ts) ps (App f r vs) (App f r ws)
+        → Moves σ τ k s (App f r (more t ts)) (map next_arg ps) (App f r (more u vs)) (App f r (more u ws))) → onward
     go None c ih = absurd (let z = m.1.new in let y = rw c at z in cc)
     go (Some x) c ih = there x c (replaced x p (τ k s)) refl ih
 
@@ -81,7 +87,8 @@ mutual
       go false e = d n r e
   moved σ τ k s d (App f r ts) = moved_in σ τ k s d f r ts
 
-  moved_in : (σ τ : Substitution) (k s : ℕ) → DifferAt k s σ τ → (f r : ℕ) (ts : Trees) → Moves σ τ k s (App f r ts) (paths_in k s ts) (App f r (instances σ ts)) (App f r (instances τ ts))
+  moved_in : (σ τ : Substitution) (k s : ℕ) → DifferAt k s σ τ → (f r : ℕ) (ts : Trees)
+      → Moves σ τ k s (App f r ts) (paths_in k s ts) (App f r (instances σ ts)) (App f r (instances τ ts))
   moved_in σ τ k s d f r none = refl
   moved_in σ τ k s d f r (more t ts) =
       moves_append σ τ k s (App f r (more t ts)) (map (λ p. zero ∷ p) (paths_of k s t)) (map next_arg (paths_in k s ts))

@@ -34,7 +34,8 @@ use Rattle.circ_soundness.proofs.Starting.{starts, arg_sort, start_place}
 use Rattle.circ_entry.specs.Entries.{Numbered, bare_entries}
 use Rattle.circ_expand.specs.Followed.{put_or_same, led_all}
 use Rattle.circ_expand.specs.Pieces.{Pieces, pieces_joined, turned, PiecesLead}
-use Rattle.circ_expand.specs.Expand.{Spending, Yields, continued, Layer, At_place, layered, Background, Call, Expander, base, whole_with, around, Basis, basis, link_setting, links_written, paths_of, holes, hole_path}
+use Rattle.circ_expand.specs.Expand.{Spending, Yields, continued, Layer, At_place, layered, Background, Call, Expander, base, whole_with, around, Basis}
+use Rattle.circ_expand.specs.Expand.{basis, link_setting, links_written, paths_of, holes, hole_path}
 use Rattle.circ_expand.specs.Expand.{start_at, certified_call, no_basis, derived_place, left_here, right_here, occurrences_written, through_place}
 use Rattle.circ_expand.specs.Expand as expand
 use Rattle.circ_expand.proofs.Going.{Goes, goes_on, goes_value}
@@ -43,7 +44,8 @@ use Rattle.circ_expand.proofs.Derives.{joined_lead, pieces_turned}
 use Rattle.circ_expand.proofs.Lifting.{AreNumbered, on_there, derived_there}
 use Rattle.circ_expand.proofs.Plainness.{AreBare}
 use Rattle.circ_expand.proofs.Led.{links_led}
-use Rattle.circ_expand.proofs.Matched.{masked, masked_keeps, masked_sorted, masked_same, masked_differ, matching_is, matching_makes, matching_sorted, matching_differ}
+use Rattle.circ_expand.proofs.Matched.{masked, masked_keeps, masked_sorted, masked_same, masked_differ, matching_is, matching_makes, matching_sorted}
+use Rattle.circ_expand.proofs.Matched.{matching_differ}
 use Rattle.circ_expand.proofs.Moving.{moved}
 use Rattle.circ_expand.proofs.Standing.{IsBackground, end_of, IsEnd, Stands, IsCall, IsSound, base_there, whole_self, whole_on}
 use Rattle.circ_expand.proofs.Linking.{Sided, IsBasis, basis_setting, links_lead}
@@ -59,10 +61,12 @@ args_again g s i ts a x y e =
     let there = arg_put g s i ts a x e in
     let z : replaced (App g s (put_at ts i x)) (i ∷ []) y ≡ Some (App g s (put_at (put_at ts i x) i y)) = rw there refl in
     let w : replaced (App g s ts) (i ∷ []) y ≡ Some (App g s (put_at ts i y)) = rw e refl in
-    same_Some (App g s (put_at (put_at ts i x) i y)) (App g s (put_at ts i y)) (sym z ∙ replaced_twice (i ∷ []) (App g s ts) x (App g s (put_at ts i x)) y first ∙ w)
+    same_Some (App g s (put_at (put_at ts i x) i y)) (App g s (put_at ts i y)) (sym z
+    ∙ replaced_twice (i ∷ []) (App g s ts) x (App g s (put_at ts i x)) y first ∙ w)
 
 -- variable 0 stands in the start term
-start_variable : (sig : Signature) (o : Operator) (g i : ℕ) (d : Derivative) → IsDerivative sig d → (s : ℕ) → slice_get o.args i ≡ Some s → has_variable (start_term o (place g i) d) 0 s ≡ true
+start_variable : (sig : Signature) (o : Operator) (g i : ℕ) (d : Derivative) → IsDerivative sig d → (s : ℕ) → slice_get o.args i ≡ Some s
+    → has_variable (start_term o (place g i) d) 0 s ≡ true
 start_variable sig o g i d der s e =
     let vs : Trees = start_args i 1 o.args in
     let head : Tree = App g o.result vs in
@@ -81,8 +85,10 @@ record Matched (th : Theory) (start a b x y : Tree) (s : ℕ) : Type 0 where
   right_here : matching start y 0 s ≡ b
   differ : DifferAt 0 s (matching start x) (matching start y)
 
-matched : (th : Theory) (start a b x y : Tree) (s : ℕ) (σ τ : Substitution) → IsSubstitution th.signature σ → IsSubstitution th.signature τ → IsSort th.signature s → IsWellSorted th.signature start
-    → IsWellSorted th.signature x → IsWellSorted th.signature y → has_variable start 0 s ≡ true → instance σ start ≡ x → instance τ start ≡ y → σ 0 s ≡ a → τ 0 s ≡ b → DifferAt 0 s σ τ → Matched th start a b x y s
+matched : (th : Theory) (start a b x y : Tree) (s : ℕ) (σ τ : Substitution) → IsSubstitution th.signature σ → IsSubstitution th.signature τ
+    → IsSort th.signature s → IsWellSorted th.signature start
+    → IsWellSorted th.signature x → IsWellSorted th.signature y → has_variable start 0 s ≡ true → instance σ start ≡ x → instance τ start ≡ y → σ 0 s ≡ a
+    → τ 0 s ≡ b → DifferAt 0 s σ τ → Matched th start a b x y s
 matched th start a b x y s σ τ iσ iτ hs w wx wy v ex ey ea eb d =
     let sig = th.signature in
     let σ1 = masked sig σ in
@@ -122,11 +128,14 @@ record Through (f : Background) (g s i : ℕ) (ts : Trees) (e : Numbered) (a b :
   leads : Runs (Leads (link_setting f (basis [] 0 []))) (f.certificate (place g i) e.number) (start_at f.theory (place g i) e.entry.derivative) last
   guarded : Guarded f.theory f.places last 0 sort
   start_sorted : IsWellSorted f.theory.signature (start_at f.theory (place g i) e.entry.derivative)
-  matched : Matched f.theory (start_at f.theory (place g i) e.entry.derivative) a b (derived e.entry.derivative (App g s (put_at ts i a)) e.entry.parameters) (derived e.entry.derivative (App g s (put_at ts i b)) e.entry.parameters) sort
+  matched : Matched f.theory (start_at f.theory (place g i) e.entry.derivative) a b (derived e.entry.derivative (App g s (put_at ts i a)) e.entry.parameters)
+      (derived e.entry.derivative (App g s (put_at ts i b)) e.entry.parameters) sort
 
-through : (f : Background) → IsBackground f → (g s i : ℕ) (ts : Trees) (e : Numbered) (x a b : Tree) → Contains f.places (place g i) → slice_get (list_of ts) i ≡ Some x
+through : (f : Background) → IsBackground f → (g s i : ℕ) (ts : Trees) (e : Numbered) (x a b : Tree) → Contains f.places (place g i)
+    → slice_get (list_of ts) i ≡ Some x
     → IsWellSorted f.theory.signature (App g s (put_at ts i a)) → IsWellSorted f.theory.signature (App g s (put_at ts i b))
-    → slice_get f.theory.derivatives e.number ≡ Some e.entry.derivative → e.entry.derivative.hole ≡ s → IsSubstitution f.theory.signature e.entry.parameters → Through f g s i ts e a b
+    → slice_get f.theory.derivatives e.number ≡ Some e.entry.derivative → e.entry.derivative.hole ≡ s → IsSubstitution f.theory.signature e.entry.parameters
+    → Through f g s i ts e a b
 through f fr g s i ts e x a b listed there wa wb num hole iq =
     let th = f.theory in
     let sig = th.signature in
@@ -154,14 +163,16 @@ through f fr g s i ts e x a b listed there wa wb num hole iq =
     let st = starts th ok o g r i (put_at ts i a) a b d q ld ha at_a p.argument (sb, wtb) iq in
     let start : Tree = start_term o (place g i) d in
     let start_is : start_at th (place g i) d ≡ start = ap (λ (y : Option Operator). option_map_or (λ z. start_term z (place g i) d) y (Var 0 0)) p.listed in
-    let left_is : derived d (App g o.result (put_at ts i a)) q ≡ derived d (App g s (put_at ts i a)) q = ap (λ k. derived d (App g k (put_at ts i a)) q) result in
+    let left_is : derived d (App g o.result (put_at ts i a)) q ≡ derived d (App g s (put_at ts i a)) q =
+    ap (λ k. derived d (App g k (put_at ts i a)) q) result in
     let right_is : derived d (App g o.result (put_at (put_at ts i a) i b)) q ≡ derived d (App g s (put_at ts i b)) q =
     ap (λ k. derived d (App g k (put_at (put_at ts i a) i b)) q) result ∙ ap (λ y. derived d y q) (args_again g s i ts x a b there) in
     let ws = start_sorted th ok o g i d p.listed ld (hole ∙ sym result) in
     let wl = derived_by sig d (App g s (put_at ts i a)) q der (sym hole) wa iq in
     let wr = derived_by sig d (App g s (put_at ts i b)) q der (sym hole) wb iq in
     let m : Matched th start a b (derived d (App g s (put_at ts i a)) q) (derived d (App g s (put_at ts i b)) q) r =
-    matched th start a b (derived d (App g s (put_at ts i a)) q) (derived d (App g s (put_at ts i b)) q) r st.left st.right st.left_sorted st.right_sorted hs ws wl.well_sorted wr.well_sorted
+    matched th start a b (derived d (App g s (put_at ts i a)) q)
+    (derived d (App g s (put_at ts i b)) q) r st.left st.right st.left_sorted st.right_sorted hs ws wl.well_sorted wr.well_sorted
     (start_variable sig o g i d der r p.argument) (st.left_made ∙ left_is) (st.right_made ∙ right_is) st.left_here st.right_here st.differ in
     let L : Tree → Type 0 = λ y. Runs (Leads (link_setting f (basis [] 0 []))) (f.certificate (place g i) e.number) y cert.certified.last in
     let W : Tree → Type 0 = IsWellSorted sig in
@@ -183,7 +194,8 @@ through f fr g s i ts e x a b listed there wa wb num hole iq =
 abbrev pub along : Call → Option (List Layer) → Call
 along c o = record c { along = o }
 
-module _ (f : Background) (fr : IsBackground f) (run : Expander) (depth : ℕ) (so : IsSound f depth run) (c : Call) (g s i : ℕ) (ts : Trees) (xs : List Layer) (ic : IsCall f (along c (Some (At_place g s i ts ∷ xs)))) where
+module _ (f : Background) (fr : IsBackground f) (run : Expander) (depth : ℕ) (so : IsSound f depth run) (c : Call) (g s i : ℕ) (ts : Trees) (xs : List Layer)
+    (ic : IsCall f (along c (Some (At_place g s i ts ∷ xs)))) where
   abbrev a : Tree
   a = left_here run f c xs
 
@@ -197,18 +209,32 @@ module _ (f : Background) (fr : IsBackground f) (run : Expander) (depth : ℕ) (
   there = App g s (put_at ts i b)
 
   -- the certificate on one of the terms
-  certificate_leads : (e : Numbered) (cs : List Numbered) → (t : Through f g s i ts e a b) → (x : Tree) (ρ : Substitution) → Stands f (certified_call run f c cs ρ) x
-      → sort_of (instance ρ (start_at f.theory (place g i) e.entry.derivative)) ≡ sort_of x → IsEnd f.theory (whole_with (certified_call run f c cs ρ) (instance ρ (start_at f.theory (place g i) e.entry.derivative)))
-      → (n : ℕ) → n ≤ depth → Goes (Sided f (certified_call run f c cs ρ) (instance ρ (start_at f.theory (place g i) e.entry.derivative)) (instance ρ t.last)) n
-      (links_written run f (certified_call run f c cs ρ) (no_basis run f) (f.certificate (place g i) e.number) (start_at f.theory (place g i) e.entry.derivative) n)
+  certificate_leads : (e : Numbered) (cs : List Numbered) → (t : Through f g s i ts e a b) → (x : Tree) (ρ : Substitution)
+      → Stands f (certified_call run f c cs ρ) x
+      → sort_of (instance ρ (start_at f.theory (place g i) e.entry.derivative)) ≡ sort_of x
+      → IsEnd f.theory (whole_with (certified_call run f c cs ρ) (instance ρ (start_at f.theory (place g i) e.entry.derivative)))
+      → (n : ℕ) → n ≤ depth → Goes (Sided f (certified_call run f c cs ρ) (instance ρ (start_at f.theory (place g i) e.entry.derivative))
+      (instance ρ t.last)) n
+      (links_written run f (certified_call run f c cs ρ) (no_basis run f) (f.certificate (place g i) e.number)
+      (start_at f.theory (place g i) e.entry.derivative) n)
   certificate_leads e cs t x ρ st se en n le =
-      links_lead f fr run depth so (certified_call run f c cs ρ) x st (no_basis run f) (record { followed = λ y z. nothing y z; sorted = λ y z. nothing y z; raised = λ k p z. absurd (cc) })
+      links_lead f fr run depth so (certified_call run f c cs ρ) x st (no_basis run f) (record {
+        followed = λ y z. nothing y z;
+        sorted = λ y z. nothing y z;
+        raised = λ k p z. absurd (cc);
+      })
       (f.certificate (place g i) e.number) t.links_sorted t.bare (start_at f.theory (place g i) e.entry.derivative) t.last t.start_sorted t.leads en se n le
 
   -- the operator of a place has a hidden result, so no experiment on it is empty
   entry_due : c.entries ≡ [] → ⊥
   entry_due ee =
-      let st : Stands f c here = record { by = ic.stands.by; numbered = ic.stands.numbered; there = ic.stands.there; fits = ic.stands.fits; assumptions = ic.stands.assumptions } in
+      let st : Stands f c here = record {
+        by = ic.stands.by;
+        numbered = ic.stands.numbered;
+        there = ic.stands.there;
+        fits = ic.stands.fits;
+        assumptions = ic.stands.assumptions;
+      } in
       let wa : IsWellSorted f.theory.signature here = at_sorted f.theory (base c) c.whole here ic.left.well_sorted (base_there f c here st) in
       let p = all_of (IsPlace f.theory) f.places (place g i) fr.places ic.items.0 in
       let same : p.operator ≡ wa.0 = same_Some p.operator wa.0 (sym p.listed ∙ wa.1) in
@@ -218,14 +244,21 @@ module _ (f : Background) (fr : IsBackground f) (run : Expander) (depth : ℕ) (
       subst F ee st.fits (subst H result p.hidden)
 
   pub through_leads : (es : List Numbered) → c.entries ≡ es → (n : ℕ) → n ≤ depth
-      → Goes (λ ys. PiecesLead f.theory c.assumptions ys c.whole (end_of (along c (Some (At_place g s i ts ∷ xs))))) n (through_place run f c (place g i) s ts xs es n)
+      → Goes (λ ys. PiecesLead f.theory c.assumptions ys c.whole (end_of (along c (Some (At_place g s i ts ∷ xs))))) n
+      (through_place run f c (place g i) s ts xs es n)
   through_leads [] ee n le = absurd (entry_due ee)
   through_leads (e ∷ cs) ee n le =
       let th = f.theory in
       let sig = th.signature in
       let d : Derivative = e.entry.derivative in
       let q : Substitution = e.entry.parameters in
-      let st : Stands f c here = record { by = ic.stands.by; numbered = ic.stands.numbered; there = ic.stands.there; fits = ic.stands.fits; assumptions = ic.stands.assumptions } in
+      let st : Stands f c here = record {
+        by = ic.stands.by;
+        numbered = ic.stands.numbered;
+        there = ic.stands.there;
+        fits = ic.stands.fits;
+        assumptions = ic.stands.assumptions;
+      } in
       let N : List Numbered → Type 0 = AreNumbered th in
       let num : AreNumbered th (e ∷ cs) = subst N ee st.numbered in
       let FI : List Numbered → Type 0 = λ es. Fits th (bare_entries es) s in
@@ -235,8 +268,10 @@ module _ (f : Background) (fr : IsBackground f) (run : Expander) (depth : ℕ) (
       let ER : List Numbered → Type 0 = λ es. IsEnd th (put_or_same c.whole c.path (on (bare_entries es) there)) in
       let er : IsEnd th (put_or_same c.whole c.path (on (bare_entries (e ∷ cs)) there)) = subst ER ee ic.right in
       let wa : IsWellSorted sig here = at_sorted th (base c) c.whole here ic.left.well_sorted (base_there f c here st) in
-      let end_there = at_replaced c.path c.whole (on (bare_entries (e ∷ cs)) there) (put_or_same c.whole c.path (on (bare_entries (e ∷ cs)) there)) (put_there c.path c.whole (on (bare_entries (e ∷ cs)) here) (on (bare_entries (e ∷ cs)) there) stands) in
-      let won = at_sorted th c.path (put_or_same c.whole c.path (on (bare_entries (e ∷ cs)) there)) (on (bare_entries (e ∷ cs)) there) er.well_sorted end_there in
+      let end_there = at_replaced c.path c.whole (on (bare_entries (e ∷ cs)) there) (put_or_same c.whole c.path (on (bare_entries (e ∷ cs)) there))
+      (put_there c.path c.whole (on (bare_entries (e ∷ cs)) here) (on (bare_entries (e ∷ cs)) there) stands) in
+      let won = at_sorted th c.path (put_or_same c.whole c.path (on (bare_entries (e ∷ cs)) there))
+      (on (bare_entries (e ∷ cs)) there) er.well_sorted end_there in
       let wb : IsWellSorted sig there = at_sorted th (holes (e ∷ cs)) (on (bare_entries (e ∷ cs)) there) there won (on_there th (e ∷ cs) num there) in
       let t = through f fr g s i ts e ic.items.1 a b ic.items.0 ic.items.2 wa wb num.0 fit.1 fit.2 in
       let start : Tree = start_at th (place g i) d in
@@ -258,7 +293,8 @@ module _ (f : Background) (fr : IsBackground f) (run : Expander) (depth : ℕ) (
       let sy : sort_of (instance τ start) ≡ sort_of x =
       sort_of-instance_by sig τ start t.matched.right t.start_sorted ∙ sym (sort_of-instance_by sig σ start t.matched.left t.start_sorted) ∙ sx in
       let whole_l : whole_with cl (instance σ start) ≡ c.whole = ap (whole_with cl) t.matched.left_made ∙ whole_self f cl x stl in
-      let whole_r : whole_with cr (instance τ start) ≡ put_or_same c.whole c.path (on (bare_entries (e ∷ cs)) there) = ap (whole_with cr) t.matched.right_made ∙ whole_on f cr x str y in
+      let whole_r : whole_with cr (instance τ start) ≡ put_or_same c.whole c.path (on (bare_entries (e ∷ cs)) there) =
+      ap (whole_with cr) t.matched.right_made ∙ whole_on f cr x str y in
       let E : Tree → Type 0 = IsEnd th in
       let el : IsEnd th (whole_with cl (instance σ start)) = subst E (sym whole_l) ic.left in
       let en : IsEnd th (whole_with cr (instance τ start)) = subst E (sym whole_r) er in
@@ -268,24 +304,29 @@ module _ (f : Background) (fr : IsBackground f) (run : Expander) (depth : ℕ) (
       let middle : Tree → ℕ → Spending Pieces = λ z k. occurrences_written run f co xs b z (ps z) (instance σ z) k in
       let whole3 : Pieces → Pieces → Pieces → ℕ → Spending Pieces = λ l w o j. Yields (pieces_joined l (pieces_joined o (turned w))) j in
       let bare : IsBasis f cl (no_basis run f) = record { followed = λ h z. nothing h z; sorted = λ h z. nothing h z; raised = λ k p z. absurd (cc) } in
-      let kept = links_sorted (link_setting f (no_basis run f)) (basis_setting f fr cl (no_basis run f) bare) ls t.links_sorted start t.last t.start_sorted t.leads in
+      let kept = links_sorted (link_setting f (no_basis run f))
+      (basis_setting f fr cl (no_basis run f) bare) ls t.links_sorted start t.last t.start_sorted t.leads in
       let sl : sort_of (instance σ t.last) ≡ sort_of x =
-      sort_of-instance_by sig σ t.last t.matched.left kept.well_sorted ∙ kept.same_sort ∙ sym (sort_of-instance_by sig σ start t.matched.left t.start_sorted) ∙ sx in
+      sort_of-instance_by sig σ t.last t.matched.left kept.well_sorted ∙ kept.same_sort ∙ sym (sort_of-instance_by sig σ start t.matched.left t.start_sorted)
+      ∙ sx in
       let moves = moved σ τ 0 t.sort t.matched.differ t.last in
-      let back_entries : put_or_same c.whole c.path (on (bare_entries (e ∷ cs)) there) ≡ put_or_same c.whole c.path (on (bare_entries c.entries) there) = ap (λ es. put_or_same c.whole c.path (on (bare_entries es) there)) (sym ee) in
+      let back_entries : put_or_same c.whole c.path (on (bare_entries (e ∷ cs)) there) ≡ put_or_same c.whole c.path (on (bare_entries c.entries) there) =
+      ap (λ es. put_or_same c.whole c.path (on (bare_entries es) there)) (sym ee) in
       let P : Pieces → Type 0 = λ zs. PiecesLead th c.assumptions zs c.whole (put_or_same c.whole c.path (on (bare_entries c.entries) there)) in
       let SL : Pieces → Type 0 = Sided f cl (instance σ start) (instance σ t.last) in
       let SR : Pieces → Type 0 = Sided f cr (instance τ start) (instance τ t.last) in
       let SO : Pieces → Type 0 = Sided f co (instance σ t.last) (instance τ t.last) in
       let all : Tree → Pieces → Pieces → ℕ → Spending Pieces = λ z l w j. continued (middle z j) (whole3 l w) in
-      goes_on SL P n (links_written run f cl (no_basis run f) ls start n) (λ l k. continued (links_written run f cr (no_basis run f) ls start k) (λ w j. all last l w j))
+      goes_on SL P n (links_written run f cl (no_basis run f) ls start n)
+      (λ l k. continued (links_written run f cr (no_basis run f) ls start k) (λ w j. all last l w j))
       (certificate_leads e cs t x σ stl sx el n le)
       (λ l k lk gl. goes_on SR P k (links_written run f cr (no_basis run f) ls start k) (λ w j. all last l w j)
       (certificate_leads e cs t x τ str sy en k (omega (arith, lk, le)))
       (λ w j lj gw.
       let O : Tree → Type 0 = λ z. Goes P j (all z l w j) in
       let PS : ℕ → Type 0 = λ z. Goes SO j (occurrences_written run f co xs b t.last (paths_of 0 z t.last) (instance σ t.last) j) in
-      let done : PS t.sort = occurrences_lead f fr run depth so co x sto ic.followed xs ic.items.3 σ τ t.matched.left t.matched.right t.sort t.is_sort t.matched.left_here t.matched.right_here t.last kept.well_sorted t.guarded
+      let done : PS t.sort = occurrences_lead f fr run depth so co x sto ic.followed xs ic.items.3 σ τ t.matched.left t.matched.right t.sort t.is_sort
+      t.matched.left_here t.matched.right_here t.last kept.well_sorted t.guarded
       (paths_of 0 t.sort t.last) (instance σ t.last) (instance τ t.last) moves gl.end sl j (omega (arith, lj, lk, le)) in
       let back = pieces_turned th fr.well_formed c.assumptions w (whole_with cr (instance τ start)) (whole_with cr (instance τ t.last)) gw.lead en.within in
       subst O (sym last_is)
@@ -293,8 +334,10 @@ module _ (f : Background) (fr : IsBackground f) (run : Expander) (depth : ℕ) (
       (λ o i2 li go.
       let zs : Pieces = pieces_joined l (pieces_joined o (turned w)) in
       let lead : PiecesLead th c.assumptions zs (whole_with cl (instance σ start)) (whole_with cr (instance τ start)) =
-      joined_lead th c.assumptions l (pieces_joined o (turned w)) (whole_with cl (instance σ start)) (whole_with cl (instance σ t.last)) (whole_with cr (instance τ start)) gl.lead
-      (joined_lead th c.assumptions o (turned w) (whole_with cl (instance σ t.last)) (whole_with cr (instance τ t.last)) (whole_with cr (instance τ start)) go.lead back) in
+      joined_lead th c.assumptions l (pieces_joined o (turned w)) (whole_with cl (instance σ start)) (whole_with cl (instance σ t.last))
+      (whole_with cr (instance τ start)) gl.lead
+      (joined_lead th c.assumptions o (turned w) (whole_with cl (instance σ t.last)) (whole_with cr (instance τ t.last))
+      (whole_with cr (instance τ start)) go.lead back) in
       let LL : Tree → Type 0 = λ z. PiecesLead th c.assumptions zs z (whole_with cr (instance τ start)) in
       let LR : Tree → Type 0 = λ z. PiecesLead th c.assumptions zs c.whole z in
       goes_value P i2 zs (subst LR (whole_r ∙ back_entries) (subst LL whole_l lead))))))

@@ -6,7 +6,8 @@ use Rattle.circ_term.specs.Limits.{IsWithinLimits}
 use Rattle.circ_term.specs.Substitution.{instance}
 use Rattle.circ_term.proofs.Paths.{at-append, at_replaced, replaced_below, replaced_self, replaced_twice}
 use Rattle.circ_theory.specs.Signature.{Operator, IsWellSorted, IsSubstitution}
-use Rattle.circ_theory.specs.Theory.{Theory, Derivative, Pair, CaseList, sides, IsHidden, IsWellSortedPair, AreWellSortedPairs, AreConditions, IsWellSortedGoal}
+use Rattle.circ_theory.specs.Theory.{Theory, Derivative, Pair, CaseList, sides, IsHidden, IsWellSortedPair, AreWellSortedPairs, AreConditions}
+use Rattle.circ_theory.specs.Theory.{IsWellSortedGoal}
 use Rattle.circ_theory.specs.WellFormed.{IsWellFormed}
 use Rattle.circ_theory.specs.Experiment.{Fits, on}
 use Rattle.circ_theory.specs.declared.parts.Goal.{Goal}
@@ -21,7 +22,8 @@ use Rattle.circ_proof.specs.Certified.{Certified}
 use Rattle.circ_proof.specs.Rules.{derivatives_on}
 use Rattle.circ_proof.proofs.Members.{nothing, from_map}
 use Rattle.circ_entry.specs.Entries.{bare_entries}
-use Rattle.circ_expand.specs.Followed.{History, Histories, Simplified, Reduced, Derived, Open, no_history, more_histories, goal_in, list_in, Followed, put_or_same}
+use Rattle.circ_expand.specs.Followed.{History, Histories, Simplified, Reduced, Derived, Open, no_history, more_histories, goal_in, list_in, Followed}
+use Rattle.circ_expand.specs.Followed.{put_or_same}
 use Rattle.circ_expand.specs.Pieces.{PiecesLead}
 use Rattle.circ_expand.specs.Expand.{holes, Layer, At_place, By_entry, layered, places_on, Background, Call, Expander, base, whole_with, followed_goals}
 use Rattle.circ_expand.proofs.Going.{Goes}
@@ -43,7 +45,8 @@ pub record IsBare (c : Setting) (g : Goal) : Type 0 where
 abbrev mutual
   pub IsHistory : Setting → History → Type 0
   IsHistory c (Simplified p chain h) =
-      IsBare c p × (AllOfChain (IsWellSorted c.theory.signature) chain × IsBareChain chain) × ChainLeads (Leads c) chain (sides p) (sides (goal_in h)) × IsHistory c h
+      IsBare c p × (AllOfChain (IsWellSorted c.theory.signature) chain × IsBareChain chain) × ChainLeads (Leads c) chain (sides p)
+      (sides (goal_in h)) × IsHistory c h
   IsHistory c (Reduced p why) = IsBare c p × (AllOfWhy (IsWellSorted c.theory.signature) why × IsBareWhy why) × Justified c (sides p) why
   IsHistory c (Derived p hs) =
       IsBare c p × IsHidden c.theory (sort_of p.left) × (map goal_in (list_in hs) ≡ derivatives_on c.theory p) × AreHistories c hs
@@ -80,7 +83,8 @@ pub record IsCertificate (th : Theory) (G : List Place) (g : Place) (d : Derivat
 pub record IsBackground (f : Background) : Type 0 where
   pub well_formed : IsWellFormed f.theory
   pub places : AllByRecursion (IsPlace f.theory) f.places
-  pub one_list : (l : CaseList) → Contains f.theory.cases l → (s : ℕ) → s ≡ l.sort → unwrap_or (find (λ k. s == k.sort) f.theory.cases) (record { sort = s; constants = [] }) ≡ l
+  pub one_list : (l : CaseList) → Contains f.theory.cases l → (s : ℕ) → s ≡ l.sort
+      → unwrap_or (find (λ k. s == k.sort) f.theory.cases) (record { sort = s; constants = [] }) ≡ l
   pub followed : (b : ℕ) → AreFollowed f (block_hypotheses f b)
   pub certified : (g : Place) (o : Operator) (k : ℕ) (d : Derivative) → Contains f.places g → slice_get f.theory.signature.ops g.op ≡ Some o
       → slice_get f.theory.derivatives k ≡ Some d → d.hole ≡ o.result → IsCertificate f.theory f.places g d (f.certificate g k)
@@ -99,7 +103,8 @@ abbrev pub AreLayers : Background → List Layer → Tree → Type 0
 AreLayers f [] t = Unit {0}
 AreLayers f (At_place g s i ts ∷ xs) t = Contains f.places (place g i) × (a : Tree) × (slice_get (list_of ts) i ≡ Some a) × AreLayers f xs t
 AreLayers f (By_entry e ∷ xs) t =
-    (slice_get f.theory.derivatives e.number ≡ Some e.entry.derivative) × IsSubstitution f.theory.signature e.entry.parameters × (e.entry.derivative.hole ≡ sort_of (layered xs t)) × AreLayers f xs t
+    (slice_get f.theory.derivatives e.number ≡ Some e.entry.derivative) × IsSubstitution f.theory.signature e.entry.parameters ×
+    (e.entry.derivative.hole ≡ sort_of (layered xs t)) × AreLayers f xs t
 
 abbrev pub layers_of : Option (List Layer) → List Layer
 layers_of None = []
@@ -150,7 +155,8 @@ module _ (f : Background) (c : Call) (x : Tree) (st : Stands f c x) where
   pub whole_on : (y : Tree) → whole_with c y ≡ put_or_same c.whole c.path (on (bare_entries c.entries) y)
   whole_on y =
       ap (λ o. unwrap_or o c.whole)
-      (replaced_below c.path (holes c.entries) c.whole (on (bare_entries c.entries) x) y (on (bare_entries c.entries) y) st.there (on_put f.theory c.entries st.numbered x y))
+      (replaced_below c.path (holes c.entries) c.whole (on (bare_entries c.entries) x) y (on (bare_entries c.entries) y) st.there
+      (on_put f.theory c.entries st.numbered x y))
 
   pub whole_there : (y : Tree) → at (whole_with c y) (base c) ≡ Some y
   whole_there y = at_replaced (base c) c.whole y (whole_with c y) (whole_is y)
@@ -186,12 +192,17 @@ module _ (f : Background) (c : Call) (x : Tree) (st : Stands f c x) where
       ∙ sym (whole_on z)
 
 -- a term of the same sort in place of the one at the hole
-pub whole_sorted : (f : Background) (c : Call) (x : Tree) → Stands f c x → (y z : Tree) → IsWellSorted f.theory.signature (whole_with c y) → IsWellSorted f.theory.signature z → sort_of z ≡ sort_of y
+pub whole_sorted : (f : Background) (c : Call) (x : Tree) → Stands f c x → (y z : Tree) → IsWellSorted f.theory.signature (whole_with c y)
+    → IsWellSorted f.theory.signature z → sort_of z ≡ sort_of y
     → IsWellSorted f.theory.signature (whole_with c z)
 whole_sorted f c x st y z wy wz e =
-    (replaced_sorted f.theory (base c) (whole_with c y) y z (whole_with c z) wy (whole_there f c x st y) (record { well_sorted = wz; same_sort = e }) (whole_over f c x st y z)).well_sorted
+    (replaced_sorted f.theory (base c) (whole_with c y) y z (whole_with c z) wy (whole_there f c x st y) (record {
+      well_sorted = wz;
+      same_sort = e;
+    }) (whole_over f c x st y z)).well_sorted
 
-pub places_items : (f : Background) (p : List ℕ) (t x : Tree) (xs : List Layer) → IsSpecial f.places t p → AreLayers f xs x → AreLayers f (places_on t p ++ xs) x
+pub places_items : (f : Background) (p : List ℕ) (t x : Tree) (xs : List Layer) → IsSpecial f.places t p → AreLayers f xs x
+    → AreLayers f (places_on t p ++ xs) x
 places_items f [] t x xs sp a = a
 places_items f (i ∷ p) (Var n s) x xs sp a = absurd sp
 places_items f (i ∷ p) (App g s ts) x xs sp a = (sp.0, sp.1, sp.2, let h = places_items f p sp.1 x xs sp.3 a in let e = sp.2 in rw e h)

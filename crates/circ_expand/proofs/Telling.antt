@@ -11,15 +11,18 @@ use Rattle.circ_theory.specs.Derivable.{is_case}
 use Rattle.circ_theory.specs.declared.parts.Goal.{Goal}
 use Rattle.circ_theory.proofs.Lists.{slice_get-front}
 use Rattle.circ_special.specs.declared.place.Place.{Place}
-use Rattle.circ_proof.specs.Plain.{LinkOf, chains_in, no_chain, Equation_link, Hypothesis_link, Assumption_link, Content_link, ChainOf, WhyOf, WhysOf, Same_why, Split_why, no_why, more_whys}
+use Rattle.circ_proof.specs.Plain.{LinkOf, chains_in, no_chain, Equation_link, Hypothesis_link, Assumption_link, Content_link, ChainOf, WhyOf, WhysOf}
+use Rattle.circ_proof.specs.Plain.{Same_why, Split_why, no_why, more_whys}
 use Rattle.circ_proof.specs.Goals.{AreSortedGoals}
 use Rattle.circ_proof.specs.Runs.{Runs}
 use Rattle.circ_proof.specs.Link.{Setting, setting, assuming, Leads}
 use Rattle.circ_proof.specs.Justified.{ChainLeads, Justified, EachJustified, AllOfChain}
-use Rattle.circ_proof.specs.Rules.{State, state, ProofStep, Simplify, Reduce, Derive, Cases, Done, AllOfStep, StepsOf, IsSortedState, derived_goal, derivatives_on}
+use Rattle.circ_proof.specs.Rules.{State, state, ProofStep, Simplify, Reduce, Derive, Cases, Done, AllOfStep, StepsOf, IsSortedState, derived_goal}
+use Rattle.circ_proof.specs.Rules.{derivatives_on}
 use Rattle.circ_proof.proofs.Sorted.{sorted_first}
 use Rattle.circ_proof.proofs.Stepping.{step_sorted}
-use Rattle.circ_expand.specs.Followed.{Histories, Simplified, Derived, no_history, more_histories, goal_in, list_in, first_history, other_histories, first_histories, histories_after, Told, told_as, told, and_simplified, led_all, led_goal}
+use Rattle.circ_expand.specs.Followed.{Histories, Simplified, Derived, no_history, more_histories, goal_in, list_in, first_history, other_histories}
+use Rattle.circ_expand.specs.Followed.{first_histories, histories_after, Told, told_as, told, and_simplified, led_all, led_goal}
 use Rattle.circ_expand.proofs.Led.{links_led}
 use Rattle.circ_expand.proofs.Plainness.{AreBare, IsBareChain, IsBareWhy, AreBareWhys, IsBareStep, AreBareGoals, none_due, none_asked}
 use Rattle.circ_expand.proofs.Standing.{IsBare, IsHistory, AreHistories}
@@ -49,15 +52,20 @@ links_wider : (c : Setting) (D : List Goal) (ls : List (LinkOf Tree)) → AreBar
 links_wider c D [] b t u r = r
 links_wider c D (l ∷ ls) b t u r = (r.0, link_wider c D l b.0 t r.0 r.1, links_wider c D ls b.1 r.0 u r.2)
 
-chain_wider : (c : Setting) (D : List Goal) (chain : ChainOf Tree) → IsBareChain chain → (p q : Pair) → ChainLeads (Leads c) chain p q → ChainLeads (Leads (wider c D)) chain p q
-chain_wider c D chain b p q r = record { left = links_wider c D chain.left b.0 p.left q.left r.left; right = links_wider c D chain.right b.1 p.right q.right r.right }
+chain_wider : (c : Setting) (D : List Goal) (chain : ChainOf Tree) → IsBareChain chain → (p q : Pair) → ChainLeads (Leads c) chain p q
+    → ChainLeads (Leads (wider c D)) chain p q
+chain_wider c D chain b p q r = record {
+  left = links_wider c D chain.left b.0 p.left q.left r.left;
+  right = links_wider c D chain.right b.1 p.right q.right r.right;
+}
 
 mutual
   why_wider : (c : Setting) (D : List Goal) (p : Pair) (w : WhyOf Tree) → IsBareWhy w → Justified c p w → Justified (wider c D) p w
   why_wider c D p (Same_why chain) b j = (j.0, chain_wider c D chain b p (pair_with j.0 j.0) j.1)
   why_wider c D p (Split_why chain u ws) b j = (j.0, chain_wider c D chain b.0 p j.0 j.1, j.2, j.3, j.4, each_wider c D j.0 u j.2 j.2.constants ws b.1 j.5)
 
-  each_wider : (c : Setting) (D : List Goal) (q : Pair) (u : Tree) (l : CaseList) (ks : List ℕ) (ws : WhysOf Tree) → AreBareWhys ws → EachJustified c q u l ks ws → EachJustified (wider c D) q u l ks ws
+  each_wider : (c : Setting) (D : List Goal) (q : Pair) (u : Tree) (l : CaseList) (ks : List ℕ) (ws : WhysOf Tree) → AreBareWhys ws
+      → EachJustified c q u l ks ws → EachJustified (wider c D) q u l ks ws
   each_wider c D q u l [] no_why b j = tt
   each_wider c D q u l [] (more_whys w ws) b j = absurd j
   each_wider c D q u l (k ∷ ks) no_why b j = absurd j
@@ -81,7 +89,13 @@ parts c (more_histories h hs) (p ∷ ps) ds a e =
     let x : goal_in h ≡ p = cc in
     let y : history_goals hs ≡ ps ++ ds = cc in
     let r = parts c hs ps ds a.1 y in
-    record { first_goals = ap (λ q. q ∷ history_goals (first_histories (length ps) hs)) x ∙ ap (λ qs. p ∷ qs) r.first_goals; other_goals = r.other_goals; first_are = (a.0, r.first_are); others_are = r.others_are }
+    record {
+      first_goals = ap (λ q. q ∷ history_goals (first_histories (length ps) hs)) x
+          ∙ ap (λ qs. p ∷ qs) r.first_goals;
+      other_goals = r.other_goals;
+      first_are = (a.0, r.first_are);
+      others_are = r.others_are;
+    }
 
 -- ---- what is told
 
@@ -106,7 +120,8 @@ none_left th G H F (Derive ∷ ss) r = absurd r.1
 none_left th G H F (Cases u ∷ ss) r = absurd r.1
 none_left th G H F (Done ∷ ss) r = let S : State → Type 0 = λ a. StepsOf th G ss a (state F []) in none_left th G H F ss (subst S r.1 r.2)
 
-simplified_told : (th : Theory) (G : List Place) (H ps F : List Goal) (p q : Goal) (chain : ChainOf Tree) (t : Told) → ChainLeads (Leads (setting th G H [])) chain (sides p) (sides q) → IsBare (setting th G F []) p
+simplified_told : (th : Theory) (G : List Place) (H ps F : List Goal) (p q : Goal) (chain : ChainOf Tree) (t : Told)
+    → ChainLeads (Leads (setting th G H [])) chain (sides p) (sides q) → IsBare (setting th G F []) p
     → AllOfChain (IsWellSorted th.signature) chain → IsBareChain chain → IsTold th G H (q ∷ ps) F t → IsTold th G H (p ∷ ps) F (and_simplified p chain t)
 simplified_told th G H ps F p q chain t r wp f bc i = go t.goals i.goals_are i.goals_hold
   where
@@ -115,13 +130,19 @@ simplified_told th G H ps F p q chain t r wp f bc i = go t.goals i.goals_are i.g
         let P : List Goal → Type 0 = λ K. ChainLeads (Leads (setting th G K [])) chain (sides p) (sides q) in
         subst P i.whole (chain_wider (setting th G H []) (map goal_in (list_in t.derived)) chain bc (sides p) (sides q) r)
 
-    go : (hs : Histories) → map goal_in (list_in hs) ≡ q ∷ ps → AreHistories (setting th G F []) hs → IsTold th G H (p ∷ ps) F (told_as (more_histories (Simplified p chain (first_history hs)) (other_histories hs)) t.derived)
+    go : (hs : Histories) → map goal_in (list_in hs) ≡ q ∷ ps → AreHistories (setting th G F []) hs
+        → IsTold th G H (p ∷ ps) F (told_as (more_histories (Simplified p chain (first_history hs)) (other_histories hs)) t.derived)
     go no_history e a = absurd (cc)
     go (more_histories h hs) e a =
         let x : goal_in h ≡ q = cc in
         let y : map goal_in (list_in hs) ≡ ps = cc in
         let Q : Goal → Type 0 = λ z. ChainLeads (Leads (setting th G F [])) chain (sides p) (sides z) in
-        record { goals_are = ap (λ qs. p ∷ qs) y; goals_hold = ((wp, (f, bc), subst Q (sym x) chain_holds, a.0), a.1); derived_hold = i.derived_hold; whole = i.whole }
+        record {
+          goals_are = ap (λ qs. p ∷ qs) y;
+          goals_hold = ((wp, (f, bc), subst Q (sym x) chain_holds, a.0), a.1);
+          derived_hold = i.derived_hold;
+          whole = i.whole;
+        }
 
 -- ---- goals without conditions
 
@@ -158,7 +179,10 @@ told_holds th ok G H (p ∷ ps) F sh sg bg (Simplify chain ∷ ss) f bs r =
     ∙ ap (goal [] q.left) (links_led c chain.right p.right q.right step.1.right) in
     let T : Goal → Type 0 = λ y. IsTold th G H (p ∷ ps) F (and_simplified p chain (told th G H (y ∷ ps) ss)) in
     subst T (sym same)
-    (simplified_told th G H ps F p q chain (told th G H (q ∷ ps) ss) step.1 (record { sorted = (sorted_first th p ps sg).sorted; no_conds = bg.0 }) f.0 bs.0 ih)
+    (simplified_told th G H ps F p q chain (told th G H (q ∷ ps) ss) step.1 (record {
+      sorted = (sorted_first th p ps sg).sorted;
+      no_conds = bg.0;
+    }) f.0 bs.0 ih)
 told_holds th ok G H (p ∷ ps) F sh sg bg (Reduce why ∷ ss) f bs r =
     let step = r.1 in
     let S : State → Type 0 = λ a. StepsOf th G ss a (state F []) in

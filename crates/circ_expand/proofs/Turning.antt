@@ -7,7 +7,8 @@ use Rattle.circ_theory.proofs.Sorting.{at_sorted, replaced_sorted}
 use Rattle.circ_special.specs.Guarded.{Guarded}
 use Rattle.circ_expand.specs.Followed.{goal_in, put_or_same}
 use Rattle.circ_expand.specs.Pieces.{Pieces, no_piece, PiecesLead}
-use Rattle.circ_expand.specs.Expand.{Spending, continued, counted, tested, Layer, layered, Background, Call, Expander, base, whole_with, and_pieces, Case, guard_case, occurrence_call, occurrence_use, occurrences_written}
+use Rattle.circ_expand.specs.Expand.{Spending, continued, counted, tested, Layer, layered, Background, Call, Expander, base, whole_with, and_pieces, Case}
+use Rattle.circ_expand.specs.Expand.{guard_case, occurrence_call, occurrence_use, occurrences_written}
 use Rattle.circ_expand.proofs.Going.{Goes, goes_on, goes_counted, goes_tested, goes_value}
 use Rattle.circ_expand.proofs.Putting.{put_is}
 use Rattle.circ_expand.proofs.Standing.{IsFollowed, IsBackground, AreLayers, IsEnd, Stands, IsSound, whole_there, whole_sorted}
@@ -16,9 +17,12 @@ use Rattle.circ_expand.proofs.Casing.{case_holds}
 use Rattle.circ_expand.proofs.Passing.{occurrence_leads}
 use Rattle.circ_expand.proofs.Moving.{Moves}
 
-module _ (f : Background) (fr : IsBackground f) (run : Expander) (depth : ℕ) (so : IsSound f depth run) (c : Call) (x : Tree) (st : Stands f c x) (fo : IsFollowed f c.goal)
-    (xs : List Layer) (it : AreLayers f xs (instance c.by (goal_in c.goal.history).left)) (σ τ : Substitution) (iσ : IsSubstitution f.theory.signature σ) (iτ : IsSubstitution f.theory.signature τ) (s : ℕ) (hs : IsSort f.theory.signature s)
-    (ea : σ 0 s ≡ layered xs (instance c.by (goal_in c.goal.history).left)) (eb : τ 0 s ≡ layered xs (instance c.by (goal_in c.goal.history).right)) (last : Tree) (wl : IsWellSorted f.theory.signature last)
+module _ (f : Background) (fr : IsBackground f) (run : Expander) (depth : ℕ) (so : IsSound f depth run) (c : Call) (x : Tree) (st : Stands f c x)
+    (fo : IsFollowed f c.goal)
+    (xs : List Layer) (it : AreLayers f xs (instance c.by (goal_in c.goal.history).left)) (σ τ : Substitution) (iσ : IsSubstitution f.theory.signature σ)
+    (iτ : IsSubstitution f.theory.signature τ) (s : ℕ) (hs : IsSort f.theory.signature s)
+    (ea : σ 0 s ≡ layered xs (instance c.by (goal_in c.goal.history).left)) (eb : τ 0 s ≡ layered xs (instance c.by (goal_in c.goal.history).right))
+    (last : Tree) (wl : IsWellSorted f.theory.signature last)
     (guarded : Guarded f.theory f.places last 0 s) where
   pub occurrences_lead : (ps : List (List ℕ)) (u w : Tree) → Moves σ τ 0 s last ps u w → IsEnd f.theory (whole_with c u) → sort_of u ≡ sort_of x
       → (n : ℕ) → n ≤ depth → Goes (Sided f c u w) n (occurrences_written run f c xs (layered xs (instance c.by (goal_in c.goal.history).right)) last ps u n)

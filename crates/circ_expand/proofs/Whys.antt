@@ -17,7 +17,8 @@ use Rattle.circ_proof.proofs.Leading.{chain_sorted, links_sorted}
 use Rattle.circ_entry.specs.Entries.{bare_entries}
 use Rattle.circ_expand.specs.Followed.{led_all}
 use Rattle.circ_expand.specs.Pieces.{Pieces, Parts, Cases_piece, more_pieces, no_part, more_parts, pieces_joined, turned, PiecesLead, PartsLead}
-use Rattle.circ_expand.specs.Expand.{Spending, Yields, continued, counted, tested, Background, Call, Expander, base, around, Basis, link_setting, links_written, cases_at, case_basis, case_call, whys_written, each_why}
+use Rattle.circ_expand.specs.Expand.{Spending, Yields, continued, counted, tested, Background, Call, Expander, base, around, Basis, link_setting}
+use Rattle.circ_expand.specs.Expand.{links_written, cases_at, case_basis, case_call, whys_written, each_why}
 use Rattle.circ_expand.proofs.Going.{Goes, goes_on, goes_counted, goes_tested, goes_value}
 use Rattle.circ_expand.proofs.Putting.{put_is}
 use Rattle.circ_proof.proofs.Cases.{case_sorted}
@@ -51,7 +52,8 @@ length_last [] x = refl
 length_last (z ∷ xs) x = ap suc (length_last xs x)
 
 -- one case more on both sides
-raised_more : (σ : Substitution) (A B : List Pair) (a : ℕ) (p : Pair) → ((n : ℕ) (q : Pair) → slice_get A n ≡ Some q → slice_get B (a + n) ≡ Some (instance_pair σ q)) → length B ≡ a + length A
+raised_more : (σ : Substitution) (A B : List Pair) (a : ℕ) (p : Pair)
+    → ((n : ℕ) (q : Pair) → slice_get A n ≡ Some q → slice_get B (a + n) ≡ Some (instance_pair σ q)) → length B ≡ a + length A
     → (n : ℕ) (q : Pair) → slice_get (A ++ p ∷ []) n ≡ Some q → slice_get (B ++ instance_pair σ p ∷ []) (a + n) ≡ Some (instance_pair σ q)
 raised_more σ A B a p ra l n q e = go (get_last A p q n e)
   where
@@ -63,10 +65,12 @@ raised_more σ A B a p ra l n q e = go (get_last A p q n e)
 
 -- ---- a case
 
-case_whole : (f : Background) (run : Expander) (c : Call) (x : Tree) → Stands f c x → (s : Tree) (p : Pair) (y : Tree) → around (case_call run f c s p) y ≡ around c y
+case_whole : (f : Background) (run : Expander) (c : Call) (x : Tree) → Stands f c x → (s : Tree) (p : Pair) (y : Tree)
+    → around (case_call run f c s p) y ≡ around c y
 case_whole f run c x st s p y = put_is (base c) (around c s) (instance c.by y) (around c y) (whole_over f c x st (instance c.by s) (instance c.by y))
 
-case_stands : (f : Background) (run : Expander) (c : Call) (x : Tree) → Stands f c x → (s : Tree) (p : Pair) → sort_of (instance c.by s) ≡ sort_of x → IsWellSortedPair f.theory.signature p
+case_stands : (f : Background) (run : Expander) (c : Call) (x : Tree) → Stands f c x → (s : Tree) (p : Pair) → sort_of (instance c.by s) ≡ sort_of x
+    → IsWellSortedPair f.theory.signature p
     → Stands f (case_call run f c s p) (instance c.by s)
 case_stands f run c x st s p e w = record {
   by = st.by;
@@ -85,7 +89,8 @@ pub record IsFull (f : Background) (c : Call) (b : Basis) : Type 0 where
   pub basis : IsBasis f c b
   pub whole : length c.assumptions ≡ b.raised + length b.assumptions
 
-case_full : (f : Background) (run : Expander) (c : Call) (b : Basis) → IsFull f c b → (s v : Tree) (l : CaseList) (k : ℕ) → IsWellSortedPair f.theory.signature (is_case v l k)
+case_full : (f : Background) (run : Expander) (c : Call) (b : Basis) → IsFull f c b → (s v : Tree) (l : CaseList) (k : ℕ)
+    → IsWellSortedPair f.theory.signature (is_case v l k)
     → IsFull f (case_call run f c s (is_case (instance c.by v) l k)) (case_basis run f b (is_case v l k))
 case_full f run c b i s v l k w =
     let p : Pair = is_case v l k in
@@ -96,7 +101,9 @@ case_full f run c b i s v l k w =
         sorted = more_sorted f.theory b.assumptions p i.basis.sorted w;
         raised = raised_more c.by b.assumptions c.assumptions b.raised p i.basis.raised i.whole;
       };
-      whole = length_last c.assumptions e ∙ ap suc i.whole ∙ (let z : suc (b.raised + length b.assumptions) ≡ b.raised + suc (length b.assumptions) = omega arith in z) ∙ ap (λ j. b.raised + j) (sym (length_last b.assumptions p));
+      whole = length_last c.assumptions e ∙ ap suc i.whole
+          ∙ (let z : suc (b.raised + length b.assumptions) ≡ b.raised + suc (length b.assumptions) = omega arith in z)
+          ∙ ap (λ j. b.raised + j) (sym (length_last b.assumptions p));
     }
 
 -- what is written for a reason leads from the one side to the other
@@ -105,13 +112,15 @@ WhyLeads f c p xs = PiecesLead f.theory c.assumptions xs (around c p.left) (arou
 
 module _ (f : Background) (fr : IsBackground f) (run : Expander) (d : ℕ) (so : IsSound f d run) where
   -- the right side's instance has the sort of the left one's
-  sort_right : (c : Call) (x : Tree) → Stands f c x → (p : Pair) → IsWellSortedPair f.theory.signature p → sort_of (instance c.by p.left) ≡ sort_of x → sort_of (instance c.by p.right) ≡ sort_of x
+  sort_right : (c : Call) (x : Tree) → Stands f c x → (p : Pair) → IsWellSortedPair f.theory.signature p → sort_of (instance c.by p.left) ≡ sort_of x
+      → sort_of (instance c.by p.right) ≡ sort_of x
   sort_right c x st p sp se =
       let sig = f.theory.signature in
       sort_of-instance_by sig c.by p.right st.by sp.right ∙ sp.same_sort ∙ sym (sort_of-instance_by sig c.by p.left st.by sp.left) ∙ se
 
   mutual
-    pub whys_lead : (c : Call) (x : Tree) → Stands f c x → (b : Basis) → IsFull f c b → (p : Pair) → IsWellSortedPair f.theory.signature p → (w : WhyOf Tree) → AllOfWhy (IsWellSorted f.theory.signature) w → IsBareWhy w → Justified (link_setting f b) p w
+    pub whys_lead : (c : Call) (x : Tree) → Stands f c x → (b : Basis) → IsFull f c b → (p : Pair) → IsWellSortedPair f.theory.signature p → (w : WhyOf Tree)
+        → AllOfWhy (IsWellSorted f.theory.signature) w → IsBareWhy w → Justified (link_setting f b) p w
         → IsEnd f.theory (around c p.left) → IsEnd f.theory (around c p.right) → sort_of (instance c.by p.left) ≡ sort_of x
         → (n : ℕ) → n ≤ d → Goes (WhyLeads f c p) n (whys_written run f c b w p.left p.right n)
     whys_lead c x st b i p sp (Same_why chain) a bw j el er se n le =
@@ -121,7 +130,8 @@ module _ (f : Background) (fr : IsBackground f) (run : Expander) (d : ℕ) (so :
         let P : Pieces → Type 0 = WhyLeads f c p in
         let SL : Pieces → Type 0 = Sided f c (instance c.by s) (instance c.by j.0) in
         let SR : Pieces → Type 0 = Sided f c (instance c.by t) (instance c.by j.0) in
-        goes_on SL P n (links_written run f c b chain.left s n) (λ l k. continued (links_written run f c b chain.right t k) (λ r h. Yields (pieces_joined l (turned r)) h))
+        goes_on SL P n (links_written run f c b chain.left s n)
+        (λ l k. continued (links_written run f c b chain.right t k) (λ r h. Yields (pieces_joined l (turned r)) h))
         (links_lead f fr run d so c x st b i.basis chain.left a.0 bw.0 s j.0 sp.left j.1.left el se n le)
         (λ l k lk gl. goes_on SR P k (links_written run f c b chain.right t k) (λ r h. Yields (pieces_joined l (turned r)) h)
         (links_lead f fr run d so c x st b i.basis chain.right a.1 bw.1 t j.0 sp.right j.1.right er (sort_right c x st p sp se) k (omega (arith, lk, le)))
@@ -147,7 +157,8 @@ module _ (f : Background) (fr : IsBackground f) (run : Expander) (d : ℕ) (so :
         let PP : Parts → Type 0 = λ ps. PartsLead th c.assumptions u cl cl.constants ps (around c q.left) (around c q.right) in
         let each : CaseList → Tree → Tree → ℕ → Spending Parts = λ k y z h. each_why run f c b ws v k k.constants y z h in
         let last : Pieces → Pieces → Parts → ℕ → Spending Pieces = λ l r ps e. Yields (pieces_joined l (more_pieces (Cases_piece u ps) (turned r))) e in
-        let split : CaseList → Tree → Tree → Pieces → Pieces → ℕ → Spending Pieces = λ k y z l r h. counted h (λ e. tested u (continued (each k y z e) (last l r))) in
+        let split : CaseList → Tree → Tree → Pieces → Pieces → ℕ → Spending Pieces =
+        λ k y z l r h. counted h (λ e. tested u (continued (each k y z e) (last l r))) in
         let list_is : cases ≡ cl = fr.one_list cl j.3 (sort_of v) j.4 in
         let sl : Tree = led_all S chain.left s in
         let sr : Tree = led_all S chain.right t in
@@ -156,11 +167,13 @@ module _ (f : Background) (fr : IsBackground f) (run : Expander) (d : ℕ) (so :
         let good = basis_setting f fr c b i.basis in
         let sq = chain_sorted S good chain a.0 p q sp j.1 in
         let kl = links_sorted S good chain.left a.0.0 s q.left sp.left j.1.left in
-        let sort_y : sort_of (instance c.by q.left) ≡ sort_of x = sort_of-instance_by sig c.by q.left st.by kl.well_sorted ∙ kl.same_sort ∙ sym (sort_of-instance_by sig c.by s st.by sp.left) ∙ se in
+        let sort_y : sort_of (instance c.by q.left) ≡ sort_of x =
+        sort_of-instance_by sig c.by q.left st.by kl.well_sorted ∙ kl.same_sort ∙ sym (sort_of-instance_by sig c.by s st.by sp.left) ∙ se in
         goes_on SL P n (links_written run f c b chain.left s n) (λ l k. continued (links_written run f c b chain.right t k) (λ r h. split cases sl sr l r h))
         (links_lead f fr run d so c x st b i.basis chain.left a.0.0 bw.0.0 s q.left sp.left j.1.left el se n le)
         (λ l k lk gl. goes_on SR P k (links_written run f c b chain.right t k) (λ r h. split cases sl sr l r h)
-        (links_lead f fr run d so c x st b i.basis chain.right a.0.1 bw.0.1 t q.right sp.right j.1.right er (sort_right c x st p sp se) k (omega (arith, lk, le)))
+        (links_lead f fr run d so c x st b i.basis chain.right a.0.1 bw.0.1 t q.right sp.right j.1.right er (sort_right c x st p sp se) k
+        (omega (arith, lk, le)))
         (λ r h lh gr.
         let G1 : CaseList → Type 0 = λ y. Goes P h (split y q.left q.right l r h) in
         let G2 : Tree → Type 0 = λ y. Goes P h (split cases y q.right l r h) in
@@ -171,14 +184,21 @@ module _ (f : Background) (fr : IsBackground f) (run : Expander) (d : ℕ) (so :
         goes_on PP P e (each cl q.left q.right e) (last l r)
         (each_leads c x st b i q sq v cl j.3 wv j.4 wu su cl.constants (λ k z. z) ws a.2 bw.1 j.5 gl.end gr.end sort_y e (omega (arith, lt, lh, lk, le)))
         (λ ps y ly parts. goes_value P y (pieces_joined l (more_pieces (Cases_piece u ps) (turned r)))
-        (joined_lead th c.assumptions l (more_pieces (Cases_piece u ps) (turned r)) (around c s) (around c q.left) (around c t) gl.lead
-        (around c q.right, (cl, j.3, wu, su, parts), pieces_turned th fr.well_formed c.assumptions r (around c t) (around c q.right) gr.lead er.within))))))))))
+        (joined_lead th c.assumptions l (more_pieces (Cases_piece u ps) (turned r)) (around c s) (around c q.left) (around c t) gl.lead (
+          around c q.right,
+          (cl, j.3, wu, su, parts),
+          pieces_turned th fr.well_formed c.assumptions r (around c t)
+              (around c q.right) gr.lead er.within,
+        ))))))))))
 
-    each_leads : (c : Call) (x : Tree) → Stands f c x → (b : Basis) → IsFull f c b → (q : Pair) → IsWellSortedPair f.theory.signature q → (v : Tree) (l : CaseList) → Contains f.theory.cases l → IsWellSorted f.theory.signature v → sort_of v ≡ l.sort
+    each_leads : (c : Call) (x : Tree) → Stands f c x → (b : Basis) → IsFull f c b → (q : Pair) → IsWellSortedPair f.theory.signature q
+        → (v : Tree) (l : CaseList) → Contains f.theory.cases l → IsWellSorted f.theory.signature v → sort_of v ≡ l.sort
         → IsWellSorted f.theory.signature (instance c.by v) → sort_of (instance c.by v) ≡ l.sort
-        → (ks : List ℕ) → ((k : ℕ) → Contains ks k → Contains l.constants k) → (ws : WhysOf Tree) → AllOfWhys (IsWellSorted f.theory.signature) ws → AreBareWhys ws → EachJustified (link_setting f b) q v l ks ws
+        → (ks : List ℕ) → ((k : ℕ) → Contains ks k → Contains l.constants k) → (ws : WhysOf Tree) → AllOfWhys (IsWellSorted f.theory.signature) ws
+        → AreBareWhys ws → EachJustified (link_setting f b) q v l ks ws
         → IsEnd f.theory (around c q.left) → IsEnd f.theory (around c q.right) → sort_of (instance c.by q.left) ≡ sort_of x
-        → (n : ℕ) → n ≤ d → Goes (λ ps. PartsLead f.theory c.assumptions (instance c.by v) l ks ps (around c q.left) (around c q.right)) n (each_why run f c b ws v l ks q.left q.right n)
+        → (n : ℕ) → n ≤ d → Goes (λ ps. PartsLead f.theory c.assumptions (instance c.by v) l ks ps (around c q.left) (around c q.right)) n
+        (each_why run f c b ws v l ks q.left q.right n)
     each_leads c x st b i q sq v l cl wv sv wu su [] wi no_why a bw j el er se n le =
         goes_value (λ ps. PartsLead f.theory c.assumptions (instance c.by v) l [] ps (around c q.left) (around c q.right)) n no_part tt
     each_leads c x st b i q sq v l cl wv sv wu su [] wi (more_whys w ws) a bw j el er se n le = absurd j
@@ -203,7 +223,8 @@ module _ (f : Background) (fr : IsBackground f) (run : Expander) (d : ℕ) (so :
         let P : Parts → Type 0 = λ ps. PartsLead th c.assumptions u l (k ∷ ks) ps (around c s) (around c t) in
         let others : Pieces → ℕ → Spending Parts = λ p m. continued (each_why run f c b ws v l ks s t m) (λ ps y. Yields (more_parts p ps) y) in
         goes_on Q1 P n (whys_written run f c1 b1 w s t n) others
-        (whys_lead c1 (instance c.by s) st1 b1 (case_full f run c b i s v l k wp) q sq w a.0 bw.0 j.0 (subst E (sym ws_s) el) (subst E (sym ws_t) er) refl n le)
+        (whys_lead c1 (instance c.by s) st1 b1 (case_full f run c b i s v l k wp) q sq w a.0 bw.0 j.0 (subst E (sym ws_s) el)
+        (subst E (sym ws_t) er) refl n le)
         (λ p m lm one. goes_on Q2 P m (each_why run f c b ws v l ks s t m) (λ ps y. Yields (more_parts p ps) y)
         (each_leads c x st b i q sq v l cl wv sv wu su ks (λ y z. wi y (in_rest k y ks z)) ws a.1 bw.1 j.1 el er se m (omega (arith, lm, le)))
         (λ ps y ly rest.

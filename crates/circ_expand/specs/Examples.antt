@@ -43,8 +43,10 @@ bits = record {
   name = codes "B";
   signature = record {
     sorts = codes "Bit" ∷ codes "Stream" ∷ [];
-    ops = plain_op (codes "0") [] 0 ∷ plain_op (codes "1") [] 0 ∷ plain_op (codes "+") (0 ∷ 0 ∷ []) 0 ∷ plain_op (codes "hd") (1 ∷ []) 0 ∷ plain_op (codes "tl") (1 ∷ []) 1
-        ∷ plain_op (codes "zeros") [] 1 ∷ plain_op (codes "ones") [] 1 ∷ plain_op (codes "odd") (1 ∷ []) 1 ∷ plain_op (codes "zip") (1 ∷ 1 ∷ []) 1 ∷ plain_op (codes "+") (1 ∷ 1 ∷ []) 1
+    ops = plain_op (codes "0") [] 0 ∷ plain_op (codes "1") [] 0 ∷ plain_op (codes "+") (0 ∷ 0 ∷ []) 0
+        ∷ plain_op (codes "hd") (1 ∷ []) 0 ∷ plain_op (codes "tl") (1 ∷ []) 1
+        ∷ plain_op (codes "zeros") [] 1 ∷ plain_op (codes "ones") [] 1 ∷ plain_op (codes "odd") (1 ∷ []) 1
+        ∷ plain_op (codes "zip") (1 ∷ 1 ∷ []) 1 ∷ plain_op (codes "+") (1 ∷ 1 ∷ []) 1
         ∷ plain_op (codes "f") (1 ∷ []) 1 ∷ plain_op (codes "g") (1 ∷ []) 1 ∷ [];
   };
   variables = [];
@@ -87,7 +89,8 @@ zipped = record {
     names = between 4 0 ∷ [];
     steps = Derive
         ∷ Reduce (Same_why (left_links (Equation_link 9 Forth [] (1 ∷ 3 ∷ []) no_chain ∷ Equation_link 7 Forth [] (0 ∷ []) no_chain ∷ [])))
-        ∷ Reduce (Same_why (left_links (Equation_link 10 Forth [] (1 ∷ 3 ∷ []) no_chain ∷ Equation_link 8 Forth (1 ∷ []) (0 ∷ []) no_chain ∷ Hypothesis_link 0 Forth [] (2 ∷ []) no_chain ∷ [])))
+        ∷ Reduce (Same_why (left_links (Equation_link 10 Forth [] (1 ∷ 3 ∷ []) no_chain ∷ Equation_link 8 Forth (1 ∷ []) (0 ∷ []) no_chain
+        ∷ Hypothesis_link 0 Forth [] (2 ∷ []) no_chain ∷ [])))
         ∷ Done ∷ [];
   } ∷ [];
 }
@@ -124,7 +127,10 @@ summed = record {
     names = between 2 3 ∷ [];
     steps = Derive
         ∷ Reduce (Same_why (record { left = Equation_link 13 Forth [] (1 ∷ []) no_chain ∷ []; right = Equation_link 15 Forth [] (1 ∷ []) no_chain ∷ [] }))
-        ∷ Reduce (Same_why (record { left = Equation_link 14 Forth [] (1 ∷ []) no_chain ∷ Hypothesis_link 0 Forth (1 ∷ []) (1 ∷ []) no_chain ∷ []; right = Equation_link 16 Forth [] (1 ∷ []) no_chain ∷ [] }))
+        ∷ Reduce (Same_why (record {
+          left = Equation_link 14 Forth [] (1 ∷ []) no_chain ∷ Hypothesis_link 0 Forth (1 ∷ []) (1 ∷ []) no_chain ∷ [];
+          right = Equation_link 16 Forth [] (1 ∷ []) no_chain ∷ [];
+        }))
         ∷ Done ∷ [];
   } ∷ [];
 }
@@ -191,10 +197,18 @@ squares = record {
   table = v ∷ two 2 0 v v ∷ constant 0 0 ∷ constant 1 0 ∷ ab ∷ two 2 0 ab ab ∷ [];
   places = [];
   certificates = [];
-  blocks = record { goals = goal [] (two 2 0 v v) v ∷ []; names = between 1 0 ∷ []; steps = Reduce (Same_why (left_links (Content_link 2 [] 0 ∷ []))) ∷ Done ∷ [] }
-      ∷ record { goals = goal [] (two 2 0 ab ab) ab ∷ []; names = between 5 4 ∷ []; steps = Reduce (Same_why (left_links (Hypothesis_link 0 Forth [] (4 ∷ []) no_chain ∷ []))) ∷ Done ∷ [] }
+  blocks = record {
+    goals = goal [] (two 2 0 v v) v ∷ [];
+    names = between 1 0 ∷ [];
+    steps = Reduce (Same_why (left_links (Content_link 2 [] 0 ∷ []))) ∷ Done ∷ [];
+  } ∷ record {
+    goals = goal [] (two 2 0 ab ab) ab ∷ [];
+    names = between 5 4 ∷ [];
+    steps = Reduce (Same_why (left_links (Hypothesis_link 0 Forth [] (4 ∷ []) no_chain ∷ []))) ∷ Done ∷ [];
+  }
       ∷ [];
 }
 
-pub content_row : expansion 100000 idempotents squares 1 [] ≡ Yields (more_pieces (Content_piece 2 [] (two 2 0 v v) v (record { number = 0; sort = 0; term = ab } ∷ [])) no_piece) 99997
+pub content_row : expansion 100000 idempotents squares 1 [] ≡
+    Yields (more_pieces (Content_piece 2 [] (two 2 0 v v) v (record { number = 0; sort = 0; term = ab } ∷ [])) no_piece) 99997
 content_row = refl

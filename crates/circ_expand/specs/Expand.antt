@@ -1,5 +1,6 @@
 -- Writing out a derivation from an accepted proof (`Expansion`).
-use Rattle.std.specs.Prelude.{ℕ, ◌+◌, ◌-◌, List, [], ◌∷◌, ◌++◌, zero, suc, Bool, true, false, nat_lt, nat_eq, ◌==◌, ◌&&◌, if◌then◌else◌, not, map, length, take, Option, Some, None, unwrap_or, find}
+use Rattle.std.specs.Prelude.{ℕ, ◌+◌, ◌-◌, List, [], ◌∷◌, ◌++◌, zero, suc, Bool, true, false, nat_lt, nat_eq, ◌==◌, ◌&&◌, if◌then◌else◌, not, map, length}
+use Rattle.std.specs.Prelude.{take, Option, Some, None, unwrap_or, find}
 use Rattle.std.specs.List.{slice_get, list_any}
 use Rattle.std.specs.Option.{option_map, option_map_or, option_or}
 use Rattle.std.specs.Cmp.Lexicographic.{pointwise}
@@ -22,14 +23,17 @@ use Rattle.circ_rewrite.specs.Matching.{matching}
 use Rattle.circ_special.specs.declared.place.Place.{Place}
 use Rattle.circ_special.specs.Special.{place}
 use Rattle.circ_special.specs.Fitting.{fits}
-use Rattle.circ_proof.specs.Plain.{LinkOf, Equation_link, Hypothesis_link, Assumption_link, Content_link, WhyOf, WhysOf, Same_why, Split_why, no_why, more_whys}
+use Rattle.circ_proof.specs.Plain.{LinkOf, Equation_link, Hypothesis_link, Assumption_link, Content_link, WhyOf, WhysOf, Same_why, Split_why, no_why}
+use Rattle.circ_proof.specs.Plain.{more_whys}
 use Rattle.circ_proof.specs.Link.{Setting, setting}
 use Rattle.circ_proof.specs.Certified.{start_term}
 use Rattle.circ_proof.specs.Proof.{Proof}
 use Rattle.circ_proof.specs.Accepted.{certificates_of}
 use Rattle.circ_entry.specs.Entries.{Written, Numbered, numbered_entries, bare_entries, derivative_at}
-use Rattle.circ_expand.specs.Followed.{History, Histories, Simplified, Reduced, Derived, Open, goal_in, first_history, other_histories, Followed, put_or_same, led, led_all, hypotheses_of, goals_of}
-use Rattle.circ_expand.specs.Pieces.{Piece, Pieces, Parts, Equation_piece, Content_piece, Assumption_piece, Cases_piece, no_piece, more_pieces, no_part, more_parts, pieces_joined, turned, bounds_by}
+use Rattle.circ_expand.specs.Followed.{History, Histories, Simplified, Reduced, Derived, Open, goal_in, first_history, other_histories, Followed, put_or_same}
+use Rattle.circ_expand.specs.Followed.{led, led_all, hypotheses_of, goals_of}
+use Rattle.circ_expand.specs.Pieces.{Piece, Pieces, Parts, Equation_piece, Content_piece, Assumption_piece, Cases_piece, no_piece, more_pieces, no_part}
+use Rattle.circ_expand.specs.Pieces.{more_parts, pieces_joined, turned, bounds_by}
 
 -- ---- the order of work: units are counted down, and the first thing that fails decides
 
@@ -104,7 +108,8 @@ pub record Background : Type 0 where
   pub hypotheses : List (List Followed)
   pub certificate : Place → ℕ → List (LinkOf Tree)
 
--- A use of Ex (along nothing) or of Ly (along items): in the whole term stands, at the path, the left side of the goal under `by`, filled by the items, in the experiment. It is to lead to the right side.
+-- A use of Ex (along nothing) or of Ly (along layers). In the whole term stands, at the path, the left side of the goal under `by`, within the layers, in the
+-- experiment. It is to lead to the right side.
 pub record Call : Type 0 where
   pub whole : Tree
   pub path : List ℕ
@@ -188,7 +193,8 @@ module _ (run : Expander) (f : Background) where
   links_written c b (Content_link op path term ∷ ls) t n =
       let u = led (link_setting f b) (Content_link op path term) t in
       let old = unwrap_or (at t path) t in
-      counted n (λ m. tested (instance c.by term) (tested (around c u) (and_piece (Content_piece op (base c ++ path) old term (bounds_of c.by old term)) (links_written c b ls u m))))
+      counted n (λ m. tested (instance c.by term) (tested (around c u)
+      (and_piece (Content_piece op (base c ++ path) old term (bounds_of c.by old term)) (links_written c b ls u m))))
   links_written c b (Assumption_link number way path ∷ ls) t n =
       let u = led (link_setting f b) (Assumption_link number way path) t in
       counted n (λ m. tested (around c u) (and_piece (Assumption_piece (b.raised + number) way (base c ++ path)) (links_written c b ls u m)))
@@ -197,7 +203,8 @@ module _ (run : Expander) (f : Background) where
       let vs = map (instance c.by) terms in
       let h = followed_at b.hypotheses number in
       counted n (λ m. all_tested vs (tested (around c u)
-      (continued (run (hypothesis_call f c h way path t u (by_terms (goal_in h.history) vs)) m) (λ xs k. and_pieces (by_way way xs) (links_written c b ls u k)))))
+      (continued (run (hypothesis_call f c h way path t u (by_terms (goal_in h.history) vs)) m)
+      (λ xs k. and_pieces (by_way way xs) (links_written c b ls u k)))))
 
   -- ---- Ex
 
@@ -218,7 +225,8 @@ module _ (run : Expander) (f : Background) where
     whys_written c b (Split_why chain term ws) s t n =
         continued (links_written c b chain.left s n) (λ xs m. continued (links_written c b chain.right t m) (λ ys k.
         counted k (λ j. tested (instance c.by term)
-        (continued (each_why c b ws term (cases_at (sort_of term)) (cases_at (sort_of term)).constants (led_all (link_setting f b) chain.left s) (led_all (link_setting f b) chain.right t) j)
+        (continued (each_why c b ws term (cases_at (sort_of term)) (cases_at (sort_of term)).constants
+        (led_all (link_setting f b) chain.left s) (led_all (link_setting f b) chain.right t) j)
         (λ ps i. Yields (pieces_joined xs (more_pieces (Cases_piece (instance c.by term) ps) (turned ys))) i)))))
 
     pub each_why : Call → Basis → WhysOf Tree → (term : Tree) → CaseList → (constants : List ℕ) → (left right : Tree) → ℕ → Spending Parts
@@ -295,12 +303,14 @@ visible_case th k (d ∷ ds) t p =
 abbrev pub hidden_case : Theory → List Place → ℕ → List Derivative → Tree → List ℕ → Option Case
 hidden_case th G k [] t p = None
 hidden_case th G k (d ∷ ds) t p =
-    option_or (if is_hidden th (sort_of d.body) then option_map_or (λ q. if is_special_path G t q then Some (Hidden_case k q) else None) (above_hole d t p) None else None)
+    option_or
+    (if is_hidden th (sort_of d.body) then option_map_or (λ q. if is_special_path G t q then Some (Hidden_case k q) else None) (above_hole d t p) None else None)
     (hidden_case th G (k + 1) ds t p)
 
 abbrev pub guard_case : Theory → List Place → Tree → List ℕ → Case
 guard_case th G t p =
-    unwrap_or (option_or (visible_case th 0 th.derivatives t p) (option_or (if is_special_path G t p then Some Place_case else None) (hidden_case th G 0 th.derivatives t p))) No_case
+    unwrap_or (option_or (visible_case th 0 th.derivatives t p)
+    (option_or (if is_special_path G t p then Some Place_case else None) (hidden_case th G 0 th.derivatives t p))) No_case
 
 -- the same path, in the arguments with one more before them
 abbrev pub next_arg : List ℕ → List ℕ
@@ -330,9 +340,11 @@ start_at th g d = option_map_or (λ o. start_term o g d) (slice_get th.signature
 module _ (run : Expander) (f : Background) where
   -- the use of Ly for an occurrence at the path p; here is the term at the hole of the rest of the experiment, xs the items below the place
   abbrev pub occurrence_call : Call → List Layer → (here : Tree) → (p : List ℕ) → Case → Call
-  occurrence_call c xs here p (Visible_case k q) = record c { whole = whole_with c here; path = base c ++ q; entries = entry_in f.theory k (unwrap_or (at here q) here) ∷ []; along = Some xs }
+  occurrence_call c xs here p (Visible_case k q) =
+      record c { whole = whole_with c here; path = base c ++ q; entries = entry_in f.theory k (unwrap_or (at here q) here) ∷ []; along = Some xs }
   occurrence_call c xs here p Place_case = record c { whole = whole_with c here; along = Some (places_on here p ++ xs) }
-  occurrence_call c xs here p (Hidden_case k q) = record c { whole = whole_with c here; along = Some (places_on here q ++ By_entry (entry_in f.theory k (unwrap_or (at here q) here)) ∷ xs) }
+  occurrence_call c xs here p (Hidden_case k q) =
+      record c { whole = whole_with c here; along = Some (places_on here q ++ By_entry (entry_in f.theory k (unwrap_or (at here q) here)) ∷ xs) }
   occurrence_call c xs here p No_case = c
 
   -- the last term is guarded, so there is a case
@@ -376,9 +388,10 @@ module _ (run : Expander) (f : Background) where
       let σ = matching start (derived_place g s ts e.entry (left_here c xs)) in
       let τ = matching start (derived_place g s ts e.entry (right_here c xs)) in
       let last = led_all (link_setting f no_basis) ls start in
+      let paths = paths_of 0 (arg_sort f.theory g) last in
       continued (links_written run f (certified_call c cs σ) no_basis ls start n) (λ l m.
       continued (links_written run f (certified_call c cs τ) no_basis ls start m) (λ r k.
-      continued (occurrences_written (record c { entries = cs }) xs (right_here c xs) last (paths_of 0 (arg_sort f.theory g) last) (instance σ last) k) (λ o j.
+      continued (occurrences_written (record c { entries = cs }) xs (right_here c xs) last paths (instance σ last) k) (λ o j.
       Yields (pieces_joined l (pieces_joined o (turned r))) j)))
 
   abbrev pub ly : Call → List Layer → ℕ → Spending Pieces
@@ -440,4 +453,5 @@ expansion k th p goal ws =
     let g = followed_at (goals_of th p 0 [] p.blocks) goal in
     let s = on (bare_entries cs) (goal_in g.history).left in
     let t = on (bare_entries cs) (goal_in g.history).right in
-    tested s (tested t (counted k (uses k (background_of th p) (record { whole = s; path = []; entries = cs; along = None; goal = g; by = Var; assumptions = [] }))))
+    let whole : Call = record { whole = s; path = []; entries = cs; along = None; goal = g; by = Var; assumptions = [] } in
+    tested s (tested t (counted k (uses k (background_of th p) whole)))

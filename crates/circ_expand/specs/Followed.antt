@@ -61,7 +61,8 @@ led_goal c chain g = goal g.conds (led_all c chain.left g.left) (led_all c chain
 
 -- ---- histories
 
--- What becomes of a goal: it is simplified, and then something becomes of the new goal; or reduced; or derived, and then something becomes of each derivative on it.
+-- What becomes of a goal: it is simplified, and then something becomes of the new goal; or it is reduced; or derived, and then something becomes of each
+-- derivative on it.
 mutual
   pub data History : Type 0 where
     Simplified : (first : Goal) (chain : ChainOf Tree) (continued : History) → History
@@ -118,7 +119,8 @@ and_reduced p why t = told_as (more_histories (Reduced p why) t.goals) t.derived
 
 abbrev pub and_derived : Goal → (others : ℕ) → Told → Told
 and_derived p n t =
-    told_as (more_histories (Derived p (histories_after n t.goals)) (first_histories n t.goals)) (more_histories (Derived p (histories_after n t.goals)) t.derived)
+    told_as (more_histories (Derived p (histories_after n t.goals)) (first_histories n t.goals))
+    (more_histories (Derived p (histories_after n t.goals)) t.derived)
 
 -- by the steps from the last to the first
 abbrev pub told : Theory → List Place → (hypotheses goals : List Goal) → List (ProofStep Tree) → Told
@@ -141,7 +143,8 @@ followed_in b hs = map (λ h. record { block = b; history = h }) (list_in hs)
 abbrev pub told_in : Theory → Proof → (hypotheses : List Goal) → Block → Told
 told_in th p H b = told th p.places H b.goals (steps_of p.table b)
 
--- for each block the hypotheses of its end, each as it is followed: a goal of an earlier block from that block's beginning, and one that was derived in the block from its Derive on
+-- For each block the hypotheses of its end, each as it is followed: a goal of an earlier block from that block's beginning, and one that was derived in the
+-- block from its Derive on.
 abbrev pub hypotheses_of : Theory → Proof → (block : ℕ) → (hypotheses : List Goal) → (earlier : List Followed) → List Block → List (List Followed)
 hypotheses_of th p n H fs [] = []
 hypotheses_of th p n H fs (b ∷ bs) =

@@ -9,7 +9,9 @@ ghost use Rattle.circ_proof.specs.Proof.{Proof, ProofFor, IsPlain};
 ghost use Rattle.circ_proof.specs.Accepted.{Accepted};
 ghost use Rattle.circ_entry.specs.Entries.{Written, FitsWritten};
 ghost use Rattle.circ_expand.specs.Pieces.{Pieces};
-ghost use Rattle.circ_expand.specs.Expand.{Yields, Stopped, expansion};
+ghost use Rattle.circ_expand.specs.Expand.{Yields, Stopped, Background, continued, expansion};
+ghost use Rattle.circ_expand.specs.Machine.{Value, Job, work, job_step, all_uses, rest_done};
+ghost use Rattle.circ_expand.specs.Machine.{worked_off};
 ghost use Rattle.circ_expand.specs.Answers.{all_goals, LeadsOnGoal};
 
 /// What is written out from an accepted proof, for one of its goals and a fitting experiment, leads
@@ -24,4 +26,17 @@ pub fn expansion_leads()
         (n : ℕ) (g : Goal) → slice_get (all_goals p.blocks) n ≡ Some g →
         (ws : List Written) → FitsWritten th ws (sort_of g.left) → (units : ℕ) →
         expansion units th p n ws ≡ Stopped → ⊥ }
+{}
+
+/// The same is worked off a stack of jobs: it begins with one, a step does a part of the first job
+/// or puts jobs before the others, and it ends when no job is left. So no use has to stand inside
+/// another.
+pub fn expansion_is_worked_off()
+    ensures begins { (units : ℕ) (th : Theory) (p : Proof) (n : ℕ) (ws : List Written) →
+        expansion units th p n ws ≡ worked_off units th p n ws }
+    ensures goes_on { (f : Background) (j : Job) (js : List Job) (vs : List Value) (n : ℕ) →
+        rest_done f (work (j ∷ js) vs) n ≡
+        continued (job_step (all_uses f) f j js vs n) (rest_done f) }
+    ensures ends { (f : Background) (vs : List Value) (n : ℕ) →
+        rest_done f (work [] vs) n ≡ Yields vs n }
 {}
