@@ -202,7 +202,7 @@ mutual
       }
   to_chart sig vars hole ws k g h b s us q ns (an_operator f o args lo p e2 row z) e l le =
       let a = h.all_rules f o lo (omega arith) (have_numbers sig vars hole ws k h.count (symbols_of o) us args ns row e l)
-          (holes_marked sig vars hole ws k g h (symbols_of o) us args ns row e l) in
+      (holes_marked sig vars hole ws k g h (symbols_of o) us args ns row e l) in
       let m = a.3 in
       let w = m.prec in
       let r = row_to_chart sig vars hole ws k g h (symbols_of o) a.1.symbols.items us args ns row m.symbols e l in

@@ -11,8 +11,8 @@ use crate::grammars::grammar;
 use crate::tokens::numbers;
 use crate::variables::Scope;
 use crate::words::Words;
-use circ_spelling::Grammar;
 use circ_lexer::{Span, Tokens};
+use circ_spelling::Grammar;
 use std::alloc::{AllocError, Global};
 
 // The numbers of the tokens of two spans, and the grammar that spells over these what the theory

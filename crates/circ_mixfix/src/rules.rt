@@ -143,7 +143,14 @@ pub fn rules(
     let mut out = Vec::new(alloc);
     for number in 0..words.count() {
         if let Some(word) = words.text(number) {
-            push_rules(alloc, &mut out, words, theory, marks, theory.ops_by_word(word))?;
+            push_rules(
+                alloc,
+                &mut out,
+                words,
+                theory,
+                marks,
+                theory.ops_by_word(word),
+            )?;
         }
     }
     Ok(out)

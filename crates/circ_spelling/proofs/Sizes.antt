@@ -1,5 +1,5 @@
 -- What a range spells is no larger than the range.
-use Rattle.std.proofs.Common.{◌≡◌, ◌<◌, ◌≤◌, ◌+◌, ℕ, List, [], ◌∷◌, length, ◌⊎◌, inl, inr, ap, arith}
+use Rattle.std.proofs.Common.{◌<◌, ◌≤◌, ◌+◌, ℕ, List, [], ◌∷◌, length, ◌⊎◌, inl, inr, ap, arith}
 use Rattle.circ_term.specs.Tree.{Tree, Trees, none, more, size_of, sizes_of}
 use Rattle.circ_spelling.specs.declared.grammar.Symbol.{Symbol}
 use Rattle.circ_spelling.specs.declared.grammar.Symbol.TheVariants.{Word, Hole}

@@ -10,10 +10,10 @@ ghost use Rattle.circ_spelling.specs.May.{IsClosed};
 use crate::closed::is_closed;
 use crate::ends::{Ends, has, joined, no_ends, with};
 use crate::grammar::{Grammar, Rule, Variable};
+use crate::marks::width;
 use crate::reached::{can_begin, row_ends};
 use crate::starts::{Starts, ends_at, width_at};
 use crate::steps::{Step, step_at};
-use crate::marks::width;
 use crate::{CLOSING, OPENING};
 use std::alloc::{AllocError, Global};
 

@@ -1,5 +1,4 @@
 use Rattle.circ_mixfix.proofs.MarkedSorts.{without_marks}
-use Rattle.circ_spelling.proofs.Marked.{variables_stay}
 use Rattle.circ_mixfix.proofs.marking.spelled_sorts.Goals as goal
 
 pub returns-then-settled : goal.returns-then-settled
