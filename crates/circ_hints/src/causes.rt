@@ -37,8 +37,10 @@ pub(crate) fn says_of(cause: &Cause) -> &'static str {
         Cause::UnknownTheory => "only BITS, STREAM, TREE, LANG and PROC can be included",
         Cause::UnknownSort => "no sort of this name is declared before",
         Cause::TooLong { .. } => "a term has 256 tokens at most",
-        Cause::NoParse => "these tokens spell no term: see the sorts, the parentheses and the blanks",
-        Cause::Ambiguous { .. } => "these tokens spell two terms: parentheses or a precedence decide",
+        Cause::NoParse =>
+            "these tokens spell no term: see the sorts, the parentheses and the blanks",
+        Cause::Ambiguous { .. } =>
+            "these tokens spell two terms: parentheses or a precedence decide",
         Cause::Twice { .. } => "this is declared before",
         _ => says_of_others(cause),
     }
@@ -54,7 +56,8 @@ fn says_of_others(cause: &Cause) -> &'static str {
         Cause::NowHidden { .. } => "the sort of this hole has a case list, so it stays visible",
         Cause::Limit { .. } => "there are too many of these",
         Cause::LineLimit => "this line passes a limit of proof files",
-        Cause::NoGoal => "no goal stands before this, since the script began or the last block ended",
+        Cause::NoGoal =>
+            "no goal stands before this, since the script began or the last block ended",
         Cause::Unclosed => "a `coinduction .` is missing behind the last goals",
         _ => "this line is not in its form or at its place, or fails a check",
     }

@@ -49,5 +49,8 @@ pub(crate) const COMMANDS: [CommandWords; 9] = [
 
 /// The command of this name.
 pub(crate) fn command_named(name: &str) -> Option<CommandWords> {
-    COMMANDS.iter().find(|command| command.name == name).copied()
+    COMMANDS
+        .iter()
+        .find(|command| command.name == name)
+        .copied()
 }

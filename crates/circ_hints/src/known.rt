@@ -6,87 +6,114 @@ use indexmap::IndexSet;
 use std::alloc::{AllocError, Global};
 use std::str;
 
-/// The names and words that are declared.
+/// What names are wanted.
+#[derive(Clone, Copy, PartialEq, Eq)]
+pub(crate) enum Wanted {
+    /// The names of sorts.
+    Sorts,
+    /// The names of variables, and the words of the operators' forms.
+    Words,
+}
+
+/// The names of one kind that are declared.
 #[derive(Drop)]
 pub(crate) struct Known<'a> {
-    alloc: Global,
-    /// The names of the sorts.
-    pub sorts: IndexSet<&'a [u8]>,
-    /// The names of variables, and the words of the operators' forms.
-    pub words: IndexSet<&'a [u8]>,
+    wanted: Wanted,
+    names: IndexSet<&'a [u8]>,
 }
 
 impl<'a> Known<'a> {
     /// Nothing.
-    pub fn new(alloc: Global) -> Known<'a> {
+    pub fn new(alloc: Global, wanted: Wanted) -> Known<'a> {
         Known {
-            alloc,
-            sorts: IndexSet::new(alloc),
-            words: IndexSet::new(alloc),
+            wanted,
+            names: IndexSet::new(alloc),
         }
     }
 
+    /// Whether a name is declared.
+    pub fn has(&self, name: &[u8]) -> bool {
+        self.names.contains(name)
+    }
+
     /// Adds what the statements declare that end before a token, and the texts that they include.
-    pub fn add_before(&mut self, tokens: &Tokens<'a>, end: usize) -> Result<(), AllocError> {
+    pub fn add_before(
+        &mut self,
+        alloc: Global,
+        tokens: &Tokens<'a>,
+        end: usize,
+    ) -> Result<(), AllocError> {
         let mut from = 0;
         for n in 0..end {
-            if !ends_statement(tokens, n, from) {
-                continue;
+            if ends_statement(tokens, n, from) {
+                let part = part_between(from, n);
+                self.declare(tokens, part)?;
+                self.include(alloc, tokens, part)?;
+                from = next(n);
             }
-            let part = Part {
-                from,
-                to: n,
-                is_ended: true,
-            };
-            self.declare(tokens, part)?;
-            self.include(tokens, part)?;
-            from = next(n);
         }
         Ok(())
     }
 
     /// Adds what a text of the library declares, if the statement includes one: all but its variables.
-    fn include(&mut self, tokens: &Tokens<'_>, part: Part) -> Result<(), AllocError> {
+    fn include(
+        &mut self,
+        alloc: Global,
+        tokens: &Tokens<'_>,
+        part: Part,
+    ) -> Result<(), AllocError> {
         let Some(text) = included(tokens, part) else {
             return Ok(());
         };
-        let Ok(inside) = Tokens::of(self.alloc, text) else {
-            return Ok(());
-        };
+        match Tokens::of(alloc, text) {
+            Ok(inside) => self.add_library(&inside),
+            Err(_) => Ok(()),
+        }
+    }
+
+    fn add_library(&mut self, tokens: &Tokens<'a>) -> Result<(), AllocError> {
         let mut from = 0;
-        for n in 0..inside.count() {
-            if !ends_statement(&inside, n, from) {
-                continue;
+        for n in 0..tokens.count() {
+            if ends_statement(tokens, n, from) {
+                if !is(tokens, from, b"var") && !is(tokens, from, b"vars") {
+                    self.declare(tokens, part_between(from, n))?;
+                }
+                from = next(n);
             }
-            let part = Part {
-                from,
-                to: n,
-                is_ended: true,
-            };
-            if !is(&inside, part.from, b"var") && !is(&inside, part.from, b"vars") {
-                self.declare(&inside, part)?;
-            }
-            from = next(n);
         }
         Ok(())
     }
 
     /// Adds what a statement declares.
-    pub fn declare(&mut self, tokens: &Tokens<'a>, part: Part) -> Result<(), AllocError> {
-        if is(tokens, part.from, b"sort") || is(tokens, part.from, b"sorts") {
-            return add_names(&mut self.sorts, tokens, part.nth(1), part.to);
+    fn declare(&mut self, tokens: &Tokens<'a>, part: Part) -> Result<(), AllocError> {
+        let end = first(tokens, part.from, part.to, b":").unwrap_or(part.to);
+        match self.wanted {
+            Wanted::Sorts if is_one_of(tokens, part.from, b"sort", b"sorts") => {
+                add_names(&mut self.names, tokens, part.nth(1), end)
+            }
+            Wanted::Words if is_one_of(tokens, part.from, b"var", b"vars") => {
+                add_names(&mut self.names, tokens, part.nth(1), end)
+            }
+            Wanted::Words if is_one_of(tokens, part.from, b"op", b"ops") => {
+                add_forms(&mut self.names, tokens, part.nth(1), end)
+            }
+            _ => Ok(()),
         }
-        let Some(colon) = first(tokens, part.from, part.to, b":") else {
-            return Ok(());
-        };
-        if is(tokens, part.from, b"var") || is(tokens, part.from, b"vars") {
-            return add_names(&mut self.words, tokens, part.nth(1), colon);
-        }
-        if is(tokens, part.from, b"op") || is(tokens, part.from, b"ops") {
-            return add_forms(&mut self.words, tokens, part.nth(1), colon);
-        }
-        Ok(())
     }
+}
+
+/// The statement between two tokens, of which the second ends it.
+fn part_between(from: usize, to: usize) -> Part {
+    Part {
+        from,
+        to,
+        is_ended: true,
+    }
+}
+
+/// Whether the token of a number is one of two words.
+fn is_one_of(tokens: &Tokens<'_>, number: usize, one: &[u8], other: &[u8]) -> bool {
+    is(tokens, number, one) || is(tokens, number, other)
 }
 
 /// Whether a statement that begins with a token ends at another one.

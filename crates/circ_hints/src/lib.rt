@@ -1,8 +1,8 @@
 //! Hints for standard error: where an answer points to, and what was expected there.
 //!
-//! Nothing is promised of a hint but that it is made safely and in finite time. [`asked_for`] takes the
-//! words of a run apart; [`unreadable`], [`stuck`] and [`usage`] give the hint of an answer, from
-//! the same words and the same files. [`CaseCount`] sees how many cases an answer has printed.
+//! Nothing is promised of a hint but that it is made safely and in finite time. [`Asked`] takes the words
+//! of a run apart; [`unreadable`], [`stuck_goal`], [`stuck_end`] and [`usage`] give the hint of
+//! an answer, from the same words and the same files. [`CaseCount`] sees how many cases an answer has printed.
 #![tactic(auto)]
 
 mod automata;
@@ -19,11 +19,12 @@ mod shapes;
 mod signatures;
 mod stuck_hint;
 mod terms;
+mod texts;
 mod unreadable_hint;
 mod usage_hint;
 
-pub use run_words::{Asked, asked_for};
 pub use case_count::CaseCount;
-pub use stuck_hint::stuck;
+pub use run_words::Asked;
+pub use stuck_hint::{stuck_end, stuck_goal};
 pub use unreadable_hint::{Source, SourceKind, unreadable};
 pub use usage_hint::usage;

@@ -26,7 +26,10 @@ pub(crate) fn item_shape(tokens: &Tokens<'_>, part: Part) -> Mark {
         return Mark::behind(part.from, "` .` is expected here");
     }
     if is(tokens, part.from, b"reduce") || is(tokens, part.from, b"red") {
-        return Mark::at(part.from, "this is an item of `circ reduce`, not of `circ prove`");
+        return Mark::at(
+            part.from,
+            "this is an item of `circ reduce`, not of `circ prove`",
+        );
     }
     Mark::at(
         part.from,
@@ -39,17 +42,32 @@ fn goal(tokens: &Tokens<'_>, part: Part) -> Mark {
     if !is(tokens, part.nth(1), b"goal") {
         return Mark::at(part.nth(1), "`goal` is expected here");
     }
-    if let Some(number) = first(tokens, part.nth(2), part.to, b"add") {
+    if let Some(number) = next_item(tokens, part) {
         return Mark::behind(number.saturating_sub(1), "` .` is expected here");
     }
-    if let Some(number) = first(tokens, part.nth(2), part.to, b"coinduction") {
-        return Mark::behind(number.saturating_sub(1), "` .` is expected here");
-    }
-    match first(tokens, part.from, part.to, b"=") {
-        Some(sign) if first(tokens, next(sign), part.to, b"=").is_none() => Mark::at(
+    if has_one_sign(tokens, part) {
+        return Mark::at(
             part.from,
             "parentheses round an item come in pairs; and goals are for `circ prove`, not for `circ reduce`",
-        ),
-        _ => equation(tokens, part),
+        );
+    }
+    equation(tokens, part)
+}
+
+/// The first token behind a goal's first words that begins another item.
+fn next_item(tokens: &Tokens<'_>, part: Part) -> Option<usize> {
+    for number in part.nth(2)..part.to {
+        if is(tokens, number, b"add") || is(tokens, number, b"coinduction") {
+            return Some(number);
+        }
+    }
+    None
+}
+
+/// Whether just one `=` stands in an item.
+fn has_one_sign(tokens: &Tokens<'_>, part: Part) -> bool {
+    match first(tokens, part.from, part.to, b"=") {
+        Some(sign) => first(tokens, next(sign), part.to, b"=").is_none(),
+        None => false,
     }
 }

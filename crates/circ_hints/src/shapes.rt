@@ -59,7 +59,10 @@ fn begins_statement(tokens: &Tokens<'_>, number: usize) -> bool {
 pub(crate) fn head(tokens: &Tokens<'_>, word: &[u8]) -> Mark {
     let from = if is(tokens, 0, b"(") { 1 } else { 0 };
     if !is(tokens, from, word) {
-        return Mark::at(from, "the text begins with `theory NAME is`, or `automaton NAME is`");
+        return Mark::at(
+            from,
+            "the text begins with `theory NAME is`, or `automaton NAME is`",
+        );
     }
     if !names(tokens, next(from), next(next(from))) {
         return Mark::at(next(from), "a name is expected here");
@@ -88,10 +91,7 @@ pub(crate) fn glued_stop(tokens: &Tokens<'_>, part: Part) -> Option<Mark> {
     for number in part.from..part.to {
         if let Some(token) = tokens.token(number) {
             if token.len() > 1 && token.ends_with(b".") {
-                return Some(Mark::at_last_byte(
-                    number,
-                    "the stop needs a blank before it",
-                ));
+                return Some(Mark::at_last_byte(number, "the stop needs a blank before it"));
             }
         }
     }
@@ -147,26 +147,15 @@ fn begins_line(tokens: &Tokens<'_>, source: &[u8], number: usize) -> bool {
 
 /// The mark of a statement, by its first word.
 fn by_word(tokens: &Tokens<'_>, part: Part) -> Mark {
-    let word = |text: &[u8]| is(tokens, part.from, text);
-    if word(b"sort") || word(b"sorts") {
-        return list_of_names(tokens, part);
+    match tokens.token(part.from) {
+        Some(b"sort" | b"sorts") => list_of_names(tokens, part),
+        Some(b"op" | b"ops") => operator(tokens, part),
+        Some(b"var" | b"vars") => variables(tokens, part),
+        Some(b"eq") => equation(tokens, part),
+        Some(b"ceq") => conditional(tokens, part),
+        Some(b"cases") => cases(tokens, part),
+        _ => one_name(tokens, part),
     }
-    if word(b"op") || word(b"ops") {
-        return operator(tokens, part);
-    }
-    if word(b"var") || word(b"vars") {
-        return variables(tokens, part);
-    }
-    if word(b"eq") {
-        return equation(tokens, part);
-    }
-    if word(b"ceq") {
-        return conditional(tokens, part);
-    }
-    if word(b"cases") {
-        return cases(tokens, part);
-    }
-    one_name(tokens, part)
 }
 
 /// The mark of a statement that takes names.
@@ -199,7 +188,10 @@ pub(crate) fn equation(tokens: &Tokens<'_>, part: Part) -> Mark {
 /// The mark of an equation with conditions.
 fn conditional(tokens: &Tokens<'_>, part: Part) -> Mark {
     match first(tokens, part.from, part.to, b"if") {
-        None => Mark::behind(part.to.saturating_sub(1), "`if` and conditions are expected"),
+        None => Mark::behind(
+            part.to.saturating_sub(1),
+            "`if` and conditions are expected",
+        ),
         Some(number) => Mark::at(
             number,
             "a conditional equation is `ceq TERM = TERM if TERM = TERM /\\ .. .`",

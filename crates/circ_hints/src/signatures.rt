@@ -53,7 +53,10 @@ pub(crate) fn operator(tokens: &Tokens<'_>, part: Part) -> Mark {
 /// The mark of what stands behind the result's sort.
 fn behind_result(tokens: &Tokens<'_>, part: Part, from: usize) -> Mark {
     if from >= part.to {
-        return Mark::at(part.nth(1), "no operator has this form: its words have none of ( ) , : and are not . = ->");
+        return Mark::at(
+            part.nth(1),
+            "no operator has this form: its words have none of ( ) , : and are not . = ->",
+        );
     }
     if !is(tokens, from, b"[") {
         return Mark::behind(

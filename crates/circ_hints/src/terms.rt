@@ -38,7 +38,7 @@ fn terms_begin(tokens: &Tokens<'_>, part: Part) -> usize {
 fn undeclared(tokens: &Tokens<'_>, from: usize, to: usize, known: &Known<'_>) -> Option<usize> {
     for number in from..to {
         match tokens.token(number) {
-            Some(word) if is_of_any_term(word) || known.words.contains(word) => {}
+            Some(word) if is_of_any_term(word) || known.has(word) => {}
             _ => return Some(number),
         }
     }
@@ -88,10 +88,7 @@ fn unbalanced(tokens: &Tokens<'_>, from: usize, to: usize) -> Option<Mark> {
     if depth == 0 {
         return None;
     }
-    Some(Mark::behind(
-        end.saturating_sub(1),
-        "`)` is expected here or before",
-    ))
+    Some(Mark::behind(end.saturating_sub(1), "`)` is expected here or before"))
 }
 
 /// Whether a token stands between two terms.

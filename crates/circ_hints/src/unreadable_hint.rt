@@ -2,16 +2,19 @@
 use crate::automata::automaton_shape;
 use crate::causes::{name_of, says_of};
 use crate::drawing::{Place, push_picture, push_position};
-use crate::known::Known;
+use crate::known::{Known, Wanted};
 use crate::marks::Mark;
 use crate::parts::{Part, first, is, item_at, next, statement_at};
 use crate::scripts::item_shape;
 use crate::shapes::statement_shape;
 use crate::terms::unread_word;
+use crate::texts::push_line;
 use circ_lexer::Tokens;
 use circ_read::Cause;
-use indexmap::IndexSet;
 use std::alloc::{AllocError, Global};
+
+/// As many names of a statement as are looked up.
+const MOST_NAMES: usize = 100;
 
 /// What a text is to be read as.
 #[derive(Clone, Copy, PartialEq, Eq)]
@@ -50,13 +53,20 @@ pub fn unreadable(
 ) -> Result<String, AllocError> {
     let finding = find(alloc, source, number, cause)?;
     let mut out = String::new(alloc);
-    push_position(&mut out, source.name, source.bytes, finding.place.at)?;
-    out.push_str(name_of(cause))?;
-    out.push_str(": ")?;
-    out.push_str(finding.says)?;
-    out.push('\n')?;
-    push_picture(&mut out, source.bytes, finding.place)?;
+    push_finding(&mut out, source, name_of(cause), finding)?;
     Ok(out)
+}
+
+fn push_finding(
+    out: &mut String,
+    source: &Source<'_>,
+    cause: &str,
+    finding: Finding,
+) -> Result<(), AllocError> {
+    push_position(out, source.name, source.bytes, finding.place.at)?;
+    out.push_str(cause)?;
+    push_line(out, ": ", finding.says)?;
+    push_picture(out, source.bytes, finding.place)
 }
 
 fn find(
@@ -140,21 +150,40 @@ fn mark_of(
     cause: &Cause,
 ) -> Result<Mark, AllocError> {
     let part = part_of(source, tokens, number);
+    match cause {
+        Cause::UnknownSort => by_names(alloc, source, tokens, part, Wanted::Sorts, cause),
+        Cause::NoParse => by_names(alloc, source, tokens, part, Wanted::Words, cause),
+        Cause::Twice { .. } => {
+            let wanted = wanted_twice(tokens, part);
+            by_names(alloc, source, tokens, part, wanted, cause)
+        }
+        _ => Ok(by_form(source, tokens, part, number, cause)),
+    }
+}
+
+/// The mark of a cause that the statement alone tells.
+fn by_form(
+    source: &Source<'_>,
+    tokens: &Tokens<'_>,
+    part: Part,
+    number: u64,
+    cause: &Cause,
+) -> Mark {
     let says = says_of(cause);
     match cause {
-        Cause::LeftOut { word } => Ok(left_out(tokens, part, number, word.bytes())),
-        Cause::Shape => Ok(match source.kind {
-            SourceKind::Script => item_shape(tokens, part),
-            SourceKind::Automaton => automaton_shape(tokens, number, part),
-            _ => statement_shape(tokens, source.bytes, number, part),
-        }),
-        Cause::UnknownSort | Cause::NoParse | Cause::Twice { .. } => {
-            let known = known_before(alloc, source, tokens, part)?;
-            by_names(alloc, tokens, part, cause, &known)
-        }
-        Cause::NoGoal | Cause::Limit { .. } => Ok(Mark::at(part.from, says)),
-        Cause::Unclosed => Ok(Mark::behind(tokens.count().saturating_sub(1), says)),
-        _ => Ok(Mark::at(part.nth(1), says)),
+        Cause::LeftOut { word } => left_out(tokens, part, number, word.bytes()),
+        Cause::Shape => shape(source, tokens, part, number),
+        Cause::NoGoal | Cause::Limit { .. } => Mark::at(part.from, says),
+        Cause::Unclosed => Mark::behind(tokens.count().saturating_sub(1), says),
+        _ => Mark::at(part.nth(1), says),
+    }
+}
+
+fn shape(source: &Source<'_>, tokens: &Tokens<'_>, part: Part, number: u64) -> Mark {
+    match source.kind {
+        SourceKind::Script => item_shape(tokens, part),
+        SourceKind::Automaton => automaton_shape(tokens, number, part),
+        _ => statement_shape(tokens, source.bytes, number, part),
     }
 }
 
@@ -175,33 +204,44 @@ fn left_out(tokens: &Tokens<'_>, part: Part, number: u64, word: &[u8]) -> Mark {
     }
 }
 
-/// What is declared before a part, in a script also by the theory.
-fn known_before<'a>(
+/// The mark of a cause that depends on which names are declared before a part.
+fn by_names(
     alloc: Global,
+    source: &Source<'_>,
+    tokens: &Tokens<'_>,
+    part: Part,
+    wanted: Wanted,
+    cause: &Cause,
+) -> Result<Mark, AllocError> {
+    let mut known = Known::new(alloc, wanted);
+    add_known(alloc, &mut known, source, tokens, part)?;
+    Ok(match cause {
+        Cause::UnknownSort => unknown_sort(tokens, part, &known),
+        Cause::Twice { .. } => declared_twice(tokens, part, &known),
+        _ => unread_word(tokens, part, &known),
+    })
+}
+
+/// Adds what is declared before a part, in a script also by the theory.
+fn add_known<'a>(
+    alloc: Global,
+    known: &mut Known<'a>,
     source: &Source<'a>,
     tokens: &Tokens<'a>,
     part: Part,
-) -> Result<Known<'a>, AllocError> {
-    let mut known = Known::new(alloc);
+) -> Result<(), AllocError> {
     if let Ok(theory) = Tokens::of(alloc, source.theory) {
-        known.add_before(&theory, theory.count())?;
+        known.add_before(alloc, &theory, theory.count())?;
     }
-    known.add_before(tokens, part.from)?;
-    Ok(known)
+    known.add_before(alloc, tokens, part.from)
 }
 
-/// The mark of a cause that depends on what is declared.
-fn by_names(
-    alloc: Global,
-    tokens: &Tokens<'_>,
-    part: Part,
-    cause: &Cause,
-    known: &Known<'_>,
-) -> Result<Mark, AllocError> {
-    match cause {
-        Cause::UnknownSort => Ok(unknown_sort(tokens, part, known)),
-        Cause::Twice { .. } => declared_twice(alloc, tokens, part, known),
-        _ => Ok(unread_word(tokens, part, known)),
+/// What names a statement declares.
+fn wanted_twice(tokens: &Tokens<'_>, part: Part) -> Wanted {
+    if is(tokens, part.from, b"sort") || is(tokens, part.from, b"sorts") {
+        Wanted::Sorts
+    } else {
+        Wanted::Words
     }
 }
 
@@ -214,32 +254,25 @@ fn unknown_sort(tokens: &Tokens<'_>, part: Part, known: &Known<'_>) -> Mark {
     };
     for number in from..part.to {
         match tokens.token(number) {
-            Some(name) if known.sorts.contains(name) || is(tokens, number, b"->") => {}
+            Some(name) if known.has(name) || is(tokens, number, b"->") => {}
             _ => return Mark::at(number, says),
         }
     }
     Mark::at(from, says)
 }
 
-/// The first name of a statement that is declared before it, or stands in it before.
-fn declared_twice(
-    alloc: Global,
-    tokens: &Tokens<'_>,
-    part: Part,
-    known: &Known<'_>,
-) -> Result<Mark, AllocError> {
+/// The first name of a statement, of its first hundred, that is declared before it or stands in it
+/// before.
+fn declared_twice(tokens: &Tokens<'_>, part: Part, known: &Known<'_>) -> Mark {
     let says = "this is declared before";
-    let is_sort = is(tokens, part.from, b"sort") || is(tokens, part.from, b"sorts");
-    let names = if is_sort { &known.sorts } else { &known.words };
-    let end = first(tokens, part.from, part.to, b":").unwrap_or(part.to);
-    let mut here: IndexSet<&[u8]> = IndexSet::new(alloc);
-    for number in part.nth(1)..end {
+    let begin = part.nth(1);
+    let colon = first(tokens, begin, part.to, b":").unwrap_or(part.to);
+    for number in begin..colon.min(part.nth(MOST_NAMES)) {
         if let Some(name) = tokens.token(number) {
-            if names.contains(name) || here.contains(name) {
-                return Ok(Mark::at(number, says));
+            if known.has(name) || first(tokens, begin, number, name).is_some() {
+                return Mark::at(number, says);
             }
-            here.insert(name)?;
         }
     }
-    Ok(Mark::at(part.nth(1), says))
+    Mark::at(begin, says)
 }

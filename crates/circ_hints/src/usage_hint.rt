@@ -1,25 +1,31 @@
 //! The hint for words that are no command.
-use crate::run_words::{Asked, asked_for, is_option, takes_value};
 use crate::commands::{COMMANDS, CommandWords, command_named};
+use crate::run_words::Asked;
+use crate::texts::push_line;
 use std::alloc::{AllocError, Global};
-use std::fmt::Write;
 
 /// The hint for words that are no command, of which the first is the program's name: which word is
 /// at fault, and the table of commands.
 pub fn usage(alloc: Global, words: &[String]) -> Result<String, AllocError> {
     let mut out = String::new(alloc);
-    if !is_asked_for(words) {
-        push_fault(alloc, &mut out, words)?;
-    }
-    for command in COMMANDS {
-        writeln!(out, "  circ {} {}", command.name, command.takes)?;
-    }
-    out.push_str("  --steps N (0 to 1000000) and --derives N (0 to 10000) bound what a command does\n")?;
+    push_usage(&mut out, words)?;
     Ok(out)
 }
 
-/// Whether the words ask for this text.
-fn is_asked_for(words: &[String]) -> bool {
+fn push_usage(out: &mut String, words: &[String]) -> Result<(), AllocError> {
+    if !asks_for_help(words) {
+        push_fault(out, Asked::new(words))?;
+    }
+    for command in COMMANDS {
+        push_words(out, "  circ ", command.name, " ", command.takes)?;
+    }
+    out.push_str(
+        "  --steps N (0 to 1000000) and --derives N (0 to 10000) bound what a command does\n",
+    )
+}
+
+/// Whether the words ask for the table.
+fn asks_for_help(words: &[String]) -> bool {
     match words.get(1) {
         Some(word) => word.as_str() == "--help" || word.as_str() == "-h",
         None => false,
@@ -27,59 +33,45 @@ fn is_asked_for(words: &[String]) -> bool {
 }
 
 /// Appends what is wrong with the words.
-fn push_fault(alloc: Global, out: &mut String, words: &[String]) -> Result<(), AllocError> {
-    if let Some(option) = unknown_option(words) {
-        return writeln!(out, "circ: there is no option {option}");
+fn push_fault(out: &mut String, asked: Asked<'_>) -> Result<(), AllocError> {
+    if let Some(option) = asked.unknown_option() {
+        return push_line(out, "circ: there is no option ", option);
     }
-    let asked = asked_for(alloc, words)?;
-    if asked.command.is_empty() {
-        return out.push_str("circ: a command is missing\n");
-    }
-    match command_named(asked.command) {
-        None => writeln!(out, "circ: there is no command {}", asked.command),
-        Some(command) => push_words(out, &asked, command),
+    let name = asked.command();
+    match command_named(name) {
+        Some(command) => push_words(
+            out,
+            "circ: ",
+            command.name,
+            " needs ",
+            needs(asked, command),
+        ),
+        None if name.is_empty() => out.push_str("circ: a command is missing\n"),
+        None => push_line(out, "circ: there is no command ", name),
     }
 }
 
-/// The first word before `--` that looks like an option and is none.
-fn unknown_option(words: &[String]) -> Option<&str> {
-    let mut is_value = false;
-    for word in words.iter().skip(1) {
-        let word = word.as_str();
-        if is_value {
-            is_value = false;
-            continue;
-        }
-        if word == "--" {
-            return None;
-        }
-        if is_option(word) && !is_known(word) {
-            return Some(word);
-        }
-        is_value = takes_value(word);
-    }
-    None
-}
-
-/// Whether there is an option of this word.
-fn is_known(word: &str) -> bool {
-    takes_value(word) || word.starts_with("--steps=") || word.starts_with("--derives=")
-}
-
-/// Appends what is wrong with the words of a command that there is.
+/// Appends a line of a command and what it takes.
 fn push_words(
     out: &mut String,
-    asked: &Asked<'_>,
-    command: CommandWords,
+    before: &str,
+    name: &str,
+    between: &str,
+    takes: &str,
 ) -> Result<(), AllocError> {
-    let name = command.name;
-    if command.takes.split(' ').count() != asked.names.len() {
-        let given = asked.names.len();
-        return writeln!(out, "circ: {name} takes {}, and there are {given}", command.takes);
+    out.push_str(before)?;
+    out.push_str(name)?;
+    push_line(out, between, takes)
+}
+
+/// What a command takes that the words do not have.
+fn needs(asked: Asked<'_>, command: CommandWords) -> &'static str {
+    if !asked.has_words(command.takes.split(' ').count()) {
+        return command.takes;
     }
-    match name {
-        "library" => out.push_str("circ: library takes BITS, STREAM, TREE, LANG or PROC\n"),
-        "generate" => out.push_str("circ: generate takes a number from 2 to 1000, without a sign or zeros before it\n"),
-        _ => out.push_str("circ: an option stands twice, or has no number within its limits, without a sign or zeros before it\n"),
+    match command.name {
+        "library" => "BITS, STREAM, TREE, LANG or PROC",
+        "generate" => "a number from 2 to 1000, without a sign or zeros before it",
+        _ => "each option once, with a number within its limits, without a sign or zeros before it",
     }
 }

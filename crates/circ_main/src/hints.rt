@@ -1,6 +1,6 @@
 //! Lines on standard error that help with an answer: where a text is wrong, which goal is stuck, which
 //! word is no command.
-use circ_hints::{Asked, Source, SourceKind, asked_for, stuck, unreadable, usage};
+use circ_hints::{Asked, Source, SourceKind, stuck_end, stuck_goal, unreadable, usage};
 use circ_read::Cause;
 use circ_top::Status;
 use std::alloc::AllocError;
@@ -34,11 +34,9 @@ fn hint<R: Files + AllocGlobal>(
     match status {
         Status::Usage => Ok(Some(usage(rt.alloc(), words)?)),
         Status::Unreadable { file, place, cause } => {
-            unreadable_hint(rt, &asked_for(rt.alloc(), words)?, *file, *place, cause)
+            unreadable_hint(rt, Asked::new(words), *file, *place, cause)
         }
-        Status::Stuck { block, goal } => {
-            stuck_hint(rt, &asked_for(rt.alloc(), words)?, *block, *goal, cases)
-        }
+        Status::Stuck { block, goal } => { stuck_hint(rt, Asked::new(words), *block, *goal, cases) }
         _ => Ok(None),
     }
 }
@@ -46,7 +44,7 @@ fn hint<R: Files + AllocGlobal>(
 /// The name and the bytes of a file of a command, if it is a regular one: a pipe gives its bytes once.
 fn file_of<'a, R: Files + AllocGlobal>(
     rt: &R,
-    asked: &Asked<'a>,
+    asked: Asked<'a>,
     number: u8,
 ) -> Option<(&'a str, Vec<u8>)> {
     let name = asked.file(number)?;
@@ -61,7 +59,7 @@ fn file_of<'a, R: Files + AllocGlobal>(
 
 fn unreadable_hint<R: Files + AllocGlobal>(
     rt: &R,
-    asked: &Asked<'_>,
+    asked: Asked<'_>,
     number: u8,
     place: u64,
     cause: &Cause,
@@ -88,14 +86,17 @@ fn unreadable_hint<R: Files + AllocGlobal>(
 
 fn stuck_hint<R: Files + AllocGlobal>(
     rt: &R,
-    asked: &Asked<'_>,
+    asked: Asked<'_>,
     block: u32,
     goal: u64,
     cases: u64,
 ) -> Result<Option<String>, AllocError> {
-    let Some((name, bytes)) = file_of(rt, asked, SCRIPT_FILE) else {
-        return Ok(None);
-    };
-    let text = stuck(rt.alloc(), name, bytes.as_slice(), block, goal, cases)?;
+    let mut text = String::new(rt.alloc());
+    if !asked.splits() {
+        if let Some((name, bytes)) = file_of(rt, asked, SCRIPT_FILE) {
+            text = stuck_goal(rt.alloc(), name, bytes.as_slice(), block, goal)?;
+        }
+    }
+    text.push_str(stuck_end(cases))?;
     Ok(Some(text))
 }
