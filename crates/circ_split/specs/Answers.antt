@@ -26,10 +26,6 @@ abbrev pub GivesReason : Result Reason Stop → (left : ℕ) → Result (Why Tre
 GivesReason r left (Ok w) = r ≡ Ok (reason_with (plain_why w) left)
 GivesReason r left (Err e) = Stops r e
 
-abbrev pub GivesWhys : {A : Type 0} → Result SplitReason Stop → (open_term : Tree) → (left : ℕ) → Result (Vec (Why Tree) A) TheStop → Type 0
-GivesWhys r u left (Ok ws) = r ≡ Ok (split_with u (plain_whys ws.items) left)
-GivesWhys r u left (Err e) = Stops r e
-
 abbrev pub GivesCases : Result SplitReason Stop → (left : ℕ) → Result Cases TheStop → Type 0
 GivesCases r left (Ok c) = r ≡ Ok (split_with c.term (plain_whys c.whys.items) left)
 GivesCases r left (Err e) = Stops r e
