@@ -12,20 +12,28 @@ use Rattle.circ_theory.specs.declared.way.Way.TheVariants.{Forth, Back}
 use Rattle.circ_rewrite.specs.Matching.{matching}
 use Rattle.circ_special.specs.declared.place.Place.{Place}
 use Rattle.circ_special.specs.Special.{place}
-use Rattle.circ_proof.specs.Plain.{LinkOf, Equation_link, Hypothesis_link, Assumption_link, Content_link, WhyOf, WhysOf, Same_why, Split_why, no_why, more_whys}
+use Rattle.circ_proof.specs.Plain.{LinkOf, Equation_link, Hypothesis_link, Assumption_link, Content_link, WhyOf, WhysOf, Same_why, Split_why, no_why}
+use Rattle.circ_proof.specs.Plain.{more_whys}
 use Rattle.circ_proof.specs.Proof.{Proof}
 use Rattle.circ_entry.specs.Entries.{Written, Numbered, numbered_entries, bare_entries}
 use Rattle.circ_expand.specs.Followed.{History, Simplified, Reduced, Derived, Open, Followed, goal_in, put_or_same, led, led_all, goals_of}
 use Rattle.circ_expand.specs.Pieces.{Piece, Pieces, Parts, Equation_piece, Content_piece, Assumption_piece, Cases_piece, no_piece, more_pieces, more_parts}
 use Rattle.circ_expand.specs.Pieces.{pieces_joined, turned}
-use Rattle.circ_expand.specs.Expand.{Spending, Yields, Long, Past, Stopped, continued, counted, tested, all_tested, Layer, At_place, By_entry, Background, Call}
-use Rattle.circ_expand.specs.Expand.{Expander, base, whole_with, around, and_piece, and_pieces, by_way, followed_at, Basis, link_setting, bounds_of, hypothesis_call}
-use Rattle.circ_expand.specs.Expand.{links_written, cases_at, case_basis, case_call, whys_written, each_why, derive_call, simplified_call, basis_in, ex, ly, single_use}
-use Rattle.circ_expand.specs.Expand.{Case, Visible_case, Place_case, Hidden_case, No_case, guard_case, paths_of, arg_sort, start_at, occurrence_call, occurrence_use}
-use Rattle.circ_expand.specs.Expand.{occurrences_written, derived_place, certified_call, no_basis, left_here, right_here, through_place, uses, background_of, expansion}
-use Rattle.circ_expand.specs.Machine.{Value, Row, Split, Job, Links, Reason, Reasons, Begin_use, Enter_use, Occurrences, Empty_row, Put_behind, Put_between, Add_part}
+use Rattle.circ_expand.specs.Expand.{Spending, Yields, Long, Past, Stopped, continued, counted, tested, all_tested, Layer, At_place, By_entry, Background}
+use Rattle.circ_expand.specs.Expand.{Call}
+use Rattle.circ_expand.specs.Expand.{Expander, base, whole_with, around, and_piece, and_pieces, by_way, followed_at, Basis, link_setting, bounds_of}
+use Rattle.circ_expand.specs.Expand.{hypothesis_call}
+use Rattle.circ_expand.specs.Expand.{links_written, cases_at, case_basis, case_call, whys_written, each_why, derive_call, simplified_call, basis_in, ex, ly}
+use Rattle.circ_expand.specs.Expand.{single_use}
+use Rattle.circ_expand.specs.Expand.{Case, Visible_case, Place_case, Hidden_case, No_case, guard_case, paths_of, arg_sort, start_at, occurrence_call}
+use Rattle.circ_expand.specs.Expand.{occurrence_use}
+use Rattle.circ_expand.specs.Expand.{occurrences_written, derived_place, certified_call, no_basis, left_here, right_here, through_place, uses, background_of}
+use Rattle.circ_expand.specs.Expand.{expansion}
+use Rattle.circ_expand.specs.Machine.{Value, Row, Split, Job, Links, Reason, Reasons, Begin_use, Enter_use, Occurrences, Empty_row, Put_behind, Put_between}
+use Rattle.circ_expand.specs.Machine.{Add_part}
 use Rattle.circ_expand.specs.Machine.{Begin_split, End_split, Work, work, with_behind, put_behind, put_between, add_part, end_split, with_row}
-use Rattle.circ_expand.specs.Machine.{all_done, links_step, reason_step, reasons_step, goal_step, place_step, along_step, use_step, case_step, occurrences_step, job_step}
+use Rattle.circ_expand.specs.Machine.{all_done, links_step, reason_step, reasons_step, goal_step, place_step, along_step, use_step, case_step}
+use Rattle.circ_expand.specs.Machine.{occurrences_step, job_step}
 use Rattle.circ_expand.specs.Machine.{all_uses, last_row, rest_done, first_use, worked_off}
 use Rattle.circ_expand.proofs.Depth.{one_round}
 
@@ -89,7 +97,8 @@ module _ (run : Expander) (f : Background) where
   abbrev with_more : List Job → Pieces → List Value → Pieces → ℕ → Spending (List Value)
   with_more js v vs xs n = all_done run f js (Row (pieces_joined v xs) ∷ vs) n
 
-  behind_then : (js : List Job) (v : Pieces) (vs : List Value) (o : Spending Pieces) → continued (with_behind v vs o) (all_done run f js) ≡ continued o (with_more js v vs)
+  behind_then : (js : List Job) (v : Pieces) (vs : List Value) (o : Spending Pieces)
+      → continued (with_behind v vs o) (all_done run f js) ≡ continued o (with_more js v vs)
   behind_then js v vs o = continued_twice o (λ xs m. Yields (Row (pieces_joined v xs) ∷ vs) m) (all_done run f js)
 
   row_then : (js : List Job) (vs : List Value) (o : Spending Pieces)
@@ -142,7 +151,8 @@ module _ (run : Expander) (f : Background) where
       let N : ℕ → Spending Work = λ m. Yields (work (Enter_use d ∷ Put_behind way ∷ Links c b ls u ∷ js) (Row v ∷ vs)) m in
       link_same n ts (around c u) L N (with_more js v vs) rest_of (λ k.
       continued_twice (run d k) F (with_more js v vs)
-      ∙ continued_same (run d k) (λ xs i. continued (F xs i) (with_more js v vs)) (λ xs i. all_done run f (Links c b ls u ∷ js) (Row (pieces_joined v (by_way way xs)) ∷ vs) i)
+      ∙ continued_same (run d k) (λ xs i. continued (F xs i) (with_more js v vs))
+      (λ xs i. all_done run f (Links c b ls u ∷ js) (Row (pieces_joined v (by_way way xs)) ∷ vs) i)
       (λ xs i. pieces_go js v vs (by_way way xs) (links_written run f c b ls u i))
       ∙ sym (row_then (Put_behind way ∷ Links c b ls u ∷ js) (Row v ∷ vs) (run d k)))
 
@@ -157,7 +167,8 @@ module _ (run : Expander) (f : Background) where
       (λ xs m. behind_then js no_piece (Row xs ∷ vs) (links_written run f d b rs t m))
 
   -- what is done with the rows of two sides
-  sides_then : {A : Type 0} (c d : Call) (b : Basis) (ls rs : List (LinkOf Tree)) (s t : Tree) (n : ℕ) (F : Pieces → Pieces → ℕ → Spending A) (G : A → ℕ → Spending (List Value))
+  sides_then : {A : Type 0} (c d : Call) (b : Basis) (ls rs : List (LinkOf Tree)) (s t : Tree) (n : ℕ) (F : Pieces → Pieces → ℕ → Spending A) (G : A → ℕ
+      → Spending (List Value))
       → continued (continued (links_written run f c b ls s n) (λ xs m. continued (links_written run f d b rs t m) (F xs))) G
       ≡ continued (links_written run f c b ls s n) (λ xs m. continued (links_written run f d b rs t m) (λ ys k. continued (F xs ys k) G))
   sides_then c d b ls rs s t n F G =
@@ -171,7 +182,8 @@ module _ (run : Expander) (f : Background) where
       → continued (links_written run f c b ls s n) (λ xs m. continued (links_written run f d b rs t m) (F xs))
       ≡ continued (links_written run f c b ls s n) (λ xs m. continued (links_written run f d b rs t m) (G xs))
   sides_same c d b ls rs s t n F G h =
-      continued_same (links_written run f c b ls s n) (λ xs m. continued (links_written run f d b rs t m) (F xs)) (λ xs m. continued (links_written run f d b rs t m) (G xs))
+      continued_same (links_written run f c b ls s n) (λ xs m. continued (links_written run f d b rs t m) (F xs))
+      (λ xs m. continued (links_written run f d b rs t m) (G xs))
       (λ xs m. continued_same (links_written run f d b rs t m) (F xs) (G xs) (λ ys k. h xs ys k))
 
   reason_right : (c : Call) (b : Basis) (w : WhyOf Tree) (s t : Tree) (js : List Job) (vs : List Value) (n : ℕ)
@@ -190,7 +202,8 @@ module _ (run : Expander) (f : Background) where
       let F : Pieces → Pieces → ℕ → Spending Pieces = λ xs ys k. counted k (λ i. tested u (continued (E i) (V xs ys))) in
       let split : List Job = Reasons c b ws term l l.constants y z ∷ End_split u ∷ Put_between ∷ js in
       sides_then c c b chain.left chain.right s t n F D
-      ∙ sides_same c c b chain.left chain.right s t n (λ xs ys k. continued (F xs ys k) D) (λ xs ys k. all_done run f (Begin_split u ∷ split) (Row ys ∷ Row xs ∷ vs) k)
+      ∙ sides_same c c b chain.left chain.right s t n (λ xs ys k. continued (F xs ys k) D)
+      (λ xs ys k. all_done run f (Begin_split u ∷ split) (Row ys ∷ Row xs ∷ vs) k)
       (λ xs ys k. counted_same k (λ i. tested u (continued (E i) (V xs ys))) (λ i. tested u (Yields (Row ys ∷ Row xs ∷ vs) i)) D (all_done run f split) (λ i.
       tested_same u (continued (E i) (V xs ys)) (Yields (Row ys ∷ Row xs ∷ vs) i) D (all_done run f split)
       (continued_twice (E i) (V xs ys) D
@@ -198,7 +211,8 @@ module _ (run : Expander) (f : Background) where
       ∙ sym (two_sides c c b chain.left chain.right s t (Begin_split u ∷ split) vs n)
 
   reasons_right : (c : Call) (b : Basis) (ws : WhysOf Tree) (v : Tree) (l : CaseList) (ks : List ℕ) (s t : Tree) (js : List Job) (vs : List Value) (n : ℕ)
-      → continued (each_why run f c b ws v l ks s t n) (λ ps m. all_done run f js (Split ps ∷ vs) m) ≡ continued (reasons_step run f c b ws v l ks s t js vs n) rest_of
+      → continued (each_why run f c b ws v l ks s t n) (λ ps m. all_done run f js (Split ps ∷ vs) m) ≡ continued
+      (reasons_step run f c b ws v l ks s t js vs n) rest_of
   reasons_right c b no_why v l ks s t js vs n = refl
   reasons_right c b (more_whys w ws) v l [] s t js vs n = refl
   reasons_right c b (more_whys w ws) v l (k ∷ ks) s t js vs n =
@@ -217,7 +231,8 @@ module _ (run : Expander) (f : Background) where
   -- a use whose unit is counted
   begun_use : (d : Call) (js : List Job) (vs : List Value) (n : ℕ)
       → continued (counted n (run d)) (λ xs m. all_done run f js (Row xs ∷ vs) m) ≡ all_done run f (Begin_use d ∷ js) vs n
-  begun_use d js vs n = counted_same n (run d) (λ m. with_row run f vs (run d m)) (λ xs m. all_done run f js (Row xs ∷ vs) m) (all_done run f js) (λ k. sym (row_then js vs (run d k)))
+  begun_use d js vs n = counted_same n (run d) (λ m. with_row run f vs (run d m)) (λ xs m. all_done run f js (Row xs ∷ vs) m) (all_done run f js)
+      (λ k. sym (row_then js vs (run d k)))
 
   goal_right : (c : Call) (h : History) (cs : List Numbered) (js : List Job) (vs : List Value) (n : ℕ)
       → continued (ex run f c h cs n) (λ xs m. all_done run f js (Row xs ∷ vs) m) ≡ continued (goal_step run f c h cs js vs n) rest_of
@@ -231,7 +246,8 @@ module _ (run : Expander) (f : Background) where
       sides_then c c b chain.left chain.right g.left g.right n F D
       ∙ sides_same c c b chain.left chain.right g.left g.right n (λ xs ys k. continued (F xs ys k) D)
       (λ xs ys k. all_done run f (Begin_use d ∷ Put_between ∷ js) (Row ys ∷ Row xs ∷ vs) k)
-      (λ xs ys k. counted_same k (λ i. continued (run d i) (V xs ys)) (λ i. with_row run f (Row ys ∷ Row xs ∷ vs) (run d i)) D (all_done run f (Put_between ∷ js)) (λ i.
+      (λ xs ys k. counted_same k (λ i. continued (run d i) (V xs ys)) (λ i. with_row run f (Row ys ∷ Row xs ∷ vs) (run d i)) D
+      (all_done run f (Put_between ∷ js)) (λ i.
       continued_twice (run d i) (V xs ys) D ∙ sym (row_then (Put_between ∷ js) (Row ys ∷ Row xs ∷ vs) (run d i))))
       ∙ sym (two_sides c c b chain.left chain.right g.left g.right (Begin_use d ∷ Put_between ∷ js) vs n)
   goal_right c (Reduced g why) cs js vs n = sym (row_then js vs (whys_written run f c (basis_in run f c) why g.left g.right n))
@@ -246,7 +262,8 @@ module _ (run : Expander) (f : Background) where
   case_right No_case d js vs n = refl
 
   occurrences_right : (c : Call) (xs : List Layer) (b last : Tree) (ps : List (List ℕ)) (here : Tree) (js : List Job) (v : Pieces) (vs : List Value) (n : ℕ)
-      → continued (occurrences_written run f c xs b last ps here n) (with_more js v vs) ≡ continued (occurrences_step run f c xs b last ps here js v vs n) rest_of
+      → continued (occurrences_written run f c xs b last ps here n) (with_more js v vs) ≡ continued
+      (occurrences_step run f c xs b last ps here js v vs n) rest_of
   occurrences_right c xs b last [] here js v vs n = ap (λ z. all_done run f js (Row z ∷ vs) n) (joined_none v)
   occurrences_right c xs b last (p ∷ ps) here js v vs n =
       let x : Case = guard_case f.theory f.places last p in
@@ -264,7 +281,8 @@ module _ (run : Expander) (f : Background) where
       ∙ case_right x d more (Row v ∷ vs) k)
 
   place_right : (c : Call) (g : Place) (s : ℕ) (ts : Trees) (xs : List Layer) (cs : List Numbered) (js : List Job) (vs : List Value) (n : ℕ)
-      → continued (through_place run f c g s ts xs cs n) (λ ys m. all_done run f js (Row ys ∷ vs) m) ≡ continued (place_step run f c g s ts xs cs js vs n) rest_of
+      → continued (through_place run f c g s ts xs cs n) (λ ys m. all_done run f js (Row ys ∷ vs) m) ≡ continued
+      (place_step run f c g s ts xs cs js vs n) rest_of
   place_right c g s ts xs [] js vs n = refl
   place_right c g s ts xs (e ∷ cs) js vs n =
       let start : Tree = start_at f.theory g e.entry.derivative in
@@ -300,7 +318,8 @@ module _ (run : Expander) (f : Background) where
   use_right c None js vs n = goal_right c c.goal.history c.entries js vs n
   use_right c (Some xs) js vs n = along_right c xs js vs n
 
-  values_then : (js : List Job) (o : Spending (List Value)) → continued o (all_done run f js) ≡ continued (continued o (λ vs n. Yields (work js vs) n)) rest_of
+  values_then : (js : List Job) (o : Spending (List Value))
+      → continued o (all_done run f js) ≡ continued (continued o (λ vs n. Yields (work js vs) n)) rest_of
   values_then js o = sym (continued_twice o (λ vs n. Yields (work js vs) n) rest_of)
 
   -- a step of the first job, and then all that is left

@@ -1,5 +1,5 @@
 -- The expansion worked off a stack: jobs, the next one first, and the values that are written so far, the last one first.
-use Rattle.std.specs.Prelude.{ℕ, ◌+◌, List, [], ◌∷◌, ◌++◌, suc, map, Option, Some, None, unwrap_or}
+use Rattle.std.specs.Prelude.{◌≡◌, ◌⊎◌, ◌<◌, ℕ, ◌+◌, List, [], ◌∷◌, ◌++◌, suc, map, Option, Some, None, unwrap_or}
 use Rattle.circ_term.specs.Tree.{Tree, Trees, Var, sort_of, at}
 use Rattle.circ_term.specs.Substitution.{instance}
 use Rattle.circ_theory.specs.Theory.{Theory, CaseList}
@@ -11,16 +11,20 @@ use Rattle.circ_theory.specs.declared.way.Way.TheVariants.{Forth, Back}
 use Rattle.circ_rewrite.specs.Matching.{matching}
 use Rattle.circ_special.specs.declared.place.Place.{Place}
 use Rattle.circ_special.specs.Special.{place}
-use Rattle.circ_proof.specs.Plain.{LinkOf, Equation_link, Hypothesis_link, Assumption_link, Content_link, WhyOf, WhysOf, Same_why, Split_why, no_why, more_whys}
+use Rattle.circ_proof.specs.Plain.{LinkOf, Equation_link, Hypothesis_link, Assumption_link, Content_link, WhyOf, WhysOf, Same_why, Split_why, no_why}
+use Rattle.circ_proof.specs.Plain.{more_whys}
 use Rattle.circ_proof.specs.Proof.{Proof}
 use Rattle.circ_entry.specs.Entries.{Written, Numbered, numbered_entries, bare_entries}
 use Rattle.circ_expand.specs.Followed.{History, Simplified, Reduced, Derived, Open, goal_in, put_or_same, led, led_all, goals_of}
 use Rattle.circ_expand.specs.Pieces.{Pieces, Parts, Equation_piece, Content_piece, Assumption_piece, Cases_piece, no_piece, more_pieces, no_part, more_parts}
 use Rattle.circ_expand.specs.Pieces.{pieces_joined, turned}
-use Rattle.circ_expand.specs.Expand.{Spending, Yields, Stopped, continued, counted, tested, all_tested, Layer, At_place, By_entry, Background, Call, Expander}
-use Rattle.circ_expand.specs.Expand.{base, whole_with, around, by_way, followed_at, Basis, link_setting, bounds_of, hypothesis_call, links_written, cases_at, case_basis}
+use Rattle.circ_expand.specs.Expand.{Spending, Yields, Long, Past, Stopped, continued, counted, tested, all_tested, Layer, At_place, By_entry, Background}
+use Rattle.circ_expand.specs.Expand.{Call, Expander}
+use Rattle.circ_expand.specs.Expand.{base, whole_with, around, by_way, followed_at, Basis, link_setting, bounds_of, hypothesis_call, links_written, cases_at}
+use Rattle.circ_expand.specs.Expand.{case_basis}
 use Rattle.circ_expand.specs.Expand.{case_call, whys_written, each_why, derive_call, simplified_call, basis_in, Case, Visible_case, Place_case, Hidden_case}
-use Rattle.circ_expand.specs.Expand.{No_case, guard_case, paths_of, arg_sort, start_at, occurrence_call, occurrences_written, derived_place, certified_call, no_basis}
+use Rattle.circ_expand.specs.Expand.{No_case, guard_case, paths_of, arg_sort, start_at, occurrence_call, occurrences_written, derived_place, certified_call}
+use Rattle.circ_expand.specs.Expand.{no_basis}
 use Rattle.circ_expand.specs.Expand.{left_here, right_here, uses, background_of}
 
 -- what is written so far: pieces in a row, or parts of cases
@@ -133,7 +137,8 @@ module _ (run : Expander) (f : Background) where
       let u = led (link_setting f b) (Content_link op path term) t in
       let old = unwrap_or (at t path) t in
       let x = Content_piece op (base c ++ path) old term (bounds_of c.by old term) in
-      counted n (λ m. tested (instance c.by term) (tested (around c u) (Yields (work (Links c b ls u ∷ js) (Row (pieces_joined v (more_pieces x no_piece)) ∷ vs)) m)))
+      counted n (λ m. tested (instance c.by term) (tested (around c u)
+      (Yields (work (Links c b ls u ∷ js) (Row (pieces_joined v (more_pieces x no_piece)) ∷ vs)) m)))
   links_step c b (Assumption_link number way path ∷ ls) t js v vs n =
       let u = led (link_setting f b) (Assumption_link number way path) t in
       let x = Assumption_piece (b.raised + number) way (base c ++ path) in
@@ -203,7 +208,8 @@ module _ (run : Expander) (f : Background) where
   case_step (Hidden_case k q) c js vs n = Yields (work (Enter_use c ∷ js) vs) n
   case_step No_case c js vs n = Stopped
 
-  abbrev pub occurrences_step : Call → List Layer → (b last : Tree) → List (List ℕ) → (here : Tree) → List Job → (last_row : Pieces) → List Value → ℕ → Spending Work
+  abbrev pub occurrences_step : Call → List Layer → (b last : Tree) → List (List ℕ) → (here : Tree) → List Job → (last_row : Pieces) → List Value → ℕ
+      → Spending Work
   occurrences_step c xs b last [] here js v vs n = Yields (work js (Row v ∷ vs)) n
   occurrences_step c xs b last (p ∷ ps) here js v vs n =
       let k = guard_case f.theory f.places last p in
@@ -256,3 +262,46 @@ worked_off k th p goal ws =
     let cs = numbered_entries th ws in
     tested (on (bare_entries cs) (goal_in g.history).left) (tested (on (bare_entries cs) (goal_in g.history).right)
     (continued (rest_done (background_of th p) (work (Begin_use (first_use th p goal ws) ∷ []) []) k) last_row))
+
+-- ---- that it ends
+
+-- how many steps a reason, reasons and a job may take before a unit is counted
+abbrev mutual
+  pub reason_weight : {T : Type 0} → WhyOf T → ℕ
+  reason_weight (Same_why chain) = 5
+  reason_weight (Split_why chain term ws) = 7 + reasons_weight ws
+
+  pub reasons_weight : {T : Type 0} → WhysOf T → ℕ
+  reasons_weight no_why = 1
+  reasons_weight (more_whys w ws) = 2 + (reason_weight w + reasons_weight ws)
+
+abbrev pub goal_weight : History → ℕ
+goal_weight Open = 7
+goal_weight (Simplified g chain h) = 7
+goal_weight (Reduced g why) = 7 + reason_weight why
+goal_weight (Derived g children) = 7
+
+abbrev pub job_weight : Job → ℕ
+job_weight (Links c b ls t) = 1
+job_weight (Reason c b why s t) = reason_weight why
+job_weight (Reasons c b ws v l ks s t) = reasons_weight ws
+job_weight (Begin_use c) = 1
+job_weight (Enter_use c) = goal_weight c.goal.history
+job_weight (Occurrences c xs b last ps here) = 1
+job_weight Empty_row = 1
+job_weight (Put_behind way) = 1
+job_weight Put_between = 1
+job_weight Add_part = 1
+job_weight (Begin_split u) = 1
+job_weight (End_split u) = 1
+
+abbrev pub jobs_weight : List Job → ℕ
+jobs_weight [] = 0
+jobs_weight (j ∷ js) = job_weight j + jobs_weight js
+
+-- A step has counted a unit, or the jobs weigh less than before.
+abbrev pub CountsDown : (n weight : ℕ) → Spending Work → Type 0
+CountsDown n w (Yields u m) = (m < n) ⊎ ((m ≡ n) × (jobs_weight u.jobs < w))
+CountsDown n w Long = Unit {0}
+CountsDown n w (Past l) = Unit {0}
+CountsDown n w Stopped = Unit {0}
