@@ -13,7 +13,7 @@ use Rattle.circ_rewrite.specs.Matching.{matching}
 use Rattle.circ_proof.specs.Plain.{LinkOf, Equation_link, Hypothesis_link, Assumption_link, Content_link, WhyOf, WhysOf, Same_why, Split_why, no_why}
 use Rattle.circ_proof.specs.Plain.{more_whys}
 use Rattle.circ_entry.specs.Entries.{Numbered}
-use Rattle.circ_expand.specs.Followed.{History, Simplified, Reduced, Derived, Open, Followed, goal_in, put_or_same, led, led_all}
+use Rattle.circ_expand.specs.Followed.{History, Simplified, Reduced_by, Derived, Open, Followed, goal_in, put_or_same, led, led_all}
 use Rattle.circ_expand.specs.Pieces.{Piece, Pieces, Parts, Equation_piece, Content_piece, Assumption_piece, Cases_piece, no_piece, more_pieces, no_part}
 use Rattle.circ_expand.specs.Pieces.{more_parts}
 use Rattle.circ_expand.specs.Pieces.{pieces_joined, turned}
@@ -202,7 +202,7 @@ module _ (f : Background) (run ran : Expander) (k : ℕ) (same : AreAlike run ra
       alike_counted j (L xs ys) (R xs ys) (λ i li.
       alike_on i (run d i) (ran d i) (V xs ys) (V xs ys) (same d i (omega (arith, li, lj, lm, le)))
       (λ zs y ly. alike_value y (pieces_joined xs (pieces_joined zs (turned ys)))))))
-  ex_alike c (Reduced g why) cs n le = whys_alike c (basis_in run f c) why g.left g.right n le
+  ex_alike c (Reduced_by g why) cs n le = whys_alike c (basis_in run f c) why g.left g.right n le
   ex_alike c (Derived g children) [] n le = alike_stopped n
   ex_alike c (Derived g children) (e ∷ cs) n le =
       let d : Call = derive_call run f c g children e cs in

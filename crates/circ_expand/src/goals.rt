@@ -1,9 +1,10 @@
 //! The goals of a proof by number.
-ghost use Rattle.std.specs.Prelude.{◌≡◌, map, option_copied};
+ghost use Rattle.std.specs.Prelude.{◌≡◌, None, map, option_copied};
 ghost use Rattle.std.specs.List.{slice_get};
 ghost use Rattle.circ_proof.specs.PlainProof.{plain_block, plain_proof};
+ghost use Rattle.circ_entry.specs.Entries.{HaveParameters};
 ghost use Rattle.circ_entry.specs.Plain.{plain_entries};
-ghost use Rattle.circ_expand.specs.Goals.{all_goals, goal_misfit};
+ghost use Rattle.circ_expand.specs.Goals.{all_goals, goal_misfit, FitGoal};
 
 use circ_entry::{Entry, misfit};
 use circ_proof::{Block, Proof};
@@ -33,8 +34,10 @@ fn find_goal(blocks: &[Block], number: usize) -> Option<&Goal>
 /// the first entry, counted from 1, whose derivative does not exist or has no hole of the sort that
 /// is reached, or the number of entries plus 1 where the last sort is hidden.
 pub fn goal_misfit(theory: &Theory, proof: &Proof, number: u32, entries: &[Entry]) -> Option<usize>
-    ensures { result ≡ goal_misfit theory.now (plain_proof proof.now) number
+    ensures exact { result ≡ goal_misfit theory.now (plain_proof proof.now) number
         (plain_entries entries.now) }
+    ensures fits { HaveParameters theory.now (plain_entries entries.now) → result ≡ None →
+        FitGoal theory.now (plain_proof proof.now) number (plain_entries entries.now) }
 {
     let Some(goal) = goal_numbered(proof, number) else {
         return Some(0);
