@@ -8,7 +8,7 @@ pub(crate) struct CommandWords {
 }
 
 /// All commands, in the order in which they are shown.
-pub(crate) const COMMANDS: [CommandWords; 9] = [
+pub(crate) const COMMANDS: [CommandWords; 12] = [
     CommandWords {
         name: "prove",
         takes: "THEORY SCRIPT PROOF",
@@ -16,6 +16,10 @@ pub(crate) const COMMANDS: [CommandWords; 9] = [
     CommandWords {
         name: "check",
         takes: "THEORY PROOF",
+    },
+    CommandWords {
+        name: "upgrade",
+        takes: "THEORY PROOF NEW",
     },
     CommandWords {
         name: "relation",
@@ -34,6 +38,10 @@ pub(crate) const COMMANDS: [CommandWords; 9] = [
         takes: "THEORY SCRIPT",
     },
     CommandWords {
+        name: "differ",
+        takes: "THEORY SCRIPT",
+    },
+    CommandWords {
         name: "generate",
         takes: "NUMBER",
     },
@@ -44,6 +52,10 @@ pub(crate) const COMMANDS: [CommandWords; 9] = [
     CommandWords {
         name: "same",
         takes: "FIRST SECOND",
+    },
+    CommandWords {
+        name: "regex",
+        takes: "LEFT RIGHT PROOF",
     },
 ];
 

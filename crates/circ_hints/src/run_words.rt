@@ -21,9 +21,12 @@ impl<'a> Asked<'a> {
         }
     }
 
-    /// The name of a file, by its number from 1.
+    /// The name of a file, by its number from 1. The words of `regex` are expressions, and name none.
     pub fn file(&self, number: u8) -> Option<&'a str> {
-        self.plain(usize::from(number))
+        match self.command() {
+            "regex" => None,
+            _ => self.plain(usize::from(number)),
+        }
     }
 
     /// Whether the command has just so many words.
@@ -36,7 +39,7 @@ impl<'a> Asked<'a> {
         match self.command() {
             "same" => SourceKind::Automaton,
             _ if number <= 1 => SourceKind::Theory,
-            "prove" | "reduce" => SourceKind::Script,
+            "prove" | "reduce" | "differ" => SourceKind::Script,
             _ => SourceKind::Proof,
         }
     }
