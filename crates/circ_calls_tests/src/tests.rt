@@ -10,14 +10,16 @@ use circ_file::laws::decoded_bytes_are_the_text;
 use circ_file::{decode, encode};
 use circ_form::{Form, FormFault, Text};
 use circ_lexer::{LexFault, Span, Tokens};
+use circ_lib::lookup;
 use circ_match::{match_pair, match_term};
 use circ_memo::normalise;
 use circ_mixfix::{ParseFault, Reading, parse_one, parse_pair, print};
 use circ_outer::{SureShelf, SureSink};
 use circ_proof::{Chain, Link, Proof, Why};
 use circ_read::read_theory;
+use circ_regex::lang_theory;
 use circ_replay::{TableBuilder, follow, follow_all, follow_why};
-use circ_show::unobserved;
+use circ_show::{theory_text, unobserved};
 use circ_special::Gamma;
 use circ_term::{Path, Subst, Term, TermFault};
 use circ_theory::{Goal, Pair, Pairs, Theory, in_order, parameters_in_order};
@@ -379,6 +381,27 @@ fn is_decoded(alloc: Global, theory: &Theory) -> bool {
 fn whole_proofs(rt: HostRuntime) {
     let theory = read_theory(rt.alloc(), FILE);
     assert!(rt; theory.is_ok_and(|theory| is_decoded(rt.alloc(), &theory)));
+}
+
+// The text of a theory, printed whole.
+fn shown(alloc: Global, theory: &Theory) -> Result<Vec<u8>, AllocError> {
+    let mut out = Vec::new(alloc);
+    theory_text(alloc, theory, &mut out)?;
+    Ok(out)
+}
+
+// Whether the library's text LANG is read as this theory.
+fn is_lang(alloc: Global, made: &Theory) -> Result<bool, AllocError> {
+    let Some(Ok(read)) = lookup(b"LANG").map(|text| read_theory(alloc, text)) else {
+        return Ok(false);
+    };
+    Ok(shown(alloc, &read)?.as_slice() == shown(alloc, made)?.as_slice())
+}
+
+#[test]
+fn the_theory_of_expressions(rt: HostRuntime) {
+    let made = lang_theory(rt.alloc());
+    assert!(rt; made.is_ok_and(|made| is_lang(rt.alloc(), &made) == Ok(true)));
 }
 
 fn words(alloc: Global) -> Result<Vec<String>, AllocError> {

@@ -16,7 +16,7 @@ use std::alloc::{AllocError, Global};
 use std::{fs, io};
 
 /// The tables, in the order in which they are run.
-const TABLES: [&str; 23] = [
+const TABLES: [&str; 25] = [
     "rows-words",
     "rows-faults",
     "rows-causes",
@@ -40,6 +40,8 @@ const TABLES: [&str; 23] = [
     "rows-changed-contexts",
     "rows-changed-proofs",
     "rows-automata",
+    "rows-expressions",
+    "rows-upgrade",
 ];
 
 /// The table of which each call of the outside fails in turn.

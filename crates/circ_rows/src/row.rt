@@ -93,10 +93,23 @@ impl<'a> Row<'a> {
         requires { 0 < most }
     {
         let mut shelf = self.shelf(alloc, most)?;
+        self.run_on(alloc, &mut shelf)
+    }
+
+    fn run_on(&self, alloc: Global, shelf: &mut MemoryShelf) -> Result<String, AllocError> {
         let mut sink = self.sink(alloc)?;
+        let status = self.run_to(alloc, shelf, &mut sink)?;
+        self.told(alloc, &status, shelf, sink.bytes())
+    }
+
+    fn run_to(
+        &self,
+        alloc: Global,
+        shelf: &mut MemoryShelf,
+        sink: &mut MemorySink,
+    ) -> Result<Status, AllocError> {
         let words = self.words(alloc)?;
-        let status = circ(alloc, &words, &mut shelf, &mut sink);
-        self.told(alloc, &status, &shelf, sink.bytes())
+        Ok(circ(alloc, &words, shelf, sink))
     }
 
     /// A part of no kind.
@@ -125,17 +138,23 @@ impl<'a> Row<'a> {
 
     /// The program's name, and the words behind it.
     pub fn words(&self, alloc: Global) -> Result<Vec<String>, AllocError> {
-        let mut words = vec![in alloc; String::from_str(alloc, "circ")?]?;
+        let mut words = Vec::new(alloc);
+        push_word(alloc, &mut words, "circ")?;
+        self.put_words(alloc, &mut words)?;
+        Ok(words)
+    }
+
+    fn put_words(&self, alloc: Global, words: &mut Vec<String>) -> Result<(), AllocError> {
         let line = self.last("circ").map_or("", |part| part.name);
         for word in line.split_ascii_whitespace() {
-            words.push(String::from_str(alloc, word)?)?;
+            push_word(alloc, words, word)?;
         }
         for part in &self.parts {
             if part.kind == "word" {
-                words.push(String::from_str(alloc, part.name)?)?;
+                push_word(alloc, words, part.name)?;
             }
         }
-        Ok(words)
+        Ok(())
     }
 
     /// The files that the program finds, and the calls that fail.
@@ -143,14 +162,15 @@ impl<'a> Row<'a> {
         requires { 0 < most }
     {
         let mut shelf = MemoryShelf::new(alloc, most);
-        for part in &self.parts {
-            match part.kind {
-                "file" => shelf.add(part.name, part.text.as_bytes())?,
-                "shelf" => shelf.fail_at(part.number())?,
-                _ => {}
-            }
-        }
+        self.place_all(&mut shelf)?;
         Ok(shelf)
+    }
+
+    fn place_all(&self, shelf: &mut MemoryShelf) -> Result<(), AllocError> {
+        for part in &self.parts {
+            part.place(shelf)?;
+        }
+        Ok(())
     }
 
     /// The sink that takes the program's text, and the calls that fail.
@@ -203,7 +223,22 @@ impl<'a> Row<'a> {
     }
 }
 
+/// Appends a word.
+fn push_word(alloc: Global, words: &mut Vec<String>, word: &str) -> Result<(), AllocError> {
+    let word = String::from_str(alloc, word)?;
+    Ok(words.push(word)?)
+}
+
 impl<'a> Part<'a> {
+    /// Puts the file or the call that fails, which the part says, onto a shelf.
+    fn place(&self, shelf: &mut MemoryShelf) -> Result<(), AllocError> {
+        match self.kind {
+            "file" => shelf.add(self.name, self.text.as_bytes()),
+            "shelf" => shelf.fail_at(self.number()),
+            _ => Ok(()),
+        }
+    }
+
     /// Whether a name holds what it must, where the part says it.
     pub fn is_kept(&self, shelf: &MemoryShelf) -> bool {
         match self.kind {

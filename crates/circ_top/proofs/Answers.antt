@@ -1,5 +1,6 @@
 -- What one answer says: a success, a step that fails, a file that was not read or is past the limit, a text that was not written.
 use Rattle.std.proofs.Common.{◌≡◌, ◌≢◌, ℕ, List, [], refl, ap, sym, ◌∙◌, subst, inl, inr, Option, Some, None}
+use Rattle.std.proofs.lemmas.Option.{same_Some}
 use Rattle.circ_outer.specs.Shelf.{ShelfState, IsQuiet}
 use Rattle.circ_outer.specs.Sink.{SinkState}
 use Rattle.circ_theory.specs.Theory.{Theory}
@@ -13,7 +14,7 @@ use Rattle.circ_plain_search.specs.Search.{Limits as SearchLimits}
 use Rattle.circ_top.specs.Answer.{Succeeds, Comes, RefusesCommand, DueAnswer, no_command, work_done, refusal, words_unread, AnswersDue, Succeeded}
 use Rattle.circ_top.specs.Causes.{AtFile, HasLongProof, IsPastLimit, IsReadFault, IsUnwritten, FailsToPut, IsWriteFault, IsQuietRun}
 use Rattle.circ_top.specs.Check.{report_text, refused, accepted, Accepts, Rejects, FilesRead}
-use Rattle.circ_top.specs.Command.{Command, Check, Prove, Show, Contexts, Reduce, Same, Library, Generate, Asks, IsNotStored, stored_name}
+use Rattle.circ_top.specs.Command.{Command, Check, Prove, Show, Contexts, Reduce, Same, Regex, Upgrade, Library, Generate, Asks, IsNotStored, stored_name}
 use Rattle.circ_search.specs.Plain.{plain_limits}
 use Rattle.circ_top.specs.Prove.{IsSearched, StoresProof}
 use Rattle.circ_top.specs.Delivery.{Prints, Delivers, whole, write_failed, memory_wanted, text_wanted}
@@ -37,6 +38,13 @@ use Rattle.circ_generate.specs.Generating.{Generates}
 use Rattle.circ_top.proofs.GenerateOutcomes.{generates_end}
 use Rattle.circ_top.proofs.Searches.{IsSearchEnd, search_end, search_name, search_ok}
 use Rattle.circ_top.proofs.ReduceOutcomes.{reduce_not_ok, reduce_not_refused, unread_reduce, past_reduce, unwritten_reduce}
+use Rattle.circ_regex.specs.Lang.{LANG}
+use Rattle.circ_top.specs.Regex.{equality_goals, IsEqualitySearched, StoresEquality}
+use Rattle.circ_top.proofs.RegexOutcomes.{regex_not_ok, regex_not_refused, regex_not_unread, regex_not_past, regex_not_unwritten}
+use Rattle.circ_top.proofs.RegexOutcomes.{GoalsBehave, AlikeMatch, equality_matches}
+use Rattle.circ_top.specs.Upgrade.{upgraded_file, StoresUpgraded}
+use Rattle.circ_top.proofs.Upgraded.{upgraded_fits, upgraded_alike}
+use Rattle.circ_top.proofs.UpgradeOutcomes.{upgrade_not_ok, upgrade_not_refused, unread_upgrade, past_upgrade, unwritten_upgrade, upgraded_short}
 use Rattle.circ_top.specs.Same.{IsCompared}
 use Rattle.circ_top.proofs.SameOutcomes.{same_not_ok, same_not_refused, unread_same, past_same, unwritten_same, compared_end}
 use Rattle.circ_top.proofs.Agreeing.{DueIs, outcome, nothing_read, no_memory_left}
@@ -50,6 +58,8 @@ module _ (before after : ShelfState) where
   command_not_ok (Contexts budget theory) s r e = file_fault_not_ok 1 theory PlainTheoryRefusal before after s e r
   command_not_ok (Reduce budget theory script) s r e = reduce_not_ok budget theory script before after s r e
   command_not_ok (Same first second) s r e = same_not_ok first second before after s r e
+  command_not_ok (Regex limits left right proof) s r e = regex_not_ok left right s r e
+  command_not_ok (Upgrade theory proof new) s r e = upgrade_not_ok theory proof before after s r e
   command_not_ok (Library text) s r e = let never : status.Memory ≡ status.Ok = sym r ∙ e in cc
   command_not_ok (Generate k) s r e = let never : status.Memory ≡ status.Ok = sym r ∙ e in cc
 
@@ -64,6 +74,8 @@ module _ (before after : ShelfState) where
   unread_command (Contexts budget theory) s n r e = let P : Status → Type 0 = IsFileFault 1 theory PlainTheoryRefusal before after in subst P e r
   unread_command (Reduce budget theory script) s n r e = unread_reduce budget theory script before after s n r e
   unread_command (Same first second) s n r e = unread_same first second before after s n r e
+  unread_command (Regex limits left right proof) s n r e = absurd (regex_not_unread left right s n r e)
+  unread_command (Upgrade theory proof new) s n r e = unread_upgrade theory proof before after s n r e
   unread_command (Library text) s n r e = absurd (let never : status.Memory ≡ status.ReadFault n = sym r ∙ e in cc)
   unread_command (Generate k) s n r e = absurd (let never : status.Memory ≡ status.ReadFault n = sym r ∙ e in cc)
 
@@ -76,6 +88,8 @@ module _ (before after : ShelfState) where
       let P : Status → Type 0 = IsFileFault 1 theory PlainTheoryRefusal before after in let x = subst P e r in (sym x.0, x.1)
   past_command (Reduce budget theory script) s file n r e = past_reduce budget theory script before after s file n r e
   past_command (Same first second) s file n r e = past_same first second before after s file n r e
+  past_command (Regex limits left right proof) s file n r e = absurd (regex_not_past left right s file n r e)
+  past_command (Upgrade theory proof new) s file n r e = past_upgrade theory proof before after s file n r e
   past_command (Library text) s file n r e = absurd (let never : status.Memory ≡ status.TooLong file n = sym r ∙ e in cc)
   past_command (Generate k) s file n r e = absurd (let never : status.Memory ≡ status.TooLong file n = sym r ∙ e in cc)
 
@@ -86,6 +100,8 @@ module _ (before after : ShelfState) where
   unwritten_command (Contexts budget theory) s n r e = let P : Status → Type 0 = IsFileFault 1 theory PlainTheoryRefusal before after in subst P e r
   unwritten_command (Reduce budget theory script) s n r e = unwritten_reduce budget theory script before after s n r e
   unwritten_command (Same first second) s n r e = unwritten_same first second before after s n r e
+  unwritten_command (Regex limits left right proof) s n r e = regex_not_unwritten left right s n r e
+  unwritten_command (Upgrade theory proof new) s n r e = unwritten_upgrade theory proof before after s n r e
   unwritten_command (Library text) s n r e = let never : status.Memory ≡ status.WriteFault n = sym r ∙ e in cc
   unwritten_command (Generate k) s n r e = let never : status.Memory ≡ status.WriteFault n = sym r ∙ e in cc
 
@@ -108,6 +124,8 @@ module _ (before : ShelfState) where
   work_end (Contexts budget theory) s text stored a = ok_end s a.0
   work_end (Reduce budget theory script) s text stored a = ok_end s a.0
   work_end (Same first second) s text stored a = (compared_end a.0.compared.word s a.0.compared.status_is).0
+  work_end (Regex limits left right proof) s text stored a = search_end LANG (plain_limits limits) proof (equality_goals a.e a.f) s text stored a.ends
+  work_end (Upgrade theory proof new) s text stored a = ok_end s a.0
   work_end (Library given) s text stored a = ok_end s a.0
   work_end (Generate k) s text stored a = (generates_end k (ending s text stored) a).0
 
@@ -124,6 +142,9 @@ module _ (before : ShelfState) where
   work_succeeds (Contexts budget theory) s text stored a e = a.1
   work_succeeds (Reduce budget theory script) s text stored a e = a.1
   work_succeeds (Same first second) s text stored a e = let P : Status → Type 0 = λ x. IsCompared first second x text before × (stored ≡ None) in subst P e a
+  work_succeeds (Regex limits left right proof) s text stored a e =
+      let P : Status → Type 0 = λ x. IsEqualitySearched limits left right proof (ending x text stored) in subst P e a
+  work_succeeds (Upgrade theory proof new) s text stored a e = a.1
   work_succeeds (Library given) s text stored a e = a.1
   work_succeeds (Generate k) s text stored a e = let P : Status → Type 0 = λ x. Generates k (ending x text stored) in subst P e a
 
@@ -137,6 +158,9 @@ module _ (before : ShelfState) where
   work_past (Contexts budget theory) s text stored file n a e = let never : status.Ok ≡ status.TooLong file n = sym a.0 ∙ e in cc
   work_past (Reduce budget theory script) s text stored file n a e = let never : status.Ok ≡ status.TooLong file n = sym a.0 ∙ e in cc
   work_past (Same first second) s text stored file n a e = absurd ((compared_end a.0.compared.word s a.0.compared.status_is).1 file n e)
+  work_past (Regex limits left right proof) s text stored file n a e =
+      let P : Status → Type 0 = λ x. IsEqualitySearched limits left right proof (ending x text stored) in (text, stored, subst P e a)
+  work_past (Upgrade theory proof new) s text stored file n a e = let never : status.Ok ≡ status.TooLong file n = sym a.0 ∙ e in cc
   work_past (Library given) s text stored file n a e = let never : status.Ok ≡ status.TooLong file n = sym a.0 ∙ e in cc
   work_past (Generate k) s text stored file n a e = let P : Status → Type 0 = λ x. Generates k (ending x text stored) in (text, stored, subst P e a)
 
@@ -154,6 +178,11 @@ module _ (before : ShelfState) where
   work_name (Contexts budget theory) s text stored x a e = nothing_stored stored x a.1.1 e
   work_name (Reduce budget theory script) s text stored x a e = nothing_stored stored x a.1.1 e
   work_name (Same first second) s text stored x a e = nothing_stored stored x a.1 e
+  work_name (Regex limits left right proof) s text stored x a e =
+      let P : Option Stored → Type 0 = λ y. SearchEnds LANG (plain_limits limits) proof (equality_goals a.e a.f) (ending s text y) in
+      ap Some (sym (search_name LANG (plain_limits limits) proof (equality_goals a.e a.f) s text x (subst P e a.ends)))
+  work_name (Upgrade theory proof new) s text stored x a e =
+      ap (λ y. Some y.name) (same_Some (upgraded_file new a.1.p) x (sym a.1.stored_is ∙ e))
   work_name (Library given) s text stored x a e = nothing_stored stored x a.1.1 e
   work_name (Generate k) s text stored x a e = nothing_stored stored x (generates_end k (ending s text stored) a).1 e
 
@@ -238,6 +267,57 @@ module _ (words : List (List ℕ)) (before after : ShelfState) (start end : Sink
         prints = subst T ok.text_is s.prints;
       }
 
+  pub answers_equal : ProofsFound → GoalsBehave → AlikeMatch → IsQuietRun words before after r → (limits : Limits) (left right proof : List ℕ)
+      → Asks words (Regex limits left right proof) → r ≡ status.Ok → StoresEquality left right proof before after start end
+  answers_equal found behave alike q limits left right proof i e =
+      let s = answers_succeed q e in
+      let P : Command → Type 0 = λ c. Succeeds c s.text s.stored before in
+      let a = subst P (same_command words s.command (Regex limits left right proof) s.asks i) s.succeeds in
+      let ok = search_ok LANG (plain_limits limits) proof (equality_goals a.e a.f) s.text s.stored a.ends in
+      let says = found LANG a.well_formed (equality_goals a.e a.f) a.searchable (plain_limits limits) ok.p ok.search in
+      let H : Option Stored → Type 0 = λ x. HoldsAfter x before after in
+      let T : List ℕ → Type 0 = λ x. Prints x start end in
+      let held = subst H ok.stored_is s.held in
+      record {
+        e = a.e;
+        f = a.f;
+        p = ok.p;
+        left_is = a.left_is;
+        right_is = a.right_is;
+        same_words = equality_matches behave alike a.well_formed a.e a.f ok.p says.fits says.accepted says.goals;
+        proof_for = says.fits;
+        accepted = says.accepted;
+        goals = says.goals;
+        short = ok.short;
+        holds = held.0;
+        others = held.1;
+        quiet = s.quiet;
+        prints = subst T ok.text_is s.prints;
+      }
+
+  pub answers_upgraded : IsQuietRun words before after r → (theory proof new : List ℕ) → Asks words (Upgrade theory proof new) → r ≡ status.Ok
+      → StoresUpgraded theory proof new before after start end
+  answers_upgraded q theory proof new i e =
+      let s = answers_succeed q e in
+      let P : Command → Type 0 = λ c. Succeeds c s.text s.stored before in
+      let a = subst P (same_command words s.command (Upgrade theory proof new) s.asks i) s.succeeds in
+      let H : Option Stored → Type 0 = λ x. HoldsAfter x before after in
+      let T : List ℕ → Type 0 = λ x. Prints x start end in
+      let held = subst H a.stored_is s.held in
+      record {
+        th = a.th;
+        p = a.p;
+        takes_theory = a.takes_theory;
+        takes_proof = a.takes_proof;
+        proof_for = upgraded_fits a.th a.p a.takes_proof.bytes.are.proof_for;
+        alike = upgraded_alike a.th a.p;
+        short = upgraded_short a.th a.p a.takes_proof.bytes;
+        holds = held.0;
+        others = held.1;
+        quiet = s.quiet;
+        prints = subst T a.text_is s.prints;
+      }
+
   pub answers_refused : IsQuietRun words before after r → (n : ℕ) → r ≡ status.Refused n → Rejects words before after start end n
   answers_refused q n e = ended r a.ends e (quiet_refused before after words r n e q)
     where
@@ -252,6 +332,8 @@ module _ (words : List (List ℕ)) (before after : ShelfState) (start end : Sink
       rejects (Contexts budget theory) s i f e p q = absurd (file_fault_not_refused 1 theory PlainTheoryRefusal before after s n e f)
       rejects (Reduce budget theory script) s i f e p q = absurd (reduce_not_refused budget theory script before after s n f e)
       rejects (Same first second) s i f e p q = absurd (same_not_refused first second before after s n f e)
+      rejects (Regex limits left right proof) s i f e p q = absurd (regex_not_refused left right s n f e)
+      rejects (Upgrade theory proof new) s i f e p q = absurd (upgrade_not_refused theory proof before after s n f e)
       rejects (Library text) s i f e p q = absurd (let never : status.Memory ≡ status.Refused n = sym f ∙ e in cc)
       rejects (Generate k) s i f e p q = absurd (let never : status.Memory ≡ status.Refused n = sym f ∙ e in cc)
 

@@ -14,7 +14,7 @@ use Rattle.circ_script.specs.ReadsAsScript.{ReadsAsScript, ScriptOrCause}
 use Rattle.circ_script.specs.declared.job.Job.{Job}
 use Rattle.circ_script.specs.declared.job.Job.TheVariants as job
 use Rattle.circ_top.specs.Check.{report_text, no_theory, no_proof, refused, accepted}
-use Rattle.circ_top.specs.Command.{Command, Check, Prove, Show, Contexts, Reduce, Same, Library, Generate, Asks}
+use Rattle.circ_top.specs.Command.{Command, Check, Prove, Show, Contexts, Reduce, Same, Regex, Upgrade, Library, Generate, Asks}
 use Rattle.circ_files.specs.Files.{Held, Refusal, RefusesFile, Holds}
 use Rattle.circ_top.specs.InMemory.{HoldsFilesOf, HoldsFiles}
 use Rattle.circ_plain_search.specs.Numbering.{Found}
@@ -32,6 +32,10 @@ use Rattle.circ_top.specs.Same.{AutomatonRefusal, SecondRefusal, ReadsOver, comp
 use Rattle.circ_top.proofs.SameDecides.{AutomataDecided, first_decides, second_decides, compared_decides}
 use Rattle.circ_top.specs.Prove.{searched}
 use Rattle.circ_top.specs.Prove as prove
+use Rattle.circ_regex.specs.Lang.{LANG}
+use Rattle.circ_top.specs.Regex.{equality_goals, no_left, no_right, both_read}
+use Rattle.circ_top.specs.Upgrade.{upgraded_text, upgraded_file, given_anew}
+use Rattle.circ_top.specs.Upgrade as upgrade
 use Rattle.circ_top.specs.Contexts.{not_listed, listed}
 use Rattle.circ_show.specs.PlacesText.{place_lines}
 use Rattle.circ_plain_search.proofs.Existing.{some_set}
@@ -50,11 +54,8 @@ use Rattle.circ_turn.specs.declared.search.Limits.{Limits}
 use Rattle.circ_files.specs.declared.status.Status.{Status}
 use Rattle.circ_files.specs.declared.status.Status.TheVariants as status
 use Rattle.circ_top.proofs.Ends.{forms_or_end}
+use Rattle.circ_top.proofs.RegexOutcomes.{short_or_long, word_decides}
 use Rattle.circ_top.proofs.TheoryTexts.{has_text}
-
--- bytes within the limit, or past it
-short_or_long : (m n : ℕ) → (n ≤ m) ⊎ (m < n)
-short_or_long m n = grind arith
 
 -- a file that holds something reads as it should, or it refuses the command
 file_decides : {X : Type 0} (held : Held) (file : ℕ) (name : List ℕ) (N : Refusal) (R : List ℕ → X → Type 0) → IsSome (held name)
@@ -158,6 +159,29 @@ module _ (reads : (bytes : List ℕ) → ReadOrRefused bytes) (proofs : ProofsDe
       (λ s x. let text : List ℕ = refusal_text (Prove limits theory script proof) s in none_is s text None
       (command (Prove limits theory script proof) s text None i (prove.no_theory s x)))
 
+  no_regex : (limits : Limits) (left right proof : List ℕ) → Asks words (Regex limits left right proof) → ⊥
+  no_regex limits left right proof i = word_decides 1 left
+      (λ e re. word_decides 2 right
+      (λ f rf. searches LANG (equality_goals e f) (plain_limits limits)
+      (λ d x. let end : Ending = found_ending LANG.signature proof d in none_is end.status end.text end.stored
+      (command (Regex limits left right proof) end.status end.text end.stored i
+      (both_read end.status end.text end.stored e f re rf (record { found = d; search = x; is = refl })))))
+      (λ s x. let text : List ℕ = refusal_text (Regex limits left right proof) s in none_is s text None
+      (command (Regex limits left right proof) s text None i (no_right s e re x))))
+      (λ s x. let text : List ℕ = refusal_text (Regex limits left right proof) s in none_is s text None
+      (command (Regex limits left right proof) s text None i (no_left s x)))
+
+  no_upgrade : (theory proof new : List ℕ) → Asks words (Upgrade theory proof new) → HoldsFilesOf held (Upgrade theory proof new) → ⊥
+  no_upgrade theory proof new i h = file_decides held 1 theory TheoryRefusal ReadsAs h.0 reads
+      (λ th rt. file_decides held 2 proof (ProofRefusal th) (ReadsAsProof th) h.1
+      (λ bytes no_proof_is no_refusal. proofs.reading th bytes no_proof_is (no_fault_left th bytes no_refusal))
+      (λ p rp. let text : List ℕ = upgraded_text th.signature p in none_is status.Ok text (Some (upgraded_file new p))
+      (command (Upgrade theory proof new) status.Ok text (Some (upgraded_file new p)) i (given_anew th p rt rp)))
+      (λ s x. let text : List ℕ = refusal_text (Upgrade theory proof new) s in none_is s text None
+      (command (Upgrade theory proof new) s text None i (upgrade.no_proof s th rt x))))
+      (λ s x. let text : List ℕ = refusal_text (Upgrade theory proof new) s in none_is s text None
+      (command (Upgrade theory proof new) s text None i (upgrade.no_theory s x)))
+
   no_contexts : (budget : ℕ) (theory : List ℕ) → Asks words (Contexts budget theory) → HoldsFilesOf held (Contexts budget theory) → ⊥
   no_contexts budget theory i h = file_decides held 1 theory PlainTheoryRefusal ReadsAsPlain h plain_reads
       (λ th rt. some_set th budget (λ G tss g. let text : List ℕ = place_lines th.signature G in none_is status.Ok text None
@@ -185,6 +209,8 @@ module _ (reads : (bytes : List ℕ) → ReadOrRefused bytes) (proofs : ProofsDe
   no_command_left (Generate n) i h = no_generate n i
   no_command_left (Reduce budget theory script) i h = no_reduce budget theory script i h
   no_command_left (Same first second) i h = no_same first second i h
+  no_command_left (Regex limits left right proof) i h = no_regex limits left right proof i
+  no_command_left (Upgrade theory proof new) i h = no_upgrade theory proof new i h
   no_command_left (Library text) i h = none_is status.Ok text None (command (Library text) status.Ok text None i ((refl, refl), refl))
 
   pub nothing_left : HoldsFiles words held → ⊥

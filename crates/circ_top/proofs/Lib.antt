@@ -20,10 +20,15 @@ pub mod ReduceOutcomes
 pub mod Searches
 pub mod ProveOutcomes
 pub mod GenerateOutcomes
+pub mod Expressions
+pub mod RegexOutcomes
+pub mod Upgraded
+pub mod UpgradeOutcomes
 pub mod Outcomes
 pub mod Answers
 pub mod Concluding
 pub mod StoredProofs
+pub mod UpgradedChecks
 pub mod NoFaults
 pub mod TheoryTexts
 pub mod LeftOut

@@ -8,8 +8,8 @@ use Rattle.circ_proof_text.specs.ProofText.{ReadsAsProof}
 use Rattle.circ_top.specs.Check.{IsAccepted, RefusesCheck, proof_fault}
 use Rattle.circ_top.specs.Check as check
 use Rattle.circ_top.specs.CheckProof.{AcceptsProof, RefusesProof, file_fault, step_fails}
-use Rattle.circ_top.specs.Incoming.{Judges, RefusesBytes}
-use Rattle.circ_files.specs.ProofFile.{TakesProof, ProofRefusal}
+use Rattle.circ_top.specs.Incoming.{AreAtFault, Judges, RefusesBytes}
+use Rattle.circ_files.specs.ProofFile.{TakesProof, ProofRefusal, IsProofFault}
 use Rattle.circ_files.specs.Quiet.{IsQuietBut, IsQuietCall}
 use Rattle.circ_files.specs.TheoryFile.{TakesTheory}
 use Rattle.circ_top.specs.declared.request.Report.{Report}
@@ -41,6 +41,12 @@ module _ (name : List ℕ) (th : Theory) (before : ShelfState) (bytes : List ℕ
       (r.0, record { bytes = bytes; short = short; are = r.1 }, λ t. record { bytes = bytes; bytes_are = held t; short = short; are = r.1 })
   refuses_status one after status.Memory r = file_fault status.Memory tt
   refuses_status one after s r = absurd r
+
+  pub at_fault : (after : ShelfState) (s : Status) → AreAtFault th bytes s → IsProofFault name th before after s
+  at_fault after (status.Unreadable f place c) r =
+      (r.0, record { bytes = bytes; short = short; are = r.1 }, λ t. record { bytes = bytes; bytes_are = held t; short = short; are = r.1 })
+  at_fault after status.Memory r = tt
+  at_fault after s r = absurd r
 
   pub refuses : {A : Type 0} → OneProof th → (after : ShelfState) (report : Report) (r : Result (Vec ℕ A) Status) → Judges report th bytes r
       → IfErr r (RefusesProof name th before after)

@@ -1,5 +1,5 @@
 -- What words ask for.
-use Rattle.std.proofs.Common.{◌≡◌, ◌<◌, ◌≤◌, ◌^◌, ℕ, List, [], ◌∷◌, length, decimal, codes, refl, ap, ap₂, sym, ◌∙◌, subst, arith, Option, Some, None}
+use Rattle.std.proofs.Common.{◌≡◌, ◌<◌, ◌≤◌, ◌^◌, ◌+◌, ◌*◌, ◌==◌, ℕ, Bool, List, [], ◌∷◌, decimal, codes, refl, ap, ap₂, sym, ◌∙◌, subst, arith, Option, Some, None, if◌then◌else◌}
 use Rattle.std.specs.Prelude.{MatchOption}
 use Rattle.std.proofs.lemmas.Fmt.{decimal_injective}
 use Rattle.std.proofs.lemmas.Option.{same_Some}
@@ -7,153 +7,107 @@ use Rattle.clap.specs.Faults.{fault_of}
 use Rattle.clap.specs.Simple.{matches_of}
 use Rattle.clap.specs.Walk.{Row, first_of}
 use Rattle.circ_lib.specs.Library.{library_text}
-use Rattle.circ_top.specs.Command.{Command, Library, Generate, IsCommand, check, prove, show, contexts, reduce, same, library, generate, IsNoneOfTable, report_name, Asks, IsNoCommand, plain_request}
+use Rattle.circ_top.specs.Command.{Command, Check, Prove, Show, Contexts, Reduce, Same, Regex, Upgrade, Library, Generate}
+use Rattle.circ_top.specs.Command.{IsCommand, check, prove, show, contexts, reduce, same, regex, upgrade, library, generate, IsNoneOfTable}
+use Rattle.circ_top.specs.Command.{Asks, IsNoCommand, plain_request}
 use Rattle.circ_top.specs.Words.{circ_app, IsBudget, Finds, FindsNothing}
 use Rattle.circ_top.specs.declared.request.Report.{Report}
 use Rattle.circ_top.specs.declared.request.Report.TheVariants.{Goals, Relation}
 use Rattle.circ_top.specs.declared.request.Request.{Request}
 use Rattle.circ_turn.specs.declared.search.Limits.{Limits}
 
-other_length : (given : List (List ℕ)) (a b c : List ℕ) → given ≡ a ∷ b ∷ [] → given ≡ c ∷ [] → ⊥
-other_length given a b c e f = let never : 2 ≡ 1 = ap length (sym e ∙ f) in omega (arith, never)
+-- ---- the table as a function
 
-three_not_two : (given : List (List ℕ)) (a b c d e : List ℕ) → given ≡ a ∷ b ∷ c ∷ [] → given ≡ d ∷ e ∷ [] → ⊥
-three_not_two given a b c d e f g = let never : 3 ≡ 2 = ap length (sym f ∙ g) in omega (arith, never)
+-- what stands in the table under a name, for the words given: a command, a text by its library's name, a chain by the word of its number, or nothing
+data TableRow : Type 0 where
+  Fixed : Command → TableRow
+  Text_of : (text : Option (List ℕ)) → TableRow
+  Chain_of : (word : List ℕ) → TableRow
+  Nothing : TableRow
 
-three_not_one : (given : List (List ℕ)) (a b c d : List ℕ) → given ≡ a ∷ b ∷ c ∷ [] → given ≡ d ∷ [] → ⊥
-three_not_one given a b c d f g = let never : 3 ≡ 1 = ap length (sym f ∙ g) in omega (arith, never)
+abbrev IsRow : TableRow → Command → Type 0
+IsRow (Fixed c) d = d ≡ c
+IsRow (Text_of o) d = (text : List ℕ) × (o ≡ Some text) × (d ≡ Library text)
+IsRow (Chain_of word) d = (n : ℕ) × (2 ≤ n) × (n ≤ 1000) × (word ≡ decimal n) × (d ≡ Generate n)
+IsRow Nothing d = ⊥
 
-other_name : (n : List ℕ) → n ≡ codes "show" → n ≡ codes "library" → ⊥
-other_name n e f = let never : 4 ≡ 7 = ap length (sym e ∙ f) in omega (arith, never)
+-- the second and the third byte of a name, by which the names are told apart
+abbrev key : List ℕ → ℕ
+key (x ∷ y ∷ z ∷ rest) = y * 256 + z
+key _ = 0
 
-no_contexts_show : (n : List ℕ) → n ≡ codes "contexts" → n ≡ codes "show" → ⊥
-no_contexts_show n e f = let never : 8 ≡ 4 = ap length (sym e ∙ f) in omega (arith, never)
+abbrev has_key : (name key_of : List ℕ) → Bool
+has_key name other = key name == key other
 
-no_contexts_library : (n : List ℕ) → n ≡ codes "contexts" → n ≡ codes "library" → ⊥
-no_contexts_library n e f = let never : 8 ≡ 7 = ap length (sym e ∙ f) in omega (arith, never)
+abbrev row_of_one : Limits → (name word : List ℕ) → TableRow
+row_of_one k n w =
+    if has_key n (codes "show") then Fixed (Show w)
+    else if has_key n (codes "contexts") then Fixed (Contexts k.steps w)
+    else if has_key n (codes "library") then Text_of (library_text w)
+    else if has_key n (codes "generate") then Chain_of w
+    else Nothing
 
-no_generate_show : (n : List ℕ) → n ≡ codes "generate" → n ≡ codes "show" → ⊥
-no_generate_show n e f = let never : 8 ≡ 4 = ap length (sym e ∙ f) in omega (arith, never)
+abbrev row_of_two : Limits → (name first second : List ℕ) → TableRow
+row_of_two k n v w =
+    if has_key n (codes "check") then Fixed (Check Goals v w)
+    else if has_key n (codes "relation") then Fixed (Check Relation v w)
+    else if has_key n (codes "reduce") then Fixed (Reduce k.steps v w)
+    else if has_key n (codes "same") then Fixed (Same v w)
+    else Nothing
 
-no_generate_library : (n : List ℕ) → n ≡ codes "generate" → n ≡ codes "library" → ⊥
-no_generate_library n e f = let never : 8 ≡ 7 = ap length (sym e ∙ f) in omega (arith, never)
+abbrev row_of_three : Limits → (name first second third : List ℕ) → TableRow
+row_of_three k n u v w =
+    if has_key n (codes "prove") then Fixed (Prove k u v w)
+    else if has_key n (codes "regex") then Fixed (Regex k u v w)
+    else if has_key n (codes "upgrade") then Fixed (Upgrade u v w)
+    else Nothing
 
--- the first byte of a name
-abbrev first_byte : List ℕ → ℕ
-first_byte [] = 0
-first_byte (x ∷ xs) = x
+abbrev row_of : Limits → (name : List ℕ) → (given : List (List ℕ)) → TableRow
+row_of k n (w ∷ []) = row_of_one k n w
+row_of k n (v ∷ w ∷ []) = row_of_two k n v w
+row_of k n (u ∷ v ∷ w ∷ []) = row_of_three k n u v w
+row_of k n _ = Nothing
 
-no_generate_contexts : (n : List ℕ) → n ≡ codes "generate" → n ≡ codes "contexts" → ⊥
-no_generate_contexts n e f = let never : 103 ≡ 99 = ap first_byte (sym e ∙ f) in omega (arith, never)
+module _ (k : Limits) (name : List ℕ) (given : List (List ℕ)) where
+  with_name : (n : List ℕ) (ws : List (List ℕ)) (c : Command) → name ≡ n → given ≡ ws → IsRow (row_of k n ws) c → IsRow (row_of k name given) c
+  with_name n ws c e i r =
+      let P : List ℕ → Type 0 = λ x. IsRow (row_of k x given) c in
+      let Q : List (List ℕ) → Type 0 = λ x. IsRow (row_of k n x) c in
+      subst P (sym e) (subst Q (sym i) r)
 
-no_report : (r : Report) (n : List ℕ) → n ≡ report_name r → n ≡ codes "reduce" → ⊥
-no_report Goals n e f = let never : 5 ≡ 6 = ap length (sym e ∙ f) in omega (arith, never)
-no_report Relation n e f = let never : 8 ≡ 6 = ap length (sym e ∙ f) in omega (arith, never)
+  -- a command of the table is that of its row
+  in_row : (c : Command) → IsCommand k name given c → IsRow (row_of k name given) c
+  in_row _ (check Goals t p e i) = with_name (codes "check") (t ∷ p ∷ []) (Check Goals t p) e i refl
+  in_row _ (check Relation t p e i) = with_name (codes "relation") (t ∷ p ∷ []) (Check Relation t p) e i refl
+  in_row _ (prove t s p e i) = with_name (codes "prove") (t ∷ s ∷ p ∷ []) (Prove k t s p) e i refl
+  in_row _ (show t e i) = with_name (codes "show") (t ∷ []) (Show t) e i refl
+  in_row _ (contexts t e i) = with_name (codes "contexts") (t ∷ []) (Contexts k.steps t) e i refl
+  in_row _ (reduce t s e i) = with_name (codes "reduce") (t ∷ s ∷ []) (Reduce k.steps t s) e i refl
+  in_row _ (same v w e i) = with_name (codes "same") (v ∷ w ∷ []) (Same v w) e i refl
+  in_row _ (regex u v p e i) = with_name (codes "regex") (u ∷ v ∷ p ∷ []) (Regex k u v p) e i refl
+  in_row _ (upgrade t p q e i) = with_name (codes "upgrade") (t ∷ p ∷ q ∷ []) (Upgrade t p q) e i refl
+  in_row _ (library w text e i m) = with_name (codes "library") (w ∷ []) (Library text) e i (text, m, refl)
+  in_row _ (generate n few most e i) = with_name (codes "generate") (decimal n ∷ []) (Generate n) e i (n, few, most, refl, refl)
 
-no_report_same : (r : Report) (n : List ℕ) → n ≡ report_name r → n ≡ codes "same" → ⊥
-no_report_same Goals n e f = let never : 5 ≡ 4 = ap length (sym e ∙ f) in omega (arith, never)
-no_report_same Relation n e f = let never : 8 ≡ 4 = ap length (sym e ∙ f) in omega (arith, never)
-
-no_reduce_same : (n : List ℕ) → n ≡ codes "reduce" → n ≡ codes "same" → ⊥
-no_reduce_same n e f = let never : 6 ≡ 4 = ap length (sym e ∙ f) in omega (arith, never)
-
-same_report : (r s : Report) → report_name r ≡ report_name s → r ≡ s
-same_report Goals Goals e = refl
-same_report Goals Relation e = let never : 5 ≡ 8 = ap length e in absurd (omega (arith, never))
-same_report Relation Goals e = let never : 8 ≡ 5 = ap length e in absurd (omega (arith, never))
-same_report Relation Relation e = refl
-
--- a number is written in one way
-same_number : (given : List (List ℕ)) (m n : ℕ) → m ≤ 1000 → n ≤ 1000 → given ≡ decimal m ∷ [] → given ≡ decimal n ∷ [] → m ≡ n
-same_number given m n h k e f =
-    let same : decimal m ∷ [] ≡ decimal n ∷ [] = sym e ∙ f in
-    let one : decimal m ≡ decimal n = cc in
-    decimal_injective m n (omega (arith, h)) (omega (arith, k)) one
+-- a row has one command at most
+same_in_row : (r : TableRow) (c d : Command) → IsRow r c → IsRow r d → c ≡ d
+same_in_row (Fixed x) c d a b = a ∙ sym b
+same_in_row (Text_of o) c d a b = a.2 ∙ ap Library (same_Some a.0 b.0 (sym a.1 ∙ b.1)) ∙ sym b.2
+same_in_row (Chain_of w) c d a b =
+    a.4 ∙ ap Generate (decimal_injective a.0 b.0 (omega (arith, a.2)) (omega (arith, b.2)) (sym a.3 ∙ b.3)) ∙ sym b.4
+same_in_row Nothing c d a b = absurd a
 
 -- a name and its words stand in the table once
 same_of_table : (k : Limits) (n : List ℕ) (given : List (List ℕ)) (c d : Command) → IsCommand k n given c → IsCommand k n given d → c ≡ d
-same_of_table k n given _ _ (check r t p e i) (check s u v f j) =
-    let a = sym i ∙ j in
-    let one : r ≡ s = same_report r s (sym e ∙ f) in
-    cc
-same_of_table k n given _ _ (check r t p e i) (show u f j) = absurd (other_length given t p u i j)
-same_of_table k n given _ _ (check r t p e i) (library u text f j m) = absurd (other_length given t p u i j)
-same_of_table k n given _ _ (check r t p e i) (reduce u v f j) = absurd (no_report r n e f)
-same_of_table k n given _ _ (check r t p e i) (prove u v w f j) = absurd (three_not_two given u v w t p j i)
-same_of_table k n given _ _ (prove u v w f j) (check r t p e i) = absurd (three_not_two given u v w t p j i)
-same_of_table k n given _ _ (reduce t p e i) (prove u v w f j) = absurd (three_not_two given u v w t p j i)
-same_of_table k n given _ _ (prove u v w f j) (reduce t p e i) = absurd (three_not_two given u v w t p j i)
-same_of_table k n given _ _ (same t p e i) (same u v f j) = let a = sym i ∙ j in cc
-same_of_table k n given _ _ (same t p e i) (check r u v f j) = absurd (no_report_same r n f e)
-same_of_table k n given _ _ (check r u v f j) (same t p e i) = absurd (no_report_same r n f e)
-same_of_table k n given _ _ (same t p e i) (reduce u v f j) = absurd (no_reduce_same n f e)
-same_of_table k n given _ _ (reduce u v f j) (same t p e i) = absurd (no_reduce_same n f e)
-same_of_table k n given _ _ (same t p e i) (prove u v w f j) = absurd (three_not_two given u v w t p j i)
-same_of_table k n given _ _ (prove u v w f j) (same t p e i) = absurd (three_not_two given u v w t p j i)
-same_of_table k n given _ _ (same t p e i) (show u f j) = absurd (other_length given t p u i j)
-same_of_table k n given _ _ (show u f j) (same t p e i) = absurd (other_length given t p u i j)
-same_of_table k n given _ _ (same t p e i) (contexts u f j) = absurd (other_length given t p u i j)
-same_of_table k n given _ _ (contexts u f j) (same t p e i) = absurd (other_length given t p u i j)
-same_of_table k n given _ _ (same t p e i) (library u text f j m) = absurd (other_length given t p u i j)
-same_of_table k n given _ _ (library u text f j m) (same t p e i) = absurd (other_length given t p u i j)
-same_of_table k n given _ _ (same t p e i) (generate m few most f j) = absurd (other_length given t p (decimal m) i j)
-same_of_table k n given _ _ (generate m few most f j) (same t p e i) = absurd (other_length given t p (decimal m) i j)
-same_of_table k n given _ _ (show t e i) (prove u v w f j) = absurd (three_not_one given u v w t j i)
-same_of_table k n given _ _ (prove u v w f j) (show t e i) = absurd (three_not_one given u v w t j i)
-same_of_table k n given _ _ (library t x e i m) (prove u v w f j) = absurd (three_not_one given u v w t j i)
-same_of_table k n given _ _ (prove u v w f j) (library t x e i m) = absurd (three_not_one given u v w t j i)
-same_of_table k n given _ _ (prove t p q e i) (prove u v w f j) = let a = sym i ∙ j in cc
-same_of_table k n given _ _ (reduce u v f j) (check r t p e i) = absurd (no_report r n e f)
-same_of_table k n given _ _ (reduce t p e i) (reduce u v f j) = let a = sym i ∙ j in cc
-same_of_table k n given _ _ (reduce t p e i) (show u f j) = absurd (other_length given t p u i j)
-same_of_table k n given _ _ (reduce t p e i) (library u text f j m) = absurd (other_length given t p u i j)
-same_of_table k n given _ _ (show u f j) (reduce t p e i) = absurd (other_length given t p u i j)
-same_of_table k n given _ _ (library u text f j m) (reduce t p e i) = absurd (other_length given t p u i j)
-same_of_table k n given _ _ (show u f j) (check r t p e i) = absurd (other_length given t p u i j)
-same_of_table k n given _ _ (show t e i) (show u f j) = let a = sym i ∙ j in cc
-same_of_table k n given _ _ (show t e i) (library u text f j m) = absurd (other_name n e f)
-same_of_table k n given _ _ (library u text f j m) (check r t p e i) = absurd (other_length given t p u i j)
-same_of_table k n given _ _ (library u text f j m) (show t e i) = absurd (other_name n e f)
-same_of_table k n given _ _ (contexts t e i) (contexts u f j) = let a = sym i ∙ j in cc
-same_of_table k n given _ _ (contexts u f j) (check r t p e i) = absurd (other_length given t p u i j)
-same_of_table k n given _ _ (check r t p e i) (contexts u f j) = absurd (other_length given t p u i j)
-same_of_table k n given _ _ (contexts u f j) (reduce t p e i) = absurd (other_length given t p u i j)
-same_of_table k n given _ _ (reduce t p e i) (contexts u f j) = absurd (other_length given t p u i j)
-same_of_table k n given _ _ (contexts t e i) (prove u v w f j) = absurd (three_not_one given u v w t j i)
-same_of_table k n given _ _ (prove u v w f j) (contexts t e i) = absurd (three_not_one given u v w t j i)
-same_of_table k n given _ _ (contexts t e i) (show u f j) = absurd (no_contexts_show n e f)
-same_of_table k n given _ _ (show u f j) (contexts t e i) = absurd (no_contexts_show n e f)
-same_of_table k n given _ _ (contexts t e i) (library u text f j m) = absurd (no_contexts_library n e f)
-same_of_table k n given _ _ (library u text f j m) (contexts t e i) = absurd (no_contexts_library n e f)
-same_of_table k n given _ _ (generate m few most e i) (check r t p f j) = absurd (other_length given t p (decimal m) j i)
-same_of_table k n given _ _ (check r t p f j) (generate m few most e i) = absurd (other_length given t p (decimal m) j i)
-same_of_table k n given _ _ (generate m few most e i) (reduce t p f j) = absurd (other_length given t p (decimal m) j i)
-same_of_table k n given _ _ (reduce t p f j) (generate m few most e i) = absurd (other_length given t p (decimal m) j i)
-same_of_table k n given _ _ (generate m few most e i) (prove u v w f j) = absurd (three_not_one given u v w (decimal m) j i)
-same_of_table k n given _ _ (prove u v w f j) (generate m few most e i) = absurd (three_not_one given u v w (decimal m) j i)
-same_of_table k n given _ _ (generate m few most e i) (show u f j) = absurd (no_generate_show n e f)
-same_of_table k n given _ _ (show u f j) (generate m few most e i) = absurd (no_generate_show n e f)
-same_of_table k n given _ _ (generate m few most e i) (library u text f j x) = absurd (no_generate_library n e f)
-same_of_table k n given _ _ (library u text f j x) (generate m few most e i) = absurd (no_generate_library n e f)
-same_of_table k n given _ _ (generate m few most e i) (contexts u f j) = absurd (no_generate_contexts n e f)
-same_of_table k n given _ _ (contexts u f j) (generate m few most e i) = absurd (no_generate_contexts n e f)
-same_of_table k n given _ _ (generate m few most e i) (generate o less least f j) = ap Generate (same_number given m o most least i j)
-same_of_table k n given _ _ (library t w e i h) (library u x f j m) =
-    let a = sym i ∙ j in
-    let same : t ≡ u = cc in
-    ap Library (same_Some w x (sym h ∙ ap library_text same ∙ m))
+same_of_table k n given c d a b = same_in_row (row_of k n given) c d (in_row k n given c a) (in_row k n given d b)
 
 -- the chain of a number, by the word that writes it
 module _ (k : Limits) (name word : List ℕ) (named : name ≡ codes "generate") where
   no_chain : ((n : ℕ) → 2 ≤ n → n ≤ 1000 → word ≡ decimal n → ⊥) → IsNoneOfTable k name (word ∷ [])
-  no_chain h _ (check r t p e i) = other_length (word ∷ []) t p word i refl
-  no_chain h _ (prove t p q e i) = three_not_one (word ∷ []) t p q word i refl
-  no_chain h _ (show t e i) = no_generate_show name named e
-  no_chain h _ (contexts t e i) = no_generate_contexts name named e
-  no_chain h _ (reduce t p e i) = other_length (word ∷ []) t p word i refl
-  no_chain h _ (same t p e i) = other_length (word ∷ []) t p word i refl
-  no_chain h _ (library t x e i m) = no_generate_library name named e
-  no_chain h _ (generate n few most e i) = let same : word ≡ decimal n = cc in h n few most same
+  no_chain h c i =
+      let P : List ℕ → Type 0 = λ x. IsRow (row_of k x (word ∷ [])) c in
+      let r : IsRow (Chain_of word) c = subst P named (in_row k name (word ∷ []) c i) in
+      h r.0 r.1 r.2 r.3
 
   pub chain_in_table : (o : Option Request)
       → MatchOption o ((n : ℕ) → 2 ≤ n → n ≤ 1000 → word ≡ decimal n → ⊥)

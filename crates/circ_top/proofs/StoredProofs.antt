@@ -31,7 +31,7 @@ abbrev pub OneProofEach : Type 0
 OneProofEach = (th : Theory) (bytes : List ℕ) (p q : Proof) → IsWellFormed th → ReadsAsProof th bytes p → ReadsAsProof th bytes q → p ≡ q
 
 -- what the bytes of one file are, they all are
-same_bytes : (held : Held) (name : List ℕ) (P Q : List ℕ → Type 0) (h : Holds held name P) (k : Holds held name Q) → Q h.bytes
+pub same_bytes : (held : Held) (name : List ℕ) (P Q : List ℕ → Type 0) (h : Holds held name P) (k : Holds held name Q) → Q h.bytes
 same_bytes held name P Q h k = subst Q (same_Some k.bytes h.bytes (sym k.bytes_are ∙ h.bytes_are)) k.are
 
 module _ (once : ReadsOnce) (theories : OneTheory) (proofs : ProofsOnce) (one : OneProofEach) (held : Held) (report : Report) (theory proof : List ℕ)

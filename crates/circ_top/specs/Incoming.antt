@@ -53,6 +53,12 @@ RefusesBytes th bytes (status.Refused n) = (p : Proof) × ReadsAsProof th bytes 
 RefusesBytes th bytes status.Memory = Unit {0}
 RefusesBytes th bytes _ = ⊥
 
+-- Why bytes read as no proof: they are at fault; or memory ran out.
+abbrev pub AreAtFault : Theory → List ℕ → Status → Type 0
+AreAtFault th bytes (status.Unreadable f place c) = (f ≡ 2) × ProofRefusal th place c bytes
+AreAtFault th bytes status.Memory = Unit {0}
+AreAtFault th bytes _ = ⊥
+
 -- The bytes read as a proof that is accepted, with this text; or they are refused.
 abbrev pub Judges : {A : Type 0} → Report → Theory → List ℕ → Result (Vec ℕ A) Status → Type 0
 Judges report th bytes (Ok v) = (p : Proof) × ReadsAsProof th bytes p × Proves report th p v.items

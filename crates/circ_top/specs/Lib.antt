@@ -9,6 +9,9 @@ pub mod Incoming
 pub mod Storing
 pub mod Prove
 pub mod Same
+pub mod Regex
+pub mod Upgrade
+pub mod Upgraded
 pub mod Show
 pub mod Contexts
 pub mod Library

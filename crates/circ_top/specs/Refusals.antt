@@ -3,11 +3,12 @@ use Rattle.std.specs.Prelude.{ℕ, List, [], ◌==◌, codes, if◌then◌else�
 use Rattle.circ_files.specs.Texts.{refused_text, unreadable_text, too_long_text, spent_text, too_big_text, too_deep_text}
 use Rattle.circ_files.specs.declared.status.Status.{Status}
 use Rattle.circ_files.specs.declared.status.Status.TheVariants as status
-use Rattle.circ_top.specs.Command.{Command, Check}
+use Rattle.circ_top.specs.Command.{Command, Check, Upgrade}
 
 -- the places of a file's text, by the command that takes the file: lines of a proof, else statements
 abbrev pub place_text : Command → (file : ℕ) → List ℕ
 place_text (Check report theory proof) file = if file == 2 then codes ", line " else codes ", statement "
+place_text (Upgrade theory proof new) file = if file == 2 then codes ", line " else codes ", statement "
 place_text _ file = codes ", statement "
 
 abbrev pub usage_text : List ℕ

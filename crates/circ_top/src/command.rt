@@ -9,8 +9,8 @@ ghost use Rattle.circ_proof.specs.Proof.{Proof};
 ghost use Rattle.circ_proof.specs.Accepted.{Derives, FirstFail};
 ghost use Rattle.circ_top.specs.declared.request.Report.{Report};
 ghost use Rattle.circ_turn.specs.declared.search.Limits.{Limits};
-ghost use Rattle.circ_top.specs.Command.{Check, Prove, Asks, IsNotStored, IsReport};
-ghost use Rattle.circ_top.specs.Command.{plain_request};
+ghost use Rattle.circ_top.specs.Command.{Check, Prove, Regex, Upgrade, Asks, IsNotStored};
+ghost use Rattle.circ_top.specs.Command.{IsReport, plain_request};
 ghost use Rattle.circ_files.specs.Texts.{refused_text};
 ghost use Rattle.circ_found.specs.Ending.{Stored as PlainStored, plain_stored, plain_ending};
 ghost use Rattle.circ_generate.specs.Generating.{Generates};
@@ -19,6 +19,8 @@ ghost use Rattle.circ_top.specs.Delivery.{Delivers};
 ghost use Rattle.circ_top.specs.Check.{report_text, Accepts, Rejects, FilesRead};
 ghost use Rattle.circ_top.specs.Outcome.{Outcome};
 ghost use Rattle.circ_top.specs.Prove.{StoresProof};
+ghost use Rattle.circ_top.specs.Regex.{StoresEquality};
+ghost use Rattle.circ_top.specs.Upgrade.{StoresUpgraded};
 ghost use Rattle.circ_top.specs.Storing.{HoldsAfter, FailsToStore, Ends, IsQuietEnd};
 ghost use Rattle.circ_top.specs.Answer.{Succeeds, Comes, RefusesCommand, AnswersDue};
 ghost use Rattle.circ_top.specs.Answer.{Succeeded};
@@ -32,9 +34,11 @@ use crate::library::library;
 use crate::prove::prove;
 use crate::reduce::reduce;
 use crate::refusals::{refusal, usage};
+use crate::regex::regex;
 use crate::request::{Request, asked};
 use crate::same::same;
 use crate::show::show;
+use crate::upgrade::upgrade;
 use circ_auto::laws::read_in_one_way as automata_read_in_one_way;
 use circ_files::Status;
 use circ_found::{Ending, Stored};
@@ -43,17 +47,20 @@ use circ_outer::{OuterFault, Shelf, Sink, write_all};
 use circ_plain_search::laws::{one_answer as one_search, proved_is_accepted};
 use circ_proof_text::laws::one_answer;
 use circ_read::laws::read_in_one_way;
+use circ_regex::laws::{
+    expressions_that_behave_match, read_in_one_way as expressions_read_in_one_way,
+};
 use circ_script::laws::read_in_one_way as scripts_read_in_one_way;
 use circ_show::laws::printed_in_one_way;
-use circ_soundness::one_verdict;
+use circ_soundness::{goals_behave, one_verdict};
 use std::alloc::Global;
 
 /// The program: `words` are its name and then a command with what it takes, which is
 /// `check THEORY PROOF`, `relation THEORY PROOF`, `prove THEORY SCRIPT PROOF`, `show THEORY`,
-/// `contexts THEORY`, `reduce THEORY SCRIPT`, `same FIRST SECOND`, `library NAME` or
-/// `generate NUMBER`. The options `--steps N` and `--derives N` may stand before, behind or between
-/// them. The files are taken
-/// from the shelf, to which `prove` stores the proof, and the text of the answer is written to the
+/// `contexts THEORY`, `reduce THEORY SCRIPT`, `same FIRST SECOND`, `regex LEFT RIGHT PROOF`,
+/// `upgrade THEORY PROOF NEW`, `library NAME` or `generate NUMBER`. The options `--steps N` and
+/// `--derives N` may stand before, behind or between them. The files are taken from the shelf, to
+/// which `prove`, `regex` and `upgrade` store a proof, and the text of the answer is written to the
 /// sink, whole.
 pub fn circ<S: Shelf, K: Sink>(
     alloc: Global,
@@ -77,6 +84,20 @@ pub fn circ<S: Shelf, K: Sink>(
     ensures proved { (limits : Limits) (theory script proof : List ℕ) →
         Asks (map string_bytes words.now.items) (Prove limits theory script proof) →
         result ≡ Status.Ok → StoresProof theory script proof
+        (S.state shelf.old) (S.state shelf.new) (K.state out.old) (K.state out.new) }
+
+    // Status 0 of `regex`: the first two words are expressions that match the same words, and the
+    // third word's file holds the text of an accepted proof in LANG that their terms are equal.
+    ensures expressions { (limits : Limits) (left right proof : List ℕ) →
+        Asks (map string_bytes words.now.items) (Regex limits left right proof) →
+        result ≡ Status.Ok → StoresEquality left right proof
+        (S.state shelf.old) (S.state shelf.new) (K.state out.old) (K.state out.new) }
+
+    // Status 0 of `upgrade`: the third word's file holds the text of the second file's proof in
+    // version 2, which is checked as that is.
+    ensures upgraded { (theory proof new : List ℕ) →
+        Asks (map string_bytes words.now.items) (Upgrade theory proof new) →
+        result ≡ Status.Ok → StoresUpgraded theory proof new
         (S.state shelf.old) (S.state shelf.new) (K.state out.old) (K.state out.new) }
 
     // Status 0 of any command: its text is printed, which `Succeeds` states for each.
@@ -143,11 +164,14 @@ pub fn circ<S: Shelf, K: Sink>(
     read_in_one_way();
     scripts_read_in_one_way();
     automata_read_in_one_way();
+    expressions_read_in_one_way();
     printed_in_one_way();
     one_answer();
     one_verdict();
     one_search();
     proved_is_accepted();
+    goals_behave();
+    expressions_that_behave_match();
     answer(alloc, words.as_slice(), shelf, out)
 }
 
@@ -211,6 +235,13 @@ fn run<'a, S: Shelf>(
             proof,
         } => prove(alloc, shelf, *limits, theory, script, proof),
         Request::Same { first, second } => same(alloc, shelf, first, second),
+        Request::Regex {
+            limits,
+            left,
+            right,
+            proof,
+        } => regex(alloc, *limits, left, right, proof),
+        Request::Upgrade { theory, proof, new } => upgrade(alloc, shelf, theory, proof, new),
         Request::Generate { number } => generated(alloc, *number),
         _ => match report(alloc, request, shelf) {
             Ok(text) => Ok(Ending {

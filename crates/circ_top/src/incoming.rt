@@ -10,7 +10,7 @@ ghost use Rattle.circ_file.specs.Feeding as reader;
 ghost use Rattle.circ_top.specs.Check.{report_text};
 ghost use Rattle.circ_found.specs.Answering.{all_goal_lines};
 ghost use Rattle.circ_top.specs.Incoming.{goals_among, HasRead, HasTaken, Judges};
-ghost use Rattle.circ_top.specs.Incoming.{RefusesBytes};
+ghost use Rattle.circ_top.specs.Incoming.{RefusesBytes, AreAtFault};
 
 use crate::request::Report;
 use circ_check::Checker;
@@ -156,10 +156,12 @@ fn shared(alloc: Global, goals: &[Goal]) -> Result<Vec<Goal>, AllocError>
     Ok(list)
 }
 
-// The answer to a text at fault.
-fn refusal(fault: FileFault) -> Status
-    ensures { (th : PlainTheory) (bytes : List ℕ) → reader.FaultIs th bytes fault →
+/// The answer to a text at fault.
+pub(crate) fn refusal(fault: FileFault) -> Status
+    ensures refuses { (th : PlainTheory) (bytes : List ℕ) → reader.FaultIs th bytes fault →
         RefusesBytes th bytes result }
+    ensures fault { (th : PlainTheory) (bytes : List ℕ) → reader.FaultIs th bytes fault →
+        AreAtFault th bytes result }
 {
     match fault {
         FileFault::Line { number } => Status::Unreadable {

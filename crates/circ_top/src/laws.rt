@@ -24,6 +24,8 @@ ghost use Rattle.circ_top.specs.Command.{Command, Check, IsCommand, Asks, IsNoCo
 ghost use Rattle.circ_top.specs.Command.{IsNotStored};
 ghost use Rattle.circ_top.specs.Causes.{IsNotPut};
 ghost use Rattle.circ_top.specs.SecondProve.{AsksAgain};
+ghost use Rattle.circ_top.specs.Upgrade.{upgraded};
+ghost use Rattle.circ_top.specs.Upgraded.{DifferInVersion, AsksOfUpgraded};
 ghost use Rattle.circ_top.specs.Complete.{HasOutcome};
 ghost use Rattle.circ_files.specs.Files.{Held};
 ghost use Rattle.circ_top.specs.InMemory.{HoldsFiles};
@@ -86,6 +88,26 @@ pub fn stored_proofs_are_accepted()
     one_answer();
     one_verdict();
     text_reads_back();
+}
+
+/// The text of a proof in version 2 is that of the proof that was read, but for one byte: the
+/// version.
+pub fn upgraded_texts_differ_in_version()
+    ensures { (th : Theory) (p : Proof) → ProofFor th p →
+        DifferInVersion (proof_text p) (proof_text (upgraded p)) }
+{}
+
+/// What `check` and `relation` come to on a proof in version 2, over a theory of the same bytes:
+/// what they come to on the proof that was read.
+pub fn upgraded_proofs_check_alike()
+    ensures { (words second : List (List ℕ)) (held later : Held) →
+        AsksOfUpgraded words second held later →
+        (s : Status) (text : List ℕ) (stored : Option Stored) →
+        Outcome words held s text stored ↔ Outcome second later s text stored }
+{
+    read_in_one_way();
+    one_answer();
+    one_verdict();
 }
 
 /// What a second `prove` on the same shelf comes to, from a theory and a script of the same bytes

@@ -10,10 +10,12 @@ mod library;
 mod prove;
 mod reduce;
 mod refusals;
+mod regex;
 mod request;
 mod same;
 mod show;
 pub mod sure;
+mod upgrade;
 mod words;
 
 pub use circ_files::Status;

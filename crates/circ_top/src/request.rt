@@ -63,6 +63,20 @@ pub(crate) enum Request<'a> {
         first: &'a str,
         second: &'a str,
     },
+    /// A proof that two regular expressions match the same words is searched for within limits,
+    /// and stored under a name.
+    Regex {
+        limits: Limits,
+        left: &'a str,
+        right: &'a str,
+        proof: &'a str,
+    },
+    /// A proof file over a theory file is stored in version 2 under another name.
+    Upgrade {
+        theory: &'a str,
+        proof: &'a str,
+        new: &'a str,
+    },
     /// A chain of so many streams is made and proved.
     Generate {
         number: u16,
@@ -188,14 +202,29 @@ fn of_three<'a>(
         (λ r. IsCommand words.now.limits words.now.name.now
         (first.now ∷ second.now ∷ third.now ∷ []) (plain_request r)) }
 {
-    if !is_word(words.name, b"prove") {
+    if is_word(words.name, b"prove") {
+        return Some(Request::Prove {
+            limits: words.limits,
+            theory: first,
+            script: second,
+            proof: third,
+        });
+    }
+    if is_word(words.name, b"regex") {
+        return Some(Request::Regex {
+            limits: words.limits,
+            left: first,
+            right: second,
+            proof: third,
+        });
+    }
+    if !is_word(words.name, b"upgrade") {
         return None;
     }
-    Some(Request::Prove {
-        limits: words.limits,
+    Some(Request::Upgrade {
         theory: first,
-        script: second,
-        proof: third,
+        proof: second,
+        new: third,
     })
 }
 

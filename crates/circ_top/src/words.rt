@@ -1,9 +1,9 @@
 //! The words of the command line, read with `clap`.
 ghost use Rattle.std.specs.Prelude.{◌≡◌, ◌≢◌, ◌↔◌, ◌≤◌, [], false, IsTrue, map, string_bytes};
-ghost use Rattle.std.specs.Prelude.{IfOk, MatchOption, option_map, decimal};
+ghost use Rattle.std.specs.Prelude.{IfOk, MatchOption, option_map, decimal, codes};
 ghost use Rattle.clap.specs.Faults.{fault_of};
 ghost use Rattle.clap.specs.Matches.{found_of};
-ghost use Rattle.clap.specs.Simple.{app_of, matches_of};
+ghost use Rattle.clap.specs.Simple.{app_of, matches_of, new_app, with_rule};
 ghost use Rattle.clap.specs.Walk.{rule_of, rows_of};
 ghost use Rattle.circ_top.specs.Words.{steps_rule, derives_rule, command_rule, words_rule};
 ghost use Rattle.circ_top.specs.Words.{circ_app, IsBudget, IsNoBudget, IsNoNumber};
@@ -109,11 +109,17 @@ pub(crate) fn is_word(word: &str, text: &[u8]) -> bool
 fn definition<'a>(alloc: Global) -> Result<Command<'a>, AllocError>
     ensures { IfOk result (λ c. app_of c ≡ circ_app) }
 {
-    Command::new(alloc, "circ")
-        .arg(steps_arg(alloc))?
-        .arg(derives_arg(alloc))?
-        .arg(command_arg(alloc))?
-        .arg(words_arg(alloc))
+    let command = with_options(alloc)?;
+    command.arg(command_arg(alloc))?.arg(words_arg(alloc))
+}
+
+/// The options alone.
+fn with_options<'a>(alloc: Global) -> Result<Command<'a>, AllocError>
+    ensures { IfOk result (λ c. app_of c ≡
+        with_rule (with_rule (new_app (codes "circ")) steps_rule) derives_rule) }
+{
+    let command = Command::new(alloc, "circ");
+    command.arg(steps_arg(alloc))?.arg(derives_arg(alloc))
 }
 
 fn steps_arg<'a>(alloc: Global) -> Arg<'a>

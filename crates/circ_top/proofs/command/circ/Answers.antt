@@ -1,4 +1,4 @@
-use Rattle.circ_top.proofs.Answers.{answers_succeed, answers_accepted, answers_proved, answers_refused, answers_hold, answers_past_limit, answers_read_fault, answers_write_fault}
+use Rattle.circ_top.proofs.Answers.{answers_succeed, answers_accepted, answers_proved, answers_equal, answers_upgraded, answers_refused, answers_hold, answers_past_limit, answers_read_fault, answers_write_fault}
 use Rattle.circ_top.proofs.Answers.{read_outcome, accepted_read_outcome}
 use Rattle.circ_files.proofs.Readings.{ReadsOnce, reads_once}
 use Rattle.circ_top.proofs.Proofs.{ProofsOnce, proofs_come_once}
@@ -18,6 +18,16 @@ returns-clause-proved g c =
     answers_proved _ _ _ _ _ c.answer.result (rw c.as_slice.ensures.value at c.answer.ensures.answers) c.proved_is_accepted.ensures
     (rw c.as_slice.ensures.value at c.answer.ensures.quiet)
 
+pub returns-clause-expressions : goal.returns-clause-expressions
+returns-clause-expressions g c =
+    answers_equal _ _ _ _ _ c.answer.result (rw c.as_slice.ensures.value at c.answer.ensures.answers) c.proved_is_accepted.ensures c.goals_behave.ensures
+    c.expressions_that_behave_match.ensures (rw c.as_slice.ensures.value at c.answer.ensures.quiet)
+
+pub returns-clause-upgraded : goal.returns-clause-upgraded
+returns-clause-upgraded g c =
+    answers_upgraded _ _ _ _ _ c.answer.result (rw c.as_slice.ensures.value at c.answer.ensures.answers)
+    (rw c.as_slice.ensures.value at c.answer.ensures.quiet)
+
 pub returns-clause-succeeded : goal.returns-clause-succeeded
 returns-clause-succeeded g c = answers_succeed _ _ _ _ _ c.answer.result (rw c.as_slice.ensures.value at c.answer.ensures.answers) (rw c.as_slice.ensures.value at c.answer.ensures.quiet)
 
@@ -34,7 +44,7 @@ returns-clause-complete g c = λ t.
     c.read_in_one_way-2.ensures.cause c.read_in_one_way-2.ensures.script in
     let automata : AutomataOnce = automata_once c.read_in_one_way-3.ensures.automaton c.read_in_one_way-3.ensures.either c.read_in_one_way-3.ensures.number
     c.read_in_one_way-3.ensures.cause in
-    answers_come once proofs scripts automata c.one_answer-2.ensures c.printed_in_one_way.ensures _ _ _ t _ _ c.answer.result (rw c.as_slice.ensures.value at c.answer.ensures.answers)
+    answers_come once proofs scripts automata c.read_in_one_way-4.ensures c.one_answer-2.ensures c.printed_in_one_way.ensures _ _ _ t _ _ c.answer.result (rw c.as_slice.ensures.value at c.answer.ensures.answers)
 
 pub returns-clause-first_failure : goal.returns-clause-first_failure
 returns-clause-first_failure g c = λ t report th p n f fail.
@@ -46,7 +56,7 @@ returns-clause-first_failure g c = λ t report th p n f fail.
     c.read_in_one_way-2.ensures.cause c.read_in_one_way-2.ensures.script in
     let automata : AutomataOnce = automata_once c.read_in_one_way-3.ensures.automaton c.read_in_one_way-3.ensures.either c.read_in_one_way-3.ensures.number
     c.read_in_one_way-3.ensures.cause in
-    answers_come once proofs scripts automata c.one_answer-2.ensures c.printed_in_one_way.ensures _ _ _ t _ _ c.answer.result (rw c.as_slice.ensures.value at c.answer.ensures.answers) _ _ _
+    answers_come once proofs scripts automata c.read_in_one_way-4.ensures c.one_answer-2.ensures c.printed_in_one_way.ensures _ _ _ t _ _ c.answer.result (rw c.as_slice.ensures.value at c.answer.ensures.answers) _ _ _
     (read_outcome _ _ report th p n f fail)
 
 pub returns-clause-accepted_text : goal.returns-clause-accepted_text
@@ -59,7 +69,7 @@ returns-clause-accepted_text g c = λ t report th p derived f d.
     c.read_in_one_way-2.ensures.cause c.read_in_one_way-2.ensures.script in
     let automata : AutomataOnce = automata_once c.read_in_one_way-3.ensures.automaton c.read_in_one_way-3.ensures.either c.read_in_one_way-3.ensures.number
     c.read_in_one_way-3.ensures.cause in
-    answers_come once proofs scripts automata c.one_answer-2.ensures c.printed_in_one_way.ensures _ _ _ t _ _ c.answer.result (rw c.as_slice.ensures.value at c.answer.ensures.answers) _ _ _
+    answers_come once proofs scripts automata c.read_in_one_way-4.ensures c.one_answer-2.ensures c.printed_in_one_way.ensures _ _ _ t _ _ c.answer.result (rw c.as_slice.ensures.value at c.answer.ensures.answers) _ _ _
     (accepted_read_outcome _ _ report th p derived f d)
 
 pub returns-clause-file_limit : goal.returns-clause-file_limit
@@ -81,7 +91,7 @@ returns-clause-memory g c = λ e t.
     c.read_in_one_way-2.ensures.cause c.read_in_one_way-2.ensures.script in
     let automata : AutomataOnce = automata_once c.read_in_one_way-3.ensures.automaton c.read_in_one_way-3.ensures.either c.read_in_one_way-3.ensures.number
     c.read_in_one_way-3.ensures.cause in
-    answers_memory once proofs scripts automata c.one_answer-2.ensures c.printed_in_one_way.ensures _ _ _ t _ _ c.answer.result (rw c.as_slice.ensures.value at c.answer.ensures.answers)
+    answers_memory once proofs scripts automata c.read_in_one_way-4.ensures c.one_answer-2.ensures c.printed_in_one_way.ensures _ _ _ t _ _ c.answer.result (rw c.as_slice.ensures.value at c.answer.ensures.answers)
 
 pub returns-clause-holds : goal.returns-clause-holds
 returns-clause-holds g c = answers_hold _ _ _ _ _ c.answer.result (rw c.as_slice.ensures.value at c.answer.ensures.answers)

@@ -6,7 +6,7 @@ use Rattle.circ_top.proofs.incoming.Incoming.judge.Goals as goal
 
 pub returns-in-Err : goal.returns-in-Err
 returns-in-Err c th bytes t =
-    c.refusal.ensures th bytes
+    c.refusal.ensures.refuses th bytes
     (end_fault th bytes c.args.self.now c.in-Err.fault t.follows (λ parts s. (c.in-Err.ensures.stands th bytes parts s).0)
     (λ f k. let e = c.in-Err.ensures.again f k in cc))
 
