@@ -19,13 +19,13 @@ use Rattle.circ_aci.proofs.Deriving.{other_way, two_settled}
 use Rattle.circ_aci.proofs.Again.{IsAlone, content_many, content_two}
 
 -- no term is the same as its neighbour to the left
-abbrev Differs : List Tree → Type 0
+abbrev pub Differs : List Tree → Type 0
 Differs [] = Unit {0}
 Differs (x ∷ []) = Unit {0}
 Differs (x ∷ y ∷ ys) = (is_same y x ≡ false) × Differs (y ∷ ys)
 
 -- the list is settled
-abbrev Rows : Operator → List Tree → Type 0
+abbrev pub Rows : Operator → List Tree → Type 0
 Rows o xs = (o.comm ≡ true → Rises xs) × (o.idem ≡ true → Differs xs)
 
 drop_differs : (x : Tree) (xs : List Tree) → Differs (dedup_from is_same x xs)
@@ -47,7 +47,7 @@ differs_same x [] d = refl
 differs_same x (y ∷ ys) d = rw d.0 (ap (λ zs. x ∷ zs) (differs_same y ys d.1))
 
 -- what is settled is a row, and a row is settled
-settled_rows : (o : Operator) (x : Tree) (xs : List Tree) → Rows o (settled o (x ∷ xs))
+pub settled_rows : (o : Operator) (x : Tree) (xs : List Tree) → Rows o (settled o (x ∷ xs))
 settled_rows o x xs = (λ c. rises o.comm o.idem c, λ i. differs o.comm o.idem i)
   where
     settle : Bool → Bool → List Tree
@@ -70,7 +70,7 @@ settled_rows o x xs = (λ c. rises o.comm o.idem c, λ i. differs o.comm o.idem 
     differs c true e = dropped_differs (cond c (sorted_terms (x ∷ xs)) (x ∷ xs))
     differs c false e = absurd (cc)
 
-rows_settled : (o : Operator) (x : Tree) (xs : List Tree) → Rows o (x ∷ xs) → settled o (x ∷ xs) ≡ x ∷ xs
+pub rows_settled : (o : Operator) (x : Tree) (xs : List Tree) → Rows o (x ∷ xs) → settled o (x ∷ xs) ≡ x ∷ xs
 rows_settled o x xs r = same o.comm o.idem r.0 r.1
   where
     same : (c i : Bool) → (c ≡ true → Rises (x ∷ xs)) → (i ≡ true → Differs (x ∷ xs))
@@ -90,31 +90,31 @@ if_not : (c b : Bool) → (c ≡ true → b ≡ false) → not (c && b) ≡ true
 if_not true b h = ap not (h refl)
 if_not false b h = refl
 
-rows_more : (o : Operator) (x y : Tree) (ys : List Tree) → may_follow o x y ≡ true → Rows o (y ∷ ys) → Rows o (x ∷ y ∷ ys)
+pub rows_more : (o : Operator) (x y : Tree) (ys : List Tree) → may_follow o x y ≡ true → Rows o (y ∷ ys) → Rows o (x ∷ y ∷ ys)
 rows_more o x y ys e r =
     let h = and_parts (not (o.comm && comes_before y x)) (not (o.idem && is_same y x)) e in
     (λ c. (unless o.comm (comes_before y x) h.0 c, r.0 c), λ i. (unless o.idem (is_same y x) h.1 i, r.1 i))
 
-rows_first : (o : Operator) (x y : Tree) (ys : List Tree) → Rows o (x ∷ y ∷ ys) → may_follow o x y ≡ true
+pub rows_first : (o : Operator) (x y : Tree) (ys : List Tree) → Rows o (x ∷ y ∷ ys) → may_follow o x y ≡ true
 rows_first o x y ys r = rw (if_not o.comm (comes_before y x) (λ c. (r.0 c).0), if_not o.idem (is_same y x) (λ i. (r.1 i).0)) refl
 
-rows_rest : (o : Operator) (x y : Tree) (ys : List Tree) → Rows o (x ∷ y ∷ ys) → Rows o (y ∷ ys)
+pub rows_rest : (o : Operator) (x y : Tree) (ys : List Tree) → Rows o (x ∷ y ∷ ys) → Rows o (y ∷ ys)
 rows_rest o x y ys r = (λ c. (r.0 c).1, λ i. (r.1 i).1)
 
 -- ---- an associative operator
 
-is_none_so : {X : Type 0} (x : Option X) → is_none x ≡ true → x ≡ None
+pub is_none_so : {X : Type 0} (x : Option X) → is_none x ≡ true → x ≡ None
 is_none_so None e = refl
 is_none_so (Some y) e = absurd (cc)
 
 -- the leaves of t are in a row, which joined is t
-record InRow (o : Operator) (f : ℕ) (t : Tree) : Type 0 where
+pub record InRow (o : Operator) (f : ℕ) (t : Tree) : Type 0 where
   pub rest : List Tree
   pub starts : leaves f t ≡ first_in f t ∷ rest
   pub joined : join f o.result (first_in f t ∷ rest) ≡ t
   pub rows : Rows o (first_in f t ∷ rest)
 
-in_row : (o : Operator) (f : ℕ) (t : Tree) → is_row o f t ≡ true → InRow o f t
+pub in_row : (o : Operator) (f : ℕ) (t : Tree) → is_row o f t ≡ true → InRow o f t
 in_row o f (App g s (more a (more b none))) e = elim (cases_Bool (f == g)) [
   | inl q ↦ joins q (rw q at e) (λ h. in_row o f b h)
   | inr n ↦ record {
@@ -143,21 +143,21 @@ in_row o f (App g s (more a (more b none))) e = elim (cases_Bool (f == g)) [
         }
 in_row o f t e = record { rest = []; starts = refl; joined = refl; rows = ((λ c. tt), (λ i. tt)) }
 
-row_alone : (o : Operator) (f : ℕ) (t : Tree) → IsAlone f t → is_row o f t ≡ true
+pub row_alone : (o : Operator) (f : ℕ) (t : Tree) → IsAlone f t → is_row o f t ≡ true
 row_alone o f (App g s (more a (more b none))) e = elim (cases_Bool (f == g)) [
   | inl q ↦ absurd (let z : Some (a, b) ≡ None = rw q at e in cc)
   | inr n ↦ rw n refl
 ]
 row_alone o f t e = refl
 
-first_alone : (f : ℕ) (t : Tree) → IsAlone f t → first_in f t ≡ t
+pub first_alone : (f : ℕ) (t : Tree) → IsAlone f t → first_in f t ≡ t
 first_alone f (App g s (more a (more b none))) e = elim (cases_Bool (f == g)) [
   | inl q ↦ absurd (let z : Some (a, b) ≡ None = rw q at e in cc)
   | inr n ↦ rw n refl
 ]
 first_alone f t e = refl
 
-all_alone : (f : ℕ) (t : Tree) → AllByRecursion (IsAlone f) (leaves f t)
+pub all_alone : (f : ℕ) (t : Tree) → AllByRecursion (IsAlone f) (leaves f t)
 all_alone f (App g s (more a (more b none))) = elim (cases_Bool (f == g)) [
   | inl q ↦ rw q (all_append (IsAlone f) (leaves f a) (leaves f b) (all_alone f a) (all_alone f b))
   | inr n ↦ rw n (rw n refl, tt)
@@ -168,14 +168,14 @@ first_join : (f k : ℕ) (x : Tree) (xs : List Tree) → AllByRecursion (IsAlone
 first_join f k x [] a = first_alone f x a.0
 first_join f k x (y ∷ ys) a = rw (eq-eqb f f refl) refl
 
-row_join : (o : Operator) (f : ℕ) (x : Tree) (xs : List Tree) → AllByRecursion (IsAlone f) (x ∷ xs) → Rows o (x ∷ xs)
+pub row_join : (o : Operator) (f : ℕ) (x : Tree) (xs : List Tree) → AllByRecursion (IsAlone f) (x ∷ xs) → Rows o (x ∷ xs)
     → is_row o f (join f o.result (x ∷ xs)) ≡ true
 row_join o f x [] a r = row_alone o f x a.0
 row_join o f x (y ∷ ys) a r =
     let follows = ap (may_follow o x) (first_join f o.result y ys a.1) ∙ rows_first o x y ys r in
     rw (eq-eqb f f refl, eq-eqb o.result o.result refl, a.0, follows, row_join o f y ys a.1 (rows_rest o x y ys r)) refl
 
-leaves_some : (f : ℕ) (t : Tree) → IsSome (leaves f t)
+pub leaves_some : (f : ℕ) (t : Tree) → IsSome (leaves f t)
 leaves_some f (App g s (more a (more b none))) = elim (cases_Bool (f == g)) [
   | inl q ↦ rw q (before (leaves f a) (leaves f b) (leaves_some f a))
   | inr n ↦ rw n tt
@@ -187,11 +187,11 @@ leaves_some f (App g s (more a (more b none))) = elim (cases_Bool (f == g)) [
 leaves_some f t = tt
 
 -- the content of t is its leaves, settled
-content_leaves : (o : Operator) (f k : ℕ) (a b : Tree) → has_mark o ≡ true → o.assoc ≡ true
+pub content_leaves : (o : Operator) (f k : ℕ) (a b : Tree) → has_mark o ≡ true → o.assoc ≡ true
     → content o f (twice f k a b) ≡ settled o (leaves f (twice f k a b))
 content_leaves o f k a b m c = content_many o f k a b m c ∙ ap (settled o) (sym (leaves_twice f k a b))
 
-row_told : (o : Operator) (f k : ℕ) (a b : Tree) → has_mark o ≡ true → o.assoc ≡ true
+pub row_told : (o : Operator) (f k : ℕ) (a b : Tree) → has_mark o ≡ true → o.assoc ≡ true
     → (is_row o f (twice f k a b) ≡ true) ↔ (canonical o f (twice f k a b) ≡ twice f k a b)
 row_told o f k a b m c = (forth, λ e. back (leaves f t) refl (leaves_some f t) e)
   where
@@ -221,7 +221,7 @@ row_told o f k a b m c = (forth, λ e. back (leaves f t) refl (leaves_some f t) 
 
 -- ---- an operator that is not associative
 
-two_told : (o : Operator) (f k : ℕ) (a b : Tree) → has_mark o ≡ true → o.assoc ≡ false
+pub two_told : (o : Operator) (f k : ℕ) (a b : Tree) → has_mark o ≡ true → o.assoc ≡ false
     → ((k ≡ o.result) × (may_follow o a b ≡ true)) ↔ (canonical o f (twice f k a b) ≡ twice f k a b)
 two_told o f k a b m c = (forth, back)
   where

@@ -52,10 +52,10 @@ sorted_same (x ∷ y ∷ ys) r = ap (put_term x) (sorted_same (y ∷ ys) r.1) �
 
 -- ---- how often a term stands in a list
 
-abbrev one : Tree → Tree → ℕ
+abbrev pub one : Tree → Tree → ℕ
 one x y = cond (is_same x y) 1 0
 
-abbrev ones : Tree → List Tree → ℕ
+abbrev pub ones : Tree → List Tree → ℕ
 ones x [] = 0
 ones x (y ∷ ys) = one x y + ones x ys
 
@@ -66,7 +66,7 @@ ones-put x y (z ∷ zs) = elim (cases_Bool (comes_before z y)) [
   | inr after ↦ rw after refl
 ]
 
-ones-sorted : (x : Tree) (xs : List Tree) → ones x (sorted_terms xs) ≡ ones x xs
+pub ones-sorted : (x : Tree) (xs : List Tree) → ones x (sorted_terms xs) ≡ ones x xs
 ones-sorted x [] = refl
 ones-sorted x (y ∷ ys) = ones-put x y (sorted_terms ys) ∙ ap (λ n. one x y + n) (ones-sorted x ys)
 
@@ -88,7 +88,7 @@ first_least y z (w ∷ ws) r h = elim (cases_Bool (is_same y z)) [
 ]
 
 -- lists that rise, with the same terms, are the same
-same_list : (ys zs : List Tree) → Rises ys → Rises zs → ((x : Tree) → ones x ys ≡ ones x zs) → ys ≡ zs
+pub same_list : (ys zs : List Tree) → Rises ys → Rises zs → ((x : Tree) → ones x ys ≡ ones x zs) → ys ≡ zs
 same_list [] [] r q e = refl
 same_list [] (z ∷ zs) r q e = absurd (omega (arith, e z, one_itself z))
 same_list (y ∷ ys) [] r q e = absurd (omega (arith, e y, one_itself y))

@@ -5,27 +5,26 @@ use Rattle.std.proofs.lemmas.Bool.{cases_eq, cases_lt}
 use Rattle.std.proofs.lemmas.List.{drop_more, drop_all}
 use Rattle.circ_term.specs.Tree.{Tree, Trees, App, none, more, trees_of, list_of, args_of}
 use Rattle.circ_term.proofs.Trees.{trees_of-list_of}
-use Rattle.circ_chart.specs.declared.grammar.Symbol.{Symbol}
-use Rattle.circ_chart.specs.declared.grammar.Symbol.TheVariants.{Word, Hole}
-use Rattle.circ_chart.specs.declared.grammar.Rule.{Rule}
-use Rattle.circ_chart.specs.declared.grammar.Variable.{Variable}
-use Rattle.circ_chart.specs.declared.grammar.Grammar.{Grammar}
+use Rattle.circ_spelling.specs.declared.grammar.Symbol.{Symbol}
+use Rattle.circ_spelling.specs.declared.grammar.Symbol.TheVariants.{Word, Hole}
+use Rattle.circ_spelling.specs.declared.grammar.Rule.{Rule}
+use Rattle.circ_spelling.specs.declared.grammar.Variable.{Variable}
+use Rattle.circ_spelling.specs.declared.grammar.Grammar.{Grammar}
 use Rattle.circ_chart.specs.declared.few.Few.{Few}
 use Rattle.circ_chart.specs.declared.few.Few.TheVariants.{Empty, One, Two}
 use Rattle.circ_chart.specs.Few.{Enough, Differ, Or}
 use Rattle.circ_chart.proofs.Sets.{Joined, enough_joined, enough_all, enough_chain, enough_step, enough_or}
 use Rattle.circ_chart.specs.Members.{In, IsApart, IsTwo, AddsTerm, KeepsTerms}
 use Rattle.circ_chart.specs.Rows.{RowsOf, Longer, Extends, Product}
-use Rattle.circ_chart.specs.Reads.{IsToken, Reads, Row, by_parentheses, by_variable, by_operator, row_end, row_word, row_hole}
+use Rattle.circ_spelling.specs.Reads.{CanBegin, IsToken, Reads, Row, by_parentheses, by_variable, by_operator, row_end, row_word, row_hole}
 use Rattle.circ_chart.specs.Ways.{VariableHit, AnyVariable, InParentheses, ByRule, AnyByRule, Ways, SplitAt, SplitFrom}
-use Rattle.circ_chart.specs.Words.{HaveWords}
-use Rattle.circ_chart.specs.Limits.{opening, closing, every, most_tokens}
+use Rattle.circ_spelling.specs.Words.{HaveWords}
+use Rattle.circ_spelling.specs.Limits.{opening, closing, every, most_tokens}
 use Rattle.circ_chart.specs.Small.{IsSmall, IsSmallFew}
-use Rattle.circ_chart.specs.Places.{CanBegin}
-use Rattle.circ_chart.specs.Steps.{AreWords}
+use Rattle.circ_spelling.specs.Steps.{AreWords}
 use Rattle.circ_chart.proofs.RowCases.{row_case, by_args}
 use Rattle.circ_chart.proofs.Members.{full_keeps}
-use Rattle.circ_chart.proofs.Sizes.{reads_forward, row_forward, reads_size}
+use Rattle.circ_spelling.proofs.Sizes.{reads_forward, row_forward, reads_size}
 
 -- variables
 variable_out : (ts : List ℕ) (b s i j : ℕ) (vs : List Variable) (t : Tree) → AnyVariable ts b s i j vs t
@@ -461,6 +460,23 @@ no_first g ts op sort s b ps i j m n = keeps_none (SplitAt g ts op sort s b ps i
 pub no_rest : (g : Grammar) (ts : List ℕ) (op sort s b : ℕ) (ps : List Symbol) (i j m : ℕ) → Enough (In Empty) (RowsOf g ts op sort ps m j) → KeepsTerms Empty (SplitAt g ts op sort s b ps i j m)
 no_rest g ts op sort s b ps i j m e = keeps_none (SplitAt g ts op sort s b ps i j m)
     (λ z h. none_of (RowsOf g ts op sort ps m j) e (App op sort h.others) (record { args = h.others; row = h.rest; is = refl }))
+
+pub no_others : (g : Grammar) (ts : List ℕ) (op sort s b : ℕ) (ps : List Symbol) (i j m : ℕ) → ((args : Trees) → Row g ts ps m j args → ⊥) → KeepsTerms Empty (SplitAt g ts op sort s b ps i j m)
+no_others g ts op sort s b ps i j m n = keeps_none (SplitAt g ts op sort s b ps i j m) (λ z h. n h.others h.rest)
+
+-- a last hole without a term, and the same behind a word
+pub no_last_row : (g : Grammar) (ts : List ℕ) (s b : ℕ) (ps : List Symbol) (i j : ℕ) → ps ≡ Hole s b ∷ [] → ((t : Tree) → Reads g ts b s i j t → ⊥) → (args : Trees) → Row g ts ps i j args → ⊥
+no_last_row g ts s b ps i j is n args h =
+    let P : List Symbol → Type 0 = λ x. Row g ts x i j args in
+    let k = row_case g ts (Hole s b ∷ []) i j args (subst P is h) in
+    let e = (row_case g ts [] k.to j k.others k.rest).0 in
+    let Q : ℕ → Type 0 = λ x. Reads g ts b s i x k.first in
+    n k.first (subst Q e k.reads)
+
+pub no_word_row : (g : Grammar) (ts : List ℕ) (w : ℕ) (ps qs : List Symbol) (i j : ℕ) → ps ≡ Word w ∷ qs → ((args : Trees) → Row g ts qs (i + 1) j args → ⊥) → (args : Trees) → Row g ts ps i j args → ⊥
+no_word_row g ts w ps qs i j is n args h =
+    let P : List Symbol → Type 0 = λ x. Row g ts x i j args in
+    n args (row_case g ts (Word w ∷ qs) i j args (subst P is h)).rest
 
 -- words behind a hole say where it ends
 words_end : (g : Grammar) (ts : List ℕ) (qs : List Symbol) (m j : ℕ) (args : Trees) → AreWords qs → Row g ts qs m j args → m + length qs ≡ j

@@ -1,21 +1,21 @@
 -- What a reader asks, and what is right.
 use Rattle.std.specs.Prelude.{◌≡◌, ◌+◌, ℕ, List, [], ◌∷◌, Some, drop}
 use Rattle.std.specs.List.{slice_get}
-use Rattle.circ_term.specs.Tree.{Tree}
-use Rattle.circ_chart.specs.declared.grammar.Symbol.{Symbol}
-use Rattle.circ_chart.specs.declared.grammar.Symbol.TheVariants.{Hole}
-use Rattle.circ_chart.specs.declared.grammar.Rule.{Rule}
-use Rattle.circ_chart.specs.declared.asked.Wanted.{Wanted}
+use Rattle.circ_term.specs.Tree.{Tree, Trees}
+use Rattle.circ_spelling.specs.declared.grammar.Symbol.{Symbol}
+use Rattle.circ_spelling.specs.declared.grammar.Symbol.TheVariants.{Hole}
+use Rattle.circ_spelling.specs.declared.grammar.Rule.{Rule}
+use Rattle.circ_spelling.specs.declared.steps.Wanted.{Wanted}
 use Rattle.circ_chart.specs.declared.asked.Part.{Part}
 use Rattle.circ_chart.specs.declared.asked.Gap.{Gap}
 use Rattle.circ_chart.specs.declared.memo.Memo.{Memo}
 use Rattle.circ_chart.specs.declared.reader.Reader.{Reader}
-use Rattle.circ_chart.specs.Words.{HaveWords}
-use Rattle.circ_chart.specs.Reads.{Reads}
+use Rattle.circ_spelling.specs.Words.{HaveWords}
+use Rattle.circ_spelling.specs.Reads.{Reads, Row}
 use Rattle.circ_chart.specs.Rows.{RowsOf}
 use Rattle.circ_chart.specs.Ways.{InParentheses, ByRule, AnyByRule, SplitAt}
 use Rattle.circ_chart.specs.Places.{HaveTables}
-use Rattle.circ_chart.specs.May.{IsClosed}
+use Rattle.circ_spelling.specs.May.{IsClosed}
 use Rattle.circ_chart.specs.Asked.{AreAnswers}
 
 -- each rule has a word, the tables are those of the rules, the sets of ends leave out nothing, and what is kept is right
@@ -51,6 +51,10 @@ RulesOver r w i j = AnyByRule r.grammar.now r.tokens.now w.below w.sort i j r.gr
 
 abbrev pub RuleOver : Reader → Wanted → ℕ → ℕ → Rule → Tree → Type 0
 RuleOver r w i j q = ByRule r.grammar.now r.tokens.now w.below w.sort i j q
+
+-- the arguments that the symbols of a part have
+abbrev pub ArgumentsOver : Reader → Part → ℕ → ℕ → Trees → Type 0
+ArgumentsOver r p i j = Row r.grammar.now r.tokens.now (symbols_of p) i j
 
 -- the rows of a part, of a last hole, and of a part whose first hole ends at m
 abbrev pub RowsOver : Reader → Part → ℕ → ℕ → Tree → Type 0

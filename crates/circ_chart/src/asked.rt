@@ -1,13 +1,6 @@
 //! What is asked of ranges of tokens.
 
-use crate::grammar::Rule;
-
-/// The terms of a sort, of a precedence below `below`: those that fit a hole.
-#[derive(Clone, Copy)]
-pub struct Wanted {
-    pub sort: u32,
-    pub below: u8,
-}
+use circ_spelling::{Rule, Wanted};
 
 /// The symbols of a rule from one of its places on. The rule stands in the grammar at `number`.
 #[derive(Clone, Copy)]

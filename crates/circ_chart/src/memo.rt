@@ -1,13 +1,13 @@
 //! What has been asked of ranges of tokens, with the answers.
 ghost use Rattle.std.specs.Prelude.{◌≡◌, ℕ, List, [], IfOk, OnOk, IsTrue};
 ghost use Rattle.std.specs.Option.{option_copied};
-ghost use Rattle.circ_chart.specs.declared.grammar.Grammar.{Grammar};
+ghost use Rattle.circ_spelling.specs.declared.grammar.Grammar.{Grammar};
 ghost use Rattle.circ_chart.specs.declared.few.Few.TheVariants.{Empty};
 ghost use Rattle.circ_chart.specs.declared.memo.Question.TheVariants.{OfTerm};
 ghost use Rattle.circ_chart.specs.Asked.{IsAnswer, AreAnswers, Listed, IsListed};
 
-use crate::asked::Wanted;
 use crate::few::{Few, shared};
+use circ_spelling::Wanted;
 use std::alloc::{AllocError, Global};
 
 /// What is asked of a range.

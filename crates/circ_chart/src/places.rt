@@ -2,16 +2,15 @@
 ghost use Rattle.std.specs.Prelude.{◌≡◌, ◌+◌, ◌<◌, ◌≤◌, ◌∷◌, [], Some, false, length, max};
 ghost use Rattle.std.specs.Prelude.{drop, IfOk};
 ghost use Rattle.std.specs.List.{slice_get};
-ghost use Rattle.circ_chart.specs.declared.grammar.Symbol.TheVariants.{Word};
+ghost use Rattle.circ_spelling.specs.declared.grammar.Symbol.TheVariants.{Word};
 ghost use Rattle.circ_chart.specs.Places.{Skips, AreTables, HaveTables, table_in, tables_in};
 ghost use Rattle.circ_chart.specs.Places.{next_of};
 ghost use Rattle.circ_term.specs.Tree.{Trees};
-ghost use Rattle.circ_chart.specs.declared.grammar.Grammar.{Grammar};
-ghost use Rattle.circ_chart.specs.Words.{HaveWords};
-ghost use Rattle.circ_chart.specs.Reads.{Row};
+ghost use Rattle.circ_spelling.specs.declared.grammar.Grammar.{Grammar};
+ghost use Rattle.circ_spelling.specs.Words.{HaveWords};
+ghost use Rattle.circ_spelling.specs.Reads.{Row};
 
-use crate::grammar::{Rule, Symbol};
-use crate::steps::{Step, step_at};
+use circ_spelling::{Rule, Step, Symbol, step_at};
 use std::alloc::{AllocError, Global};
 
 // For each place of the tokens the next one, from there on, where a word stands, or their end.

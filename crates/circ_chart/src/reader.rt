@@ -1,27 +1,25 @@
 //! What ranges of tokens spell, asked only of the ranges that a longer reading would use.
 ghost use Rattle.std.specs.Prelude.{◌≡◌, ◌≤◌, ◌<◌, ◌+◌, ◌∷◌, ◌↔◌, length};
 ghost use Rattle.std.specs.Prelude.{IfOk, OnOk, IsTrue};
-ghost use Rattle.circ_term.specs.Tree.{Tree};
-ghost use Rattle.circ_chart.specs.declared.grammar.Symbol.TheVariants.{Word};
+ghost use Rattle.circ_term.specs.Tree.{Tree, Trees};
+ghost use Rattle.circ_spelling.specs.declared.grammar.Symbol.TheVariants.{Word};
 ghost use Rattle.circ_chart.specs.Few.{Or};
 ghost use Rattle.circ_chart.specs.Members.{In, IsApart, KeepsTerms};
-ghost use Rattle.circ_chart.specs.Words.{words};
-ghost use Rattle.circ_chart.specs.Limits.{most_tokens};
-ghost use Rattle.circ_chart.specs.Steps.{AreWords};
+ghost use Rattle.circ_spelling.specs.Words.{words};
+ghost use Rattle.circ_spelling.specs.Limits.{most_tokens};
+ghost use Rattle.circ_spelling.specs.Steps.{AreWords};
 ghost use Rattle.circ_chart.specs.Reader.{IsReady, IsPart, IsHole, symbols_of, behind};
 ghost use Rattle.circ_chart.specs.Reader.{TermsOver, ParenthesesOver, RulesOver};
-ghost use Rattle.circ_chart.specs.Reader.{RowsOver, LastOver, SplitOver};
+ghost use Rattle.circ_chart.specs.Reader.{RowsOver, LastOver, SplitOver, ArgumentsOver};
 
-use crate::asked::{Gap, Part, Wanted};
+use crate::asked::{Gap, Part};
 use crate::few::{Few, both, is_full, shared};
-use crate::grammar::{Grammar, Rule};
 use crate::memo::{Memo, Question, has_none, keep, recalled};
 use crate::places::{Tables, can_span, next_at, table_at};
 use crate::rows::{no_symbols, products};
-use crate::starts::{Starts, may_spell};
-use crate::steps::{Step, are_words, step_at};
 use crate::variables::variables_over;
 use crate::{CLOSING, EVERY, OPENING};
+use circ_spelling::{Grammar, Rule, Starts, Step, Wanted, are_words, may_spell, step_at};
 use std::alloc::{AllocError, Global};
 
 /// What is read: tokens, by a grammar, with the tables of its rules.
@@ -92,6 +90,39 @@ impl Reader<'_> {
             return true;
         }
         has_none(memo, wanted, from, to)
+    }
+
+    // Whether it is known that the symbols of a rule from a place on have no arguments: they are
+    // one last hole, for which the range has no term.
+    fn is_last_known_none(&self, memo: &Memo, part: Part<'_>, from: usize, to: usize) -> bool
+        requires { IsReady self.now memo.now }
+        ensures { IsTrue result → (args : Trees) → ArgumentsOver self.now part.entry from to args
+            → ⊥ }
+    {
+        match step_at(&part.rule.symbols, part.place) {
+            Step::AtLast(wanted) => self.is_known_none(memo, wanted, from, to),
+            _ => false,
+        }
+    }
+
+    // The same, where a word may stand before the last hole.
+    fn is_rest_known_none(&self, memo: &Memo, part: Part<'_>, from: usize, to: usize) -> bool
+        requires ready { IsReady self.now memo.now }
+        requires before { from < to }
+        requires place { part.place < length part.rule.now.symbols.items }
+        ensures { IsTrue result → (args : Trees) → ArgumentsOver self.now part.entry from to args
+            → ⊥ }
+    {
+        match step_at(&part.rule.symbols, part.place) {
+            Step::AtWord(_) => {
+                let next = Part {
+                    place: part.place + 1,
+                    ..part
+                };
+                self.is_last_known_none(memo, next, from + 1, to)
+            }
+            _ => self.is_last_known_none(memo, part, from, to),
+        }
     }
 
     #[cycle(read)]
@@ -428,8 +459,8 @@ impl Reader<'_> {
         Ok(out)
     }
 
-    // The rows whose first hole ends at `middle`. The symbols behind it are asked for before it,
-    // and not even these where its term is known to be none.
+    // The rows whose first hole ends at `middle`. It is looked up first whether what is behind the
+    // hole is known to be nothing, or its term. The symbols behind it are asked for before it.
     #[cycle(read)]
     fn split(
         &self,
@@ -453,13 +484,16 @@ impl Reader<'_> {
             (SplitOver self.now gap.entry from middle to)) }
         ensures ready { OnOk result (IsReady self.now memo.new) }
     {
-        if self.is_known_none(memo, gap.wanted, from, middle) {
-            return Ok(Few::Empty);
-        }
         let next = Part {
             place: gap.part.place + 1,
             ..gap.part
         };
+        if self.is_rest_known_none(memo, next, middle, to) {
+            return Ok(Few::Empty);
+        }
+        if self.is_known_none(memo, gap.wanted, from, middle) {
+            return Ok(Few::Empty);
+        }
         let rest = self.row(memo, next, middle, to, within)?;
         if let Few::Empty = rest {
             return Ok(Few::Empty);

@@ -5,7 +5,7 @@ ghost use Rattle.circ_chart.specs.Members.{In, IsApart, KeepsTerms};
 ghost use Rattle.circ_chart.specs.Ways.{VariableHit, AnyVariable};
 
 use crate::few::{Few, add};
-use crate::grammar::Variable;
+use circ_spelling::Variable;
 use circ_term::Term;
 
 // The terms with the variable, if the range is its token.

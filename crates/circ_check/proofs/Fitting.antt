@@ -21,7 +21,7 @@ use Rattle.circ_proof.proofs.FewPlaces.{few_due}
 use Rattle.circ_proof.proofs.Sorted.{sorted_none, sorted_append}
 use Rattle.circ_soundness.proofs.Blocks.{names_sorted}
 use Rattle.circ_check.specs.Checking.{Checking, TakesCertificate, TakesGoals, TakesStep, TakesPart, StandFor, nothing_taken}
-use Rattle.circ_check.specs.Ready.{IsReady}
+use Rattle.circ_check.specs.Ready.{IsPartReady}
 use Rattle.circ_check.specs.Knowing.{AreKnown, marks_of}
 use Rattle.circ_check.proofs.Marks.{marks_known}
 
@@ -165,13 +165,13 @@ ready_with th ts ps c k = (subst (AllByRecursion (IsWellSorted th.signature)) (s
 
 module _ (th : Theory) (ok : IsWellFormed th) (ts : List Tree) (ps : List Place) where
   later_ready : (m : ℕ) (xs : List Part) (x : Part) (c d : Checking) → Later th ts m (xs ++ x ∷ []) → Knows th ts ps c
-      → c.tally.count ≡ length (due th ps) + m → Runs (TakesPart th) xs c d → IsReady th d x
-  later_ready m [] (Goals gs ns) c d f k e r = subst (λ y. IsReady th y (Goals gs ns)) r (record {
+      → c.tally.count ≡ length (due th ps) + m → Runs (TakesPart th) xs c d → IsPartReady th d x
+  later_ready m [] (Goals gs ns) c d f k e r = subst (λ y. IsPartReady th y (Goals gs ns)) r (record {
     sorted = (ready_with th ts ps c k).0;
     set = (ready_with th ts ps c k).1;
     part = (k.goals, goals_sorted th ts k.sorted gs ns f.0, subst (AreKnown (marks_of ns)) (sym f.0.goals_are) (marks_known ts ns));
   })
-  later_ready m [] (Step s) c d f k e r = subst (λ y. IsReady th y (Step s)) r (record {
+  later_ready m [] (Step s) c d f k e r = subst (λ y. IsPartReady th y (Step s)) r (record {
     sorted = (ready_with th ts ps c k).0;
     set = (ready_with th ts ps c k).1;
     part = (omega (arith, e, f.0, few_due th ps ok k.set), subst (λ us. IsStepFor (length us) s) (sym k.table) f.1);
@@ -188,8 +188,8 @@ module _ (th : Theory) (ok : IsWellFormed th) (ts : List Tree) (ps : List Place)
   later_ready m (Certificate ls ∷ xs) x c d f k e r = absurd f
 
   rest_ready : (n : ℕ) (xs : List Part) (x : Part) (c d : Checking) → FitRest th ts ps n (xs ++ x ∷ []) → Knows th ts ps c → c.tally.count ≡ n
-      → n + length c.due ≡ length (due th ps) → Runs (TakesPart th) xs c d → IsReady th d x
-  rest_ready n [] (Certificate ls) c d f k e l r = subst (λ y. IsReady th y (Certificate ls)) r (record {
+      → n + length c.due ≡ length (due th ps) → Runs (TakesPart th) xs c d → IsPartReady th d x
+  rest_ready n [] (Certificate ls) c d f k e l r = subst (λ y. IsPartReady th y (Certificate ls)) r (record {
     sorted = (ready_with th ts ps c k).0;
     set = (ready_with th ts ps c k).1;
     part = (
@@ -210,8 +210,8 @@ module _ (th : Theory) (ok : IsWellFormed th) (ts : List Tree) (ps : List Place)
   rest_ready n (Step s ∷ xs) x c d f k e l r = absurd f
 
 -- The part that fits comes next.
-pub part_ready : (th : Theory) → IsWellFormed th → (xs : List Part) (x : Part) (c : Checking) → Fit th (xs ++ x ∷ []) → StandFor th xs c → IsReady th c x
-part_ready th ok [] (Head ts ps) c f r = subst (λ y. IsReady th y (Head ts ps)) r (record {
+pub part_ready : (th : Theory) → IsWellFormed th → (xs : List Part) (x : Part) (c : Checking) → Fit th (xs ++ x ∷ []) → StandFor th xs c → IsPartReady th c x
+part_ready th ok [] (Head ts ps) c f r = subst (λ y. IsPartReady th y (Head ts ps)) r (record {
   sorted = tt;
   set = record { increasing = tt; places = tt };
   part = tt;

@@ -1,7 +1,9 @@
 -- What a checker knows before a part and after it.
-use Rattle.std.proofs.Common.{◌≡◌, ◌+◌, ℕ, zero, suc, Bool, false, List, [], ◌∷◌, ◌++◌, map, length, take, Option, Some, None}
+use Rattle.std.proofs.Common.{◌≡◌, ◌≤◌, ◌+◌, ℕ, zero, suc, Bool, true, false, List, [], ◌∷◌, ◌++◌, map, length, take, Option, Some, None}
 use Rattle.std.proofs.Common.{Result, Ok, Err, Vec, Global, slice_set, slice_index_or}
-use Rattle.std.proofs.Common.{inl, inr, refl, ap, sym, subst, ◌∙◌, arith}
+use Rattle.std.proofs.Common.{inl, inr, refl, ap, sym, subst, ◌∙◌, arith, length-append}
+use Rattle.std.proofs.lemmas.List.{take-append-le}
+use Rattle.std.specs.declared.collections.VecDeque.{VecDeque}
 use Rattle.std.specs.Result.{OnOk, OnErr}
 use Rattle.circ_term.specs.Tree.{Tree}
 use Rattle.circ_theory.specs.Theory.{Theory, Derivative}
@@ -19,23 +21,24 @@ use Rattle.circ_proof.specs.Accepted.{Derives, FirstFail}
 use Rattle.circ_proof.specs.PlainProof.{plain_state}
 use Rattle.circ_proof.specs.declared.state.State.{State as TheState}
 use Rattle.circ_soundness.proofs.Sound.{goals_behave}
+use Rattle.circ_rules.specs.Answers.{Applies}
 use Rattle.circ_check.specs.declared.checker.Checker.{Checker}
-use Rattle.circ_check.specs.Checking.{Checking, TakesCertificate, TakesGoals, TakesStep, nothing_taken, made_by, with_one, with_derived}
+use Rattle.circ_check.specs.Checking.{Checking, TakesCertificate, TakesGoals, TakesStep, nothing_taken, made_by, with_one, with_failure, with_derived}
 use Rattle.circ_check.specs.Deciding.{plain_list, Finds, FoundBehave}
 use Rattle.circ_check.specs.Knowing.{AreKnown}
-use Rattle.circ_check.specs.Ready.{IsReady}
-use Rattle.circ_check.specs.Watching.{failed_of, derived_of, checking_over, checking_of, IsSound, Stands, Follows, Took, TookPlaced}
+use Rattle.circ_check.specs.Ready.{IsPartReady}
+use Rattle.circ_check.specs.Watching.{failed_of, derived_of, checking_over, checking_of, IsSound, Stands, FitsNext, Took, TookPlaced, Notes}
 use Rattle.circ_check.proofs.Fitting.{part_ready}
-use Rattle.circ_check.proofs.Finding.{part_more, parts_taken, failed_early}
+use Rattle.circ_check.proofs.Finding.{part_more, parts_taken, failed_early, step_makes}
 
 -- ---- before a part
 
-pub follows_ready : (k : Checker) (x : Part) → IsWellFormed k.theory.now → Follows x k → IsReady k.theory.now (checking_of k) x
+pub follows_ready : (k : Checker) (x : Part) → IsWellFormed k.theory.now → FitsNext x k → IsPartReady k.theory.now (checking_of k) x
 follows_ready k x ok (th, xs, s, f) =
-    let P : Theory → Type 0 = λ y. IsReady y (checking_of k) x in
+    let P : Theory → Type 0 = λ y. IsPartReady y (checking_of k) x in
     subst P (sym s.sound.theory) (part_ready th (subst IsWellFormed s.sound.theory ok) xs x (checking_of k) f s.checking)
 
-pub follows_sound : (k : Checker) (x : Part) → Follows x k → IsSound k.theory.now k
+pub follows_sound : (k : Checker) (x : Part) → FitsNext x k → IsSound k.theory.now k
 follows_sound k x (th, xs, s, f) = let P : Theory → Type 0 = λ y. IsSound y k in subst P (sym s.sound.theory) s.sound
 
 -- ---- after it
@@ -183,6 +186,64 @@ step_placed old new names s t going e same k =
       sound = k.sound;
       taken = subst R (sym going) (subst Q table (step_over th old.named.0 (checking_over names.1 old) d t s same (subst P going k.taken)));
     }
+
+-- ---- a step that was tried
+
+-- the hypotheses of earlier blocks stay
+before_stays : (n : ℕ) (H K gs : List Goal) → n ≤ length H → K ≡ H ++ gs → take n K ≡ take n H
+before_stays n H K gs h e = ap (take n) e ∙ take-append-le n H gs h
+
+pub step_noted : (old new : Checker) (s : TheState) (k : VecDeque Bool Global) (x : ProofStep ℕ) (holds : Bool) (made : List Goal)
+    → IsSound old.theory.now old → old.is_stopped ≡ false → made ≡ made_by x old.state.goals.items
+    → Applies old.theory.now old.gamma (map_step (named old.named.1) x) (plain_state old.state) (plain_state s) holds
+    → IsSortedState old.theory.now (plain_state s) → AreKnown k.items s.goals.items
+    → Notes holds made (record old { state = s; known = k }) new → TookPlaced old.theory.now (Step x) old new
+step_noted old new s k x true made sound going m applies sorted known (e, d) =
+    let th : Theory = old.theory.now in
+    let c : Checking = checking_over old.named.1 old in
+    let n : Checker = record old { state = s; known = k; tally = with_one old.tally; derived = new.derived } in
+    let grown = step_makes th old.gamma (named old.named.1) x (plain_state old.state) (plain_state s) applies in
+    let before = before_stays old.earlier old.state.hyps.items s.hyps.items (made_by x old.state.goals.items) sound.within grown in
+    let list : map plain_list new.derived.items ≡ with_derived c.derived (made_by x c.state.goals) = d ∙ ap (with_derived c.derived) m in
+    let P : Bool → Type 0 = λ b. TakesStep th c b x (checking_over old.named.1 n) in
+    let took : TookPlaced th (Step x) old n = record {
+      sound = record {
+        theory = refl;
+        unspent = sound.unspent;
+        within = omega (arith, sound.within, ap length grown, length-append old.state.hyps.items (made_by x old.state.goals.items));
+        sorted = sorted;
+        known = known;
+      };
+      named = refl;
+      taken = subst P (sym going) (inl (
+        plain_state s,
+        applies,
+        ap (λ y. record c { before = y; state = plain_state s; tally = with_one c.tally; derived = map plain_list new.derived.items }) before
+            ∙ ap (λ y. record c { state = plain_state s; tally = with_one c.tally; derived = y }) list,
+      ));
+    } in
+    subst (TookPlaced th (Step x) old) (sym e) took
+step_noted old new s k x false made sound going m applies sorted known e =
+    let th : Theory = old.theory.now in
+    let c : Checking = checking_over old.named.1 old in
+    let n : Checker = record old { state = s; known = k; is_stopped = true; tally = with_failure old.tally } in
+    let P : Bool → Type 0 = λ b. TakesStep th c b x (checking_over old.named.1 n) in
+    let Q : State → Type 0 = λ y. old.earlier ≤ length y.hypotheses in
+    let took : TookPlaced th (Step x) old n = record {
+      sound = record {
+        theory = refl;
+        unspent = sound.unspent;
+        within = subst Q (sym applies.1) sound.within;
+        sorted = sorted;
+        known = known;
+      };
+      named = refl;
+      taken = subst P (sym going) (inr (
+        applies.0,
+        ap (λ y. record c { before = take old.earlier y.hypotheses; state = y; stopped = true; tally = with_failure c.tally }) applies.1,
+      ));
+    } in
+    subst (TookPlaced th (Step x) old) (sym e) took
 
 -- ---- what was found
 

@@ -22,7 +22,7 @@ IsPartFor th c (Certificate links) = HasRoom c × (0 < length c.due) × AreLinks
 IsPartFor th c (Goals goals names) = AreSortedGoals th (c.before ++ c.own) × AreSortedGoals th goals × AreKnown (marks_of names) goals
 IsPartFor th c (Step step) = HasRoom c × IsStepFor (length c.table) step
 
-pub record IsReady (th : Theory) (c : Checking) (x : Part) : Type 0 where
+pub record IsPartReady (th : Theory) (c : Checking) (x : Part) : Type 0 where
   pub sorted : AllByRecursion (IsWellSorted th.signature) c.table
   pub set : IsSet th c.places
   pub part : IsPartFor th c x

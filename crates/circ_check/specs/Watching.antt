@@ -1,5 +1,5 @@
 -- What contracts see of a checker that takes parts.
-use Rattle.std.specs.Prelude.{◌≡◌, ◌≤◌, ℕ, true, false, List, ◌∷◌, [], ◌++◌, length, map, take, Option}
+use Rattle.std.specs.Prelude.{◌≡◌, ◌≤◌, ℕ, Bool, true, false, List, ◌∷◌, [], ◌++◌, length, map, take, Option}
 use Rattle.circ_term.specs.Tree.{Tree}
 use Rattle.circ_theory.specs.Theory.{Theory}
 use Rattle.circ_theory.specs.declared.parts.Goal.{Goal}
@@ -8,7 +8,7 @@ use Rattle.circ_proof.specs.Parts.{Part}
 use Rattle.circ_proof.specs.Fitting.{Fit}
 use Rattle.circ_rules.specs.Due.{due_after}
 use Rattle.circ_proof.specs.PlainProof.{plain_state}
-use Rattle.circ_check.specs.Checking.{Checking, TakesPart, StandFor}
+use Rattle.circ_check.specs.Checking.{Checking, TakesPart, StandFor, with_one, with_failure, with_derived}
 use Rattle.circ_check.specs.Deciding.{plain_list}
 use Rattle.circ_check.specs.Knowing.{AreKnown}
 use Rattle.circ_check.specs.declared.checker.Checker.{Checker}
@@ -54,8 +54,8 @@ pub record Stands (th : Theory) (xs : List Part) (k : Checker) : Type 0 where
   pub checking : StandFor th xs (checking_of k)
 
 -- the part fits behind those that were taken
-abbrev pub Follows : Part → Checker → Type 0
-Follows x k = (th : Theory) × (xs : List Part) × Stands th xs k × Fit th (xs ++ x ∷ [])
+abbrev pub FitsNext : Part → Checker → Type 0
+FitsNext x k = (th : Theory) × (xs : List Part) × Stands th xs k × Fit th (xs ++ x ∷ [])
 
 -- what is found and what was derived is as before
 pub record IsAsBefore (old new : Checker) : Type 0 where
@@ -72,3 +72,9 @@ pub record TookPlaced (th : Theory) (x : Part) (old new : Checker) : Type 0 wher
   pub sound : IsSound th new
   pub named : new.named ≡ old.named
   pub taken : TakesPart th x (checking_over old.named.1 old) (checking_over old.named.1 new)
+
+-- A step was tried: it is counted, and where it holds, what it made a hypothesis is listed; after one that failed no step is done.
+abbrev pub Notes : (holds : Bool) → (made : List Goal) → (old new : Checker) → Type 0
+Notes true made old new =
+    (new ≡ record old { tally = with_one old.tally; derived = new.derived }) × (derived_of new ≡ with_derived (derived_of old) made)
+Notes false made old new = new ≡ record old { is_stopped = true; tally = with_failure old.tally }

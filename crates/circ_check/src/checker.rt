@@ -1,5 +1,5 @@
 //! A checker that takes the parts of a proof one after the other.
-ghost use Rattle.std.specs.Prelude.{◌≡◌, ◌<◌, ◌++◌, ◌∷◌, [], ℕ, List, Some, None, false};
+ghost use Rattle.std.specs.Prelude.{◌≡◌, ◌<◌, ◌+◌, ◌^◌, ◌++◌, ◌∷◌, [], ℕ, List, Some, None, false};
 ghost use Rattle.std.specs.Prelude.{length, map, take};
 ghost use Rattle.std.specs.Prelude.{IfOk, OnOk, IsErr};
 ghost use Rattle.std.specs.List.{AllByRecursion};
@@ -20,10 +20,10 @@ ghost use Rattle.circ_proof.specs.Plain.{plain_links};
 ghost use Rattle.circ_check.specs.Deciding.{plain_list, Finds, FoundBehave, DerivedBehave};
 ghost use Rattle.circ_check.specs.Checking.{made_by, with_derived, goals_in};
 ghost use Rattle.circ_check.specs.Knowing.{AreKnown, marks_of};
-ghost use Rattle.circ_check.specs.Ready.{IsReady, HasRoom};
+ghost use Rattle.circ_check.specs.Ready.{IsPartReady, HasRoom};
 ghost use Rattle.circ_check.specs.Watching.{failed_of, derived_of, checking_of, IsSpent};
-ghost use Rattle.circ_check.specs.Watching.{Stands, Follows, IsSound, IsAsBefore};
-ghost use Rattle.circ_check.specs.Watching.{Took, TookPlaced};
+ghost use Rattle.circ_check.specs.Watching.{Stands, FitsNext, IsSound, IsAsBefore};
+ghost use Rattle.circ_check.specs.Watching.{Took, TookPlaced, Notes};
 
 use crate::knowing::{apply_known, known_of};
 use crate::placing::{place_links, place_step};
@@ -86,7 +86,7 @@ impl<'a> Checker<'a> {
 
     /// The next part of the proof.
     pub fn take(&mut self, part: Part) -> Result<(), AllocError>
-        requires { (IsSpent self.old → ⊥) → Follows (plain_part part) self.old }
+        requires { (IsSpent self.old → ⊥) → FitsNext (plain_part part) self.old }
         ensures taken { OnOk result ((th : Theory) (xs : List PlainPart) →
             Stands th xs self.old → Stands th (xs ++ plain_part part ∷ []) self.new) }
         ensures kept { OnErr result (IsAsBefore self.old self.new) }
@@ -138,7 +138,7 @@ impl<'a> Checker<'a> {
     }
 
     fn take_part(&mut self, part: Part) -> Result<(), AllocError>
-        requires ready { IsReady self.old.theory.now (checking_of self.old) (plain_part part) }
+        requires ready { IsPartReady self.old.theory.now (checking_of self.old) (plain_part part) }
         requires sound { IsSound self.old.theory.now self.old }
         ensures took { OnOk result (Took self.old.theory.now (plain_part part) self.old self.new) }
         ensures kept { OnErr result (IsAsBefore self.old self.new) }
@@ -157,7 +157,7 @@ impl<'a> Checker<'a> {
     }
 
     fn take_certificate(&mut self, mut links: Vec<Link>) -> Result<(), AllocError>
-        requires ready { IsReady self.old.theory.now (checking_of self.old)
+        requires ready { IsPartReady self.old.theory.now (checking_of self.old)
             (Certificate (plain_links links.items)) }
         requires sound { IsSound self.old.theory.now self.old }
         ensures took { OnOk result (Took self.old.theory.now
@@ -225,7 +225,7 @@ impl<'a> Checker<'a> {
     }
 
     fn take_step(&mut self, mut step: Step) -> Result<(), AllocError>
-        requires ready { IsReady self.old.theory.now (checking_of self.old)
+        requires ready { IsPartReady self.old.theory.now (checking_of self.old)
             (StepPart (plain_step step)) }
         requires sound { IsSound self.old.theory.now self.old }
         ensures took { OnOk result (Took self.old.theory.now
@@ -253,7 +253,7 @@ impl<'a> Checker<'a> {
         ensures kept { OnErr result (IsAsBefore self.old self.new) }
     {
         let made = made_by(self.alloc, step, &self.state.goals)?;
-        if !apply_known(
+        let holds = apply_known(
             self.alloc,
             self.theory,
             self.named.terms(),
@@ -261,7 +261,17 @@ impl<'a> Checker<'a> {
             &mut self.state,
             &mut self.known,
             step,
-        )? {
+        )?;
+        self.note_step(holds, made)
+    }
+
+    // A step was tried, which made this goal a hypothesis if it holds.
+    fn note_step(&mut self, holds: bool, made: Option<Goal>) -> Result<(), AllocError>
+        requires { self.old.tally.count + 1 < 2 ^ 64 }
+        ensures noted { OnOk result (Notes holds (goals_in made) self.old self.new) }
+        ensures kept { OnErr result (IsAsBefore self.old self.new) }
+    {
+        if !holds {
             self.is_stopped = true;
             self.tally = self.tally.with_failure();
             return Ok(());

@@ -1,5 +1,5 @@
 //! What a proof comes to.
-ghost use Rattle.std.specs.Prelude.{◌≡◌, List, [], IfOk, map};
+ghost use Rattle.std.specs.Prelude.{◌≡◌, ◌≤◌, List, [], ◌∷◌, ◌++◌, IfOk, length, map, take, drop};
 ghost use Rattle.std.specs.Result.{OnOk};
 ghost use Rattle.circ_proof.specs.Rules.{state as state_with};
 ghost use Rattle.circ_proof.specs.Proof.{ProofFor};
@@ -8,7 +8,7 @@ ghost use Rattle.circ_proof.specs.PlainProof.{plain_state, plain_proof};
 ghost use Rattle.circ_check.specs.Deciding.{Decides, GoalsBehave, DerivedBehave, plain_list};
 
 use crate::running::{end_block, run_block};
-use circ_proof::{Proof, State};
+use circ_proof::{Block, Proof, State};
 use circ_rules::{Admission, admit};
 use circ_theory::{Goal, Theory};
 use std::alloc::{AllocError, Global};
@@ -115,8 +115,28 @@ fn derive_blocks(
     let mut earlier = 0;
     for block in &proof.blocks {
         run_block(alloc, theory, proof, state, block)?;
-        lists.push(end_block(alloc, state, earlier, block)?)?;
+        list_derived(alloc, state, earlier, block, lists)?;
         earlier += block.goals.len();
     }
+    Ok(())
+}
+
+// From a block's end to the next one. What it derived becomes the last list.
+fn list_derived(
+    alloc: Global,
+    state: &mut State,
+    earlier: usize,
+    block: &Block,
+    lists: &mut Vec<Vec<Goal>>,
+) -> Result<(), AllocError>
+    requires { earlier ≤ length state.old.hyps.items }
+    ensures hyps { OnOk result (state.new.hyps.items
+        ≡ take earlier state.old.hyps.items ++ block.now.goals.items) }
+    ensures goals { state.new.goals ≡ state.old.goals }
+    ensures listed { OnOk result (map plain_list lists.new.items
+        ≡ map plain_list lists.old.items ++ drop earlier state.old.hyps.items ∷ []) }
+{
+    let derived = end_block(alloc, state, earlier, block)?;
+    lists.push(derived)?;
     Ok(())
 }

@@ -20,7 +20,7 @@ use Rattle.circ_rewrite.specs.declared.parts.Normal.{Normal}
 use Rattle.circ_rules.specs.Admitting.{IsStart}
 use Rattle.circ_rules.specs.Answers.{Gives}
 use Rattle.circ_proof.specs.Certified.{start_term, derivatives_at}
-use Rattle.circ_rules.specs.Deriving.{IsWithin}
+use Rattle.circ_rules.specs.Deriving.{IsBuilt}
 use Rattle.circ_rules.specs.declared.certificates.Start.{Start}
 use Rattle.circ_proof.proofs.Derivatives.{StartsWith, derivative_at, from_number, taken_next, passed_next, if_some_at, some_if_at}
 use Rattle.circ_contexts.specs.Candidates.{ComesTo, GivesNormal, AreNormals, IsFound}
@@ -37,7 +37,7 @@ module _ (th : Theory) (budget : ℕ) where
     its p = same_Some p.operator o (sym p.listed ∙ start.listed)
 
     -- what it comes to
-    pub start_comes : (t : Tree) → IsWithin (start_term o s.place d) t → (x : Option Normal)
+    pub start_comes : (t : Tree) → IsBuilt (start_term o s.place d) t → (x : Option Normal)
         → ComesTo (norm th.signature (theory_rules th) [] budget t) x → GivesNormal th budget s.place d x
     start_comes t w None c = λ normal traces h.
         let same : norm th.signature (theory_rules th) [] budget t ≡ norm th.signature (theory_rules th) [] budget (start_term h.place.operator s.place d)
@@ -54,15 +54,15 @@ module _ (th : Theory) (budget : ℕ) where
 
   -- the same for the derivative of a number
   module _ (s : Start) (start : IsStart th s) (i : ℕ) (d : Derivative) (there : slice_get th.derivatives i ≡ Some d) where
-    pub comes_at : (t : Tree) → IfSome (slice_get th.derivatives i) (λ d. Gives (IsWithin (start_term (operator_of s.decl.now) s.place d)) (Some t))
+    pub comes_at : (t : Tree) → IfSome (slice_get th.derivatives i) (λ d. Gives (IsBuilt (start_term (operator_of s.decl.now) s.place d)) (Some t))
         → {E : Type 0} (r : Result (Option Normal) E)
         → IfOk r (ComesTo (norm th.signature (theory_rules th) [] budget t)) → IfSome (slice_get th.derivatives i) (λ d. IfOk r (GivesNormal th budget s.place d))
     comes_at t x r y =
-        let w = some_if_at (λ d. Gives (IsWithin (start_term (operator_of s.decl.now) s.place d)) (Some t)) (slice_get th.derivatives i) d there x in
+        let w = some_if_at (λ d. Gives (IsBuilt (start_term (operator_of s.decl.now) s.place d)) (Some t)) (slice_get th.derivatives i) d there x in
         if_some_at (λ d. IfOk r (GivesNormal th budget s.place d)) (slice_get th.derivatives i) d there (go r y w)
       where
         go : {E : Type 0} (r : Result (Option Normal) E) → IfOk r (ComesTo (norm th.signature (theory_rules th) [] budget t))
-            → IsWithin (start_term (operator_of s.decl.now) s.place d) t → IfOk r (GivesNormal th budget s.place d)
+            → IsBuilt (start_term (operator_of s.decl.now) s.place d) t → IfOk r (GivesNormal th budget s.place d)
         go (Ok x) y w = start_comes s start d t w x y
         go (Err x) y w = tt
 

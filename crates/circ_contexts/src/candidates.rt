@@ -1,7 +1,7 @@
 //! The candidates of the greatest special set.
-ghost use Rattle.std.specs.Prelude.{◌≡◌, ◌==◌, false, IfOk, Some};
+ghost use Rattle.std.specs.Prelude.{◌≡◌, IfOk, Some};
 ghost use Rattle.std.specs.List.{AllByRecursion, slice_get};
-ghost use Rattle.std.specs.Option.{IfSome, option_map, option_map_or};
+ghost use Rattle.std.specs.Option.{IfSome, option_map};
 ghost use Rattle.circ_theory.specs.Theory.{HasNoConditions};
 ghost use Rattle.circ_special.specs.Special.{IsPlace};
 ghost use Rattle.circ_rewrite.specs.Norm.{norm};
@@ -101,7 +101,7 @@ impl Means<'_> {
     {
         let mut normals = Vec::new(self.alloc);
         for derivative in 0..self.theory.derivative_count() {
-            if self.takes(derivative, start.decl.result) {
+            if self.theory.takes(derivative, start.decl.result) {
                 match self.normal(memo, start, derivative)? {
                     Some(normal) => normals.push(normal)?,
                     None => return Ok(None),
@@ -109,17 +109,6 @@ impl Means<'_> {
             }
         }
         Ok(Some(normals))
-    }
-
-    // Whether the hole of the derivative of this number has the sort.
-    fn takes(&self, derivative: u32, sort: u32) -> bool
-        ensures { result ≡ option_map_or (λ d. d.hole == sort)
-            (slice_get self.now.theory.now.derivatives derivative) false }
-    {
-        match self.theory.hole_sort(derivative) {
-            Some(hole) => hole == sort,
-            None => false,
-        }
     }
 
     // The normal form of the start term of a derivative. None where it has none.

@@ -1,12 +1,12 @@
 //! The places of a theory.
-ghost use Rattle.std.specs.Prelude.{◌↔◌, [], IsTrue, IfOk, OnOk};
+ghost use Rattle.std.specs.Prelude.{[], IfOk, OnOk};
 ghost use Rattle.std.specs.List.{slice_get};
 ghost use Rattle.circ_special.specs.Special.{IsPlace};
 ghost use Rattle.circ_plain_search.specs.Places.{all_places};
 ghost use Rattle.circ_contexts.specs.Candidates.{AddsKept, places_at};
 ghost use Rattle.circ_plain_search.specs.Keeps.{Keeps};
 
-use circ_special::Place;
+use circ_special::{Place, is_place};
 use circ_theory::Theory;
 use std::alloc::{AllocError, Global};
 
@@ -42,20 +42,4 @@ fn push_places(theory: &Theory, op: u32, places: &mut Vec<Place>) -> Result<(), 
         }
     }
     Ok(())
-}
-
-// Whether the place is an argument of hidden sort of an operator of hidden sort.
-fn is_place(theory: &Theory, place: Place) -> bool
-    ensures { IsTrue result ↔ IsPlace theory.now place }
-{
-    let Some(decl) = theory.op(place.op) else {
-        return false;
-    };
-    if !theory.is_hidden(decl.result) {
-        return false;
-    }
-    match decl.args.get(place.arg as usize) {
-        Some(sort) => theory.is_hidden(*sort),
-        None => false,
-    }
 }

@@ -1,6 +1,10 @@
 //! The program `circ` over real files and standard output.
 #![tactic(auto)]
 
+mod hints;
+
+use crate::hints::print_hint;
+use circ_hints::CaseCount;
 use circ_outer::{HostShelf, HostSink};
 use circ_top::{Status, circ};
 use std::io::ErrorKind;
@@ -45,9 +49,10 @@ fn run(rt: &HostRuntime) -> u8 {
         Err(number) => return number,
     };
     let mut shelf = HostShelf::new(*rt);
-    let mut sink = HostSink::new(*rt);
+    let mut sink = CaseCount::new(HostSink::new(*rt));
     let status = circ(rt.alloc(), &words, &mut shelf, &mut sink);
     complain(rt, &status, shelf.failed_name());
+    print_hint(rt, words.as_slice(), &status, sink.cases());
     status.number()
 }
 

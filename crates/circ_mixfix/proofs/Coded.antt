@@ -4,16 +4,18 @@ use Rattle.std.specs.List.{slice_get}
 use Rattle.std.proofs.lemmas.List.{map-append}
 use Rattle.std.proofs.lemmas.Option.{slice_get_within, slice_get-get_or, unwrap_or-slice_get}
 use Rattle.circ_term.specs.Tree.{Tree, Trees, Var, App, none, more}
-use Rattle.circ_chart.specs.declared.grammar.Grammar.{Grammar}
-use Rattle.circ_chart.specs.declared.grammar.Symbol as chart_symbol
-use Rattle.circ_chart.specs.declared.grammar.Symbol.TheVariants as chart
-use Rattle.circ_chart.specs.Generates as generating
+use Rattle.circ_spelling.specs.declared.grammar.Grammar.{Grammar}
+use Rattle.circ_spelling.specs.declared.grammar.Symbol as chart_symbol
+use Rattle.circ_spelling.specs.declared.grammar.Symbol.TheVariants as chart
+use Rattle.circ_spelling.specs.Generates as generating
 use Rattle.circ_theory.specs.Signature.{Signature}
 use Rattle.circ_theory.specs.Theory.{Declared}
 use Rattle.circ_mixfix.specs.Named.{Named, NamedList, Variable, Applied, no_terms, terms}
 use Rattle.circ_mixfix.specs.Symbols.{Symbol, Word, Hole, every, symbols_of}
 use Rattle.circ_mixfix.specs.Spells.{IsVariable, Spells, SpellsSymbols, in_parentheses, a_variable, an_operator, no_symbol, a_word, a_hole}
 use Rattle.circ_mixfix.specs.Coding.{text_at, texts_at, named_by, all_named_by, AreSymbols, HaveNumbers, IsGrammarOf, AllBelow}
+use Rattle.circ_spelling.specs.Usable.{IsMarked}
+use Rattle.circ_mixfix.specs.Marking.{HolesMarked}
 
 pub text_is : (ws : List (List ℕ)) (n : ℕ) (w : List ℕ) → slice_get ws n ≡ Some w → text_at ws n ≡ w
 text_is ws n w e = ap (λ o. unwrap_or o []) e
@@ -116,6 +118,45 @@ have_numbers sig vars hole ws k c (Hole s b2 ∷ ps) us (terms q args) ns (a_hol
     let P : List ℕ → Type 0 = AllBelow k in
     (tt, have_numbers sig vars hole ws k c ps rest args f.back r f.second (below_split k f.front f.back (subst P f.is b)).1)
 
+-- the sort of what is spelled is marked, and so are those of the holes that are filled
+mutual
+  sort_marked : (sig : Signature) (vars : List Declared) (hole : Bool) (ws : List (List ℕ)) (k : ℕ) (g : Grammar) (h : IsGrammarOf sig vars hole ws k g)
+      → (b s : ℕ) (us : List (List ℕ)) (q : Named) (ns : List ℕ) → Spells sig vars hole b s us q → texts_at ws ns ≡ us → AllBelow k ns → IsMarked h.marks s
+  sort_marked sig vars hole ws k g h b s us q ns (in_parentheses inner lo d e1) e l =
+      let f = texts_first ws ns (codes "(") (inner ++ codes ")" ∷ []) (e ∙ e1) in
+      let c = texts_parts ws f.rest inner (codes ")" ∷ []) f.texts in
+      let P : List ℕ → Type 0 = AllBelow k in
+      let m = subst P f.is l in
+      sort_marked sig vars hole ws k g h every s inner q c.front d c.first (below_split k c.front c.back (subst P c.is m.1)).0
+  sort_marked sig vars hole ws k g h b s us q ns (a_variable w name lo v e1 z) e l =
+      let f = texts_first ws ns w [] (e ∙ e1) in
+      let P : List ℕ → Type 0 = AllBelow k in
+      let Q : ℕ → Type 0 = IsMarked h.marks in
+      let m = (subst P f.is l).0 in
+      let c = h.count in
+      let a = h.all_variables f.number w name s m (text_listed ws f.number (omega arith) ∙ ap (λ x. Some x) f.text) v in
+      let o = a.3 in
+      subst Q o.sort (h.marked_variables a.0 a.1 (slice_get_within g.variables.items a.0 a.1 a.2) a.2)
+  sort_marked sig vars hole ws k g h b s us q ns (an_operator f o args lo p e2 row z) e l =
+      let Q : ℕ → Type 0 = IsMarked h.marks in
+      subst Q (sym e2) (h.marked_operators f o lo (have_numbers sig vars hole ws k h.count (symbols_of o) us args ns row e l)
+      (holes_marked sig vars hole ws k g h (symbols_of o) us args ns row e l))
+
+  holes_marked : (sig : Signature) (vars : List Declared) (hole : Bool) (ws : List (List ℕ)) (k : ℕ) (g : Grammar) (h : IsGrammarOf sig vars hole ws k g)
+      → (ps : List Symbol) (us : List (List ℕ)) (args : NamedList) (ns : List ℕ) → SpellsSymbols sig vars hole ps us args → texts_at ws ns ≡ us → AllBelow k ns
+      → HolesMarked h.marks ps
+  holes_marked sig vars hole ws k g h [] us args ns r e l = tt
+  holes_marked sig vars hole ws k g h (Word w ∷ ps) us args ns (a_word rest r e1) e l =
+      let f = texts_first ws ns w rest (e ∙ e1) in
+      let P : List ℕ → Type 0 = AllBelow k in
+      holes_marked sig vars hole ws k g h ps rest args f.rest r f.texts (subst P f.is l).1
+  holes_marked sig vars hole ws k g h (Hole s b ∷ ps) us no_terms ns r e l = elim r [ ]
+  holes_marked sig vars hole ws k g h (Hole s b ∷ ps) us (terms q args) ns (a_hole first rest d r e1) e l =
+      let f = texts_parts ws ns first rest (e ∙ e1) in
+      let P : List ℕ → Type 0 = AllBelow k in
+      let m = below_split k f.front f.back (subst P f.is l) in
+      (sort_marked sig vars hole ws k g h b s first q f.front d f.first m.0, holes_marked sig vars hole ws k g h ps rest args f.back r f.second m.1)
+
 -- a term of the chart that stands for the named one
 pub record Few (ws : List (List ℕ)) (g : Grammar) (b s : ℕ) (ns : List ℕ) (q : Named) : Type 0 where
   pub term : Tree
@@ -160,7 +201,8 @@ mutual
         is = ap (λ x. Variable x a.1.sort) (text_is ws a.1.number name o.number) ∙ ap (Variable name) o.sort ∙ sym z;
       }
   to_chart sig vars hole ws k g h b s us q ns (an_operator f o args lo p e2 row z) e l le =
-      let a = h.all_rules f o lo (omega arith) (have_numbers sig vars hole ws k h.count (symbols_of o) us args ns row e l) in
+      let a = h.all_rules f o lo (omega arith) (have_numbers sig vars hole ws k h.count (symbols_of o) us args ns row e l)
+      (holes_marked sig vars hole ws k g h (symbols_of o) us args ns row e l) in
       let m = a.3 in
       let w = m.prec in
       let r = row_to_chart sig vars hole ws k g h (symbols_of o) a.1.symbols.items us args ns row m.symbols e l in

@@ -4,9 +4,9 @@ use Rattle.std.proofs.lemmas.List.{drop_more}
 use Rattle.std.specs.Prelude.{if◌then◌else◌}
 use Rattle.std.specs.Cmp.Lexicographic.{pointwise}
 use Rattle.circ_term.proofs.Within.{drop_read}
-use Rattle.circ_chart.specs.declared.grammar.Rule.{Rule}
-use Rattle.circ_chart.specs.declared.grammar.Symbol as chart_symbol
-use Rattle.circ_chart.specs.declared.grammar.Variable as chart_variable
+use Rattle.circ_spelling.specs.declared.grammar.Rule.{Rule}
+use Rattle.circ_spelling.specs.declared.grammar.Symbol as chart_symbol
+use Rattle.circ_spelling.specs.declared.grammar.Variable as chart_variable
 use Rattle.circ_theory.specs.Signature.{Signature}
 use Rattle.circ_mixfix.specs.Symbols.{Symbol}
 use Rattle.circ_mixfix.specs.Answers.{declared_by}
@@ -32,11 +32,11 @@ below_rest g [] i within h = absurd (omega arith)
 below_rest g (x ∷ xs) zero within h = h.1
 below_rest g (x ∷ xs) (suc i) within h = let e : suc i + 1 ≡ suc (i + 1) = omega arith in rw e (below_rest g xs i (omega arith) h)
 
-pub next_rules : (sig : Signature) (ws : List (List ℕ)) (fs : List ℕ) (i d : ℕ) (first old mid : List Rule) → i < length fs → AddsRule sig ws (get_or fs i d) old mid
-    → ((new : List Rule) → AddsRules sig ws (drop i fs) old new → AddsRules sig ws fs first new)
-    → (new : List Rule) → AddsRules sig ws (drop (i + 1) fs) mid new → AddsRules sig ws fs first new
-next_rules sig ws fs i d first old mid within one all new rest =
-    let P : List ℕ → Type 0 = λ gs. AddsRules sig ws gs old new in all new (subst P (sym (drop_more fs i d within)) (mid, one, rest))
+pub next_rules : (sig : Signature) (ws : List (List ℕ)) (marks : List Bool) (fs : List ℕ) (i d : ℕ) (first old mid : List Rule) → i < length fs → AddsRule sig ws marks (get_or fs i d) old mid
+    → ((new : List Rule) → AddsRules sig ws marks (drop i fs) old new → AddsRules sig ws marks fs first new)
+    → (new : List Rule) → AddsRules sig ws marks (drop (i + 1) fs) mid new → AddsRules sig ws marks fs first new
+next_rules sig ws marks fs i d first old mid within one all new rest =
+    let P : List ℕ → Type 0 = λ gs. AddsRules sig ws marks gs old new in all new (subst P (sym (drop_more fs i d within)) (mid, one, rest))
 
 named_split : (v : List ℕ × ℕ) (vs : List (List ℕ × ℕ)) (k : ℕ) (w : List ℕ)
     → variables_named (declared_by (v ∷ vs)) k w ≡ variables_named (declared_by (v ∷ [])) k w ++ variables_named (declared_by vs) k w

@@ -1,11 +1,11 @@
 -- What the chart finds is enough of the readings.
 use Rattle.std.proofs.Common.{◌≡◌, ℕ, List, [], ◌∷◌, map, Bool, false, sym, ◌∙◌, ap, subst, refl}
 use Rattle.circ_term.specs.Tree.{Tree, sort_of}
-use Rattle.circ_chart.specs.declared.grammar.Grammar.{Grammar}
+use Rattle.circ_spelling.specs.declared.grammar.Grammar.{Grammar}
 use Rattle.circ_chart.specs.declared.TheConstants.{EVERY}
 use Rattle.circ_chart.specs.Few.{Enough}
 use Rattle.circ_chart.proofs.Sets.{Joined, Some_of, enough_all, enough_chain, enough_joined, enough_some}
-use Rattle.circ_chart.specs.Generates as generating
+use Rattle.circ_spelling.specs.Generates as generating
 use Rattle.circ_chart.specs.Tops.{Among, OfSort}
 use Rattle.circ_theory.specs.Signature.{Signature}
 use Rattle.circ_theory.specs.Theory.{Declared}

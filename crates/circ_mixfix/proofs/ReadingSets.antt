@@ -1,12 +1,12 @@
 -- What the chart keeps of the terms of a token list is enough of its readings.
 use Rattle.std.proofs.Common.{ℕ, List, [], Bool, sym, subst, refl, arith}
 use Rattle.circ_term.specs.Tree.{Tree}
-use Rattle.circ_chart.specs.declared.grammar.Grammar.{Grammar}
+use Rattle.circ_spelling.specs.declared.grammar.Grammar.{Grammar}
 use Rattle.circ_chart.specs.declared.TheConstants.{EVERY}
 use Rattle.circ_chart.specs.Few.{Enough}
 use Rattle.circ_chart.proofs.Sets.{Some_of, enough_all, enough_chain, enough_some}
 use Rattle.circ_chart.specs.Tops.{OfSort}
-use Rattle.circ_chart.specs.Generates as generating
+use Rattle.circ_spelling.specs.Generates as generating
 use Rattle.circ_theory.specs.Signature.{Signature}
 use Rattle.circ_theory.specs.Theory.{Declared}
 use Rattle.circ_mixfix.specs.Named.{Named, seen_in}

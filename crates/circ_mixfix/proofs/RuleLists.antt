@@ -6,7 +6,7 @@ use Rattle.std.specs.Cmp.Lexicographic.{pointwise, bytes_decides}
 use Rattle.std.proofs.lemmas.Bool.{cases_eq}
 use Rattle.std.proofs.lemmas.List.{length-append}
 use Rattle.std.proofs.lemmas.Option.{slice_get_within}
-use Rattle.circ_chart.specs.declared.grammar.Rule.{Rule}
+use Rattle.circ_spelling.specs.declared.grammar.Rule.{Rule}
 use Rattle.circ_form.specs.declared.forms.Piece.{Piece}
 use Rattle.circ_form.specs.declared.forms.Piece.TheVariants as piece
 use Rattle.circ_theory.specs.declared.parts.Side.{Side}
@@ -16,32 +16,33 @@ use Rattle.circ_form.specs.Form.{is_hole_piece, hole_count}
 use Rattle.circ_theory.specs.Operators.{IsOperator, places_from, ops_by_word}
 use Rattle.circ_mixfix.specs.Symbols.{Symbol, every, inner_symbols, form_symbols, arguments, symbols_of, precedence_of}
 use Rattle.circ_mixfix.specs.Coding.{HaveNumbers, IsRuleOf, HasRules, AddsRule, AddsRules, BeginsBefore}
+use Rattle.circ_mixfix.specs.Marking.{AllMarked}
 use Rattle.circ_mixfix.proofs.SymbolWords.{form_word, no_holes, some_hole, fits, one_more}
 use Rattle.circ_mixfix.proofs.WordLists.{get_last, get_front}
 
 abbrev Has : Signature → List (List ℕ) → List Rule → ℕ → Operator → Type 0
 Has sig ws rs f o = (n : ℕ) × (r : Rule) × (slice_get rs n ≡ Some r) × IsRuleOf ws f o r
 
-pub no_rules : (sig : Signature) (ws : List (List ℕ)) (rs : List Rule) → rs ≡ [] → HasRules sig ws (BeginsBefore sig ws 0) rs
-no_rules sig ws rs e = record {
+pub no_rules : (sig : Signature) (ws : List (List ℕ)) (marks : List Bool) (rs : List Rule) → rs ≡ [] → HasRules sig ws marks (BeginsBefore sig ws 0) rs
+no_rules sig ws marks rs e = record {
   rules = λ n r l. absurd (let w = slice_get_within rs n r l in let len = ap length e in omega arith);
-  all_rules = λ f o c l p h. absurd (let z = c.3 in omega arith);
+  all_rules = λ f o c l p h m. absurd (let z = c.3 in omega arith);
 }
 
-pub rules_kept : (sig : Signature) (ws : List (List ℕ)) (C D : ℕ → Type 0) (rs : List Rule) → ((f : ℕ) → D f → C f) → HasRules sig ws C rs → HasRules sig ws D rs
-rules_kept sig ws C D rs le h = record { rules = h.rules; all_rules = λ f o c l p k. h.all_rules f o (le f c) l p k }
+pub rules_kept : (sig : Signature) (ws : List (List ℕ)) (marks : List Bool) (C D : ℕ → Type 0) (rs : List Rule) → ((f : ℕ) → D f → C f) → HasRules sig ws marks C rs → HasRules sig ws marks D rs
+rules_kept sig ws marks C D rs le h = record { rules = h.rules; all_rules = λ f o c l p k m. h.all_rules f o (le f c) l p k m }
 
 -- one operator more
-rules_more : (sig : Signature) (ws : List (List ℕ)) (C : ℕ → Type 0) (g : ℕ) (rs new : List Rule) → AddsRule sig ws g rs new → HasRules sig ws C rs → HasRules sig ws (λ f. C f ⊎ (f ≡ g)) new
-rules_more sig ws C g rs new (inl a) h =
-    let P : List Rule → Type 0 = HasRules sig ws (λ f. C f ⊎ (f ≡ g)) in
+rules_more : (sig : Signature) (ws : List (List ℕ)) (marks : List Bool) (C : ℕ → Type 0) (g : ℕ) (rs new : List Rule) → AddsRule sig ws marks g rs new → HasRules sig ws marks C rs → HasRules sig ws marks (λ f. C f ⊎ (f ≡ g)) new
+rules_more sig ws marks C g rs new (inl a) h =
+    let P : List Rule → Type 0 = HasRules sig ws marks (λ f. C f ⊎ (f ≡ g)) in
     subst P (sym a.0) (record { rules = h.rules; all_rules = all })
   where
-    all : (f : ℕ) (o : Operator) → (C f ⊎ (f ≡ g)) → slice_get sig.ops f ≡ Some o → precedence_of o < every → HaveNumbers ws (symbols_of o) → Has sig ws rs f o
-    all f o (inl c) l p k = h.all_rules f o c l p k
-    all f o (inr e) l p k = absurd (a.1 o (ap (slice_get sig.ops) (sym e) ∙ l) p k)
-rules_more sig ws C g rs new (inr a) h =
-    let P : List Rule → Type 0 = HasRules sig ws (λ f. C f ⊎ (f ≡ g)) in
+    all : (f : ℕ) (o : Operator) → (C f ⊎ (f ≡ g)) → slice_get sig.ops f ≡ Some o → precedence_of o < every → HaveNumbers ws (symbols_of o) → AllMarked marks o.args → Has sig ws rs f o
+    all f o (inl c) l p k m = h.all_rules f o c l p k m
+    all f o (inr e) l p k m = absurd (a.1 o (ap (slice_get sig.ops) (sym e) ∙ l) p k m)
+rules_more sig ws marks C g rs new (inr a) h =
+    let P : List Rule → Type 0 = HasRules sig ws marks (λ f. C f ⊎ (f ≡ g)) in
     subst P (sym a.4) (record { rules = λ n x l. sound n x l (cases_eq n (length rs)); all_rules = all })
   where
     sound : (n : ℕ) (x : Rule) → slice_get (rs ++ a.1 ∷ []) n ≡ Some x → ((n ≡ length rs) ⊎ (n ≡ length rs → ⊥)) → (f : ℕ) × (o : Operator) × (slice_get sig.ops f ≡ Some o) × IsRuleOf ws f o x
@@ -51,27 +52,27 @@ rules_more sig ws C g rs new (inr a) h =
         (g, a.0, a.2, subst Q (cc z) a.3)
     sound n x l (inr w) = let i = slice_get_within (rs ++ a.1 ∷ []) n x l in let len = length-append rs (a.1 ∷ []) in h.rules n x (sym (get_front rs a.1 n (omega arith)) ∙ l)
 
-    all : (f : ℕ) (o : Operator) → (C f ⊎ (f ≡ g)) → slice_get sig.ops f ≡ Some o → precedence_of o < every → HaveNumbers ws (symbols_of o) → Has sig ws (rs ++ a.1 ∷ []) f o
-    all f o (inl c) l p k = let r = h.all_rules f o c l p k in (r.0, r.1, get_front rs a.1 r.0 (slice_get_within rs r.0 r.1 r.2) ∙ r.2, r.3)
-    all f o (inr e) l p k =
+    all : (f : ℕ) (o : Operator) → (C f ⊎ (f ≡ g)) → slice_get sig.ops f ≡ Some o → precedence_of o < every → HaveNumbers ws (symbols_of o) → AllMarked marks o.args → Has sig ws (rs ++ a.1 ∷ []) f o
+    all f o (inl c) l p k m = let r = h.all_rules f o c l p k m in (r.0, r.1, get_front rs a.1 r.0 (slice_get_within rs r.0 r.1 r.2) ∙ r.2, r.3)
+    all f o (inr e) l p k m =
         let z : Some a.0 ≡ Some o = sym a.2 ∙ ap (slice_get sig.ops) (sym e) ∙ l in
         let Q : Operator → Type 0 = λ v. IsRuleOf ws f v a.1 in
         let R : ℕ → Type 0 = λ v. IsRuleOf ws v a.0 a.1 in
         (length rs, a.1, get_last rs a.1, subst Q (cc z) (subst R (sym e) a.3))
 
 -- several operators more
-rules_all : (sig : Signature) (ws : List (List ℕ)) (C : ℕ → Type 0) (fs : List ℕ) (rs new : List Rule) → AddsRules sig ws fs rs new → HasRules sig ws C rs
-    → HasRules sig ws (λ f. C f ⊎ ((k : ℕ) × (slice_get fs k ≡ Some f))) new
-rules_all sig ws C [] rs new a h =
-    let P : List Rule → Type 0 = HasRules sig ws (λ f. C f ⊎ ((k : ℕ) × (slice_get [] k ≡ Some f))) in
-    subst P (sym a) (rules_kept sig ws C (λ f. C f ⊎ ((k : ℕ) × (slice_get [] k ≡ Some f))) rs same h)
+rules_all : (sig : Signature) (ws : List (List ℕ)) (marks : List Bool) (C : ℕ → Type 0) (fs : List ℕ) (rs new : List Rule) → AddsRules sig ws marks fs rs new → HasRules sig ws marks C rs
+    → HasRules sig ws marks (λ f. C f ⊎ ((k : ℕ) × (slice_get fs k ≡ Some f))) new
+rules_all sig ws marks C [] rs new a h =
+    let P : List Rule → Type 0 = HasRules sig ws marks (λ f. C f ⊎ ((k : ℕ) × (slice_get [] k ≡ Some f))) in
+    subst P (sym a) (rules_kept sig ws marks C (λ f. C f ⊎ ((k : ℕ) × (slice_get [] k ≡ Some f))) rs same h)
   where
     same : (f : ℕ) → (C f ⊎ ((k : ℕ) × (slice_get [] k ≡ Some f))) → C f
     same f (inl c) = c
     same f (inr k) = absurd (let z = k.1 in cc z)
-rules_all sig ws C (g ∷ fs) rs new a h =
-    rules_kept sig ws (λ f. (C f ⊎ (f ≡ g)) ⊎ ((k : ℕ) × (slice_get fs k ≡ Some f))) (λ f. C f ⊎ ((k : ℕ) × (slice_get (g ∷ fs) k ≡ Some f))) new there
-    (rules_all sig ws (λ f. C f ⊎ (f ≡ g)) fs a.0 new a.2 (rules_more sig ws C g rs a.0 a.1 h))
+rules_all sig ws marks C (g ∷ fs) rs new a h =
+    rules_kept sig ws marks (λ f. (C f ⊎ (f ≡ g)) ⊎ ((k : ℕ) × (slice_get fs k ≡ Some f))) (λ f. C f ⊎ ((k : ℕ) × (slice_get (g ∷ fs) k ≡ Some f))) new there
+    (rules_all sig ws marks (λ f. C f ⊎ (f ≡ g)) fs a.0 new a.2 (rules_more sig ws marks C g rs a.0 a.1 h))
   where
     later : (f k : ℕ) → slice_get (g ∷ fs) k ≡ Some f → (C f ⊎ (f ≡ g)) ⊎ ((j : ℕ) × (slice_get fs j ≡ Some f))
     later f zero e = inl (inr (let z : g ≡ f = cc e in sym z))
@@ -82,7 +83,7 @@ rules_all sig ws C (g ∷ fs) rs new a h =
     there f (inr k) = later f k.0 k.1
 
 -- a place that passes is among those that pass
-place_there : {X : Type 0} (p : X → Bool) (b : ℕ) (xs : List X) (g : ℕ) (x : X) → slice_get xs g ≡ Some x → p x ≡ true → (k : ℕ) × (slice_get (places_from p b xs) k ≡ Some (b + g))
+pub place_there : {X : Type 0} (p : X → Bool) (b : ℕ) (xs : List X) (g : ℕ) (x : X) → slice_get xs g ≡ Some x → p x ≡ true → (k : ℕ) × (slice_get (places_from p b xs) k ≡ Some (b + g))
 place_there p b [] g x e t = absurd (cc)
 place_there p b (y ∷ xs) zero x e t =
     let q : y ≡ x = cc e in
@@ -100,11 +101,11 @@ place_there p b (y ∷ xs) (suc g) x e t = go (place_there p (b + 1) xs g x e t)
     go r false = (r.0, r.1 ∙ ap (λ n. Some n) z)
 
 -- the operators with one first word more
-pub rules_step : (sig : Signature) (ws : List (List ℕ)) (m : ℕ) (w : List ℕ) (rs new : List Rule) → slice_get ws m ≡ Some w → AddsRules sig ws (ops_by_word sig w) rs new
-    → HasRules sig ws (BeginsBefore sig ws m) rs → HasRules sig ws (BeginsBefore sig ws (m + 1)) new
-rules_step sig ws m w rs new at a h =
-    rules_kept sig ws (λ f. BeginsBefore sig ws m f ⊎ ((k : ℕ) × (slice_get (ops_by_word sig w) k ≡ Some f))) (BeginsBefore sig ws (m + 1)) new (λ f c. go f c (cases_eq c.1 m))
-    (rules_all sig ws (BeginsBefore sig ws m) (ops_by_word sig w) rs new a h)
+pub rules_step : (sig : Signature) (ws : List (List ℕ)) (marks : List Bool) (m : ℕ) (w : List ℕ) (rs new : List Rule) → slice_get ws m ≡ Some w → AddsRules sig ws marks (ops_by_word sig w) rs new
+    → HasRules sig ws marks (BeginsBefore sig ws m) rs → HasRules sig ws marks (BeginsBefore sig ws (m + 1)) new
+rules_step sig ws marks m w rs new at a h =
+    rules_kept sig ws marks (λ f. BeginsBefore sig ws m f ⊎ ((k : ℕ) × (slice_get (ops_by_word sig w) k ≡ Some f))) (BeginsBefore sig ws (m + 1)) new (λ f c. go f c (cases_eq c.1 m))
+    (rules_all sig ws marks (BeginsBefore sig ws m) (ops_by_word sig w) rs new a h)
   where
     go : (f : ℕ) (c : BeginsBefore sig ws (m + 1) f) → ((c.1 ≡ m) ⊎ (c.1 ≡ m → ⊥)) → BeginsBefore sig ws m f ⊎ ((k : ℕ) × (slice_get (ops_by_word sig w) k ≡ Some f))
     go f c (inl e) =

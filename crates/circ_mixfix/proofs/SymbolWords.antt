@@ -4,9 +4,9 @@ use Rattle.std.specs.Prelude.{if◌then◌else◌}
 use Rattle.std.specs.List.{list_any}
 use Rattle.std.proofs.lemmas.Bool.{eqb-true}
 use Rattle.std.proofs.lemmas.List.Sums.{sum_by-cons}
-use Rattle.circ_chart.specs.declared.grammar.Symbol as chart_symbol
-use Rattle.circ_chart.specs.declared.grammar.Symbol.TheVariants as chart
-use Rattle.circ_chart.specs.Words.{words}
+use Rattle.circ_spelling.specs.declared.grammar.Symbol as chart_symbol
+use Rattle.circ_spelling.specs.declared.grammar.Symbol.TheVariants as chart
+use Rattle.circ_spelling.specs.Words.{words}
 use Rattle.circ_form.specs.declared.forms.Piece.{Piece}
 use Rattle.circ_form.specs.declared.forms.Piece.TheVariants as piece
 use Rattle.circ_form.specs.declared.forms.FormFault.TheVariants.{NoWord, BadWord}

@@ -8,7 +8,7 @@ use Rattle.std.proofs.lemmas.List.Quantifiers.{position-Some}
 use Rattle.std.proofs.lemmas.Option.{slice_get_within, slice_get-get_or, slice_get-map}
 use Rattle.std.proofs.lemmas.Bool.{cases_eq, eqb-true}
 use Rattle.std.proofs.lemmas.Grind.{common_steps}
-use Rattle.circ_chart.specs.declared.grammar.Variable as chart_variable
+use Rattle.circ_spelling.specs.declared.grammar.Variable as chart_variable
 use Rattle.circ_theory.specs.Signature.{Signature}
 use Rattle.circ_theory.specs.Theory.{Declared, declared}
 use Rattle.circ_theory.specs.Names.{AreDifferent, names_of}

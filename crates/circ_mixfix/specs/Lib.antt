@@ -4,6 +4,7 @@ pub mod SymbolLists
 pub mod Spells
 pub mod Readings
 pub mod WordLists
+pub mod Marking
 pub mod Coding
 pub mod Variables
 pub mod Numbering

@@ -2,7 +2,7 @@
 use Rattle.std.specs.Prelude.{◌≡◌, ◌<◌, ◌++◌, ℕ, List, [], ◌∷◌, Bool, nat_eq, if◌then◌else◌, Option, Some, None}
 use Rattle.std.specs.List.{slice_get, Contains}
 use Rattle.std.specs.Cmp.Lexicographic.{pointwise}
-use Rattle.circ_chart.specs.declared.grammar.Variable as chart_variable
+use Rattle.circ_spelling.specs.declared.grammar.Variable as chart_variable
 use Rattle.circ_theory.specs.Signature.{Signature}
 use Rattle.circ_theory.specs.Theory.{Theory, Declared, declared}
 use Rattle.circ_mixfix.specs.Spells.{HasNoColon, IsVariable}

@@ -1,14 +1,15 @@
 //! The chart's grammar for the tokens of some spans.
 ghost use Rattle.std.specs.Prelude.{◌≡◌, ◌≤◌, ◌+◌, ◌^◌, length, IfOk, OnOk};
-ghost use Rattle.circ_chart.specs.Words.{HaveWords};
+ghost use Rattle.circ_spelling.specs.Words.{HaveWords};
 ghost use Rattle.circ_mixfix.specs.Coding.{IsGrammarOf};
 ghost use Rattle.circ_mixfix.specs.Variables.{vars_in};
 ghost use Rattle.circ_mixfix.specs.WordLists.{BeginAlike, GrowsTo};
 
+use crate::marking::spelled_sorts;
 use crate::rules::rules;
 use crate::variables::{Scope, variables};
 use crate::words::Words;
-use circ_chart::Grammar;
+use circ_spelling::Grammar;
 use std::alloc::{AllocError, Global};
 
 // The grammar that spells, of the first texts, what the theory and the variables spell. Names of
@@ -28,7 +29,8 @@ pub fn grammar<'a>(
     ensures grows { OnOk result (GrowsTo words.old words.new count) }
 {
     let variables = variables(alloc, words, scope, count)?;
-    let rules = rules(alloc, words, scope.theory)?;
+    let marks = spelled_sorts(alloc, words, scope.theory, &variables)?;
+    let rules = rules(alloc, words, scope.theory, &marks)?;
     words.known();
     scope.theory.known();
     Ok(Grammar { rules, variables })

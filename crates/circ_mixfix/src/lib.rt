@@ -9,6 +9,7 @@
 mod choices;
 mod few;
 mod grammars;
+mod marking;
 mod numbered;
 mod numbering;
 mod parse;

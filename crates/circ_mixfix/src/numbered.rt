@@ -1,6 +1,6 @@
 //! The tokens of two spans as numbers, with the chart's grammar over them.
 ghost use Rattle.std.specs.Prelude.{◌≡◌, ◌≤◌, [], length, IfOk, OnOk};
-ghost use Rattle.circ_chart.specs.Words.{HaveWords};
+ghost use Rattle.circ_spelling.specs.Words.{HaveWords};
 ghost use Rattle.circ_chart.specs.declared.TheConstants.{MOST_TOKENS};
 ghost use Rattle.circ_lexer.specs.TokenList.{tokens_in, IsWithin};
 ghost use Rattle.circ_mixfix.specs.Coding.{AreNumbered};
@@ -11,8 +11,8 @@ use crate::grammars::grammar;
 use crate::tokens::numbers;
 use crate::variables::Scope;
 use crate::words::Words;
-use circ_chart::Grammar;
 use circ_lexer::{Span, Tokens};
+use circ_spelling::Grammar;
 use std::alloc::{AllocError, Global};
 
 // The numbers of the tokens of two spans, and the grammar that spells over these what the theory

@@ -9,9 +9,10 @@ ghost use Rattle.circ_mixfix.specs.Coding.{AddsRule, AddsRules, BeginsBefore, Is
 ghost use Rattle.circ_chart.specs.declared.TheConstants.{EVERY};
 
 use crate::EVERY;
+use crate::marking::are_marked;
 use crate::spelling::{Symbol, precedence, symbols};
 use crate::words::Words;
-use circ_chart::{Rule, Symbol as ChartSymbol};
+use circ_spelling::{Rule, Symbol as ChartSymbol};
 use circ_theory::{OpDecl, Theory};
 use std::alloc::{AllocError, Global};
 
@@ -80,21 +81,26 @@ fn rule(
     }
 }
 
-// Adds the rule of an operator, if each of its words has a number.
+// Adds the rule of an operator, if its argument sorts are marked and each of its words has a
+// number.
 fn push_rule(
     alloc: Global,
     out: &mut Vec<Rule>,
     words: &Words<'_>,
     theory: &Theory,
+    marks: &[bool],
     number: u32,
 ) -> Result<(), AllocError>
     requires few { length words.now ≤ 2 ^ 32 }
-    ensures { OnOk result (AddsRule theory.now.signature words.now number out.old.items
+    ensures { OnOk result (AddsRule theory.now.signature words.now marks.now number out.old.items
         out.new.items) }
 {
     let Some(decl) = theory.op(number) else {
         return Ok(());
     };
+    if !are_marked(marks, decl.args.as_slice()) {
+        return Ok(());
+    }
     let Some(rule) = rule(alloc, words, number, decl)? else {
         return Ok(());
     };
@@ -102,35 +108,49 @@ fn push_rule(
     Ok(())
 }
 
-// Adds the rules of operators, as far as their words have numbers.
+// Adds the rules of operators, as far as their argument sorts are marked and their words have
+// numbers.
 fn push_rules(
     alloc: Global,
     out: &mut Vec<Rule>,
     words: &Words<'_>,
     theory: &Theory,
+    marks: &[bool],
     numbers: &[u32],
 ) -> Result<(), AllocError>
     requires few { length words.now ≤ 2 ^ 32 }
-    ensures { OnOk result (AddsRules theory.now.signature words.now numbers.now out.old.items
-        out.new.items) }
+    ensures { OnOk result (AddsRules theory.now.signature words.now marks.now numbers.now
+        out.old.items out.new.items) }
 {
     for number in numbers {
-        push_rule(alloc, out, words, theory, *number)?;
+        push_rule(alloc, out, words, theory, marks, *number)?;
     }
     Ok(())
 }
 
-// The rules of the operators whose words have numbers. No other operator is looked at than those
-// whose first word has one.
-pub fn rules(alloc: Global, words: &Words<'_>, theory: &Theory) -> Result<Vec<Rule>, AllocError>
+// The rules of the operators whose argument sorts are marked and whose words have numbers. No other
+// operator is looked at than those whose first word has one.
+pub fn rules(
+    alloc: Global,
+    words: &Words<'_>,
+    theory: &Theory,
+    marks: &[bool],
+) -> Result<Vec<Rule>, AllocError>
     requires few { length words.now ≤ 2 ^ 32 }
-    ensures { IfOk result (λ v. HasRules theory.now.signature words.now
+    ensures { IfOk result (λ v. HasRules theory.now.signature words.now marks.now
         (BeginsBefore theory.now.signature words.now (length words.now)) v.items) }
 {
     let mut out = Vec::new(alloc);
     for number in 0..words.count() {
         if let Some(word) = words.text(number) {
-            push_rules(alloc, &mut out, words, theory, theory.ops_by_word(word))?;
+            push_rules(
+                alloc,
+                &mut out,
+                words,
+                theory,
+                marks,
+                theory.ops_by_word(word),
+            )?;
         }
     }
     Ok(out)

@@ -11,6 +11,9 @@ use circ_form::Piece;
 use circ_theory::{OpDecl, Side};
 use std::alloc::{AllocError, Global};
 
+// A name with two arguments has so many symbols.
+const USUAL_SYMBOLS: usize = 6;
+
 /// A part of what spells an operator.
 #[derive(Clone, Copy)]
 pub(crate) enum Symbol<'a> {
@@ -165,8 +168,10 @@ pub(crate) fn symbols(alloc: Global, decl: &OpDecl) -> Result<Vec<Symbol<'_>>, A
 {
     let pieces = decl.form.pieces();
     if decl.form.has_hole() {
-        return Ok(with_form(Vec::new(alloc), decl.prec, decl.side, pieces, &decl.args)?);
+        let room = Vec::with_capacity(alloc, pieces.len())?;
+        return Ok(with_form(room, decl.prec, decl.side, pieces, &decl.args)?);
     }
-    let words = with_inner(Vec::new(alloc), 0, decl.side, pieces, &[])?;
+    let room = Vec::with_capacity(alloc, USUAL_SYMBOLS)?;
+    let words = with_inner(room, 0, decl.side, pieces, &[])?;
     Ok(with_arguments(words, &decl.args)?)
 }

@@ -10,8 +10,8 @@ ghost use Rattle.circ_mixfix.specs.Variables.{GivesVariable, AddsVariables, HasV
 ghost use Rattle.circ_mixfix.specs.WordLists.{GrowsTo};
 
 use crate::words::Words;
-use circ_chart::Variable;
 use circ_form::Text;
+use circ_spelling::Variable;
 use circ_theory::Theory;
 use std::alloc::{AllocError, Global};
 

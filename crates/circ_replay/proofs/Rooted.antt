@@ -16,7 +16,7 @@ use Rattle.circ_replay.specs.declared.table.Root.{Root}
 use Rattle.circ_replay.specs.declared.table.Root.TheVariants.{Variable, Application}
 use Rattle.circ_replay.specs.contracts.table.RootPartialEq.TheImpl.{eq-value}
 use Rattle.circ_proof.specs.Table.{has, number_in, entered, AreNext, term_limit}
-use Rattle.circ_replay.specs.Roots.{PlainRoot, variable, application, plain_root, root_in, HasRoot, AreRoots, IsKept}
+use Rattle.circ_replay.specs.Roots.{PlainRoot, variable, application, plain_root, root_in, HasRoot, AreRoots, IsRooted}
 use Rattle.circ_proof.proofs.Tables.{has_front, number_names, number_stays, number_bound, number_absent}
 
 abbrev Have : List Tree → List Tree → Type 0
@@ -134,7 +134,7 @@ module _ (eq : Root → Root → Bool) (right : (j k : Root) → eq j k ≡ true
   pub found_by_root : (rs : List Root) → AreRoots [] table rs → (list_any (eq r) rs ≡ has table t) × (position_or_len (eq r) rs ≡ number_in table t)
   found_by_root rs h = tests [] table rs refl h
 
-pub kept_front : (n : ℕ) (table : List Tree) (rs : List Root) → IsKept table rs → IsKept (take n table) (take n rs)
+pub kept_front : (n : ℕ) (table : List Tree) (rs : List Root) → IsRooted table rs → IsRooted (take n table) (take n rs)
 kept_front n table rs k = record { few = let l = length-take n table in omega (arith, l, k.few); rooted = roots_front n [] table rs k.rooted }
 
 -- roots that the code tells apart
@@ -185,7 +185,7 @@ pub record IsNew (table : List Tree) (t : Tree) (rs ss : List Root) (r : Root) (
   pub grown : table ++ t ∷ [] ≡ entered table t
   pub roots : ss ≡ rs ++ r ∷ []
 
-module _ (r : Root) {table : List Tree} {t : Tree} {rs ss : List Root} {n : ℕ} {fresh : Bool} (k : IsKept table rs) (root : HasRoot table (plain_root r) t)
+module _ (r : Root) {table : List Tree} {t : Tree} {rs ss : List Root} {n : ℕ} {fresh : Bool} (k : IsRooted table rs) (root : HasRoot table (plain_root r) t)
     (f : fresh ≡ not (list_any (eq-value.it r) rs)) (m : n ≡ position_or_len (eq-value.it r) rs)
     (e : ss ≡ (if list_any (eq-value.it r) rs then rs else rs ++ r ∷ [])) where
   found : (list_any (eq-value.it r) rs ≡ has table t) × (position_or_len (eq-value.it r) rs ≡ number_in table t)
@@ -216,15 +216,15 @@ module _ (r : Root) {table : List Tree} {t : Tree} {rs ss : List Root} {n : ℕ}
       flip false h = refl
 
 -- the table with the new term, and without it again
-module _ {table : List Tree} {t : Tree} {rs ss : List Root} {r : Root} {n : ℕ} (k : IsKept table rs) (new : IsNew table t rs ss r n) where
-  pub kept_push : HasRoot table (plain_root r) t → length table < term_limit → IsKept (table ++ t ∷ []) ss
+module _ {table : List Tree} {t : Tree} {rs ss : List Root} {r : Root} {n : ℕ} (k : IsRooted table rs) (new : IsNew table t rs ss r n) where
+  pub kept_push : HasRoot table (plain_root r) t → length table < term_limit → IsRooted (table ++ t ∷ []) ss
   kept_push root room =
-      let P : List Root → Type 0 = IsKept (table ++ t ∷ []) in
+      let P : List Root → Type 0 = IsRooted (table ++ t ∷ []) in
       let l = length-append table (t ∷ []) in
       subst P (sym new.roots) (record { few = omega (arith, l, room); rooted = roots_push [] table rs t r k.rooted root new.absent })
 
-  pub kept_cut : IsKept table (take n ss)
+  pub kept_cut : IsRooted table (take n ss)
   kept_cut =
-      let P : List Root → Type 0 = IsKept table in
+      let P : List Root → Type 0 = IsRooted table in
       let same : n ≡ length rs = new.number ∙ sym (roots_length [] table rs k.rooted) in
       subst P (sym (ap (take n) new.roots ∙ ap (λ x. take x (rs ++ r ∷ [])) same ∙ take-append_seam rs (r ∷ []))) k

@@ -30,6 +30,6 @@ AreRoots before [] (r ∷ rs) = ⊥
 AreRoots before (t ∷ ts) [] = ⊥
 AreRoots before (t ∷ ts) (r ∷ rs) = IsNext before t × (plain_root r ≡ root_in before t) × AreRoots (before ++ t ∷ []) ts rs
 
-pub record IsKept (table : List Tree) (roots : List Root) : Type 0 where
+pub record IsRooted (table : List Tree) (roots : List Root) : Type 0 where
   pub few : length table ≤ term_limit
   pub rooted : AreRoots [] table roots

@@ -8,14 +8,15 @@ ghost use Rattle.circ_theory.specs.Theory.{sides, IsWellSortedGoal};
 ghost use Rattle.circ_theory.specs.Pairs.{plain_pair};
 ghost use Rattle.circ_theory.specs.Observing.{case_list};
 ghost use Rattle.circ_theory.specs.Rewriting.{named};
-ghost use Rattle.circ_proof.specs.Plain.{plain_why, plain_whys, map_whys};
+ghost use Rattle.circ_proof.specs.Plain.{Split_why, plain_chain, plain_why, plain_whys, map_whys};
 ghost use Rattle.circ_proof.specs.Goals.{AreSortedGoals};
-ghost use Rattle.circ_proof.specs.Link.{setting, resolved_why};
-ghost use Rattle.circ_proof.specs.Justified.{Justified, EachJustified, IsWhyInTable, AllOfWhys};
+ghost use Rattle.circ_proof.specs.Link.{setting, resolved_chain, resolved_why};
+ghost use Rattle.circ_proof.specs.Justified.{Justified, EachJustified, IsWhyInTable, AllOfChain};
+ghost use Rattle.circ_proof.specs.Justified.{AllOfWhys};
 ghost use Rattle.circ_replay.specs.Sources.{setting_of};
 
 use crate::usage::Sources;
-use circ_proof::Why;
+use circ_proof::{Chain, Why};
 use circ_special::Gamma;
 use circ_term::Term;
 use circ_theory::{Goal, Pair, Theory, constant_of};
@@ -86,17 +87,40 @@ impl Sources<'_> {
         match why {
             Why::Same { chain } => self.meets(assumptions.as_slice(), chain, pair),
             Why::Split { chain, term, whys } => {
-                self.theory.known();
-                let term = &self.table[*term as usize];
-                let Some(constants) = self.theory.cases(term.sort()) else {
-                    return Ok(false);
-                };
-                let Some(left) = self.follow_chain(assumptions.as_slice(), chain, pair)? else {
-                    return Ok(false);
-                };
-                self.each_justified(assumptions, &left, term, constants, whys.as_slice())
+                self.is_split(assumptions, pair, chain, *term, whys.as_slice())
             }
         }
+    }
+
+    // The same by a split: the chain leads to two sides, which hold in each case of the term.
+    #[cycle(justify)]
+    fn is_split(
+        &self,
+        assumptions: &mut Vec<Pair>,
+        pair: &Pair,
+        chain: &Chain,
+        term: u32,
+        whys: &[Why],
+    ) -> Result<bool, AllocError>
+        requires chain { AllOfChain (λ n. n < length self.now.table.now) (plain_chain chain.now) }
+        requires term { term < length self.now.table.now }
+        requires whys { AllOfWhys (λ n. n < length self.now.table.now) (plain_whys whys.now) }
+        ensures exact { IfOk result (λ b. IsTrue b ↔ Justified
+            (setting_of self.now (map plain_pair assumptions.old.items)) (plain_pair pair.now)
+            (Split_why (resolved_chain self.now.table.now (plain_chain chain.now))
+            (named self.now.table.now term)
+            (map_whys (named self.now.table.now) (plain_whys whys.now)))) }
+        ensures same { OnOk result (assumptions.new.items ≡ assumptions.old.items) }
+    {
+        self.theory.known();
+        let term = &self.table[term as usize];
+        let Some(constants) = self.theory.cases(term.sort()) else {
+            return Ok(false);
+        };
+        let Some(sides) = self.follow_chain(assumptions.as_slice(), chain, pair)? else {
+            return Ok(false);
+        };
+        self.each_justified(assumptions, &sides, term, constants, whys)
     }
 
     // The same in the case of each constant.

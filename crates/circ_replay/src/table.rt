@@ -51,11 +51,11 @@ impl Model for TableBuilder {
 
     ghost coded = { coded_list tree_code };
 
-    ghost use Rattle.circ_replay.specs.Roots.{IsKept};
+    ghost use Rattle.circ_replay.specs.Roots.{IsRooted};
 
     ghost view = { λ a. a.terms.items };
 
-    ghost invariant = { λ a. IsKept a.terms.items a.roots.keys };
+    ghost invariant = { λ a. IsRooted a.terms.items a.roots.keys };
 }
 
 impl TableBuilder {

@@ -17,11 +17,11 @@ use Rattle.circ_proof.specs.Goals.{AreSortedGoals}
 use Rattle.circ_proof.specs.Rules.{state, derived_goal, derivatives_on, IsDerivable, IsSortedState}
 use Rattle.circ_proof.proofs.Derivatives.{if_some_at, some_if_at, the_derivative, numbered, sorts_are, derivative_at, from_number, taken_next, passed_next}
 use Rattle.circ_rules.specs.Answers.{Gives}
-use Rattle.circ_rules.specs.Deriving.{IsWithin, AreInstances, IsDerivativeOn, AreDerivativesOn, moved_on}
+use Rattle.circ_rules.specs.Deriving.{IsBuilt, AreInstances, IsDerivativeOn, AreDerivativesOn, moved_on}
 use Rattle.circ_proof.proofs.Sorted.{sorted_none, sorted_more, sorted_first, sorted_rest, sorted_append, derivatives_sorted}
 
 -- what passes no limit is there
-pub past : (t u : Tree) → t ≡ u → Gives (IsWithin t) None → IsWithinLimits u → ⊥
+pub past : (t u : Tree) → t ≡ u → Gives (IsBuilt t) None → IsWithinLimits u → ⊥
 past t u e none w = none t (record { within = subst IsWithinLimits (sym e) w; same = refl })
 
 -- a derivative of the theory on a goal, with variables numbered from k for its parameters

@@ -25,7 +25,7 @@ use Rattle.circ_proof.specs.Link.{setting, Leads}
 use Rattle.circ_replay.specs.Following.{FollowsAll}
 use Rattle.circ_proof.specs.Certified.{start_args, start_term, Certified}
 use Rattle.circ_rules.specs.Answers.{Gives}
-use Rattle.circ_rules.specs.Deriving.{IsWithin}
+use Rattle.circ_rules.specs.Deriving.{IsBuilt}
 use Rattle.circ_proof.proofs.Leading.{one_end}
 use Rattle.circ_proof.proofs.Starting.{applied_sorted}
 use Rattle.circ_proof.proofs.Derivatives.{if_some_at, some_if_at, the_derivative}
@@ -137,12 +137,12 @@ module _ (th : Theory) (g : Place) (o : Operator) (listed : slice_get th.signatu
         ∙ ap (λ t. derived d t (numbered_from (length o.args))) is_start
 
     pub start_built : {E : Type 0} (r : Result (Option Tree) E)
-        → IfSome (slice_get th.derivatives n) (λ d. IfOk r (Gives (IsWithin (derived d start (given_parameters params)))))
-        → IfSome (slice_get th.derivatives n) (λ d. IfOk r (Gives (IsWithin (start_term o g d))))
+        → IfSome (slice_get th.derivatives n) (λ d. IfOk r (Gives (IsBuilt (derived d start (given_parameters params)))))
+        → IfSome (slice_get th.derivatives n) (λ d. IfOk r (Gives (IsBuilt (start_term o g d))))
     start_built r x =
-        let P : Tree → Type 0 = λ t. IfOk r (Gives (IsWithin t)) in
-        if_some_at (λ d. IfOk r (Gives (IsWithin (start_term o g d)))) (slice_get th.derivatives n) d there
-        (subst P starts (some_if_at (λ d. IfOk r (Gives (IsWithin (derived d start (given_parameters params))))) (slice_get th.derivatives n) d there x))
+        let P : Tree → Type 0 = λ t. IfOk r (Gives (IsBuilt t)) in
+        if_some_at (λ d. IfOk r (Gives (IsBuilt (start_term o g d)))) (slice_get th.derivatives n) d there
+        (subst P starts (some_if_at (λ d. IfOk r (Gives (IsBuilt (derived d start (given_parameters params))))) (slice_get th.derivatives n) d there x))
 
     start_sorted : IsWellSorted th.signature (start_term o g d)
     start_sorted =
@@ -151,11 +151,11 @@ module _ (th : Theory) (g : Place) (o : Operator) (listed : slice_get th.signatu
         subst (IsWellSorted th.signature) (ap (λ t. derived d t (numbered_from (length o.args))) is_start) z.well_sorted
 
     pub built_sorted : {E : Type 0} (r : Result (Option Tree) E)
-        → IfSome (slice_get th.derivatives n) (λ d. IfOk r (Gives (IsWithin (derived d start (given_parameters params)))))
+        → IfSome (slice_get th.derivatives n) (λ d. IfOk r (Gives (IsBuilt (derived d start (given_parameters params)))))
         → IfOk r (λ x. IfSome x (IsWellSorted th.signature))
-    built_sorted r x = go r (some_if_at (λ d. IfOk r (Gives (IsWithin (start_term o g d)))) (slice_get th.derivatives n) d there (start_built r x))
+    built_sorted r x = go r (some_if_at (λ d. IfOk r (Gives (IsBuilt (start_term o g d)))) (slice_get th.derivatives n) d there (start_built r x))
       where
-        go : {E : Type 0} (r : Result (Option Tree) E) → IfOk r (Gives (IsWithin (start_term o g d))) → IfOk r (λ x. IfSome x (IsWellSorted th.signature))
+        go : {E : Type 0} (r : Result (Option Tree) E) → IfOk r (Gives (IsBuilt (start_term o g d))) → IfOk r (λ x. IfSome x (IsWellSorted th.signature))
         go (Err e) y = tt
         go (Ok None) y = tt
         go (Ok (Some t)) y = subst (IsWellSorted th.signature) (sym y.same) start_sorted
@@ -191,15 +191,15 @@ module _ (th : Theory) (g : Place) (o : Operator) (listed : slice_get th.signatu
         if_some_at (λ d. IsTrue false ↔ Certified th G g d ls) (slice_get th.derivatives n) d there (λ t. absurd (cc), λ x. absurd (refuted x))
 
     -- the start term passes a limit
-    pub no_start : IfSome (slice_get th.derivatives n) (λ d. Gives (IsWithin (start_term o g d)) None)
+    pub no_start : IfSome (slice_get th.derivatives n) (λ d. Gives (IsBuilt (start_term o g d)) None)
         → IfSome (slice_get th.derivatives n) (λ d. IsTrue false ↔ Certified th G g d ls)
     no_start past_limit =
-        let none = some_if_at (λ d. Gives (IsWithin (start_term o g d)) None) (slice_get th.derivatives n) d there past_limit in
+        let none = some_if_at (λ d. Gives (IsBuilt (start_term o g d)) None) (slice_get th.derivatives n) d there past_limit in
         not_certified (λ x. none (start_term o g d) (record { within = (to x).within; same = refl }))
 
-    module _ (first : Tree) (built : IfSome (slice_get th.derivatives n) (λ d. Gives (IsWithin (start_term o g d)) (Some first))) where
-      is_first : IsWithin (start_term o g d) first
-      is_first = some_if_at (λ d. Gives (IsWithin (start_term o g d)) (Some first)) (slice_get th.derivatives n) d there built
+    module _ (first : Tree) (built : IfSome (slice_get th.derivatives n) (λ d. Gives (IsBuilt (start_term o g d)) (Some first))) where
+      is_first : IsBuilt (start_term o g d) first
+      is_first = some_if_at (λ d. Gives (IsBuilt (start_term o g d)) (Some first)) (slice_get th.derivatives n) d there built
 
       -- a link does not apply
       pub no_last : FollowsAll (setting th G [] []) ls first None → IfSome (slice_get th.derivatives n) (λ d. IsTrue false ↔ Certified th G g d ls)

@@ -10,14 +10,14 @@ use Rattle.circ_theory.specs.declared.parts.Goal.{Goal}
 use Rattle.circ_proof.specs.Rules.{State, state, derived_goal, derivatives_on, IsDerivable}
 
 -- u is t, which is within the limits
-pub record IsWithin (t u : Tree) : Type 0 where
+pub record IsBuilt (t u : Tree) : Type 0 where
   pub within : IsWithinLimits t
   pub same : u ≡ t
 
 -- the sides of h are the derivative on those of g, with these terms for its parameters, which are within the limits, and its conditions those of g
 pub record AreInstances (d : Derivative) (params : List Tree) (g h : Goal) : Type 0 where
-  pub left : IsWithin (derived d g.left (given_parameters params)) h.left
-  pub right : IsWithin (derived d g.right (given_parameters params)) h.right
+  pub left : IsBuilt (derived d g.left (given_parameters params)) h.left
+  pub right : IsBuilt (derived d g.right (given_parameters params)) h.right
   pub conds : h.conds ≡ g.conds
 
 -- h is the derivative on the goal g, which is within the limits

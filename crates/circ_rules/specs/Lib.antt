@@ -4,3 +4,4 @@ pub mod Basis
 pub mod Deriving
 pub mod Splitting
 pub mod Admitting
+pub mod Simplifying

@@ -4,6 +4,7 @@ ghost use Rattle.std.specs.Result.{OnErr};
 ghost use Rattle.std.specs.List.{AllByRecursion};
 ghost use Rattle.circ_theory.specs.Signature.{IsWellSorted};
 ghost use Rattle.circ_theory.specs.Rewriting.{named};
+ghost use Rattle.circ_theory.specs.Pairs.{plain_pair};
 ghost use Rattle.circ_proof.specs.Plain.{plain_chain, plain_why};
 ghost use Rattle.circ_proof.specs.Link.{resolved_chain, resolved_why};
 ghost use Rattle.circ_proof.specs.Justified.{AllOfChain, IsWhyInTable};
@@ -12,13 +13,14 @@ ghost use Rattle.circ_proof.specs.Rules.{Simplify, Reduce};
 ghost use Rattle.circ_proof.specs.PlainProof.{plain_state, plain_step};
 ghost use Rattle.circ_rules.specs.Answers.{Applies};
 ghost use Rattle.circ_rules.specs.Basis.{IsSortedBasis};
+ghost use Rattle.circ_rules.specs.Simplifying.{put_sides};
 
 use crate::basis::Basis;
 use circ_proof::{Chain, State, Step, Why};
 use circ_replay::follow_why;
 use circ_special::Gamma;
 use circ_term::Term;
-use circ_theory::Theory;
+use circ_theory::{Pair, Theory};
 use std::alloc::{AllocError, Global};
 
 /// Does the step. False where it is no instance of its rule. The state is unchanged then, and after
@@ -68,13 +70,12 @@ impl Basis<'_> {
         ensures kept { OnErr result (plain_state state.new ≡ plain_state state.old) }
         ensures state_sorted { IsSortedState self.now.theory.now (plain_state state.new) }
     {
-        let Some(first) = state.goals.front_mut() else {
+        let Some(first) = state.goals.front() else {
             return Ok(false);
         };
         match self.follow_chain(state.hyps.as_slice(), chain, first)? {
             Some(end) => {
-                first.left = end.left;
-                first.right = end.right;
+                put_sides(state, end);
                 Ok(true)
             }
             None => Ok(false),
@@ -108,5 +109,15 @@ impl Basis<'_> {
             state.goals.pop_front();
         }
         Ok(holds)
+    }
+}
+
+// The sides take the place of those of the first goal.
+fn put_sides(state: &mut State, sides: Pair)
+    ensures { plain_state state.new ≡ put_sides (plain_state state.old) (plain_pair sides) }
+{
+    if let Some(first) = state.goals.front_mut() {
+        first.left = sides.left;
+        first.right = sides.right;
     }
 }

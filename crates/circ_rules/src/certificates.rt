@@ -3,7 +3,7 @@ ghost use Rattle.std.specs.Prelude.{◌≡◌, ◌≤◌, ◌<◌, ◌+◌, ◌�
 ghost use Rattle.std.specs.Prelude.{IsTrue, length, map, IfOk};
 ghost use Rattle.std.specs.List.{AllByRecursion, slice_get};
 ghost use Rattle.std.specs.Option.{IfSome, option_map};
-ghost use Rattle.circ_term.specs.Tree.{trees_of};
+ghost use Rattle.circ_term.specs.Tree.{App, trees_of};
 ghost use Rattle.circ_theory.specs.Limits.{argument_limit};
 ghost use Rattle.circ_theory.specs.Operators.{operator_of};
 ghost use Rattle.circ_theory.specs.Signature.{IsWellSorted};
@@ -14,7 +14,7 @@ ghost use Rattle.circ_proof.specs.Certified.{Certified, start_args, start_term, 
 ghost use Rattle.circ_proof.specs.PlainProof.{plain_certificates};
 ghost use Rattle.circ_rules.specs.Basis.{IsSortedBasis, links_of, certificates_in};
 ghost use Rattle.circ_rules.specs.Answers.{Gives};
-ghost use Rattle.circ_rules.specs.Deriving.{IsWithin};
+ghost use Rattle.circ_rules.specs.Deriving.{IsBuilt};
 ghost use Rattle.circ_rules.specs.Admitting.{IsStartOf, IsStart, AdmitsAt};
 
 use crate::basis::Basis;
@@ -72,14 +72,24 @@ pub fn start_at<'a>(
     let Some(sort) = decl.args.get(place.arg as usize) else {
         unreachable!()
     };
+    let term = start_application(alloc, place, decl)?;
+    Ok(Start {
+        place,
+        decl,
+        sort: *sort,
+        term,
+    })
+}
+
+// The operator of a place on variables, as at the start of the place.
+fn start_application(alloc: Global, place: Place, decl: &OpDecl) -> Result<Term, AllocError>
+    requires { length decl.now.args.items ≤ argument_limit }
+    ensures { IfOk result (λ term. term ≡ App place.op decl.now.result
+        (start_args place.arg 1 decl.now.args.items)) }
+{
     let args = start_args(alloc, place.arg, decl.args.as_slice())?;
     match Term::app(alloc, place.op, decl.result, args) {
-        Ok(term) => Ok(Start {
-            place,
-            decl,
-            sort: *sort,
-            term,
-        }),
+        Ok(term) => Ok(term),
         Err(TermFault::Memory) => Err(AllocError),
         Err(TermFault::TooBig { .. }) => unreachable!(),
         Err(TermFault::TooDeep { .. }) => unreachable!(),
@@ -98,7 +108,7 @@ pub fn start_term(
     requires hole { option_map (λ d. d.hole)
         (slice_get theory.now.derivatives derivative) ≡ Some start.now.decl.now.result }
     ensures exact { IfSome (slice_get theory.now.derivatives derivative)
-        (λ d. IfOk result (Gives (IsWithin
+        (λ d. IfOk result (Gives (IsBuilt
         (start_term (operator_of start.now.decl.now) start.now.place d)))) }
     ensures well_sorted { IfOk result (λ o. IfSome o (IsWellSorted theory.now.signature)) }
 {

@@ -11,7 +11,7 @@ ghost use Rattle.circ_theory.specs.Theory.{IsWellSortedGoal};
 ghost use Rattle.circ_proof.specs.Rules.{IsSortedState, Derive};
 ghost use Rattle.circ_proof.specs.PlainProof.{plain_state};
 ghost use Rattle.circ_rules.specs.Answers.{Applies, Gives};
-ghost use Rattle.circ_rules.specs.Deriving.{IsWithin, AreInstances, IsDerivativeOn};
+ghost use Rattle.circ_rules.specs.Deriving.{IsBuilt, AreInstances, IsDerivativeOn};
 ghost use Rattle.circ_rules.specs.Deriving.{AreDerivativesOn, moved};
 
 use crate::basis::Basis;
@@ -33,7 +33,7 @@ pub(crate) fn instance(
     requires { FitSome (slice_get theory.now.derivatives derivative) params.now term.now }
     ensures { IfSome (slice_get theory.now.derivatives derivative)
         (λ d. IfOk result
-        (Gives (IsWithin (derived d term.now (given_parameters params.now))))) }
+        (Gives (IsBuilt (derived d term.now (given_parameters params.now))))) }
 {
     match theory.instance(derivative, params, term) {
         Ok(made) => Ok(Some(made)),

@@ -1,6 +1,6 @@
 use Rattle.std.proofs.Common.{length}
 use Rattle.std.proofs.lemmas.Option.{slice_get-get_or}
-use Rattle.circ_chart.proofs.Marked.{no_token}
+use Rattle.circ_spelling.proofs.Marked.{no_token}
 use Rattle.circ_chart.proofs.Tops.{read_empty, read_step}
 use Rattle.circ_chart.proofs.readings.ask_sorts.Goals as goal
 

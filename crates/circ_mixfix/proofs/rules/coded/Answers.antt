@@ -1,6 +1,6 @@
 use Rattle.std.proofs.Common.{[], List, map, subst, append-nil}
 use Rattle.std.proofs.lemmas.List.{drop_all}
-use Rattle.circ_chart.specs.declared.grammar.Symbol as chart_symbol
+use Rattle.circ_spelling.specs.declared.grammar.Symbol as chart_symbol
 use Rattle.circ_mixfix.specs.SymbolLists.{symbol_of}
 use Rattle.circ_mixfix.specs.Coding.{AreSymbols}
 use Rattle.circ_mixfix.proofs.FromLeft.{next_symbol, numbers_rest, below_rest}

@@ -1,5 +1,5 @@
 use Rattle.std.proofs.Common.{◌++◌, List, drop, map}
-use Rattle.circ_chart.specs.declared.grammar.Symbol as chart_symbol
+use Rattle.circ_spelling.specs.declared.grammar.Symbol as chart_symbol
 use Rattle.circ_mixfix.specs.SymbolLists.{symbol_of}
 use Rattle.circ_mixfix.specs.Coding.{AreSymbols, HaveNumbers, AreBelow}
 use Rattle.circ_mixfix.proofs.rules.coded.Given as goal

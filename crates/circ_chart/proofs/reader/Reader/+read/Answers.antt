@@ -1,17 +1,17 @@
 use Rattle.std.proofs.Common.{◌≡◌, ◌+◌, [], Some, drop, length, sym, subst, ◌∙◌, arith, refl}
 use Rattle.std.proofs.lemmas.List.{length-drop}
 use Rattle.std.proofs.lemmas.Option.{slice_get_read}
-use Rattle.circ_chart.specs.declared.grammar.Rule.{Rule}
+use Rattle.circ_spelling.specs.declared.grammar.Rule.{Rule}
 use Rattle.circ_chart.specs.declared.memo.Question.TheVariants.{OfTerm, OfRow}
 use Rattle.circ_chart.specs.Few.{Or}
 use Rattle.circ_chart.specs.Members.{In, KeepsTerms}
 use Rattle.circ_chart.specs.Rows.{RowsOf}
 use Rattle.circ_chart.specs.Reader.{TermsOver, RulesOver, RuleOver, SplitOver, symbols_of, behind}
-use Rattle.circ_chart.proofs.Sizes.{small_rows}
-use Rattle.circ_chart.proofs.May.{may_reads}
+use Rattle.circ_chart.proofs.Small.{small_rows}
+use Rattle.circ_spelling.proofs.May.{may_reads}
 use Rattle.circ_chart.proofs.Memory.{listed_answer}
 use Rattle.circ_chart.proofs.Tables.{next_skips}
-use Rattle.circ_chart.proofs.Asking.{keeps_none, small_terms, found_ways, last_found, with_enough, rule_terms, no_last, no_last_term, going_first, going_on, going_full, going_end, short_parentheses, no_tokens, kept_word, rule_step, rules_full, rules_end, no_first, no_rest, split_kept, rule_passed, before_kept, before_none}
+use Rattle.circ_chart.proofs.Asking.{keeps_none, small_terms, found_ways, last_found, with_enough, rule_terms, no_last, no_last_term, going_first, going_on, going_full, going_end, short_parentheses, no_tokens, kept_word, rule_step, rules_full, rules_end, no_first, no_rest, no_others, split_kept, rule_passed, before_kept, before_none}
 use Rattle.circ_chart.proofs.reader.Reader.+read.Goals as goal
 
 -- terms
@@ -284,6 +284,14 @@ new_splits-returns-clause-rows t c =
     c.loop-middle-test.false c.loop-middle.invariant.going
 
 -- a split at one place
+pub split-returns-then-is_rest_known_none-clause-rows : goal.split-returns-then-is_rest_known_none-clause-rows
+split-returns-then-is_rest_known_none-clause-rows t c =
+    let a = c.args in
+    let r = a.self.now in
+    let x = a.gap in
+    let q = x.part.rule.now in
+    no_others r.grammar.now r.tokens.now q.op q.sort x.wanted.sort x.wanted.below (behind x.part) a.from a.to a.middle (c.is_rest_known_none.ensures c.if-is_rest_known_none.true)
+
 pub split-returns-then-is_known_none-clause-rows : goal.split-returns-then-is_known_none-clause-rows
 split-returns-then-is_known_none-clause-rows t c =
     let a = c.args in

@@ -1,7 +1,7 @@
 use Rattle.circ_chart.specs.declared.memo.Question.TheVariants.{OfTerm}
 use Rattle.circ_chart.specs.declared.few.Few.TheVariants.{Empty}
-use Rattle.circ_chart.specs.Reads.{Reads}
-use Rattle.circ_chart.proofs.May.{may_reads}
+use Rattle.circ_spelling.specs.Reads.{Reads}
+use Rattle.circ_spelling.proofs.May.{may_reads}
 use Rattle.circ_chart.proofs.Memory.{listed_answer}
 use Rattle.circ_chart.proofs.Asking.{none_of}
 use Rattle.circ_chart.proofs.reader.Reader.is_known_none.Goals as goal

@@ -1,7 +1,7 @@
 use Rattle.std.proofs.Common.{◌∙◌, ◌∷◌, [], List, length, ◌<◌, length-append, arith, subst, sym, ap}
 use Rattle.circ_term.specs.Tree.{Tree}
 use Rattle.circ_proof.specs.Table.{number_in, term_limit}
-use Rattle.circ_replay.specs.Roots.{IsKept}
+use Rattle.circ_replay.specs.Roots.{IsRooted}
 use Rattle.circ_replay.specs.declared.table.Root.{Root}
 use Rattle.circ_proof.proofs.Tables.{number_last}
 use Rattle.circ_replay.proofs.Rooted.{number_found, old_term, new_term, kept_push, kept_cut}
@@ -31,7 +31,7 @@ invariant_of-self-in-Ok-true c =
     let root = rw (← c.self.view_is) at c.requires in
     let new = new_term c.args.root c.self.invariant root e.added e.index e.keys c.if-not-fresh.false in
     let put = rw c.in-Ok-true.field-0-test at c.in-Ok-true.ensures in
-    let P : List Tree → Type 0 = λ ts. IsKept ts c.insert_full.new.self.keys in
+    let P : List Tree → Type 0 = λ ts. IsRooted ts c.insert_full.new.self.keys in
     subst P (sym put.0) (kept_push c.self.invariant new root put.1)
 
 pub invariant_of-self-in-Ok-false : goal.invariant_of-self-in-Ok-false
@@ -39,16 +39,16 @@ invariant_of-self-in-Ok-false c =
     let e = c.in_ok-number.ensures in
     let new = new_term c.args.root c.self.invariant (rw (← c.self.view_is) at c.requires) e.added e.index e.keys c.if-not-fresh.false in
     let put = rw c.in-Ok-false.field-0-test at c.in-Ok-false.ensures in
-    let P : List Tree → Type 0 = λ ts. IsKept ts c.truncate.new.self.keys in
-    let Q : List Root → Type 0 = IsKept c.self.inside.terms.items in
+    let P : List Tree → Type 0 = λ ts. IsRooted ts c.truncate.new.self.keys in
+    let Q : List Root → Type 0 = IsRooted c.self.inside.terms.items in
     subst P (sym put.0) (subst Q (sym c.truncate.ensures.keys) (kept_cut c.self.invariant new))
 
 pub invariant_of-self-in-Err : goal.invariant_of-self-in-Err
 invariant_of-self-in-Err c =
     let e = c.in_ok-number.ensures in
     let new = new_term c.args.root c.self.invariant (rw (← c.self.view_is) at c.requires) e.added e.index e.keys c.if-not-fresh.false in
-    let P : List Tree → Type 0 = λ ts. IsKept ts c.truncate-in-Err.new.self.keys in
-    let Q : List Root → Type 0 = IsKept c.self.inside.terms.items in
+    let P : List Tree → Type 0 = λ ts. IsRooted ts c.truncate-in-Err.new.self.keys in
+    let Q : List Root → Type 0 = IsRooted c.self.inside.terms.items in
     subst P (sym c.in-Err.ensures) (subst Q (sym c.truncate-in-Err.ensures.keys) (kept_cut c.self.invariant new))
 
 pub returns-in-Ok-true : goal.returns-in-Ok-true

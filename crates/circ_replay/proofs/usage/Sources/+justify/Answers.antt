@@ -1,4 +1,4 @@
-use Rattle.std.proofs.Common.{◌≡◌, ◌<◌, ◌∙◌, ℕ, ◌∷◌, [], ◌++◌, List, Some, None, Bool, IsTrue, ◌↔◌, length, map, take, get_or, refl, ap, sym, subst, arith}
+use Rattle.std.proofs.Common.{◌≡◌, ◌<◌, ◌∙◌, ℕ, ◌∷◌, [], ◌++◌, List, Some, None, Bool, IsTrue, IfOk, ◌↔◌, length, map, take, get_or, refl, ap, sym, subst, arith}
 use Rattle.std.proofs.Math.Seq.{take-append_seam}
 use Rattle.std.proofs.lemmas.List.{map-append}
 use Rattle.circ_term.specs.Tree.{Tree, App, none, sort_of}
@@ -22,14 +22,24 @@ each_justified-is_justified-requires t c =
     let d = depth_at c.args.whys.now c.loop-i.i c.index-whys-i.result c.loop-i-test.true c.index-whys-i.is in
     (omega arith, each_why (λ n. n < length table) c.args.whys.now c.loop-i.i c.index-whys-i.result c.requires c.loop-i-test.true c.index-whys-i.is)
 
-pub is_justified-each_justified-requires : goal.is_justified-each_justified-requires
-is_justified-each_justified-requires t c =
-    let table = c.args.self.now.table.now in
-    let e = ap plain_why c.in-Split.is ∙ split_plain c.in-Split.chain c.in-Split.term c.in-Split.whys in
-    let P : WhyOf ℕ → Type 0 = IsWhyInTable (length table) in
+pub is_justified-is_split-requires : goal.is_justified-is_split-requires
+is_justified-is_split-requires t c =
+    let x = c.in-Split in
+    let e = ap plain_why x.is ∙ split_plain x.chain x.term x.whys in
+    let P : WhyOf ℕ → Type 0 = IsWhyInTable (length c.args.self.now.table.now) in
     let d = ap why_depth e in
-    let same = ap (λ ws. whys_depth (plain_whys ws)) c.as_slice-in-Split-2.ensures.value in
-    (omega arith, rw c.as_slice-in-Split-2.ensures.value (subst P e c.requires).2)
+    let same = ap (λ ws. whys_depth (plain_whys ws)) c.as_slice-in-Split.ensures.value in
+    let there = subst P e c.requires in
+    (omega (arith, d, same), (there.0, (there.1, rw c.as_slice-in-Split.ensures.value there.2)))
+
+pub is_justified-returns-in-Split-clause-exact : goal.is_justified-returns-in-Split-clause-exact
+is_justified-returns-in-Split-clause-exact t c =
+    let x = c.in-Split in
+    let self = c.args.self.now in
+    let s : Setting = setting_of self (map plain_pair c.args.assumptions.now.items) in
+    let e = ap plain_why x.is ∙ split_plain x.chain x.term x.whys in
+    let P : WhyOf ℕ → Type 0 = λ w. IfOk c.is_split.result (λ b. IsTrue b ↔ Justified s (plain_pair c.args.pair.now) (resolved_why self.table.now w)) in
+    subst P (sym e) (rw c.as_slice-in-Split.ensures.value at c.is_split.ensures.exact)
 
 pub each_justified-returns-then-constants-whys-clause-exact : goal.each_justified-returns-then-constants-whys-clause-exact
 each_justified-returns-then-constants-whys-clause-exact t c = (
@@ -40,61 +50,50 @@ each_justified-returns-then-constants-whys-clause-exact t c = (
       (case_list (sort_of c.args.term.now) c.args.constants.now) c.args.constants.now (named c.args.self.now.table.now) c.args.whys.now r))),
 )
 
-pub is_justified-returns-in_default-clause-exact : goal.is_justified-returns-in_default-clause-exact
-is_justified-returns-in_default-clause-exact t c =
+pub is_split-each_justified-requires : goal.is_split-each_justified-requires
+is_split-each_justified-requires t c = (omega arith, c.requires.whys)
+
+pub is_split-returns-in_default-clause-exact : goal.is_split-returns-in_default-clause-exact
+is_split-returns-in_default-clause-exact t c =
     let table = c.args.self.now.table.now in
-    let chain = resolved_chain table (plain_chain c.in-Split.chain) in
-    let ws = map_whys (named table) (plain_whys c.in-Split.whys.items) in
+    let chain = resolved_chain table (plain_chain c.args.chain.now) in
     let s : Setting = setting_of c.args.self.now (map plain_pair c.args.assumptions.now.items) in
-    let p : Pair = plain_pair c.args.pair.now in
-    let e = ap plain_why c.in-Split.is ∙ split_plain c.in-Split.chain c.in-Split.term c.in-Split.whys in
-    let P : WhyOf ℕ → Type 0 = λ w. Justified s p (resolved_why table w) in
-    let Q : WhyOf ℕ → Type 0 = IsWhyInTable (length table) in
-    let u = named table c.in-Split.term in
-    let is = named_at table c.in-Split.term c.index-self-term.result (subst Q e c.requires).1 c.index-self-term.is ∙ c.index-self-term.is in
+    let u = named table c.args.term in
+    let is = named_at table c.args.term c.index-self-term.result c.requires.term c.index-self-term.is ∙ c.index-self-term.is in
     let sort : c.sort.result ≡ sort_of u = c.sort.ensures ∙ ap sort_of (sym is) in
     let none : cases_of s.theory (sort_of u) ≡ None = ap (cases_of s.theory) (sym sort) ∙ sym c.in_default.ensures in (
       (λ never. absurd (cc)),
-      (λ r. absurd (unlisted_split s p chain u ws none (subst P e r))),
+      (λ r. absurd (unlisted_split s (plain_pair c.args.pair.now) chain u (map_whys (named table) (plain_whys c.args.whys.now)) none r)),
     )
 
-pub is_justified-returns-in_default-2-clause-exact : goal.is_justified-returns-in_default-2-clause-exact
-is_justified-returns-in_default-2-clause-exact t c =
+pub is_split-returns-in_default-2-clause-exact : goal.is_split-returns-in_default-2-clause-exact
+is_split-returns-in_default-2-clause-exact t c =
     let table = c.args.self.now.table.now in
-    let chain = resolved_chain table (plain_chain c.in-Split.chain) in
-    let ws = map_whys (named table) (plain_whys c.in-Split.whys.items) in
-    let s : Setting = setting_of c.args.self.now (map plain_pair c.args.assumptions.now.items) in
-    let p : Pair = plain_pair c.args.pair.now in
-    let e = ap plain_why c.in-Split.is ∙ split_plain c.in-Split.chain c.in-Split.term c.in-Split.whys in
-    let P : WhyOf ℕ → Type 0 = λ w. Justified s p (resolved_why table w) in (
+    let chain = resolved_chain table (plain_chain c.args.chain.now) in
+    let s : Setting = setting_of c.args.self.now (map plain_pair c.args.assumptions.now.items) in (
       (λ never. absurd (cc)),
       (λ r. absurd
-          (stuck_split s p chain (named table c.in-Split.term) ws
-          (rw (c.in_default-2.is, c.as_slice-in-Split.ensures.value) at c.in_ok-left-in-Split.ensures) (subst P e r))),
+          (stuck_split s (plain_pair c.args.pair.now) chain (named table c.args.term) (map_whys (named table) (plain_whys c.args.whys.now))
+          (rw (c.in_default-2.is, c.as_slice.ensures.value) at c.in_ok-sides.ensures) r)),
     )
 
-pub is_justified-returns-in-Some-2-clause-exact : goal.is_justified-returns-in-Some-2-clause-exact
-is_justified-returns-in-Some-2-clause-exact t c =
+pub is_split-returns-clause-exact : goal.is_split-returns-clause-exact
+is_split-returns-clause-exact t c =
     let table = c.args.self.now.table.now in
     let s : Setting = setting_of c.args.self.now (map plain_pair c.args.assumptions.now.items) in
     let p : Pair = plain_pair c.args.pair.now in
-    let e = ap plain_why c.in-Split.is ∙ split_plain c.in-Split.chain c.in-Split.term c.in-Split.whys in
-    let chain = resolved_chain table (plain_chain c.in-Split.chain) in
+    let chain = resolved_chain table (plain_chain c.args.chain.now) in
     let ks = c.in-Some.constants.now in
-    let ws = map_whys (named table) (plain_whys c.in-Split.whys.items) in
-    let g = plain_pair c.in-Some-2.left in
-    let Q : WhyOf ℕ → Type 0 = IsWhyInTable (length table) in
-    let u = named table c.in-Split.term in
-    let is = named_at table c.in-Split.term c.index-self-term.result (subst Q e c.requires).1 c.index-self-term.is ∙ c.index-self-term.is in
+    let ws = map_whys (named table) (plain_whys c.args.whys.now) in
+    let g = plain_pair c.in-Some-2.sides in
+    let u = named table c.args.term in
+    let is = named_at table c.args.term c.index-self-term.result c.requires.term c.index-self-term.is ∙ c.index-self-term.is in
     let sort : c.sort.result ≡ sort_of u = c.sort.ensures ∙ ap sort_of (sym is) in
     let some : cases_of s.theory (sort_of u) ≡ Some ks = ap (cases_of s.theory) (sym sort) ∙ sym c.in-Some.ensures in
-    let leads = rw (c.in-Some-2.is, c.as_slice-in-Split.ensures.value) at c.in_ok-left-in-Split.ensures in
+    let leads = rw (c.in-Some-2.is, c.as_slice.ensures.value) at c.in_ok-sides.ensures in
     let R : Tree → Bool → Type 0 = λ v b. IsTrue b ↔ EachJustified s g v (case_list (sort_of v) ks) ks ws in
-    if_tells c.each_justified.result _ _ (rw c.as_slice-in-Split-2.ensures.value at c.each_justified.ensures.exact)
-    (λ b h.
-    let P : WhyOf ℕ → Type 0 = λ w. IsTrue b ↔ Justified s p (resolved_why table w) in
-    let S : Tree → Type 0 = λ v. R v b in
-    subst P (sym e) (split_tells s c.known.ensures p chain u ks ws g b some leads (subst S (sym is) h)))
+    if_tells c.each_justified.result _ _ c.each_justified.ensures.exact
+    (λ b h. let S : Tree → Type 0 = λ v. R v b in split_tells s c.known.ensures p chain u ks ws g b some leads (subst S (sym is) h))
 
 pub is_justified-returns-in-Same-clause-exact : goal.is_justified-returns-in-Same-clause-exact
 is_justified-returns-in-Same-clause-exact t c = rw c.in-Same.is (rw c.as_slice.ensures.value at c.meets.ensures)

@@ -13,7 +13,10 @@ invariant-each_justified-loop-i l = record {
 }
 
 abbrev pub decreases-each_justified : goal.decreases-each_justified
-decreases-each_justified l = 2 * whys_depth (plain_whys l.whys.now) + 1
+decreases-each_justified l = 3 * whys_depth (plain_whys l.whys.now) + 1
 
 abbrev pub decreases-is_justified : goal.decreases-is_justified
-decreases-is_justified l = 2 * why_depth (plain_why l.why.now)
+decreases-is_justified l = 3 * why_depth (plain_why l.why.now)
+
+abbrev pub decreases-is_split : goal.decreases-is_split
+decreases-is_split l = 3 * whys_depth (plain_whys l.whys.now) + 2

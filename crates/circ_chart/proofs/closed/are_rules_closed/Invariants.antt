@@ -1,5 +1,0 @@
-use Rattle.circ_chart.specs.May.{RulesClosed}
-use Rattle.circ_chart.proofs.closed.are_rules_closed.Given as goal
-
-abbrev pub invariant-loop-rule : goal.invariant-loop-rule
-invariant-loop-rule l = RulesClosed l.tokens l.starts l.rules l.rule-index l.place

@@ -1,7 +1,0 @@
-use Rattle.std.proofs.Common.{◌≤◌, ◌<◌, ◌+◌, ℕ}
-use Rattle.circ_chart.specs.Ends.{Has}
-use Rattle.circ_chart.specs.Reads.{IsToken}
-use Rattle.circ_chart.proofs.reached.after_word.Given as goal
-
-abbrev pub invariant-loop-place : goal.invariant-loop-place
-invariant-loop-place l = (m : ℕ) → l.low ≤ m → m < l.place → Has l.reached m → IsToken l.tokens m l.word → Has l.out (m + 1)

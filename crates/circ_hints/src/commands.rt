@@ -1,0 +1,56 @@
+//! The commands, and the words that each takes.
+
+/// A command, and the names of the words that it takes.
+#[derive(Clone, Copy)]
+pub(crate) struct CommandWords {
+    pub name: &'static str,
+    pub takes: &'static str,
+}
+
+/// All commands, in the order in which they are shown.
+pub(crate) const COMMANDS: [CommandWords; 9] = [
+    CommandWords {
+        name: "prove",
+        takes: "THEORY SCRIPT PROOF",
+    },
+    CommandWords {
+        name: "check",
+        takes: "THEORY PROOF",
+    },
+    CommandWords {
+        name: "relation",
+        takes: "THEORY PROOF",
+    },
+    CommandWords {
+        name: "show",
+        takes: "THEORY",
+    },
+    CommandWords {
+        name: "contexts",
+        takes: "THEORY",
+    },
+    CommandWords {
+        name: "reduce",
+        takes: "THEORY SCRIPT",
+    },
+    CommandWords {
+        name: "generate",
+        takes: "NUMBER",
+    },
+    CommandWords {
+        name: "library",
+        takes: "NAME",
+    },
+    CommandWords {
+        name: "same",
+        takes: "FIRST SECOND",
+    },
+];
+
+/// The command of this name.
+pub(crate) fn command_named(name: &str) -> Option<CommandWords> {
+    COMMANDS
+        .iter()
+        .find(|command| command.name == name)
+        .copied()
+}

@@ -1,0 +1,175 @@
+//! What the statements before a place declare, by their words alone.
+use crate::parts::{Part, first, is, next};
+use circ_lexer::Tokens;
+use circ_lib::lookup;
+use indexmap::IndexSet;
+use std::alloc::{AllocError, Global};
+use std::str;
+
+/// What names are wanted.
+#[derive(Clone, Copy, PartialEq, Eq)]
+pub(crate) enum Wanted {
+    /// The names of sorts.
+    Sorts,
+    /// The names of variables, and the words of the operators' forms.
+    Words,
+}
+
+/// The names of one kind that are declared.
+#[derive(Drop)]
+pub(crate) struct Known<'a> {
+    wanted: Wanted,
+    names: IndexSet<&'a [u8]>,
+}
+
+impl<'a> Known<'a> {
+    /// Nothing.
+    pub fn new(alloc: Global, wanted: Wanted) -> Known<'a> {
+        Known {
+            wanted,
+            names: IndexSet::new(alloc),
+        }
+    }
+
+    /// Whether a name is declared.
+    pub fn has(&self, name: &[u8]) -> bool {
+        self.names.contains(name)
+    }
+
+    /// Adds what the statements declare that end before a token, and the texts that they include.
+    pub fn add_before(
+        &mut self,
+        alloc: Global,
+        tokens: &Tokens<'a>,
+        end: usize,
+    ) -> Result<(), AllocError> {
+        let mut from = 0;
+        for n in 0..end {
+            if ends_statement(tokens, n, from) {
+                let part = part_between(from, n);
+                self.declare(tokens, part)?;
+                self.include(alloc, tokens, part)?;
+                from = next(n);
+            }
+        }
+        Ok(())
+    }
+
+    /// Adds what a text of the library declares, if the statement includes one: all but its variables.
+    fn include(
+        &mut self,
+        alloc: Global,
+        tokens: &Tokens<'_>,
+        part: Part,
+    ) -> Result<(), AllocError> {
+        let Some(text) = included(tokens, part) else {
+            return Ok(());
+        };
+        match Tokens::of(alloc, text) {
+            Ok(inside) => self.add_library(&inside),
+            Err(_) => Ok(()),
+        }
+    }
+
+    fn add_library(&mut self, tokens: &Tokens<'a>) -> Result<(), AllocError> {
+        let mut from = 0;
+        for n in 0..tokens.count() {
+            if ends_statement(tokens, n, from) {
+                if !is(tokens, from, b"var") && !is(tokens, from, b"vars") {
+                    self.declare(tokens, part_between(from, n))?;
+                }
+                from = next(n);
+            }
+        }
+        Ok(())
+    }
+
+    /// Adds what a statement declares.
+    fn declare(&mut self, tokens: &Tokens<'a>, part: Part) -> Result<(), AllocError> {
+        let end = first(tokens, part.from, part.to, b":").unwrap_or(part.to);
+        match self.wanted {
+            Wanted::Sorts if is_one_of(tokens, part.from, b"sort", b"sorts") => {
+                add_names(&mut self.names, tokens, part.nth(1), end)
+            }
+            Wanted::Words if is_one_of(tokens, part.from, b"var", b"vars") => {
+                add_names(&mut self.names, tokens, part.nth(1), end)
+            }
+            Wanted::Words if is_one_of(tokens, part.from, b"op", b"ops") => {
+                add_forms(&mut self.names, tokens, part.nth(1), end)
+            }
+            _ => Ok(()),
+        }
+    }
+}
+
+/// The statement between two tokens, of which the second ends it.
+fn part_between(from: usize, to: usize) -> Part {
+    Part {
+        from,
+        to,
+        is_ended: true,
+    }
+}
+
+/// Whether the token of a number is one of two words.
+fn is_one_of(tokens: &Tokens<'_>, number: usize, one: &[u8], other: &[u8]) -> bool {
+    is(tokens, number, one) || is(tokens, number, other)
+}
+
+/// Whether a statement that begins with a token ends at another one.
+fn ends_statement(tokens: &Tokens<'_>, number: usize, from: usize) -> bool {
+    is(tokens, number, b".") || (from == 0 && is(tokens, number, b"is"))
+}
+
+/// The text of the library that a statement includes.
+fn included(tokens: &Tokens<'_>, part: Part) -> Option<&'static [u8]> {
+    let is_inclusion = is(tokens, part.from, b"inc")
+        || is(tokens, part.from, b"including")
+        || is(tokens, part.from, b"pr")
+        || is(tokens, part.from, b"protecting");
+    if !is_inclusion {
+        return None;
+    }
+    lookup(tokens.token(part.nth(1))?)
+}
+
+/// Adds the tokens of a range.
+fn add_names<'a>(
+    names: &mut IndexSet<&'a [u8]>,
+    tokens: &Tokens<'a>,
+    from: usize,
+    to: usize,
+) -> Result<(), AllocError> {
+    for number in from..to {
+        if let Some(name) = tokens.token(number) {
+            names.insert(name)?;
+        }
+    }
+    Ok(())
+}
+
+/// Adds the words of the forms that the tokens of a range spell.
+fn add_forms<'a>(
+    words: &mut IndexSet<&'a [u8]>,
+    tokens: &Tokens<'a>,
+    from: usize,
+    to: usize,
+) -> Result<(), AllocError> {
+    for number in from..to {
+        if let Some(token) = tokens.token(number) {
+            add_pieces(words, token)?;
+        }
+    }
+    Ok(())
+}
+
+/// Adds what stands between the holes of a form.
+fn add_pieces<'a>(words: &mut IndexSet<&'a [u8]>, form: &'a [u8]) -> Result<(), AllocError> {
+    let Ok(text) = str::from_utf8(form) else {
+        return Ok(());
+    };
+    for piece in text.split('_') {
+        words.insert(piece.as_bytes())?;
+    }
+    Ok(())
+}

@@ -1,0 +1,30 @@
+//! Hints for standard error: where an answer points to, and what was expected there.
+//!
+//! Nothing is promised of a hint but that it is made safely and in finite time. [`Asked`] takes the words
+//! of a run apart; [`unreadable`], [`stuck_goal`], [`stuck_end`] and [`usage`] give the hint of
+//! an answer, from the same words and the same files. [`CaseCount`] sees how many cases an answer has printed.
+#![tactic(auto)]
+
+mod automata;
+mod case_count;
+mod causes;
+mod commands;
+mod drawing;
+mod known;
+mod marks;
+mod parts;
+mod run_words;
+mod scripts;
+mod shapes;
+mod signatures;
+mod stuck_hint;
+mod terms;
+mod texts;
+mod unreadable_hint;
+mod usage_hint;
+
+pub use case_count::CaseCount;
+pub use run_words::Asked;
+pub use stuck_hint::{stuck_end, stuck_goal};
+pub use unreadable_hint::{Source, SourceKind, unreadable};
+pub use usage_hint::usage;

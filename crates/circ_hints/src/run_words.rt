@@ -1,0 +1,100 @@
+//! The words of a run, without its options.
+use crate::unreadable_hint::SourceKind;
+
+/// The words of a run, of which the first is the program's name.
+#[derive(Clone, Copy)]
+pub struct Asked<'a> {
+    words: &'a [String],
+}
+
+impl<'a> Asked<'a> {
+    /// What these words ask for.
+    pub fn new(words: &'a [String]) -> Asked<'a> {
+        Asked { words }
+    }
+
+    /// The command; empty if there is none.
+    pub fn command(&self) -> &'a str {
+        match self.plain(0) {
+            Some(word) => word,
+            None => "",
+        }
+    }
+
+    /// The name of a file, by its number from 1.
+    pub fn file(&self, number: u8) -> Option<&'a str> {
+        self.plain(usize::from(number))
+    }
+
+    /// Whether the command has just so many words.
+    pub(crate) fn has_words(&self, count: usize) -> bool {
+        self.plain(count).is_some() && self.plain(count.saturating_add(1)).is_none()
+    }
+
+    /// What a file is to be read as, by its number from 1.
+    pub fn kind(&self, number: u8) -> SourceKind {
+        match self.command() {
+            "same" => SourceKind::Automaton,
+            _ if number <= 1 => SourceKind::Theory,
+            "prove" | "reduce" => SourceKind::Script,
+            _ => SourceKind::Proof,
+        }
+    }
+
+    /// Whether `--split` is there, by which cases make goals of others too.
+    pub fn splits(&self) -> bool {
+        self.words.iter().any(|word| word.as_str() == "--split")
+    }
+
+    /// The first word before `--` that looks like an option and is none.
+    pub(crate) fn unknown_option(&self) -> Option<&'a str> {
+        let mut is_value = false;
+        for word in self.words.iter().skip(1) {
+            let word = word.as_str();
+            if !is_value && word == "--" {
+                return None;
+            }
+            if !is_value && is_option(word) && !is_known(word) {
+                return Some(word);
+            }
+            is_value = !is_value && takes_value(word);
+        }
+        None
+    }
+
+    /// The word that so many come before which are no options and none of their values.
+    fn plain(&self, number: usize) -> Option<&'a str> {
+        let mut left = number;
+        let mut is_value = false;
+        let mut all_plain = false;
+        for word in self.words.iter().skip(1) {
+            let word = word.as_str();
+            if is_value {
+                is_value = false;
+            } else if !all_plain && is_option(word) {
+                all_plain = word == "--";
+                is_value = takes_value(word);
+            } else if left == 0 {
+                return Some(word);
+            } else {
+                left = left.saturating_sub(1);
+            }
+        }
+        None
+    }
+}
+
+/// Whether a word is an option, or looks like one.
+fn is_option(word: &str) -> bool {
+    word.len() > 1 && word.as_bytes().starts_with(b"-")
+}
+
+/// Whether there is an option of this word.
+fn is_known(word: &str) -> bool {
+    takes_value(word) || word.starts_with("--steps=") || word.starts_with("--derives=")
+}
+
+/// Whether an option is followed by its value.
+fn takes_value(word: &str) -> bool {
+    word == "--steps" || word == "--derives"
+}

@@ -1,0 +1,214 @@
+//! Where a statement of a theory leaves its form, and what was expected there.
+use crate::marks::Mark;
+use crate::parts::{Part, first, is, next};
+use crate::signatures::{operator, variables};
+use circ_lexer::Tokens;
+use circ_statement::is_name;
+
+/// The first words of statements.
+const STATEMENT_WORDS: [&[u8]; 13] = [
+    b"inc",
+    b"including",
+    b"pr",
+    b"protecting",
+    b"sort",
+    b"sorts",
+    b"op",
+    b"ops",
+    b"var",
+    b"vars",
+    b"eq",
+    b"ceq",
+    b"derivative",
+];
+
+/// The mark of a statement of a theory whose form is wrong, by its number from 1.
+pub(crate) fn statement_shape(tokens: &Tokens<'_>, source: &[u8], number: u64, part: Part) -> Mark {
+    if number == 1 {
+        return head(tokens, b"theory");
+    }
+    if let Some(mark) = glued_stop(tokens, part) {
+        return mark;
+    }
+    if !part.is_ended {
+        return end(tokens, part);
+    }
+    if !begins_statement(tokens, part.from) {
+        return Mark::at(part.from, "no statement begins with this word");
+    }
+    if let Some(mark) = missing_stop(tokens, source, part) {
+        return mark;
+    }
+    by_word(tokens, part)
+}
+
+/// Whether a token begins a statement.
+fn begins_statement(tokens: &Tokens<'_>, number: usize) -> bool {
+    if is(tokens, number, b"cases") {
+        return true;
+    }
+    for word in STATEMENT_WORDS {
+        if is(tokens, number, word) {
+            return true;
+        }
+    }
+    false
+}
+
+/// The mark of a head, which is `WORD NAME is`, perhaps in a parenthesis.
+pub(crate) fn head(tokens: &Tokens<'_>, word: &[u8]) -> Mark {
+    let from = if is(tokens, 0, b"(") { 1 } else { 0 };
+    if !is(tokens, from, word) {
+        return Mark::at(
+            from,
+            "the text begins with `theory NAME is`, or `automaton NAME is`",
+        );
+    }
+    if !names(tokens, next(from), next(next(from))) {
+        return Mark::at(next(from), "a name is expected here");
+    }
+    Mark::at(next(next(from)), "`is` is expected here")
+}
+
+/// Whether all tokens of a range can be names.
+pub(crate) fn names(tokens: &Tokens<'_>, from: usize, to: usize) -> bool {
+    no_name(tokens, from, to).is_none()
+}
+
+/// The first token of a range that can be no name.
+pub(crate) fn no_name(tokens: &Tokens<'_>, from: usize, to: usize) -> Option<usize> {
+    for number in from..to {
+        match tokens.token(number) {
+            Some(token) if is_name(token) => {}
+            _ => return Some(number),
+        }
+    }
+    None
+}
+
+/// The first token that ends with a stop which should stand by itself.
+pub(crate) fn glued_stop(tokens: &Tokens<'_>, part: Part) -> Option<Mark> {
+    for number in part.from..part.to {
+        if let Some(token) = tokens.token(number) {
+            if token.len() > 1 && token.ends_with(b".") {
+                return Some(Mark::at_last_byte(number, "the stop needs a blank before it"));
+            }
+        }
+    }
+    None
+}
+
+/// The mark of what stands behind the last stop of a theory and is no end.
+fn end(tokens: &Tokens<'_>, part: Part) -> Mark {
+    if is(tokens, part.from, b"endtheory") {
+        return Mark::at(
+            part.nth(1),
+            "the text ends with `endtheory`, and with `)` if it begins with `(`",
+        );
+    }
+    match first(tokens, part.from, part.to, b"endtheory") {
+        Some(number) => Mark::behind(number.saturating_sub(1), "` .` is expected here"),
+        None => Mark::behind(
+            part.to.saturating_sub(1),
+            "the text is cut here: ` .` or `endtheory` is expected",
+        ),
+    }
+}
+
+/// The place before a later line that begins a statement.
+fn missing_stop(tokens: &Tokens<'_>, source: &[u8], part: Part) -> Option<Mark> {
+    for number in part.from..part.to {
+        if number != part.from
+            && begins_statement(tokens, number)
+            && begins_line(tokens, source, number)
+        {
+            return Some(Mark::behind(number.saturating_sub(1), "` .` is expected here"));
+        }
+    }
+    None
+}
+
+/// Whether a token stands on another line than the one before it.
+fn begins_line(tokens: &Tokens<'_>, source: &[u8], number: usize) -> bool {
+    let before = match tokens.span(number.saturating_sub(1)) {
+        Some(span) => span.to,
+        None => return false,
+    };
+    let begin = match tokens.span(number) {
+        Some(span) => span.from,
+        None => return false,
+    };
+    source
+        .iter()
+        .take(begin)
+        .skip(before)
+        .any(|byte| *byte == b'\n')
+}
+
+/// The mark of a statement, by its first word.
+fn by_word(tokens: &Tokens<'_>, part: Part) -> Mark {
+    match tokens.token(part.from) {
+        Some(b"sort" | b"sorts") => list_of_names(tokens, part),
+        Some(b"op" | b"ops") => operator(tokens, part),
+        Some(b"var" | b"vars") => variables(tokens, part),
+        Some(b"eq") => equation(tokens, part),
+        Some(b"ceq") => conditional(tokens, part),
+        Some(b"cases") => cases(tokens, part),
+        _ => one_name(tokens, part),
+    }
+}
+
+/// The mark of a statement that takes names.
+fn list_of_names(tokens: &Tokens<'_>, part: Part) -> Mark {
+    match no_name(tokens, part.nth(1), part.to) {
+        Some(number) => Mark::at(number, "a name is expected here"),
+        None => Mark::behind(part.from, "a name is expected here"),
+    }
+}
+
+/// The mark of a statement that takes one name.
+fn one_name(tokens: &Tokens<'_>, part: Part) -> Mark {
+    if part.to > part.nth(2) {
+        return Mark::behind(part.nth(1), "` .` is expected here");
+    }
+    list_of_names(tokens, part)
+}
+
+/// The mark of an equation: one `=` stands in it.
+pub(crate) fn equation(tokens: &Tokens<'_>, part: Part) -> Mark {
+    let Some(sign) = first(tokens, part.from, part.to, b"=") else {
+        return Mark::behind(part.to.saturating_sub(1), "`=` and a term are expected");
+    };
+    match first(tokens, next(sign), part.to, b"=") {
+        Some(second) => Mark::at(second, "a second `=`: is a ` .` missing before?"),
+        None => Mark::at(part.from, "an equation is `eq TERM = TERM .`"),
+    }
+}
+
+/// The mark of an equation with conditions.
+fn conditional(tokens: &Tokens<'_>, part: Part) -> Mark {
+    match first(tokens, part.from, part.to, b"if") {
+        None => Mark::behind(
+            part.to.saturating_sub(1),
+            "`if` and conditions are expected",
+        ),
+        Some(number) => Mark::at(
+            number,
+            "a conditional equation is `ceq TERM = TERM if TERM = TERM /\\ .. .`",
+        ),
+    }
+}
+
+/// The mark of a case list.
+fn cases(tokens: &Tokens<'_>, part: Part) -> Mark {
+    if !names(tokens, part.nth(1), part.nth(2)) {
+        return Mark::at(part.nth(1), "a sort is expected here");
+    }
+    if !is(tokens, part.nth(2), b"by") {
+        return Mark::at(part.nth(2), "`by` is expected here");
+    }
+    match no_name(tokens, part.nth(3), part.to) {
+        Some(number) => Mark::at(number, "the name of a constant is expected here"),
+        None => Mark::at(part.from, "a case list is `cases SORT by NAME.. .`"),
+    }
+}

@@ -1,0 +1,77 @@
+//! The hint for words that are no command.
+use crate::commands::{COMMANDS, CommandWords, command_named};
+use crate::run_words::Asked;
+use crate::texts::push_line;
+use std::alloc::{AllocError, Global};
+
+/// The hint for words that are no command, of which the first is the program's name: which word is
+/// at fault, and the table of commands.
+pub fn usage(alloc: Global, words: &[String]) -> Result<String, AllocError> {
+    let mut out = String::new(alloc);
+    push_usage(&mut out, words)?;
+    Ok(out)
+}
+
+fn push_usage(out: &mut String, words: &[String]) -> Result<(), AllocError> {
+    if !asks_for_help(words) {
+        push_fault(out, Asked::new(words))?;
+    }
+    for command in COMMANDS {
+        push_words(out, "  circ ", command.name, " ", command.takes)?;
+    }
+    out.push_str(
+        "  --steps N (0 to 1000000) and --derives N (0 to 10000) bound what a command does\n",
+    )
+}
+
+/// Whether the words ask for the table.
+fn asks_for_help(words: &[String]) -> bool {
+    match words.get(1) {
+        Some(word) => word.as_str() == "--help" || word.as_str() == "-h",
+        None => false,
+    }
+}
+
+/// Appends what is wrong with the words.
+fn push_fault(out: &mut String, asked: Asked<'_>) -> Result<(), AllocError> {
+    if let Some(option) = asked.unknown_option() {
+        return push_line(out, "circ: there is no option ", option);
+    }
+    let name = asked.command();
+    match command_named(name) {
+        Some(command) => push_words(
+            out,
+            "circ: ",
+            command.name,
+            " needs ",
+            needs(asked, command),
+        ),
+        None if name.is_empty() => out.push_str("circ: a command is missing\n"),
+        None => push_line(out, "circ: there is no command ", name),
+    }
+}
+
+/// Appends a line of a command and what it takes.
+fn push_words(
+    out: &mut String,
+    before: &str,
+    name: &str,
+    between: &str,
+    takes: &str,
+) -> Result<(), AllocError> {
+    out.push_str(before)?;
+    out.push_str(name)?;
+    push_line(out, between, takes)
+}
+
+/// What a command takes that the words do not have.
+fn needs(asked: Asked<'_>, command: CommandWords) -> &'static str {
+    if !asked.has_words(command.takes.split(' ').count()) {
+        return command.takes;
+    }
+    match command.name {
+        "library" => "BITS, STREAM, TREE, LANG or PROC",
+        "generate" => "a number from 2 to 1000, without a sign or zeros before it",
+        _ => "each option once, with a number within its limits, without a sign or zeros before it",
+    }
+}

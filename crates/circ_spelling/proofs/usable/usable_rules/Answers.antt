@@ -1,0 +1,14 @@
+use Rattle.std.proofs.Common.{refl, length}
+use Rattle.std.proofs.lemmas.Option.{slice_get_read}
+use Rattle.circ_spelling.specs.Usable.{AreMarked}
+use Rattle.circ_spelling.proofs.Marked.{no_rules, rule_step}
+use Rattle.circ_spelling.proofs.usable.usable_rules.Goals as goal
+
+pub loop-rule-init : goal.loop-rule-init
+loop-rule-init c = no_rules (λ r. AreMarked c.args.marks.now r.symbols.items) c.args.rules.now c.new-some.result.items c.new-some.ensures.items
+
+pub loop-rule-preserved : goal.loop-rule-preserved
+loop-rule-preserved c =
+    let rs = c.args.rules.now in
+    rule_step (λ r. AreMarked c.args.marks.now r.symbols.items) rs c.loop-rule.some.items c.push_usable.new.some.items c.loop-rule.rule-index c.rule-item.result
+    (slice_get_read rs (length rs) c.loop-rule.rule-index c.rule-item.result refl c.loop-rule-test.true c.rule-item.is) c.in_ok-push_usable.ensures c.loop-rule.invariant

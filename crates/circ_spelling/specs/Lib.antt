@@ -1,0 +1,9 @@
+pub mod Generates
+pub mod Reads
+pub mod Words
+pub mod Steps
+pub mod Ends
+pub mod May
+pub mod Sorts
+pub mod Usable
+pub mod Limits
