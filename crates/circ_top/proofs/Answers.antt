@@ -14,7 +14,7 @@ use Rattle.circ_plain_search.specs.Search.{Limits as SearchLimits}
 use Rattle.circ_top.specs.Answer.{Succeeds, Comes, RefusesCommand, DueAnswer, no_command, work_done, refusal, words_unread, AnswersDue, Succeeded}
 use Rattle.circ_top.specs.Causes.{AtFile, HasLongProof, IsPastLimit, IsReadFault, IsUnwritten, FailsToPut, IsWriteFault, IsQuietRun}
 use Rattle.circ_top.specs.Check.{report_text, refused, accepted, Accepts, Rejects, FilesRead}
-use Rattle.circ_top.specs.Command.{Command, Check, Prove, Show, Contexts, Reduce, Same, Regex, Upgrade, Library, Generate, Asks, IsNotStored, stored_name}
+use Rattle.circ_top.specs.Command.{Command, Check, Prove, Show, Contexts, Reduce, Same, Regex, Upgrade, Differ, Library, Generate, Asks, IsNotStored, stored_name}
 use Rattle.circ_search.specs.Plain.{plain_limits}
 use Rattle.circ_top.specs.Prove.{IsSearched, StoresProof}
 use Rattle.circ_top.specs.Delivery.{Prints, Delivers, whole, write_failed, memory_wanted, text_wanted}
@@ -45,6 +45,8 @@ use Rattle.circ_top.proofs.RegexOutcomes.{GoalsBehave, AlikeMatch, equality_matc
 use Rattle.circ_top.specs.Upgrade.{upgraded_file, StoresUpgraded}
 use Rattle.circ_top.proofs.Upgraded.{upgraded_fits, upgraded_alike}
 use Rattle.circ_top.proofs.UpgradeOutcomes.{upgrade_not_ok, upgrade_not_refused, unread_upgrade, past_upgrade, unwritten_upgrade, upgraded_short}
+use Rattle.circ_top.specs.Differ.{IsTried}
+use Rattle.circ_top.proofs.DifferOutcomes.{differ_not_ok, differ_not_refused, unread_differ, past_differ, unwritten_differ, differ_end, differ_not_long, differ_stores_nothing}
 use Rattle.circ_top.specs.Same.{IsCompared}
 use Rattle.circ_top.proofs.SameOutcomes.{same_not_ok, same_not_refused, unread_same, past_same, unwritten_same, compared_end}
 use Rattle.circ_top.proofs.Agreeing.{DueIs, outcome, nothing_read, no_memory_left}
@@ -60,6 +62,7 @@ module _ (before after : ShelfState) where
   command_not_ok (Same first second) s r e = same_not_ok first second before after s r e
   command_not_ok (Regex limits left right proof) s r e = regex_not_ok left right s r e
   command_not_ok (Upgrade theory proof new) s r e = upgrade_not_ok theory proof before after s r e
+  command_not_ok (Differ limits theory script) s r e = differ_not_ok theory script before after s r e
   command_not_ok (Library text) s r e = let never : status.Memory ≡ status.Ok = sym r ∙ e in cc
   command_not_ok (Generate k) s r e = let never : status.Memory ≡ status.Ok = sym r ∙ e in cc
 
@@ -76,6 +79,7 @@ module _ (before after : ShelfState) where
   unread_command (Same first second) s n r e = unread_same first second before after s n r e
   unread_command (Regex limits left right proof) s n r e = absurd (regex_not_unread left right s n r e)
   unread_command (Upgrade theory proof new) s n r e = unread_upgrade theory proof before after s n r e
+  unread_command (Differ limits theory script) s n r e = unread_differ theory script before after s n r e
   unread_command (Library text) s n r e = absurd (let never : status.Memory ≡ status.ReadFault n = sym r ∙ e in cc)
   unread_command (Generate k) s n r e = absurd (let never : status.Memory ≡ status.ReadFault n = sym r ∙ e in cc)
 
@@ -90,6 +94,7 @@ module _ (before after : ShelfState) where
   past_command (Same first second) s file n r e = past_same first second before after s file n r e
   past_command (Regex limits left right proof) s file n r e = absurd (regex_not_past left right s file n r e)
   past_command (Upgrade theory proof new) s file n r e = past_upgrade theory proof before after s file n r e
+  past_command (Differ limits theory script) s file n r e = past_differ theory script before after s file n r e
   past_command (Library text) s file n r e = absurd (let never : status.Memory ≡ status.TooLong file n = sym r ∙ e in cc)
   past_command (Generate k) s file n r e = absurd (let never : status.Memory ≡ status.TooLong file n = sym r ∙ e in cc)
 
@@ -102,6 +107,7 @@ module _ (before after : ShelfState) where
   unwritten_command (Same first second) s n r e = unwritten_same first second before after s n r e
   unwritten_command (Regex limits left right proof) s n r e = regex_not_unwritten left right s n r e
   unwritten_command (Upgrade theory proof new) s n r e = unwritten_upgrade theory proof before after s n r e
+  unwritten_command (Differ limits theory script) s n r e = unwritten_differ theory script before after s n r e
   unwritten_command (Library text) s n r e = let never : status.Memory ≡ status.WriteFault n = sym r ∙ e in cc
   unwritten_command (Generate k) s n r e = let never : status.Memory ≡ status.WriteFault n = sym r ∙ e in cc
 
@@ -126,6 +132,7 @@ module _ (before : ShelfState) where
   work_end (Same first second) s text stored a = (compared_end a.0.compared.word s a.0.compared.status_is).0
   work_end (Regex limits left right proof) s text stored a = search_end LANG (plain_limits limits) proof (equality_goals a.e a.f) s text stored a.ends
   work_end (Upgrade theory proof new) s text stored a = ok_end s a.0
+  work_end (Differ limits theory script) s text stored a = differ_end a.th limits.steps limits.derives a.sc.blocks s text stored a.ends
   work_end (Library given) s text stored a = ok_end s a.0
   work_end (Generate k) s text stored a = (generates_end k (ending s text stored) a).0
 
@@ -145,6 +152,8 @@ module _ (before : ShelfState) where
   work_succeeds (Regex limits left right proof) s text stored a e =
       let P : Status → Type 0 = λ x. IsEqualitySearched limits left right proof (ending x text stored) in subst P e a
   work_succeeds (Upgrade theory proof new) s text stored a e = a.1
+  work_succeeds (Differ limits theory script) s text stored a e =
+      let P : Status → Type 0 = λ x. IsTried limits theory script (ending x text stored) before in subst P e a
   work_succeeds (Library given) s text stored a e = a.1
   work_succeeds (Generate k) s text stored a e = let P : Status → Type 0 = λ x. Generates k (ending x text stored) in subst P e a
 
@@ -161,6 +170,8 @@ module _ (before : ShelfState) where
   work_past (Regex limits left right proof) s text stored file n a e =
       let P : Status → Type 0 = λ x. IsEqualitySearched limits left right proof (ending x text stored) in (text, stored, subst P e a)
   work_past (Upgrade theory proof new) s text stored file n a e = let never : status.Ok ≡ status.TooLong file n = sym a.0 ∙ e in cc
+  work_past (Differ limits theory script) s text stored file n a e =
+      absurd (differ_not_long a.th limits.steps limits.derives a.sc.blocks s text stored file n a.ends e)
   work_past (Library given) s text stored file n a e = let never : status.Ok ≡ status.TooLong file n = sym a.0 ∙ e in cc
   work_past (Generate k) s text stored file n a e = let P : Status → Type 0 = λ x. Generates k (ending x text stored) in (text, stored, subst P e a)
 
@@ -183,6 +194,8 @@ module _ (before : ShelfState) where
       ap Some (sym (search_name LANG (plain_limits limits) proof (equality_goals a.e a.f) s text x (subst P e a.ends)))
   work_name (Upgrade theory proof new) s text stored x a e =
       ap (λ y. Some y.name) (same_Some (upgraded_file new a.1.p) x (sym a.1.stored_is ∙ e))
+  work_name (Differ limits theory script) s text stored x a e =
+      nothing_stored stored x (differ_stores_nothing a.th limits.steps limits.derives a.sc.blocks s text stored a.ends) e
   work_name (Library given) s text stored x a e = nothing_stored stored x a.1.1 e
   work_name (Generate k) s text stored x a e = nothing_stored stored x (generates_end k (ending s text stored) a).1 e
 
@@ -334,6 +347,7 @@ module _ (words : List (List ℕ)) (before after : ShelfState) (start end : Sink
       rejects (Same first second) s i f e p q = absurd (same_not_refused first second before after s n f e)
       rejects (Regex limits left right proof) s i f e p q = absurd (regex_not_refused left right s n f e)
       rejects (Upgrade theory proof new) s i f e p q = absurd (upgrade_not_refused theory proof before after s n f e)
+      rejects (Differ limits theory script) s i f e p q = absurd (differ_not_refused theory script before after s n f e)
       rejects (Library text) s i f e p q = absurd (let never : status.Memory ≡ status.Refused n = sym f ∙ e in cc)
       rejects (Generate k) s i f e p q = absurd (let never : status.Memory ≡ status.Refused n = sym f ∙ e in cc)
 

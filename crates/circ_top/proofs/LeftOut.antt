@@ -14,7 +14,7 @@ use Rattle.circ_script.specs.ReadsAsScript.{ReadsAsScript, ScriptOrCause}
 use Rattle.circ_script.specs.declared.job.Job.{Job}
 use Rattle.circ_script.specs.declared.job.Job.TheVariants as job
 use Rattle.circ_top.specs.Check.{report_text, no_theory, no_proof, refused, accepted}
-use Rattle.circ_top.specs.Command.{Command, Check, Prove, Show, Contexts, Reduce, Same, Regex, Upgrade, Library, Generate, Asks}
+use Rattle.circ_top.specs.Command.{Command, Check, Prove, Show, Contexts, Reduce, Same, Regex, Upgrade, Differ, Library, Generate, Asks}
 use Rattle.circ_files.specs.Files.{Held, Refusal, RefusesFile, Holds}
 use Rattle.circ_top.specs.InMemory.{HoldsFilesOf, HoldsFiles}
 use Rattle.circ_plain_search.specs.Numbering.{Found}
@@ -36,6 +36,9 @@ use Rattle.circ_regex.specs.Lang.{LANG}
 use Rattle.circ_top.specs.Regex.{equality_goals, no_left, no_right, both_read}
 use Rattle.circ_top.specs.Upgrade.{upgraded_text, upgraded_file, given_anew}
 use Rattle.circ_top.specs.Upgrade as upgrade
+use Rattle.circ_top.specs.Differ as differ
+use Rattle.circ_refute.specs.PlainRefutation.{Decision, refutations, goals_in}
+use Rattle.circ_found.specs.Differing.{decision_ending}
 use Rattle.circ_top.specs.Contexts.{not_listed, listed}
 use Rattle.circ_show.specs.PlacesText.{place_lines}
 use Rattle.circ_plain_search.proofs.Existing.{some_set}
@@ -182,6 +185,18 @@ module _ (reads : (bytes : List ℕ) → ReadOrRefused bytes) (proofs : ProofsDe
       (λ s x. let text : List ℕ = refusal_text (Upgrade theory proof new) s in none_is s text None
       (command (Upgrade theory proof new) s text None i (upgrade.no_theory s x)))
 
+  no_differ : (limits : Limits) (theory script : List ℕ) → Asks words (Differ limits theory script) → HoldsFilesOf held (Differ limits theory script) → ⊥
+  no_differ limits theory script i h = file_decides held 1 theory PlainTheoryRefusal ReadsAsPlain h.0 plain_reads
+      (λ th rt. file_decides held 2 script (ScriptRefusal th job.Prove) (ReadsAsScript th job.Prove) h.1 (scripts th job.Prove)
+      (λ q rq. let x : Decision = refutations th 1 limits.derives limits.steps (goals_in q.blocks) in
+      let e : Ending = decision_ending th limits.steps limits.derives x in none_is e.status e.text e.stored
+      (command (Differ limits theory script) e.status e.text e.stored i
+      (differ.tried e.status e.text e.stored th q rt rq (record { decision = x; found = refl; is = refl }))))
+      (λ s x. let text : List ℕ = refusal_text (Differ limits theory script) s in none_is s text None
+      (command (Differ limits theory script) s text None i (differ.no_script s th rt x))))
+      (λ s x. let text : List ℕ = refusal_text (Differ limits theory script) s in none_is s text None
+      (command (Differ limits theory script) s text None i (differ.no_theory s x)))
+
   no_contexts : (budget : ℕ) (theory : List ℕ) → Asks words (Contexts budget theory) → HoldsFilesOf held (Contexts budget theory) → ⊥
   no_contexts budget theory i h = file_decides held 1 theory PlainTheoryRefusal ReadsAsPlain h plain_reads
       (λ th rt. some_set th budget (λ G tss g. let text : List ℕ = place_lines th.signature G in none_is status.Ok text None
@@ -211,6 +226,7 @@ module _ (reads : (bytes : List ℕ) → ReadOrRefused bytes) (proofs : ProofsDe
   no_command_left (Same first second) i h = no_same first second i h
   no_command_left (Regex limits left right proof) i h = no_regex limits left right proof i
   no_command_left (Upgrade theory proof new) i h = no_upgrade theory proof new i h
+  no_command_left (Differ limits theory script) i h = no_differ limits theory script i h
   no_command_left (Library text) i h = none_is status.Ok text None (command (Library text) status.Ok text None i ((refl, refl), refl))
 
   pub nothing_left : HoldsFiles words held → ⊥

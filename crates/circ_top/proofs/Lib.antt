@@ -33,3 +33,5 @@ pub mod NoFaults
 pub mod TheoryTexts
 pub mod LeftOut
 pub mod SecondProves
+pub mod DifferOutcomes
+pub mod ToldApart

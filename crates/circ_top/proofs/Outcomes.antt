@@ -7,7 +7,7 @@ use Rattle.circ_top.specs.Check.{CheckOutcome}
 use Rattle.circ_top.specs.Reduce.{ReduceOutcome}
 use Rattle.circ_top.specs.Show.{ShowOutcome}
 use Rattle.circ_top.specs.Causes.{PrintsOutcome, IsOutcomeOrFault, PrintsPartOf, AnswersOutcome}
-use Rattle.circ_top.specs.Command.{Command, Check, Prove, Show, Contexts, Reduce, Same, Regex, Upgrade, Library, Generate, Asks}
+use Rattle.circ_top.specs.Command.{Command, Check, Prove, Show, Contexts, Reduce, Same, Regex, Upgrade, Differ, Library, Generate, Asks}
 use Rattle.circ_top.specs.Delivery.{Delivers, whole, write_failed, memory_wanted, text_wanted}
 use Rattle.circ_files.specs.Like.{IsLike, itself}
 use Rattle.circ_found.specs.Ending.{Stored}
@@ -32,6 +32,7 @@ use Rattle.circ_top.proofs.SameOutcomes.{AutomataOnce, due_same, compared_outcom
 use Rattle.circ_top.proofs.RegexOutcomes.{ExpressionsOnce, due_regex, equality_outcome, regex_agrees, equality_agrees}
 use Rattle.circ_top.specs.Upgrade.{UpgradeOutcome}
 use Rattle.circ_top.proofs.UpgradeOutcomes.{due_upgrade, upgraded_outcome, upgrade_agrees, upgraded_agrees}
+use Rattle.circ_top.proofs.DifferOutcomes.{due_differ, tried_outcome, differ_agrees, tried_agrees}
 use Rattle.circ_top.proofs.Proofs.{ProofsOnce}
 use Rattle.circ_files.proofs.Scripts.{ScriptsOnce}
 use Rattle.circ_top.proofs.Requests.{same_command}
@@ -47,6 +48,7 @@ due_refusal words before after (Reduce budget theory script) s t i r = due_reduc
 due_refusal words before after (Same first second) s t i r = due_same first second before after words s t i r
 due_refusal words before after (Regex limits left right proof) s t i r = due_regex limits left right proof words before after i s r
 due_refusal words before after (Upgrade theory proof new) s t i r = due_upgrade theory proof new before after words s t i r
+due_refusal words before after (Differ limits theory script) s t i r = due_differ limits theory script before after words s t i r
 due_refusal words before after (Library text) s t i r =
     let P : Status → Type 0 = λ x. DueIs words before after x (refusal_text (Library text) x) None in subst P (sym r) no_memory_left
 due_refusal words before after (Generate n) s t i r =
@@ -71,6 +73,7 @@ due_work (Regex limits left right proof) s text stored before t a = equality_out
 due_work (Upgrade theory proof new) s text stored before t a =
     let P : Status → Type 0 = λ x. UpgradeOutcome before.holds theory proof new x text stored in
     subst P (sym a.0) (upgraded_outcome theory proof new before before text stored t a.1)
+due_work (Differ limits theory script) s text stored before t a = tried_outcome limits theory script before before s text stored t a
 due_work (Library given) s text stored before t a = ((a.0, a.1.0), a.1.1)
 due_work (Generate n) s text stored before t a = a
 
@@ -106,6 +109,8 @@ module _ (once : ReadsOnce) (proofs : ProofsOnce) (scripts : ScriptsOnce) (autom
   refusal_agrees (Regex limits left right proof) s r text stored c f =
       regex_agrees limits left right proof expressions searches before after r s text stored f c
   refusal_agrees (Upgrade theory proof new) s r text stored c f = upgrade_agrees once proofs theory proof new before after t r s text stored f c
+  refusal_agrees (Differ limits theory script) s r text stored c f =
+      differ_agrees (reads_plain_once once) scripts limits theory script before after t r s text stored f c
   refusal_agrees (Library given) s r text stored c f =
       let P : Status → Type 0 = λ x. AgreesWith before after s text stored x (refusal_text (Library given) x) None in subst P (sym f) memory_with
   refusal_agrees (Generate n) s r text stored c f =
@@ -139,6 +144,8 @@ module _ (once : ReadsOnce) (proofs : ProofsOnce) (scripts : ScriptsOnce) (autom
   work_agrees (Upgrade theory proof new) s r text given stored other c a =
       let P : Status → Type 0 = λ x. AgreesWith before after s text stored x given other in
       subst P (sym a.0) (upgraded_agrees once proofs theory proof new before after t given other a.1 s text stored c)
+  work_agrees (Differ limits theory script) s r text given stored other c a =
+      tried_agrees (reads_plain_once once) scripts limits theory script before after t r given other a s text stored c
   work_agrees (Library words) s r text given stored other c a =
       let P : List ℕ → Type 0 = λ x. IsLike status.Ok text status.Ok x in
       let Q : Status → Type 0 = λ x. Agrees before after x text status.Ok given in

@@ -5,7 +5,7 @@ use Rattle.circ_outer.specs.Sink.{SinkState}
 use Rattle.circ_top.specs.Contexts.{IsListed}
 use Rattle.circ_generate.specs.Generating.{Generates}
 use Rattle.circ_top.specs.Check.{IsAccepted, RefusesCheck}
-use Rattle.circ_top.specs.Command.{Command, Check, Prove, Show, Contexts, Reduce, Same, Regex, Upgrade, Library, Generate, Asks, IsNoCommand}
+use Rattle.circ_top.specs.Command.{Command, Check, Prove, Show, Contexts, Reduce, Same, Regex, Upgrade, Differ, Library, Generate, Asks, IsNoCommand}
 use Rattle.circ_top.specs.Delivery.{Prints}
 use Rattle.circ_found.specs.Ending.{ending}
 use Rattle.circ_top.specs.Library.{RefusesLibrary}
@@ -15,6 +15,7 @@ use Rattle.circ_top.specs.Regex.{IsEqualitySearched, RefusesRegex}
 use Rattle.circ_top.specs.Same.{IsCompared, RefusesSame}
 use Rattle.circ_top.specs.Show.{IsShown}
 use Rattle.circ_top.specs.Upgrade.{IsUpgraded, RefusesUpgrade}
+use Rattle.circ_top.specs.Differ.{IsTried, RefusesDiffer}
 use Rattle.circ_found.specs.Ending.{Stored}
 use Rattle.circ_top.specs.Storing.{HoldsAfter, Ends}
 use Rattle.circ_top.specs.Refusals.{usage_text, refusal_text}
@@ -33,6 +34,7 @@ Succeeds (Reduce budget theory script) text stored before = IsReduced budget the
 Succeeds (Same first second) text stored before = IsCompared first second status.Ok text before × (stored ≡ None)
 Succeeds (Regex limits left right proof) text stored before = IsEqualitySearched limits left right proof (ending status.Ok text stored)
 Succeeds (Upgrade theory proof new) text stored before = IsUpgraded theory proof new text stored before
+Succeeds (Differ limits theory script) text stored before = IsTried limits theory script (ending status.Ok text stored) before
 Succeeds (Library given) text stored before = (text ≡ given) × (stored ≡ None)
 Succeeds (Generate n) text stored before = Generates n (ending status.Ok text stored)
 
@@ -41,6 +43,7 @@ abbrev pub Comes : Command → Status → (text : List ℕ) → (stored : Option
 Comes (Prove limits theory script proof) s text stored before = IsSearched limits theory script proof (ending s text stored) before
 Comes (Same first second) s text stored before = IsCompared first second s text before × (stored ≡ None)
 Comes (Regex limits left right proof) s text stored before = IsEqualitySearched limits left right proof (ending s text stored)
+Comes (Differ limits theory script) s text stored before = IsTried limits theory script (ending s text stored) before
 Comes (Generate n) s text stored before = Generates n (ending s text stored)
 Comes c s text stored before = (s ≡ status.Ok) × Succeeds c text stored before
 
@@ -54,6 +57,7 @@ RefusesCommand (Reduce budget theory script) before after s = RefusesReduce budg
 RefusesCommand (Same first second) before after s = RefusesSame first second before after s
 RefusesCommand (Regex limits left right proof) before after s = RefusesRegex left right s
 RefusesCommand (Upgrade theory proof new) before after s = RefusesUpgrade theory proof before after s
+RefusesCommand (Differ limits theory script) before after s = RefusesDiffer theory script before after s
 RefusesCommand (Library given) before after s = RefusesLibrary s
 RefusesCommand (Generate n) before after s = s ≡ status.Memory
 

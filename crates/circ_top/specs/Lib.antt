@@ -22,3 +22,4 @@ pub mod Causes
 pub mod InMemory
 pub mod Complete
 pub mod SecondProve
+pub mod Differ

@@ -58,6 +58,13 @@ pub(crate) enum Request<'a> {
         theory: &'a str,
         script: &'a str,
     },
+    /// An experiment that tells the sides of a script file's goal apart over a theory file is looked
+    /// for within limits.
+    Differ {
+        limits: Limits,
+        theory: &'a str,
+        script: &'a str,
+    },
     /// The automata of two files are compared.
     Same {
         first: &'a str,
@@ -178,6 +185,13 @@ fn of_two<'a>(words: &Words<'_, 'a>, first: &'a str, second: &'a str) -> Option<
     }
     if is_word(words.name, b"same") {
         return Some(Request::Same { first, second });
+    }
+    if is_word(words.name, b"differ") {
+        return Some(Request::Differ {
+            limits: words.limits,
+            theory: first,
+            script: second,
+        });
     }
     let Some(report) = report_of(words.name) else {
         return None;

@@ -4,6 +4,7 @@ use Rattle.circ_files.proofs.Readings.{ReadsOnce, reads_once}
 use Rattle.circ_top.proofs.Proofs.{ProofsOnce, proofs_come_once}
 use Rattle.circ_files.proofs.Scripts.{ScriptsOnce, scripts_once}
 use Rattle.circ_top.proofs.SameOutcomes.{AutomataOnce, automata_once}
+use Rattle.circ_top.proofs.ToldApart.{answers_apart}
 use Rattle.circ_top.proofs.Outcomes.{answers_outcome, answers_come, answers_memory}
 use Rattle.circ_top.proofs.command.circ.Goals as goal
 
@@ -27,6 +28,10 @@ pub returns-clause-upgraded : goal.returns-clause-upgraded
 returns-clause-upgraded g c =
     answers_upgraded _ _ _ _ _ c.answer.result (rw c.as_slice.ensures.value at c.answer.ensures.answers)
     (rw c.as_slice.ensures.value at c.answer.ensures.quiet)
+
+pub returns-clause-told_apart : goal.returns-clause-told_apart
+returns-clause-told_apart g c =
+    answers_apart _ _ _ _ _ c.answer.result (rw c.as_slice.ensures.value at c.answer.ensures.answers) (rw c.as_slice.ensures.value at c.answer.ensures.quiet)
 
 pub returns-clause-succeeded : goal.returns-clause-succeeded
 returns-clause-succeeded g c = answers_succeed _ _ _ _ _ c.answer.result (rw c.as_slice.ensures.value at c.answer.ensures.answers) (rw c.as_slice.ensures.value at c.answer.ensures.quiet)
