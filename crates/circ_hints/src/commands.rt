@@ -18,10 +18,6 @@ pub(crate) const COMMANDS: [CommandWords; 12] = [
         takes: "THEORY PROOF",
     },
     CommandWords {
-        name: "upgrade",
-        takes: "THEORY PROOF NEW",
-    },
-    CommandWords {
         name: "relation",
         takes: "THEORY PROOF",
     },
@@ -38,10 +34,6 @@ pub(crate) const COMMANDS: [CommandWords; 12] = [
         takes: "THEORY SCRIPT",
     },
     CommandWords {
-        name: "differ",
-        takes: "THEORY SCRIPT",
-    },
-    CommandWords {
         name: "generate",
         takes: "NUMBER",
     },
@@ -50,12 +42,20 @@ pub(crate) const COMMANDS: [CommandWords; 12] = [
         takes: "NAME",
     },
     CommandWords {
-        name: "same",
-        takes: "FIRST SECOND",
+        name: "differ",
+        takes: "THEORY SCRIPT",
     },
     CommandWords {
         name: "regex",
         takes: "LEFT RIGHT PROOF",
+    },
+    CommandWords {
+        name: "upgrade",
+        takes: "THEORY PROOF NEW",
+    },
+    CommandWords {
+        name: "same",
+        takes: "FIRST SECOND",
     },
 ];
 

@@ -21,12 +21,12 @@ impl<'a> Asked<'a> {
         }
     }
 
-    /// The name of a file, by its number from 1. The words of `regex` are expressions, and name none.
+    /// The name of a file, by its number from 1. The words of `regex` are no files.
     pub fn file(&self, number: u8) -> Option<&'a str> {
-        match self.command() {
-            "regex" => None,
-            _ => self.plain(usize::from(number)),
+        if self.command() == "regex" {
+            return None;
         }
+        self.plain(usize::from(number))
     }
 
     /// Whether the command has just so many words.
