@@ -33,7 +33,7 @@ use Rattle.circ_files.specs.declared.status.Status.TheVariants as status
 use Rattle.circ_top.proofs.CheckOutcomes.{check_not_ok, check_refused, unread_check, past_check, unwritten_check}
 use Rattle.circ_files.proofs.FileFaults.{file_fault_not_ok, file_fault_not_refused}
 use Rattle.circ_top.proofs.Outcomes.{due_is}
-use Rattle.circ_top.proofs.ProveOutcomes.{prove_not_ok, prove_not_refused, unread_prove, past_prove, unwritten_prove}
+use Rattle.circ_top.proofs.ScriptOutcomes.{script_not_ok, script_not_refused, unread_script, past_script, unwritten_script}
 use Rattle.circ_generate.specs.Generating.{Generates}
 use Rattle.circ_top.proofs.GenerateOutcomes.{generates_end}
 use Rattle.circ_top.proofs.Searches.{IsSearchEnd, search_end, search_name, search_ok}
@@ -53,7 +53,7 @@ use Rattle.circ_top.proofs.Requests.{same_command}
 module _ (before after : ShelfState) where
   command_not_ok : (c : Command) (s : Status) → RefusesCommand c before after s → s ≡ status.Ok → ⊥
   command_not_ok (Check report theory proof) s r e = check_not_ok theory proof before after s r e
-  command_not_ok (Prove limits theory script proof) s r e = prove_not_ok theory script before after s r e
+  command_not_ok (Prove limits theory script proof) s r e = script_not_ok theory script before after s r e
   command_not_ok (Show theory) s r e = file_fault_not_ok 1 theory TheoryRefusal before after s e r
   command_not_ok (Contexts budget theory) s r e = file_fault_not_ok 1 theory PlainTheoryRefusal before after s e r
   command_not_ok (Reduce budget theory script) s r e = reduce_not_ok budget theory script before after s r e
@@ -69,7 +69,7 @@ module _ (before after : ShelfState) where
   unread_command : (c : Command) (s : Status) (n : ℕ) → RefusesCommand c before after s → s ≡ status.ReadFault n
       → (n ≡ after.count) × AtFile before c (λ f name. IsUnread name before after)
   unread_command (Check report theory proof) s n r e = unread_check theory proof before after s n r e
-  unread_command (Prove limits theory script proof) s n r e = unread_prove theory script before after s n r e
+  unread_command (Prove limits theory script proof) s n r e = unread_script theory script before after s n r e
   unread_command (Show theory) s n r e = let P : Status → Type 0 = IsFileFault 1 theory TheoryRefusal before after in subst P e r
   unread_command (Contexts budget theory) s n r e = let P : Status → Type 0 = IsFileFault 1 theory PlainTheoryRefusal before after in subst P e r
   unread_command (Reduce budget theory script) s n r e = unread_reduce budget theory script before after s n r e
@@ -82,7 +82,7 @@ module _ (before after : ShelfState) where
   past_command : (c : Command) (s : Status) (file n : ℕ) → RefusesCommand c before after s → s ≡ status.TooLong file n
       → AtFile before c (λ f name. (f ≡ file) × IsTooLong name n before)
   past_command (Check report theory proof) s file n r e = past_check theory proof before after s file n r e
-  past_command (Prove limits theory script proof) s file n r e = past_prove theory script before after s file n r e
+  past_command (Prove limits theory script proof) s file n r e = past_script theory script before after s file n r e
   past_command (Show theory) s file n r e = let P : Status → Type 0 = IsFileFault 1 theory TheoryRefusal before after in let x = subst P e r in (sym x.0, x.1)
   past_command (Contexts budget theory) s file n r e =
       let P : Status → Type 0 = IsFileFault 1 theory PlainTheoryRefusal before after in let x = subst P e r in (sym x.0, x.1)
@@ -95,7 +95,7 @@ module _ (before after : ShelfState) where
 
   unwritten_command : (c : Command) (s : Status) (n : ℕ) → RefusesCommand c before after s → s ≡ status.WriteFault n → ⊥
   unwritten_command (Check report theory proof) s n r e = unwritten_check theory proof before after s n r e
-  unwritten_command (Prove limits theory script proof) s n r e = unwritten_prove theory script before after s n r e
+  unwritten_command (Prove limits theory script proof) s n r e = unwritten_script theory script before after s n r e
   unwritten_command (Show theory) s n r e = let P : Status → Type 0 = IsFileFault 1 theory TheoryRefusal before after in subst P e r
   unwritten_command (Contexts budget theory) s n r e = let P : Status → Type 0 = IsFileFault 1 theory PlainTheoryRefusal before after in subst P e r
   unwritten_command (Reduce budget theory script) s n r e = unwritten_reduce budget theory script before after s n r e
@@ -327,7 +327,7 @@ module _ (words : List (List ℕ)) (before after : ShelfState) (start end : Sink
       rejects (Check report theory proof) s i f e p q =
           let P : Status → Type 0 = λ x. Prints (refusal_text (Check report theory proof) x) start end in
           record { report = report; theory = theory; proof = proof; asks = i; refused = check_refused theory proof before after s n f e; quiet = q; prints = subst P e p }
-      rejects (Prove limits theory script proof) s i f e p q = absurd (prove_not_refused theory script before after s n f e)
+      rejects (Prove limits theory script proof) s i f e p q = absurd (script_not_refused theory script before after s n f e)
       rejects (Show theory) s i f e p q = absurd (command_not_refused before after theory s n f e)
       rejects (Contexts budget theory) s i f e p q = absurd (file_fault_not_refused 1 theory PlainTheoryRefusal before after s n e f)
       rejects (Reduce budget theory script) s i f e p q = absurd (reduce_not_refused budget theory script before after s n f e)

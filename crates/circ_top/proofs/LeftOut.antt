@@ -30,8 +30,8 @@ use Rattle.circ_search.specs.Plain.{plain_limits}
 use Rattle.circ_auto.specs.Text.{ReadsAsAutomaton}
 use Rattle.circ_top.specs.Same.{AutomatonRefusal, SecondRefusal, ReadsOver, compared_status, compared_text, no_first, no_second, compared}
 use Rattle.circ_top.proofs.SameDecides.{AutomataDecided, first_decides, second_decides, compared_decides}
-use Rattle.circ_top.specs.Prove.{searched}
-use Rattle.circ_top.specs.Prove as prove
+use Rattle.circ_top.specs.Scripted.{goals_done}
+use Rattle.circ_top.specs.Scripted as scripted
 use Rattle.circ_regex.specs.Lang.{LANG}
 use Rattle.circ_top.specs.Regex.{equality_goals, no_left, no_right, both_read}
 use Rattle.circ_top.specs.Upgrade.{upgraded_text, upgraded_file, given_anew}
@@ -153,11 +153,11 @@ module _ (reads : (bytes : List ℕ) → ReadOrRefused bytes) (proofs : ProofsDe
       (λ q rq. searches th q.blocks (plain_limits limits)
       (λ f x. let e : Ending = found_ending th.signature proof f in none_is e.status e.text e.stored
       (command (Prove limits theory script proof) e.status e.text e.stored i
-      (searched e.status e.text e.stored th q rt rq (record { found = f; search = x; is = refl })))))
+      (goals_done e.status e.text e.stored th q rt rq (record { found = f; search = x; is = refl })))))
       (λ s x. let text : List ℕ = refusal_text (Prove limits theory script proof) s in none_is s text None
-      (command (Prove limits theory script proof) s text None i (prove.no_script s th rt x))))
+      (command (Prove limits theory script proof) s text None i (scripted.no_script s th rt x))))
       (λ s x. let text : List ℕ = refusal_text (Prove limits theory script proof) s in none_is s text None
-      (command (Prove limits theory script proof) s text None i (prove.no_theory s x)))
+      (command (Prove limits theory script proof) s text None i (scripted.no_theory s x)))
 
   no_regex : (limits : Limits) (left right proof : List ℕ) → Asks words (Regex limits left right proof) → ⊥
   no_regex limits left right proof i = word_decides 1 left

@@ -22,8 +22,11 @@ use Rattle.circ_found.specs.Ending.{ending}
 use Rattle.circ_top.specs.Contexts.{ContextsOutcome}
 use Rattle.circ_top.proofs.ContextsOutcomes.{due_contexts, listed_outcome, contexts_agrees, listed_agrees}
 use Rattle.circ_top.proofs.GenerateOutcomes.{generates_alike}
-use Rattle.circ_top.proofs.ProveOutcomes.{due_prove, searched_outcome, prove_agrees, searched_agrees}
-use Rattle.circ_top.proofs.Searches.{SearchesOnce}
+use Rattle.circ_top.specs.Prove.{ProofSought}
+use Rattle.circ_top.proofs.ScriptOutcomes.{EndsOnce, due_script, done_outcome, refused_agrees, done_agrees}
+use Rattle.circ_top.proofs.Searches.{SearchesOnce, one_ending}
+use Rattle.circ_search.specs.Plain.{plain_limits}
+use Rattle.circ_turn.specs.declared.search.Limits.{Limits}
 use Rattle.circ_top.proofs.CheckOutcomes.{due_check, accepted_outcome, check_agrees, accepted_agrees}
 use Rattle.circ_top.proofs.ShowOutcomes.{due_show, shown_outcome, show_agrees, shown_agrees}
 use Rattle.circ_top.proofs.ReduceOutcomes.{due_reduce, reduced_outcome, reduce_agrees, reduced_agrees}
@@ -40,7 +43,8 @@ due_refusal : (words : List (List ℕ)) (before after : ShelfState) (c : Command
     → RefusesCommand c before after s
     → DueIs words before after s (refusal_text c s) None
 due_refusal words before after (Check report theory proof) s t i r = due_check words report theory proof before after s t i r
-due_refusal words before after (Prove limits theory script proof) s t i r = due_prove limits theory script proof before after words s t i r
+due_refusal words before after (Prove limits theory script proof) s t i r =
+    due_script (Prove limits theory script proof) theory script (ProofSought limits proof) before after words s (λ u text x. x) t i r
 due_refusal words before after (Show theory) s t i r = due_show words theory before after s t i r
 due_refusal words before after (Contexts budget theory) s t i r = due_contexts words budget theory before after s t i r
 due_refusal words before after (Reduce budget theory script) s t i r = due_reduce budget theory script before after words s t i r
@@ -57,7 +61,8 @@ due_work : (c : Command) (s : Status) (text : List ℕ) (stored : Option Stored)
 due_work (Check report theory proof) s text stored before t a =
     let P : Status → Type 0 = λ x. CheckOutcome before.holds report theory proof x text in
     (subst P (sym a.0) (accepted_outcome theory proof before before report text t a.1.0), a.1.1)
-due_work (Prove limits theory script proof) s text stored before t a = searched_outcome limits theory script proof before before s text stored t a
+due_work (Prove limits theory script proof) s text stored before t a =
+    done_outcome (Prove limits theory script proof) theory script (ProofSought limits proof) before before s text stored t a
 due_work (Show theory) s text stored before t a =
     let P : Status → Type 0 = λ x. ShowOutcome before.holds theory x text in (subst P (sym a.0) (shown_outcome theory text before t a.1.0), a.1.1)
 due_work (Contexts budget theory) s text stored before t a =
@@ -73,6 +78,10 @@ due_work (Upgrade theory proof new) s text stored before t a =
     subst P (sym a.0) (upgraded_outcome theory proof new before before text stored t a.1)
 due_work (Library given) s text stored before t a = ((a.0, a.1.0), a.1.1)
 due_work (Generate n) s text stored before t a = a
+
+-- a search ends in one way
+one_search : SearchesOnce → (limits : Limits) (name : List ℕ) → EndsOnce (ProofSought limits name)
+one_search searches limits name th blocks d e = one_ending th (plain_limits limits) name blocks searches d e
 
 pub due_is : (words : List (List ℕ)) (before after : ShelfState) (s : Status) (text : List ℕ) (stored : Option Stored) → before.tells ≡ true
     → DueAnswer words before after s text stored → DueIs words before after s text stored
@@ -91,7 +100,8 @@ module _ (once : ReadsOnce) (proofs : ProofsOnce) (scripts : ScriptsOnce) (autom
       stored_nothing before after s text stored r (refusal_text (Check report theory proof) r) c.1
       (check_agrees once proofs report theory proof before after t r s text f c.0)
   refusal_agrees (Prove limits theory script proof) s r text stored c f =
-      prove_agrees (reads_plain_once once) scripts searches limits theory script proof before after t r s text stored f c
+      refused_agrees (reads_plain_once once) scripts (Prove limits theory script proof) theory script (ProofSought limits proof)
+      (one_search searches limits proof) before after t r s text stored f c
   refusal_agrees (Show theory) s r text stored c f =
       stored_nothing before after s text stored r (refusal_text (Show theory) r) c.1 (show_agrees once theory before after t r s text f c.0)
   refusal_agrees (Contexts budget theory) s r text stored c f =
@@ -124,7 +134,8 @@ module _ (once : ReadsOnce) (proofs : ProofsOnce) (scripts : ScriptsOnce) (autom
   work_agrees (Check report theory proof) s r text given stored other c a =
       ok_agrees s r text given stored other a.0 a.1.1 c.1 (accepted_agrees once proofs report theory proof before after t given a.1.0 s text c.0)
   work_agrees (Prove limits theory script proof) s r text given stored other c a =
-      searched_agrees (reads_plain_once once) scripts searches limits theory script proof before after t r given other a s text stored c
+      done_agrees (reads_plain_once once) scripts (Prove limits theory script proof) theory script (ProofSought limits proof)
+      (one_search searches limits proof) before after t r given other a s text stored c
   work_agrees (Show theory) s r text given stored other c a =
       ok_agrees s r text given stored other a.0 a.1.1 c.1 (shown_agrees once theory before after t printed_once given a.1.0 s text c.0)
   work_agrees (Contexts budget theory) s r text given stored other c a =

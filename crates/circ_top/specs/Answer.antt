@@ -9,7 +9,8 @@ use Rattle.circ_top.specs.Command.{Command, Check, Prove, Show, Contexts, Reduce
 use Rattle.circ_top.specs.Delivery.{Prints}
 use Rattle.circ_found.specs.Ending.{ending}
 use Rattle.circ_top.specs.Library.{RefusesLibrary}
-use Rattle.circ_top.specs.Prove.{IsSearched, RefusesProve}
+use Rattle.circ_top.specs.Prove.{IsSearched}
+use Rattle.circ_top.specs.Scripted.{RefusesScript}
 use Rattle.circ_top.specs.Reduce.{IsReduced, RefusesReduce}
 use Rattle.circ_top.specs.Regex.{IsEqualitySearched, RefusesRegex}
 use Rattle.circ_top.specs.Same.{IsCompared, RefusesSame}
@@ -47,7 +48,7 @@ Comes c s text stored before = (s ≡ status.Ok) × Succeeds c text stored befor
 -- why a command's work is refused
 abbrev pub RefusesCommand : Command → (before after : ShelfState) → Status → Type 0
 RefusesCommand (Check report theory proof) before after s = RefusesCheck theory proof before after s
-RefusesCommand (Prove limits theory script proof) before after s = RefusesProve theory script before after s
+RefusesCommand (Prove limits theory script proof) before after s = RefusesScript theory script before after s
 RefusesCommand (Show theory) before after s = IsTheoryFault theory before after s
 RefusesCommand (Contexts budget theory) before after s = IsPlainTheoryFault theory before after s
 RefusesCommand (Reduce budget theory script) before after s = RefusesReduce budget theory script before after s

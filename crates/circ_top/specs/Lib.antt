@@ -7,6 +7,7 @@ pub mod Check
 pub mod CheckProof
 pub mod Incoming
 pub mod Storing
+pub mod Scripted
 pub mod Prove
 pub mod Same
 pub mod Regex
