@@ -1,5 +1,5 @@
 -- That the goals of a script can be searched.
-use Rattle.std.proofs.Common.{◌≡◌, ◌≢◌, ◌≤◌, ◌^◌, ℕ, List, [], ◌∷◌, ◌++◌, max, subst, sym, arith}
+use Rattle.std.proofs.Common.{◌≢◌, ◌≤◌, ◌^◌, ℕ, List, [], ◌∷◌, ◌++◌, max, subst, sym, arith}
 use Rattle.std.specs.List.{AllByRecursion, Contains}
 use Rattle.circ_term.specs.Tree.{Tree, Trees, Var, App, none, more}
 use Rattle.circ_theory.specs.Fresh.{above, all_above, above_pairs}

@@ -2,13 +2,12 @@
 use Rattle.std.specs.Prelude.{◌≡◌, ◌+◌, ℕ, List, [], ◌∷◌, ◌++◌, length, map, flat_map, Some, None, false, nat_lt, if◌then◌else◌, codes, decimal}
 use Rattle.circ_term.specs.Tree.{Tree}
 use Rattle.circ_theory.specs.Signature.{Signature}
-use Rattle.circ_theory.specs.Theory.{Theory, Pair, goal}
+use Rattle.circ_theory.specs.Theory.{Theory, Pair}
 use Rattle.circ_theory.specs.declared.parts.Goal.{Goal}
 use Rattle.circ_mixfix.specs.Printing.{text_of_term}
 use Rattle.circ_proof.specs.Proof.{Block, Proof, steps_in}
 use Rattle.circ_proof.specs.Rules.{ProofStep, Derive}
 use Rattle.circ_proof_text.specs.ProofText.{proof_text}
-use Rattle.circ_script.specs.Script.{Script}
 use Rattle.circ_show.specs.GoalsText.{pair_lines, goal_lines}
 use Rattle.circ_plain_search.specs.Numbering.{Found, Proved, LongTable, Stuck, Spent, TooBig, TooDeep}
 use Rattle.circ_plain_search.specs.PlainSearch.{PlainSearch}

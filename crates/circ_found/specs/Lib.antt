@@ -1,3 +1,4 @@
 pub mod Ending
 pub mod Answering
 pub mod Searchable
+pub mod Differing

@@ -107,7 +107,7 @@ fn proof_ending<'a>(
 }
 
 /// Nothing is to be stored.
-fn unstored<'a>(status: Status, text: Vec<u8>) -> Ending<'a>
+pub(crate) fn unstored<'a>(status: Status, text: Vec<u8>) -> Ending<'a>
     ensures { plain_ending result ≡ ending status text.items None }
 {
     Ending {
@@ -132,7 +132,7 @@ fn too_long<'a>(alloc: Global, count: u64) -> Result<Ending<'a>, AllocError>
     ))
 }
 
-fn spent<'a>(
+pub(crate) fn spent<'a>(
     alloc: Global,
     rewrites: u64,
     derives: u64,
@@ -151,7 +151,7 @@ fn spent<'a>(
     Ok(unstored(status, text))
 }
 
-fn too_big<'a>(alloc: Global, nodes: u64) -> Result<Ending<'a>, AllocError>
+pub(crate) fn too_big<'a>(alloc: Global, nodes: u64) -> Result<Ending<'a>, AllocError>
     ensures { IfOk result (λ e. plain_ending e ≡
         ending (status.TooBig nodes) (too_big_text nodes) None) }
 {
@@ -160,7 +160,7 @@ fn too_big<'a>(alloc: Global, nodes: u64) -> Result<Ending<'a>, AllocError>
     Ok(unstored(Status::TooBig { nodes }, text))
 }
 
-fn too_deep<'a>(alloc: Global, depth: u64) -> Result<Ending<'a>, AllocError>
+pub(crate) fn too_deep<'a>(alloc: Global, depth: u64) -> Result<Ending<'a>, AllocError>
     ensures { IfOk result (λ e. plain_ending e ≡
         ending (status.TooDeep depth) (too_deep_text depth) None) }
 {

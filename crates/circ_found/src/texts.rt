@@ -87,7 +87,8 @@ pub(crate) fn stuck_text(
     Ok(out)
 }
 
-fn put_side(
+/// Appends a line for a side of a goal.
+pub(crate) fn put_side(
     alloc: Global,
     theory: &Theory,
     label: &[u8],

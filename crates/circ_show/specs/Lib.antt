@@ -5,3 +5,4 @@ pub mod GoalsText
 pub mod Observed
 pub mod SortMarks
 pub mod PlacesText
+pub mod EntryText

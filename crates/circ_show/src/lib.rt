@@ -8,6 +8,7 @@
 
 mod attributes;
 mod contexts;
+mod entries;
 mod goals;
 pub mod laws;
 mod lines;
@@ -16,6 +17,7 @@ mod relation;
 mod theories;
 
 pub use contexts::contexts_text;
+pub use entries::entry_text;
 pub use goals::goals_text;
 pub use observed::unobserved;
 pub use relation::relation_text;

@@ -32,12 +32,12 @@ mutual
   fills_left σ τ (Var n s) = inl refl
   fills_left σ τ (App f s ts) = (refl, refl, all_fill_left σ τ ts)
 
-  all_fill_left : (σ τ : Substitution) (ts : Trees) → FillsAll (Mixed σ τ) ts (instances σ ts)
+  pub all_fill_left : (σ τ : Substitution) (ts : Trees) → FillsAll (Mixed σ τ) ts (instances σ ts)
   all_fill_left σ τ none = tt
   all_fill_left σ τ (more t ts) = (fills_left σ τ t, all_fill_left σ τ ts)
 
 mutual
-  fills_right : (σ τ : Substitution) (t : Tree) → Fills (Mixed σ τ) t (instance τ t)
+  pub fills_right : (σ τ : Substitution) (t : Tree) → Fills (Mixed σ τ) t (instance τ t)
   fills_right σ τ (Var n s) = inr refl
   fills_right σ τ (App f s ts) = (refl, refl, all_fill_right σ τ ts)
 
@@ -135,7 +135,7 @@ mutual
 -- ---- a variable that stands once
 
 mutual
-  stands_at : (k s : ℕ) (q : List ℕ) (t : Tree) → at t q ≡ Some (Var k s) → stands k s (occurrences t) ≡ true
+  pub stands_at : (k s : ℕ) (q : List ℕ) (t : Tree) → at t q ≡ Some (Var k s) → stands k s (occurrences t) ≡ true
   stands_at k s [] t e = ap (λ x. stands k s (occurrences x)) (same_Some t (Var k s) e) ∙ (rw (eq-eqb k k refl, eq-eqb s s refl) refl)
   stands_at k s (i ∷ q) (Var n r) e = nowhere q (Var k s) e
   stands_at k s (i ∷ q) (App f r ts) e = all_stand_at k s i q ts e

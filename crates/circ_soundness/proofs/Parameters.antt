@@ -27,7 +27,7 @@ plug_parameter h t p n s = rw (ne_eqb (suc n) 0 (λ e. absurd (omega (arith, e))
 pub plug_differs : (h : ℕ) (t : Tree) (p : Substitution) → DifferAt 0 h p (plug h t p)
 plug_differs h t p n s e = rw e refl
 
-stands_where : (P : Variable → Type 0) (vs : List Variable) → AllByRecursion P vs → (m k : ℕ) → stands m k vs ≡ true → P (record { number = m; sort = k })
+pub stands_where : (P : Variable → Type 0) (vs : List Variable) → AllByRecursion P vs → (m k : ℕ) → stands m k vs ≡ true → P (record { number = m; sort = k })
 stands_where P [] a m k e = absurd (cc)
 stands_where P (v ∷ vs) a m k e = elim (cases_Bool ((m == v.number) && (k == v.sort))) [
   | inl h ↦

@@ -48,7 +48,7 @@ pub record IsCertifiedSet (th : Theory) (G : List Place) : Type 0 where
 
 -- ---- start terms
 
-start_sorted : (th : Theory) → IsWellFormed th → (o : Operator) (f i : ℕ) (d : Derivative) → slice_get th.signature.ops f ≡ Some o → Contains th.derivatives d
+pub start_sorted : (th : Theory) → IsWellFormed th → (o : Operator) (f i : ℕ) (d : Derivative) → slice_get th.signature.ops f ≡ Some o → Contains th.derivatives d
     → d.hole ≡ o.result → IsWellSorted th.signature (start_term o (place f i) d)
 start_sorted th ok o f i d l c h =
     let sig : Signature = th.signature in

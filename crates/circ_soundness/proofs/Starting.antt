@@ -88,7 +88,7 @@ start_above i k [] h l = absurd (omega (arith, l))
 start_above zero k (s ∷ ss) h l = let x = variables_above k ss in omega arith
 start_above (suc i) k (s ∷ ss) h l = let x = start_above i (k + 1) ss (omega arith) (omega (arith, l)) in omega arith
 
-start_place : (i k : ℕ) (ss : List ℕ) (s : ℕ) → slice_get ss i ≡ Some s → slice_get (list_of (start_args i k ss)) i ≡ Some (Var 0 s)
+pub start_place : (i k : ℕ) (ss : List ℕ) (s : ℕ) → slice_get ss i ≡ Some s → slice_get (list_of (start_args i k ss)) i ≡ Some (Var 0 s)
 start_place i k [] s e = absurd (cc)
 start_place zero k (r ∷ ss) s e = ap (λ x. Some (Var 0 x)) (same_Some r s e)
 start_place (suc i) k (r ∷ ss) s e = start_place i (k + 1) ss s e

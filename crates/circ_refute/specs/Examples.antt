@@ -1,0 +1,21 @@
+-- Goals over streams of bits that try the definition, with what is found of them.
+use Rattle.std.specs.Prelude.{ℕ, List, [], ◌∷◌}
+use Rattle.circ_theory.specs.Theory.{goal}
+use Rattle.circ_theory.specs.declared.parts.Goal.{Goal}
+use Rattle.circ_entry.specs.Entries.{Written, written_entry}
+use Rattle.circ_plain_search.specs.Examples.{bits, zeros, ones, zip}
+use Rattle.circ_refute.specs.PlainRefutation.{Conclusion, refutation}
+
+-- two streams whose second bits differ
+abbrev pub second_bits : Goal
+second_bits = goal [] (zip zeros ones) (zip zeros zeros)
+
+abbrev pub equal_zeros : Goal
+equal_zeros = goal [] zeros zeros
+
+-- the tail, and then its head
+abbrev pub second_bit : List Written
+second_bit = written_entry 1 [] ∷ written_entry 0 [] ∷ []
+
+abbrev pub refuted_in_bits : (derives rewrites : ℕ) → Goal → Conclusion
+refuted_in_bits d n g = refutation bits d n g
