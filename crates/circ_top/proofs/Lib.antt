@@ -19,6 +19,7 @@ pub mod Reducing
 pub mod ReduceOutcomes
 pub mod Searches
 pub mod ScriptOutcomes
+pub mod Differences
 pub mod GenerateOutcomes
 pub mod Expressions
 pub mod RegexOutcomes

@@ -34,6 +34,11 @@ module _ (theory script : List ℕ) (before after : ShelfState) where
   script_not_refused s n (theory_fault _ f) e = file_fault_not_refused 1 theory PlainTheoryRefusal before after s n e f
   script_not_refused s n (script_fault _ th a f) e = file_fault_not_refused 2 script (ScriptRefusal th job.Prove) before after s n e f
 
+  pub script_not_apart : (s : Status) (n : ℕ) → RefusesScript theory script before after s → s ≡ status.Differ n → ⊥
+  script_not_apart s n (theory_fault _ f) e = let P : Status → Type 0 = IsFileFault 1 theory PlainTheoryRefusal before after in subst P e f
+  script_not_apart s n (script_fault _ th a f) e =
+      let P : Status → Type 0 = IsFileFault 2 script (ScriptRefusal th job.Prove) before after in subst P e f
+
   pub unread_script : (s : Status) (n : ℕ) → RefusesScript theory script before after s → s ≡ status.ReadFault n
       → (n ≡ after.count) × AtEither (λ th. TakesPlainTheory theory th before) theory script (λ f name. IsUnread name before after)
   unread_script s n (theory_fault _ f) e = let P : Status → Type 0 = IsFileFault 1 theory PlainTheoryRefusal before after in let r = subst P e f in (r.0, inl r.1)

@@ -9,6 +9,7 @@ pub mod Incoming
 pub mod Storing
 pub mod Scripted
 pub mod Prove
+pub mod Differ
 pub mod Same
 pub mod Regex
 pub mod Upgrade
