@@ -7,9 +7,9 @@ use Rattle.clap.specs.Faults.{fault_of}
 use Rattle.clap.specs.Simple.{matches_of}
 use Rattle.clap.specs.Walk.{Row, first_of}
 use Rattle.circ_lib.specs.Library.{library_text}
-use Rattle.circ_top.specs.Command.{Command, Check, Prove, Show, Contexts, Reduce, Same, Regex, Upgrade, Differ, Library, Generate}
-use Rattle.circ_top.specs.Command.{IsCommand, check, prove, show, contexts, reduce, same, regex, upgrade, differ, library, generate, IsNoneOfTable}
-use Rattle.circ_top.specs.Command.{Asks, IsNoCommand, HasFewDerives, plain_request}
+use Rattle.circ_top.specs.Command.{Command, Check, Prove, Show, Contexts, Reduce, Same, Differ, Regex, Upgrade, Library, Generate}
+use Rattle.circ_top.specs.Command.{IsCommand, check, prove, show, contexts, reduce, same, differ, regex, upgrade, library, generate, IsNoneOfTable}
+use Rattle.circ_top.specs.Command.{Asks, IsNoCommand, IsBounded, plain_request}
 use Rattle.circ_top.specs.Words.{circ_app, IsBudget, Finds, FindsNothing}
 use Rattle.circ_top.specs.declared.request.Report.{Report}
 use Rattle.circ_top.specs.declared.request.Report.TheVariants.{Goals, Relation}
@@ -85,9 +85,9 @@ module _ (k : Limits) (name : List ℕ) (given : List (List ℕ)) where
   in_row _ (contexts t e i) = with_name (codes "contexts") (t ∷ []) (Contexts k.steps t) e i refl
   in_row _ (reduce t s e i) = with_name (codes "reduce") (t ∷ s ∷ []) (Reduce k.steps t s) e i refl
   in_row _ (same v w e i) = with_name (codes "same") (v ∷ w ∷ []) (Same v w) e i refl
+  in_row _ (differ t s e i) = with_name (codes "differ") (t ∷ s ∷ []) (Differ k t s) e i refl
   in_row _ (regex u v p e i) = with_name (codes "regex") (u ∷ v ∷ p ∷ []) (Regex k u v p) e i refl
   in_row _ (upgrade t p q e i) = with_name (codes "upgrade") (t ∷ p ∷ q ∷ []) (Upgrade t p q) e i refl
-  in_row _ (differ t s e i) = with_name (codes "differ") (t ∷ s ∷ []) (Differ k t s) e i refl
   in_row _ (library w text e i m) = with_name (codes "library") (w ∷ []) (Library text) e i (text, m, refl)
   in_row _ (generate n few most e i) = with_name (codes "generate") (decimal n ∷ []) (Generate n) e i (n, few, most, refl, refl)
 
@@ -159,6 +159,27 @@ module _ (ws : List (List ℕ)) (rows : List Row) (e : rows ≡ matches_of circ_
     asked_by_table None t n = none_asked n
     asked_by_table (Some r) t i = record { limits = limits; name = name; given = given; taken = t; finds = rw e at f; is = i }
 
+-- a budget is at most what an option may say
+budget_bounded : (value : Option (List ℕ)) (n : ℕ) → IsBudget 256 10000 value n → n ≤ 10000
+budget_bounded None n b = omega (arith, b)
+budget_bounded (Some text) n b = b.1
+
+pub asks_bounded : (ws : List (List ℕ)) (c : Command) → Asks ws c → IsBounded c
+asks_bounded ws c a = go c a.is
+  where
+    go : (c : Command) → IsCommand a.limits a.name a.given c → IsBounded c
+    go _ (check r t p e i) = tt
+    go _ (prove t s p e i) = tt
+    go _ (show t e i) = tt
+    go _ (contexts t e i) = tt
+    go _ (reduce t s e i) = tt
+    go _ (same v w e i) = tt
+    go _ (differ t s e i) = budget_bounded (first_of (codes "derives") (matches_of circ_app ws)) a.limits.derives a.finds.derives
+    go _ (regex u v p e i) = tt
+    go _ (upgrade t p q e i) = tt
+    go _ (library w text e i m) = tt
+    go _ (generate n few most e i) = tt
+
 -- words ask for one command
 pub same_command : (ws : List (List ℕ)) (c d : Command) → Asks ws c → Asks ws d → c ≡ d
 same_command ws c d a b =
@@ -166,27 +187,3 @@ same_command ws c d a b =
     let given = same_given (matches_of circ_app ws) a.limits b.limits a.name b.name a.given b.given a.finds b.finds in
     let limits = same_limits (matches_of circ_app ws) a.limits b.limits a.name b.name a.given b.given a.finds b.finds in
     same_of_table b.limits b.name b.given c d (rw (limits, name, given) at a.is) b.is
-
--- ---- the greatest budget of Derives
-
-within_budget : (usual most : ℕ) (value : Option (List ℕ)) (n : ℕ) → usual ≤ most → IsBudget usual most value n → n ≤ most
-within_budget usual most None n h b = omega (arith, h, b)
-within_budget usual most (Some text) n h b = b.1
-
-few_of_table : (k : Limits) (n : List ℕ) (given : List (List ℕ)) (c : Command) → k.derives ≤ 10000 → IsCommand k n given c → HasFewDerives c
-few_of_table k n given _ h (check r t p e i) = tt
-few_of_table k n given _ h (prove t s p e i) = tt
-few_of_table k n given _ h (show t e i) = tt
-few_of_table k n given _ h (contexts t e i) = tt
-few_of_table k n given _ h (reduce t s e i) = tt
-few_of_table k n given _ h (same v w e i) = tt
-few_of_table k n given _ h (regex u v p e i) = tt
-few_of_table k n given _ h (upgrade t p q e i) = tt
-few_of_table k n given _ h (differ t s e i) = h
-few_of_table k n given _ h (library w text e i m) = tt
-few_of_table k n given _ h (generate m few most e i) = tt
-
-pub few_derives : (words : List (List ℕ)) (c : Command) → Asks words c → HasFewDerives c
-few_derives words c a =
-    few_of_table a.limits a.name a.given c
-    (within_budget 256 10000 (first_of (codes "derives") (matches_of circ_app words)) a.limits.derives (omega arith) a.finds.derives) a.is

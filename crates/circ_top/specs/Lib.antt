@@ -7,7 +7,9 @@ pub mod Check
 pub mod CheckProof
 pub mod Incoming
 pub mod Storing
+pub mod Scripted
 pub mod Prove
+pub mod Differ
 pub mod Same
 pub mod Regex
 pub mod Upgrade
@@ -22,4 +24,3 @@ pub mod Causes
 pub mod InMemory
 pub mod Complete
 pub mod SecondProve
-pub mod Differ

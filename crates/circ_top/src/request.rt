@@ -58,17 +58,17 @@ pub(crate) enum Request<'a> {
         theory: &'a str,
         script: &'a str,
     },
-    /// An experiment that tells the sides of a script file's goal apart over a theory file is looked
-    /// for within limits.
-    Differ {
-        limits: Limits,
-        theory: &'a str,
-        script: &'a str,
-    },
     /// The automata of two files are compared.
     Same {
         first: &'a str,
         second: &'a str,
+    },
+    /// An experiment is looked for that tells the sides of a goal of a script file apart, over a
+    /// theory file and within limits.
+    Differ {
+        limits: Limits,
+        theory: &'a str,
+        script: &'a str,
     },
     /// A proof that two regular expressions match the same words is searched for within limits,
     /// and stored under a name.

@@ -2,14 +2,10 @@ use Rattle.std.proofs.Common.{[], None, refl, sym, append-nil}
 use Rattle.circ_top.specs.Answer.{no_command, words_unread}
 use Rattle.circ_top.specs.Delivery.{whole}
 use Rattle.circ_top.specs.Storing.{stored_first}
-use Rattle.circ_top.specs.Command.{plain_request}
 use Rattle.circ_top.specs.Refusals.{usage_text}
 use Rattle.circ_files.specs.declared.status.Status.TheVariants as status
-use Rattle.circ_top.proofs.Requests.{few_derives}
+use Rattle.circ_top.proofs.Requests.{asks_bounded}
 use Rattle.circ_top.proofs.command.answer.Goals as goal
-
-pub answer_to-requires : goal.answer_to-requires
-answer_to-requires g c = few_derives _ (plain_request c.in-Ok-Some.field-0) c.in-Ok-Some.ensures
 
 pub returns-in-Ok-None-clause-answers : goal.returns-in-Ok-None-clause-answers
 returns-in-Ok-None-clause-answers g c = record {
@@ -28,3 +24,6 @@ returns-in-Err-clause-answers g c = record {
   due = words_unread;
   ends = stored_first status.Memory (λ n. refl) (whole (record { quiet = refl; printed = λ t. sym (append-nil _) }));
 }
+
+pub answer_to-requires : goal.answer_to-requires
+answer_to-requires g c = asks_bounded _ _ (rw c.in-Ok-Some.field-0-is at c.in-Ok-Some.ensures)

@@ -1,10 +1,9 @@
-use Rattle.circ_top.proofs.Answers.{answers_succeed, answers_accepted, answers_proved, answers_equal, answers_upgraded, answers_refused, answers_hold, answers_past_limit, answers_read_fault, answers_write_fault}
+use Rattle.circ_top.proofs.Answers.{answers_succeed, answers_accepted, answers_proved, answers_equal, answers_told_apart, answers_upgraded, answers_refused, answers_hold, answers_past_limit, answers_read_fault, answers_write_fault}
 use Rattle.circ_top.proofs.Answers.{read_outcome, accepted_read_outcome}
 use Rattle.circ_files.proofs.Readings.{ReadsOnce, reads_once}
 use Rattle.circ_top.proofs.Proofs.{ProofsOnce, proofs_come_once}
 use Rattle.circ_files.proofs.Scripts.{ScriptsOnce, scripts_once}
 use Rattle.circ_top.proofs.SameOutcomes.{AutomataOnce, automata_once}
-use Rattle.circ_top.proofs.ToldApart.{answers_apart}
 use Rattle.circ_top.proofs.Outcomes.{answers_outcome, answers_come, answers_memory}
 use Rattle.circ_top.proofs.command.circ.Goals as goal
 
@@ -24,14 +23,15 @@ returns-clause-expressions g c =
     answers_equal _ _ _ _ _ c.answer.result (rw c.as_slice.ensures.value at c.answer.ensures.answers) c.proved_is_accepted.ensures c.goals_behave.ensures
     c.expressions_that_behave_match.ensures (rw c.as_slice.ensures.value at c.answer.ensures.quiet)
 
+pub returns-clause-told_apart : goal.returns-clause-told_apart
+returns-clause-told_apart g c =
+    answers_told_apart _ _ _ _ _ c.answer.result (rw c.as_slice.ensures.value at c.answer.ensures.answers)
+    (rw c.as_slice.ensures.value at c.answer.ensures.quiet)
+
 pub returns-clause-upgraded : goal.returns-clause-upgraded
 returns-clause-upgraded g c =
     answers_upgraded _ _ _ _ _ c.answer.result (rw c.as_slice.ensures.value at c.answer.ensures.answers)
     (rw c.as_slice.ensures.value at c.answer.ensures.quiet)
-
-pub returns-clause-told_apart : goal.returns-clause-told_apart
-returns-clause-told_apart g c =
-    answers_apart _ _ _ _ _ c.answer.result (rw c.as_slice.ensures.value at c.answer.ensures.answers) (rw c.as_slice.ensures.value at c.answer.ensures.quiet)
 
 pub returns-clause-succeeded : goal.returns-clause-succeeded
 returns-clause-succeeded g c = answers_succeed _ _ _ _ _ c.answer.result (rw c.as_slice.ensures.value at c.answer.ensures.answers) (rw c.as_slice.ensures.value at c.answer.ensures.quiet)

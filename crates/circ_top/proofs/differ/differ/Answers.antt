@@ -5,7 +5,7 @@ use Rattle.circ_files.specs.ScriptFile.{ScriptRefusal}
 use Rattle.circ_files.specs.declared.status.Status.TheVariants as status
 use Rattle.circ_files.proofs.FileFaults.{quiet_fault}
 use Rattle.circ_files.proofs.Scripts.{script_before}
-use Rattle.circ_top.specs.Differ.{theory_fault, script_fault}
+use Rattle.circ_top.specs.Scripted.{theory_fault, script_fault}
 use Rattle.circ_top.proofs.differ.differ.Goals as goal
 
 pub returns-in-Err-clause-refused : goal.returns-in-Err-clause-refused
@@ -28,17 +28,15 @@ searchable-requires-clause-goals g c =
     let read = c.in-Ok-take_script.ensures.takes.bytes in
     c.scripts_are_fit.ensures.is_for c.in-Ok.theory job.Prove read.bytes (plain_script c.in-Ok-take_script.script) read.are
 
-pub searchable-requires-clause-plain : goal.searchable-requires-clause-plain
-searchable-requires-clause-plain g c = rw c.in-Ok-take_script.ensures.kept c.in-Ok.ensures.takes.plain
-
-pub returns-in-Ok-differ_goals-clause-tried : goal.returns-in-Ok-differ_goals-clause-tried
-returns-in-Ok-differ_goals-clause-tried g c =
+pub returns-in-Ok-look_for_difference-clause-sought : goal.returns-in-Ok-look_for_difference-clause-sought
+returns-in-Ok-look_for_difference-clause-sought g c =
     let th = c.in-Ok.theory in
     let sc = plain_script c.in-Ok-take_script.script in
     record {
       th = th;
       sc = sc;
-      ends = rw (c.as_slice.ensures.value, sym c.searchable.ensures.same, c.in-Ok-take_script.ensures.kept) at c.in-Ok-differ_goals.ensures;
+      searchable = rw c.in-Ok-take_script.ensures.kept at c.searchable.ensures.searchable;
+      ends = rw (c.as_slice.ensures.value, sym c.searchable.ensures.same, c.in-Ok-take_script.ensures.kept) at c.in-Ok-look_for_difference.ensures;
       takes_theory = c.in-Ok.ensures.takes;
       takes_script = script_before c.args.script.now th job.Prove sc _ _ c.in-Ok.ensures.frame c.in-Ok-take_script.ensures.takes;
     }
@@ -46,5 +44,8 @@ returns-in-Ok-differ_goals-clause-tried g c =
 pub returns-clause-refused : goal.returns-clause-refused
 returns-clause-refused g c = theory_fault status.Memory tt
 
-pub differ_goals-requires-clause-searchable : goal.differ_goals-requires-clause-searchable
-differ_goals-requires-clause-searchable g c = rw (c.as_slice.ensures.value, sym c.searchable.ensures.same) c.searchable.ensures.searchable
+pub differ-requires-clause-searchable : goal.differ-requires-clause-searchable
+differ-requires-clause-searchable g c = rw (c.as_slice.ensures.value, sym c.searchable.ensures.same) c.searchable.ensures.searchable
+
+pub searchable-requires-clause-plain : goal.searchable-requires-clause-plain
+searchable-requires-clause-plain g c = rw c.in-Ok-take_script.ensures.kept c.in-Ok.ensures.takes.plain

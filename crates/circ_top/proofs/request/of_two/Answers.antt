@@ -1,5 +1,5 @@
 use Rattle.std.proofs.Common.{refl}
-use Rattle.circ_top.specs.Command.{check, differ, reduce, same}
+use Rattle.circ_top.specs.Command.{check, reduce, same, differ}
 use Rattle.circ_top.proofs.request.of_two.Goals as goal
 
 pub returns-then-is_word : goal.returns-then-is_word
