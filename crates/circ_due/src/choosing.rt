@@ -1,13 +1,14 @@
 //! Which replacement is due at the root of an interned term.
-ghost use Rattle.std.specs.Prelude.{◌≡◌, ◌<◌, length, IfOk, None, []};
+ghost use Rattle.std.specs.Prelude.{◌≡◌, ◌<◌, length, IfOk, IfSome, None, []};
 ghost use Rattle.circ_rewrite.specs.Due.{assumed, ruled};
+ghost use Rattle.circ_rewrite.specs.Standing.{HasSettledBelow};
 ghost use Rattle.circ_nodes.specs.Named.{tree_at};
-ghost use Rattle.circ_due.specs.Chosen.{IsReady, Chooses, Fits, due_by};
+ghost use Rattle.circ_due.specs.Chosen.{IsReady, IsChosenOf, Chooses, Fits, due_by};
 
 use crate::choice::{Bounds, Choice};
 use crate::matching::extend;
 use crate::means::Means;
-use circ_aci::is_canonical;
+use circ_forms::{is_canonical, is_canonical_above};
 use circ_index::rule_keys;
 use circ_nodes::{Nodes, Shape};
 use circ_rewrite::Rule;
@@ -28,7 +29,31 @@ pub(crate) fn choose_besides(
     let Shape::Application { op, .. } = nodes.shape(number) else {
         return Ok(None);
     };
-    if !is_canonical(means.theory, op, nodes.term(number)) {
+    if !is_canonical(means.theory, nodes, op, number) {
+        return Ok(Some(Choice::Content { op }));
+    }
+    ruled(means, nodes, number)
+}
+
+// The same of a term in whose arguments nothing is due.
+pub(crate) fn choose_besides_above(
+    means: &Means<'_>,
+    nodes: &Nodes,
+    number: u32,
+) -> Result<Option<Choice>, AllocError>
+    requires ready { IsReady nodes.now means.now }
+    requires there { number < length nodes.now }
+    requires none { assumed 0 means.now.assumptions (tree_at nodes.now number) ≡ None }
+    ensures chosen { IfOk result (λ o. IfSome o (IsChosenOf nodes.now means.now
+        (tree_at nodes.now number))) }
+    ensures exact { HasSettledBelow (due_by means.now) (tree_at nodes.now number)
+        → IfOk result (Chooses nodes.now means.now (tree_at nodes.now number)
+        (due_by means.now (tree_at nodes.now number))) }
+{
+    let Shape::Application { op, .. } = nodes.shape(number) else {
+        return Ok(None);
+    };
+    if !is_canonical_above(means.theory, nodes, op, number) {
         return Ok(Some(Choice::Content { op }));
     }
     ruled(means, nodes, number)

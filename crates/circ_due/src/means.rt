@@ -1,6 +1,6 @@
 //! What is used to rewrite interned terms.
 ghost use Rattle.std.specs.Prelude.{◌≡◌, ◌+◌, ◌<◌, ◌^◌, ℕ, List, [], ◌∷◌, ◌++◌, length};
-ghost use Rattle.std.specs.Prelude.{map, IfOk, OnOk, OnErr};
+ghost use Rattle.std.specs.Prelude.{map, IfOk, IfSome, OnOk, OnErr};
 ghost use Rattle.std.specs.List.{AllByRecursion};
 ghost use Rattle.circ_term.specs.Tree.{Tree};
 ghost use Rattle.circ_term.specs.Growing.{Grows};
@@ -8,16 +8,18 @@ ghost use Rattle.circ_theory.specs.Pairs.{plain_pair};
 ghost use Rattle.circ_nodes.specs.Named.{IsNamed, Interns};
 ghost use Rattle.circ_rewrite.specs.Due.{IsRewriteRule};
 ghost use Rattle.circ_rewrite.specs.Plain.{plain_trace};
+ghost use Rattle.circ_rewrite.specs.Standing.{HasSettledBelow};
 ghost use Rattle.circ_rewrite.specs.Replacement.{Replacement, placed, traced};
 ghost use Rattle.circ_due.specs.Chosen.{IsReady, IsChoice, IsChosen, Chooses};
-ghost use Rattle.circ_due.specs.Chosen.{due_by, left_side};
+ghost use Rattle.circ_due.specs.Chosen.{IsChosenOf, due_by, left_side};
 ghost use Rattle.circ_index.specs.Indexed.{HasLefts};
 
 use crate::assuming::{Assumed, assumed_at, kept, shared};
-use crate::building::{canonical_form, instance};
+use crate::building::instance;
 use crate::choice::Choice;
-use crate::choosing::choose_besides;
+use crate::choosing::{choose_besides, choose_besides_above};
 use crate::tracing::terms_given;
+use circ_forms::canonical_form;
 use circ_index::Finder;
 use circ_nodes::Nodes;
 use circ_rewrite::{Rule, Trace};
@@ -123,6 +125,24 @@ impl<'a> Means<'a> {
         match assumed_at(&self.assumed, number) {
             Some(choice) => Ok(Some(choice)),
             None => choose_besides(self, nodes, number),
+        }
+    }
+
+    /// The same of a term in whose arguments nothing is due. Whether it is its own canonical form
+    /// is found by one comparison then.
+    pub fn choose_above(&self, nodes: &Nodes, number: u32) -> Result<Option<Choice>, AllocError>
+        requires ready { IsReady nodes.now self.now }
+        requires there { number < length nodes.now }
+        ensures chosen { (t : Tree) → IsNamed nodes.now number t
+            → IfOk result (λ o. IfSome o (IsChosenOf nodes.now self.now t)) }
+        ensures exact { (t : Tree) → IsNamed nodes.now number t
+            → HasSettledBelow (due_by self.now) t
+            → IfOk result (Chooses nodes.now self.now t (due_by self.now t)) }
+    {
+        nodes.known();
+        match assumed_at(&self.assumed, number) {
+            Some(choice) => Ok(Some(choice)),
+            None => choose_besides_above(self, nodes, number),
         }
     }
 

@@ -10,15 +10,20 @@ use Rattle.circ_theory.specs.Rewriting.{by_terms}
 use Rattle.circ_special.specs.declared.place.Place.{Place}
 use Rattle.circ_special.specs.Special.{place}
 use Rattle.circ_rewrite.specs.Matching.{matching}
-use Rattle.circ_proof.specs.Plain.{LinkOf, Equation_link, Hypothesis_link, Assumption_link, Content_link, WhyOf, WhysOf, Same_why, Split_why, no_why, more_whys}
+use Rattle.circ_proof.specs.Plain.{LinkOf, Equation_link, Hypothesis_link, Assumption_link, Content_link, WhyOf, WhysOf, Same_why, Split_why, no_why}
+use Rattle.circ_proof.specs.Plain.{more_whys}
 use Rattle.circ_entry.specs.Entries.{Numbered}
-use Rattle.circ_expand.specs.Followed.{History, Simplified, Reduced, Derived, Open, Followed, goal_in, put_or_same, led, led_all}
-use Rattle.circ_expand.specs.Pieces.{Piece, Pieces, Parts, Equation_piece, Content_piece, Assumption_piece, Cases_piece, no_piece, more_pieces, no_part, more_parts}
+use Rattle.circ_expand.specs.Followed.{History, Simplified, Reduced_by, Derived, Open, Followed, goal_in, put_or_same, led, led_all}
+use Rattle.circ_expand.specs.Pieces.{Piece, Pieces, Parts, Equation_piece, Content_piece, Assumption_piece, Cases_piece, no_piece, more_pieces, no_part}
+use Rattle.circ_expand.specs.Pieces.{more_parts}
 use Rattle.circ_expand.specs.Pieces.{pieces_joined, turned}
-use Rattle.circ_expand.specs.Expand.{Spending, Yields, Long, Past, Stopped, continued, counted, tested, all_tested, Layer, At_place, By_entry, Background, Call}
-use Rattle.circ_expand.specs.Expand.{Expander, base, whole_with, around, and_piece, and_pieces, by_way, followed_at, Basis, link_setting, bounds_of, hypothesis_call}
+use Rattle.circ_expand.specs.Expand.{Spending, Yields, Long, Past, Stopped, continued, counted, tested, all_tested, Layer, At_place, By_entry, Background}
+use Rattle.circ_expand.specs.Expand.{Call}
+use Rattle.circ_expand.specs.Expand.{Expander, base, whole_with, around, and_piece, and_pieces, by_way, followed_at, Basis, link_setting, bounds_of}
+use Rattle.circ_expand.specs.Expand.{hypothesis_call}
 use Rattle.circ_expand.specs.Expand.{links_written, cases_at, case_basis, case_call, whys_written, each_why, derive_call, simplified_call, basis_in, ex}
-use Rattle.circ_expand.specs.Expand.{Case, Visible_case, Place_case, Hidden_case, No_case, guard_case, paths_of, arg_sort, start_at, occurrence_call, occurrence_use}
+use Rattle.circ_expand.specs.Expand.{Case, Visible_case, Place_case, Hidden_case, No_case, guard_case, paths_of, arg_sort, start_at, occurrence_call}
+use Rattle.circ_expand.specs.Expand.{occurrence_use}
 use Rattle.circ_expand.specs.Expand.{occurrences_written, derived_place, certified_call, no_basis, left_here, right_here, through_place, ly, single_use, uses}
 use Rattle.circ_expand.specs.Machine.{all_uses}
 
@@ -75,7 +80,8 @@ alike_all_tested n [] o p a = a
 alike_all_tested n (t ∷ ts) o p a = alike_tested n t (all_tested ts o) (all_tested ts p) (alike_all_tested n ts o p a)
 
 alike_piece : (x : Piece) (n : ℕ) (o p : Spending Pieces) → Alike n o p → Alike n (and_piece x o) (and_piece x p)
-alike_piece x n o p a = alike_on n o p (λ xs m. Yields (more_pieces x xs) m) (λ xs m. Yields (more_pieces x xs) m) a (λ xs m l. alike_value m (more_pieces x xs))
+alike_piece x n o p a = alike_on n o p (λ xs m. Yields (more_pieces x xs) m) (λ xs m. Yields (more_pieces x xs) m) a
+    (λ xs m l. alike_value m (more_pieces x xs))
 
 alike_pieces : (ys : Pieces) (n : ℕ) (o p : Spending Pieces) → Alike n o p → Alike n (and_pieces ys o) (and_pieces ys p)
 alike_pieces ys n o p a =
@@ -86,7 +92,8 @@ abbrev AreAlike : Expander → Expander → (units : ℕ) → Type 0
 AreAlike run ran k = (c : Call) (n : ℕ) → n < k → Alike n (run c n) (ran c n)
 
 module _ (f : Background) (run ran : Expander) (k : ℕ) (same : AreAlike run ran k) where
-  links_alike : (c : Call) (b : Basis) (ls : List (LinkOf Tree)) (t : Tree) (n : ℕ) → n ≤ k → Alike n (links_written run f c b ls t n) (links_written ran f c b ls t n)
+  links_alike : (c : Call) (b : Basis) (ls : List (LinkOf Tree)) (t : Tree) (n : ℕ) → n ≤ k
+      → Alike n (links_written run f c b ls t n) (links_written ran f c b ls t n)
   links_alike c b [] t n le = alike_value n no_piece
   links_alike c b (Equation_link number way path terms conds ∷ ls) t n le =
       let u : Tree = led (link_setting f b) (Equation_link number way path terms conds) t in
@@ -129,10 +136,12 @@ module _ (f : Background) (run ran : Expander) (k : ℕ) (same : AreAlike run ra
       alike_all_tested j vs (L j) (R j)
       (alike_tested j (around c u) (continued (run d j) F) (continued (ran d j) G)
       (alike_on j (run d j) (ran d j) F G (same d j (omega (arith, lt, le))) (λ xs i li.
-      alike_pieces (by_way way xs) i (links_written run f c b ls u i) (links_written ran f c b ls u i) (links_alike c b ls u i (omega (arith, li, lt, le)))))))
+      alike_pieces (by_way way xs) i (links_written run f c b ls u i) (links_written ran f c b ls u i)
+      (links_alike c b ls u i (omega (arith, li, lt, le)))))))
 
   mutual
-    whys_alike : (c : Call) (b : Basis) (w : WhyOf Tree) (s t : Tree) (n : ℕ) → n ≤ k → Alike n (whys_written run f c b w s t n) (whys_written ran f c b w s t n)
+    whys_alike : (c : Call) (b : Basis) (w : WhyOf Tree) (s t : Tree) (n : ℕ) → n ≤ k
+        → Alike n (whys_written run f c b w s t n) (whys_written ran f c b w s t n)
     whys_alike c b (Same_why chain) s t n le =
         let V : Pieces → Pieces → ℕ → Spending Pieces = λ xs ys j. Yields (pieces_joined xs (turned ys)) j in
         let F : Pieces → ℕ → Spending Pieces = λ xs m. continued (links_written run f c b chain.right t m) (V xs) in
@@ -151,10 +160,12 @@ module _ (f : Background) (run ran : Expander) (k : ℕ) (same : AreAlike run ra
         let F : Pieces → ℕ → Spending Pieces = λ xs m. continued (links_written run f c b chain.right t m) (λ ys j. counted j (L xs ys)) in
         let G : Pieces → ℕ → Spending Pieces = λ xs m. continued (links_written ran f c b chain.right t m) (λ ys j. counted j (R xs ys)) in
         alike_on n (links_written run f c b chain.left s n) (links_written ran f c b chain.left s n) F G (links_alike c b chain.left s n le) (λ xs m lm.
-        alike_on m (links_written run f c b chain.right t m) (links_written ran f c b chain.right t m) (λ ys j. counted j (L xs ys)) (λ ys j. counted j (R xs ys))
+        alike_on m (links_written run f c b chain.right t m) (links_written ran f c b chain.right t m) (λ ys j. counted j (L xs ys))
+        (λ ys j. counted j (R xs ys))
         (links_alike c b chain.right t m (omega (arith, lm, le))) (λ ys j lj.
         alike_counted j (L xs ys) (R xs ys) (λ i li.
-        alike_tested i u (continued (each_why run f c b ws term l l.constants y z i) (V xs ys)) (continued (each_why ran f c b ws term l l.constants y z i) (V xs ys))
+        alike_tested i u (continued (each_why run f c b ws term l l.constants y z i) (V xs ys))
+        (continued (each_why ran f c b ws term l l.constants y z i) (V xs ys))
         (alike_on i (each_why run f c b ws term l l.constants y z i) (each_why ran f c b ws term l l.constants y z i) (V xs ys) (V xs ys)
         (each_alike c b ws term l l.constants y z i (omega (arith, li, lj, lm, le)))
         (λ ps e le2. alike_value e (pieces_joined xs (more_pieces (Cases_piece u ps) (turned ys))))))))
@@ -183,14 +194,15 @@ module _ (f : Background) (run ran : Expander) (k : ℕ) (same : AreAlike run ra
       let R : Pieces → Pieces → ℕ → Spending Pieces = λ xs ys i. continued (ran d i) (V xs ys) in
       let F : Pieces → ℕ → Spending Pieces = λ xs m. continued (links_written run f c b chain.right g.right m) (λ ys j. counted j (L xs ys)) in
       let G : Pieces → ℕ → Spending Pieces = λ xs m. continued (links_written ran f c b chain.right g.right m) (λ ys j. counted j (R xs ys)) in
-      alike_on n (links_written run f c b chain.left g.left n) (links_written ran f c b chain.left g.left n) F G (links_alike c b chain.left g.left n le) (λ xs m lm.
+      alike_on n (links_written run f c b chain.left g.left n) (links_written ran f c b chain.left g.left n) F G (links_alike c b chain.left g.left n le)
+      (λ xs m lm.
       alike_on m (links_written run f c b chain.right g.right m) (links_written ran f c b chain.right g.right m)
       (λ ys j. counted j (L xs ys)) (λ ys j. counted j (R xs ys))
       (links_alike c b chain.right g.right m (omega (arith, lm, le))) (λ ys j lj.
       alike_counted j (L xs ys) (R xs ys) (λ i li.
       alike_on i (run d i) (ran d i) (V xs ys) (V xs ys) (same d i (omega (arith, li, lj, lm, le)))
       (λ zs y ly. alike_value y (pieces_joined xs (pieces_joined zs (turned ys)))))))
-  ex_alike c (Reduced g why) cs n le = whys_alike c (basis_in run f c) why g.left g.right n le
+  ex_alike c (Reduced_by g why) cs n le = whys_alike c (basis_in run f c) why g.left g.right n le
   ex_alike c (Derived g children) [] n le = alike_stopped n
   ex_alike c (Derived g children) (e ∷ cs) n le =
       let d : Call = derive_call run f c g children e cs in
@@ -240,9 +252,12 @@ module _ (f : Background) (run ran : Expander) (k : ℕ) (same : AreAlike run ra
       let F : Pieces → ℕ → Spending Pieces = λ l m. continued (links_written run f cr b ls start m) (F2 l) in
       let G : Pieces → ℕ → Spending Pieces = λ l m. continued (links_written ran f cr b ls start m) (G2 l) in
       alike_on n (links_written run f cl b ls start n) (links_written ran f cl b ls start n) F G (links_alike cl b ls start n le) (λ l m lm.
-      alike_on m (links_written run f cr b ls start m) (links_written ran f cr b ls start m) (F2 l) (G2 l) (links_alike cr b ls start m (omega (arith, lm, le))) (λ r j lj.
-      alike_on j (occurrences_written run f co xs y last paths (instance σ last) j) (occurrences_written ran f co xs y last paths (instance σ last) j) (V l r) (V l r)
-      (occurrences_alike co xs y last paths (instance σ last) j (omega (arith, lj, lm, le))) (λ o i li. alike_value i (pieces_joined l (pieces_joined o (turned r))))))
+      alike_on m (links_written run f cr b ls start m) (links_written ran f cr b ls start m) (F2 l) (G2 l)
+      (links_alike cr b ls start m (omega (arith, lm, le))) (λ r j lj.
+      alike_on j (occurrences_written run f co xs y last paths (instance σ last) j) (occurrences_written ran f co xs y last paths (instance σ last) j)
+      (V l r) (V l r)
+      (occurrences_alike co xs y last paths (instance σ last) j (omega (arith, lj, lm, le)))
+      (λ o i li. alike_value i (pieces_joined l (pieces_joined o (turned r))))))
 
   ly_alike : (c : Call) (xs : List Layer) (n : ℕ) → n ≤ k → Alike n (ly run f c xs n) (ly ran f c xs n)
   ly_alike c [] n le =

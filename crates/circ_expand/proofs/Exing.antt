@@ -19,7 +19,7 @@ use Rattle.circ_proof.specs.Rules.{derived_goal, derivatives_on}
 use Rattle.circ_proof.proofs.Leading.{links_sorted}
 use Rattle.circ_proof.proofs.Members.{nothing}
 use Rattle.circ_entry.specs.Entries.{Numbered, bare_entries}
-use Rattle.circ_expand.specs.Followed.{History, Histories, Simplified, Reduced, Derived, Open, no_history, more_histories, goal_in, list_in, first_history}
+use Rattle.circ_expand.specs.Followed.{History, Histories, Simplified, Reduced_by, Derived, Open, no_history, more_histories, goal_in, list_in, first_history}
 use Rattle.circ_expand.specs.Followed.{other_histories, put_or_same, led_all}
 use Rattle.circ_expand.specs.Pieces.{Pieces, pieces_joined, turned, PiecesLead}
 use Rattle.circ_expand.specs.Expand.{Spending, Yields, continued, counted, Background, Call, Expander, base, around, Basis, link_setting, links_written}
@@ -196,7 +196,7 @@ module _ (f : Background) (fr : IsBackground f) (run : Expander) (d : ℕ) (so :
       → IsEnd f.theory c.whole → IsEnd f.theory (around c (goal_in h).right)
       → (n : ℕ) → n ≤ d → Goes (λ xs. PiecesLead f.theory c.assumptions xs c.whole (around c (goal_in h).right)) n (ex run f c h es n)
   ex_leads Open i es ee st el er n le = absurd i
-  ex_leads (Reduced p why) i es ee st el er n le =
+  ex_leads (Reduced_by p why) i es ee st el er n le =
       let self = whole_self f c (instance c.by p.left) st in
       let E : Tree → Type 0 = IsEnd f.theory in
       let L : Tree → Type 0 = λ y. Goes (λ xs. PiecesLead f.theory c.assumptions xs y (around c p.right)) n

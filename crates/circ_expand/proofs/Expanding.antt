@@ -30,7 +30,8 @@ use Rattle.circ_soundness.proofs.Resolving.{certificates_sorted, steps_sorted_te
 use Rattle.circ_theory.proofs.Rewriting.{contains_at}
 use Rattle.circ_entry.specs.Entries.{Numbered, bare_entries, Written, numbered_entries, FitsWritten}
 use Rattle.circ_entry.proofs.Written.{derivative_is, written_fits}
-use Rattle.circ_expand.specs.Answers.{all_goals, LeadsOnGoal}
+use Rattle.circ_expand.specs.Answers.{LeadsOnGoal}
+use Rattle.circ_expand.specs.Goals.{all_goals}
 use Rattle.circ_expand.specs.Followed.{Histories, no_history, more_histories, goal_in, list_in, Followed, followed_in, told_in, hypotheses_of, goals_of, Told}
 use Rattle.circ_expand.specs.Pieces.{Pieces, PiecesLead}
 use Rattle.circ_expand.specs.Expand.{Spending, Yields, Stopped, counted, tested, Background, followed_goals, uses, followed_at, first_links, later_links}

@@ -2,6 +2,7 @@ pub mod Putting
 pub mod Going
 pub mod Depth
 pub mod Working
+pub mod Ending
 pub mod Derives
 pub mod Lifting
 pub mod Led
@@ -21,3 +22,4 @@ pub mod Placing
 pub mod Using
 pub mod Telling
 pub mod Expanding
+pub mod Numbers

@@ -22,7 +22,7 @@ use Rattle.circ_proof.specs.Certified.{Certified}
 use Rattle.circ_proof.specs.Rules.{derivatives_on}
 use Rattle.circ_proof.proofs.Members.{nothing, from_map}
 use Rattle.circ_entry.specs.Entries.{bare_entries}
-use Rattle.circ_expand.specs.Followed.{History, Histories, Simplified, Reduced, Derived, Open, no_history, more_histories, goal_in, list_in, Followed}
+use Rattle.circ_expand.specs.Followed.{History, Histories, Simplified, Reduced_by, Derived, Open, no_history, more_histories, goal_in, list_in, Followed}
 use Rattle.circ_expand.specs.Followed.{put_or_same}
 use Rattle.circ_expand.specs.Pieces.{PiecesLead}
 use Rattle.circ_expand.specs.Expand.{holes, Layer, At_place, By_entry, layered, places_on, Background, Call, Expander, base, whole_with, followed_goals}
@@ -47,7 +47,7 @@ abbrev mutual
   IsHistory c (Simplified p chain h) =
       IsBare c p × (AllOfChain (IsWellSorted c.theory.signature) chain × IsBareChain chain) × ChainLeads (Leads c) chain (sides p)
       (sides (goal_in h)) × IsHistory c h
-  IsHistory c (Reduced p why) = IsBare c p × (AllOfWhy (IsWellSorted c.theory.signature) why × IsBareWhy why) × Justified c (sides p) why
+  IsHistory c (Reduced_by p why) = IsBare c p × (AllOfWhy (IsWellSorted c.theory.signature) why × IsBareWhy why) × Justified c (sides p) why
   IsHistory c (Derived p hs) =
       IsBare c p × IsHidden c.theory (sort_of p.left) × (map goal_in (list_in hs) ≡ derivatives_on c.theory p) × AreHistories c hs
   IsHistory c Open = ⊥
@@ -58,7 +58,7 @@ abbrev mutual
 
 pub history_bare : (c : Setting) (h : History) → IsHistory c h → IsBare c (goal_in h)
 history_bare c (Simplified p chain h) i = i.0
-history_bare c (Reduced p why) i = i.0
+history_bare c (Reduced_by p why) i = i.0
 history_bare c (Derived p hs) i = i.0
 history_bare c Open i = absurd i
 

@@ -1,18 +1,12 @@
 -- What is shown by a derivation that is written out.
-use Rattle.std.specs.Prelude.{List, [], ◌∷◌, ◌++◌}
+use Rattle.std.specs.Prelude.{List, []}
 use Rattle.circ_term.specs.Tree.{Tree}
 use Rattle.circ_theory.specs.Theory.{Theory}
 use Rattle.circ_theory.specs.Derivable.{Derivable}
 use Rattle.circ_theory.specs.Experiment.{on}
 use Rattle.circ_theory.specs.declared.parts.Goal.{Goal}
-use Rattle.circ_proof.specs.Proof.{Block}
 use Rattle.circ_entry.specs.Entries.{Written, written_entries}
 use Rattle.circ_expand.specs.Pieces.{Pieces, PiecesLead}
-
--- the goals of all blocks, in order
-abbrev pub all_goals : List Block → List Goal
-all_goals [] = []
-all_goals (b ∷ bs) = b.goals ++ all_goals bs
 
 -- The pieces lead from s to t with no hypothesis and no assumption, and so t is derivable from s by the theory alone.
 pub record LeadsAlone (th : Theory) (xs : Pieces) (s t : Tree) : Type 0 where

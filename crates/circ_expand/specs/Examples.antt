@@ -1,4 +1,4 @@
--- Row 2 of `differ-and-expand`, and the second file of the proof format, by computation.
+-- In_row 2 of `differ-and-expand`, and the second file of the proof format, by computation.
 use Rattle.std.specs.Prelude.{◌≡◌, ℕ, List, [], ◌∷◌, codes, true, refl}
 use Rattle.circ_term.specs.Tree.{Tree, Var, App, none, more}
 use Rattle.circ_theory.specs.Signature.{Operator}

@@ -30,7 +30,7 @@ use Rattle.circ_proof.specs.Certified.{start_term}
 use Rattle.circ_proof.specs.Proof.{Proof}
 use Rattle.circ_proof.specs.Accepted.{certificates_of}
 use Rattle.circ_entry.specs.Entries.{Written, Numbered, numbered_entries, bare_entries, derivative_at}
-use Rattle.circ_expand.specs.Followed.{History, Histories, Simplified, Reduced, Derived, Open, goal_in, first_history, other_histories, Followed, put_or_same}
+use Rattle.circ_expand.specs.Followed.{History, Histories, Simplified, Reduced_by, Derived, Open, goal_in, first_history, other_histories, Followed, put_or_same}
 use Rattle.circ_expand.specs.Followed.{led, led_all, hypotheses_of, goals_of}
 use Rattle.circ_expand.specs.Pieces.{Piece, Pieces, Parts, Equation_piece, Content_piece, Assumption_piece, Cases_piece, no_piece, more_pieces, no_part}
 use Rattle.circ_expand.specs.Pieces.{more_parts, pieces_joined, turned, bounds_by}
@@ -270,7 +270,7 @@ module _ (run : Expander) (f : Background) where
       continued (links_written run f c (basis_in c) chain.right g.right m) (λ ys k.
       counted k (λ j. continued (run (simplified_call c (led_all (link_setting f (basis_in c)) chain.left g.left) h) j)
       (λ zs i. Yields (pieces_joined xs (pieces_joined zs (turned ys))) i))))
-  ex c (Reduced g why) cs n = whys_written run f c (basis_in c) why g.left g.right n
+  ex c (Reduced_by g why) cs n = whys_written run f c (basis_in c) why g.left g.right n
   ex c (Derived g children) [] n = Stopped
   ex c (Derived g children) (e ∷ cs) n = counted n (run (derive_call c g children e cs))
 

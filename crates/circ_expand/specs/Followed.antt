@@ -66,7 +66,7 @@ led_goal c chain g = goal g.conds (led_all c chain.left g.left) (led_all c chain
 mutual
   pub data History : Type 0 where
     Simplified : (first : Goal) (chain : ChainOf Tree) (continued : History) → History
-    Reduced : (first : Goal) (why : WhyOf Tree) → History
+    Reduced_by : (first : Goal) (why : WhyOf Tree) → History
     Derived : (first : Goal) (children : Histories) → History
     Open : History
 
@@ -76,7 +76,7 @@ mutual
 
 abbrev pub goal_in : History → Goal
 goal_in (Simplified g chain continued) = g
-goal_in (Reduced g why) = g
+goal_in (Reduced_by g why) = g
 goal_in (Derived g children) = g
 goal_in Open = no_goal
 
@@ -115,7 +115,7 @@ abbrev pub and_simplified : Goal → ChainOf Tree → Told → Told
 and_simplified p chain t = told_as (more_histories (Simplified p chain (first_history t.goals)) (other_histories t.goals)) t.derived
 
 abbrev pub and_reduced : Goal → WhyOf Tree → Told → Told
-and_reduced p why t = told_as (more_histories (Reduced p why) t.goals) t.derived
+and_reduced p why t = told_as (more_histories (Reduced_by p why) t.goals) t.derived
 
 abbrev pub and_derived : Goal → (others : ℕ) → Told → Told
 and_derived p n t =

@@ -10,9 +10,10 @@ ghost use Rattle.circ_proof.specs.Accepted.{Accepted};
 ghost use Rattle.circ_entry.specs.Entries.{Written, FitsWritten};
 ghost use Rattle.circ_expand.specs.Pieces.{Pieces};
 ghost use Rattle.circ_expand.specs.Expand.{Yields, Stopped, Background, continued, expansion};
-ghost use Rattle.circ_expand.specs.Machine.{Value, Job, work, job_step, all_uses, rest_done};
-ghost use Rattle.circ_expand.specs.Machine.{worked_off};
-ghost use Rattle.circ_expand.specs.Answers.{all_goals, LeadsOnGoal};
+ghost use Rattle.circ_expand.specs.Machine.{Value, Task, pending, task_step, all_uses, rest_done};
+ghost use Rattle.circ_expand.specs.Machine.{worked_off, tasks_weight, CountsDown};
+ghost use Rattle.circ_expand.specs.Answers.{LeadsOnGoal};
+ghost use Rattle.circ_expand.specs.Goals.{all_goals};
 
 /// What is written out from an accepted proof, for one of its goals and a fitting experiment, leads
 /// from the experiment on the goal's left side to that on its right side, with no hypothesis.
@@ -28,15 +29,17 @@ pub fn expansion_leads()
         expansion units th p n ws ≡ Stopped → ⊥ }
 {}
 
-/// The same is worked off a stack of jobs: it begins with one, a step does a part of the first job
-/// or puts jobs before the others, and it ends when no job is left. So no use has to stand inside
-/// another.
+/// The same is worked off a stack of tasks: it begins with one, a step does a part of the first task
+/// or puts tasks before the others, each step counts a unit or leaves less to do, and it ends when no
+/// task is left. So no use has to stand inside another.
 pub fn expansion_is_worked_off()
     ensures begins { (units : ℕ) (th : Theory) (p : Proof) (n : ℕ) (ws : List Written) →
         expansion units th p n ws ≡ worked_off units th p n ws }
-    ensures goes_on { (f : Background) (j : Job) (js : List Job) (vs : List Value) (n : ℕ) →
-        rest_done f (work (j ∷ js) vs) n ≡
-        continued (job_step (all_uses f) f j js vs n) (rest_done f) }
+    ensures goes_on { (f : Background) (j : Task) (js : List Task) (vs : List Value) (n : ℕ) →
+        rest_done f (pending (j ∷ js) vs) n ≡
+        continued (task_step (all_uses f) f j js vs n) (rest_done f) }
+    ensures counts_down { (f : Background) (j : Task) (js : List Task) (vs : List Value) (n : ℕ) →
+        CountsDown n (tasks_weight (j ∷ js)) (task_step (all_uses f) f j js vs n) }
     ensures ends { (f : Background) (vs : List Value) (n : ℕ) →
-        rest_done f (work [] vs) n ≡ Yields vs n }
+        rest_done f (pending [] vs) n ≡ Yields vs n }
 {}

@@ -5,8 +5,11 @@
 //! these cases; docs/expand.md says how. The law [`expansion_leads`] says that it leads from the
 //! experiment on the goal's left side to that on its right side, and that it never stops for want of
 //! something that fits; the law [`expansion_is_worked_off`] that it is worked off a stack.
+//! [`goal_misfit`] tells whether there is such a goal, and whether the experiment fits it.
 #![tactic(auto)]
 
+mod goals;
 mod laws;
 
+pub use goals::{goal_misfit, goal_numbered};
 pub use laws::{expansion_is_worked_off, expansion_leads};

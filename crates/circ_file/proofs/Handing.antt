@@ -12,7 +12,7 @@ use Rattle.circ_proof_text.specs.Reading.{Reading, StandsFor}
 use Rattle.circ_proof_text.proofs.Standing.{hands, ends, ends_badly}
 use Rattle.circ_proof_text.proofs.Handed.{handed_fit, handed_first, handed_counted}
 use Rattle.circ_file.specs.View.{now_of, queue_of, plain_part, Pops}
-use Rattle.circ_file.specs.Feeding.{reading_of, Stands, Hands, Ends, handed_with, waiting_in, AreShown}
+use Rattle.circ_file.specs.Feeding.{reading_of, Stands, Hands, EndsText, handed_with, waiting_in, AreShown}
 use Rattle.circ_file.specs.declared.fault.FileFault.TheVariants.{Line}
 use Rattle.circ_table.specs.declared.part.Part.{Part as CodePart}
 use Rattle.circ_file.specs.Adding.{terms_in}
@@ -23,11 +23,11 @@ use Rattle.circ_file.proofs.Standing.{reading_with}
 use Rattle.circ_file.proofs.Taking.{seen_with, counted_in}
 
 pub whole_text : (th : Theory) (x : List ℕ) (handed : List Part) (f : FileReader) → Stands th x handed f → f.rest.items ≡ [] → now_of f.reader.machine ≡ Ended
-    → Ends (Ok tt) th x handed f
+    → EndsText (Ok tt) th x handed f
 whole_text th x handed f s r e = ends th x handed (reading_of s.wanted f) s.stands r e
 
 pub broken_text : (th : Theory) (x : List ℕ) (handed : List Part) (f : FileReader) → Stands th x handed f
-    → (f.rest.items ≡ [] → now_of f.reader.machine ≡ Ended → ⊥) → Ends (Err (Line (f.lines + 1))) th x handed f
+    → (f.rest.items ≡ [] → now_of f.reader.machine ≡ Ended → ⊥) → EndsText (Err (Line (f.lines + 1))) th x handed f
 broken_text th x handed f s open_yet = (ends_badly th x handed (reading_of s.wanted f) s.stands open_yet, λ e. absurd (cc))
 
 pub next_handed : (th : Theory) (x : List ℕ) (handed : List Part) (f g : FileReader) (o : Option CodePart) → (s : Stands th x handed f)

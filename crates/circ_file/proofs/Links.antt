@@ -11,7 +11,7 @@ use Rattle.circ_grammar.specs.Now.{Now, Reducing, give_why_now, why_part, next_s
 use Rattle.circ_proof_text.specs.Parts.{Part, Head, place_with, part_with}
 use Rattle.circ_proof_text.specs.ProofText.{place_numbers}
 use Rattle.circ_file.specs.Splits.{plain_split, tops, given, now_given, parts_given}
-use Rattle.circ_file.specs.View.{now_at, IsKeptAt, shown_front_parts}
+use Rattle.circ_file.specs.View.{now_at, IsMachineAt, shown_front_parts}
 use Rattle.circ_file.specs.declared.splits.OpenSplit.{OpenSplit as CodeSplit}
 use Rattle.circ_file.specs.declared.machine.Mode.{Mode}
 use Rattle.circ_file.specs.declared.machine.Mode.TheVariants as mode
@@ -22,7 +22,7 @@ pub places_back : (ps : List Place) → map place_with (map place_numbers ps) �
 places_back [] = refl
 places_back (p ∷ ps) = ap (λ x. p ∷ x) (places_back ps)
 
-head_here : (ts : List Tree) (m : Machine) (k : Mode) → IsKeptAt k ts m → (k ≡ mode.Tabling) ⊎ (k ≡ mode.Placing)
+head_here : (ts : List Tree) (m : Machine) (k : Mode) → IsMachineAt k ts m → (k ≡ mode.Tabling) ⊎ (k ≡ mode.Placing)
     → shown_front_parts ts (now_at k m) ≡ Head ts m.places.items ∷ []
 head_here ts m mode.Tabling e o = ap (λ x. Head ts x ∷ []) (sym e)
 head_here ts m mode.Placing e o = ap (λ x. Head ts x ∷ []) (places_back m.places.items)
@@ -30,7 +30,7 @@ head_here ts m _ e (inl o) = absurd (cc)
 head_here ts m _ e (inr o) = absurd (cc)
 
 -- The table and the places end where the next part begins.
-pub head_ends : (ts : List Tree) (m : Machine) → IsKeptAt m.mode ts m → (m.mode ≡ mode.Tabling) ⊎ (m.mode ≡ mode.Placing)
+pub head_ends : (ts : List Tree) (m : Machine) → IsMachineAt m.mode ts m → (m.mode ≡ mode.Tabling) ⊎ (m.mode ≡ mode.Placing)
     → shown_front_parts ts (now_at m.mode m) ≡ Head ts m.places.items ∷ []
 head_ends ts m e o = head_here ts m m.mode e o
 
@@ -74,6 +74,6 @@ split_opens ts us vs top ss ch k t n old new q r o a b c d e z m =
     )
 
 -- nothing is asked of a machine among links
-pub kept_among_links : (k : Mode) (ts : List Tree) (m : Machine) → k ≡ mode.Reducing → IsKeptAt k ts m
+pub kept_among_links : (k : Mode) (ts : List Tree) (m : Machine) → k ≡ mode.Reducing → IsMachineAt k ts m
 kept_among_links mode.Reducing ts m e = tt
 kept_among_links _ ts m e = absurd (cc)

@@ -12,7 +12,7 @@ use Rattle.circ_line.specs.Line.{if_line, same_line}
 use Rattle.circ_grammar.specs.Machine.{push_chain, add_chain, in_last, in_right, chain_of, empty}
 use Rattle.circ_grammar.specs.Now.{Now, Joining, next_if, next_same, give_chain_now}
 use Rattle.circ_file.specs.Conds.{nested, GivesChain}
-use Rattle.circ_file.specs.View.{now_at, now_outside, now_of, queue_of, parts_at, splits_in, IsKeptAt, MachineTakes, Moves}
+use Rattle.circ_file.specs.View.{now_at, now_outside, now_of, queue_of, parts_at, splits_in, IsMachineAt, MachineTakes, Moves}
 use Rattle.circ_file.specs.declared.machine.Mode.{Mode}
 use Rattle.circ_file.specs.declared.machine.Mode.TheVariants as mode
 use Rattle.circ_file.specs.declared.machine.Machine.{Machine}
@@ -117,7 +117,7 @@ outside_same mode.Simplifying m es d = refl
 outside_same mode.Reducing m es d = refl
 outside_same _ m es d = refl
 
-kept_inside : (k : Mode) (ts : List Tree) (m : Machine) → k ≡ mode.Joining → IsKeptAt k ts m
+kept_inside : (k : Mode) (ts : List Tree) (m : Machine) → k ≡ mode.Joining → IsMachineAt k ts m
 kept_inside mode.Joining ts m e = tt
 kept_inside _ ts m e = absurd (cc)
 

@@ -14,7 +14,7 @@ use Rattle.circ_proof.specs.declared.proof.GoalNames.{GoalNames as TheNames}
 use Rattle.circ_line.specs.Line.{given_line}
 use Rattle.circ_grammar.specs.Machine.{add_given, with_given}
 use Rattle.circ_grammar.specs.Now.{Opened, next_given}
-use Rattle.circ_file.specs.View.{now_at, queue_of, IsKept, IsKeptAt, MachineTakes}
+use Rattle.circ_file.specs.View.{now_at, queue_of, IsMachineOf, IsMachineAt, MachineTakes}
 use Rattle.circ_file.specs.declared.machine.Mode.{Mode}
 use Rattle.circ_file.specs.declared.machine.Mode.TheVariants as mode
 use Rattle.circ_file.specs.declared.machine.Machine.{Machine}
@@ -40,18 +40,18 @@ goal_with ts n p g q cs e f h =
     ∙ ap (λ x. goal (map (pair_at ts) n.conds ++ x ∷ []) (named ts n.left) (named ts n.right)) f
     ∙ ap (λ x. goal x (named ts n.left) (named ts n.right)) (sym (map_push (pair_at ts) n.conds p))
 
-kept_opened : (k : Mode) (ts : List Tree) (m : Machine) → k ≡ mode.Opened → IsKeptAt k ts m → m.goals.items ≡ map (goal_at ts) (map plain_names m.names.items)
+kept_opened : (k : Mode) (ts : List Tree) (m : Machine) → k ≡ mode.Opened → IsMachineAt k ts m → m.goals.items ≡ map (goal_at ts) (map plain_names m.names.items)
 kept_opened mode.Opened ts m e h = h
 kept_opened _ ts m e h = absurd (cc)
 
-opened_kept : (k : Mode) (ts : List Tree) (m : Machine) → k ≡ mode.Opened → m.goals.items ≡ map (goal_at ts) (map plain_names m.names.items) → IsKeptAt k ts m
+opened_kept : (k : Mode) (ts : List Tree) (m : Machine) → k ≡ mode.Opened → m.goals.items ≡ map (goal_at ts) (map plain_names m.names.items) → IsMachineAt k ts m
 opened_kept mode.Opened ts m e h = h
 opened_kept _ ts m e h = absurd (cc)
 
 pub given_taken : (ts : List Tree) (m : Machine) (a b : ℕ) (q : Pair) (gs hs : Vec Goal Global) (ns ks : Vec TheNames Global) (g : Goal) (n : TheNames)
     (cs : List Pair) (v : Vec (ℕ × ℕ) Global) → m.mode ≡ mode.Opened → m.goals.items ≡ gs.items ++ g ∷ [] → m.names.items ≡ ns.items ++ n ∷ []
     → cs ≡ g.conds ++ q ∷ [] → v.items ≡ n.conds.items ++ (a, b) ∷ [] → hs.items ≡ gs.items ++ record g { conds = cs } ∷ []
-    → ks.items ≡ ns.items ++ record n { conds = v } ∷ [] → IsKept ts m → q ≡ pair_at ts (a, b)
+    → ks.items ≡ ns.items ++ record n { conds = v } ∷ [] → IsMachineOf ts m → q ≡ pair_at ts (a, b)
     → MachineTakes ts m (given_line a b) (record m { goals = hs; names = ks })
 given_taken ts m a b q gs hs ns ks g n cs v e f h c w i j k z =
     let new : Machine = record m { goals = hs; names = ks } in

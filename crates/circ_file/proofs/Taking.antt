@@ -31,8 +31,8 @@ use Rattle.circ_proof_text.proofs.Places.{place_tells, increasing_push}
 use Rattle.circ_line.specs.Plain.{plain_line}
 use Rattle.circ_line.specs.declared.line.Line.{Line as CodeLine}
 use Rattle.circ_line.specs.declared.line.Line.TheVariants as line
-use Rattle.circ_file.specs.View.{places_with, IsReady, IsFree, IsKeptAt, IsKept, now_at, now_of, MachineTakes, Moves}
-use Rattle.circ_file.specs.Counting.{certificates_with, steps_with, version_with, givens_with, ifs_with}
+use Rattle.circ_file.specs.View.{places_with, IsUsable, IsFree, IsMachineAt, IsMachineOf, now_at, now_of, MachineTakes, Moves}
+use Rattle.circ_file.specs.Counting.{certificates_with, steps_with, version_with, givens_with, ifs_with, CountsGiven}
 use Rattle.circ_file.specs.Lines.{IsInStep, IsOther, IsReader, seen_of, Advances, Handles}
 use Rattle.circ_theory.specs.Pair.{Pair}
 use Rattle.circ_proof.specs.Proof.{pair_at}
@@ -53,7 +53,7 @@ bare_in_range (Hypothesis_link n w p ts cs) r = ap is_no_chain r.2
 bare_in_range (Assumption_link n w p) r = refl
 bare_in_range (Content_link f p t) r = refl
 
-pub ready_then : (th : Theory) (c : Seen) (l : Line) → IsWellFormed th → IsInRange l → passes_at th c l ≡ true → IsReady l
+pub ready_then : (th : Theory) (c : Seen) (l : Line) → IsWellFormed th → IsInRange l → passes_at th c l ≡ true → IsUsable l
 ready_then th c (left_line l) w r p = bare_in_range l r
 ready_then th c (right_line l) w r p = bare_in_range l r
 ready_then th c (place_line f i) w r p =
@@ -173,7 +173,7 @@ seen_then th k j us hs w same_line ts gs o z a b = closes k.ifs z
     closes (suc i) z = same_seen (ends_if (at (suc i)) (suc i)) j ts gs (z ∙ ap (λ x. counted k.version k.certificates k.steps k.givens x) (one_less i)) a b
 
 -- In a table nothing is asked of its terms.
-tabling_at : (k : Mode) (m : Machine) (ts us : List Tree) → now_at k m ≡ Tabling → IsKeptAt k ts m → IsKeptAt k us m
+tabling_at : (k : Mode) (m : Machine) (ts us : List Tree) → now_at k m ≡ Tabling → IsMachineAt k ts m → IsMachineAt k us m
 tabling_at mode.Tabling m ts us e k = k
 tabling_at _ m ts us e k = absurd (cc)
 
@@ -181,7 +181,7 @@ after_table : (n m : Now) (l : TableLine) → next_now n (table_line l) ≡ Some
 after_table Tabling m l e = cc
 after_table _ m l e = absurd (cc)
 
-pub kept_tabling : (r s : Machine) (l : TableLine) (ts us : List Tree) → next_now (now_of r) (table_line l) ≡ Some (now_of s) → IsKept ts s → IsKept us s
+pub kept_tabling : (r s : Machine) (l : TableLine) (ts us : List Tree) → next_now (now_of r) (table_line l) ≡ Some (now_of s) → IsMachineOf ts s → IsMachineOf us s
 kept_tabling r s l ts us e k = tabling_at s.mode s ts us (after_table (now_of r) (now_of s) l e) k
 
 -- the table keeps step with the line
@@ -280,7 +280,7 @@ is_free (line.Given a b) f g o = o
 is_free _ f g o = tt
 
 pub advanced : (b : Bool) (r : LineReader) (l : Line) (m : Machine) → IsReader r → IsFree l
-    → ((ts : List Tree) → IsKept ts r.machine → Moves b ts r.machine l m) → Advances b r l (record r { machine = m })
+    → ((ts : List Tree) → IsMachineOf ts r.machine → Moves b ts r.machine l m) → Advances b r l (record r { machine = m })
 advanced true r l m k f h =
     let t = h (terms_in r.table) k.kept in (t, refl, free_step (now_of r.machine) (now_of m) l r.table f t.next k.step)
 advanced false r l m k f h = h (terms_in r.table) k.kept
@@ -292,7 +292,7 @@ still_open _ m l t e s = absurd (cc)
 
 -- the sets and counts of a reader that took a line of the table
 reader_then : (r s : LineReader) → IsReader r → s.theory.now ≡ r.theory.now → s.counts ≡ r.counts → s.machine.places.items ≡ r.machine.places.items
-    → IsKept (terms_in s.table) s.machine → IsInStep (now_of s.machine) s.table → IsReader s
+    → IsMachineOf (terms_in s.table) s.machine → IsInStep (now_of s.machine) s.table → IsReader s
 reader_then r s k t n p a b = record {
   kept = a;
   set = subst (λ x. IsSet x s.machine.places.items) (sym t) (subst (λ x. IsSet r.theory.now x) (sym p) k.set);
@@ -345,7 +345,7 @@ other_handled w r s l k o t p q (m, e, b) due_is counts_are =
           s.machine.places.items o counts_are e places;
       queue = m.queue;
       reader = record {
-        kept = subst (λ ts. IsKept ts s.machine) (sym e) m.kept;
+        kept = subst (λ ts. IsMachineOf ts s.machine) (sym e) m.kept;
         set = subst (λ x. IsSet x s.machine.places.items) (sym t) (subst (λ x. IsSet th x) (sym places) (set_then th (seen_of w r) l k.set p));
         step = b;
         due = due_is ∙ ap (λ x. length (due th x)) (sym places) ∙ ap (λ x. length (due x s.machine.places.items)) (sym t);
@@ -372,7 +372,7 @@ after_given_line _ m p t e o = absurd (cc)
 
 module _ (w : List ℕ) (r s : LineReader) (a b : ℕ) (q : Pair) (k : IsReader r) (second : (r.counts.version == 2) ≡ true)
     (found : Some q ≡ condition_for r.theory.now (terms_in r.table) a b)
-    (moves : (ts : List Tree) → IsKept ts r.machine → q ≡ pair_at ts (a, b) → Moves true ts r.machine (given_line a b) s.machine) where
+    (moves : (ts : List Tree) → IsMachineOf ts r.machine → q ≡ pair_at ts (a, b) → Moves true ts r.machine (given_line a b) s.machine) where
   passes : passes_at r.theory.now (seen_of w r) (given_line a b) ≡ true
   passes = and_from (r.counts.version == 2) (is_condition r.theory.now (terms_in r.table) a b) second
       (condition_found r.theory.now (terms_in r.table) a b q found).0
@@ -380,10 +380,10 @@ module _ (w : List ℕ) (r s : LineReader) (a b : ℕ) (q : Pair) (k : IsReader 
   moved : MachineTakes (terms_in r.table) r.machine (given_line a b) s.machine
   moved = moves (terms_in r.table) k.kept (condition_found r.theory.now (terms_in r.table) a b q found).1
 
-  pub given_over : condition_limit ≤ r.counts.givens → Handles Limit w r (given_line a b) s
+  given_over : condition_limit ≤ r.counts.givens → Handles Limit w r (given_line a b) s
   given_over h = (now_of s.machine, moved.next, passes, lt-ltb condition_limit (r.counts.givens + 1) (omega (arith, h)))
 
-  pub given_handled : r.counts.givens < condition_limit → s.theory.now ≡ r.theory.now → s.counts ≡ record r.counts { givens = r.counts.givens + 1 }
+  given_handled : r.counts.givens < condition_limit → s.theory.now ≡ r.theory.now → s.counts ≡ record r.counts { givens = r.counts.givens + 1 }
       → terms_in s.table ≡ terms_in r.table → is_open s.table ≡ false → Handles Yes w r (given_line a b) s
   given_handled h t n us o =
       let th : Theory = r.theory.now in
@@ -397,7 +397,7 @@ module _ (w : List ℕ) (r s : LineReader) (a b : ℕ) (q : Pair) (k : IsReader 
             (ap (λ x. counted x.version x.certificates x.steps x.givens x.ifs) n) us places;
         queue = moved.queue;
         reader = record {
-          kept = subst (λ ts. IsKept ts s.machine) (sym us) moved.kept;
+          kept = subst (λ ts. IsMachineOf ts s.machine) (sym us) moved.kept;
           set = subst (λ x. IsSet x s.machine.places.items) (sym t) (subst (λ x. IsSet th x) (sym places) k.set);
           step = after_given_line (now_of r.machine) (now_of s.machine) (a, b) s.table moved.next o;
           due = due_is ∙ k.due ∙ ap (λ x. length (due x r.machine.places.items)) (sym t) ∙ ap (λ x. length (due s.theory.now x)) (sym places);
@@ -407,3 +407,10 @@ module _ (w : List ℕ) (r s : LineReader) (a b : ℕ) (q : Pair) (k : IsReader 
           ifs = omega (arith, k.ifs, ap (λ x. x.ifs) n);
         };
       }
+
+  -- it is counted, or passes the limit
+  pub given_counted : (taken : Taken) → CountsGiven taken r.counts s.counts → s.theory.now ≡ r.theory.now → terms_in s.table ≡ terms_in r.table
+      → is_open s.table ≡ false → Handles taken w r (given_line a b) s
+  given_counted Yes n t us o = given_handled n.0 t n.1 us o
+  given_counted Refused n t us o = absurd n
+  given_counted Limit n t us o = given_over n.0

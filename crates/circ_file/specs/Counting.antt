@@ -1,6 +1,10 @@
 -- What a line adds to the counts.
-use Rattle.std.specs.Prelude.{ℕ, ◌+◌, ◌-◌, suc}
+use Rattle.std.specs.Prelude.{◌≡◌, ◌≤◌, ◌<◌, ℕ, ◌+◌, ◌-◌, suc}
+use Rattle.circ_theory.specs.Limits.{condition_limit}
 use Rattle.circ_line.specs.Line.{Line, head_line, certificate_line, goal_line, given_line, same_line, if_line, simplify_line, reduce_line, derive_line, cases_line, done_line}
+use Rattle.circ_file.specs.declared.counts.Counts.{Counts}
+use Rattle.circ_file.specs.declared.taken.Taken.{Taken}
+use Rattle.circ_file.specs.declared.taken.Taken.TheVariants as taken
 
 abbrev pub certificates_with : ℕ → Line → ℕ
 certificates_with n certificate_line = n + 1
@@ -35,3 +39,9 @@ abbrev pub ifs_with : ℕ → Line → ℕ
 ifs_with n if_line = suc n
 ifs_with n same_line = n - 1
 ifs_with n _ = n
+
+-- one condition of the last goal more is counted, or it would pass the limit
+abbrev pub CountsGiven : Taken → (old new : Counts) → Type 0
+CountsGiven taken.Yes old new = (old.givens < condition_limit) × (new ≡ record old { givens = old.givens + 1 })
+CountsGiven taken.Line old new = ⊥
+CountsGiven taken.Limit old new = (condition_limit ≤ old.givens) × (new ≡ old)

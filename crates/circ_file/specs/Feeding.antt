@@ -122,6 +122,6 @@ Hands None th x handed f = (waiting_in f ≡ []) × Stands th x handed f
 Hands (Some part) th x handed f = Stands th x (handed ++ plain_part part ∷ []) f
 
 -- The text is that of a proof of this version, of which the parts handed out and those that are whole are all; or this is its fault.
-abbrev pub Ends : Result (Unit {0}) FileFault → Theory → List ℕ → List Part → FileReader → Type 0
-Ends (Ok _) th x handed f = (p : Proof) × ReadsAsProof th x p × (handed ++ waiting_in f ≡ parts_of p) × (p.version ≡ version_in f)
-Ends (Err e) th x handed f = FaultIs th x e × (e ≢ Memory)
+abbrev pub EndsText : Result (Unit {0}) FileFault → Theory → List ℕ → List Part → FileReader → Type 0
+EndsText (Ok _) th x handed f = (p : Proof) × ReadsAsProof th x p × (handed ++ waiting_in f ≡ parts_of p) × (p.version ≡ version_in f)
+EndsText (Err e) th x handed f = FaultIs th x e × (e ≢ Memory)

@@ -9,7 +9,7 @@ use Rattle.circ_proof.specs.Nesting.{nesting_limit}
 use Rattle.circ_proof.specs.Certified.{due}
 use Rattle.circ_proof.specs.Proof.{step_limit}
 use Rattle.circ_proof_text.specs.Checks.{Seen, after, passes_at, limit_at}
-use Rattle.circ_file.specs.View.{now_of, queue_of, parts_at, IsKept, Moves}
+use Rattle.circ_file.specs.View.{now_of, queue_of, parts_at, IsMachineOf, Moves}
 use Rattle.circ_file.specs.Adding.{terms_in, is_open}
 use Rattle.circ_file.specs.declared.table.ReadTable.{ReadTable}
 use Rattle.circ_file.specs.declared.taken.Taken.{Taken}
@@ -38,7 +38,7 @@ IsInStep _ t = Unit {0}
 
 -- what a reader keeps true
 pub record IsReader (r : LineReader) : Type 0 where
-  pub kept : IsKept (terms_in r.table) r.machine
+  pub kept : IsMachineOf (terms_in r.table) r.machine
   pub set : IsSet r.theory.now r.machine.places.items
   pub step : IsInStep (now_of r.machine) r.table
   pub due : r.counts.due ≡ length (due r.theory.now r.machine.places.items)

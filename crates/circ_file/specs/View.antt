@@ -50,14 +50,14 @@ abbrev pub queue_of : Machine → List Part
 queue_of m = map plain_part m.queue.items
 
 -- Before the first place there are none, and the goals of a block are those of their numbers.
-abbrev pub IsKeptAt : Mode → List Tree → Machine → Type 0
-IsKeptAt mode.Begin ts m = m.places.items ≡ []
-IsKeptAt mode.Tabling ts m = m.places.items ≡ []
-IsKeptAt mode.Opened ts m = m.goals.items ≡ map (goal_at ts) (map plain_names m.names.items)
-IsKeptAt _ ts m = Unit {0}
+abbrev pub IsMachineAt : Mode → List Tree → Machine → Type 0
+IsMachineAt mode.Begin ts m = m.places.items ≡ []
+IsMachineAt mode.Tabling ts m = m.places.items ≡ []
+IsMachineAt mode.Opened ts m = m.goals.items ≡ map (goal_at ts) (map plain_names m.names.items)
+IsMachineAt _ ts m = Unit {0}
 
-abbrev pub IsKept : List Tree → Machine → Type 0
-IsKept ts m = IsKeptAt m.mode ts m
+abbrev pub IsMachineOf : List Tree → Machine → Type 0
+IsMachineOf ts m = IsMachineAt m.mode ts m
 
 -- the parts that a line shows which begins a certificate or the first block
 abbrev pub shown_front_parts : List Tree → Now → List Part
@@ -81,7 +81,7 @@ pub record MachineTakes (ts : List Tree) (m : Machine) (l : Line) (n : Machine) 
   pub next : next_now (now_of m) l ≡ Some (now_of n)
   pub queue : queue_of n ≡ queue_of m ++ parts_at ts (now_of m) l
   pub places : n.places.items ≡ places_with m.places.items l
-  pub kept : IsKept ts n
+  pub kept : IsMachineOf ts n
 
 -- whether the line was taken, or cannot come here
 abbrev pub Moves : Bool → List Tree → Machine → Line → Machine → Type 0
@@ -93,7 +93,7 @@ pub record HasEnded (m : Machine) (c : ChainOf ℕ) (n : Machine) : Type 0 where
   pub next : give_chain_now (now_outside m.base m) c ≡ Some (now_of n)
   pub queue : queue_of n ≡ queue_of m
   pub places : n.places.items ≡ m.places.items
-  pub kept : (ts : List Tree) → IsKept ts n
+  pub kept : (ts : List Tree) → IsMachineOf ts n
 
 abbrev pub EndsLast : Bool → Machine → ChainOf ℕ → Machine → Type 0
 EndsLast true m c n = HasEnded m c n
@@ -116,11 +116,11 @@ splits_in (Joining n chain) = splits_in n
 splits_in _ = 0
 
 -- a place's argument is a number that a place can have, and a link has no chains yet
-abbrev pub IsReady : Line → Type 0
-IsReady (place_line f i) = i < 2 ^ 16
-IsReady (left_line l) = is_bare l ≡ true
-IsReady (right_line l) = is_bare l ≡ true
-IsReady _ = Unit {0}
+abbrev pub IsUsable : Line → Type 0
+IsUsable (place_line f i) = i < 2 ^ 16
+IsUsable (left_line l) = is_bare l ≡ true
+IsUsable (right_line l) = is_bare l ≡ true
+IsUsable _ = Unit {0}
 
 -- a line that asks nothing of the table, and does not end it
 abbrev pub IsFree : Line → Type 0

@@ -1,7 +1,5 @@
 //! How many certificates and steps there are.
-ghost use Rattle.std.specs.Prelude.{◌≡◌, ℕ, ◌≤◌, ◌<◌, ◌^◌, ◌==◌, false, length, List};
-ghost use Rattle.std.specs.List.{slice_get};
-ghost use Rattle.std.specs.Option.{option_map_or};
+ghost use Rattle.std.specs.Prelude.{◌≡◌, ℕ, ◌≤◌, ◌<◌, ◌^◌, length, List};
 ghost use Rattle.circ_line.specs.Plain.{plain_line};
 ghost use Rattle.circ_special.specs.declared.place.Place.{Place};
 ghost use Rattle.circ_special.specs.Special.{place};
@@ -9,9 +7,11 @@ ghost use Rattle.circ_proof.specs.Certified.{derivatives_at, due};
 ghost use Rattle.circ_theory.specs.Fresh.{derivatives_of};
 ghost use Rattle.circ_file.specs.View.{places_with};
 ghost use Rattle.circ_file.specs.Counting.{certificates_with, steps_with, version_with};
-ghost use Rattle.circ_file.specs.Counting.{givens_with, ifs_with};
+ghost use Rattle.circ_file.specs.Counting.{givens_with, ifs_with, CountsGiven};
 ghost use Rattle.circ_file.specs.Lines.{IsOther};
 
+use crate::MOST_CONDITIONS;
+use crate::taken::Taken;
 use circ_line::Line;
 use circ_theory::Theory;
 
@@ -80,6 +80,17 @@ impl Counts {
         }
         counts
     }
+
+    /// One condition of the last goal more, unless it passes the limit.
+    pub(crate) fn count_given(&mut self) -> Taken
+        ensures { CountsGiven result self.old self.new }
+    {
+        if self.givens >= MOST_CONDITIONS {
+            return Taken::Limit;
+        }
+        self.givens += 1;
+        Taken::Yes
+    }
 }
 
 // How many derivatives the result sort of an operator has.
@@ -99,20 +110,9 @@ fn derivative_count(theory: &Theory, sort: u32) -> u64
 {
     let mut count: u64 = 0;
     for number in 0..theory.derivative_count() {
-        if observes(theory, number, sort) {
+        if theory.takes(number, sort) {
             count += 1;
         }
     }
     count
-}
-
-// Whether the derivative has a hole of the sort.
-fn observes(theory: &Theory, number: u32, sort: u32) -> bool
-    ensures { result ≡ option_map_or (λ d. d.hole == sort)
-        (slice_get theory.now.derivatives number) false }
-{
-    match theory.hole_sort(number) {
-        Some(hole) => hole == sort,
-        None => false,
-    }
 }

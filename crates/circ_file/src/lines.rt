@@ -1,5 +1,5 @@
 //! Whole lines, read one after the other.
-ghost use Rattle.std.specs.Prelude.{◌≡◌, ◌==◌, ◌&&◌, List, ℕ, length, IfOk, []};
+ghost use Rattle.std.specs.Prelude.{◌≡◌, ◌==◌, ◌&&◌, List, ℕ, true, length, IfOk, []};
 ghost use Rattle.circ_line.specs.Line.{table_line, goal_line, given_line};
 ghost use Rattle.circ_line.specs.Line.{certificate_line, block_line};
 ghost use Rattle.circ_line.specs.Text.{IsInRange};
@@ -8,7 +8,7 @@ ghost use Rattle.circ_grammar.specs.Now.{Begin};
 ghost use Rattle.circ_special.specs.Special.{place};
 ghost use Rattle.circ_proof_text.specs.Checks.{nothing, passes_at, limit_at, is_next};
 ghost use Rattle.circ_proof_text.specs.Checks.{is_place};
-ghost use Rattle.circ_file.specs.View.{now_of, queue_of, splits_in, IsReady};
+ghost use Rattle.circ_file.specs.View.{now_of, queue_of, splits_in, IsUsable};
 ghost use Rattle.circ_file.specs.Lines.{IsReader, IsOther, seen_of, Advances, Handles};
 ghost use Rattle.circ_file.specs.Lines.{ReadsNext};
 
@@ -131,11 +131,7 @@ impl<'a> LineReader<'a> {
         if !self.machine.put_given(pair, left, right)? {
             return Ok(Taken::Line);
         }
-        if self.counts.givens >= MOST_CONDITIONS {
-            return Ok(Taken::Limit);
-        }
-        self.counts.givens += 1;
-        Ok(Taken::Yes)
+        Ok(self.counts.count_given())
     }
 
     // A line that is not of the table, and no goal and no condition of one.
@@ -148,10 +144,25 @@ impl<'a> LineReader<'a> {
             length wanted ≡ splits_in (now_of self.old.machine) →
             Handles taken wanted self.old (plain_line line) self.new) }
     {
-        self.theory.known();
         if !self.passes(&line) {
             return Ok(Taken::Line);
         }
+        self.take_passed(line)
+    }
+
+    // One of these that passes the checks.
+    fn take_passed(&mut self, line: Line) -> Result<Taken, AllocError>
+        requires reader { IsReader self.old }
+        requires other { IsOther (plain_line line) }
+        requires in_range { IsInRange (plain_line line) }
+        requires passes { (wanted : List ℕ) →
+            passes_at self.old.theory.now (seen_of wanted self.old) (plain_line line) ≡ true }
+        ensures theory { self.new.theory.now ≡ self.old.theory.now }
+        ensures taken { IfOk result (λ taken. (wanted : List ℕ) →
+            length wanted ≡ splits_in (now_of self.old.machine) →
+            Handles taken wanted self.old (plain_line line) self.new) }
+    {
+        self.theory.known();
         let is_over = self.passes_limit(&line);
         let counts = self.counts.with(self.theory, &line);
         if !self.advance(line)? {
@@ -168,7 +179,7 @@ impl<'a> LineReader<'a> {
     fn advance(&mut self, line: Line) -> Result<bool, AllocError>
         requires reader { IsReader self.old }
         requires other { IsOther (plain_line line) }
-        requires ready { IsReady (plain_line line) }
+        requires ready { IsUsable (plain_line line) }
         ensures theory { self.new.theory.now ≡ self.old.theory.now }
         ensures counts { self.new.counts ≡ self.old.counts }
         ensures taken { IfOk result (λ taken. Advances taken self.old (plain_line line) self.new) }

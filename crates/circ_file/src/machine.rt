@@ -10,7 +10,7 @@ ghost use Rattle.circ_grammar.specs.Now.{Begin, Ended, is_front, is_block, next_
 ghost use Rattle.circ_grammar.specs.Now.{next_given};
 ghost use Rattle.circ_proof_text.specs.Parts.{Head};
 ghost use Rattle.circ_file.specs.View.{now_of, queue_of, plain_part, shown_front_parts};
-ghost use Rattle.circ_file.specs.View.{IsKept, Moves, Pops};
+ghost use Rattle.circ_file.specs.View.{IsMachineOf, Moves, Pops};
 ghost use Rattle.circ_file.specs.declared.machine.Mode.TheVariants.{Opened};
 
 use crate::splits::OpenSplit;
@@ -70,7 +70,7 @@ impl Machine {
         ensures begin { now_of result ≡ Begin }
         ensures queue { queue_of result ≡ [] }
         ensures places { result.places.items ≡ [] }
-        ensures kept { (ts : List Tree) → IsKept ts result }
+        ensures kept { (ts : List Tree) → IsMachineOf ts result }
     {
         Machine {
             alloc,
@@ -89,7 +89,7 @@ impl Machine {
     }
 
     pub(crate) fn on_head(&mut self) -> bool
-        ensures { (ts : List Tree) (v : ℕ) → IsKept ts self.old →
+        ensures { (ts : List Tree) (v : ℕ) → IsMachineOf ts self.old →
             Moves result ts self.old (head_line v) self.new }
     {
         match self.mode {
@@ -102,14 +102,14 @@ impl Machine {
     }
 
     pub(crate) fn on_table(&mut self) -> bool
-        ensures { (ts : List Tree) (l : TableLine) → IsKept ts self.old →
+        ensures { (ts : List Tree) (l : TableLine) → IsMachineOf ts self.old →
             Moves result ts self.old (table_line l) self.new }
     {
         matches!(self.mode, Mode::Tabling)
     }
 
     pub(crate) fn on_place(&mut self, place: Place) -> Result<bool, AllocError>
-        ensures { IfOk result (λ taken. (ts : List Tree) → IsKept ts self.old →
+        ensures { IfOk result (λ taken. (ts : List Tree) → IsMachineOf ts self.old →
             Moves taken ts self.old (place_line place.op place.arg) self.new) }
     {
         match self.mode {
@@ -129,7 +129,7 @@ impl Machine {
         table: Table,
     ) -> Result<(), AllocError>
         requires front { is_front (now_of self.old) ≡ true }
-        requires kept { IsKept table self.old }
+        requires kept { IsMachineOf table self.old }
         requires set { IsSet theory.now self.old.places.items }
         ensures { OnOk result (Moves true table self.old certificate_line self.new) }
     {
@@ -142,7 +142,7 @@ impl Machine {
     /// A block begins.
     pub(crate) fn begin_block(&mut self, theory: &Theory, table: Table) -> Result<(), AllocError>
         requires block { is_block (now_of self.old) ≡ true }
-        requires kept { IsKept table self.old }
+        requires kept { IsMachineOf table self.old }
         requires set { IsSet theory.now self.old.places.items }
         ensures { OnOk result (Moves true table self.old block_line self.new) }
     {
@@ -154,7 +154,7 @@ impl Machine {
     }
 
     pub(crate) fn on_end(&mut self) -> bool
-        ensures { (ts : List Tree) → IsKept ts self.old →
+        ensures { (ts : List Tree) → IsMachineOf ts self.old →
             Moves result ts self.old end_line self.new }
     {
         match self.mode {
@@ -188,7 +188,7 @@ impl Machine {
         ensures popped { Pops result (queue_of self.old) (queue_of self.new) }
         ensures next { now_of self.new ≡ now_of self.old }
         ensures places { self.new.places ≡ self.old.places }
-        ensures kept { (ts : List Tree) → IsKept ts self.old → IsKept ts self.new }
+        ensures kept { (ts : List Tree) → IsMachineOf ts self.old → IsMachineOf ts self.new }
     {
         self.queue.pop_front()
     }
@@ -212,7 +212,7 @@ impl Machine {
 
     // The part that ends where a certificate or the first block begins goes to the queue.
     fn end_front(&mut self, theory: &Theory, table: Table) -> Result<(), AllocError>
-        requires kept { IsKept table self.old }
+        requires kept { IsMachineOf table self.old }
         requires set { IsSet theory.now self.old.places.items }
         ensures queue { OnOk result (queue_of self.new ≡
             queue_of self.old ++ shown_front_parts table (now_of self.old)) }

@@ -2,7 +2,7 @@
 ghost use Rattle.std.specs.Prelude.{◌≡◌, List, IfOk};
 ghost use Rattle.circ_term.specs.Tree.{Tree};
 ghost use Rattle.circ_line.specs.Plain.{plain_line};
-ghost use Rattle.circ_file.specs.View.{now_of, IsKept, Moves, IsReady, IsFree, IsInside};
+ghost use Rattle.circ_file.specs.View.{now_of, IsMachineOf, Moves, IsUsable, IsFree, IsInside};
 ghost use Rattle.circ_file.specs.View.{now_outside, splits_in};
 
 use crate::machine::{Machine, Mode};
@@ -13,9 +13,9 @@ use std::alloc::AllocError;
 impl Machine {
     /// Takes the line, where it may come next. It asks nothing of the table.
     pub(crate) fn take(&mut self, line: Line) -> Result<bool, AllocError>
-        requires ready { IsReady (plain_line line) }
+        requires ready { IsUsable (plain_line line) }
         requires free { IsFree (plain_line line) }
-        ensures { IfOk result (λ taken. (ts : List Tree) → IsKept ts self.old →
+        ensures { IfOk result (λ taken. (ts : List Tree) → IsMachineOf ts self.old →
             Moves taken ts self.old (plain_line line) self.new) }
     {
         match line {
@@ -32,8 +32,8 @@ impl Machine {
     // A line of a step or of a certificate.
     fn take_inside(&mut self, line: Line) -> Result<bool, AllocError>
         requires inside { IsInside (plain_line line) }
-        requires ready { IsReady (plain_line line) }
-        ensures { IfOk result (λ taken. (ts : List Tree) → IsKept ts self.old →
+        requires ready { IsUsable (plain_line line) }
+        ensures { IfOk result (λ taken. (ts : List Tree) → IsMachineOf ts self.old →
             Moves taken ts self.old (plain_line line) self.new) }
     {
         match line {

@@ -12,7 +12,7 @@ ghost use Rattle.circ_proof_text.specs.ProofText.{ReadsAsProof};
 ghost use Rattle.circ_file.specs.View.{now_of, queue_of, splits_in, Pops};
 ghost use Rattle.circ_file.specs.Lines.{IsReader, ReadsNext};
 ghost use Rattle.circ_file.specs.Feeding.{IsCut, IsSound, Stands, EndsLine, FeedsLines};
-ghost use Rattle.circ_file.specs.Feeding.{Feeds, Hands, Ends, handed_with, AreShown};
+ghost use Rattle.circ_file.specs.Feeding.{Feeds, Hands, EndsText, handed_with, AreShown};
 ghost use Rattle.circ_file.specs.Feeding.{whole_lines_in, fault_of, waiting_in, version_in};
 ghost use Rattle.circ_file.specs.declared.fault.FileFault.{FileFault};
 
@@ -109,7 +109,7 @@ impl<'a> FileReader<'a> {
     pub fn end(&self) -> Result<(), FileFault>
         requires sound { IsSound self.now }
         ensures stands { (th : Theory) (x : List ℕ) (handed : List PlainPart) →
-            Stands th x handed self.now → Ends result th x handed self.now }
+            Stands th x handed self.now → EndsText result th x handed self.now }
         ensures again { (fault : FileFault) → fault_of self.now ≡ Some fault → result ≡ Err fault }
     {
         if let Some(fault) = self.fault {

@@ -12,7 +12,8 @@ ghost use Rattle.circ_theory.specs.Pairs.{plain_pair};
 ghost use Rattle.circ_grammar.specs.Grammar.{is_bare};
 ghost use Rattle.circ_grammar.specs.Machine.{goal_names};
 ghost use Rattle.circ_file.specs.Splits.{given, tops, now_given, parts_given};
-ghost use Rattle.circ_file.specs.View.{now_of, queue_of, shown_step_parts, IsKept, Moves, Begins};
+ghost use Rattle.circ_file.specs.View.{now_of, queue_of, shown_step_parts};
+ghost use Rattle.circ_file.specs.View.{IsMachineOf, Moves, Begins};
 ghost use Rattle.circ_file.specs.View.{EndsLast};
 ghost use Rattle.circ_file.specs.declared.machine.Mode.TheVariants.{Opened, Joining};
 
@@ -29,7 +30,7 @@ impl Machine {
     /// A block began, and no step of it. The goal is of the terms that its numbers name.
     pub(crate) fn put_goal(&mut self, goal: Goal, left: u32, right: u32) -> Result<(), AllocError>
         requires { self.old.mode ≡ Opened }
-        ensures { OnOk result ((ts : List Tree) → IsKept ts self.old →
+        ensures { OnOk result ((ts : List Tree) → IsMachineOf ts self.old →
             goal ≡ goal_at ts (goal_names left right) →
             Moves true ts self.old (goal_line left right) self.new) }
     {
@@ -48,7 +49,7 @@ impl Machine {
         right: u32,
     ) -> Result<bool, AllocError>
         requires { self.old.mode ≡ Opened }
-        ensures { IfOk result (λ taken. (ts : List Tree) → IsKept ts self.old →
+        ensures { IfOk result (λ taken. (ts : List Tree) → IsMachineOf ts self.old →
             plain_pair pair ≡ pair_at ts (left, right) →
             Moves taken ts self.old (given_line left right) self.new) }
     {
@@ -66,7 +67,7 @@ impl Machine {
     }
 
     pub(crate) fn on_simplify(&mut self) -> Result<bool, AllocError>
-        ensures { IfOk result (λ taken. (ts : List Tree) → IsKept ts self.old →
+        ensures { IfOk result (λ taken. (ts : List Tree) → IsMachineOf ts self.old →
             Moves taken ts self.old simplify_line self.new) }
     {
         if !self.begin_step()? {
@@ -78,7 +79,7 @@ impl Machine {
     }
 
     pub(crate) fn on_reduce(&mut self) -> Result<bool, AllocError>
-        ensures { IfOk result (λ taken. (ts : List Tree) → IsKept ts self.old →
+        ensures { IfOk result (λ taken. (ts : List Tree) → IsMachineOf ts self.old →
             Moves taken ts self.old reduce_line self.new) }
     {
         if !self.begin_step()? {
@@ -91,7 +92,7 @@ impl Machine {
     }
 
     pub(crate) fn on_derive(&mut self) -> Result<bool, AllocError>
-        ensures { IfOk result (λ taken. (ts : List Tree) → IsKept ts self.old →
+        ensures { IfOk result (λ taken. (ts : List Tree) → IsMachineOf ts self.old →
             Moves taken ts self.old derive_line self.new) }
     {
         if !self.begin_step()? {
@@ -103,7 +104,7 @@ impl Machine {
     }
 
     pub(crate) fn on_cases(&mut self, term: u32) -> Result<bool, AllocError>
-        ensures { IfOk result (λ taken. (ts : List Tree) → IsKept ts self.old →
+        ensures { IfOk result (λ taken. (ts : List Tree) → IsMachineOf ts self.old →
             Moves taken ts self.old (cases_line term) self.new) }
     {
         if !self.begin_step()? {
@@ -116,7 +117,7 @@ impl Machine {
     }
 
     pub(crate) fn on_done(&mut self) -> Result<bool, AllocError>
-        ensures { IfOk result (λ taken. (ts : List Tree) → IsKept ts self.old →
+        ensures { IfOk result (λ taken. (ts : List Tree) → IsMachineOf ts self.old →
             Moves taken ts self.old done_line self.new) }
     {
         if !self.begin_step()? {
@@ -129,7 +130,7 @@ impl Machine {
 
     pub(crate) fn on_left(&mut self, link: Link) -> Result<bool, AllocError>
         requires { is_bare (plain_link link) ≡ true }
-        ensures { IfOk result (λ taken. (ts : List Tree) → IsKept ts self.old →
+        ensures { IfOk result (λ taken. (ts : List Tree) → IsMachineOf ts self.old →
             Moves taken ts self.old (left_line (plain_link link)) self.new) }
     {
         match self.mode {
@@ -157,7 +158,7 @@ impl Machine {
 
     pub(crate) fn on_right(&mut self, link: Link) -> Result<bool, AllocError>
         requires { is_bare (plain_link link) ≡ true }
-        ensures { IfOk result (λ taken. (ts : List Tree) → IsKept ts self.old →
+        ensures { IfOk result (λ taken. (ts : List Tree) → IsMachineOf ts self.old →
             Moves taken ts self.old (right_line (plain_link link)) self.new) }
     {
         match self.mode {
@@ -174,7 +175,7 @@ impl Machine {
     }
 
     pub(crate) fn on_same(&mut self) -> Result<bool, AllocError>
-        ensures { IfOk result (λ taken. (ts : List Tree) → IsKept ts self.old →
+        ensures { IfOk result (λ taken. (ts : List Tree) → IsMachineOf ts self.old →
             Moves taken ts self.old same_line self.new) }
     {
         match self.mode {
@@ -189,7 +190,7 @@ impl Machine {
     }
 
     pub(crate) fn on_split(&mut self, term: u32, count: u32) -> Result<bool, AllocError>
-        ensures { IfOk result (λ taken. (ts : List Tree) → IsKept ts self.old →
+        ensures { IfOk result (λ taken. (ts : List Tree) → IsMachineOf ts self.old →
             Moves taken ts self.old (split_line term count) self.new) }
     {
         match self.mode {
@@ -288,7 +289,7 @@ impl Machine {
 
     // Whether a step may begin. The part that ends by it goes to the queue.
     fn begin_step(&mut self) -> Result<bool, AllocError>
-        ensures { IfOk result (λ taken. (ts : List Tree) → IsKept ts self.old →
+        ensures { IfOk result (λ taken. (ts : List Tree) → IsMachineOf ts self.old →
             Begins taken ts self.old self.new) }
     {
         match self.mode {
@@ -332,7 +333,7 @@ impl Machine {
         ensures queue { OnOk result (queue_of self.new ≡ queue_of self.old ++
             parts_given (given (tops self.old.splits.items []) (plain_why why))) }
         ensures places { OnOk result (self.new.places.items ≡ self.old.places.items) }
-        ensures kept { OnOk result ((ts : List Tree) → IsKept ts self.new) }
+        ensures kept { OnOk result ((ts : List Tree) → IsMachineOf ts self.new) }
     {
         match give(&mut self.splits, why)? {
             Some(why) => {

@@ -8,7 +8,7 @@ pub(crate) struct CommandWords {
 }
 
 /// All commands, in the order in which they are shown.
-pub(crate) const COMMANDS: [CommandWords; 9] = [
+pub(crate) const COMMANDS: [CommandWords; 12] = [
     CommandWords {
         name: "prove",
         takes: "THEORY SCRIPT PROOF",
@@ -40,6 +40,18 @@ pub(crate) const COMMANDS: [CommandWords; 9] = [
     CommandWords {
         name: "library",
         takes: "NAME",
+    },
+    CommandWords {
+        name: "differ",
+        takes: "THEORY SCRIPT",
+    },
+    CommandWords {
+        name: "regex",
+        takes: "LEFT RIGHT PROOF",
+    },
+    CommandWords {
+        name: "upgrade",
+        takes: "THEORY PROOF NEW",
     },
     CommandWords {
         name: "same",

@@ -84,6 +84,16 @@ fn push_mark(out: &mut String, blanks: usize, width: usize) -> Result<(), AllocE
     out.push('\n')
 }
 
+/// The bytes of a place.
+pub(crate) fn bytes_at(bytes: &[u8], place: Place) -> &[u8] {
+    let rest = rest_from(bytes, place.at);
+    if place.width < rest.len() {
+        &rest[..place.width]
+    } else {
+        rest
+    }
+}
+
 /// The bytes from a place on.
 fn rest_from(bytes: &[u8], at: usize) -> &[u8] {
     if at < bytes.len() { &bytes[at..] } else { &[] }

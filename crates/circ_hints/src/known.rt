@@ -46,7 +46,7 @@ impl<'a> Known<'a> {
         let mut from = 0;
         for n in 0..end {
             if ends_statement(tokens, n, from) {
-                let part = part_between(from, n);
+                let part = part_between(behind_parentheses(tokens, from), n);
                 self.declare(tokens, part)?;
                 self.include(alloc, tokens, part)?;
                 from = next(n);
@@ -99,6 +99,20 @@ impl<'a> Known<'a> {
             }
             _ => Ok(()),
         }
+    }
+}
+
+/// The first token from one on that is neither the end of an item in parentheses nor the begin of one.
+fn behind_parentheses(tokens: &Tokens<'_>, from: usize) -> usize {
+    let begin = if is(tokens, from, b")") {
+        next(from)
+    } else {
+        from
+    };
+    if is(tokens, begin, b"(") {
+        next(begin)
+    } else {
+        begin
     }
 }
 

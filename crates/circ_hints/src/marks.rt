@@ -18,6 +18,8 @@ enum Side {
 pub(crate) struct Mark {
     token: usize,
     side: Side,
+    /// Whether the token is named beside the cause.
+    pub names: bool,
     pub says: &'static str,
 }
 
@@ -27,6 +29,17 @@ impl Mark {
         Mark {
             token,
             side: Side::Below,
+            names: false,
+            says,
+        }
+    }
+
+    /// A mark below a token that is named.
+    pub fn naming(token: usize, says: &'static str) -> Mark {
+        Mark {
+            token,
+            side: Side::Below,
+            names: true,
             says,
         }
     }
@@ -36,6 +49,7 @@ impl Mark {
         Mark {
             token,
             side: Side::Behind,
+            names: false,
             says,
         }
     }
@@ -45,6 +59,7 @@ impl Mark {
         Mark {
             token,
             side: Side::LastByte,
+            names: false,
             says,
         }
     }

@@ -21,8 +21,11 @@ impl<'a> Asked<'a> {
         }
     }
 
-    /// The name of a file, by its number from 1.
+    /// The name of a file, by its number from 1. The words of `regex` are no files.
     pub fn file(&self, number: u8) -> Option<&'a str> {
+        if self.command() == "regex" {
+            return None;
+        }
         self.plain(usize::from(number))
     }
 
@@ -36,7 +39,7 @@ impl<'a> Asked<'a> {
         match self.command() {
             "same" => SourceKind::Automaton,
             _ if number <= 1 => SourceKind::Theory,
-            "prove" | "reduce" => SourceKind::Script,
+            "prove" | "reduce" | "differ" => SourceKind::Script,
             _ => SourceKind::Proof,
         }
     }

@@ -9,7 +9,7 @@ use circ_lexer::Tokens;
 pub(crate) fn unread_word(tokens: &Tokens<'_>, part: Part, known: &Known<'_>) -> Mark {
     let from = terms_begin(tokens, part);
     if let Some(number) = undeclared(tokens, from, part.to, known) {
-        return Mark::at(
+        return Mark::naming(
             number,
             "nothing that is declared before has this word (an inclusion brings no variables)",
         );

@@ -1,7 +1,7 @@
 //! The hint for a text that was not read.
 use crate::automata::automaton_shape;
 use crate::causes::{name_of, says_of};
-use crate::drawing::{Place, push_picture, push_position};
+use crate::drawing::{Place, bytes_at, push_picture, push_position};
 use crate::known::{Known, Wanted};
 use crate::marks::Mark;
 use crate::parts::{Part, first, is, item_at, next, statement_at};
@@ -12,6 +12,7 @@ use crate::texts::push_line;
 use circ_lexer::Tokens;
 use circ_read::Cause;
 use std::alloc::{AllocError, Global};
+use std::str;
 
 /// As many names of a statement as are looked up.
 const MOST_NAMES: usize = 100;
@@ -40,6 +41,7 @@ pub struct Source<'a> {
 #[derive(Clone, Copy)]
 struct Finding {
     place: Place,
+    names: bool,
     says: &'static str,
 }
 
@@ -65,8 +67,18 @@ fn push_finding(
 ) -> Result<(), AllocError> {
     push_position(out, source.name, source.bytes, finding.place.at)?;
     out.push_str(cause)?;
+    if finding.names {
+        push_name(out, bytes_at(source.bytes, finding.place))?;
+    }
     push_line(out, ": ", finding.says)?;
     push_picture(out, source.bytes, finding.place)
+}
+
+/// Appends a name between marks.
+fn push_name(out: &mut String, name: &[u8]) -> Result<(), AllocError> {
+    out.push_str(" `")?;
+    out.push_str(str::from_utf8(name).unwrap_or(""))?;
+    out.push('`')
 }
 
 fn find(
@@ -81,12 +93,14 @@ fn find(
                 at: *place as usize,
                 width: 1,
             },
+            names: false,
             says: says_of(cause),
         });
     }
     if source.kind == SourceKind::Proof {
         return Ok(Finding {
             place: line_at(source.bytes, number),
+            names: false,
             says: says_of(cause),
         });
     }
@@ -123,12 +137,14 @@ fn token_finding(
     let Ok(tokens) = Tokens::of(alloc, source.bytes) else {
         return Ok(Finding {
             place: Place { at: 0, width: 1 },
+            names: false,
             says: says_of(cause),
         });
     };
     let mark = mark_of(alloc, source, &tokens, number, cause)?;
     Ok(Finding {
         place: mark.place(&tokens, source.bytes.len()),
+        names: mark.names,
         says: mark.says,
     })
 }
@@ -174,6 +190,7 @@ fn by_form(
         Cause::LeftOut { word } => left_out(tokens, part, number, word.bytes()),
         Cause::Shape => shape(source, tokens, part, number),
         Cause::NoGoal | Cause::Limit { .. } => Mark::at(part.from, says),
+        Cause::UnknownTheory => Mark::naming(part.nth(1), says),
         Cause::Unclosed => Mark::behind(tokens.count().saturating_sub(1), says),
         _ => Mark::at(part.nth(1), says),
     }
@@ -199,7 +216,7 @@ fn left_out(tokens: &Tokens<'_>, part: Part, number: u64, word: &[u8]) -> Mark {
         };
     }
     match first(tokens, part.from, part.to, word) {
-        Some(found) => Mark::at(found, "circ does not have this"),
+        Some(found) => Mark::naming(found, "circ does not have this"),
         None => Mark::at(part.from, "circ does not have this"),
     }
 }
@@ -255,7 +272,7 @@ fn unknown_sort(tokens: &Tokens<'_>, part: Part, known: &Known<'_>) -> Mark {
     for number in from..part.to {
         match tokens.token(number) {
             Some(name) if known.has(name) || is(tokens, number, b"->") => {}
-            _ => return Mark::at(number, says),
+            _ => return Mark::naming(number, says),
         }
     }
     Mark::at(from, says)
@@ -270,9 +287,9 @@ fn declared_twice(tokens: &Tokens<'_>, part: Part, known: &Known<'_>) -> Mark {
     for number in begin..colon.min(part.nth(MOST_NAMES)) {
         if let Some(name) = tokens.token(number) {
             if known.has(name) || first(tokens, begin, number, name).is_some() {
-                return Mark::at(number, says);
+                return Mark::naming(number, says);
             }
         }
     }
-    Mark::at(begin, says)
+    Mark::naming(begin, says)
 }

@@ -1,8 +1,9 @@
 //! Whether two terms join by hypotheses at special paths.
-ghost use Rattle.std.specs.Prelude.{◌≡◌, ◌≤◌, [], ◌∷◌, ◌++◌, length};
+ghost use Rattle.std.specs.Prelude.{◌≡◌, ◌≤◌, [], ◌∷◌, ◌++◌, length, false, None};
 ghost use Rattle.std.specs.Prelude.{map, IfOk, OnOk};
 ghost use Rattle.std.specs.Option.{option_map};
 ghost use Rattle.circ_term.specs.Tree.{trees_of};
+ghost use Rattle.circ_term.specs.Order.{is_same};
 ghost use Rattle.circ_plain_search.specs.Joining.{first_use, joined, all_joined, is_place};
 ghost use Rattle.circ_join.specs.Hypotheses.{way_at};
 ghost use Rattle.circ_join.specs.Uses.{plain_use, plain_uses, Joins};
@@ -62,6 +63,24 @@ impl Joining<'_> {
             uses.push(one)?;
             return Ok(true);
         }
+        self.joins_inside(a, b, path, uses)
+    }
+
+    // The same of terms that differ, where no hypothesis is used on them: their arguments join.
+    #[cycle(join)]
+    fn joins_inside(
+        &self,
+        a: &Term,
+        b: &Term,
+        path: &mut Path,
+        uses: &mut Vec<HypothesisUse>,
+    ) -> Result<bool, AllocError>
+        requires differ { is_same a.now b.now ≡ false }
+        requires unused { first_use 0 self.now.hyps.now.all path.old.items a.now b.now ≡ None }
+        ensures exact { Joins (joined self.now.gamma.now self.now.hyps.now.all path.old.items
+            a.now b.now) (plain_uses uses.old.items) (plain_uses uses.new.items) result }
+        ensures path { OnOk result (path.new.items ≡ path.old.items) }
+    {
         match (a.kind(), b.kind()) {
             (Kind::Variable { .. }, _) => Ok(false),
             (Kind::Application { .. }, Kind::Variable { .. }) => Ok(false),

@@ -31,7 +31,7 @@ pub(crate) fn advance(
         → HasSettledBelow (due_by means.now) t
         → Advances (due_by means.now) nodes.new bounds budget.old budget.new t result }
 {
-    let Some(choice) = means.choose(nodes, number)? else {
+    let Some(choice) = means.choose_above(nodes, number)? else {
         return Ok(None);
     };
     if *budget == 0 {

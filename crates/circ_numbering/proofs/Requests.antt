@@ -1,11 +1,15 @@
 -- One request to a table after another.
-use Rattle.std.proofs.Common.{◌≡◌, ℕ, true, List, [], ◌∷◌, ◌++◌, refl, ap, sym, subst, ◌∙◌, arith}
+use Rattle.std.proofs.Common.{◌≡◌, ℕ, true, List, [], ◌∷◌, ◌++◌, map, Result, Ok, Err, refl, ap, sym, subst, ◌∙◌, arith}
 use Rattle.circ_term.specs.Tree.{Tree}
 use Rattle.circ_term.specs.Growing.{Grows}
+use Rattle.circ_proof.specs.Plain.{LinkOf, ChainsOf, plain_link, plain_chains, map_chains}
+use Rattle.circ_proof.specs.Link.{chains_terms}
+use Rattle.circ_proof.specs.declared.links.Link.{Link}
 use Rattle.circ_proof.specs.Table.{added, has, number_in}
 use Rattle.circ_proof.proofs.Tables.{grows_self, grows_more, grows_length, added_grows, added_has, number_stays}
 use Rattle.circ_plain_search.specs.Numbering.{asked_for}
-use Rattle.circ_numbering.specs.Asking.{IsFaultOf}
+use Rattle.circ_numbering.specs.Asking.{IsFaultOf, Asks, MakesLink}
+use Rattle.circ_numbering.specs.declared.asking.Parts.{Parts}
 use Rattle.circ_numbering.specs.declared.fault.NumberFault.{NumberFault}
 use Rattle.circ_numbering.specs.declared.fault.NumberFault.TheVariants as fault
 
@@ -51,3 +55,15 @@ number_later old new table t n e m a =
 pub earlier_named : {X : Type 0} (Named : List Tree → X → Type 0) (mid new us : List Tree) (x : X) → new ≡ asked_for mid us
     → ((table : List Tree) → Grows mid table → Named table x) → (table : List Tree) → Grows new table → Named table x
 earlier_named Named mid new us x e h table a = h table (later_too mid new us table e a)
+
+-- the link that parts make
+pub parts_asked : (make : (path terms : List ℕ) → ChainsOf ℕ → LinkOf ℕ) (path : List ℕ) (old new ts : List Tree) (cs : ChainsOf Tree)
+    (parts : Result Parts NumberFault) (result : Result (Link ℕ) NumberFault)
+    → Asks old new (ts ++ chains_terms cs)
+    (λ t g. (g.path.items ≡ path) × (g.terms.items ≡ map (number_in t) ts) × (plain_chains g.conds.items ≡ map_chains (number_in t) cs)) parts
+    → MakesLink make parts result
+    → Asks old new (ts ++ chains_terms cs) (λ t x. plain_link x ≡ make path (map (number_in t) ts) (map_chains (number_in t) cs)) result
+parts_asked make path old new ts cs (Ok p) (Ok x) a m = (a.0, λ table g. let h = a.1 table g in m ∙ (λ i. make (h.0 i) (h.1 i) (h.2 i)))
+parts_asked make path old new ts cs (Ok p) (Err e) a m = absurd m
+parts_asked make path old new ts cs (Err f) (Ok x) a m = absurd m
+parts_asked make path old new ts cs (Err f) (Err e) a m = subst (IsFaultOf (asked_for old (ts ++ chains_terms cs))) (sym m) a

@@ -1,12 +1,12 @@
 //! Terms and links, with their numbers in a table.
 ghost use Rattle.std.specs.Prelude.{◌≡◌, ◌∷◌, ◌++◌, [], map, IfOk, IfErr};
 ghost use Rattle.circ_proof.specs.Plain.{plain_link, plain_links, plain_chain, plain_chains};
-ghost use Rattle.circ_proof.specs.Plain.{Equation_link, Hypothesis_link};
+ghost use Rattle.circ_proof.specs.Plain.{Equation_link, Hypothesis_link, Content_link};
 ghost use Rattle.circ_proof.specs.Plain.{map_link, map_chain, map_chains};
 ghost use Rattle.circ_proof.specs.Link.{terms_of, chains_terms};
 ghost use Rattle.circ_proof.specs.Table.{number_in};
 ghost use Rattle.circ_plain_search.specs.Numbering.{links_terms, chain_terms, numbered_links};
-ghost use Rattle.circ_numbering.specs.Asking.{Asks};
+ghost use Rattle.circ_numbering.specs.Asking.{Asks, MakesLink};
 ghost use Rattle.circ_numbering.specs.declared.fault.NumberFault.TheVariants.{Memory};
 
 use crate::fault::NumberFault;
@@ -79,30 +79,26 @@ fn link(alloc: Global, table: &mut TableBuilder, recorded: &Link<Term>) -> Resul
             path,
             terms,
             conds,
-        } => match numbered_parts(alloc, table, path, terms.as_slice(), conds.as_slice()) {
-            Ok(parts) => Ok(equation_link(*number, *way, parts)),
-            Err(fault) => Err(fault),
-        },
+        } => {
+            let parts = numbered_parts(alloc, table, path, terms.as_slice(), conds.as_slice());
+            equation_link(*number, *way, parts)
+        }
         Link::Hypothesis {
             number,
             way,
             path,
             terms,
             conds,
-        } => match numbered_parts(alloc, table, path, terms.as_slice(), conds.as_slice()) {
-            Ok(parts) => Ok(hypothesis_link(*number, *way, parts)),
-            Err(fault) => Err(fault),
-        },
+        } => {
+            let parts = numbered_parts(alloc, table, path, terms.as_slice(), conds.as_slice());
+            hypothesis_link(*number, *way, parts)
+        }
         Link::Assumption { number, way, path } => Ok(Link::Assumption {
             number: *number,
             way: *way,
             path: copied(alloc, path)?,
         }),
-        Link::Content { op, path, term } => Ok(Link::Content {
-            op: *op,
-            path: copied(alloc, path)?,
-            term: number(table, term)?,
-        }),
+        Link::Content { op, path, term } => content_link(alloc, table, *op, path, term),
     }
 }
 
@@ -115,29 +111,58 @@ struct Parts {
     conds: Vec<Chain>,
 }
 
-fn equation_link(number: u32, way: Way, parts: Parts) -> Link
-    ensures { plain_link result ≡ Equation_link number way parts.path.items parts.terms.items
-        (plain_chains parts.conds.items) }
+fn equation_link(
+    number: u32,
+    way: Way,
+    parts: Result<Parts, NumberFault>,
+) -> Result<Link, NumberFault>
+    ensures { MakesLink (Equation_link number way) parts result }
 {
-    Link::Equation {
-        number,
-        way,
-        path: parts.path,
-        terms: parts.terms,
-        conds: parts.conds,
+    match parts {
+        Ok(parts) => Ok(Link::Equation {
+            number,
+            way,
+            path: parts.path,
+            terms: parts.terms,
+            conds: parts.conds,
+        }),
+        Err(fault) => Err(fault),
     }
 }
 
-fn hypothesis_link(number: u32, way: Way, parts: Parts) -> Link
-    ensures { plain_link result ≡ Hypothesis_link number way parts.path.items parts.terms.items
-        (plain_chains parts.conds.items) }
+fn hypothesis_link(
+    number: u32,
+    way: Way,
+    parts: Result<Parts, NumberFault>,
+) -> Result<Link, NumberFault>
+    ensures { MakesLink (Hypothesis_link number way) parts result }
 {
-    Link::Hypothesis {
-        number,
-        way,
-        path: parts.path,
-        terms: parts.terms,
-        conds: parts.conds,
+    match parts {
+        Ok(parts) => Ok(Link::Hypothesis {
+            number,
+            way,
+            path: parts.path,
+            terms: parts.terms,
+            conds: parts.conds,
+        }),
+        Err(fault) => Err(fault),
+    }
+}
+
+fn content_link(
+    alloc: Global,
+    table: &mut TableBuilder,
+    op: u32,
+    path: &Path,
+    term: &Term,
+) -> Result<Link, NumberFault>
+    ensures { Asks table.old table.new (term.now ∷ [])
+        (λ t x. plain_link x ≡ Content_link op path.now.items (number_in t term.now)) result }
+{
+    let path = copied(alloc, path)?;
+    match number(table, term) {
+        Ok(term) => Ok(Link::Content { op, path, term }),
+        Err(fault) => Err(fault),
     }
 }
 

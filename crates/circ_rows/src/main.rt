@@ -16,7 +16,7 @@ use std::alloc::{AllocError, Global};
 use std::{fs, io};
 
 /// The tables, in the order in which they are run.
-const TABLES: [&str; 25] = [
+const TABLES: [&str; 27] = [
     "rows-words",
     "rows-faults",
     "rows-causes",
@@ -42,6 +42,8 @@ const TABLES: [&str; 25] = [
     "rows-automata",
     "rows-expressions",
     "rows-upgrade",
+    "rows-differ",
+    "rows-experiments",
 ];
 
 /// The table of which each call of the outside fails in turn.

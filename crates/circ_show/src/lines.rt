@@ -1,5 +1,5 @@
 //! The lines of a theory's text.
-ghost use Rattle.std.specs.Prelude.{◌≡◌, ◌++◌, codes, flat_map, map, IfOk, OnOk};
+ghost use Rattle.std.specs.Prelude.{◌≡◌, ◌∷◌, ◌++◌, [], codes, flat_map, map, IfOk, OnOk};
 ghost use Rattle.std.specs.Option.{option_copied};
 ghost use Rattle.circ_form.specs.Form.{text_of};
 ghost use Rattle.circ_theory.specs.Theory.{declared, goal_of};
@@ -75,7 +75,7 @@ pub fn put_equation(
     ensures { OnOk result (out.new.items ≡
         out.old.items ++ equation_line theory.now.signature equation.now) }
 {
-    put_equation_word(out, equation.conds.as_slice())?;
+    out.extend_from_slice(equation_word(equation.conds.as_slice()))?;
     let goal = goal_of(alloc, equation)?;
     print_goal(alloc, theory, &goal, out)?;
     if !equation.exec {
@@ -85,14 +85,13 @@ pub fn put_equation(
 }
 
 // The word that an equation with these conditions begins with.
-fn put_equation_word(out: &mut Vec<u8>, conds: &[Pair]) -> Result<(), AllocError>
-    ensures { OnOk result (out.new.items ≡
-        out.old.items ++ equation_word (map plain_pair conds.now)) }
+fn equation_word(conds: &[Pair]) -> &'static [u8]
+    ensures { result.now ≡ equation_word (map plain_pair conds.now) }
 {
     if conds.is_empty() {
-        return out.extend_from_slice(b"eq ");
+        return b"eq ";
     }
-    out.extend_from_slice(b"ceq ")
+    b"ceq "
 }
 
 // What an equation says. Its terms are shared.
@@ -169,12 +168,19 @@ fn put_form(out: &mut Vec<u8>, pieces: &[Piece]) -> Result<(), AllocError>
     ensures { OnOk result (out.new.items ≡ out.old.items ++ text_of pieces.now) }
 {
     for piece in pieces {
-        match piece {
-            Piece::Hole => out.push(b'_')?,
-            Piece::Word(word) => out.extend_from_slice(word.bytes())?,
-        }
+        out.extend_from_slice(piece_bytes(piece))?;
     }
     Ok(())
+}
+
+// A hole is an underscore.
+fn piece_bytes(piece: &Piece) -> &[u8]
+    ensures { result.now ≡ text_of (piece.now ∷ []) }
+{
+    match piece {
+        Piece::Hole => b"_",
+        Piece::Word(word) => word.bytes(),
+    }
 }
 
 fn put_names(out: &mut Vec<u8>, theory: &Theory, sorts: &[u32]) -> Result<(), AllocError>

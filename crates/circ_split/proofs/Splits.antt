@@ -11,14 +11,14 @@ use Rattle.circ_theory.specs.declared.pairs.Pair.{Pair as PairOfTerms}
 use Rattle.circ_proof.specs.Plain.{Same_why, Split_why, WhysOf, no_why, more_whys}
 use Rattle.circ_rewrite.specs.declared.parts.Rule.{Rule}
 use Rattle.circ_plain_search.specs.Joining.{Stop, and_then, first_open}
-use Rattle.circ_plain_search.specs.Search.{Sides, normal_sides, reason_with, SplitReason, split_with, Splitter, case_reason, case_of, each_case, open_cases, split_cases}
+use Rattle.circ_plain_search.specs.Search.{Sides, normal_sides, Reason, reason_with, SplitReason, split_with, Splitter, case_reason, case_of, each_case, open_cases, split_cases}
 use Rattle.circ_plain_search.proofs.Uses.{map_append}
 use Rattle.circ_proof.specs.Plain.{plain_why, plain_whys}
 use Rattle.circ_proof.specs.declared.links.Why.{Why}
 use Rattle.circ_join.specs.Stopping.{Stops}
 use Rattle.circ_join.specs.declared.stop.Stop.{Stop as TheStop}
 use Rattle.circ_join.specs.declared.stop.Stop.TheVariants as stop
-use Rattle.circ_split.specs.Answers.{case_answer, onto}
+use Rattle.circ_split.specs.Answers.{GivesReason, case_answer, onto}
 
 -- a case that is assumed last
 pub with_case : (old : List PairOfTerms) (p : PairOfTerms) (new : List PairOfTerms) (x : Pair) → new ≡ old ++ p ∷ [] → plain_pair p ≡ x
@@ -113,20 +113,24 @@ split_open th R (suc m) A s t k h =
     let e : m ≡ suc m - 1 = omega arith in
     ap (λ j. open_cases th R (split_cases th R j) (option_or (first_open th s) (first_open th t)) A s t k) e
 
-pub answer_same : (th : Theory) (R : List Rule) (room : ℕ) (A : List Pair) (s t : Tree) (k : ℕ) (n : Sides) → normal_sides th R A s t k ≡ Ok n → n.left ≡ n.right
-    → case_answer th R room A s t k ≡ Ok (reason_with (Same_why n.chain) n.budget)
-answer_same th R room A s t k n e same =
+-- what a case gives, once its sides are there
+pub case_given : (r : Result Sides Stop) (f : Sides → Result Reason Stop) (n : Sides) (k : ℕ) (w : Result (Why Tree) TheStop) → r ≡ Ok n
+    → GivesReason (f n) k w → GivesReason (and_then r f) k w
+case_given r f n k w e g = let P : Result Sides Stop → Type 0 = λ x. GivesReason (and_then x f) k w in subst P (sym e) g
+
+-- sides that are the same end it
+pub case_ends : (again : Splitter) (A : List Pair) (n : Sides) → n.left ≡ n.right → case_reason again A n ≡ Ok (reason_with (Same_why n.chain) n.budget)
+case_ends again A n same =
     let P : Tree → Type 0 = λ x. is_same n.left x ≡ true in
     let z : is_same n.left n.right ≡ true = subst P same (same_itself n.left) in
-    ap (λ x. and_then x (case_reason (split_cases th R room) A)) e
-    ∙ ap (λ b. if b then Ok (reason_with (Same_why n.chain) n.budget) else and_then (split_cases th R room A n.left n.right n.budget) (λ c. Ok (reason_with (Split_why n.chain c.term c.whys) c.budget))) z
+    ap (λ b. if b then Ok (reason_with (Same_why n.chain) n.budget) else and_then (again A n.left n.right n.budget) (λ c. Ok (reason_with (Split_why n.chain c.term c.whys) c.budget))) z
 
 -- sides that differ are split again
-pub answer_split : (th : Theory) (R : List Rule) (room : ℕ) (A : List Pair) (s t : Tree) (k : ℕ) (n : Sides) → normal_sides th R A s t k ≡ Ok n → (n.left ≡ n.right → ⊥)
-    → case_answer th R room A s t k ≡ and_then (split_cases th R room A n.left n.right n.budget) (λ c. Ok (reason_with (Split_why n.chain c.term c.whys) c.budget))
-answer_split th R room A s t k n e differ =
-    ap (λ x. and_then x (case_reason (split_cases th R room) A)) e
-    ∙ ap (λ b. if b then Ok (reason_with (Same_why n.chain) n.budget) else and_then (split_cases th R room A n.left n.right n.budget) (λ c. Ok (reason_with (Split_why n.chain c.term c.whys) c.budget))) (no_test (is_same n.left n.right) refl)
+pub case_splits : (again : Splitter) (A : List Pair) (n : Sides) → (n.left ≡ n.right → ⊥)
+    → case_reason again A n ≡ and_then (again A n.left n.right n.budget) (λ c. Ok (reason_with (Split_why n.chain c.term c.whys) c.budget))
+case_splits again A n differ =
+    ap (λ b. if b then Ok (reason_with (Same_why n.chain) n.budget) else and_then (again A n.left n.right n.budget) (λ c. Ok (reason_with (Split_why n.chain c.term c.whys) c.budget)))
+    (no_test (is_same n.left n.right) refl)
   where
     no_test : (b : Bool) → is_same n.left n.right ≡ b → is_same n.left n.right ≡ false
     no_test true z = absurd (differ (same_here n.left n.right z))

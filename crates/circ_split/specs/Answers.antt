@@ -1,5 +1,5 @@
 -- What the calls of a split answer, with what is left of the budget.
-use Rattle.std.specs.Prelude.{◌≡◌, ℕ, List, [], ◌∷◌, Vec, Result, Ok, Err}
+use Rattle.std.specs.Prelude.{◌≡◌, ℕ, List, [], ◌∷◌, Result, Ok, Err}
 use Rattle.circ_term.specs.Tree.{Tree}
 use Rattle.circ_theory.specs.Theory.{Theory, Pair}
 use Rattle.circ_proof.specs.Plain.{WhysOf, more_whys}
@@ -25,10 +25,6 @@ GivesSides r left (Err e) = Stops r e
 abbrev pub GivesReason : Result Reason Stop → (left : ℕ) → Result (Why Tree) TheStop → Type 0
 GivesReason r left (Ok w) = r ≡ Ok (reason_with (plain_why w) left)
 GivesReason r left (Err e) = Stops r e
-
-abbrev pub GivesWhys : {A : Type 0} → Result SplitReason Stop → (open_term : Tree) → (left : ℕ) → Result (Vec (Why Tree) A) TheStop → Type 0
-GivesWhys r u left (Ok ws) = r ≡ Ok (split_with u (plain_whys ws.items) left)
-GivesWhys r u left (Err e) = Stops r e
 
 abbrev pub GivesCases : Result SplitReason Stop → (left : ℕ) → Result Cases TheStop → Type 0
 GivesCases r left (Ok c) = r ≡ Ok (split_with c.term (plain_whys c.whys.items) left)

@@ -3,11 +3,12 @@ ghost use Rattle.std.specs.Prelude.{◌≡◌, ◌≤◌, ◌<◌, ◌+◌, ◌^
 ghost use Rattle.std.specs.Prelude.{◌∷◌, ◌++◌, length, map, Err, IfOk, OnOk};
 ghost use Rattle.circ_term.specs.Tree.{sort_of};
 ghost use Rattle.circ_theory.specs.Pairs.{plain_pair};
+ghost use Rattle.circ_proof.specs.Plain.{plain_chain};
 ghost use Rattle.circ_proof.specs.Proof.{split_limit};
 ghost use Rattle.circ_plain_search.specs.Joining.{Not_split};
 ghost use Rattle.circ_plain_search.specs.Search.{normal_sides, split_cases, each_case};
-ghost use Rattle.circ_plain_search.specs.Search.{case_of, constants_of};
-ghost use Rattle.circ_split.specs.Answers.{GivesSides, GivesReason, GivesWhys, GivesCases};
+ghost use Rattle.circ_plain_search.specs.Search.{case_of, case_reason, constants_of, sides_with};
+ghost use Rattle.circ_split.specs.Answers.{GivesSides, GivesReason, GivesCases};
 ghost use Rattle.circ_split.specs.Answers.{case_answer};
 
 use crate::opening::{constants_of, open_of};
@@ -35,6 +36,14 @@ pub struct Cases {
     pub term: Term,
     /// The reasons.
     pub whys: Vec<Why<Term>>,
+}
+
+// Two sides, and an open term of theirs that they are split on.
+#[derive(Clone, Copy)]
+struct Split<'a> {
+    term: &'a Term,
+    left: &'a Term,
+    right: &'a Term,
 }
 
 impl Splitting<'_> {
@@ -88,59 +97,45 @@ impl Splitting<'_> {
         match open_of(self.theory, left, right) {
             None => stuck(self.alloc, left, right, assumptions.as_slice()),
             Some(term) => {
-                match self.each_case(room - 1, memo, assumptions, term, left, right, budget) {
-                    Err(stop) => Err(stop),
-                    Ok(whys) => Ok(Cases {
-                        term: term.share()?,
-                        whys,
-                    }),
-                }
+                let split = Split { term, left, right };
+                self.each_case(room - 1, memo, assumptions, &split, budget)
             }
         }
     }
 
-    // For each constant in order: a reason.
+    // The term, with a reason for each constant in order.
     #[cycle(split)]
     fn each_case(
         &self,
         room: u32,
         memo: &mut Memo<'_>,
         assumptions: &mut Vec<Pair>,
-        term: &Term,
-        left: &Term,
-        right: &Term,
+        split: &Split<'_>,
         budget: &mut u64,
-    ) -> Result<Vec<Why<Term>>, Stop>
+    ) -> Result<Cases, Stop>
         requires theory { memo.old.theory ≡ self.now.theory.now }
         requires few { length assumptions.old.items + room + 1 ≤ split_limit }
-        ensures exact { GivesWhys (each_case self.now.theory.now memo.old.rules
+        ensures exact { GivesCases (each_case self.now.theory.now memo.old.rules
             (split_cases self.now.theory.now memo.old.rules room)
-            (map plain_pair assumptions.old.items) term.now left.now right.now
-            (constants_of self.now.theory.now (sort_of term.now)) budget.old)
-            term.now budget.new result }
+            (map plain_pair assumptions.old.items)
+            split.now.term.now split.now.left.now split.now.right.now
+            (constants_of self.now.theory.now (sort_of split.now.term.now)) budget.old)
+            budget.new result }
         ensures less { budget.new ≤ budget.old }
         ensures theory { memo.new.theory ≡ memo.old.theory }
         ensures rules { memo.new.rules ≡ memo.old.rules }
         ensures same { OnOk result (assumptions.new.items ≡ assumptions.old.items) }
     {
+        let term = split.term.share()?;
         let mut whys = Vec::new(self.alloc);
-        let constants = constants_of(self.theory, term.sort());
+        let constants = constants_of(self.theory, split.term.sort());
         for i in 0..constants.len() {
-            match self.one_case(
-                room,
-                memo,
-                assumptions,
-                term,
-                constants[i],
-                left,
-                right,
-                budget,
-            ) {
+            match self.one_case(room, memo, assumptions, split, constants[i], budget) {
                 Err(stop) => return Err(stop),
                 Ok(why) => whys.push(why)?,
             }
         }
-        Ok(whys)
+        Ok(Cases { term, whys })
     }
 
     // The case is assumed, and both sides are normalised.
@@ -150,25 +145,23 @@ impl Splitting<'_> {
         room: u32,
         memo: &mut Memo<'_>,
         assumptions: &mut Vec<Pair>,
-        term: &Term,
+        split: &Split<'_>,
         constant: u32,
-        left: &Term,
-        right: &Term,
         budget: &mut u64,
     ) -> Result<Why<Term>, Stop>
         requires theory { memo.old.theory ≡ self.now.theory.now }
         requires few { length assumptions.old.items + room + 1 ≤ split_limit }
         ensures exact { GivesReason (case_answer self.now.theory.now memo.old.rules room
-            (map plain_pair assumptions.old.items ++ case_of term.now constant ∷ [])
-            left.now right.now budget.old) budget.new result }
+            (map plain_pair assumptions.old.items ++ case_of split.now.term.now constant ∷ [])
+            split.now.left.now split.now.right.now budget.old) budget.new result }
         ensures less { budget.new ≤ budget.old }
         ensures theory { memo.new.theory ≡ memo.old.theory }
         ensures rules { memo.new.rules ≡ memo.old.rules }
         ensures same { OnOk result (assumptions.new.items ≡ assumptions.old.items) }
     {
-        let case = case_of(self.alloc, term, constant)?;
+        let case = case_of(self.alloc, split.term, constant)?;
         assumptions.push(case)?;
-        match self.case_reason(room, memo, assumptions, left, right, budget) {
+        match self.case_reason(room, memo, assumptions, split.left, split.right, budget) {
             Err(stop) => Err(stop),
             Ok(why) => {
                 let _case = assumptions.pop();
@@ -177,7 +170,7 @@ impl Splitting<'_> {
         }
     }
 
-    // A case ends where the sides are equal, and else is split again.
+    // The reason of a case under these assumptions, its own among them.
     #[cycle(split)]
     fn case_reason(
         &self,
@@ -200,19 +193,42 @@ impl Splitting<'_> {
     {
         match self.case_sides(memo, assumptions.as_slice(), left, right, budget) {
             Err(stop) => Err(stop),
-            Ok(sides) => {
-                if sides.left.same(&sides.right) {
-                    return Ok(Why::Same { chain: sides.chain });
-                }
-                match self.split_with(room, memo, assumptions, &sides.left, &sides.right, budget) {
-                    Err(stop) => Err(stop),
-                    Ok(cases) => Ok(Why::Split {
-                        chain: sides.chain,
-                        term: cases.term,
-                        whys: cases.whys,
-                    }),
-                }
-            }
+            Ok(sides) => self.sides_reason(room, memo, assumptions, sides, budget),
+        }
+    }
+
+    // A case ends where its sides are equal, and else is split again.
+    #[cycle(split)]
+    fn sides_reason(
+        &self,
+        room: u32,
+        memo: &mut Memo<'_>,
+        assumptions: &mut Vec<Pair>,
+        sides: Sides,
+        budget: &mut u64,
+    ) -> Result<Why<Term>, Stop>
+        requires theory { memo.old.theory ≡ self.now.theory.now }
+        requires few { length assumptions.old.items + room ≤ split_limit }
+        ensures exact { GivesReason (case_reason
+            (split_cases self.now.theory.now memo.old.rules room)
+            (map plain_pair assumptions.old.items)
+            (sides_with sides.left sides.right (plain_chain sides.chain) budget.old))
+            budget.new result }
+        ensures less { budget.new ≤ budget.old }
+        ensures theory { memo.new.theory ≡ memo.old.theory }
+        ensures rules { memo.new.rules ≡ memo.old.rules }
+        ensures same { OnOk result (assumptions.new.items ≡ assumptions.old.items) }
+    {
+        if sides.left.same(&sides.right) {
+            return Ok(Why::Same { chain: sides.chain });
+        }
+        match self.split_with(room, memo, assumptions, &sides.left, &sides.right, budget) {
+            Err(stop) => Err(stop),
+            Ok(cases) => Ok(Why::Split {
+                chain: sides.chain,
+                term: cases.term,
+                whys: cases.whys,
+            }),
         }
     }
 

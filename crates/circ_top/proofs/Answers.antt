@@ -14,7 +14,7 @@ use Rattle.circ_plain_search.specs.Search.{Limits as SearchLimits}
 use Rattle.circ_top.specs.Answer.{Succeeds, Comes, RefusesCommand, DueAnswer, no_command, work_done, refusal, words_unread, AnswersDue, Succeeded}
 use Rattle.circ_top.specs.Causes.{AtFile, HasLongProof, IsPastLimit, IsReadFault, IsUnwritten, FailsToPut, IsWriteFault, IsQuietRun}
 use Rattle.circ_top.specs.Check.{report_text, refused, accepted, Accepts, Rejects, FilesRead}
-use Rattle.circ_top.specs.Command.{Command, Check, Prove, Show, Contexts, Reduce, Same, Regex, Upgrade, Library, Generate, Asks, IsNotStored, stored_name}
+use Rattle.circ_top.specs.Command.{Command, Check, Prove, Show, Contexts, Reduce, Same, Differ, Regex, Upgrade, Library, Generate, Asks, IsNotStored, stored_name}
 use Rattle.circ_search.specs.Plain.{plain_limits}
 use Rattle.circ_top.specs.Prove.{IsSearched, StoresProof}
 use Rattle.circ_top.specs.Delivery.{Prints, Delivers, whole, write_failed, memory_wanted, text_wanted}
@@ -33,11 +33,13 @@ use Rattle.circ_files.specs.declared.status.Status.TheVariants as status
 use Rattle.circ_top.proofs.CheckOutcomes.{check_not_ok, check_refused, unread_check, past_check, unwritten_check}
 use Rattle.circ_files.proofs.FileFaults.{file_fault_not_ok, file_fault_not_refused}
 use Rattle.circ_top.proofs.Outcomes.{due_is}
-use Rattle.circ_top.proofs.ProveOutcomes.{prove_not_ok, prove_not_refused, unread_prove, past_prove, unwritten_prove}
+use Rattle.circ_top.proofs.ScriptOutcomes.{script_not_ok, script_not_refused, script_not_apart, unread_script, past_script, unwritten_script}
 use Rattle.circ_generate.specs.Generating.{Generates}
 use Rattle.circ_top.proofs.GenerateOutcomes.{generates_end}
 use Rattle.circ_top.proofs.Searches.{IsSearchEnd, search_end, search_name, search_ok}
 use Rattle.circ_top.proofs.ReduceOutcomes.{reduce_not_ok, reduce_not_refused, unread_reduce, past_reduce, unwritten_reduce}
+use Rattle.circ_top.specs.Differ.{IsDifferenceSought, TellsApart}
+use Rattle.circ_top.proofs.Differences.{difference_end, told_apart}
 use Rattle.circ_regex.specs.Lang.{LANG}
 use Rattle.circ_top.specs.Regex.{equality_goals, IsEqualitySearched, StoresEquality}
 use Rattle.circ_top.proofs.RegexOutcomes.{regex_not_ok, regex_not_refused, regex_not_unread, regex_not_past, regex_not_unwritten}
@@ -53,11 +55,12 @@ use Rattle.circ_top.proofs.Requests.{same_command}
 module _ (before after : ShelfState) where
   command_not_ok : (c : Command) (s : Status) → RefusesCommand c before after s → s ≡ status.Ok → ⊥
   command_not_ok (Check report theory proof) s r e = check_not_ok theory proof before after s r e
-  command_not_ok (Prove limits theory script proof) s r e = prove_not_ok theory script before after s r e
+  command_not_ok (Prove limits theory script proof) s r e = script_not_ok theory script before after s r e
   command_not_ok (Show theory) s r e = file_fault_not_ok 1 theory TheoryRefusal before after s e r
   command_not_ok (Contexts budget theory) s r e = file_fault_not_ok 1 theory PlainTheoryRefusal before after s e r
   command_not_ok (Reduce budget theory script) s r e = reduce_not_ok budget theory script before after s r e
   command_not_ok (Same first second) s r e = same_not_ok first second before after s r e
+  command_not_ok (Differ limits theory script) s r e = script_not_ok theory script before after s r e
   command_not_ok (Regex limits left right proof) s r e = regex_not_ok left right s r e
   command_not_ok (Upgrade theory proof new) s r e = upgrade_not_ok theory proof before after s r e
   command_not_ok (Library text) s r e = let never : status.Memory ≡ status.Ok = sym r ∙ e in cc
@@ -69,11 +72,12 @@ module _ (before after : ShelfState) where
   unread_command : (c : Command) (s : Status) (n : ℕ) → RefusesCommand c before after s → s ≡ status.ReadFault n
       → (n ≡ after.count) × AtFile before c (λ f name. IsUnread name before after)
   unread_command (Check report theory proof) s n r e = unread_check theory proof before after s n r e
-  unread_command (Prove limits theory script proof) s n r e = unread_prove theory script before after s n r e
+  unread_command (Prove limits theory script proof) s n r e = unread_script theory script before after s n r e
   unread_command (Show theory) s n r e = let P : Status → Type 0 = IsFileFault 1 theory TheoryRefusal before after in subst P e r
   unread_command (Contexts budget theory) s n r e = let P : Status → Type 0 = IsFileFault 1 theory PlainTheoryRefusal before after in subst P e r
   unread_command (Reduce budget theory script) s n r e = unread_reduce budget theory script before after s n r e
   unread_command (Same first second) s n r e = unread_same first second before after s n r e
+  unread_command (Differ limits theory script) s n r e = unread_script theory script before after s n r e
   unread_command (Regex limits left right proof) s n r e = absurd (regex_not_unread left right s n r e)
   unread_command (Upgrade theory proof new) s n r e = unread_upgrade theory proof before after s n r e
   unread_command (Library text) s n r e = absurd (let never : status.Memory ≡ status.ReadFault n = sym r ∙ e in cc)
@@ -82,12 +86,13 @@ module _ (before after : ShelfState) where
   past_command : (c : Command) (s : Status) (file n : ℕ) → RefusesCommand c before after s → s ≡ status.TooLong file n
       → AtFile before c (λ f name. (f ≡ file) × IsTooLong name n before)
   past_command (Check report theory proof) s file n r e = past_check theory proof before after s file n r e
-  past_command (Prove limits theory script proof) s file n r e = past_prove theory script before after s file n r e
+  past_command (Prove limits theory script proof) s file n r e = past_script theory script before after s file n r e
   past_command (Show theory) s file n r e = let P : Status → Type 0 = IsFileFault 1 theory TheoryRefusal before after in let x = subst P e r in (sym x.0, x.1)
   past_command (Contexts budget theory) s file n r e =
       let P : Status → Type 0 = IsFileFault 1 theory PlainTheoryRefusal before after in let x = subst P e r in (sym x.0, x.1)
   past_command (Reduce budget theory script) s file n r e = past_reduce budget theory script before after s file n r e
   past_command (Same first second) s file n r e = past_same first second before after s file n r e
+  past_command (Differ limits theory script) s file n r e = past_script theory script before after s file n r e
   past_command (Regex limits left right proof) s file n r e = absurd (regex_not_past left right s file n r e)
   past_command (Upgrade theory proof new) s file n r e = past_upgrade theory proof before after s file n r e
   past_command (Library text) s file n r e = absurd (let never : status.Memory ≡ status.TooLong file n = sym r ∙ e in cc)
@@ -95,11 +100,12 @@ module _ (before after : ShelfState) where
 
   unwritten_command : (c : Command) (s : Status) (n : ℕ) → RefusesCommand c before after s → s ≡ status.WriteFault n → ⊥
   unwritten_command (Check report theory proof) s n r e = unwritten_check theory proof before after s n r e
-  unwritten_command (Prove limits theory script proof) s n r e = unwritten_prove theory script before after s n r e
+  unwritten_command (Prove limits theory script proof) s n r e = unwritten_script theory script before after s n r e
   unwritten_command (Show theory) s n r e = let P : Status → Type 0 = IsFileFault 1 theory TheoryRefusal before after in subst P e r
   unwritten_command (Contexts budget theory) s n r e = let P : Status → Type 0 = IsFileFault 1 theory PlainTheoryRefusal before after in subst P e r
   unwritten_command (Reduce budget theory script) s n r e = unwritten_reduce budget theory script before after s n r e
   unwritten_command (Same first second) s n r e = unwritten_same first second before after s n r e
+  unwritten_command (Differ limits theory script) s n r e = unwritten_script theory script before after s n r e
   unwritten_command (Regex limits left right proof) s n r e = regex_not_unwritten left right s n r e
   unwritten_command (Upgrade theory proof new) s n r e = unwritten_upgrade theory proof before after s n r e
   unwritten_command (Library text) s n r e = let never : status.Memory ≡ status.WriteFault n = sym r ∙ e in cc
@@ -124,6 +130,8 @@ module _ (before : ShelfState) where
   work_end (Contexts budget theory) s text stored a = ok_end s a.0
   work_end (Reduce budget theory script) s text stored a = ok_end s a.0
   work_end (Same first second) s text stored a = (compared_end a.0.compared.word s a.0.compared.status_is).0
+  work_end (Differ limits theory script) s text stored a =
+      (difference_end a.th limits.steps limits.derives a.sc.blocks (ending s text stored) a.ends).0
   work_end (Regex limits left right proof) s text stored a = search_end LANG (plain_limits limits) proof (equality_goals a.e a.f) s text stored a.ends
   work_end (Upgrade theory proof new) s text stored a = ok_end s a.0
   work_end (Library given) s text stored a = ok_end s a.0
@@ -142,6 +150,8 @@ module _ (before : ShelfState) where
   work_succeeds (Contexts budget theory) s text stored a e = a.1
   work_succeeds (Reduce budget theory script) s text stored a e = a.1
   work_succeeds (Same first second) s text stored a e = let P : Status → Type 0 = λ x. IsCompared first second x text before × (stored ≡ None) in subst P e a
+  work_succeeds (Differ limits theory script) s text stored a e =
+      let P : Status → Type 0 = λ x. IsDifferenceSought limits theory script (ending x text stored) before in subst P e a
   work_succeeds (Regex limits left right proof) s text stored a e =
       let P : Status → Type 0 = λ x. IsEqualitySearched limits left right proof (ending x text stored) in subst P e a
   work_succeeds (Upgrade theory proof new) s text stored a e = a.1
@@ -158,6 +168,8 @@ module _ (before : ShelfState) where
   work_past (Contexts budget theory) s text stored file n a e = let never : status.Ok ≡ status.TooLong file n = sym a.0 ∙ e in cc
   work_past (Reduce budget theory script) s text stored file n a e = let never : status.Ok ≡ status.TooLong file n = sym a.0 ∙ e in cc
   work_past (Same first second) s text stored file n a e = absurd ((compared_end a.0.compared.word s a.0.compared.status_is).1 file n e)
+  work_past (Differ limits theory script) s text stored file n a e =
+      absurd ((difference_end a.th limits.steps limits.derives a.sc.blocks (ending s text stored) a.ends).2 file n e)
   work_past (Regex limits left right proof) s text stored file n a e =
       let P : Status → Type 0 = λ x. IsEqualitySearched limits left right proof (ending x text stored) in (text, stored, subst P e a)
   work_past (Upgrade theory proof new) s text stored file n a e = let never : status.Ok ≡ status.TooLong file n = sym a.0 ∙ e in cc
@@ -178,6 +190,8 @@ module _ (before : ShelfState) where
   work_name (Contexts budget theory) s text stored x a e = nothing_stored stored x a.1.1 e
   work_name (Reduce budget theory script) s text stored x a e = nothing_stored stored x a.1.1 e
   work_name (Same first second) s text stored x a e = nothing_stored stored x a.1 e
+  work_name (Differ limits theory script) s text stored x a e =
+      nothing_stored stored x (difference_end a.th limits.steps limits.derives a.sc.blocks (ending s text stored) a.ends).1 e
   work_name (Regex limits left right proof) s text stored x a e =
       let P : Option Stored → Type 0 = λ y. SearchEnds LANG (plain_limits limits) proof (equality_goals a.e a.f) (ending s text y) in
       ap Some (sym (search_name LANG (plain_limits limits) proof (equality_goals a.e a.f) s text x (subst P e a.ends)))
@@ -295,6 +309,52 @@ module _ (words : List (List ℕ)) (before after : ShelfState) (start end : Sink
         prints = subst T ok.text_is s.prints;
       }
 
+  pub answers_told_apart : IsQuietRun words before after r → (limits : Limits) (theory script : List ℕ) (n : ℕ) → Asks words (Differ limits theory script)
+      → r ≡ status.Differ n → TellsApart theory script n before after start end
+  answers_told_apart q limits theory script n i e = ended r a.ends e (let P : Status → Type 0 = IsQuietRun words before after in subst P e q)
+    where
+      done : (c : Command) (d : Status) (text : List ℕ) (stored : Option Stored) → Asks words c → Comes c d text stored before → d ≡ status.Differ n
+          → Prints text start end → IsQuiet before after → TellsApart theory script n before after start end
+      done c d text stored j x e p q =
+          let P : Command → Type 0 = λ y. Comes y d text stored before in
+          let Q : Status → Type 0 = λ y. IsDifferenceSought limits theory script (ending y text stored) before in
+          let w = subst Q e (subst P (same_command words c (Differ limits theory script) j i) x) in
+          let y = told_apart w.th limits.steps limits.derives w.sc.blocks n text stored w.ends in
+          let T : List ℕ → Type 0 = λ z. Prints z start end in
+          record {
+            th = w.th;
+            sc = w.sc;
+            takes_theory = w.takes_theory;
+            takes_script = w.takes_script;
+            goal = w.ends.decision.goal;
+            told_apart = y.told_apart;
+            goal_is = y.goal_is;
+            entries = y.entries;
+            left = y.left;
+            right = y.right;
+            differs = y.differs;
+            count = y.count_is;
+            quiet = q;
+            prints = subst T y.text_is p;
+          }
+
+      go : (d : Status) (text : List ℕ) (stored : Option Stored) → DueAnswer words before after d text stored → (r : Status)
+          → Delivers text start end d r → r ≡ status.Differ n → IsQuiet before after → TellsApart theory script n before after start end
+      go _ _ _ (no_command m) _ (whole p) e q = absurd (cc)
+      go d text stored (work_done c _ _ _ j x) _ (whole p) e q = done c d text stored j x e p q
+      go _ _ _ (refusal c s j f) _ (whole p) e q =
+          let P : Command → Type 0 = λ y. RefusesCommand y before after s in
+          absurd (script_not_apart theory script before after s n (subst P (same_command words c (Differ limits theory script) j i) f) e)
+      go _ _ _ words_unread _ (whole p) e q = absurd (cc)
+      go d text stored x _ (write_failed m some k rose p) e q = absurd (cc)
+      go d text stored x _ (memory_wanted m p) e q = absurd (cc)
+      go d text stored x _ (text_wanted p) e q = absurd (cc)
+
+      ended : (r : Status) → Ends before after start end a.answer a.text a.stored r → r ≡ status.Differ n → IsQuiet before after
+          → TellsApart theory script n before after start end
+      ended r (stored_first _ h x) e q = go a.answer a.text a.stored a.due r x e q
+      ended r (not_stored _ u p) e q = absurd (let P : Status → Type 0 = IsUnstored u.file.name before after in subst P e u.why)
+
   pub answers_upgraded : IsQuietRun words before after r → (theory proof new : List ℕ) → Asks words (Upgrade theory proof new) → r ≡ status.Ok
       → StoresUpgraded theory proof new before after start end
   answers_upgraded q theory proof new i e =
@@ -327,11 +387,12 @@ module _ (words : List (List ℕ)) (before after : ShelfState) (start end : Sink
       rejects (Check report theory proof) s i f e p q =
           let P : Status → Type 0 = λ x. Prints (refusal_text (Check report theory proof) x) start end in
           record { report = report; theory = theory; proof = proof; asks = i; refused = check_refused theory proof before after s n f e; quiet = q; prints = subst P e p }
-      rejects (Prove limits theory script proof) s i f e p q = absurd (prove_not_refused theory script before after s n f e)
+      rejects (Prove limits theory script proof) s i f e p q = absurd (script_not_refused theory script before after s n f e)
       rejects (Show theory) s i f e p q = absurd (command_not_refused before after theory s n f e)
       rejects (Contexts budget theory) s i f e p q = absurd (file_fault_not_refused 1 theory PlainTheoryRefusal before after s n e f)
       rejects (Reduce budget theory script) s i f e p q = absurd (reduce_not_refused budget theory script before after s n f e)
       rejects (Same first second) s i f e p q = absurd (same_not_refused first second before after s n f e)
+      rejects (Differ limits theory script) s i f e p q = absurd (script_not_refused theory script before after s n f e)
       rejects (Regex limits left right proof) s i f e p q = absurd (regex_not_refused left right s n f e)
       rejects (Upgrade theory proof new) s i f e p q = absurd (upgrade_not_refused theory proof before after s n f e)
       rejects (Library text) s i f e p q = absurd (let never : status.Memory ≡ status.Refused n = sym f ∙ e in cc)

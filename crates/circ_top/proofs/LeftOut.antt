@@ -14,7 +14,7 @@ use Rattle.circ_script.specs.ReadsAsScript.{ReadsAsScript, ScriptOrCause}
 use Rattle.circ_script.specs.declared.job.Job.{Job}
 use Rattle.circ_script.specs.declared.job.Job.TheVariants as job
 use Rattle.circ_top.specs.Check.{report_text, no_theory, no_proof, refused, accepted}
-use Rattle.circ_top.specs.Command.{Command, Check, Prove, Show, Contexts, Reduce, Same, Regex, Upgrade, Library, Generate, Asks}
+use Rattle.circ_top.specs.Command.{Command, Check, Prove, Show, Contexts, Reduce, Same, Differ, Regex, Upgrade, Library, Generate, Asks}
 use Rattle.circ_files.specs.Files.{Held, Refusal, RefusesFile, Holds}
 use Rattle.circ_top.specs.InMemory.{HoldsFilesOf, HoldsFiles}
 use Rattle.circ_plain_search.specs.Numbering.{Found}
@@ -30,8 +30,10 @@ use Rattle.circ_search.specs.Plain.{plain_limits}
 use Rattle.circ_auto.specs.Text.{ReadsAsAutomaton}
 use Rattle.circ_top.specs.Same.{AutomatonRefusal, SecondRefusal, ReadsOver, compared_status, compared_text, no_first, no_second, compared}
 use Rattle.circ_top.proofs.SameDecides.{AutomataDecided, first_decides, second_decides, compared_decides}
-use Rattle.circ_top.specs.Prove.{searched}
-use Rattle.circ_top.specs.Prove as prove
+use Rattle.circ_refute.specs.PlainRefutation.{refutations, goals_in}
+use Rattle.circ_found.specs.Differing.{decision_ending}
+use Rattle.circ_top.specs.Scripted.{goals_done}
+use Rattle.circ_top.specs.Scripted as scripted
 use Rattle.circ_regex.specs.Lang.{LANG}
 use Rattle.circ_top.specs.Regex.{equality_goals, no_left, no_right, both_read}
 use Rattle.circ_top.specs.Upgrade.{upgraded_text, upgraded_file, given_anew}
@@ -153,11 +155,22 @@ module _ (reads : (bytes : List ℕ) → ReadOrRefused bytes) (proofs : ProofsDe
       (λ q rq. searches th q.blocks (plain_limits limits)
       (λ f x. let e : Ending = found_ending th.signature proof f in none_is e.status e.text e.stored
       (command (Prove limits theory script proof) e.status e.text e.stored i
-      (searched e.status e.text e.stored th q rt rq (record { found = f; search = x; is = refl })))))
+      (goals_done e.status e.text e.stored th q rt rq (record { found = f; search = x; is = refl })))))
       (λ s x. let text : List ℕ = refusal_text (Prove limits theory script proof) s in none_is s text None
-      (command (Prove limits theory script proof) s text None i (prove.no_script s th rt x))))
+      (command (Prove limits theory script proof) s text None i (scripted.no_script s th rt x))))
       (λ s x. let text : List ℕ = refusal_text (Prove limits theory script proof) s in none_is s text None
-      (command (Prove limits theory script proof) s text None i (prove.no_theory s x)))
+      (command (Prove limits theory script proof) s text None i (scripted.no_theory s x)))
+
+  no_differ : (limits : Limits) (theory script : List ℕ) → Asks words (Differ limits theory script) → HoldsFilesOf held (Differ limits theory script) → ⊥
+  no_differ limits theory script i h = file_decides held 1 theory PlainTheoryRefusal ReadsAsPlain h.0 plain_reads
+      (λ th rt. file_decides held 2 script (ScriptRefusal th job.Prove) (ReadsAsScript th job.Prove) h.1 (scripts th job.Prove)
+      (λ q rq. let e : Ending = decision_ending th limits.steps limits.derives (refutations th 1 limits.derives limits.steps (goals_in q.blocks)) in
+      none_is e.status e.text e.stored
+      (command (Differ limits theory script) e.status e.text e.stored i (goals_done e.status e.text e.stored th q rt rq refl)))
+      (λ s x. let text : List ℕ = refusal_text (Differ limits theory script) s in none_is s text None
+      (command (Differ limits theory script) s text None i (scripted.no_script s th rt x))))
+      (λ s x. let text : List ℕ = refusal_text (Differ limits theory script) s in none_is s text None
+      (command (Differ limits theory script) s text None i (scripted.no_theory s x)))
 
   no_regex : (limits : Limits) (left right proof : List ℕ) → Asks words (Regex limits left right proof) → ⊥
   no_regex limits left right proof i = word_decides 1 left
@@ -209,6 +222,7 @@ module _ (reads : (bytes : List ℕ) → ReadOrRefused bytes) (proofs : ProofsDe
   no_command_left (Generate n) i h = no_generate n i
   no_command_left (Reduce budget theory script) i h = no_reduce budget theory script i h
   no_command_left (Same first second) i h = no_same first second i h
+  no_command_left (Differ limits theory script) i h = no_differ limits theory script i h
   no_command_left (Regex limits left right proof) i h = no_regex limits left right proof i
   no_command_left (Upgrade theory proof new) i h = no_upgrade theory proof new i h
   no_command_left (Library text) i h = none_is status.Ok text None (command (Library text) status.Ok text None i ((refl, refl), refl))

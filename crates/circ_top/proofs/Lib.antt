@@ -18,7 +18,8 @@ pub mod Ends
 pub mod Reducing
 pub mod ReduceOutcomes
 pub mod Searches
-pub mod ProveOutcomes
+pub mod ScriptOutcomes
+pub mod Differences
 pub mod GenerateOutcomes
 pub mod Expressions
 pub mod RegexOutcomes

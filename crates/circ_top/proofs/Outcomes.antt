@@ -7,7 +7,7 @@ use Rattle.circ_top.specs.Check.{CheckOutcome}
 use Rattle.circ_top.specs.Reduce.{ReduceOutcome}
 use Rattle.circ_top.specs.Show.{ShowOutcome}
 use Rattle.circ_top.specs.Causes.{PrintsOutcome, IsOutcomeOrFault, PrintsPartOf, AnswersOutcome}
-use Rattle.circ_top.specs.Command.{Command, Check, Prove, Show, Contexts, Reduce, Same, Regex, Upgrade, Library, Generate, Asks}
+use Rattle.circ_top.specs.Command.{Command, Check, Prove, Show, Contexts, Reduce, Same, Differ, Regex, Upgrade, Library, Generate, Asks}
 use Rattle.circ_top.specs.Delivery.{Delivers, whole, write_failed, memory_wanted, text_wanted}
 use Rattle.circ_files.specs.Like.{IsLike, itself}
 use Rattle.circ_found.specs.Ending.{Stored}
@@ -22,13 +22,18 @@ use Rattle.circ_found.specs.Ending.{ending}
 use Rattle.circ_top.specs.Contexts.{ContextsOutcome}
 use Rattle.circ_top.proofs.ContextsOutcomes.{due_contexts, listed_outcome, contexts_agrees, listed_agrees}
 use Rattle.circ_top.proofs.GenerateOutcomes.{generates_alike}
-use Rattle.circ_top.proofs.ProveOutcomes.{due_prove, searched_outcome, prove_agrees, searched_agrees}
-use Rattle.circ_top.proofs.Searches.{SearchesOnce}
+use Rattle.circ_top.specs.Prove.{ProofSought}
+use Rattle.circ_top.proofs.ScriptOutcomes.{EndsOnce, due_script, done_outcome, refused_agrees, done_agrees}
+use Rattle.circ_top.proofs.Searches.{SearchesOnce, one_ending}
+use Rattle.circ_search.specs.Plain.{plain_limits}
+use Rattle.circ_turn.specs.declared.search.Limits.{Limits}
 use Rattle.circ_top.proofs.CheckOutcomes.{due_check, accepted_outcome, check_agrees, accepted_agrees}
 use Rattle.circ_top.proofs.ShowOutcomes.{due_show, shown_outcome, show_agrees, shown_agrees}
 use Rattle.circ_top.proofs.ReduceOutcomes.{due_reduce, reduced_outcome, reduce_agrees, reduced_agrees}
 use Rattle.circ_top.specs.Same.{SameOutcome}
 use Rattle.circ_top.proofs.SameOutcomes.{AutomataOnce, due_same, compared_outcome, same_agrees, compared_agrees}
+use Rattle.circ_top.specs.Differ.{DifferenceSought}
+use Rattle.circ_top.proofs.Differences.{one_difference, difference_done}
 use Rattle.circ_top.proofs.RegexOutcomes.{ExpressionsOnce, due_regex, equality_outcome, regex_agrees, equality_agrees}
 use Rattle.circ_top.specs.Upgrade.{UpgradeOutcome}
 use Rattle.circ_top.proofs.UpgradeOutcomes.{due_upgrade, upgraded_outcome, upgrade_agrees, upgraded_agrees}
@@ -40,11 +45,14 @@ due_refusal : (words : List (List ℕ)) (before after : ShelfState) (c : Command
     → RefusesCommand c before after s
     → DueIs words before after s (refusal_text c s) None
 due_refusal words before after (Check report theory proof) s t i r = due_check words report theory proof before after s t i r
-due_refusal words before after (Prove limits theory script proof) s t i r = due_prove limits theory script proof before after words s t i r
+due_refusal words before after (Prove limits theory script proof) s t i r =
+    due_script (Prove limits theory script proof) theory script (ProofSought limits proof) before after words s (λ u text x. x) t i r
 due_refusal words before after (Show theory) s t i r = due_show words theory before after s t i r
 due_refusal words before after (Contexts budget theory) s t i r = due_contexts words budget theory before after s t i r
 due_refusal words before after (Reduce budget theory script) s t i r = due_reduce budget theory script before after words s t i r
 due_refusal words before after (Same first second) s t i r = due_same first second before after words s t i r
+due_refusal words before after (Differ limits theory script) s t i r =
+    due_script (Differ limits theory script) theory script (DifferenceSought limits) before after words s (λ u text x. x) t i r
 due_refusal words before after (Regex limits left right proof) s t i r = due_regex limits left right proof words before after i s r
 due_refusal words before after (Upgrade theory proof new) s t i r = due_upgrade theory proof new before after words s t i r
 due_refusal words before after (Library text) s t i r =
@@ -57,7 +65,8 @@ due_work : (c : Command) (s : Status) (text : List ℕ) (stored : Option Stored)
 due_work (Check report theory proof) s text stored before t a =
     let P : Status → Type 0 = λ x. CheckOutcome before.holds report theory proof x text in
     (subst P (sym a.0) (accepted_outcome theory proof before before report text t a.1.0), a.1.1)
-due_work (Prove limits theory script proof) s text stored before t a = searched_outcome limits theory script proof before before s text stored t a
+due_work (Prove limits theory script proof) s text stored before t a =
+    done_outcome (Prove limits theory script proof) theory script (ProofSought limits proof) before before s text stored t a
 due_work (Show theory) s text stored before t a =
     let P : Status → Type 0 = λ x. ShowOutcome before.holds theory x text in (subst P (sym a.0) (shown_outcome theory text before t a.1.0), a.1.1)
 due_work (Contexts budget theory) s text stored before t a =
@@ -67,12 +76,19 @@ due_work (Reduce budget theory script) s text stored before t a =
     let P : Status → Type 0 = λ x. ReduceOutcome before.holds budget theory script x text in
     (subst P (sym a.0) (reduced_outcome budget theory script before before text t a.1.0), a.1.1)
 due_work (Same first second) s text stored before t a = (compared_outcome first second before s text t a.0, a.1)
+due_work (Differ limits theory script) s text stored before t a =
+    done_outcome (Differ limits theory script) theory script (DifferenceSought limits) before before s text stored t
+    (difference_done limits theory script (ending s text stored) before a)
 due_work (Regex limits left right proof) s text stored before t a = equality_outcome limits left right proof s text stored a
 due_work (Upgrade theory proof new) s text stored before t a =
     let P : Status → Type 0 = λ x. UpgradeOutcome before.holds theory proof new x text stored in
     subst P (sym a.0) (upgraded_outcome theory proof new before before text stored t a.1)
 due_work (Library given) s text stored before t a = ((a.0, a.1.0), a.1.1)
 due_work (Generate n) s text stored before t a = a
+
+-- a search ends in one way
+one_search : SearchesOnce → (limits : Limits) (name : List ℕ) → EndsOnce (ProofSought limits name)
+one_search searches limits name th blocks d e = one_ending th (plain_limits limits) name blocks searches d e
 
 pub due_is : (words : List (List ℕ)) (before after : ShelfState) (s : Status) (text : List ℕ) (stored : Option Stored) → before.tells ≡ true
     → DueAnswer words before after s text stored → DueIs words before after s text stored
@@ -91,7 +107,8 @@ module _ (once : ReadsOnce) (proofs : ProofsOnce) (scripts : ScriptsOnce) (autom
       stored_nothing before after s text stored r (refusal_text (Check report theory proof) r) c.1
       (check_agrees once proofs report theory proof before after t r s text f c.0)
   refusal_agrees (Prove limits theory script proof) s r text stored c f =
-      prove_agrees (reads_plain_once once) scripts searches limits theory script proof before after t r s text stored f c
+      refused_agrees (reads_plain_once once) scripts (Prove limits theory script proof) theory script (ProofSought limits proof)
+      (one_search searches limits proof) before after t r s text stored f c
   refusal_agrees (Show theory) s r text stored c f =
       stored_nothing before after s text stored r (refusal_text (Show theory) r) c.1 (show_agrees once theory before after t r s text f c.0)
   refusal_agrees (Contexts budget theory) s r text stored c f =
@@ -103,6 +120,9 @@ module _ (once : ReadsOnce) (proofs : ProofsOnce) (scripts : ScriptsOnce) (autom
   refusal_agrees (Same first second) s r text stored c f =
       stored_nothing before after s text stored r (refusal_text (Same first second) r) c.1
       (same_agrees automata first second before after t r s text f c.0)
+  refusal_agrees (Differ limits theory script) s r text stored c f =
+      refused_agrees (reads_plain_once once) scripts (Differ limits theory script) theory script (DifferenceSought limits) (one_difference limits)
+      before after t r s text stored f c
   refusal_agrees (Regex limits left right proof) s r text stored c f =
       regex_agrees limits left right proof expressions searches before after r s text stored f c
   refusal_agrees (Upgrade theory proof new) s r text stored c f = upgrade_agrees once proofs theory proof new before after t r s text stored f c
@@ -124,7 +144,8 @@ module _ (once : ReadsOnce) (proofs : ProofsOnce) (scripts : ScriptsOnce) (autom
   work_agrees (Check report theory proof) s r text given stored other c a =
       ok_agrees s r text given stored other a.0 a.1.1 c.1 (accepted_agrees once proofs report theory proof before after t given a.1.0 s text c.0)
   work_agrees (Prove limits theory script proof) s r text given stored other c a =
-      searched_agrees (reads_plain_once once) scripts searches limits theory script proof before after t r given other a s text stored c
+      done_agrees (reads_plain_once once) scripts (Prove limits theory script proof) theory script (ProofSought limits proof)
+      (one_search searches limits proof) before after t r given other a s text stored c
   work_agrees (Show theory) s r text given stored other c a =
       ok_agrees s r text given stored other a.0 a.1.1 c.1 (shown_agrees once theory before after t printed_once given a.1.0 s text c.0)
   work_agrees (Contexts budget theory) s r text given stored other c a =
@@ -134,6 +155,9 @@ module _ (once : ReadsOnce) (proofs : ProofsOnce) (scripts : ScriptsOnce) (autom
   work_agrees (Same first second) s r text given stored other c a =
       let Q : Option Stored → Type 0 = λ x. AgreesWith before after s text stored r given x in
       subst Q (sym a.1) (stored_nothing before after s text stored r given c.1 (compared_agrees automata first second before after t r given a.0 s text c.0))
+  work_agrees (Differ limits theory script) s r text given stored other c a =
+      done_agrees (reads_plain_once once) scripts (Differ limits theory script) theory script (DifferenceSought limits) (one_difference limits)
+      before after t r given other (difference_done limits theory script (ending r given other) before a) s text stored c
   work_agrees (Regex limits left right proof) s r text given stored other c a =
       equality_agrees limits left right proof expressions searches before after r given other a s text stored c
   work_agrees (Upgrade theory proof new) s r text given stored other c a =

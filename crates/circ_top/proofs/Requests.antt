@@ -7,9 +7,9 @@ use Rattle.clap.specs.Faults.{fault_of}
 use Rattle.clap.specs.Simple.{matches_of}
 use Rattle.clap.specs.Walk.{Row, first_of}
 use Rattle.circ_lib.specs.Library.{library_text}
-use Rattle.circ_top.specs.Command.{Command, Check, Prove, Show, Contexts, Reduce, Same, Regex, Upgrade, Library, Generate}
-use Rattle.circ_top.specs.Command.{IsCommand, check, prove, show, contexts, reduce, same, regex, upgrade, library, generate, IsNoneOfTable}
-use Rattle.circ_top.specs.Command.{Asks, IsNoCommand, plain_request}
+use Rattle.circ_top.specs.Command.{Command, Check, Prove, Show, Contexts, Reduce, Same, Differ, Regex, Upgrade, Library, Generate}
+use Rattle.circ_top.specs.Command.{IsCommand, check, prove, show, contexts, reduce, same, differ, regex, upgrade, library, generate, IsNoneOfTable}
+use Rattle.circ_top.specs.Command.{Asks, IsNoCommand, IsBounded, plain_request}
 use Rattle.circ_top.specs.Words.{circ_app, IsBudget, Finds, FindsNothing}
 use Rattle.circ_top.specs.declared.request.Report.{Report}
 use Rattle.circ_top.specs.declared.request.Report.TheVariants.{Goals, Relation}
@@ -53,6 +53,7 @@ row_of_two k n v w =
     else if has_key n (codes "relation") then Fixed (Check Relation v w)
     else if has_key n (codes "reduce") then Fixed (Reduce k.steps v w)
     else if has_key n (codes "same") then Fixed (Same v w)
+    else if has_key n (codes "differ") then Fixed (Differ k v w)
     else Nothing
 
 abbrev row_of_three : Limits → (name first second third : List ℕ) → TableRow
@@ -84,6 +85,7 @@ module _ (k : Limits) (name : List ℕ) (given : List (List ℕ)) where
   in_row _ (contexts t e i) = with_name (codes "contexts") (t ∷ []) (Contexts k.steps t) e i refl
   in_row _ (reduce t s e i) = with_name (codes "reduce") (t ∷ s ∷ []) (Reduce k.steps t s) e i refl
   in_row _ (same v w e i) = with_name (codes "same") (v ∷ w ∷ []) (Same v w) e i refl
+  in_row _ (differ t s e i) = with_name (codes "differ") (t ∷ s ∷ []) (Differ k t s) e i refl
   in_row _ (regex u v p e i) = with_name (codes "regex") (u ∷ v ∷ p ∷ []) (Regex k u v p) e i refl
   in_row _ (upgrade t p q e i) = with_name (codes "upgrade") (t ∷ p ∷ q ∷ []) (Upgrade t p q) e i refl
   in_row _ (library w text e i m) = with_name (codes "library") (w ∷ []) (Library text) e i (text, m, refl)
@@ -156,6 +158,27 @@ module _ (ws : List (List ℕ)) (rows : List Row) (e : rows ≡ matches_of circ_
         → MatchOption o (IsNoCommand ws) (λ r. Asks ws (plain_request r))
     asked_by_table None t n = none_asked n
     asked_by_table (Some r) t i = record { limits = limits; name = name; given = given; taken = t; finds = rw e at f; is = i }
+
+-- a budget is at most what an option may say
+budget_bounded : (value : Option (List ℕ)) (n : ℕ) → IsBudget 256 10000 value n → n ≤ 10000
+budget_bounded None n b = omega (arith, b)
+budget_bounded (Some text) n b = b.1
+
+pub asks_bounded : (ws : List (List ℕ)) (c : Command) → Asks ws c → IsBounded c
+asks_bounded ws c a = go c a.is
+  where
+    go : (c : Command) → IsCommand a.limits a.name a.given c → IsBounded c
+    go _ (check r t p e i) = tt
+    go _ (prove t s p e i) = tt
+    go _ (show t e i) = tt
+    go _ (contexts t e i) = tt
+    go _ (reduce t s e i) = tt
+    go _ (same v w e i) = tt
+    go _ (differ t s e i) = budget_bounded (first_of (codes "derives") (matches_of circ_app ws)) a.limits.derives a.finds.derives
+    go _ (regex u v p e i) = tt
+    go _ (upgrade t p q e i) = tt
+    go _ (library w text e i m) = tt
+    go _ (generate n few most e i) = tt
 
 -- words ask for one command
 pub same_command : (ws : List (List ℕ)) (c d : Command) → Asks ws c → Asks ws d → c ≡ d

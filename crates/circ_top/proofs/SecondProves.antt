@@ -18,7 +18,8 @@ use Rattle.circ_top.specs.Causes.{IsNotPut}
 use Rattle.circ_top.specs.Command.{Command, Prove, Asks, IsNotStored, stored_name}
 use Rattle.circ_top.specs.SecondProve.{AsksAgain}
 use Rattle.circ_top.specs.Outcome.{OutcomeOf, Outcome, usage, command}
-use Rattle.circ_top.specs.Prove.{ProveOutcome, no_theory, no_script, searched}
+use Rattle.circ_top.specs.Prove.{ProveOutcome}
+use Rattle.circ_top.specs.Scripted.{no_theory, no_script, goals_done}
 use Rattle.circ_top.specs.Refusals.{refusal_text}
 use Rattle.circ_top.proofs.Requests.{same_command}
 
@@ -73,8 +74,8 @@ module _ (held later : Held) (k : Limits) (theory script other next name : List 
       subst P (same_text k other next name theory script name s)
       (no_script s th (holds_too held later theory other a (λ x. ReadsAsPlain x th) ru)
       (refuses_too held later script next b 2 (ScriptRefusal th job.Prove) s r))
-  proves_too s text stored (searched _ _ _ th sc ru rq x) =
-      searched s text stored th sc (holds_too held later theory other a (λ y. ReadsAsPlain y th) ru)
+  proves_too s text stored (goals_done _ _ _ th sc ru rq x) =
+      goals_done s text stored th sc (holds_too held later theory other a (λ y. ReadsAsPlain y th) ru)
       (holds_too held later script next b (λ y. ReadsAsScript th job.Prove y sc) rq) x
 
   pub comes_too : (words second : List (List ℕ)) → Asks words (Prove k theory script name) → Asks second (Prove k other next name)

@@ -5,11 +5,13 @@ use Rattle.circ_outer.specs.Sink.{SinkState}
 use Rattle.circ_top.specs.Contexts.{IsListed}
 use Rattle.circ_generate.specs.Generating.{Generates}
 use Rattle.circ_top.specs.Check.{IsAccepted, RefusesCheck}
-use Rattle.circ_top.specs.Command.{Command, Check, Prove, Show, Contexts, Reduce, Same, Regex, Upgrade, Library, Generate, Asks, IsNoCommand}
+use Rattle.circ_top.specs.Command.{Command, Check, Prove, Show, Contexts, Reduce, Same, Differ, Regex, Upgrade, Library, Generate, Asks, IsNoCommand}
 use Rattle.circ_top.specs.Delivery.{Prints}
+use Rattle.circ_top.specs.Differ.{IsDifferenceSought}
 use Rattle.circ_found.specs.Ending.{ending}
 use Rattle.circ_top.specs.Library.{RefusesLibrary}
-use Rattle.circ_top.specs.Prove.{IsSearched, RefusesProve}
+use Rattle.circ_top.specs.Prove.{IsSearched}
+use Rattle.circ_top.specs.Scripted.{RefusesScript}
 use Rattle.circ_top.specs.Reduce.{IsReduced, RefusesReduce}
 use Rattle.circ_top.specs.Regex.{IsEqualitySearched, RefusesRegex}
 use Rattle.circ_top.specs.Same.{IsCompared, RefusesSame}
@@ -31,6 +33,7 @@ Succeeds (Show theory) text stored before = IsShown theory text before × (store
 Succeeds (Contexts budget theory) text stored before = IsListed budget theory text before × (stored ≡ None)
 Succeeds (Reduce budget theory script) text stored before = IsReduced budget theory script text before × (stored ≡ None)
 Succeeds (Same first second) text stored before = IsCompared first second status.Ok text before × (stored ≡ None)
+Succeeds (Differ limits theory script) text stored before = IsDifferenceSought limits theory script (ending status.Ok text stored) before
 Succeeds (Regex limits left right proof) text stored before = IsEqualitySearched limits left right proof (ending status.Ok text stored)
 Succeeds (Upgrade theory proof new) text stored before = IsUpgraded theory proof new text stored before
 Succeeds (Library given) text stored before = (text ≡ given) × (stored ≡ None)
@@ -40,6 +43,7 @@ Succeeds (Generate n) text stored before = Generates n (ending status.Ok text st
 abbrev pub Comes : Command → Status → (text : List ℕ) → (stored : Option Stored) → (before : ShelfState) → Type 0
 Comes (Prove limits theory script proof) s text stored before = IsSearched limits theory script proof (ending s text stored) before
 Comes (Same first second) s text stored before = IsCompared first second s text before × (stored ≡ None)
+Comes (Differ limits theory script) s text stored before = IsDifferenceSought limits theory script (ending s text stored) before
 Comes (Regex limits left right proof) s text stored before = IsEqualitySearched limits left right proof (ending s text stored)
 Comes (Generate n) s text stored before = Generates n (ending s text stored)
 Comes c s text stored before = (s ≡ status.Ok) × Succeeds c text stored before
@@ -47,11 +51,12 @@ Comes c s text stored before = (s ≡ status.Ok) × Succeeds c text stored befor
 -- why a command's work is refused
 abbrev pub RefusesCommand : Command → (before after : ShelfState) → Status → Type 0
 RefusesCommand (Check report theory proof) before after s = RefusesCheck theory proof before after s
-RefusesCommand (Prove limits theory script proof) before after s = RefusesProve theory script before after s
+RefusesCommand (Prove limits theory script proof) before after s = RefusesScript theory script before after s
 RefusesCommand (Show theory) before after s = IsTheoryFault theory before after s
 RefusesCommand (Contexts budget theory) before after s = IsPlainTheoryFault theory before after s
 RefusesCommand (Reduce budget theory script) before after s = RefusesReduce budget theory script before after s
 RefusesCommand (Same first second) before after s = RefusesSame first second before after s
+RefusesCommand (Differ limits theory script) before after s = RefusesScript theory script before after s
 RefusesCommand (Regex limits left right proof) before after s = RefusesRegex left right s
 RefusesCommand (Upgrade theory proof new) before after s = RefusesUpgrade theory proof before after s
 RefusesCommand (Library given) before after s = RefusesLibrary s

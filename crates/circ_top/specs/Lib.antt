@@ -7,7 +7,9 @@ pub mod Check
 pub mod CheckProof
 pub mod Incoming
 pub mod Storing
+pub mod Scripted
 pub mod Prove
+pub mod Differ
 pub mod Same
 pub mod Regex
 pub mod Upgrade

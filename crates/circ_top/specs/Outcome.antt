@@ -4,7 +4,8 @@ use Rattle.circ_found.specs.Ending.{ending}
 use Rattle.circ_generate.specs.Generating.{Generates}
 use Rattle.circ_top.specs.Contexts.{ContextsOutcome}
 use Rattle.circ_top.specs.Check.{CheckOutcome}
-use Rattle.circ_top.specs.Command.{Command, Check, Prove, Show, Contexts, Reduce, Same, Regex, Upgrade, Library, Generate, Asks, IsNoCommand}
+use Rattle.circ_top.specs.Differ.{DifferOutcome}
+use Rattle.circ_top.specs.Command.{Command, Check, Prove, Show, Contexts, Reduce, Same, Differ, Regex, Upgrade, Library, Generate, Asks, IsNoCommand}
 use Rattle.circ_files.specs.Files.{Held}
 use Rattle.circ_top.specs.Library.{LibraryOutcome}
 use Rattle.circ_top.specs.Prove.{ProveOutcome}
@@ -26,6 +27,7 @@ OutcomeOf held (Show theory) s text stored = ShowOutcome held theory s text × (
 OutcomeOf held (Contexts budget theory) s text stored = ContextsOutcome held budget theory s text × (stored ≡ None)
 OutcomeOf held (Reduce budget theory script) s text stored = ReduceOutcome held budget theory script s text × (stored ≡ None)
 OutcomeOf held (Same first second) s text stored = SameOutcome held first second s text × (stored ≡ None)
+OutcomeOf held (Differ limits theory script) s text stored = DifferOutcome held limits theory script s text stored
 OutcomeOf held (Regex limits left right proof) s text stored = RegexOutcome limits left right proof s text stored
 OutcomeOf held (Upgrade theory proof new) s text stored = UpgradeOutcome held theory proof new s text stored
 OutcomeOf held (Library given) s text stored = LibraryOutcome given s text × (stored ≡ None)

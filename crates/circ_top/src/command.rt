@@ -9,8 +9,8 @@ ghost use Rattle.circ_proof.specs.Proof.{Proof};
 ghost use Rattle.circ_proof.specs.Accepted.{Derives, FirstFail};
 ghost use Rattle.circ_top.specs.declared.request.Report.{Report};
 ghost use Rattle.circ_turn.specs.declared.search.Limits.{Limits};
-ghost use Rattle.circ_top.specs.Command.{Check, Prove, Regex, Upgrade, Asks, IsNotStored};
-ghost use Rattle.circ_top.specs.Command.{IsReport, plain_request};
+ghost use Rattle.circ_top.specs.Command.{Check, Prove, Differ, Regex, Upgrade, Asks};
+ghost use Rattle.circ_top.specs.Command.{IsNotStored, IsReport, IsBounded, plain_request};
 ghost use Rattle.circ_files.specs.Texts.{refused_text};
 ghost use Rattle.circ_found.specs.Ending.{Stored as PlainStored, plain_stored, plain_ending};
 ghost use Rattle.circ_generate.specs.Generating.{Generates};
@@ -19,6 +19,7 @@ ghost use Rattle.circ_top.specs.Delivery.{Delivers};
 ghost use Rattle.circ_top.specs.Check.{report_text, Accepts, Rejects, FilesRead};
 ghost use Rattle.circ_top.specs.Outcome.{Outcome};
 ghost use Rattle.circ_top.specs.Prove.{StoresProof};
+ghost use Rattle.circ_top.specs.Differ.{TellsApart};
 ghost use Rattle.circ_top.specs.Regex.{StoresEquality};
 ghost use Rattle.circ_top.specs.Upgrade.{StoresUpgraded};
 ghost use Rattle.circ_top.specs.Storing.{HoldsAfter, FailsToStore, Ends, IsQuietEnd};
@@ -30,6 +31,7 @@ ghost use Rattle.circ_files.specs.Quiet.{IsQuietCall};
 
 use crate::check::check;
 use crate::contexts::contexts;
+use crate::differ::differ;
 use crate::library::library;
 use crate::prove::prove;
 use crate::reduce::reduce;
@@ -57,11 +59,11 @@ use std::alloc::Global;
 
 /// The program: `words` are its name and then a command with what it takes, which is
 /// `check THEORY PROOF`, `relation THEORY PROOF`, `prove THEORY SCRIPT PROOF`, `show THEORY`,
-/// `contexts THEORY`, `reduce THEORY SCRIPT`, `same FIRST SECOND`, `regex LEFT RIGHT PROOF`,
-/// `upgrade THEORY PROOF NEW`, `library NAME` or `generate NUMBER`. The options `--steps N` and
-/// `--derives N` may stand before, behind or between them. The files are taken from the shelf, to
-/// which `prove`, `regex` and `upgrade` store a proof, and the text of the answer is written to the
-/// sink, whole.
+/// `contexts THEORY`, `reduce THEORY SCRIPT`, `same FIRST SECOND`, `differ THEORY SCRIPT`,
+/// `regex LEFT RIGHT PROOF`, `upgrade THEORY PROOF NEW`, `library NAME` or `generate NUMBER`. The
+/// options `--steps N` and `--derives N` may stand before, behind or between them. The files are
+/// taken from the shelf, to which `prove`, `regex` and `upgrade` store a proof, and the text of the
+/// answer is written to the sink, whole.
 pub fn circ<S: Shelf, K: Sink>(
     alloc: Global,
     words: &Vec<String>,
@@ -91,6 +93,13 @@ pub fn circ<S: Shelf, K: Sink>(
     ensures expressions { (limits : Limits) (left right proof : List ℕ) →
         Asks (map string_bytes words.now.items) (Regex limits left right proof) →
         result ≡ Status.Ok → StoresEquality left right proof
+        (S.state shelf.old) (S.state shelf.new) (K.state out.old) (K.state out.new) }
+
+    // Status 11 of `differ`: the experiment that is printed leads the sides of a goal of the script
+    // to two different constants of one case list.
+    ensures told_apart { (limits : Limits) (theory script : List ℕ) (n : ℕ) →
+        Asks (map string_bytes words.now.items) (Differ limits theory script) →
+        result ≡ Status.Differ n → TellsApart theory script n
         (S.state shelf.old) (S.state shelf.new) (K.state out.old) (K.state out.new) }
 
     // Status 0 of `upgrade`: the third word's file holds the text of the second file's proof in
@@ -199,6 +208,7 @@ fn answer_to<S: Shelf, K: Sink>(
     shelf: &mut S,
     out: &mut K,
 ) -> Status
+    requires { IsBounded (plain_request request.now) }
     ensures answers { (words : List (List ℕ)) → Asks words (plain_request request.now) →
         AnswersDue words
         (S.state shelf.old) (S.state shelf.new) (K.state out.old) (K.state out.new) result }
@@ -220,6 +230,7 @@ fn run<'a, S: Shelf>(
     request: &Request<'a>,
     shelf: &mut S,
 ) -> Result<Ending<'a>, Status>
+    requires { IsBounded (plain_request request.now) }
     ensures comes { IfOk result (λ e. Comes (plain_request request.now)
         e.status e.text.items (plain_stored e.stored) (S.state shelf.old)) }
     ensures refuses { IfErr result
@@ -235,6 +246,11 @@ fn run<'a, S: Shelf>(
             proof,
         } => prove(alloc, shelf, *limits, theory, script, proof),
         Request::Same { first, second } => same(alloc, shelf, first, second),
+        Request::Differ {
+            limits,
+            theory,
+            script,
+        } => differ(alloc, shelf, *limits, theory, script),
         Request::Regex {
             limits,
             left,

@@ -96,7 +96,7 @@ impl<'a> Incoming<'a> {
 
     // Checks the next part, and keeps its goals.
     fn take(&mut self, part: Part) -> Result<(), AllocError>
-        requires { checker.Follows (plain_part part) self.old.checker }
+        requires { checker.FitsNext (plain_part part) self.old.checker }
         ensures taken { OnOk result ((th : PlainTheory) (parts : List PlainPart) →
             checker.Stands th parts self.old.checker →
             checker.Stands th (parts ++ plain_part part ∷ []) self.new.checker) }

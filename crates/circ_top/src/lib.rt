@@ -4,6 +4,7 @@
 mod check;
 mod command;
 mod contexts;
+mod differ;
 mod incoming;
 pub mod laws;
 mod library;

@@ -3,7 +3,8 @@ ghost use Rattle.std.specs.Prelude.{IfOk, IfErr};
 ghost use Rattle.circ_outer.specs.Shelf.{ShelfFrame};
 ghost use Rattle.circ_files.specs.Quiet.{IsQuietCall};
 ghost use Rattle.circ_found.specs.Ending.{plain_ending};
-ghost use Rattle.circ_top.specs.Prove.{IsSearched, RefusesProve};
+ghost use Rattle.circ_top.specs.Prove.{IsSearched};
+ghost use Rattle.circ_top.specs.Scripted.{RefusesScript};
 
 use circ_files::{Status, take_plain_theory, take_script};
 use circ_found::{Ending, search, searchable};
@@ -26,7 +27,7 @@ pub(crate) fn prove<'a, S: Shelf>(
     ensures searched { IfOk result (λ e. IsSearched limits theory.now script.now name.now
         (plain_ending e) (S.state shelf.old)) }
     ensures refused { IfErr result
-        (RefusesProve theory.now script.now (S.state shelf.old) (S.state shelf.new)) }
+        (RefusesScript theory.now script.now (S.state shelf.old) (S.state shelf.new)) }
     ensures quiet { IsQuietCall (S.state shelf.old) (S.state shelf.new) result }
     ensures frame { ShelfFrame (S.state shelf.old) (S.state shelf.new) }
 {

@@ -63,6 +63,13 @@ pub(crate) enum Request<'a> {
         first: &'a str,
         second: &'a str,
     },
+    /// An experiment is looked for that tells the sides of a goal of a script file apart, over a
+    /// theory file and within limits.
+    Differ {
+        limits: Limits,
+        theory: &'a str,
+        script: &'a str,
+    },
     /// A proof that two regular expressions match the same words is searched for within limits,
     /// and stored under a name.
     Regex {
@@ -178,6 +185,13 @@ fn of_two<'a>(words: &Words<'_, 'a>, first: &'a str, second: &'a str) -> Option<
     }
     if is_word(words.name, b"same") {
         return Some(Request::Same { first, second });
+    }
+    if is_word(words.name, b"differ") {
+        return Some(Request::Differ {
+            limits: words.limits,
+            theory: first,
+            script: second,
+        });
     }
     let Some(report) = report_of(words.name) else {
         return None;

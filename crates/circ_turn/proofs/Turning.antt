@@ -21,24 +21,24 @@ use Rattle.circ_join.specs.declared.stop.Stop.TheVariants as stop
 use Rattle.circ_turn.specs.declared.end.End.{End}
 use Rattle.circ_turn.specs.declared.end.End.TheVariants as end
 use Rattle.circ_turn.specs.Standing.{unlinked}
-use Rattle.circ_turn.specs.Ending.{Ends, GoesTo, GoesUnlinked, IsEnd, end_by}
+use Rattle.circ_turn.specs.Ending.{EndsAs, GoesTo, GoesUnlinked, IsEnd, end_by}
 
 same_Ok : {A E : Type 0} (a b : A) → ◌≡◌ {A = Result A E} (Ok a) (Ok b) → a ≡ b
 same_Ok a b e = cc
 
 -- what ends a part ends the whole
-pub ends_then : {A B : Type 0} (e : End) (r : Result A Ending) (f : A → Result B Ending) → Ends r e → Ends (and_then r f) e
+pub ends_then : {A B : Type 0} (e : End) (r : Result A Ending) (f : A → Result B Ending) → EndsAs r e → EndsAs (and_then r f) e
 ends_then (end.Stuck b g s t A) r f h = ap (λ x. and_then x f) h
 ends_then (end.Spent r1 d m) r f h = ap (λ x. and_then x f) h
 ends_then (end.TooBig n) r f h = ap (λ x. and_then x f) h
 ends_then (end.TooDeep n) r f h = ap (λ x. and_then x f) h
 ends_then end.Memory r f h = tt
 
-pub ends_same : {A : Type 0} (e : End) (r q : Result A Ending) → r ≡ q → Ends q e → Ends r e
-ends_same e r q s h = let P : Result _ Ending → Type 0 = λ x. Ends x e in subst P (sym s) h
+pub ends_same : {A : Type 0} (e : End) (r q : Result A Ending) → r ≡ q → EndsAs q e → EndsAs r e
+ends_same e r q s h = let P : Result _ Ending → Type 0 = λ x. EndsAs x e in subst P (sym s) h
 
 -- what stops a part ends the search
-pub stops_end : {A : Type 0} (l : Limits) (st : Standing) (e : TheStop) (r : Result A Stop) → Stops r e → Ends (or_end l st r) (end_by l st e)
+pub stops_end : {A : Type 0} (l : Limits) (st : Standing) (e : TheStop) (r : Result A Stop) → Stops r e → EndsAs (or_end l st r) (end_by l st e)
 stops_end l st stop.Spent r h = ap (or_end l st) h
 stops_end l st (stop.TooBig n) r h = ap (or_end l st) h
 stops_end l st (stop.TooDeep n) r h = ap (or_end l st) h
@@ -46,7 +46,7 @@ stops_end l st (stop.Stuck s t A) r h = ap (or_end l st) h
 stops_end l st stop.Memory r h = tt
 
 -- a part that stops ends the whole
-pub part_ends : {A B : Type 0} (l : Limits) (st : Standing) (e : TheStop) (r : Result A Stop) (f : A → Result B Ending) → Stops r e → Ends (and_then (or_end l st r) f) (end_by l st e)
+pub part_ends : {A B : Type 0} (l : Limits) (st : Standing) (e : TheStop) (r : Result A Stop) (f : A → Result B Ending) → Stops r e → EndsAs (and_then (or_end l st r) f) (end_by l st e)
 part_ends l st e r f h = ends_then (end_by l st e) (or_end l st r) f (stops_end l st e r h)
 
 pub goes_same : {X : Type 0} (r q : Result Standing Ending) (st : Standing) (x : Result X End) → r ≡ q → GoesTo q st x → GoesTo r st x
@@ -111,7 +111,7 @@ simplified_goes {X = X} th l st mid new c r h m e g =
     go (Err x) true z k = ends_same x (simplified th l st) (record_step th l (unlinked st) (Simplify st.chain)) (whole ∙ rw z refl) k
     go (Err x) false z k = other x (rw z at k)
       where
-        other : (x : End) → Ends (Ok (record (unlinked st) { steps = st.steps ++ Simplify st.chain ∷ []; made = st.made + 1; deep = st.deep || is_deep_step th st.hypotheses (Simplify st.chain) })) x → Ends (simplified th l st) x
+        other : (x : End) → EndsAs (Ok (record (unlinked st) { steps = st.steps ++ Simplify st.chain ∷ []; made = st.made + 1; deep = st.deep || is_deep_step th st.hypotheses (Simplify st.chain) })) x → EndsAs (simplified th l st) x
         other (end.Stuck b g s t A) q = absurd (cc)
         other (end.Spent r1 d m) q = absurd (cc)
         other (end.TooBig n) q = absurd (cc)
@@ -218,7 +218,7 @@ goal_turn_goes th G l st g rest n new r e h =
     goes_same (goal_turn th G l st g rest) (sides_turn th G l (with_sides st rest n) (goal [] n.left n.right) rest) new r (goal_goes th G l st g rest n e) h
 
 -- the ending that is told is such
-pub is_end : {A : Type 0} (R : Ending → Type 0) (r : Result A Ending) (e : End) → ((x : Ending) → r ≡ Err x → R x) → Ends r e → IsEnd R e
+pub is_end : {A : Type 0} (R : Ending → Type 0) (r : Result A Ending) (e : End) → ((x : Ending) → r ≡ Err x → R x) → EndsAs r e → IsEnd R e
 is_end R r (end.Stuck b g s t A) f h = f _ h
 is_end R r (end.Spent r1 d m) f h = f _ h
 is_end R r (end.TooBig n) f h = f _ h

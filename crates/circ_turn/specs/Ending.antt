@@ -14,28 +14,28 @@ use Rattle.circ_turn.specs.declared.end.End.TheVariants as end
 use Rattle.circ_turn.specs.Standing.{unlinked}
 
 -- the search ends so, or memory ran out
-abbrev pub Ends : {A : Type 0} → Result A Ending → End → Type 0
-Ends r (end.Stuck block goal s t A) = r ≡ Err (Is_stuck block goal s t (map plain_pair A.items))
-Ends r (end.Spent rewrites derives steps) = r ≡ Err (Is_spent rewrites derives steps)
-Ends r (end.TooBig nodes) = r ≡ Err (Is_too_big nodes)
-Ends r (end.TooDeep depth) = r ≡ Err (Is_too_deep depth)
-Ends r end.Memory = Unit {0}
+abbrev pub EndsAs : {A : Type 0} → Result A Ending → End → Type 0
+EndsAs r (end.Stuck block goal s t A) = r ≡ Err (Is_stuck block goal s t (map plain_pair A.items))
+EndsAs r (end.Spent rewrites derives steps) = r ≡ Err (Is_spent rewrites derives steps)
+EndsAs r (end.TooBig nodes) = r ≡ Err (Is_too_big nodes)
+EndsAs r (end.TooDeep depth) = r ≡ Err (Is_too_deep depth)
+EndsAs r end.Memory = Unit {0}
 
 -- the search goes on from this standing, or ends
 abbrev pub GoesTo : {X : Type 0} → Result Standing Ending → Standing → Result X End → Type 0
 GoesTo r st (Ok x) = r ≡ Ok st
-GoesTo r st (Err e) = Ends r e
+GoesTo r st (Err e) = EndsAs r e
 
 -- the same, where the links of the goal in hand count no more
 abbrev pub GoesUnlinked : {X : Type 0} → Result Standing Ending → Standing → Result X End → Type 0
 GoesUnlinked r st (Ok x) = (y : Standing) × (r ≡ Ok y) × (st ≡ unlinked y)
-GoesUnlinked r st (Err e) = Ends r e
+GoesUnlinked r st (Err e) = EndsAs r e
 
 -- a block is finished: the next begins, or every goal is done
 abbrev pub GoesOrDone : Result Standing Ending → Standing → Result Bool End → Type 0
 GoesOrDone r st (Ok true) = r ≡ Ok st
 GoesOrDone r st (Ok false) = r ≡ Err (All_done st.finished st.derives st.made st.deep)
-GoesOrDone r st (Err e) = Ends r e
+GoesOrDone r st (Err e) = EndsAs r e
 
 -- how a search ends that a part of it stops
 abbrev pub end_by : Limits → Standing → Stop → End

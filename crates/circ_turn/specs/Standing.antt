@@ -44,7 +44,7 @@ pub record IsStart (th : Theory) (l : Limits) (st : Standing) : Type 0 where
   pub start : st ≡ start l blocks
 
 -- these parts are as before
-pub record Keeps (old new : State) : Type 0 where
+pub record KeepsRest (old new : State) : Type 0 where
   pub finished : new.finished.items ≡ old.finished.items
   pub taken : new.taken ≡ old.taken
   pub derives : new.derives ≡ old.derives

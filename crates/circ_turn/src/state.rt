@@ -4,7 +4,7 @@ ghost use Rattle.std.specs.Prelude.{IfOk, OnOk};
 ghost use Rattle.circ_plain_search.specs.Search.{no_links, next_goal, with_sides, sides_with};
 ghost use Rattle.circ_plain_search.specs.Search.{chained, start};
 ghost use Rattle.circ_proof.specs.Plain.{plain_chain};
-ghost use Rattle.circ_turn.specs.Standing.{standing, unlinked, limits_with, Keeps};
+ghost use Rattle.circ_turn.specs.Standing.{standing, unlinked, limits_with, KeepsRest};
 
 use circ_join::Hypotheses;
 use circ_numbering::TermBlock;
@@ -145,7 +145,7 @@ impl<'a> State<'a> {
     pub(crate) fn take_chain(&mut self, alloc: Global) -> Chain<Term>
         ensures taken { plain_chain result ≡ plain_chain self.old.chain }
         ensures left { standing self.new ≡ unlinked (standing self.old) }
-        ensures kept { Keeps self.old self.new }
+        ensures kept { KeepsRest self.old self.new }
     {
         mem::replace(&mut self.chain, no_links(alloc))
     }

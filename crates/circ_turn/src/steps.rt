@@ -1,14 +1,14 @@
 //! Steps that are recorded.
-ghost use Rattle.std.specs.Prelude.{◌≡◌, ◌<◌, ◌≤◌, ◌+◌, ◌++◌, ◌∷◌, []};
+ghost use Rattle.std.specs.Prelude.{◌≡◌, ◌<◌, ◌≤◌, ◌+◌, ◌++◌, ◌||◌, ◌∷◌, []};
 ghost use Rattle.std.specs.Prelude.{length, drop, Ok, OnOk};
 ghost use Rattle.circ_plain_search.specs.BlockRules.{HaveNoConditions};
 ghost use Rattle.circ_plain_search.specs.Coming.{IsReady, IsSmall};
 ghost use Rattle.circ_plain_search.specs.Search.{record_step, reduced, simplified, derive_turn};
 ghost use Rattle.circ_plain_search.specs.Search.{hidden_turn, done_turn, next_goal, with_this};
-ghost use Rattle.circ_plain_search.specs.Search.{no_links, has_links, Standing};
+ghost use Rattle.circ_plain_search.specs.Search.{no_links, has_links, is_deep_step, Standing};
 ghost use Rattle.circ_proof.specs.Plain.{plain_chain, plain_why};
-ghost use Rattle.circ_proof.specs.PlainProof.{plain_step};
-ghost use Rattle.circ_turn.specs.Standing.{standing, plain_limits, Keeps};
+ghost use Rattle.circ_proof.specs.PlainProof.{plain_step, plain_steps};
+ghost use Rattle.circ_turn.specs.Standing.{standing, plain_limits, KeepsRest};
 ghost use Rattle.circ_turn.specs.Ending.{GoesTo, GoesUnlinked, GoesOrDone, end_by, end_spent};
 
 use crate::MOST_STEPS;
@@ -81,11 +81,26 @@ impl Search<'_> {
     fn record_step(&self, state: &mut State<'_>, step: Step<Term>) -> Result<(), End>
         ensures exact { GoesTo (record_step self.now.theory.now (plain_limits self.now.limits)
             (standing state.old) (plain_step step)) (standing state.new) result }
-        ensures kept { Keeps state.old state.new }
+        ensures kept { KeepsRest state.old state.new }
     {
         if state.made >= MOST_STEPS {
             return Err(self.spent(state));
         }
+        self.add_step(state, step)?;
+        Ok(())
+    }
+
+    // The step goes behind those of the block.
+    fn add_step(&self, state: &mut State<'_>, step: Step<Term>) -> Result<(), AllocError>
+        requires { state.old.made < 100000 }
+        ensures added { OnOk result (standing state.new ≡ record (standing state.old) {
+          steps = plain_steps state.old.steps.items ++ plain_step step ∷ [];
+          made = state.old.made + 1;
+          deep = state.old.deep ||
+              is_deep_step self.now.theory.now state.old.hyps.all (plain_step step);
+        }) }
+        ensures kept { KeepsRest state.old state.new }
+    {
         let deep = is_deep_step(self.theory, state.hyps.goals(), &step);
         state.steps.push(step)?;
         state.made += 1;
@@ -132,7 +147,7 @@ impl Search<'_> {
     fn simplified(&self, state: &mut State<'_>) -> Result<(), End>
         ensures exact { GoesUnlinked (simplified self.now.theory.now
             (plain_limits self.now.limits) (standing state.old)) (standing state.new) result }
-        ensures kept { Keeps state.old state.new }
+        ensures kept { KeepsRest state.old state.new }
     {
         if !has_links(&state.chain) {
             return Ok(());

@@ -9,18 +9,18 @@ use Rattle.circ_memo.proofs.advancing.advance.Goals as goal
 
 pub returns-then-budget-eq0-clause-advances : goal.returns-then-budget-eq0-clause-advances
 returns-then-budget-eq0-clause-advances c = λ t n h.
-    let chosen = rw c.in-Some.is at (c.in_ok-choice.ensures t n) in
+    let chosen = rw c.in-Some.is at (c.in_ok-choice.ensures.exact t n h) in
     stops_spent (due_by c.args.means.now) c.args.nodes.now c.args.bounds t chosen.0 h chosen.1 c.args.budget.now c.if-budget-eq0.true
 
 pub build-requires-clause-chosen : goal.build-requires-clause-chosen
 build-requires-clause-chosen c =
     let t = there_named c.args.nodes.now c.args.number c.requires.there in
-    let chosen = rw c.in-Some.is at (c.in_ok-choice.ensures t.0 t.1) in
-    (t.0, chosen.0, chosen.2)
+    let chosen = rw c.in-Some.is at (c.in_ok-choice.ensures.chosen t.0 t.1) in
+    (t.0, chosen.0, chosen.1)
 
 pub returns-in-Err-clause-advances : goal.returns-in-Err-clause-advances
 returns-in-Err-clause-advances c = λ t n h.
-    let chosen = rw c.in-Some.is at (c.in_ok-choice.ensures t n) in
+    let chosen = rw c.in-Some.is at (c.in_ok-choice.ensures.exact t n h) in
     rw c.rewrite_fault.ensures
     (stops_broken (due_by c.args.means.now) c.build.new.nodes c.args.bounds t chosen.0 h chosen.1 c.args.budget.now c.in-Err.fault (omega (arith, c.if-budget-eq0.false))
     (c.in-Err.ensures.interns t chosen.0 n chosen.2))
@@ -28,12 +28,12 @@ returns-in-Err-clause-advances c = λ t n h.
 pub term-term-requires : goal.term-term-requires
 term-term-requires c =
     let t = there_named c.args.nodes.now c.args.number c.requires.there in
-    let chosen = rw c.in-Some.is at (c.in_ok-choice.ensures t.0 t.1) in
-    named_below c.build.new.nodes c.in-Ok.new chosen.0.new (c.in-Ok.ensures.interns t.0 chosen.0 t.1 chosen.2).0
+    let chosen = rw c.in-Some.is at (c.in_ok-choice.ensures.chosen t.0 t.1) in
+    named_below c.build.new.nodes c.in-Ok.new chosen.0.new (c.in-Ok.ensures.interns t.0 chosen.0 t.1 chosen.1).0
 
 pub returns-then-size-bounds-clause-advances : goal.returns-then-size-bounds-clause-advances
 returns-then-size-bounds-clause-advances c = λ t n h.
-    let chosen = rw c.in-Some.is at (c.in_ok-choice.ensures t n) in
+    let chosen = rw c.in-Some.is at (c.in_ok-choice.ensures.exact t n h) in
     let r : Replacement = chosen.0 in
     let made = c.in-Ok.ensures.interns t r n chosen.2 in
     let is = named_one c.build.new.nodes c.in-Ok.new c.term-term.result.now r.new c.term-term.ensures made.0 in
@@ -46,7 +46,7 @@ returns-then-size-bounds-clause-advances c = λ t n h.
 
 pub returns-clause-advances : goal.returns-clause-advances
 returns-clause-advances c = λ t n h.
-    let chosen = rw c.in-Some.is at (c.in_ok-choice.ensures t n) in
+    let chosen = rw c.in-Some.is at (c.in_ok-choice.ensures.exact t n h) in
     let r : Replacement = chosen.0 in
     let made = c.in-Ok.ensures.interns t r n chosen.2 in
     let is = named_one c.build.new.nodes c.in-Ok.new c.term-term.result.now r.new c.term-term.ensures made.0 in (

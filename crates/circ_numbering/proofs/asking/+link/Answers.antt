@@ -6,7 +6,7 @@ use Rattle.circ_proof.specs.Link.{terms_of, chains_terms}
 use Rattle.circ_proof.specs.Nesting.{link_nesting, chains_nesting}
 use Rattle.circ_proof.specs.Table.{number_in}
 use Rattle.circ_proof.proofs.Rows.{equation_plain, hypothesis_plain}
-use Rattle.circ_numbering.proofs.Requests.{first_fails, second_fails, both_asked, later_too}
+use Rattle.circ_numbering.proofs.Requests.{first_fails, second_fails, both_asked, later_too, parts_asked}
 use Rattle.circ_numbering.proofs.Walks.{walk_fails, walk_on, walk_asked, walk_named, flat_seen, map_seen}
 use Rattle.circ_numbering.proofs.Chains.{link_in, chain_in, chains_flat, chains_named}
 use Rattle.circ_numbering.proofs.asking.+link.Goals as goal
@@ -102,52 +102,33 @@ pub chains-chain-requires : goal.chains-chain-requires
 chains-chain-requires t c =
     let d = chain_in c.args.recorded.now c.loop-one.one-index c.one-item.result c.loop-one-test.true c.one-item.is in omega (arith, d)
 
-pub link-numbered_parts-requires : goal.link-numbered_parts-requires
-link-numbered_parts-requires t c =
+pub link-numbered_parts-parts-requires : goal.link-numbered_parts-parts-requires
+link-numbered_parts-parts-requires t c =
     let x = c.in-Equation in
     let e = ap link_nesting (ap plain_link x.is ∙ equation_plain x.number x.way x.path x.terms x.conds) in
     let same = ap (λ cs. chains_nesting (plain_chains cs)) c.as_slice-in-Equation.ensures.value in
     omega (arith, e, same)
 
-pub link-numbered_parts-requires-in-Hypothesis : goal.link-numbered_parts-requires-in-Hypothesis
-link-numbered_parts-requires-in-Hypothesis t c =
+pub link-numbered_parts-parts-requires-in-Hypothesis : goal.link-numbered_parts-parts-requires-in-Hypothesis
+link-numbered_parts-parts-requires-in-Hypothesis t c =
     let x = c.in-Hypothesis in
     let e = ap link_nesting (ap plain_link x.is ∙ hypothesis_plain x.number x.way x.path x.terms x.conds) in
     let same = ap (λ cs. chains_nesting (plain_chains cs)) c.as_slice-in-Hypothesis-2.ensures.value in
     omega (arith, e, same)
 
-pub link-returns-in-Err : goal.link-returns-in-Err
-link-returns-in-Err t c =
+pub link-returns-in-Equation : goal.link-returns-in-Equation
+link-returns-in-Equation t c =
     let x = c.in-Equation in
     let e = ap plain_link x.is ∙ equation_plain x.number x.way x.path x.terms x.conds in
-    rw e (rw (c.as_slice.ensures.value, c.as_slice-in-Equation.ensures.value) at c.in-Err.ensures)
+    rw e (parts_asked (Equation_link x.number x.way) x.path.items c.args.table.now c.numbered_parts-parts.new.table x.terms.items (plain_chains x.conds.items)
+    c.numbered_parts-parts.result c.equation_link.result (rw (c.as_slice.ensures.value, c.as_slice-in-Equation.ensures.value) at c.numbered_parts-parts.ensures)
+    c.equation_link.ensures)
 
-pub link-returns-in-Err-numbered_parts : goal.link-returns-in-Err-numbered_parts
-link-returns-in-Err-numbered_parts t c =
+pub link-returns-in-Hypothesis : goal.link-returns-in-Hypothesis
+link-returns-in-Hypothesis t c =
     let x = c.in-Hypothesis in
     let e = ap plain_link x.is ∙ hypothesis_plain x.number x.way x.path x.terms x.conds in
-    rw e (rw (c.as_slice-in-Hypothesis.ensures.value, c.as_slice-in-Hypothesis-2.ensures.value) at c.in-Err-numbered_parts.ensures)
-
-pub link-returns-in-Ok : goal.link-returns-in-Ok
-link-returns-in-Ok t c =
-    let x = c.in-Equation in
-    let e = ap plain_link x.is ∙ equation_plain x.number x.way x.path x.terms x.conds in
-    let r = rw (c.as_slice.ensures.value, c.as_slice-in-Equation.ensures.value) at c.in-Ok.ensures in
-    rw e (
-      r.0,
-      λ table a.
-          let g = r.1 table a in
-          c.equation_link.ensures ∙ (λ i. Equation_link x.number x.way (g.0 i) (g.1 i) (g.2 i)),
-    )
-
-pub link-returns-in-Ok-numbered_parts : goal.link-returns-in-Ok-numbered_parts
-link-returns-in-Ok-numbered_parts t c =
-    let x = c.in-Hypothesis in
-    let e = ap plain_link x.is ∙ hypothesis_plain x.number x.way x.path x.terms x.conds in
-    let r = rw (c.as_slice-in-Hypothesis.ensures.value, c.as_slice-in-Hypothesis-2.ensures.value) at c.in-Ok-numbered_parts.ensures in
-    rw e (
-      r.0,
-      λ table a.
-          let g = r.1 table a in
-          c.hypothesis_link.ensures ∙ (λ i. Hypothesis_link x.number x.way (g.0 i) (g.1 i) (g.2 i)),
-    )
+    rw e (parts_asked (Hypothesis_link x.number x.way) x.path.items c.args.table.now c.numbered_parts-parts-in-Hypothesis.new.table x.terms.items (plain_chains x.conds.items)
+    c.numbered_parts-parts-in-Hypothesis.result c.hypothesis_link.result
+    (rw (c.as_slice-in-Hypothesis.ensures.value, c.as_slice-in-Hypothesis-2.ensures.value) at c.numbered_parts-parts-in-Hypothesis.ensures)
+    c.hypothesis_link.ensures)

@@ -4,6 +4,7 @@ use Rattle.circ_top.specs.Delivery.{whole}
 use Rattle.circ_top.specs.Storing.{stored_first}
 use Rattle.circ_top.specs.Refusals.{usage_text}
 use Rattle.circ_files.specs.declared.status.Status.TheVariants as status
+use Rattle.circ_top.proofs.Requests.{asks_bounded}
 use Rattle.circ_top.proofs.command.answer.Goals as goal
 
 pub returns-in-Ok-None-clause-answers : goal.returns-in-Ok-None-clause-answers
@@ -23,3 +24,6 @@ returns-in-Err-clause-answers g c = record {
   due = words_unread;
   ends = stored_first status.Memory (λ n. refl) (whole (record { quiet = refl; printed = λ t. sym (append-nil _) }));
 }
+
+pub answer_to-requires : goal.answer_to-requires
+answer_to-requires g c = asks_bounded _ _ (rw c.in-Ok-Some.field-0-is at c.in-Ok-Some.ensures)

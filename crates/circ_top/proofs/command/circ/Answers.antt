@@ -1,4 +1,4 @@
-use Rattle.circ_top.proofs.Answers.{answers_succeed, answers_accepted, answers_proved, answers_equal, answers_upgraded, answers_refused, answers_hold, answers_past_limit, answers_read_fault, answers_write_fault}
+use Rattle.circ_top.proofs.Answers.{answers_succeed, answers_accepted, answers_proved, answers_equal, answers_told_apart, answers_upgraded, answers_refused, answers_hold, answers_past_limit, answers_read_fault, answers_write_fault}
 use Rattle.circ_top.proofs.Answers.{read_outcome, accepted_read_outcome}
 use Rattle.circ_files.proofs.Readings.{ReadsOnce, reads_once}
 use Rattle.circ_top.proofs.Proofs.{ProofsOnce, proofs_come_once}
@@ -22,6 +22,11 @@ pub returns-clause-expressions : goal.returns-clause-expressions
 returns-clause-expressions g c =
     answers_equal _ _ _ _ _ c.answer.result (rw c.as_slice.ensures.value at c.answer.ensures.answers) c.proved_is_accepted.ensures c.goals_behave.ensures
     c.expressions_that_behave_match.ensures (rw c.as_slice.ensures.value at c.answer.ensures.quiet)
+
+pub returns-clause-told_apart : goal.returns-clause-told_apart
+returns-clause-told_apart g c =
+    answers_told_apart _ _ _ _ _ c.answer.result (rw c.as_slice.ensures.value at c.answer.ensures.answers)
+    (rw c.as_slice.ensures.value at c.answer.ensures.quiet)
 
 pub returns-clause-upgraded : goal.returns-clause-upgraded
 returns-clause-upgraded g c =

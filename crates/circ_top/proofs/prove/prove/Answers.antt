@@ -5,7 +5,7 @@ use Rattle.circ_files.specs.ScriptFile.{ScriptRefusal}
 use Rattle.circ_files.specs.declared.status.Status.TheVariants as status
 use Rattle.circ_files.proofs.FileFaults.{quiet_fault}
 use Rattle.circ_files.proofs.Scripts.{script_before}
-use Rattle.circ_top.specs.Prove.{theory_fault, script_fault}
+use Rattle.circ_top.specs.Scripted.{theory_fault, script_fault}
 use Rattle.circ_top.proofs.prove.prove.Goals as goal
 
 pub returns-in-Err-clause-refused : goal.returns-in-Err-clause-refused

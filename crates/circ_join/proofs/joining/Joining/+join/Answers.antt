@@ -28,20 +28,24 @@ joins-returns-in-Some-clause-exact t c =
       ap plain_uses c.in_ok-push.ensures.items ∙ map_append plain_use c.args.uses.now.items (c.in-Some.one ∷ []),
     )
 
-pub joins-all_join-requires : goal.joins-all_join-requires
-joins-all_join-requires t c =
+pub joins-joins_inside-requires : goal.joins-joins_inside-requires
+joins-joins_inside-requires t c =
+    let none = rw (c.in_default.is, c.as_slice.ensures) at c.in_ok-one.ensures in
+    (omega arith, (not_same c.same.result c.args.a.now c.args.b.now c.same.ensures c.if-same.false, sym none))
+
+pub joins_inside-all_join-requires : goal.joins_inside-all_join-requires
+joins_inside-all_join-requires t c =
     let value = c.in-Application-Application.ensures.value in
     let depth = ap depth_of value in
     let there = ap (λ u. length (args_of u)) value in
     let same = ap length (list_of-trees_of c.in-Application-Application.args.now) in
     (omega (arith, depth), omega (arith, there, same, c.kind.ensures.few))
 
-pub joins-returns-else-sort-other_sort-clause-exact : goal.joins-returns-else-sort-other_sort-clause-exact
-joins-returns-else-sort-other_sort-clause-exact t c =
+pub joins_inside-returns-else-sort-other_sort-clause-exact : goal.joins_inside-returns-else-sort-other_sort-clause-exact
+joins_inside-returns-else-sort-other_sort-clause-exact t c =
     let x = c.in-Application-Application in
-    let none = rw (c.in_default.is, c.as_slice.ensures) at c.in_ok-one.ensures in
     let e = joined_all c.args.self.now.gamma.now c.args.self.now.hyps.now.all c.args.path.now.items c.args.a.now c.args.b.now x.op x.sort x.other_op x.other_sort
-    (trees_of x.args.now) (trees_of x.others.now) x.ensures.value x.ensures'.value (not_same c.same.result c.args.a.now c.args.b.now c.same.ensures c.if-same.false) (sym none)
+    (trees_of x.args.now) (trees_of x.others.now) x.ensures.value x.ensures'.value c.requires.differ c.requires.unused
     c.if-op-other_op.false c.if-sort-other_sort.false in
     rw e c.all_join.ensures.exact
 

@@ -5,13 +5,16 @@ use Rattle.circ_join.proofs.Joins.{Going}
 use Rattle.circ_join.proofs.joining.Joining.+join.Given as goal
 
 abbrev pub decreases-joins : goal.decreases-joins
-decreases-joins l = 3 * depth_of l.a.now
+decreases-joins l = 4 * depth_of l.a.now + 3
+
+abbrev pub decreases-joins_inside : goal.decreases-joins_inside
+decreases-joins_inside l = 4 * depth_of l.a.now + 2
 
 abbrev pub decreases-all_join : goal.decreases-all_join
-decreases-all_join l = 3 * depths_of (trees_of l.args.now) + 2
+decreases-all_join l = 4 * depths_of (trees_of l.args.now) + 5
 
 abbrev pub decreases-joins_at : goal.decreases-joins_at
-decreases-joins_at l = 3 * depth_of l.arg.now + 1
+decreases-joins_at l = 4 * depth_of l.arg.now + 4
 
 abbrev pub invariant-all_join-loop-i : goal.invariant-all_join-loop-i
 invariant-all_join-loop-i l = record {

@@ -7,51 +7,56 @@ use Rattle.circ_theory.specs.Pairs.{plain_pair}
 use Rattle.circ_proof.specs.Plain.{plain_chain}
 use Rattle.circ_proof.proofs.Rows.{split_plain}
 use Rattle.circ_proof.specs.declared.links.Why.{Why}
-use Rattle.circ_split.proofs.Splits.{with_case, Rest, stops_then, stops_same, rest_next, rest_stops, rest_end, split_open, answer_same, answer_split}
+use Rattle.circ_split.proofs.Splits.{with_case, Rest, stops_then, stops_same, rest_next, rest_stops, rest_end, split_open, case_given, case_ends, case_splits}
 use Rattle.circ_split.proofs.splitting.Splitting.+split.Goals as goal
-
-pub case_reason-returns-then-same-clause-exact : goal.case_reason-returns-then-same-clause-exact
-case_reason-returns-then-same-clause-exact t c =
-    let n = rw (c.in-Ok.is, c.as_slice.ensures.value) at c.case_sides.ensures.exact in
-    answer_same c.args.self.now.theory.now c.args.memo.now.rules c.args.room (map plain_pair c.args.assumptions.now.items) c.args.left.now c.args.right.now c.args.budget.now
-    (sides_with c.in-Ok.sides.left c.in-Ok.sides.right (plain_chain c.in-Ok.sides.chain) c.case_sides.new.budget) n (c.same.ensures.0 c.if-same.true)
 
 pub case_reason-returns-in-Err-clause-exact : goal.case_reason-returns-in-Err-clause-exact
 case_reason-returns-in-Err-clause-exact t c =
     let n = rw (c.in-Err.is, c.as_slice.ensures.value) at c.case_sides.ensures.exact in
     stops_then c.in-Err.stop _ _ n
 
-pub case_reason-returns-in-Err-split_with-clause-exact : goal.case_reason-returns-in-Err-split_with-clause-exact
-case_reason-returns-in-Err-split_with-clause-exact t c =
+pub case_reason-returns-in-Ok-clause-exact : goal.case_reason-returns-in-Ok-clause-exact
+case_reason-returns-in-Ok-clause-exact t c =
     let n = rw (c.in-Ok.is, c.as_slice.ensures.value) at c.case_sides.ensures.exact in
-    let sides : Sides = sides_with c.in-Ok.sides.left c.in-Ok.sides.right (plain_chain c.in-Ok.sides.chain) c.case_sides.new.budget in
-    let e = answer_split c.args.self.now.theory.now c.args.memo.now.rules c.args.room (map plain_pair c.args.assumptions.now.items) c.args.left.now c.args.right.now c.args.budget.now sides n
-    (λ q. let z = c.same.ensures.1 q in absurd (let x = sym z ∙ c.if-same.false in cc)) in
-    stops_same c.in-Err-split_with.stop _ _ e (stops_then c.in-Err-split_with.stop _ _ (rw c.in-Ok.ensures.rules at c.in-Err-split_with.ensures.exact))
+    case_given _ _ (sides_with c.in-Ok.sides.left c.in-Ok.sides.right (plain_chain c.in-Ok.sides.chain) c.case_sides.new.budget) c.sides_reason.new.budget c.sides_reason.result n
+    (rw c.in-Ok.ensures.rules at c.sides_reason.ensures.exact)
 
-pub case_reason-returns-in-Ok-split_with-clause-exact : goal.case_reason-returns-in-Ok-split_with-clause-exact
-case_reason-returns-in-Ok-split_with-clause-exact t c =
-    let n = rw (c.in-Ok.is, c.as_slice.ensures.value) at c.case_sides.ensures.exact in
-    let sides : Sides = sides_with c.in-Ok.sides.left c.in-Ok.sides.right (plain_chain c.in-Ok.sides.chain) c.case_sides.new.budget in
-    let e = answer_split c.args.self.now.theory.now c.args.memo.now.rules c.args.room (map plain_pair c.args.assumptions.now.items) c.args.left.now c.args.right.now c.args.budget.now sides n
+pub sides_reason-returns-then-same-clause-exact : goal.sides_reason-returns-then-same-clause-exact
+sides_reason-returns-then-same-clause-exact t c =
+    case_ends (split_cases c.args.self.now.theory.now c.args.memo.now.rules c.args.room) (map plain_pair c.args.assumptions.now.items)
+    (sides_with c.args.sides.left c.args.sides.right (plain_chain c.args.sides.chain) c.args.budget.now) (c.same.ensures.0 c.if-same.true)
+
+pub sides_reason-returns-in-Err-clause-exact : goal.sides_reason-returns-in-Err-clause-exact
+sides_reason-returns-in-Err-clause-exact t c =
+    let sides : Sides = sides_with c.args.sides.left c.args.sides.right (plain_chain c.args.sides.chain) c.args.budget.now in
+    let e = case_splits (split_cases c.args.self.now.theory.now c.args.memo.now.rules c.args.room) (map plain_pair c.args.assumptions.now.items) sides
     (λ q. let z = c.same.ensures.1 q in absurd (let x = sym z ∙ c.if-same.false in cc)) in
-    e ∙ ap (λ x. and_then x (λ b. Ok (reason_with (Split_why (plain_chain c.in-Ok.sides.chain) b.term b.whys) b.budget))) (rw c.in-Ok.ensures.rules at c.in-Ok-split_with.ensures.exact)
-    ∙ ap (λ x. Ok (reason_with x c.split_with.new.budget)) (sym (split_plain c.in-Ok.sides.chain c.in-Ok-split_with.cases.term c.in-Ok-split_with.cases.whys))
+    stops_same c.in-Err.stop _ _ e (stops_then c.in-Err.stop _ _ c.in-Err.ensures.exact)
+
+pub sides_reason-returns-in-Ok-clause-exact : goal.sides_reason-returns-in-Ok-clause-exact
+sides_reason-returns-in-Ok-clause-exact t c =
+    let sides : Sides = sides_with c.args.sides.left c.args.sides.right (plain_chain c.args.sides.chain) c.args.budget.now in
+    let e = case_splits (split_cases c.args.self.now.theory.now c.args.memo.now.rules c.args.room) (map plain_pair c.args.assumptions.now.items) sides
+    (λ q. let z = c.same.ensures.1 q in absurd (let x = sym z ∙ c.if-same.false in cc)) in
+    e ∙ ap (λ x. and_then x (λ b. Ok (reason_with (Split_why (plain_chain c.args.sides.chain) b.term b.whys) b.budget))) c.in-Ok.ensures.exact
+    ∙ ap (λ x. Ok (reason_with x c.split_with.new.budget)) (sym (split_plain c.args.sides.chain c.in-Ok.cases.term c.in-Ok.cases.whys))
 
 pub each_case-returns-in-Err-clause-exact : goal.each_case-returns-in-Err-clause-exact
 each_case-returns-in-Err-clause-exact t c =
+    let whole = each_case c.args.self.now.theory.now c.args.memo.now.rules (split_cases c.args.self.now.theory.now c.args.memo.now.rules c.args.room) (map plain_pair c.args.assumptions.now.items)
+    c.args.split.now.term.now c.args.split.now.left.now c.args.split.now.right.now c.constants_of-constants.result.now c.args.budget.now in
     let cs = c.constants_of-constants.ensures ∙ ap (constants_of c.args.self.now.theory.now) c.sort.ensures in
     let h = rw (c.loop-i.invariant.same, c.loop-i.invariant.rules) at c.in-Err.ensures.exact in
-    rw (← cs) (rest_stops c.args.self.now.theory.now c.args.memo.now.rules c.args.room (map plain_pair c.args.assumptions.now.items) c.args.term.now c.args.left.now c.args.right.now
-    c.constants_of-constants.result.now c.loop-i.i c.loop-i.budget _ c.loop-i.whys.items c.in-Err.stop c.loop-i-test.true c.loop-i.invariant.rest h)
+    rw (← cs) (rest_stops c.args.self.now.theory.now c.args.memo.now.rules c.args.room (map plain_pair c.args.assumptions.now.items) c.args.split.now.term.now c.args.split.now.left.now c.args.split.now.right.now
+    c.constants_of-constants.result.now c.loop-i.i c.loop-i.budget whole c.loop-i.whys.items c.in-Err.stop c.loop-i-test.true c.loop-i.invariant.rest h)
 
 pub each_case-loop-i-preserved : goal.each_case-loop-i-preserved
 each_case-loop-i-preserved t c =
     let h = rw (c.loop-i.invariant.same, c.loop-i.invariant.rules) at c.in-Ok.ensures.exact in
     let whole = each_case c.args.self.now.theory.now c.args.memo.now.rules (split_cases c.args.self.now.theory.now c.args.memo.now.rules c.args.room) (map plain_pair c.args.assumptions.now.items)
-    c.args.term.now c.args.left.now c.args.right.now c.constants_of-constants.result.now c.args.budget.now in
+    c.args.split.now.term.now c.args.split.now.left.now c.args.split.now.right.now c.constants_of-constants.result.now c.args.budget.now in
     let rest = each_case c.args.self.now.theory.now c.args.memo.now.rules (split_cases c.args.self.now.theory.now c.args.memo.now.rules c.args.room) (map plain_pair c.args.assumptions.now.items)
-    c.args.term.now c.args.left.now c.args.right.now (drop (c.loop-i.i + 1) c.constants_of-constants.result.now) c.one_case.new.budget in
+    c.args.split.now.term.now c.args.split.now.left.now c.args.split.now.right.now (drop (c.loop-i.i + 1) c.constants_of-constants.result.now) c.one_case.new.budget in
     let P : List (Why Tree) → Type 0 = λ ws. Rest whole rest ws in
     record {
       theory = c.in-Ok.ensures.theory ∙ c.loop-i.invariant.theory;
@@ -59,15 +64,17 @@ each_case-loop-i-preserved t c =
       less = omega (arith, c.in-Ok.ensures.less, c.loop-i.invariant.less);
       same = c.in-Ok.ensures.same ∙ c.loop-i.invariant.same;
       rest = subst P (sym c.in_ok-push-in-Ok.ensures.items)
-          (rest_next c.args.self.now.theory.now c.args.memo.now.rules c.args.room (map plain_pair c.args.assumptions.now.items) c.args.term.now c.args.left.now c.args.right.now
+          (rest_next c.args.self.now.theory.now c.args.memo.now.rules c.args.room (map plain_pair c.args.assumptions.now.items) c.args.split.now.term.now c.args.split.now.left.now c.args.split.now.right.now
           c.constants_of-constants.result.now c.loop-i.i c.loop-i.budget c.one_case.new.budget c.in-Ok.why whole c.loop-i.whys.items c.loop-i-test.true c.loop-i.invariant.rest h);
     }
 
 pub each_case-returns-clause-exact : goal.each_case-returns-clause-exact
 each_case-returns-clause-exact t c =
+    let whole = each_case c.args.self.now.theory.now c.args.memo.now.rules (split_cases c.args.self.now.theory.now c.args.memo.now.rules c.args.room) (map plain_pair c.args.assumptions.now.items)
+    c.args.split.now.term.now c.args.split.now.left.now c.args.split.now.right.now c.constants_of-constants.result.now c.args.budget.now in
     let cs = c.constants_of-constants.ensures ∙ ap (constants_of c.args.self.now.theory.now) c.sort.ensures in
-    rw (← cs) (rest_end c.args.self.now.theory.now c.args.memo.now.rules c.args.room (map plain_pair c.args.assumptions.now.items) c.args.term.now c.args.left.now c.args.right.now
-    c.constants_of-constants.result.now c.loop-i.i c.loop-i.budget _ c.loop-i.whys.items (omega (arith, c.loop-i-test.false)) c.loop-i.invariant.rest)
+    rw (← cs, c.in_ok-term.ensures.same) (rest_end c.args.self.now.theory.now c.args.memo.now.rules c.args.room (map plain_pair c.args.assumptions.now.items) c.args.split.now.term.now c.args.split.now.left.now c.args.split.now.right.now
+    c.constants_of-constants.result.now c.loop-i.i c.loop-i.budget whole c.loop-i.whys.items (omega (arith, c.loop-i-test.false)) c.loop-i.invariant.rest)
 
 pub one_case-returns-in-Err-clause-exact : goal.one_case-returns-in-Err-clause-exact
 one_case-returns-in-Err-clause-exact t c =
@@ -90,10 +97,10 @@ split_with-returns-in-None-clause-exact t c =
     (map plain_pair c.args.assumptions.now.items) c.args.left.now c.args.right.now c.args.budget.now) (sym none) in
     rw e (rw c.as_slice-in-None.ensures.value at (c.stuck-in-None.ensures c.args.budget.now))
 
-pub split_with-returns-in-Err-clause-exact : goal.split_with-returns-in-Err-clause-exact
-split_with-returns-in-Err-clause-exact t c =
+pub split_with-returns-in-Some-clause-exact : goal.split_with-returns-in-Some-clause-exact
+split_with-returns-in-Some-clause-exact t c =
     let o = split_open c.args.self.now.theory.now c.args.memo.now.rules c.args.room (map plain_pair c.args.assumptions.now.items) c.args.left.now c.args.right.now c.args.budget.now c.if-room-eq0.false in
     let some = rw c.in-Some.is at c.open_of.ensures in
     let e = o ∙ ap (λ x. open_cases c.args.self.now.theory.now c.args.memo.now.rules (split_cases c.args.self.now.theory.now c.args.memo.now.rules (c.args.room - 1)) x
     (map plain_pair c.args.assumptions.now.items) c.args.left.now c.args.right.now c.args.budget.now) (sym some) in
-    rw e c.in-Err.ensures.exact
+    rw e c.each_case.ensures.exact
