@@ -90,7 +90,7 @@ lang_operator op_a = named_op (codes "a") [] lang_sort
 lang_operator op_b = named_op (codes "b") [] lang_sort
 lang_operator op_star = postfix_op (codes "*") lang_sort 31
 lang_operator op_product = infix_op (codes ";") lang_sort 33 Right false
-lang_operator op_sum = infix_op (codes "+") lang_sort 35 Neither true
+lang_operator op_sum = infix_op (codes "+") lang_sort 35 Right true
 lang_operator op_when = named_op (codes "when") (bit_sort ∷ lang_sort ∷ []) lang_sort
 
 -- the operator of this number on no term, on one and on two

@@ -153,7 +153,7 @@ const OPS: [OpRow; 15] = [
         args: &[1, 1],
         result: 1,
         prec: 35,
-        side: Side::Neither,
+        side: Side::Right,
         marked: true,
     },
     OpRow {
