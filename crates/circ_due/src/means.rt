@@ -9,14 +9,16 @@ ghost use Rattle.circ_nodes.specs.Named.{IsNamed, Interns};
 ghost use Rattle.circ_rewrite.specs.Due.{IsRewriteRule};
 ghost use Rattle.circ_rewrite.specs.Plain.{plain_trace};
 ghost use Rattle.circ_rewrite.specs.Replacement.{Replacement, placed, traced};
-ghost use Rattle.circ_due.specs.Chosen.{IsReady, IsChoice, IsChosen, Chooses, due_by, rule_key};
+ghost use Rattle.circ_due.specs.Chosen.{IsReady, IsChoice, IsChosen, Chooses};
+ghost use Rattle.circ_due.specs.Chosen.{due_by, left_side};
+ghost use Rattle.circ_index.specs.Indexed.{HasLefts};
 
 use crate::assuming::{Assumed, assumed_at, kept, shared};
 use crate::building::{canonical_form, instance};
 use crate::choice::Choice;
 use crate::choosing::choose_besides;
 use crate::tracing::terms_given;
-use circ_index::{Rows, left_key};
+use circ_index::Finder;
 use circ_nodes::Nodes;
 use circ_rewrite::{Rule, Trace};
 use circ_term::{Path, TermFault};
@@ -35,8 +37,8 @@ pub struct Means<'a> {
     pub rules: Vec<Rule>,
     /// The assumptions, which are tried first.
     pub assumptions: Pairs,
-    // The keys of the rules' left sides, and the assumptions by the numbers of theirs.
-    pub(crate) rows: Rows,
+    // The rules by their left sides, and the assumptions by the numbers of theirs.
+    pub(crate) finder: Finder,
     pub(crate) assumed: IndexMap<u32, Assumed>,
 }
 
@@ -50,13 +52,13 @@ impl<'a> Means<'a> {
         ensures rules { IfOk result (λ m. m.rules.items ≡ rules.items) }
         ensures assumptions { IfOk result (λ m. m.assumptions ≡ []) }
     {
-        let rows = rows_of(alloc, rules.as_slice())?;
+        let finder = finder_of(alloc, rules.as_slice())?;
         Ok(Means {
             alloc,
             theory,
             rules,
             assumptions: Pairs::new(alloc),
-            rows,
+            finder,
             assumed: IndexMap::new(alloc),
         })
     }
@@ -73,15 +75,10 @@ impl<'a> Means<'a> {
         ensures assumptions { self.new.assumptions ≡ self.old.assumptions }
         ensures err { OnErr result (self.new.rules.items ≡ self.old.rules.items) }
     {
-        let key = left_key(&rule.left);
-        self.rules.push(rule)?;
-        match self.rows.add(&[key]) {
-            Ok(()) => Ok(()),
-            Err(fault) => {
-                let _last = self.rules.pop();
-                Err(fault)
-            }
-        }
+        self.rules.reserve(1)?;
+        self.finder.add_left(&rule.left)?;
+        self.rules.push_reserved(rule);
+        Ok(())
     }
 
     /// Makes no assumptions any more. The means serve each table of terms then.
@@ -187,14 +184,14 @@ impl<'a> Means<'a> {
     }
 }
 
-// The rows of the rules' left sides.
-fn rows_of(alloc: Global, rules: &[Rule]) -> Result<Rows, AllocError>
+// The rules by their left sides.
+fn finder_of(alloc: Global, rules: &[Rule]) -> Result<Finder, AllocError>
     requires { length rules.now < 2 ^ 32 }
-    ensures { IfOk result (λ x. x.keys ≡ map rule_key rules.now) }
+    ensures { IfOk result (λ x. HasLefts x (map left_side rules.now)) }
 {
-    let mut rows = Rows::new(alloc);
+    let mut finder = Finder::new(alloc);
     for rule in rules {
-        rows.add(&[left_key(&rule.left)])?;
+        finder.add_left(&rule.left)?;
     }
-    Ok(rows)
+    Ok(finder)
 }

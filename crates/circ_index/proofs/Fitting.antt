@@ -1,15 +1,22 @@
--- A pattern that matches has one of the keys that are looked for.
-use Rattle.std.proofs.Common.{Bool, true, false, ◌&&◌, ◌≡◌, ℕ, ◌≤◌, ◌<◌, refl, ap, sym, subst, ◌∙◌, arith, ◌⊎◌, inl, inr}
+-- A pattern that matches has one of the keys that are looked for, and one of the seats; and it is no larger than what it becomes.
+use Rattle.std.proofs.Common.{Bool, true, false, ◌&&◌, ◌≡◌, ℕ, ◌≤◌, ◌<◌, ◌^◌, List, map, length, Option, None, refl, ap, sym, subst, ◌∙◌, arith, ◌⊎◌, inl, inr}
 use Rattle.std.specs.Prelude.{slice_index}
 use Rattle.std.proofs.lemmas.Bool.{and_parts}
 use Rattle.circ_term.specs.Tree.{Tree, Trees, Var, App, none, more, size_of, sizes_of, is_ground}
 use Rattle.circ_term.specs.Substitution.{Substitution, instance, instances}
 use Rattle.circ_term.proofs.Instances.{instance-is_ground}
+use Rattle.circ_term.specs.Subst.{Bound}
 use Rattle.circ_match.specs.Matcher.{Makes}
-use Rattle.circ_index.specs.Finding.{LeftMatches, PairMatches}
+use Rattle.circ_index.specs.Finding.{LeftMatches, PairMatches, both_ways}
+use Rattle.circ_index.specs.Indexed.{HaveSeats, ArePairs, AreLefts}
 use Rattle.circ_index.specs.Keys.{root, key, ground_key, left_key, term_keys, pair_key, pair_keys}
 use Rattle.circ_index.specs.declared.keys.TheConstants.{ANY}
-use Rattle.circ_index.proofs.Seeking.{Fits}
+use Rattle.circ_index.specs.Paths.{key_of_left, key_of_pair, keys_of_term, keys_of_two}
+use Rattle.circ_index.specs.Walking.{term_seats, pair_seats}
+use Rattle.circ_index.specs.declared.finder.Finder.{Finder}
+use Rattle.circ_index.proofs.Leading.{left_leads, pair_leads}
+use Rattle.circ_index.proofs.Pairing.{length-both_ways}
+use Rattle.circ_index.proofs.Seeking.{Fits, Serves, rows_find, seats_find}
 
 pub left_fits : (t : Tree) → Fits (LeftMatches t) left_key (term_keys t)
 left_fits t l apart = λ τ k made. go τ l made apart
@@ -45,6 +52,37 @@ pair_fits a b p apart = λ τ k made. by_ground (is_ground p.0 && is_ground p.1)
     by_ground false e τ made =
         let key_is : pair_key p ≡ key (root p.0) (root p.1) = rw e refl in
         by_roots (root_fits τ p.0 a made.0) (root_fits τ p.1 b made.1) key_is
+
+-- ---- by keys and by seats
+
+-- for whatever has left sides
+pub left_serves : {X : Type 0} (Answers : X → Option (List Bound) → Type 0) (left_of : X → Tree) (xs : List X) (x : Finder) (t : Tree) (keys : List ℕ) → length xs < 2 ^ 32
+    → Fits Answers (λ p. left_key (left_of p)) keys → ((p : X) → ((τ : Substitution) → instance τ (left_of p) ≡ t → ⊥) → Answers p None)
+    → x.rows.keys ≡ map (λ p. left_key (left_of p)) xs
+    → HaveSeats x.whole (λ p. key_of_left x.paths (left_of p)) (λ p. left_key (left_of p)) xs x.seats
+    → Serves Answers xs x keys (term_seats x keys t)
+left_serves {X} Answers left_of xs x t keys few fits never rows seats = record {
+  few = few;
+  by_key = rows_find Answers (λ p. left_key (left_of p)) xs x.rows keys fits rows;
+  by_seat = λ whole.
+      seats_find Answers (λ p. key_of_left x.paths (left_of p)) (λ p. left_key (left_of p)) xs x.seats (keys_of_term x.paths t) keys fits
+      (λ p k e apart. never p (λ τ made. apart (left_leads x.paths τ (left_of p) t k e made)))
+      (subst (λ b. HaveSeats b (λ p. key_of_left x.paths (left_of p)) (λ p. left_key (left_of p)) xs x.seats) whole seats);
+}
+
+pub lefts_serve : (lefts : List Tree) (x : Finder) (t : Tree) → AreLefts lefts x → Serves (LeftMatches t) lefts x (term_keys t) (term_seats x (term_keys t) t)
+lefts_serve lefts x t h = left_serves (LeftMatches t) (λ l. l) lefts x t (term_keys t) h.few (left_fits t) (λ l never τ k made. never τ made) h.has.keys h.has.seats
+
+pub pairs_serve : (pairs : List (Tree × Tree)) (x : Finder) (a b : Tree) → ArePairs pairs x
+    → Serves (PairMatches a b) (both_ways pairs) x (pair_keys a b) (pair_seats x (pair_keys a b) a b)
+pairs_serve pairs x a b h = record {
+  few = omega (arith, length-both_ways pairs, h.few);
+  by_key = rows_find (PairMatches a b) pair_key (both_ways pairs) x.rows (pair_keys a b) (pair_fits a b) h.has.keys;
+  by_seat = λ whole.
+      seats_find (PairMatches a b) (key_of_pair x.paths) pair_key (both_ways pairs) x.seats (keys_of_two x.paths a b) (pair_keys a b) (pair_fits a b)
+      (λ p k e apart. λ τ s made. apart (pair_leads x.paths τ p a b k e made.0 made.1))
+      (subst (λ b. HaveSeats b (key_of_pair x.paths) pair_key (both_ways pairs) x.seats) whole h.has.seats);
+}
 
 -- ---- a pattern is no larger than what it becomes
 

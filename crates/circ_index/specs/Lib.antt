@@ -2,3 +2,6 @@ pub mod Finding
 pub mod Indexed
 pub mod Keys
 pub mod Linked
+pub mod OneOf
+pub mod Paths
+pub mod Walking

@@ -6,21 +6,21 @@ ghost use Rattle.std.specs.List.{slice_get};
 ghost use Rattle.circ_term.specs.Tree.{Tree};
 ghost use Rattle.circ_index.specs.Finding.{FindsFirstPair, PairMatches, both_ways};
 
-use crate::keys::{pair_key, pair_keys};
-use crate::rows::{Rows, least};
+use crate::finder::Finder;
+use crate::keys::pair_keys;
 use circ_match::match_pair;
 use circ_term::{Subst, Term};
 use std::alloc::{AllocError, Global};
 use std::marker::Model;
 
 /// Pairs of patterns, found by the operators at both roots, and by their sizes where they have no
-/// variables. Contracts see the list of the pairs.
+/// variables, and where many have the same, by their paths. Contracts see the list of the pairs.
 /// Place 2n is pair n as it stands, and place 2n + 1 is pair n turned.
 #[derive(Drop)]
 pub struct PairIndex {
     alloc: Global,
     pairs: Vec<(Term, Term)>,
-    rows: Rows,
+    finder: Finder,
 }
 
 impl Model for PairIndex {
@@ -36,7 +36,7 @@ impl Model for PairIndex {
 
     ghost view = { λ a. a.pairs.items };
 
-    ghost invariant = { λ a. ArePairs a.pairs.items a.rows };
+    ghost invariant = { λ a. ArePairs a.pairs.items a.finder };
 }
 
 impl PairIndex {
@@ -47,7 +47,7 @@ impl PairIndex {
         PairIndex {
             alloc,
             pairs: Vec::new(alloc),
-            rows: Rows::new(alloc),
+            finder: Finder::new(alloc),
         }
     }
 
@@ -65,8 +65,7 @@ impl PairIndex {
         ensures err { OnErr result (self.new ≡ self.old) }
     {
         self.pairs.push((left.share()?, right.share()?))?;
-        let keys = [pair_key(left, right), pair_key(right, left)];
-        match self.rows.add(&keys) {
+        match self.finder.add_pair(left, right) {
             Ok(()) => Ok(()),
             Err(fault) => {
                 let _last = self.pairs.pop();
@@ -80,15 +79,15 @@ impl PairIndex {
     pub fn first(&self, from: u32, a: &Term, b: &Term) -> Result<Option<(u32, Subst)>, AllocError>
         ensures { IfOk result (FindsFirstPair self.now from a.now b.now) }
     {
-        let mut ahead = [0; 5];
-        self.rows.start(&pair_keys(a, b), from, &mut ahead);
-        let mut place = least(&ahead);
+        let keys = pair_keys(a, b);
+        let mut walk = self.finder.start(&keys, from)?;
+        let mut place = self.finder.next_pair(a, b, &keys, from, &mut walk)?;
         while place as usize / 2 < self.pairs.len() {
             match self.try_at(place, a, b)? {
                 Some(subst) => return Ok(Some((place, subst))),
-                None => self.rows.pass(place, &mut ahead),
+                None => self.finder.pass(place, &mut walk),
             }
-            place = least(&ahead);
+            place = self.finder.next_pair(a, b, &keys, place + 1, &mut walk)?;
         }
         Ok(None)
     }

@@ -1,13 +1,20 @@
 //! Places in rows by their keys.
 ghost use Rattle.std.specs.Prelude.{◌≡◌, ◌+◌, ◌%◌, ◌≤◌, ◌<◌, ◌^◌};
-ghost use Rattle.std.specs.Prelude.{ℕ, List, ◌++◌, length, OnOk, OnErr};
+ghost use Rattle.std.specs.Prelude.{ℕ, List, ◌++◌, length, slice_index, IfOk, OnOk, OnErr};
 ghost use Rattle.circ_index.specs.Linked.{IsLinked, IsNext, AreAhead, IsLeast};
 
+use smallvec::SmallVec;
 use std::alloc::{AllocError, Global};
 use std::marker::Model;
 
 // Past all places.
-const END: u32 = 4_294_967_295;
+pub(crate) const END: u32 = 4_294_967_295;
+
+// So many places of a row are few.
+const FEW: u32 = 4;
+
+// Next places in some rows. Few need no memory of their own.
+pub(crate) type Ahead = SmallVec<u32, 8>;
 
 // Where a row begins and where it ends.
 #[derive(Clone, Copy)]
@@ -100,6 +107,15 @@ impl Rows {
         }
     }
 
+    // The same, for as many rows as there are keys.
+    pub(crate) fn ahead(&self, keys: &[u64], from: u32) -> Result<Ahead, AllocError>
+        ensures { IfOk result (λ v. AreAhead self.now keys.now from v.items) }
+    {
+        let mut ahead = Ahead::from_elem(self.alloc, END, keys.len())?;
+        self.start(keys, from, ahead.as_mut_slice());
+        Ok(ahead)
+    }
+
     /// The places behind one of them.
     pub fn pass(&self, place: u32, ahead: &mut [u32])
         requires { place < length self.now.keys }
@@ -126,6 +142,26 @@ impl Rows {
             here = self.next[here as usize];
         }
         here
+    }
+
+    // The place behind another in its row.
+    fn behind(&self, place: u32) -> u32
+        requires { place < length self.now.keys }
+        ensures { IsNext self.now.keys self.now.width (length self.now.keys)
+            (slice_index self.now.keys place % self.now.width) (place + 1) result }
+    {
+        self.next[place as usize]
+    }
+
+    // Whether more than a few places stand in the row of a key.
+    pub(crate) fn is_long(&self, key: u64) -> bool {
+        let mut place = self.first(key, 0);
+        let mut count = 0;
+        while count < FEW && place < END {
+            place = self.behind(place);
+            count += 1;
+        }
+        place < END
     }
 }
 

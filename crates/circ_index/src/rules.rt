@@ -3,20 +3,20 @@ ghost use Rattle.std.specs.Prelude.{◌≡◌, ◌+◌, ◌<◌, ◌^◌, [], �
 ghost use Rattle.std.specs.Prelude.{IfOk, OnOk, OnErr};
 ghost use Rattle.circ_index.specs.Finding.{FindsFirst};
 
-use crate::keys::{left_key, term_keys};
-use crate::rows::{Rows, least};
+use crate::finder::Finder;
+use crate::keys::term_keys;
 use circ_match::match_term;
 use circ_term::{Subst, Term};
 use std::alloc::{AllocError, Global};
 use std::marker::Model;
 
-/// Left sides of rules, found by the operators at the root and at the root of the first argument.
-/// Contracts see the list of the left sides.
+/// Left sides of rules, found by the operators at the root and at the root of the first argument,
+/// and where many have the same, by their paths. Contracts see the list of the left sides.
 #[derive(Drop)]
 pub struct RuleIndex {
     alloc: Global,
     lefts: Vec<Term>,
-    rows: Rows,
+    finder: Finder,
 }
 
 impl Model for RuleIndex {
@@ -32,7 +32,7 @@ impl Model for RuleIndex {
 
     ghost view = { λ a. a.lefts.items };
 
-    ghost invariant = { λ a. AreLefts a.lefts.items a.rows };
+    ghost invariant = { λ a. AreLefts a.lefts.items a.finder };
 }
 
 impl RuleIndex {
@@ -43,7 +43,7 @@ impl RuleIndex {
         RuleIndex {
             alloc,
             lefts: Vec::new(alloc),
-            rows: Rows::new(alloc),
+            finder: Finder::new(alloc),
         }
     }
 
@@ -54,7 +54,7 @@ impl RuleIndex {
         ensures err { OnErr result (self.new ≡ self.old) }
     {
         self.lefts.push(left.share()?)?;
-        match self.rows.add(&[left_key(left)]) {
+        match self.finder.add_left(left) {
             Ok(()) => Ok(()),
             Err(fault) => {
                 let _last = self.lefts.pop();
@@ -67,15 +67,15 @@ impl RuleIndex {
     pub fn first(&self, from: u32, term: &Term) -> Result<Option<(u32, Subst)>, AllocError>
         ensures { IfOk result (FindsFirst self.now from term.now) }
     {
-        let mut ahead = [0; 3];
-        self.rows.start(&term_keys(term), from, &mut ahead);
-        let mut place = least(&ahead);
+        let keys = term_keys(term);
+        let mut walk = self.finder.start(&keys, from)?;
+        let mut place = self.finder.next_left(term, &keys, from, &mut walk)?;
         while (place as usize) < self.lefts.len() {
             match match_term(self.alloc, &self.lefts[place as usize], term)? {
                 Some(subst) => return Ok(Some((place, subst))),
-                None => self.rows.pass(place, &mut ahead),
+                None => self.finder.pass(place, &mut walk),
             }
-            place = least(&ahead);
+            place = self.finder.next_left(term, &keys, place + 1, &mut walk)?;
         }
         Ok(None)
     }

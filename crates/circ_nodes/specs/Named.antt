@@ -1,6 +1,7 @@
 -- Terms and their numbers.
 use Rattle.std.specs.Prelude.{◌≡◌, ◌⊎◌, ℕ, List, [], ◌∷◌, ◌++◌, Some, Result, Ok, Err}
 use Rattle.std.specs.List.{slice_get}
+use Rattle.std.specs.Option.{unwrap_or}
 use Rattle.circ_term.specs.Tree.{Tree, Trees, Var, App, none, more, at}
 use Rattle.circ_term.specs.Limits.{first_limit, IsWithinLimits, Names}
 use Rattle.circ_term.specs.declared.fault.TermFault.{TermFault}
@@ -10,6 +11,10 @@ use Rattle.circ_nodes.specs.declared.nodes.Shape.TheVariants.{Variable, Applicat
 -- the term of number n is t
 abbrev pub IsNamed : (nodes : List Tree) (n : ℕ) → Tree → Type 0
 IsNamed nodes n t = slice_get nodes n ≡ Some t
+
+-- the term of a number
+abbrev pub tree_at : (nodes : List Tree) (n : ℕ) → Tree
+tree_at nodes n = unwrap_or (slice_get nodes n) (Var 0 0)
 
 -- the terms of these numbers are these
 abbrev pub AreNamed : (nodes : List Tree) (ns : List ℕ) → Trees → Type 0
