@@ -1,0 +1,9 @@
+pub mod Working
+pub mod Looking
+pub mod Given
+pub mod Linked
+pub mod Falling
+pub mod Sure
+pub mod Before
+pub mod Within
+pub mod Stepping
