@@ -23,5 +23,9 @@ pub mod WellSorted
 pub mod Cut
 pub mod FormWords
 pub mod FromLeft
+pub mod Levels
+pub mod PrintedTokens
 pub mod Printed
+pub mod SpelledLevels
+pub mod ReadBack
 pub mod Parameters

@@ -4,7 +4,7 @@ use Rattle.circ_term.proofs.Within.{drop_read}
 use Rattle.circ_theory.specs.Theory.{Pair, pair_with}
 use Rattle.circ_theory.specs.Pairs.{plain_pair}
 use Rattle.circ_theory.specs.declared.pairs.Pair.{Pair as PairOfTerms}
-use Rattle.circ_replay.proofs.justifying.shared.Goals as goal
+use Rattle.circ_theory.proofs.pairs.share_pairs.Goals as goal
 
 pub loop-pair-preserved : goal.loop-pair-preserved
 loop-pair-preserved c =
