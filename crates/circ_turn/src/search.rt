@@ -51,7 +51,9 @@ impl<'a> Search<'a> {
             (plain_limits self.now.limits) (standing state.old)) (standing state.new) result }
     {
         let mut rules = BlockRules::new(self.alloc, self.theory)?;
-        self.turns(&mut rules, state)
+        let done = self.turns(&mut rules, state);
+        drop(rules);
+        done
     }
 
     // One turn after another, with the rules of the first block.
