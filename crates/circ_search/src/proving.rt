@@ -65,7 +65,9 @@ fn search_with(
         (plain_limits limits.now) (plain_found f)) }
 {
     let mut state = State::start(alloc, blocks, limits.steps)?;
-    search_from(alloc, theory, limits, gamma, traces, &mut state)
+    let found = search_from(alloc, theory, limits, gamma, traces, &mut state);
+    drop(state);
+    found
 }
 
 // The same from the start of the search.

@@ -3,13 +3,13 @@ use Rattle.circ_proof.specs.Proof.{step_limit}
 use Rattle.circ_plain_search.specs.Coming.{Comes}
 use Rattle.circ_block.specs.Rules.{IsRulesOf}
 use Rattle.circ_turn.specs.Standing.{standing, plain_limits}
-use Rattle.circ_turn.proofs.search.Search.run.Given as goal
+use Rattle.circ_turn.proofs.search.Search.turns.Given as goal
 
-abbrev pub invariant-loop-rules : goal.invariant-loop-rules
-invariant-loop-rules l = record {
+abbrev pub invariant-loop-end : goal.invariant-loop-end
+invariant-loop-end l = record {
   comes : Comes l.self.theory.now l.self.gamma.now (plain_limits l.self.limits) (standing l.fn.state) (standing l.state);
   rules : IsRulesOf l.self.theory.now l.state.hyps.earlier l.rules;
 }
 
-abbrev pub decreases-loop-rules : goal.decreases-loop-rules
-decreases-loop-rules l = l.state.budget + (step_limit - l.state.made)
+abbrev pub decreases-loop-end : goal.decreases-loop-end
+decreases-loop-end l = l.state.budget + (step_limit - l.state.made)

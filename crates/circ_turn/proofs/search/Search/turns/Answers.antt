@@ -6,23 +6,23 @@ use Rattle.circ_block.specs.Rules.{IsRulesOf}
 use Rattle.circ_turn.specs.Standing.{standing, plain_limits}
 use Rattle.circ_turn.proofs.Earlier.{start_earlier}
 use Rattle.circ_turn.proofs.Turning.{is_end}
-use Rattle.circ_turn.proofs.search.Search.run.Goals as goal
+use Rattle.circ_turn.proofs.search.Search.turns.Goals as goal
 
-pub loop-rules-init : goal.loop-rules-init
-loop-rules-init c =
+pub loop-end-init : goal.loop-end-init
+loop-end-init c =
     let l = plain_limits c.args.self.now.limits in
     let none : (standing c.args.state.now).earlier ≡ [] = ap (λ x. x.earlier) c.requires.start.start ∙ start_earlier l c.requires.start.blocks in
-    let P : List Goal → Type 0 = λ E. IsRulesOf c.args.self.now.theory.now E c.in_ok-rules.rules in
-    record { comes = here; rules = subst P (sym none) c.in_ok-rules.ensures }
+    let P : List Goal → Type 0 = λ E. IsRulesOf c.args.self.now.theory.now E c.args.rules.now in
+    record { comes = here; rules = subst P (sym none) c.requires.rules }
 
 pub turn-requires-clause-ready : goal.turn-requires-clause-ready
 turn-requires-clause-ready c = λ g rest n q e.
     let th = c.args.self.now.theory.now in
     let G = c.args.self.now.gamma.now in
     let l = plain_limits c.args.self.now.limits in
-    let P : Standing → Type 0 = λ x. Comes th G l x (standing c.loop-rules.state) in
-    c.normal_goals_are_ready.ensures th c.known.ensures G l c.requires.start.blocks c.requires.start.searchable (standing c.loop-rules.state)
-    (subst P c.requires.start.start c.loop-rules.invariant.comes) g rest q n e
+    let P : Standing → Type 0 = λ x. Comes th G l x (standing c.loop-end.state) in
+    c.normal_goals_are_ready.ensures th c.known.ensures G l c.requires.start.blocks c.requires.start.searchable (standing c.loop-end.state)
+    (subst P c.requires.start.start c.loop-end.invariant.comes) g rest q n e
 
 pub turn-requires-clause-next : goal.turn-requires-clause-next
 turn-requires-clause-next c = λ y t.
@@ -31,18 +31,18 @@ turn-requires-clause-next c = λ y t.
     let l = plain_limits c.args.self.now.limits in
     let P : Standing → Type 0 = λ x. Comes th G l x y in
     c.standings_are_small.ensures th c.known.ensures G l c.requires.start.blocks c.requires.start.searchable y
-    (subst P c.requires.start.start (further (standing c.loop-rules.state) y c.loop-rules.invariant.comes t))
+    (subst P c.requires.start.start (further (standing c.loop-end.state) y c.loop-end.invariant.comes t))
 
-pub loop-rules-smaller : goal.loop-rules-smaller
-loop-rules-smaller c =
+pub loop-end-smaller : goal.loop-end-smaller
+loop-end-smaller c =
     let t = rw (c.in-Ok-true.is, c.in-Ok-true.field-0-test) at c.turn.ensures.exact in
-    c.turns_end.ensures c.args.self.now.theory.now c.args.self.now.gamma.now (plain_limits c.args.self.now.limits) (standing c.loop-rules.state) (standing c.turn.new.state) t
+    c.turns_end.ensures c.args.self.now.theory.now c.args.self.now.gamma.now (plain_limits c.args.self.now.limits) (standing c.loop-end.state) (standing c.turn.new.state) t
 
-pub loop-rules-preserved : goal.loop-rules-preserved
-loop-rules-preserved c =
+pub loop-end-preserved : goal.loop-end-preserved
+loop-end-preserved c =
     let t = rw (c.in-Ok-true.is, c.in-Ok-true.field-0-test) at c.turn.ensures.exact in
     let r = rw (c.in-Ok-true.is, c.in-Ok-true.field-0-test) at c.turn.ensures.rules in
-    record { comes = further (standing c.loop-rules.state) (standing c.turn.new.state) c.loop-rules.invariant.comes t; rules = r }
+    record { comes = further (standing c.loop-end.state) (standing c.turn.new.state) c.loop-end.invariant.comes t; rules = r }
 
 pub returns-in-Ok-false : goal.returns-in-Ok-false
 returns-in-Ok-false c =
@@ -52,7 +52,7 @@ returns-in-Ok-false c =
     let st = standing c.turn.new.state in
     let e : Ending = All_done st.finished st.derives st.made st.deep in
     let t = rw (c.in-Ok-false.is, c.in-Ok-false.field-0-test) at c.turn.ensures.exact in
-    c.what_comes_reaches.ensures th G l (standing c.args.state.now) (standing c.loop-rules.state) e c.loop-rules.invariant.comes (ends (standing c.loop-rules.state) e t)
+    c.what_comes_reaches.ensures th G l (standing c.args.state.now) (standing c.loop-end.state) e c.loop-end.invariant.comes (ends (standing c.loop-end.state) e t)
 
 pub returns-in-Err : goal.returns-in-Err
 returns-in-Err c =
@@ -60,5 +60,5 @@ returns-in-Err c =
     let G = c.args.self.now.gamma.now in
     let l = plain_limits c.args.self.now.limits in
     let t = rw c.in-Err.is at c.turn.ensures.exact in
-    is_end (Reaches th G l (standing c.args.state.now)) (turn th G l (standing c.loop-rules.state)) c.in-Err.end
-    (λ x y. c.what_comes_reaches.ensures th G l (standing c.args.state.now) (standing c.loop-rules.state) x c.loop-rules.invariant.comes (ends (standing c.loop-rules.state) x y)) t
+    is_end (Reaches th G l (standing c.args.state.now)) (turn th G l (standing c.loop-end.state)) c.in-Err.end
+    (λ x y. c.what_comes_reaches.ensures th G l (standing c.args.state.now) (standing c.loop-end.state) x c.loop-end.invariant.comes (ends (standing c.loop-end.state) x y)) t
