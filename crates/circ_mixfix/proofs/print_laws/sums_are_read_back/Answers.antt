@@ -1,12 +1,11 @@
-use Rattle.std.proofs.Common.{◌≡◌, ◌⊎◌, inl, inr, ◌<◌, ℕ, zero, suc, List, [], ◌∷◌, Some, refl, ap, sym, subst, ◌∙◌, arith, codes}
-use Rattle.std.specs.List.{slice_get, Contains}
+use Rattle.std.proofs.Common.{◌≡◌, ◌⊎◌, inl, inr, ◌<◌, ℕ, zero, suc, List, [], ◌∷◌, refl, ap, sym, subst, ◌∙◌, arith, codes}
+use Rattle.std.specs.List.{Contains}
 use Rattle.circ_form.specs.declared.forms.Piece.TheVariants.{Word}
 use Rattle.circ_theory.specs.Signature.{Operator}
 use Rattle.circ_theory.specs.Names.{AreDifferent}
 use Rattle.circ_theory.specs.Operators.{IsOperator, AreDifferentOperators}
-use Rattle.circ_mixfix.specs.Printed.{IsPrintable}
 use Rattle.circ_mixfix.specs.PrintedExamples.{plus, call, sums}
-use Rattle.circ_mixfix.specs.OwnWords.{HolesApart, HaveOwnWords}
+use Rattle.circ_mixfix.specs.OwnWords.{HolesApart}
 use Rattle.circ_mixfix.proofs.PrintedSums.{sums_printable}
 use Rattle.circ_mixfix.proofs.print_laws.sums_are_read_back.Goals as goal
 
