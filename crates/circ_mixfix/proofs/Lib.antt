@@ -28,4 +28,5 @@ pub mod PrintedTokens
 pub mod Printed
 pub mod SpelledLevels
 pub mod ReadBack
+pub mod PrintedSums
 pub mod Parameters

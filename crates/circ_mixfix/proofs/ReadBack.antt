@@ -1,11 +1,10 @@
 -- Where operators have words of their own, the tokens of a printed term spell this term alone.
-use Rattle.std.proofs.Common.{◌≡◌, ◌≢◌, ◌<◌, ◌≤◌, ◌+◌, ◌++◌, ◌==◌, ◌&&◌, ◌||◌, ℕ, zero, suc, List, [], ◌∷◌, length, get_or, Bool, true, false, Option, Some, None, nat_eq, codes, cond, sym, ◌∙◌, ap, subst, refl, arith, append_assoc, append-nil}
+use Rattle.std.proofs.Common.{◌≡◌, ◌<◌, ◌≤◌, ◌+◌, ◌++◌, ◌==◌, ◌&&◌, ℕ, suc, List, [], ◌∷◌, length, get_or, Bool, true, false, Some, None, codes, sym, ◌∙◌, ap, subst, refl, arith, append_assoc, append-nil}
 use Rattle.std.specs.Prelude.{if◌then◌else◌}
 use Rattle.std.specs.List.{slice_get, list_any, AllByRecursion, Contains}
-use Rattle.std.specs.Option.{option_and_then, unwrap_or}
+use Rattle.std.specs.Option.{unwrap_or}
 use Rattle.std.specs.Fmt.{decimal}
 use Rattle.std.specs.Str.Parse.{digits_value}
-use Rattle.std.specs.Cmp.Lexicographic.{pointwise, bytes_decides}
 use Rattle.std.proofs.lemmas.List.{append_cancel_left}
 use Rattle.std.proofs.lemmas.Fmt.{decimal_is_IsNumeral}
 use Rattle.std.proofs.lemmas.Bool.{eqb-true, and_parts}
@@ -22,7 +21,7 @@ use Rattle.circ_theory.specs.Theory.{Declared}
 use Rattle.circ_theory.specs.Names.{AreDifferent}
 use Rattle.circ_theory.specs.Operators.{IsOperator, AreDifferentOperators}
 use Rattle.circ_mixfix.specs.Named.{Named, NamedList, Variable, Applied, no_terms, terms}
-use Rattle.circ_mixfix.specs.Symbols.{Symbol, Word, Hole, every, inner_symbols, form_symbols, more_arguments, arguments, symbols_of}
+use Rattle.circ_mixfix.specs.Symbols.{every, inner_symbols, form_symbols, more_arguments, arguments, symbols_of}
 use Rattle.circ_mixfix.specs.Spells.{HasNoColon, IsVariable, Spells, SpellsSymbols, in_parentheses, a_variable, an_operator, no_symbol, a_word, a_hole}
 use Rattle.circ_mixfix.specs.Printing.{printed_name, text_of_term}
 use Rattle.circ_mixfix.specs.Printed.{IsPrintable, IsName, spelled_name, named_term, named_terms}
@@ -31,11 +30,11 @@ use Rattle.circ_mixfix.proofs.Cut.{prints_tokens}
 use Rattle.circ_mixfix.proofs.FormWords.{decimal_plain}
 use Rattle.circ_mixfix.proofs.Names.{before_colon, no_colon, colon_at}
 use Rattle.circ_mixfix.proofs.Written.{gives_written, gives_hole}
-use Rattle.circ_mixfix.proofs.SymbolWords.{one_more, no_holes, some_hole, fits, form_word}
-use Rattle.circ_mixfix.proofs.Levels.{is_open, is_close, is_comma, step, walk, next, counted, count, step_open, step_close, step_close_nothing, step_over, step_inside, step_stops, next_over, counted_over, walk_next, walk_on, deeper, same_front, count_both, none_stops, stops_none, none_wrapped}
+use Rattle.circ_mixfix.proofs.SymbolWords.{one_more, some_hole, fits, form_word}
+use Rattle.circ_mixfix.proofs.Levels.{is_open, is_comma, step, walk, counted, count, step_open, step_close, step_close_nothing, step_over, step_inside, step_stops, counted_over, walk_next, walk_on, deeper, same_front, count_both, none_stops, stops_none, none_wrapped}
 use Rattle.circ_mixfix.proofs.PrintedTokens.{fill, more_tokens, arguments_tokens, application_tokens, operator_tokens, tokens_of_term, tokens_of_terms}
 use Rattle.circ_mixfix.proofs.Printed.{spelled, not_star, first_of}
-use Rattle.circ_mixfix.proofs.SpelledLevels.{IsInner, AllInner, contains_inner, is_word_of, word_there, word_known, tested, some_tested, own_tested, colon_apart, listed, operator_inner, variable_inner, no_variable, spells_walk, word_counts, inner_count, plain_count, operator_count}
+use Rattle.circ_mixfix.proofs.SpelledLevels.{AllInner, contains_inner, is_word_of, word_there, word_known, tested, some_tested, own_tested, colon_apart, listed, operator_inner, variable_inner, no_variable, spells_walk, word_counts, inner_count, plain_count, operator_count}
 
 -- ---- lists of tokens that lead back outside
 

@@ -1,5 +1,5 @@
 -- A list that spells a term leads back to the depth at which it begins, and no comma stands in it outside of parentheses.
-use Rattle.std.proofs.Common.{◌≡◌, ◌≢◌, ◌<◌, ◌≤◌, ◌+◌, ◌++◌, ◌==◌, ◌||◌, ℕ, zero, suc, List, [], ◌∷◌, length, Bool, true, false, Option, Some, None, nat_eq, codes, sym, ◌∙◌, ap, subst, refl, arith}
+use Rattle.std.proofs.Common.{◌≡◌, ◌<◌, ◌≤◌, ◌+◌, ◌++◌, ◌==◌, ◌||◌, ℕ, zero, suc, List, [], ◌∷◌, length, Bool, true, false, Option, Some, None, nat_eq, codes, sym, ◌∙◌, ap, subst, refl, arith}
 use Rattle.std.specs.Prelude.{if◌then◌else◌}
 use Rattle.std.specs.List.{slice_get, list_any, Contains}
 use Rattle.std.specs.Option.{option_and_then}
@@ -20,7 +20,7 @@ use Rattle.circ_mixfix.specs.OwnWords.{AreNoWords}
 use Rattle.circ_mixfix.proofs.FormWords.{or_false, no_bad_piece}
 use Rattle.circ_mixfix.proofs.Names.{before_colon, no_colon, colon_at, apart}
 use Rattle.circ_mixfix.proofs.SymbolWords.{one_more, some_hole, fits, form_word}
-use Rattle.circ_mixfix.proofs.Levels.{is_open, is_close, is_comma, step, walk, next, counted, count, step_open, step_close, step_over, step_inside, next_over, next_open, next_close, counted_open, counted_close, counted_over, counted_inside, walk_next, walk_on, deeper, count_both, none_inside}
+use Rattle.circ_mixfix.proofs.Levels.{is_open, is_close, is_comma, step, walk, next, count, step_open, step_close, step_over, step_inside, next_over, next_open, counted_open, counted_close, counted_over, counted_inside, walk_next, walk_on, deeper, count_both, none_inside}
 
 -- ---- the words of forms
 

@@ -38,3 +38,8 @@ pub fn printed_sums()
 pub fn sums_are_printable()
     ensures { IsPrintable sums }
 {}
+
+/// And it is the text of one term.
+pub fn sums_are_read_back()
+    ensures { IsReadBack sums }
+{}
