@@ -24,7 +24,7 @@ use std::alloc::{AllocError, Global};
 #[derive(Drop)]
 pub struct Finder {
     rows: Rows,
-    paths: Paths,
+    pub(crate) paths: Paths,
     seats: Rows,
     whole: bool,
 }
@@ -150,7 +150,7 @@ impl Finder {
     }
 
     // Goes on by seats, where these are whole. The next place.
-    fn turn(
+    pub(crate) fn turn(
         &self,
         leaves: Leaves,
         keys: &[u64],
