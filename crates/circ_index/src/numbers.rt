@@ -134,25 +134,25 @@ impl Paths {
         end: Spot,
         nodes: &Nodes,
         number: u32,
-        closed: &mut Ends,
+        found: &mut Ends,
     ) -> Result<(), AllocError>
         requires { number < length nodes.now }
-        ensures { OnOk result (closed.new.items ≡ closed.old.items
+        ensures { OnOk result (found.new.items ≡ found.old.items
             ++ closed self.now.branches.keys (tree_at nodes.now number) end) }
     {
         if end.left > 0 {
-            closed.push(end.node)?;
+            found.push(end.node)?;
             return Ok(());
         }
-        self.put_child(end.node, STAR, closed)?;
+        self.put_child(end.node, STAR, found)?;
         if nodes.is_ground(number) {
-            self.put_child(end.node, nodes.size(number) as u32, closed)?;
+            self.put_child(end.node, nodes.size(number) as u32, found)?;
         }
         Ok(())
     }
 
     // Puts last where the paths go over the term of a number.
-    #[cycle(after)]
+    #[cycle(after_number)]
     fn after_number(
         &self,
         from: &[Spot],
@@ -179,7 +179,7 @@ impl Paths {
         }
     }
 
-    #[cycle(after)]
+    #[cycle(after_number)]
     fn after_numbers(
         &self,
         from: Spots,

@@ -3,7 +3,7 @@ use Rattle.circ_term.specs.Tree.{trees_of}
 use Rattle.circ_nodes.specs.Named.{tree_at}
 use Rattle.circ_nodes.proofs.Building.{above}
 use Rattle.circ_index.specs.Paths.{after_all}
-use Rattle.circ_index.proofs.numbers.Paths.+after.Given as goal
+use Rattle.circ_index.proofs.paths.Paths.+after_number.Given as goal
 
 -- arguments have lower numbers
 abbrev pub decreases-after_number : goal.decreases-after_number

@@ -1,7 +1,7 @@
 use Rattle.std.proofs.Common.{◌≡◌, ◌++◌, drop}
 use Rattle.circ_nodes.specs.Named.{tree_at}
 use Rattle.circ_index.specs.Paths.{closed_all}
-use Rattle.circ_index.proofs.numbers.Paths.close_all_of_number.Given as goal
+use Rattle.circ_index.proofs.paths.Paths.close_all_of_number.Given as goal
 
 abbrev pub invariant-loop-end : goal.invariant-loop-end
 invariant-loop-end l =
