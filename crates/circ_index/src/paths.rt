@@ -236,10 +236,19 @@ impl Paths {
         ensures { IfOk result
             (λ v. v.items ≡ side_after self.now.branches.keys from.now side.now) }
     {
+        let ends = self.ends(from, side, left)?;
+        Ok(self.close_all(ends.as_slice(), side)?)
+    }
+
+    // Where the paths go from nodes over a side.
+    fn ends(&self, from: &[usize], side: &Term, left: &mut usize) -> Result<Spots, PathFault>
+        ensures { IfOk result
+            (λ v. v.items ≡ after self.now.branches.keys (map spot from.now) side.now) }
+    {
         let spots = self.begin(from)?;
         let mut ends = Spots::new(self.alloc);
         self.after(spots.as_slice(), side, &mut ends, left)?;
-        Ok(self.close_all(ends.as_slice(), side)?)
+        Ok(ends)
     }
 
     // Where paths begin at nodes.
