@@ -14,7 +14,7 @@ use crate::choice::{Bounds, Choice};
 use crate::matching::extend;
 use crate::means::Means;
 use circ_forms::is_canonical;
-use circ_index::{Walk, rule_keys};
+use circ_index::{Walk, number_keys};
 use circ_nodes::{Nodes, Shape};
 use circ_rewrite::Rule;
 use std::alloc::AllocError;
@@ -49,7 +49,7 @@ impl Means<'_> {
         ensures { (t : Tree) → IsNamed nodes.now number t → IfOk result
             (FindsRule (λ given. given.items) nodes.now self.now.rules.items t from) }
     {
-        let keys = rule_keys(nodes.term(number));
+        let keys = number_keys(nodes, number);
         let mut walk = self.finder.start(&keys, from)?;
         let mut given = Bounds::new(self.alloc);
         match first_fit(self, nodes, number, from, &mut walk, &mut given)? {
@@ -77,15 +77,14 @@ fn first_fit(
     ensures { IfOk result (FindsFit nodes.now means.now.rules.items (tree_at nodes.now number)
         from given.new.items) }
 {
-    let term = nodes.term(number);
-    let keys = rule_keys(term);
-    let mut rule = means.finder.next_left(term, &keys, from, walk)?;
+    let keys = number_keys(nodes, number);
+    let mut rule = means.finder.next_number(nodes, number, &keys, from, walk)?;
     while (rule as usize) < means.rules.len() {
         if fits(nodes, &means.rules[rule as usize], number, given)? {
             return Ok(Some(rule));
         }
         means.finder.pass(rule, walk);
-        rule = means.finder.next_left(term, &keys, rule + 1, walk)?;
+        rule = means.finder.next_number(nodes, number, &keys, rule + 1, walk)?;
     }
     Ok(None)
 }

@@ -1,4 +1,4 @@
-use Rattle.std.proofs.Common.{◌≡◌, ◌<◌, ◌+◌, length, Some, None, arith, refl, sym, subst, ◌∙◌}
+use Rattle.std.proofs.Common.{◌+◌, length, arith, refl, sym, subst}
 use Rattle.circ_index.specs.Finding.{PairMatches, both_ways}
 use Rattle.circ_index.specs.Keys.{pair_keys}
 use Rattle.circ_index.specs.Walking.{pair_seats, IsOnWay, IsNextOn}
