@@ -19,9 +19,9 @@ pub record IsStore (m : Means) (s : Store) : Type 0 where
   pub kept : AreKept (due_by m) s.nodes s.entries.items
 
 -- the store is right, and so are the terms that were built of its numbers
-pub record IsAtWork (m : Means) (s : Store) (built : List (ℕ × Tree)) : Type 0 where
+pub record IsAtWork (m : Means) (s : Store) (terms : List (ℕ × Tree)) : Type 0 where
   pub store : IsStore m s
-  pub built : AreBuilt s.nodes built
+  pub built : AreBuilt s.nodes terms
 
 -- terms may have been added, and more may be kept
 pub record Extends (old new : Store) : Type 0 where

@@ -1,4 +1,4 @@
-use Rattle.std.proofs.Common.{◌≡◌, refl, ap}
+use Rattle.std.proofs.Common.{refl, ap}
 use Rattle.circ_term.specs.Tree.{operator_number}
 use Rattle.circ_aci.specs.Canonical.{canonical_under}
 use Rattle.circ_rewrite.specs.Replacement.{By_content}

@@ -79,9 +79,12 @@ list_args-list_arg-requires t c =
       (
         c.requires.store,
         (
-          count_at es c.args.here,
-          arg_kept nodes es c.known.ensures.once k.0 (count_at es c.args.here) k.2 c.in-Application.op c.in-Application.sort shape.0 c.in-Application.args.now shape.1 shape.2 c.loop-place.place
-              (get_or c.in-Application.args.now c.loop-place.place 0) at,
+          (
+            count_at es c.args.here,
+            arg_kept nodes es c.known.ensures.once k.0 (count_at es c.args.here) k.2 c.in-Application.op c.in-Application.sort shape.0 c.in-Application.args.now shape.1 shape.2 c.loop-place.place
+                (get_or c.in-Application.args.now c.loop-place.place 0) at,
+          ),
+          c.loop-place.invariant.built,
         ),
       ),
     )
