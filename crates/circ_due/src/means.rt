@@ -5,6 +5,7 @@ ghost use Rattle.std.specs.List.{AllByRecursion};
 ghost use Rattle.circ_term.specs.Tree.{Tree};
 ghost use Rattle.circ_term.specs.Growing.{Grows};
 ghost use Rattle.circ_theory.specs.Pairs.{plain_pair};
+ghost use Rattle.circ_nodes.specs.Built.{AreBuilt};
 ghost use Rattle.circ_nodes.specs.Named.{IsNamed, Interns};
 ghost use Rattle.circ_rewrite.specs.Due.{IsRewriteRule};
 ghost use Rattle.circ_rewrite.specs.Plain.{plain_trace};
@@ -21,7 +22,7 @@ use crate::choosing::{choose_besides, choose_besides_above};
 use crate::tracing::terms_given;
 use circ_forms::canonical_form;
 use circ_index::Finder;
-use circ_nodes::Nodes;
+use circ_nodes::{Nodes, Terms};
 use circ_rewrite::{Rule, Trace};
 use circ_term::{Path, TermFault};
 use circ_theory::{Pair, Pairs, Theory, share_pairs};
@@ -157,7 +158,7 @@ impl<'a> Means<'a> {
     {
         match choice {
             Choice::Assumed { right, .. } => {
-                nodes.term(*right).known();
+                nodes.known_at(*right);
                 Ok(*right)
             }
             Choice::Content { op } => canonical_form(self.alloc, self.theory, nodes, *op, number),
@@ -168,10 +169,12 @@ impl<'a> Means<'a> {
         }
     }
 
-    /// The trace of a replacement at a path in the whole term, by the new term's number.
+    /// The trace of a replacement at a path in the whole term, by the new term's number. The terms
+    /// in it are built, or shared if they were.
     pub fn trace(
         &self,
         nodes: &Nodes,
+        terms: &mut Terms,
         choice: &Choice,
         path: &[u16],
         new: u32,
@@ -179,7 +182,9 @@ impl<'a> Means<'a> {
         requires ready { IsReady nodes.now self.now }
         requires there { new < length nodes.now }
         requires chosen { IsChosen nodes.now self.now choice.now }
-        ensures { (t : Tree) (r : Replacement) → IsNamed nodes.now new r.new
+        requires built { AreBuilt nodes.now terms.old }
+        ensures built { AreBuilt nodes.now terms.new }
+        ensures traced { (t : Tree) (r : Replacement) → IsNamed nodes.now new r.new
             → IsChoice nodes.now self.now t choice.now r
             → IfOk result (λ x. plain_trace x ≡ traced (placed path.now r)) }
     {
@@ -192,12 +197,12 @@ impl<'a> Means<'a> {
             Choice::Content { op } => Ok(Trace::Content {
                 op: *op,
                 path,
-                term: nodes.term(new).share()?,
+                term: terms.term(nodes, new)?,
             }),
             Choice::Ruled { rule, given } => Ok(Trace::Rewrite {
                 name: self.rules[*rule as usize].name,
                 path,
-                terms: terms_given(self.alloc, nodes, given.as_slice())?,
+                terms: terms_given(self.alloc, nodes, terms, given.as_slice())?,
                 conds: Vec::new(self.alloc),
             }),
         }

@@ -231,7 +231,7 @@ pub(crate) fn fold(
     ensures interns { Interns nodes.new result (joined_at nodes.old op sort parts.items last) }
 {
     known(nodes, parts.as_slice());
-    nodes.term(last).known();
+    nodes.known_at(last);
     let mut parts = parts;
     let mut joined = last;
     while let Some(part) = parts.pop() {
@@ -240,7 +240,7 @@ pub(crate) fn fold(
             Err(fault) => return Err(fault),
         }
     }
-    nodes.term(joined).known();
+    nodes.known_at(joined);
     Ok(joined)
 }
 
@@ -250,7 +250,7 @@ fn known(nodes: &Nodes, numbers: &[u32])
     ensures { first_limits (trees_of (trees_at nodes.now numbers.now)) ≡ None }
 {
     for number in numbers {
-        nodes.term(*number).known();
+        nodes.known_at(*number);
     }
 }
 

@@ -53,7 +53,7 @@ fn is_own_above(nodes: &Nodes, decl: &OpDecl, op: u32, number: u32) -> bool
     match marked_operands(nodes, decl, op, number) {
         None => true,
         Some((first, second)) => {
-            if nodes.term(number).sort() != decl.result {
+            if nodes.sort(number) != decl.result {
                 return false;
             }
             may_join_above(nodes, decl, op, first, second)
@@ -93,7 +93,7 @@ pub(crate) fn is_own(nodes: &Nodes, decl: &OpDecl, op: u32, number: u32) -> bool
     match marked_operands(nodes, decl, op, number) {
         None => true,
         Some((first, second)) => {
-            if nodes.term(number).sort() != decl.result {
+            if nodes.sort(number) != decl.result {
                 return false;
             }
             may_join(nodes, decl, op, first, second)

@@ -37,7 +37,7 @@ pub fn canonical_form(
             make(alloc, nodes, decl, op, way)
         }
         None => {
-            nodes.term(number).known();
+            nodes.known_at(number);
             Ok(number)
         }
     }

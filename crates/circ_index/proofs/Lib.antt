@@ -6,3 +6,4 @@ pub mod Pairing
 pub mod Seating
 pub mod Seeking
 pub mod Steps
+mod Numbered

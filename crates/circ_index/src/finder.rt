@@ -5,12 +5,13 @@ ghost use Rattle.circ_term.specs.Tree.{Tree};
 ghost use Rattle.circ_index.specs.Finding.{both_ways};
 ghost use Rattle.circ_index.specs.Indexed.{IsSeat, HaveSeats, HasLefts, HasPairs};
 ghost use Rattle.circ_index.specs.Keys.{left_key, pair_key};
+ghost use Rattle.circ_index.specs.Linked.{AreAhead};
 ghost use Rattle.circ_index.specs.Paths.{Grows, key_of_left, key_of_pair};
 ghost use Rattle.circ_index.specs.Walking.{along, IsOnWay, IsNextOn, term_seats, pair_seats};
 
 use crate::keys::{left_key, pair_key};
 use crate::paths::{Leaves, PathFault, Paths};
-use crate::rows::{END, Rows, least};
+use crate::rows::{Ahead, END, Rows, least};
 use crate::walk::Walk;
 use circ_term::Term;
 use std::alloc::{AllocError, Global};
@@ -24,7 +25,7 @@ use std::alloc::{AllocError, Global};
 #[derive(Drop)]
 pub struct Finder {
     rows: Rows,
-    paths: Paths,
+    pub(crate) paths: Paths,
     seats: Rows,
     whole: bool,
 }
@@ -150,7 +151,7 @@ impl Finder {
     }
 
     // Goes on by seats, where these are whole. The next place.
-    fn turn(
+    pub(crate) fn turn(
         &self,
         leaves: Leaves,
         keys: &[u64],
@@ -162,12 +163,20 @@ impl Finder {
             walk.new) }
     {
         if self.whole {
-            let mut seats = leaves;
-            seats.extend_from_slice(keys)?;
-            walk.ahead = self.seats.ahead(seats.as_slice(), from)?;
+            walk.ahead = self.ahead_by_seats(leaves, keys, from)?;
             walk.by_seat = true;
         }
         Ok(least(walk.ahead.as_slice()))
+    }
+
+    // The first places at or above `from` that have these leaves or keys as their seats.
+    fn ahead_by_seats(&self, leaves: Leaves, keys: &[u64], from: u32) -> Result<Ahead, AllocError>
+        ensures { IfOk result (λ v. AreAhead self.now.seats (leaves.items ++ keys.now) from
+            v.items) }
+    {
+        let mut seats = leaves;
+        seats.extend_from_slice(keys)?;
+        self.seats.ahead(seats.as_slice(), from)
     }
 
     /// From a place that may be the next to those behind it.

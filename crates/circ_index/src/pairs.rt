@@ -5,9 +5,13 @@ ghost use Rattle.std.specs.Prelude.{OnOk, OnErr};
 ghost use Rattle.std.specs.List.{slice_get};
 ghost use Rattle.circ_term.specs.Tree.{Tree};
 ghost use Rattle.circ_index.specs.Finding.{FindsFirstPair, PairMatches, both_ways};
+ghost use Rattle.circ_index.specs.Indexed.{ArePairs};
+ghost use Rattle.circ_index.specs.Keys.{pair_keys};
+ghost use Rattle.circ_index.specs.Walking.{IsOnWay, pair_seats};
 
 use crate::finder::Finder;
 use crate::keys::pair_keys;
+use crate::walk::Walk;
 use circ_match::match_pair;
 use circ_term::{Subst, Term};
 use std::alloc::{AllocError, Global};
@@ -79,31 +83,56 @@ impl PairIndex {
     pub fn first(&self, from: u32, a: &Term, b: &Term) -> Result<Option<(u32, Subst)>, AllocError>
         ensures { IfOk result (FindsFirstPair self.now from a.now b.now) }
     {
-        let keys = pair_keys(a, b);
-        let mut walk = self.finder.start(&keys, from)?;
-        let mut place = self.finder.next_pair(a, b, &keys, from, &mut walk)?;
-        while place as usize / 2 < self.pairs.len() {
-            match self.try_at(place, a, b)? {
-                Some(subst) => return Ok(Some((place, subst))),
-                None => self.finder.pass(place, &mut walk),
-            }
-            place = self.finder.next_pair(a, b, &keys, place + 1, &mut walk)?;
-        }
-        Ok(None)
+        let mut walk = self.finder.start(&pair_keys(a, b), from)?;
+        let pairs = self.pairs.as_slice();
+        first_on(self.alloc, pairs, &self.finder, from, a, b, &mut walk)
     }
+}
 
-    // Matches the pair at a place.
-    fn try_at(&self, place: u32, a: &Term, b: &Term) -> Result<Option<Subst>, AllocError>
-        requires { place < length (both_ways self.now) }
-        ensures { (p : Tree × Tree) → slice_get (both_ways self.now) place ≡ Some p
-            → IfOk result (PairMatches a.now b.now p) }
-    {
-        let (left, right) = &self.pairs[place as usize / 2];
-        if place % 2 == 0 {
-            match_both(self.alloc, left, right, a, b)
-        } else {
-            match_both(self.alloc, right, left, a, b)
+// The same on a walk from there.
+fn first_on(
+    alloc: Global,
+    pairs: &[(Term, Term)],
+    finder: &Finder,
+    from: u32,
+    a: &Term,
+    b: &Term,
+    walk: &mut Walk,
+) -> Result<Option<(u32, Subst)>, AllocError>
+    requires pairs { ArePairs pairs.now finder.now }
+    requires way { IsOnWay finder.now (pair_keys a.now b.now)
+        (pair_seats finder.now (pair_keys a.now b.now) a.now b.now) from walk.old }
+    ensures { IfOk result (FindsFirstPair pairs.now from a.now b.now) }
+{
+    let keys = pair_keys(a, b);
+    let mut place = finder.next_pair(a, b, &keys, from, walk)?;
+    while place as usize / 2 < pairs.len() {
+        match try_at(alloc, pairs, place, a, b)? {
+            Some(subst) => return Ok(Some((place, subst))),
+            None => finder.pass(place, walk),
         }
+        place = finder.next_pair(a, b, &keys, place + 1, walk)?;
+    }
+    Ok(None)
+}
+
+// Matches the pair at a place.
+fn try_at(
+    alloc: Global,
+    pairs: &[(Term, Term)],
+    place: u32,
+    a: &Term,
+    b: &Term,
+) -> Result<Option<Subst>, AllocError>
+    requires { place < length (both_ways pairs.now) }
+    ensures { (p : Tree × Tree) → slice_get (both_ways pairs.now) place ≡ Some p
+        → IfOk result (PairMatches a.now b.now p) }
+{
+    let (left, right) = &pairs[place as usize / 2];
+    if place % 2 == 0 {
+        match_both(alloc, left, right, a, b)
+    } else {
+        match_both(alloc, right, left, a, b)
     }
 }
 

@@ -13,16 +13,16 @@ use smallvec::SmallVec;
 use std::alloc::{AllocError, Global};
 
 // Stands for a variable of a pattern.
-const STAR: u32 = 4_294_967_295;
+pub(crate) const STAR: u32 = 4_294_967_295;
 
 // The node at which all paths begin.
-const ROOT: usize = 18_446_744_073_709_551_615;
+pub(crate) const ROOT: usize = 18_446_744_073_709_551_615;
 
 // So many symbols of a side are told apart.
 const MOST_SYMBOLS: u32 = 64;
 
 // So many nodes are gone over for a term, and so many leaves are found, at most.
-const MOST_NODES: usize = 256;
+pub(crate) const MOST_NODES: usize = 256;
 
 const MOST_LEAVES: usize = 32;
 
@@ -35,14 +35,15 @@ struct Branch {
 
 // A node on the path of a side, and how many branches more the path can have.
 #[derive(Clone, Copy, Default)]
-struct Spot {
-    node: usize,
-    left: u32,
+pub(crate) struct Spot {
+    pub(crate) node: usize,
+    pub(crate) left: u32,
 }
 
-type Nodes = SmallVec<usize, 8>;
+// Nodes at which paths end. Few need no memory of their own.
+pub(crate) type Ends = SmallVec<usize, 8>;
 
-type Spots = SmallVec<Spot, 6>;
+pub(crate) type Spots = SmallVec<Spot, 6>;
 
 // Numbers of leaves. Few need no memory of their own.
 pub(crate) type Leaves = SmallVec<u64, 8>;
@@ -70,7 +71,7 @@ impl From<AllocError> for PathFault {
 // variable.
 #[derive(Drop)]
 pub(crate) struct Paths {
-    alloc: Global,
+    pub(crate) alloc: Global,
     branches: IndexSet<Branch>,
     leaves: IndexSet<usize>,
 }
@@ -206,7 +207,7 @@ impl Paths {
     }
 
     // The leaves at nodes.
-    fn leaves(&self, nodes: &[usize]) -> Result<Leaves, PathFault>
+    pub(crate) fn leaves(&self, nodes: &[usize]) -> Result<Leaves, PathFault>
         ensures { IfOk result (λ v. v.items ≡ leaves_in self.now.leaves.keys nodes.now) }
     {
         if nodes.len() > MOST_LEAVES {
@@ -231,18 +232,27 @@ impl Paths {
     }
 
     // The nodes to which a side leads from others. `left` is how many more may be gone over.
-    fn side(&self, from: &[usize], side: &Term, left: &mut usize) -> Result<Nodes, PathFault>
+    fn side(&self, from: &[usize], side: &Term, left: &mut usize) -> Result<Ends, PathFault>
         ensures { IfOk result
             (λ v. v.items ≡ side_after self.now.branches.keys from.now side.now) }
+    {
+        let ends = self.ends(from, side, left)?;
+        Ok(self.close_all(ends.as_slice(), side)?)
+    }
+
+    // Where the paths go from nodes over a side.
+    fn ends(&self, from: &[usize], side: &Term, left: &mut usize) -> Result<Spots, PathFault>
+        ensures { IfOk result
+            (λ v. v.items ≡ after self.now.branches.keys (map spot from.now) side.now) }
     {
         let spots = self.begin(from)?;
         let mut ends = Spots::new(self.alloc);
         self.after(spots.as_slice(), side, &mut ends, left)?;
-        Ok(self.close_all(ends.as_slice(), side)?)
+        Ok(ends)
     }
 
     // Where paths begin at nodes.
-    fn begin(&self, nodes: &[usize]) -> Result<Spots, AllocError>
+    pub(crate) fn begin(&self, nodes: &[usize]) -> Result<Spots, AllocError>
         ensures { IfOk result (λ v. v.items ≡ map spot nodes.now) }
     {
         let mut spots = Spots::new(self.alloc);
@@ -255,11 +265,11 @@ impl Paths {
         Ok(spots)
     }
 
-    fn close_all(&self, ends: &[Spot], side: &Term) -> Result<Nodes, AllocError>
+    fn close_all(&self, ends: &[Spot], side: &Term) -> Result<Ends, AllocError>
         ensures { IfOk result
             (λ v. v.items ≡ closed_all self.now.branches.keys side.now ends.now) }
     {
-        let mut nodes = Nodes::new(self.alloc);
+        let mut nodes = Ends::new(self.alloc);
         for end in ends {
             self.close(*end, side, &mut nodes)?;
         }
@@ -267,7 +277,7 @@ impl Paths {
     }
 
     // The nodes at which a side ends that leads so far.
-    fn close(&self, end: Spot, side: &Term, nodes: &mut Nodes) -> Result<(), AllocError>
+    fn close(&self, end: Spot, side: &Term, nodes: &mut Ends) -> Result<(), AllocError>
         ensures { OnOk result (nodes.new.items
             ≡ nodes.old.items ++ closed self.now.branches.keys side.now end) }
     {
@@ -283,7 +293,7 @@ impl Paths {
     }
 
     // Puts the node last to which a branch goes.
-    fn put_child(&self, node: usize, symbol: u32, nodes: &mut Nodes) -> Result<(), AllocError>
+    pub(crate) fn put_child(&self, node: usize, symbol: u32, nodes: &mut Ends) -> Result<(), AllocError>
         ensures { OnOk result (nodes.new.items
             ≡ nodes.old.items ++ listed (child_in self.now.branches.keys node symbol)) }
     {
@@ -337,7 +347,7 @@ impl Paths {
     }
 
     // Puts those last that can go no further.
-    fn stay(&self, from: &[Spot], to: &mut Spots) -> Result<(), AllocError>
+    pub(crate) fn stay(&self, from: &[Spot], to: &mut Spots) -> Result<(), AllocError>
         ensures { OnOk result (to.new.items ≡ to.old.items ++ staying from.now) }
     {
         for spot in from {
@@ -349,7 +359,7 @@ impl Paths {
     }
 
     // Puts those last to which the others go by a branch.
-    fn go(&self, from: &[Spot], symbol: u32, to: &mut Spots) -> Result<(), AllocError>
+    pub(crate) fn go(&self, from: &[Spot], symbol: u32, to: &mut Spots) -> Result<(), AllocError>
         ensures { OnOk result (to.new.items
             ≡ to.old.items ++ going self.now.branches.keys symbol from.now) }
     {
@@ -374,7 +384,7 @@ impl Paths {
 }
 
 // Takes so many nodes off those that may still be gone over.
-fn spend(left: &mut usize, count: usize) -> Result<(), PathFault> {
+pub(crate) fn spend(left: &mut usize, count: usize) -> Result<(), PathFault> {
     if *left < count {
         return Err(PathFault::TooMany);
     }

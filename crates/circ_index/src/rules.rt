@@ -2,9 +2,13 @@
 ghost use Rattle.std.specs.Prelude.{◌≡◌, ◌+◌, ◌<◌, ◌^◌, [], ◌∷◌, ◌++◌, length};
 ghost use Rattle.std.specs.Prelude.{IfOk, OnOk, OnErr};
 ghost use Rattle.circ_index.specs.Finding.{FindsFirst};
+ghost use Rattle.circ_index.specs.Indexed.{AreLefts};
+ghost use Rattle.circ_index.specs.Keys.{term_keys};
+ghost use Rattle.circ_index.specs.Walking.{IsOnWay, term_seats};
 
 use crate::finder::Finder;
 use crate::keys::term_keys;
+use crate::walk::Walk;
 use circ_match::match_term;
 use circ_term::{Subst, Term};
 use std::alloc::{AllocError, Global};
@@ -67,16 +71,34 @@ impl RuleIndex {
     pub fn first(&self, from: u32, term: &Term) -> Result<Option<(u32, Subst)>, AllocError>
         ensures { IfOk result (FindsFirst self.now from term.now) }
     {
-        let keys = term_keys(term);
-        let mut walk = self.finder.start(&keys, from)?;
-        let mut place = self.finder.next_left(term, &keys, from, &mut walk)?;
-        while (place as usize) < self.lefts.len() {
-            match match_term(self.alloc, &self.lefts[place as usize], term)? {
-                Some(subst) => return Ok(Some((place, subst))),
-                None => self.finder.pass(place, &mut walk),
-            }
-            place = self.finder.next_left(term, &keys, place + 1, &mut walk)?;
-        }
-        Ok(None)
+        let mut walk = self.finder.start(&term_keys(term), from)?;
+        let lefts = self.lefts.as_slice();
+        first_on(self.alloc, lefts, &self.finder, from, term, &mut walk)
     }
+}
+
+// The same on a walk from there.
+fn first_on(
+    alloc: Global,
+    lefts: &[Term],
+    finder: &Finder,
+    from: u32,
+    term: &Term,
+    walk: &mut Walk,
+) -> Result<Option<(u32, Subst)>, AllocError>
+    requires lefts { AreLefts lefts.now finder.now }
+    requires way { IsOnWay finder.now (term_keys term.now)
+        (term_seats finder.now (term_keys term.now) term.now) from walk.old }
+    ensures { IfOk result (FindsFirst lefts.now from term.now) }
+{
+    let keys = term_keys(term);
+    let mut place = finder.next_left(term, &keys, from, walk)?;
+    while (place as usize) < lefts.len() {
+        match match_term(alloc, &lefts[place as usize], term)? {
+            Some(subst) => return Ok(Some((place, subst))),
+            None => finder.pass(place, walk),
+        }
+        place = finder.next_left(term, &keys, place + 1, walk)?;
+    }
+    Ok(None)
 }

@@ -41,8 +41,8 @@ pub(crate) fn advance(
         Ok(new) => new,
         Err(fault) => return Err(Stop::Fault(rewrite_fault(fault))),
     };
-    let term = nodes.term(new);
-    if term.size() > bounds.big || term.depth() > bounds.deep {
+    nodes.known_at(new);
+    if nodes.size(new) > bounds.big || nodes.depth(new) > bounds.deep {
         return Err(Stop::Outgrows(new));
     }
     *budget -= 1;

@@ -111,12 +111,12 @@ fn keep_step(store: &mut Store, step: Step, last: Entry) -> Result<Entry, AllocE
         → IfOk result (IsToKeep due store.new.nodes b t) }
     ensures count { IfOk result (λ e. e.count ≡ step.way.count + 1 + last.count) }
 {
-    let new = store.nodes.term(step.next);
+    store.nodes.known_at(step.next);
     let after = Entry {
         value: last.value,
         count: 1 + last.count,
-        big: last.big.max(new.size()),
-        deep: last.deep.max(new.depth()),
+        big: last.big.max(store.nodes.size(step.next)),
+        deep: last.deep.max(store.nodes.depth(step.next)),
         ready: step.way.ready,
         next: Some(step.next),
     };

@@ -4,6 +4,7 @@ ghost use Rattle.std.specs.Prelude.{Option, IfOk, IfSome, OnOk, Some};
 ghost use Rattle.circ_term.specs.Tree.{Tree};
 ghost use Rattle.circ_rewrite.specs.Plain.{plain_traces};
 ghost use Rattle.circ_rewrite.specs.Replacement.{Replacement, placed, traced};
+ghost use Rattle.circ_nodes.specs.Built.{AreBuilt};
 ghost use Rattle.circ_nodes.specs.Named.{IsNamed};
 ghost use Rattle.circ_due.specs.Chosen.{IsReady, due_by};
 ghost use Rattle.circ_memo.specs.Keeping.{IsNumberKept, HasKeptArgs};
@@ -12,7 +13,7 @@ ghost use Rattle.circ_memo.specs.Working.{IsStore};
 
 use crate::store::Store;
 use circ_due::Means;
-use circ_nodes::{Nodes, Shape};
+use circ_nodes::{Nodes, Shape, Terms};
 use circ_rewrite::Trace;
 use circ_term::Path;
 use std::alloc::AllocError;
@@ -24,11 +25,14 @@ pub(crate) fn list(
     means: &Means<'_>,
     store: &Store,
     number: u32,
+    terms: &mut Terms,
     path: &mut Path,
     traces: &mut Vec<Trace>,
 ) -> Result<(), AllocError>
     requires store { IsStore means.now store.now }
     requires kept { (c : ℕ) × IsNumberKept store.now.entries.items number c }
+    requires built { AreBuilt store.now.nodes terms.old }
+    ensures built { AreBuilt store.now.nodes terms.new }
     ensures path { OnOk result (path.new.items ≡ path.old.items) }
     ensures lists { (t : Tree) → IsNamed store.now.nodes number t → OnOk result
         (ListsAll (due_by means.now) path.old.items t
@@ -36,8 +40,8 @@ pub(crate) fn list(
 {
     let mut here = number;
     loop {
-        store.nodes.term(here).known();
-        match list_step(means, store, here, path, traces)? {
+        store.nodes.known_at(here);
+        match list_step(means, store, here, terms, path, traces)? {
             None => return Ok(()),
             Some(next) => here = next,
         }
@@ -51,11 +55,14 @@ fn list_step(
     means: &Means<'_>,
     store: &Store,
     here: u32,
+    terms: &mut Terms,
     path: &mut Path,
     traces: &mut Vec<Trace>,
 ) -> Result<Option<u32>, AllocError>
     requires store { IsStore means.now store.now }
     requires kept { (c : ℕ) × IsNumberKept store.now.entries.items here c }
+    requires built { AreBuilt store.now.nodes terms.old }
+    ensures built { AreBuilt store.now.nodes terms.new }
     ensures path { OnOk result (path.new.items ≡ path.old.items) }
     ensures lists { (t : Tree) → IsNamed store.now.nodes here t → IfOk result
         (ListsStep (due_by means.now) store.now.nodes path.old.items t
@@ -71,7 +78,7 @@ fn list_step(
         return Ok(None);
     }
     if entry.ready != here {
-        list_args(means, store, here, path, traces)?;
+        list_args(means, store, here, terms, path, traces)?;
     }
     let Some(next) = entry.next else {
         return Ok(None);
@@ -81,6 +88,7 @@ fn list_step(
         &store.nodes,
         entry.ready,
         next,
+        terms,
         path.as_slice(),
         traces,
     )?;
@@ -93,6 +101,7 @@ fn list_args(
     means: &Means<'_>,
     store: &Store,
     here: u32,
+    terms: &mut Terms,
     path: &mut Path,
     traces: &mut Vec<Trace>,
 ) -> Result<(), AllocError>
@@ -100,6 +109,8 @@ fn list_args(
     requires kept { (t : Tree) × IsNamed store.now.nodes here t
         × HasKeptArgs store.now.nodes store.now.entries.items t
         (count_at store.now.entries.items here) }
+    requires built { AreBuilt store.now.nodes terms.old }
+    ensures built { AreBuilt store.now.nodes terms.new }
     ensures path { OnOk result (path.new.items ≡ path.old.items) }
     ensures lists { (t : Tree) → IsNamed store.now.nodes here t → OnOk result
         (ListsArgs (due_by means.now) path.old.items t
@@ -110,7 +121,7 @@ fn list_args(
         return Ok(());
     };
     for place in 0..args.len() {
-        list_arg(means, store, args[place], place as u16, path, traces)?;
+        list_arg(means, store, args[place], place as u16, terms, path, traces)?;
     }
     Ok(())
 }
@@ -122,11 +133,14 @@ fn list_arg(
     store: &Store,
     arg: u32,
     place: u16,
+    terms: &mut Terms,
     path: &mut Path,
     traces: &mut Vec<Trace>,
 ) -> Result<(), AllocError>
     requires store { IsStore means.now store.now }
     requires kept { (c : ℕ) × IsNumberKept store.now.entries.items arg c }
+    requires built { AreBuilt store.now.nodes terms.old }
+    ensures built { AreBuilt store.now.nodes terms.new }
     ensures path { OnOk result (path.new.items ≡ path.old.items) }
     ensures lists { (t : Tree) → IsNamed store.now.nodes arg t → OnOk result
         (ListsAll (due_by means.now) (path.old.items ++ place ∷ []) t
@@ -137,7 +151,7 @@ fn list_arg(
     }
     let depth = path.len();
     path.push(place)?;
-    list(means, store, arg, path, traces)?;
+    list(means, store, arg, terms, path, traces)?;
     path.truncate(depth);
     Ok(())
 }
@@ -148,6 +162,7 @@ fn list_root(
     nodes: &Nodes,
     ready: u32,
     next: u32,
+    terms: &mut Terms,
     path: &[u16],
     traces: &mut Vec<Trace>,
 ) -> Result<(), AllocError>
@@ -155,7 +170,9 @@ fn list_root(
     requires there { next < length nodes.now }
     requires due { (u : Tree) × (r : Replacement) × IsNamed nodes.now ready u
         × (due_by means.now u ≡ Some r) × IsNamed nodes.now next r.new }
-    ensures { (u : Tree) (r : Replacement) → IsNamed nodes.now ready u
+    requires built { AreBuilt nodes.now terms.old }
+    ensures built { AreBuilt nodes.now terms.new }
+    ensures listed { (u : Tree) (r : Replacement) → IsNamed nodes.now ready u
         → due_by means.now u ≡ Some r → IsNamed nodes.now next r.new
         → OnOk result (plain_traces traces.new.items
         ≡ plain_traces traces.old.items ++ traced (placed path.now r) ∷ []) }
@@ -163,7 +180,7 @@ fn list_root(
     let Some(choice) = means.choose(nodes, ready)? else {
         unreachable!();
     };
-    let trace = means.trace(nodes, &choice, path, next)?;
+    let trace = means.trace(nodes, terms, &choice, path, next)?;
     traces.push(trace)?;
     Ok(())
 }

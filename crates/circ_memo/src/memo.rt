@@ -7,6 +7,8 @@ ghost use Rattle.circ_theory.specs.Pairs.{plain_pair};
 ghost use Rattle.circ_rewrite.specs.Due.{IsRewriteRule, AreUnconditional};
 ghost use Rattle.circ_rewrite.specs.Norm.{norm, run};
 ghost use Rattle.circ_rewrite.specs.Plain.{Answers, plain_traces};
+ghost use Rattle.circ_term.specs.Growing.{Grows};
+ghost use Rattle.circ_nodes.specs.Built.{AreBuilt};
 ghost use Rattle.circ_nodes.specs.Named.{IsNamed};
 ghost use Rattle.circ_due.specs.Chosen.{due_by};
 ghost use Rattle.circ_memo.specs.Keeping.{IsForm, IsNumberKept};
@@ -18,6 +20,7 @@ use crate::parts::{Bounds, Entry, Stop};
 use crate::settling::settle;
 use crate::store::Store;
 use circ_due::Means;
+use circ_nodes::Terms;
 use circ_rewrite::{Normal, RewriteFault, Rule};
 use circ_term::{MOST_DEPTH, MOST_NODES, Path, Term};
 use circ_theory::{Pair, Theory};
@@ -35,6 +38,7 @@ pub struct Memo<'a> {
 struct Work<'a> {
     means: Means<'a>,
     store: Store,
+    terms: Terms,
 }
 
 impl<'a> Model for Memo<'a> {
@@ -45,11 +49,12 @@ impl<'a> Model for Memo<'a> {
 
     ghost coded = { rewriting_code };
 
-    ghost use Rattle.circ_memo.specs.Working.{rewriting, IsStore};
+    ghost use Rattle.circ_memo.specs.Working.{rewriting, IsAtWork};
 
     ghost view = { λ a. rewriting a.work.value.means };
 
-    ghost invariant = { λ a. IsStore a.work.value.means a.work.value.store };
+    ghost invariant = { λ a.
+        IsAtWork a.work.value.means a.work.value.store a.work.value.terms };
 }
 
 impl<'a> Memo<'a> {
@@ -67,8 +72,14 @@ impl<'a> Memo<'a> {
     {
         let means = Means::new(alloc, theory, rules)?;
         let store = Store::new(alloc);
+        let terms = Terms::new(alloc);
+        let work = Work {
+            means,
+            store,
+            terms,
+        };
         Ok(Memo {
-            work: Box::new(alloc, Work { means, store })?,
+            work: Box::new(alloc, work)?,
         })
     }
 
@@ -78,6 +89,7 @@ impl<'a> Memo<'a> {
     {
         let work = &mut *self.work;
         work.means.forget();
+        work.terms = Terms::new(work.store.alloc);
         work.store = Store::new(work.store.alloc);
     }
 
@@ -95,6 +107,7 @@ impl<'a> Memo<'a> {
     {
         let work = &mut *self.work;
         work.means.forget();
+        work.terms = Terms::new(work.store.alloc);
         work.store = Store::new(work.store.alloc);
         work.means.push(rule)
     }
@@ -124,7 +137,7 @@ impl<'a> Memo<'a> {
     {
         let work = &mut *self.work;
         match settle_term(&work.means, &mut work.store, term, budget) {
-            Ok((_, entry)) => Ok(work.store.nodes.term(entry.value).share()?),
+            Ok((_, entry)) => Ok(work.terms.term(&work.store.nodes, entry.value)?),
             Err(fault) => Err(fault),
         }
     }
@@ -140,7 +153,10 @@ impl<'a> Memo<'a> {
     {
         let work = &mut *self.work;
         match settle_term(&work.means, &mut work.store, term, budget) {
-            Ok((number, entry)) => Ok(listed(&work.means, &work.store, number, entry)?),
+            Ok((number, entry)) => {
+                let terms = &mut work.terms;
+                Ok(listed(&work.means, &work.store, terms, number, entry)?)
+            }
             Err(fault) => Err(fault),
         }
     }
@@ -155,6 +171,7 @@ fn settle_term(
 ) -> Result<(u32, Entry), RewriteFault>
     requires { IsStore means.now store.old }
     ensures store { IsStore means.now store.new }
+    ensures grows { Grows store.old.nodes store.new.nodes }
     ensures less { budget.new ≤ budget.old }
     ensures exact { AnswersKept (due_by means.now) store.new.nodes store.new.entries.items term.now
         result budget.new (run (due_by means.now) budget.old term.now []) }
@@ -177,12 +194,13 @@ fn settle_number(
     requires there { number < length store.old.nodes }
     requires fits { budget.old < 2 ^ 64 }
     ensures store { IsStore means.now store.new }
+    ensures grows { Grows store.old.nodes store.new.nodes }
     ensures less { budget.new ≤ budget.old }
     ensures exact { (t : Tree) → IsNamed store.old.nodes number t
         → AnswersKept (due_by means.now) store.new.nodes store.new.entries.items t
         result budget.new (run (due_by means.now) budget.old t []) }
 {
-    store.nodes.term(number).known();
+    store.nodes.known_at(number);
     let bounds = Bounds {
         big: MOST_NODES,
         deep: MOST_DEPTH,
@@ -195,19 +213,27 @@ fn settle_number(
 }
 
 // What is kept of a whole term, with its traces.
-fn listed(means: &Means<'_>, store: &Store, number: u32, entry: Entry) -> Result<Normal, AllocError>
+fn listed(
+    means: &Means<'_>,
+    store: &Store,
+    terms: &mut Terms,
+    number: u32,
+    entry: Entry,
+) -> Result<Normal, AllocError>
     requires store { IsStore means.now store.now }
     requires kept { IsNumberKept store.now.entries.items number entry.count }
     requires value { entry.value < length store.now.nodes }
-    ensures { (t : Tree) → IsNamed store.now.nodes number t
+    requires built { AreBuilt store.now.nodes terms.old }
+    ensures built { AreBuilt store.now.nodes terms.new }
+    ensures listed { (t : Tree) → IsNamed store.now.nodes number t
         → (f : IsForm (due_by means.now) store.now.nodes t entry)
         → IfOk result (λ n. (n.term ≡ f.value) × (plain_traces n.traces.items ≡ f.traces)) }
 {
     let mut path = Path::new(store.alloc);
     let mut traces = Vec::new(store.alloc);
-    list(means, store, number, &mut path, &mut traces)?;
+    list(means, store, number, terms, &mut path, &mut traces)?;
     Ok(Normal {
-        term: store.nodes.term(entry.value).share()?,
+        term: terms.term(&store.nodes, entry.value)?,
         traces,
     })
 }

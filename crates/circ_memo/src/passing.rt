@@ -35,13 +35,13 @@ impl Passing {
         let Shape::Application { op, sort, args } = nodes.shape(number) else {
             return Ok(None);
         };
-        let term = nodes.term(number);
+        nodes.known_at(number);
         Ok(Some(Passing {
             op,
             sort,
             args: Numbers::from_slice(alloc, args)?,
-            size: term.size(),
-            depth: term.depth(),
+            size: nodes.size(number),
+            depth: nodes.depth(number),
             count: 0,
             big: 0,
             deep: 0,
@@ -92,8 +92,9 @@ impl Passing {
         if entry.count == 0 {
             return;
         }
+        nodes.known_at(entry.value);
         let rest = self.size - own;
-        self.size = rest + nodes.term(entry.value).size();
+        self.size = rest + nodes.size(entry.value);
         put(&mut self.args, place, entry.value);
         self.count += entry.count;
         self.big = self.big.max(rest + entry.big);

@@ -152,7 +152,8 @@ fn settle_arg(
     if store.is_still(arg) {
         return Ok(());
     }
-    let own = store.nodes.term(arg).size();
+    store.nodes.known_at(arg);
+    let own = store.nodes.size(arg);
     let room = passing.room(bounds, own);
     match settle(means, store, arg, room, budget) {
         Ok(entry) => {

@@ -1,17 +1,20 @@
 -- Terms are found by their roots.
 use Rattle.std.specs.Prelude.{◌≡◌, ℕ, ◌<◌, ◌≤◌, Bool, true, false, if◌then◌else◌, List, [], ◌∷◌, ◌++◌, length, Some, None, refl}
 use Rattle.std.specs.List.{slice_get, list_any, position, position_or_len}
-use Rattle.std.proofs.Common.{ap, sym, subst, ◌∙◌, arith, get_or, length-append, ◌⊎◌, inl, inr}
+use Rattle.std.proofs.Common.{ap, sym, subst, ◌∙◌, arith, get_or, length-append, take, min, ◌⊎◌, inl, inr}
+use Rattle.std.proofs.lemmas.List.{length-take}
 use Rattle.std.proofs.lemmas.Option.{slice_get_within, slice_get_read}
 use Rattle.circ_term.specs.Tree.{Tree, Trees, Var, App, none, more, args_of}
 use Rattle.circ_term.specs.Limits.{argument_limit}
 use Rattle.circ_nodes.specs.declared.nodes.Root.{Root}
+use Rattle.circ_nodes.specs.declared.nodes.Weight.{Weight}
 use Rattle.circ_nodes.specs.contracts.nodes.RootPartialEq.TheImpl.{eq-value}
 use Rattle.circ_term.specs.Growing.{Grows}
 use Rattle.circ_nodes.specs.Named.{IsNamed, AreNamed, IsOnce}
-use Rattle.circ_nodes.specs.Roots.{PlainRoot, variable, application, plain_root, HasRoot, Finds, IsKept}
-use Rattle.circ_nodes.proofs.Numbers.{named_below, there_named, are_named_one, are_named_length, are_named_later}
-use Rattle.circ_nodes.proofs.Places.{get_there, any_at, any_place, position_place, get_last}
+use Rattle.std.specs.List.{AllByRecursion}
+use Rattle.circ_nodes.specs.Roots.{PlainRoot, variable, application, plain_root, arguments, HasRoot, HasWeight, Finds, IsKept}
+use Rattle.circ_nodes.proofs.Numbers.{named_below, there_named, are_named_one, are_named_length, are_named_later, all_below}
+use Rattle.circ_nodes.proofs.Places.{get_there, any_at, any_place, position_place, get_last, taken_get, get_taken}
 use Rattle.circ_nodes.proofs.Same.{test_right, test_whole}
 
 -- a term has one root, and a root is that of one term
@@ -42,9 +45,17 @@ pub root_of_one : (nodes : List Tree) (p : PlainRoot) (t u : Tree) → HasRoot n
 root_of_one nodes (variable n s) t u g h = g ∙ sym h
 root_of_one nodes (application f s ns) t u g h = g.1 ∙ ap (App f s) (are_named_one nodes ns g.0 h.0 g.2 h.2) ∙ sym h.1
 
+-- the weight of one is that of the other
+pub weight_same : (nodes : List Tree) (p : PlainRoot) (t u : Tree) (w : Weight) → HasRoot nodes p t → HasRoot nodes p u → HasWeight w t → HasWeight w u
+weight_same nodes p t u w g h own = subst (λ x. HasWeight w x) (root_of_one nodes p t u g h) own
+
 pub root_few : (nodes : List Tree) (p : PlainRoot) (t : Tree) → HasRoot nodes p t → length (args_of t) ≤ argument_limit
 root_few nodes (variable n s) t h = rw h (omega arith)
 root_few nodes (application f s ns) t h = let l = are_named_length nodes ns h.0 h.2 in rw h.1 (omega (arith, l, h.3))
+
+root_below : (nodes : List Tree) (p : PlainRoot) (t : Tree) → HasRoot nodes p t → AllByRecursion (λ m. m < length nodes) (arguments p)
+root_below nodes (variable n s) t h = tt
+root_below nodes (application f s ns) t h = all_below nodes ns h.0 h.2
 
 root_later : (old new : List Tree) (p : PlainRoot) (t : Tree) → Grows old new → HasRoot old p t → HasRoot new p t
 root_later old new (variable n s) t g h = h
@@ -52,7 +63,7 @@ root_later old new (application f s ns) t g h = (h.0, h.1, are_named_later old n
 
 -- what the look-up of a root answers
 
-module _ {nodes : List Tree} {roots : List Root} (k : IsKept nodes roots) where
+module _ {nodes : List Tree} {roots : List Root} {weights : List Weight} (k : IsKept nodes roots weights) where
   pub root_at : (n : ℕ) (t : Tree) → IsNamed nodes n t → (r : Root) × (slice_get roots n ≡ Some r) × HasRoot nodes (plain_root r) t
   root_at n t h =
       let b = named_below nodes n t h in
@@ -64,6 +75,15 @@ module _ {nodes : List Tree} {roots : List Root} (k : IsKept nodes roots) where
   root_read n t r h e =
       let b = named_below nodes n t h in
       k.rooted n r t (slice_get_read roots (length roots) n r refl (omega (arith, b, k.long)) e) h
+
+  -- so is the weight
+  pub weight_read : (n : ℕ) (t : Tree) (w : Weight) → IsNamed nodes n t → w ≡ get_or weights n w → HasWeight w t
+  weight_read n t w h e =
+      let b = named_below nodes n t h in
+      k.weighs n w t (slice_get_read weights (length weights) n w refl (omega (arith, b, k.weighted)) e) h
+
+  pub arguments_read : (n : ℕ) (r : Root) → n < length nodes → r ≡ get_or roots n r → AllByRecursion (λ m. m < n) (arguments (plain_root r))
+  arguments_read n r b e = k.before n r (slice_get_read roots (length roots) n r refl (omega (arith, b, k.long)) e)
 
   module _ (r : Root) (t : Tree) (root : HasRoot nodes (plain_root r) t) where
     -- an equal root stands beside the term
@@ -100,14 +120,35 @@ module _ {nodes : List Tree} {roots : List Root} (k : IsKept nodes roots) where
     root_put h e = e ∙ ap (λ b. if b then roots else roots ++ r ∷ []) (not_any h)
 
     -- the new term goes last
-    pub kept_push : Finds nodes t None → length nodes < 4294967295 → IsKept (nodes ++ t ∷ []) (roots ++ r ∷ [])
-    kept_push fresh room = record {
+    pub kept_push : (w : Weight) → HasWeight w t → Finds nodes t None → length nodes < 4294967295 → IsKept (nodes ++ t ∷ []) (roots ++ r ∷ []) (weights ++ w ∷ [])
+    kept_push w own fresh room = record {
       few = let l = length-append nodes (t ∷ []) in omega (arith, l, room);
       long = let l = length-append nodes (t ∷ []) in let m = length-append roots (r ∷ []) in omega (arith, l, m, k.long);
       rooted = λ n s u g h. rooted n s u (get_last roots r s n g) (get_last nodes t u n h);
       once = λ n m u g h. once n m u (get_last nodes t u n g) (get_last nodes t u m h);
+      before = λ n s g. before n s (get_last roots r s n g);
+      weighted = let l = length-append nodes (t ∷ []) in let m = length-append weights (w ∷ []) in omega (arith, l, m, k.weighted);
+      weighs = λ n v u g h. weighs n v u (get_last weights w v n g) (get_last nodes t u n h);
     }
       where
+        weighs : (n : ℕ) (v : Weight) (u : Tree) → (slice_get weights n ≡ Some v) ⊎ ((n ≡ length weights) × (w ≡ v))
+            → IsNamed nodes n u ⊎ ((n ≡ length nodes) × (t ≡ u)) → HasWeight v u
+        weighs n v u (inl g) (inl h) = k.weighs n v u g h
+        weighs n v u (inl g) (inr h) = let b = slice_get_within weights n v g in absurd (omega (arith, b, k.weighted, h.0))
+        weighs n v u (inr g) (inl h) = let b = named_below nodes n u h in absurd (omega (arith, b, k.weighted, g.0))
+        weighs n v u (inr g) (inr h) =
+            let P : Weight → Type 0 = λ x. HasWeight x u in
+            let Q : Tree → Type 0 = λ x. HasWeight w x in
+            subst P g.1 (subst Q h.1 own)
+
+        before : (n : ℕ) (s : Root) → (slice_get roots n ≡ Some s) ⊎ ((n ≡ length roots) × (r ≡ s)) → AllByRecursion (λ m. m < n) (arguments (plain_root s))
+        before n s (inl g) = k.before n s g
+        before n s (inr g) =
+            let same : length nodes ≡ n = sym (g.0 ∙ k.long) in
+            let P : ℕ → Type 0 = λ x. AllByRecursion (λ m. m < x) (arguments (plain_root r)) in
+            let Q : Root → Type 0 = λ x. AllByRecursion (λ m. m < n) (arguments (plain_root x)) in
+            subst Q g.1 (subst P same (root_below nodes (plain_root r) t root))
+
         later : (p : PlainRoot) (u : Tree) → HasRoot nodes p u → HasRoot (nodes ++ t ∷ []) p u
         later p u h = root_later nodes (nodes ++ t ∷ []) p u (t ∷ [], refl) h
 
@@ -129,3 +170,28 @@ module _ {nodes : List Tree} {roots : List Root} (k : IsKept nodes roots) where
         once n m u (inl g) (inr h) = absurd (absent n u g h.1)
         once n m u (inr g) (inl h) = absurd (absent m u h g.1)
         once n m u (inr g) (inr h) = g.0 ∙ sym h.0
+
+  -- the first terms alone
+  kept_args : (c : ℕ) (ns : List ℕ) (ts : Trees) (n : ℕ) → n < c → AllByRecursion (λ m. m < n) ns → AreNamed nodes ns ts → AreNamed (take c nodes) ns ts
+  kept_args c [] none n h a b = tt
+  kept_args c [] (more t ts) n h a b = absurd b
+  kept_args c (m ∷ ns) none n h a b = absurd b
+  kept_args c (m ∷ ns) (more t ts) n h a b = (get_taken nodes c m t (let x = a.0 in omega (arith, x, h)) b.0, kept_args c ns ts n h a.1 b.1)
+
+  kept_root : (c : ℕ) (p : PlainRoot) (t : Tree) (n : ℕ) → n < c → AllByRecursion (λ m. m < n) (arguments p) → HasRoot nodes p t → HasRoot (take c nodes) p t
+  kept_root c (variable m s) t n h a b = b
+  kept_root c (application f s ns) t n h a b = (b.0, b.1, kept_args c ns b.0 n h a b.2, b.3)
+
+  pub kept_cut : (c : ℕ) → IsKept (take c nodes) (take c roots) (take c weights)
+  kept_cut c = record {
+    few = let l = length-take c nodes in omega (arith, l, k.few);
+    long = length-take c roots ∙ ap (min c) k.long ∙ sym (length-take c nodes);
+    rooted = λ n r t g h.
+        let a = taken_get roots c n r g in
+        let b = taken_get nodes c n t h in
+        kept_root c (plain_root r) t n a.1 (k.before n r a.0) (k.rooted n r t a.0 b.0);
+    once = λ n m t g h. k.once n m t (taken_get nodes c n t g).0 (taken_get nodes c m t h).0;
+    before = λ n r g. k.before n r (taken_get roots c n r g).0;
+    weighted = length-take c weights ∙ ap (min c) k.weighted ∙ sym (length-take c nodes);
+    weighs = λ n w t g h. k.weighs n w t (taken_get weights c n w g).0 (taken_get nodes c n t h).0;
+  }

@@ -1,5 +1,5 @@
 -- Terms and their numbers.
-use Rattle.std.specs.Prelude.{◌≡◌, ◌⊎◌, ℕ, List, [], ◌∷◌, ◌++◌, Some, Result, Ok, Err}
+use Rattle.std.specs.Prelude.{◌≡◌, ◌⊎◌, ℕ, List, [], ◌∷◌, ◌++◌, Option, Some, None, Result, Ok, Err}
 use Rattle.std.specs.List.{slice_get}
 use Rattle.std.specs.Option.{unwrap_or}
 use Rattle.circ_term.specs.Tree.{Tree, Trees, Var, App, none, more, at}
@@ -52,3 +52,13 @@ HasShape nodes (Application op sort args) t = (ts : Trees) × (t ≡ App op sort
 abbrev pub Interns : (nodes : List Tree) → Result ℕ TermFault → Tree → Type 0
 Interns nodes (Ok n) u = IsNamed nodes n u × IsWithinLimits u
 Interns nodes (Err e) u = Names e (first_limit u)
+
+-- the numbers of the arguments
+abbrev pub arguments_of : Shape → List ℕ
+arguments_of (Variable number sort) = []
+arguments_of (Application op sort args) = args.now
+
+-- the number is that of the term, where there is one
+abbrev pub Points : (nodes : List Tree) → Option Tree → Option ℕ → Type 0
+Points nodes o None = o ≡ None
+Points nodes o (Some n) = (t : Tree) × (o ≡ Some t) × IsNamed nodes n t

@@ -1,16 +1,19 @@
 //! Terms that are kept by number.
-ghost use Rattle.std.specs.Prelude.{◌≡◌, ◌<◌, ◌≤◌, ◌^◌, ℕ, [], length};
-ghost use Rattle.std.specs.Prelude.{◌++◌, ◌∷◌, None, IfOk, OnOk, OnErr};
-ghost use Rattle.std.specs.List.{AllByRecursion};
-ghost use Rattle.circ_term.specs.Tree.{Tree, Trees, Var, App, args_of, trees_of};
-ghost use Rattle.circ_term.specs.Limits.{Builds};
+ghost use Rattle.std.specs.Prelude.{◌≡◌, ◌<◌, ◌≤◌, ◌^◌, ◌*◌, ℕ, [], length};
+ghost use Rattle.std.specs.Prelude.{◌++◌, ◌∷◌, take, None, IfOk, OnOk, OnErr};
+ghost use Rattle.std.specs.List.{slice_get, AllByRecursion};
+ghost use Rattle.circ_term.specs.Tree.{Tree, Trees, Var, App, args_of, trees_of, at};
+ghost use Rattle.circ_term.specs.Tree.{size_of, depth_of, sort_of, is_ground};
+ghost use Rattle.circ_term.specs.Limits.{IsWithinLimits};
+ghost use Rattle.circ_term.specs.Limits.{argument_limit, node_limit, depth_limit};
 ghost use Rattle.circ_term.specs.Growing.{Grows};
-ghost use Rattle.circ_nodes.specs.Named.{IsNamed, AreNamed, IsOnce, HasShape, Interns};
+ghost use Rattle.circ_nodes.specs.Named.{IsNamed, AreNamed, IsOnce, HasShape, Interns, tree_at};
 ghost use Rattle.circ_nodes.specs.Named.{Enters, AddsOnly, IsPart, IsPartOfSome};
-ghost use Rattle.circ_nodes.specs.Roots.{HasRoot, Finds, plain_root};
+ghost use Rattle.circ_nodes.specs.Named.{arguments_of, Points};
+ghost use Rattle.circ_nodes.specs.Roots.{HasRoot, Finds, HasWeight, AreMeasures, Weighs, plain_root};
 
 use crate::Numbers;
-use circ_term::{Kind, MOST_ARGS, Term, TermFault};
+use circ_term::{Kind, MOST_ARGS, MOST_DEPTH, MOST_NODES, Term, TermFault};
 use indexmap::IndexSet;
 use std::alloc::{AllocError, Global};
 use std::marker::Model;
@@ -25,14 +28,30 @@ enum Root {
     Application { op: u32, sort: u32, args: Numbers },
 }
 
+// What is kept of a term beside its root.
+#[derive(Clone, Copy)]
+struct Weight {
+    size: u32,
+    depth: u16,
+    is_ground: bool,
+}
+
+// The sizes of some terms together, the depth of the deepest, and whether none has a variable.
+#[derive(Clone, Copy)]
+struct Measures {
+    sizes: u64,
+    depths: u64,
+    are_ground: bool,
+}
+
 /// Terms by number. Each is there once, and its arguments are there too. A call that would add one
 /// more than 4,294,967,295 answers want of memory.
 #[derive(Drop)]
 pub struct Nodes {
     alloc: Global,
-    terms: Vec<Term>,
-    // The terms' roots, in the same order.
+    // The terms' roots, in their order.
     roots: IndexSet<Root>,
+    weights: Vec<Weight>,
 }
 
 impl Model for Nodes {
@@ -45,11 +64,11 @@ impl Model for Nodes {
 
     ghost coded = { coded_list tree_code };
 
-    ghost use Rattle.circ_nodes.specs.Roots.{IsKept};
+    ghost use Rattle.circ_nodes.specs.Roots.{IsKept, trees_with};
 
-    ghost view = { λ a. a.terms.items };
+    ghost view = { λ a. trees_with a.roots.keys };
 
-    ghost invariant = { λ a. IsKept a.terms.items a.roots.keys };
+    ghost invariant = { λ a. IsKept (trees_with a.roots.keys) a.roots.keys a.weights.items };
 }
 
 /// A term taken apart by one node, with the numbers of its arguments.
@@ -68,8 +87,8 @@ impl Nodes {
     {
         Nodes {
             alloc,
-            terms: Vec::new(alloc),
             roots: IndexSet::new(alloc),
+            weights: Vec::new(alloc),
         }
     }
 
@@ -77,7 +96,7 @@ impl Nodes {
     pub fn len(&self) -> usize
         ensures { result ≡ length self.now }
     {
-        self.terms.len()
+        self.weights.len()
     }
 
     /// Does nothing. Its contract is the law that each term has one number, which is a `u32`.
@@ -85,15 +104,61 @@ impl Nodes {
         ensures once { IsOnce self.now }
         ensures few { length self.now < 2 ^ 32 }
     {
-        let _ = &self.terms;
+        let _ = &self.weights;
     }
 
-    /// The term of a number.
-    pub fn term(&self, number: u32) -> &Term
+    /// Does nothing. Its contract is the law that the term of a number is within the limits.
+    pub fn known_at(&self, number: u32)
         requires { number < length self.now }
-        ensures { IsNamed self.now number result.now }
+        ensures named { IsNamed self.now number (tree_at self.now number) }
+        ensures within { IsWithinLimits (tree_at self.now number) }
     {
-        &self.terms[number as usize]
+        let _ = self.weight(number);
+    }
+
+    // What is kept of the term of a number.
+    fn weight(&self, number: u32) -> Weight
+        requires { number < length self.now }
+        ensures { HasWeight result (tree_at self.now number) }
+    {
+        self.weights[number as usize]
+    }
+
+    /// The number of nodes of the term of a number, counted as a tree.
+    pub fn size(&self, number: u32) -> u64
+        requires { number < length self.now }
+        ensures exact { result ≡ size_of (tree_at self.now number) }
+        ensures small { result ≤ MOST_NODES }
+    {
+        self.weight(number).size as u64
+    }
+
+    /// The depth of the term of a number: 1 for a variable and for a constant.
+    pub fn depth(&self, number: u32) -> u64
+        requires { number < length self.now }
+        ensures exact { result ≡ depth_of (tree_at self.now number) }
+        ensures shallow { result ≤ MOST_DEPTH }
+    {
+        self.weight(number).depth as u64
+    }
+
+    /// Whether the term of a number has no variable.
+    pub fn is_ground(&self, number: u32) -> bool
+        requires { number < length self.now }
+        ensures { result ≡ is_ground (tree_at self.now number) }
+    {
+        self.weight(number).is_ground
+    }
+
+    /// The sort of the term of a number.
+    pub fn sort(&self, number: u32) -> u32
+        requires { number < length self.now }
+        ensures { result ≡ sort_of (tree_at self.now number) }
+    {
+        match self.shape(number) {
+            Shape::Variable { sort, .. } => sort,
+            Shape::Application { sort, .. } => sort,
+        }
     }
 
     /// The term of a number, taken apart.
@@ -102,6 +167,7 @@ impl Nodes {
         ensures shape { (t : Tree) → IsNamed self.now number t → HasShape self.now result t }
         ensures few { (t : Tree) → IsNamed self.now number t
             → length (args_of t) ≤ MOST_ARGS }
+        ensures before { AllByRecursion (λ m. m < number) (arguments_of result) }
     {
         match &self.roots.as_slice()[number as usize] {
             Root::Variable { number, sort } => Shape::Variable {
@@ -114,6 +180,47 @@ impl Nodes {
                 args: args.as_slice(),
             },
         }
+    }
+
+    /// The number of an argument of the term of a number.
+    pub fn arg(&self, number: u32, place: usize) -> Option<u32>
+        requires { number < length self.now }
+        ensures { (t : Tree) → IsNamed self.now number t
+            → Points self.now (slice_get (args_of t) place) result }
+    {
+        match self.shape(number) {
+            Shape::Variable { .. } => None,
+            Shape::Application { args, .. } => {
+                if place >= args.len() {
+                    return None;
+                }
+                Some(args[place])
+            }
+        }
+    }
+
+    /// The number of the subterm at a path in the term of a number. Costs a look-up for each step
+    /// down.
+    pub fn at(&self, number: u32, path: &[u16]) -> Option<u32>
+        requires { number < length self.now }
+        ensures { (t : Tree) → IsNamed self.now number t → Points self.now (at t path.now) result }
+    {
+        let mut here = number;
+        for place in path {
+            let Some(next) = self.arg(here, *place as usize) else {
+                return None;
+            };
+            here = next;
+        }
+        Some(here)
+    }
+
+    /// The first terms alone are kept, as many as that. Costs as much as there are others.
+    pub fn cut(&mut self, count: usize)
+        ensures { self.new ≡ take count self.old }
+    {
+        self.weights.truncate(count);
+        self.roots.truncate(count);
     }
 
     /// The number of a variable. After want of memory the terms are as before.
@@ -140,11 +247,11 @@ impl Nodes {
     {
         let root = Root::Application { op, sort, args };
         if let Some(number) = self.find(&root) {
-            self.term(number).known();
+            self.known_at(number);
             return Ok(number);
         }
-        match self.build(&root) {
-            Ok(term) => Ok(self.put(root, term)?),
+        match self.weigh(&root) {
+            Ok(weight) => Ok(self.put(root, weight)?),
             Err(fault) => Err(fault),
         }
     }
@@ -189,7 +296,7 @@ impl Nodes {
     {
         match self.find(&root) {
             Some(number) => Ok(number),
-            None => self.put(root, term.share()?),
+            None => self.put(root, weight_of(term)),
         }
     }
 
@@ -202,48 +309,100 @@ impl Nodes {
         Some(place as u32)
     }
 
-    // The term with this root.
-    fn build(&self, root: &Root) -> Result<Term, TermFault>
+    // What is to be kept of the term with this root, where it is within the limits.
+    fn weigh(&self, root: &Root) -> Result<Weight, TermFault>
         requires { (t : Tree) × HasRoot self.now (plain_root root.now) t }
-        ensures { (t : Tree) → HasRoot self.now (plain_root root.now) t → Builds result t }
+        ensures { (t : Tree) → HasRoot self.now (plain_root root.now) t → Weighs result t }
     {
         match root {
-            Root::Variable { number, sort } => Ok(Term::var(*number, *sort)),
-            Root::Application { op, sort, args } => {
-                let args = self.share_all(args.as_slice())?;
-                Term::app(self.alloc, *op, *sort, args)
-            }
+            Root::Variable { .. } => Ok(VARIABLE),
+            Root::Application { args, .. } => weight_above(self.measure(args.as_slice())),
         }
     }
 
-    // The terms of these numbers.
-    fn share_all(&self, numbers: &[u32]) -> Result<Vec<Term>, AllocError>
-        requires { AllByRecursion (λ n. n < length self.now) numbers.now }
-        ensures { IfOk result (λ v. AreNamed self.now numbers.now (trees_of v.items)) }
+    // The sizes and the depths of the terms of these numbers.
+    fn measure(&self, numbers: &[u32]) -> Measures
+        requires few { length numbers.now ≤ argument_limit }
+        requires there { AllByRecursion (λ n. n < length self.now) numbers.now }
+        ensures measures { (ts : Trees) → AreNamed self.now numbers.now ts → AreMeasures result ts }
+        ensures few { result.sizes ≤ argument_limit * node_limit }
+        ensures shallow { result.depths ≤ depth_limit }
     {
-        let mut terms = Vec::with_capacity(self.alloc, numbers.len())?;
+        let mut sizes: u64 = 0;
+        let mut depths: u64 = 0;
+        let mut are_ground = true;
         for number in numbers {
-            self.term(*number).share_to(&mut terms)?;
+            let weight = self.weight(*number);
+            sizes += weight.size as u64;
+            depths = depths.max(weight.depth as u64);
+            are_ground &= weight.is_ground;
         }
-        Ok(terms)
+        Measures {
+            sizes,
+            depths,
+            are_ground,
+        }
     }
 
     // The new term goes last, where there is room.
-    fn put(&mut self, root: Root, term: Term) -> Result<u32, AllocError>
-        requires root { HasRoot self.old (plain_root root) term }
-        requires fresh { Finds self.old term None }
+    fn put(&mut self, root: Root, weight: Weight) -> Result<u32, AllocError>
+        requires root { (t : Tree) × HasRoot self.old (plain_root root) t }
+        requires fresh { (t : Tree) → HasRoot self.old (plain_root root) t → Finds self.old t None }
+        requires weight { (t : Tree) → HasRoot self.old (plain_root root) t → HasWeight weight t }
         ensures grows { Grows self.old self.new }
-        ensures named { IfOk result (λ n. IsNamed self.new n term) }
-        ensures put { OnOk result (self.new ≡ self.old ++ term ∷ []) }
+        ensures named { (t : Tree) → HasRoot self.old (plain_root root) t
+            → IfOk result (λ n. IsNamed self.new n t) }
+        ensures put { (t : Tree) → HasRoot self.old (plain_root root) t
+            → OnOk result (self.new ≡ self.old ++ t ∷ []) }
         ensures err { OnErr result (self.new ≡ self.old) }
     {
         let number = self.len();
         if number >= MOST_TERMS {
             return Err(AllocError);
         }
-        self.terms.reserve(1)?;
+        self.weights.reserve(1)?;
         self.roots.insert(root)?;
-        self.terms.push_reserved(term);
+        self.weights.push_reserved(weight);
         Ok(number as u32)
     }
+}
+
+// What is kept of a variable.
+const VARIABLE: Weight = Weight {
+    size: 1,
+    depth: 1,
+    is_ground: false,
+};
+
+// What is to be kept of a term.
+fn weight_of(term: &Term) -> Weight
+    ensures { HasWeight result term.now }
+{
+    term.known();
+    Weight {
+        size: term.size() as u32,
+        depth: term.depth() as u16,
+        is_ground: term.is_ground(),
+    }
+}
+
+// What is to be kept of an operator on terms, where it is within the limits.
+fn weight_above(args: Measures) -> Result<Weight, TermFault>
+    requires few { args.sizes ≤ argument_limit * node_limit }
+    requires shallow { args.depths ≤ depth_limit }
+    ensures { (op sort : ℕ) (ts : Trees) → AreMeasures args ts → Weighs result (App op sort ts) }
+{
+    let nodes = args.sizes + 1;
+    let depth = args.depths + 1;
+    if nodes > MOST_NODES {
+        return Err(TermFault::TooBig { nodes });
+    }
+    if depth > MOST_DEPTH {
+        return Err(TermFault::TooDeep { depth });
+    }
+    Ok(Weight {
+        size: nodes as u32,
+        depth: depth as u16,
+        is_ground: args.are_ground,
+    })
 }

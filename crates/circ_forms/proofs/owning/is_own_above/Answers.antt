@@ -1,8 +1,6 @@
-use Rattle.std.proofs.Common.{◌∙◌, ap, sym, refl}
-use Rattle.circ_term.specs.Tree.{sort_of}
+use Rattle.std.proofs.Common.{◌∙◌, sym, refl}
 use Rattle.circ_theory.specs.Operators.{operator_of}
 use Rattle.circ_nodes.specs.Named.{tree_at}
-use Rattle.circ_nodes.proofs.Located.{named_tree}
 use Rattle.circ_forms.proofs.Ways.{alone, joins_told}
 use Rattle.circ_forms.proofs.owning.is_own_above.Goals as goal
 
@@ -16,14 +14,13 @@ returns-then-sort-decl c = λ own.
     let nodes = c.args.nodes.now in
     let o = operator_of c.args.decl.now in
     let told = joins_told o c.args.op (tree_at nodes c.args.number) _ _ c.in-Some.ensures.2 in
-    let sort = c.sort.ensures ∙ ap sort_of (sym (named_tree nodes c.args.number c.term.result.now c.term.ensures)) in
-    (λ r. absurd (cc), λ e. absurd (c.if-sort-decl.true (sort ∙ (told.1 e).0)))
+    (λ r. absurd (cc), λ e. absurd (c.if-sort-decl.true (c.sort.ensures ∙ (told.1 e).0)))
 
 pub returns-else-sort-decl : goal.returns-else-sort-decl
 returns-else-sort-decl c = λ own.
     let nodes = c.args.nodes.now in
     let o = operator_of c.args.decl.now in
     let told = joins_told o c.args.op (tree_at nodes c.args.number) _ _ c.in-Some.ensures.2 in
-    let sort = ap sort_of (named_tree nodes c.args.number c.term.result.now c.term.ensures) ∙ sym c.sort.ensures ∙ c.if-sort-decl.false in
+    let sort = sym c.sort.ensures ∙ c.if-sort-decl.false in
     let joins = c.may_join_above.ensures (own _ _ c.in-Some.ensures.2) in
     (λ r. told.0 (sort, joins.0 r), λ e. joins.1 (told.1 e).1)

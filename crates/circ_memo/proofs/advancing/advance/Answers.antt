@@ -1,5 +1,6 @@
 use Rattle.std.proofs.Common.{inl, inr, ◌⊎◌, ◌<◌, ap, arith}
 use Rattle.circ_term.specs.Tree.{size_of, depth_of}
+use Rattle.circ_nodes.specs.Named.{tree_at}
 use Rattle.circ_nodes.proofs.Numbers.{there_named, named_below, named_one}
 use Rattle.circ_rewrite.specs.Replacement.{Replacement}
 use Rattle.circ_due.specs.Chosen.{due_by}
@@ -25,8 +26,8 @@ returns-in-Err-clause-advances c = λ t n h.
     (stops_broken (due_by c.args.means.now) c.build.new.nodes c.args.bounds t chosen.0 h chosen.1 c.args.budget.now c.in-Err.fault (omega (arith, c.if-budget-eq0.false))
     (c.in-Err.ensures.interns t chosen.0 n chosen.2))
 
-pub term-term-requires : goal.term-term-requires
-term-term-requires c =
+pub known_at-requires : goal.known_at-requires
+known_at-requires c =
     let t = there_named c.args.nodes.now c.args.number c.requires.there in
     let chosen = rw c.in-Some.is at (c.in_ok-choice.ensures.chosen t.0 t.1) in
     named_below c.build.new.nodes c.in-Ok.new chosen.0.new (c.in-Ok.ensures.interns t.0 chosen.0 t.1 chosen.1).0
@@ -36,7 +37,7 @@ returns-then-size-bounds-clause-advances c = λ t n h.
     let chosen = rw c.in-Some.is at (c.in_ok-choice.ensures.exact t n h) in
     let r : Replacement = chosen.0 in
     let made = c.in-Ok.ensures.interns t r n chosen.2 in
-    let is = named_one c.build.new.nodes c.in-Ok.new c.term-term.result.now r.new c.term-term.ensures made.0 in
+    let is = named_one c.build.new.nodes c.in-Ok.new (tree_at c.build.new.nodes c.in-Ok.new) r.new c.known_at.ensures.named made.0 in
     let past : (c.args.bounds.big < size_of r.new) ⊎ (c.args.bounds.deep < depth_of r.new) =
     elim c.then-size-bounds.branch [
       | then-size-bounds-via-then-size-bounds w ↦ inl (omega (arith, w.if-size-bounds.true, c.size.ensures.exact, ap size_of is))
@@ -49,7 +50,7 @@ returns-clause-advances c = λ t n h.
     let chosen = rw c.in-Some.is at (c.in_ok-choice.ensures.exact t n h) in
     let r : Replacement = chosen.0 in
     let made = c.in-Ok.ensures.interns t r n chosen.2 in
-    let is = named_one c.build.new.nodes c.in-Ok.new c.term-term.result.now r.new c.term-term.ensures made.0 in (
+    let is = named_one c.build.new.nodes c.in-Ok.new (tree_at c.build.new.nodes c.in-Ok.new) r.new c.known_at.ensures.named made.0 in (
       r,
       chosen.1,
       made.0,

@@ -6,7 +6,7 @@ use Rattle.circ_memo.specs.Keeping.{Puts, IsNumberKept, IsWayKept, Stays, IsForm
 use Rattle.circ_memo.specs.Settling.{IsPassed, IsLinked}
 use Rattle.circ_memo.specs.declared.parts.Bounds.{Bounds}
 use Rattle.circ_memo.specs.declared.parts.Entry.{Entry}
-use Rattle.circ_nodes.specs.Named.{IsNamed}
+use Rattle.circ_nodes.specs.Named.{IsNamed, tree_at}
 use Rattle.circ_chain.proofs.Roots.{readies_self}
 use Rattle.circ_memo.proofs.Telling.{kept_put, kept_same, stays_on, stays_same, number_stays, linked_stays, way_more}
 use Rattle.circ_memo.proofs.Stepping.{after_form, whole_form}
@@ -37,14 +37,14 @@ module _ (c : After-max-4) (due : Tree → Option Replacement) (b : Bounds) (t u
     (f : IsForm due c.args.store.now.nodes u c.args.last) where
   is_whole : IsForm due c.args.store.now.nodes t (whole c)
   is_whole =
-      let is = named_one c.args.store.now.nodes c.args.step.next c.term-new.result.now u c.term-new.ensures p.next in
+      let is = named_one c.args.store.now.nodes c.args.step.next (tree_at c.args.store.now.nodes c.args.step.next) u c.known_at.ensures.named p.next in
       whole_form due c.args.store.now.nodes b t c.args.step u c.args.last (whole c) p f refl (omega arith) (omega (arith, c.max-3.ensures)) (omega (arith, c.max-4.ensures))
       (omega (arith, c.max-3.ensures, c.max.ensures)) (omega (arith, c.max-4.ensures, c.max-2.ensures))
       (omega (arith, c.max-3.ensures, c.max.ensures, c.size.ensures.exact, ap size_of is)) (omega (arith, c.max-4.ensures, c.max-2.ensures, c.depth.ensures.exact, ap depth_of is))
 
   is_after : IsForm due c.args.store.now.nodes p.ready (after c)
   is_after =
-      let is = named_one c.args.store.now.nodes c.args.step.next c.term-new.result.now u c.term-new.ensures p.next in
+      let is = named_one c.args.store.now.nodes c.args.step.next (tree_at c.args.store.now.nodes c.args.step.next) u c.known_at.ensures.named p.next in
       after_form due c.args.store.now.nodes b t c.args.step u c.args.last (after c) p f refl (omega arith) (omega (arith, c.max.ensures)) (omega (arith, c.max-2.ensures))
       (omega (arith, c.max.ensures, c.size.ensures.exact, ap size_of is)) (omega (arith, c.max-2.ensures, c.depth.ensures.exact, ap depth_of is))
 
@@ -116,7 +116,7 @@ returns-clause-there c = (whole (goal.at.returns-clause-there c).After-max-4, c.
 
 pub returns-clause-form : goal.returns-clause-form
 returns-clause-form c = λ due b t u p f within.
-    let is = named_one c.args.store.now.nodes c.args.step.next c.term-new.result.now u c.term-new.ensures p.next in
+    let is = named_one c.args.store.now.nodes c.args.step.next (tree_at c.args.store.now.nodes c.args.step.next) u c.known_at.ensures.named p.next in
     rw (c.keep-2.ensures.nodes, c.keep.ensures.nodes) (
       is_whole (goal.at.returns-clause-form c).After-max-4 due b t u p f,
       record {

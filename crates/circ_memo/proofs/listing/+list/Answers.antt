@@ -37,6 +37,7 @@ list-loop-next-preserved t c =
     let next = rw c.in-Some.is at c.in_ok-list_step.ensures.next in
     record {
       kept = (next.0, next.1);
+      built = c.list_step.ensures.built;
       path = c.in_ok-list_step.ensures.path ∙ i.path;
       lists = (
         w.0,
@@ -78,9 +79,12 @@ list_args-list_arg-requires t c =
       (
         c.requires.store,
         (
-          count_at es c.args.here,
-          arg_kept nodes es c.known.ensures.once k.0 (count_at es c.args.here) k.2 c.in-Application.op c.in-Application.sort shape.0 c.in-Application.args.now shape.1 shape.2 c.loop-place.place
-              (get_or c.in-Application.args.now c.loop-place.place 0) at,
+          (
+            count_at es c.args.here,
+            arg_kept nodes es c.known.ensures.once k.0 (count_at es c.args.here) k.2 c.in-Application.op c.in-Application.sort shape.0 c.in-Application.args.now shape.1 shape.2 c.loop-place.place
+                (get_or c.in-Application.args.now c.loop-place.place 0) at,
+          ),
+          c.loop-place.invariant.built,
         ),
       ),
     )
@@ -94,6 +98,7 @@ list_args-loop-place-preserved t c =
     let a = are_named_at c.args.store.now.nodes c.in-Application.args.now l.2 c.loop-place.place (get_or c.in-Application.args.now c.loop-place.place 0) l.5 at in
     let done = rw i.path at (c.in_ok-list_arg.ensures.lists a.0 a.2) in
     record {
+      built = c.list_arg.ensures.built;
       path = c.in_ok-list_arg.ensures.path ∙ i.path;
       lists = (
         l.0,
@@ -180,7 +185,7 @@ list_step-returns-clause-lists t c = λ u n.
       | list_step-else-entry-here w ↦ c.as_slice.ensures ∙ ap (λ p. p.items) w.path-is
     ] in
     let mid = plain_traces c.if-entry-here.traces.items in
-    let root = c.in_ok-list_root.ensures told.ready next.0 told.there next.1 next.2 ∙ ap (λ q. mid ++ traced (placed q next.0) ∷ []) path in
+    let root = c.in_ok-list_root.ensures.listed told.ready next.0 told.there next.1 next.2 ∙ ap (λ q. mid ++ traced (placed q next.0) ∷ []) path in
     let after : Lists due c.args.path.now.items told.ready next.0.new mid (plain_traces c.list_root.new.traces.items) =
     subst (λ ts. Lists due c.args.path.now.items told.ready next.0.new mid ts) (sym root) (lists_root due c.args.path.now.items told.ready next.0 mid told.readies.settled next.1) in (
       next.0.new,

@@ -1,6 +1,7 @@
 use Rattle.std.proofs.Common.{◌≡◌, ◌<◌, ◌+◌, ◌*◌, ◌⊎◌, ℕ}
 use Rattle.circ_term.specs.Tree.{Tree, Trees, App}
 use Rattle.circ_rewrite.specs.Plain.{plain_traces}
+use Rattle.circ_nodes.specs.Built.{AreBuilt}
 use Rattle.circ_nodes.specs.Named.{IsNamed, AreNamed}
 use Rattle.circ_due.specs.Chosen.{due_by}
 use Rattle.circ_chain.specs.Listed.{Lists, ListsThrough}
@@ -25,6 +26,7 @@ decreases-list_arg l = count_at l.store.now.entries.items l.arg * 4004 + 4 * dep
 abbrev pub invariant-list-loop-next : goal.invariant-list-loop-next
 invariant-list-loop-next l = record {
   kept : (c : ℕ) × IsNumberKept l.store.entries.items l.here c;
+  built : AreBuilt l.store.nodes l.terms;
   path : l.path.items ≡ l.initial.path.items;
   lists :
       (t u : Tree) × IsNamed l.store.nodes l.number t × IsNamed l.store.nodes l.here u
@@ -37,6 +39,7 @@ decreases-list-loop-next l = count_at l.store.entries.items l.here
 
 abbrev pub invariant-list_args-loop-place : goal.invariant-list_args-loop-place
 invariant-list_args-loop-place l = record {
+  built : AreBuilt l.store.nodes l.terms;
   path : l.path.items ≡ l.initial.path.items;
   lists :
       (f s : ℕ) × (ts us : Trees) × IsNamed l.store.nodes l.here (App f s ts) × AreNamed l.store.nodes l.args ts

@@ -1,4 +1,5 @@
 use Rattle.std.proofs.Common.{◌≡◌, ℕ, ◌+◌, length, refl, ap, sym, subst, ◌∙◌, arith}
+use Rattle.circ_nodes.specs.Named.{tree_at}
 use Rattle.circ_nodes.proofs.Numbers.{named_below, named_one, named_later, all_below, are_named_later, grows_self}
 use Rattle.circ_due.specs.Chosen.{due_by}
 use Rattle.circ_memo.specs.Settling.{IsPassing, HasPassed, IsToKeep, Stops, passed_count}
@@ -21,27 +22,27 @@ settle_arg-returns-then-is_still-clause-passes t c = λ u p.
     let at = arg_is (due_by m) nodes c.args.bounds u c.args.place c.args.passing.now p c.arg-arg.result kept.term c.arg-arg.ensures kept.here in
     (passing_still (due_by m) nodes c.args.bounds u c.args.place c.args.passing.now p kept.term still.0 at kept.form still.2, refl {a = c.args.budget.now + c.args.passing.now.count})
 
-pub settle_arg-term-requires : goal.settle_arg-term-requires
-settle_arg-term-requires t c =
+pub settle_arg-known_at-requires : goal.settle_arg-known_at-requires
+settle_arg-known_at-requires t c =
     let a = arg_at (due_by c.args.means.now) c.args.store.now.nodes c.args.bounds c.requires.passing.0 c.args.place c.args.passing.now c.requires.passing.1 c.arg-arg.result c.arg-arg.ensures in
     named_below c.args.store.now.nodes c.arg-arg.result a.0 a.2
 
 pub settle_arg-room-room-requires-clause-big : goal.settle_arg-room-room-requires-clause-big
 settle_arg-room-room-requires-clause-big t c =
     (arg_small (due_by c.args.means.now) c.args.store.now.nodes c.args.bounds c.requires.passing.0 c.args.place c.args.passing.now c.requires.passing.1 c.arg-arg.result c.size-own.result
-    c.term.result.now c.arg-arg.ensures c.term.ensures c.size-own.ensures.exact).1
+    (tree_at c.args.store.now.nodes c.arg-arg.result) c.arg-arg.ensures c.known_at.ensures.named c.size-own.ensures.exact).1
 
 pub settle_arg-room-room-requires-clause-deep : goal.settle_arg-room-room-requires-clause-deep
 settle_arg-room-room-requires-clause-deep t c =
     (arg_small (due_by c.args.means.now) c.args.store.now.nodes c.args.bounds c.requires.passing.0 c.args.place c.args.passing.now c.requires.passing.1 c.arg-arg.result c.size-own.result
-    c.term.result.now c.arg-arg.ensures c.term.ensures c.size-own.ensures.exact).3
+    (tree_at c.args.store.now.nodes c.arg-arg.result) c.arg-arg.ensures c.known_at.ensures.named c.size-own.ensures.exact).3
 
 pub settle_arg-room-room-requires-clause-small : goal.settle_arg-room-room-requires-clause-small
 settle_arg-room-room-requires-clause-small t c =
     omega (
       arith,
       (arg_small (due_by c.args.means.now) c.args.store.now.nodes c.args.bounds c.requires.passing.0 c.args.place c.args.passing.now c.requires.passing.1 c.arg-arg.result c.size-own.result
-          c.term.result.now c.arg-arg.ensures c.term.ensures c.size-own.ensures.exact).2,
+          (tree_at c.args.store.now.nodes c.arg-arg.result) c.arg-arg.ensures c.known_at.ensures.named c.size-own.ensures.exact).2,
       c.size-own.ensures.small,
     )
 
@@ -50,13 +51,13 @@ settle_arg-settle-requires t c = (
   omega (
     arith,
     arg_measure (due_by c.args.means.now) c.args.store.now.nodes c.args.bounds c.requires.passing.0 c.args.place c.args.passing.now c.requires.passing.1 c.arg-arg.result c.args.budget.now
-        c.term.result.now c.arg-arg.ensures c.term.ensures,
+        (tree_at c.args.store.now.nodes c.arg-arg.result) c.arg-arg.ensures c.known_at.ensures.named,
   ),
   (
     c.requires.store,
     (
       arg_inside (due_by c.args.means.now) c.args.store.now.nodes c.args.bounds c.requires.passing.0 c.args.place c.args.passing.now c.requires.passing.1 c.arg-arg.result c.size-own.result
-          c.term.result.now c.room-room.result c.arg-arg.ensures c.term.ensures c.size-own.ensures.exact c.room-room.ensures,
+          (tree_at c.args.store.now.nodes c.arg-arg.result) c.room-room.result c.arg-arg.ensures c.known_at.ensures.named c.size-own.ensures.exact c.room-room.ensures,
       omega (arith, c.requires.count),
     ),
   ),
@@ -64,25 +65,25 @@ settle_arg-settle-requires t c = (
 
 pub settle_arg-pass-requires-clause-value : goal.settle_arg-pass-requires-clause-value
 settle_arg-pass-requires-clause-value t c =
-    let kept = c.in-Ok.ensures.settles c.term.result.now c.term.ensures in
+    let kept = c.in-Ok.ensures.settles (tree_at c.args.store.now.nodes c.arg-arg.result) c.known_at.ensures.named in
     named_below c.settle.new.store.nodes c.in-Ok.entry.value kept.0.0.value kept.0.0.there
 
 pub settle_arg-pass-requires-clause-own : goal.settle_arg-pass-requires-clause-own
 settle_arg-pass-requires-clause-own t c =
     (arg_small (due_by c.args.means.now) c.args.store.now.nodes c.args.bounds c.requires.passing.0 c.args.place c.args.passing.now c.requires.passing.1 c.arg-arg.result c.size-own.result
-    c.term.result.now c.arg-arg.ensures c.term.ensures c.size-own.ensures.exact).0
+    (tree_at c.args.store.now.nodes c.arg-arg.result) c.arg-arg.ensures c.known_at.ensures.named c.size-own.ensures.exact).0
 
 pub settle_arg-pass-requires-clause-size : goal.settle_arg-pass-requires-clause-size
 settle_arg-pass-requires-clause-size t c =
     let small = arg_small (due_by c.args.means.now) c.args.store.now.nodes c.args.bounds c.requires.passing.0 c.args.place c.args.passing.now c.requires.passing.1 c.arg-arg.result c.size-own.result
-    c.term.result.now c.arg-arg.ensures c.term.ensures c.size-own.ensures.exact in
+    (tree_at c.args.store.now.nodes c.arg-arg.result) c.arg-arg.ensures c.known_at.ensures.named c.size-own.ensures.exact in
     omega (arith, small.1, small.2)
 
 pub settle_arg-pass-requires-clause-big : goal.settle_arg-pass-requires-clause-big
 settle_arg-pass-requires-clause-big t c =
-    let kept = c.in-Ok.ensures.settles c.term.result.now c.term.ensures in
+    let kept = c.in-Ok.ensures.settles (tree_at c.args.store.now.nodes c.arg-arg.result) c.known_at.ensures.named in
     let inside = arg_inside (due_by c.args.means.now) c.args.store.now.nodes c.args.bounds c.requires.passing.0 c.args.place c.args.passing.now c.requires.passing.1 c.arg-arg.result c.size-own.result
-    c.term.result.now c.room-room.result c.arg-arg.ensures c.term.ensures c.size-own.ensures.exact c.room-room.ensures in
+    (tree_at c.args.store.now.nodes c.arg-arg.result) c.room-room.result c.arg-arg.ensures c.known_at.ensures.named c.size-own.ensures.exact c.room-room.ensures in
     omega (arith, kept.0.1.small, inside.2.big)
 
 pub settle_arg-outgrow-requires-clause-there : goal.settle_arg-outgrow-requires-clause-there
@@ -93,7 +94,7 @@ settle_arg-outgrow-requires-clause-there t c =
 
 pub settle_arg-outgrow-requires-clause-new : goal.settle_arg-outgrow-requires-clause-new
 settle_arg-outgrow-requires-clause-new t c =
-    let s = rw c.in-Err-Outgrows.field-0-is at (c.in-Err-Outgrows.ensures.settles c.term.result.now c.term.ensures) in
+    let s = rw c.in-Err-Outgrows.field-0-is at (c.in-Err-Outgrows.ensures.settles (tree_at c.args.store.now.nodes c.arg-arg.result) c.known_at.ensures.named) in
     named_below c.settle.new.store.nodes c.in-Err-Outgrows.new s.0 s.1
 
 pub settle_arg-returns-in-Ok-clause-passes : goal.settle_arg-returns-in-Ok-clause-passes
@@ -101,10 +102,10 @@ settle_arg-returns-in-Ok-clause-passes t c = λ u p.
     let due = due_by c.args.means.now in
     let old = c.args.store.now.nodes in
     let new = c.settle.new.store.nodes in
-    let a = c.term.result.now in
-    let kept = c.in-Ok.ensures.settles a c.term.ensures in
+    let a = tree_at c.args.store.now.nodes c.arg-arg.result in
+    let kept = c.in-Ok.ensures.settles a c.known_at.ensures.named in
     let later = passing_later due old new c.settle.ensures.extends.grows c.args.bounds u c.args.place c.args.passing.now p in
-    let named = named_later old new c.arg-arg.result a c.settle.ensures.extends.grows c.term.ensures in (
+    let named = named_later old new c.arg-arg.result a c.settle.ensures.extends.grows c.known_at.ensures.named in (
       c.pass.ensures.passes due c.args.bounds u a c.arg-arg.result later c.arg-arg.ensures named c.size-own.ensures.exact kept.0.0 (rw c.room-room.ensures at kept.0.1),
       omega (arith, c.pass.ensures.count, kept.1),
     )
@@ -117,10 +118,10 @@ settle_arg-returns-in-Err-Outgrows-clause-passes t c = λ u p.
     let due = due_by c.args.means.now in
     let old = c.args.store.now.nodes in
     let new = c.settle.new.store.nodes in
-    let a = c.term.result.now in
-    let s = rw c.in-Err-Outgrows.field-0-is at (c.in-Err-Outgrows.ensures.settles a c.term.ensures) in
+    let a = tree_at c.args.store.now.nodes c.arg-arg.result in
+    let s = rw c.in-Err-Outgrows.field-0-is at (c.in-Err-Outgrows.ensures.settles a c.known_at.ensures.named) in
     let later = passing_later due old new c.settle.ensures.extends.grows c.args.bounds u c.args.place c.args.passing.now p in
-    let named = named_later old new c.arg-arg.result a c.settle.ensures.extends.grows c.term.ensures in
+    let named = named_later old new c.arg-arg.result a c.settle.ensures.extends.grows c.known_at.ensures.named in
     c.outgrow.ensures.stops due c.args.bounds u a c.arg-arg.result c.args.budget.now c.settle.new.budget later c.arg-arg.ensures named
     (rw c.size-own.ensures.exact at (rw c.room-room.ensures at s))
 
@@ -129,10 +130,10 @@ settle_arg-returns-in-Err-Fault-clause-passes t c = λ u p.
     let due = due_by c.args.means.now in
     let old = c.args.store.now.nodes in
     let new = c.settle.new.store.nodes in
-    let a = c.term.result.now in
-    let s = rw c.in-Err-Fault.field-0-is at (c.in-Err-Fault.ensures.settles a c.term.ensures) in
+    let a = tree_at c.args.store.now.nodes c.arg-arg.result in
+    let s = rw c.in-Err-Fault.field-0-is at (c.in-Err-Fault.ensures.settles a c.known_at.ensures.named) in
     let later = passing_later due old new c.settle.ensures.extends.grows c.args.bounds u c.args.place c.args.passing.now p in
-    let named = named_later old new c.arg-arg.result a c.settle.ensures.extends.grows c.term.ensures in
+    let named = named_later old new c.arg-arg.result a c.settle.ensures.extends.grows c.known_at.ensures.named in
     passing_stops due new c.args.bounds u c.args.place c.args.passing.now later c.args.budget.now c.settle.new.budget _ a c.in-Err-Fault.fault
     (arg_is due new c.args.bounds u c.args.place c.args.passing.now later c.arg-arg.result a c.arg-arg.ensures named) (omega arith)
     (rw c.size-own.ensures.exact at (rw c.room-room.ensures at s))

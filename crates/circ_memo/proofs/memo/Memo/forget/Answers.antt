@@ -4,6 +4,9 @@ use Rattle.circ_memo.proofs.memo.Memo.forget.Goals as goal
 
 pub invariant_of-self : goal.invariant_of-self
 invariant_of-self c = record {
-  ready = c.forget.ensures.ready c.self.inside.work.value.store.nodes c.new.result.nodes (rw c.deref_mut-work.ensures.value c.self.invariant.ready);
-  kept = kept_nothing (due_by c.forget.new.self) c.new.result.nodes c.new.result.entries.items c.new.ensures;
+  store = record {
+    ready = c.forget.ensures.ready c.self.inside.work.value.store.nodes c.new-2.result.nodes (rw c.deref_mut-work.ensures.value c.self.invariant.store.ready);
+    kept = kept_nothing (due_by c.forget.new.self) c.new-2.result.nodes c.new-2.result.entries.items c.new-2.ensures;
+  };
+  built = c.new.ensures c.new-2.result.nodes;
 }

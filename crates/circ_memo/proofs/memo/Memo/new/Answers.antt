@@ -6,6 +6,9 @@ pub invariant_of-result : goal.invariant_of-result
 invariant_of-result c =
     rw c.in_ok-new.ensures.ok
     (record {
-      ready = c.in_ok-means.ensures.ready c.new-store.result.nodes;
-      kept = kept_nothing (due_by c.in_ok-means.means) c.new-store.result.nodes c.new-store.result.entries.items c.new-store.ensures;
+      store = record {
+        ready = c.in_ok-means.ensures.ready c.new-store.result.nodes;
+        kept = kept_nothing (due_by c.in_ok-means.means) c.new-store.result.nodes c.new-store.result.entries.items c.new-store.ensures;
+      };
+      built = c.new-terms.ensures c.new-store.result.nodes;
     })

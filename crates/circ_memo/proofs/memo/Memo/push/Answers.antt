@@ -4,14 +4,17 @@ use Rattle.circ_memo.proofs.memo.Memo.push.Goals as goal
 
 pub push-requires-clause-ready : goal.push-requires-clause-ready
 push-requires-clause-ready c = (
-  c.new.result.nodes,
-  c.forget.ensures.ready c.self.inside.work.value.store.nodes c.new.result.nodes (rw c.deref_mut-work.ensures.value c.self.invariant.ready),
+  c.new-2.result.nodes,
+  c.forget.ensures.ready c.self.inside.work.value.store.nodes c.new-2.result.nodes (rw c.deref_mut-work.ensures.value c.self.invariant.store.ready),
 )
 
 pub invariant_of-self : goal.invariant_of-self
 invariant_of-self c = record {
-  ready =
-      c.push.ensures.ready c.new.result.nodes
-      (c.forget.ensures.ready c.self.inside.work.value.store.nodes c.new.result.nodes (rw c.deref_mut-work.ensures.value c.self.invariant.ready));
-  kept = kept_nothing (due_by c.push.new.self) c.new.result.nodes c.new.result.entries.items c.new.ensures;
+  store = record {
+    ready =
+      c.push.ensures.ready c.new-2.result.nodes
+      (c.forget.ensures.ready c.self.inside.work.value.store.nodes c.new-2.result.nodes (rw c.deref_mut-work.ensures.value c.self.invariant.store.ready));
+    kept = kept_nothing (due_by c.push.new.self) c.new-2.result.nodes c.new-2.result.entries.items c.new-2.ensures;
+  };
+  built = c.new.ensures c.new-2.result.nodes;
 }

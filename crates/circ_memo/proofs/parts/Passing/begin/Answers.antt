@@ -1,6 +1,7 @@
 use Rattle.std.proofs.Common.{refl, ap, sym, subst, ◌∙◌, arith, [], length}
 use Rattle.std.specs.List.{slice_get}
 use Rattle.circ_term.specs.Tree.{args_of, size_of, depth_of}
+use Rattle.circ_nodes.specs.Named.{tree_at}
 use Rattle.circ_nodes.proofs.Numbers.{named_one, are_named_length}
 use Rattle.circ_chain.specs.Through.{Through}
 use Rattle.circ_chain.proofs.Settling.{through_start}
@@ -9,7 +10,7 @@ use Rattle.circ_memo.proofs.parts.Passing.begin.Goals as goal
 pub returns-clause-begins : goal.returns-clause-begins
 returns-clause-begins c = λ due b t n w.
     let shape = c.in-Application.ensures.shape t n in
-    let is = named_one c.args.nodes.now c.args.number c.term-term.result.now t c.term-term.ensures n in
+    let is = named_one c.args.nodes.now c.args.number (tree_at c.args.nodes.now c.args.number) t c.known_at.ensures.named n in
     let items = c.in_ok-from_slice.ensures.ok in (
       record {
         args = shape.0;
