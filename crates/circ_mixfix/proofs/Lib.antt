@@ -28,5 +28,6 @@ pub mod PrintedTokens
 pub mod Printed
 pub mod SpelledLevels
 pub mod ReadBack
+pub mod PrintedPairs
 pub mod PrintedSums
 pub mod Parameters

@@ -139,6 +139,12 @@ printed_plain hole n = go (hole && (n == 0))
     go true = refl
     go false = (decimal_plain n).1
 
+-- a printed variable has its colon behind its name
+pub printed_colon : (sig : Signature) (hole : Bool) (n s : ℕ) → before_colon (printed_name hole n ++ codes ":" ++ unwrap_or (slice_get sig.sorts s) []) ≡ Some (printed_name hole n)
+printed_colon sig hole n s =
+    let sort = unwrap_or (slice_get sig.sorts s) [] in
+    ap before_colon (append_assoc (printed_name hole n) (codes ":") sort) ∙ colon_at (printed_name hole n) sort (printed_plain hole n)
+
 module _ (sig : Signature) (hole : Bool) (vars : List Declared) (ops : (o : Operator) → Contains sig.ops o → IsOperator sig o) (print : IsPrintable sig)
     (own : HaveOwnWords sig) (sorts : AreDifferent sig.sorts) (different : AreDifferentOperators sig.ops) (none_of : AreNoWords sig vars) where
   abbrev T : Tree → List (List ℕ)
@@ -178,7 +184,7 @@ module _ (sig : Signature) (hole : Bool) (vars : List Declared) (ops : (o : Oper
   token_is n s = append_assoc (printed_name hole n) (codes ":") (unwrap_or (slice_get sig.sorts s) [])
 
   token_colon : (n s : ℕ) → before_colon (token n s) ≡ Some (printed_name hole n)
-  token_colon n s = ap before_colon (token_is n s) ∙ colon_at (printed_name hole n) (unwrap_or (slice_get sig.sorts s) []) (printed_plain hole n)
+  token_colon n s = printed_colon sig hole n s
 
   quiet_walk : (p : List ℕ → Bool) → IsQuiet p → (t : Tree) → IsWellSorted sig t → walk p 0 (T t) ≡ Some 0
   quiet_walk p q (Var n s) w =
@@ -630,11 +636,19 @@ mutual
 nothing_declared : (sig : Signature) → AreNoWords sig []
 nothing_declared sig d c = absurd (omega (arith, c.1))
 
+-- terms of the same tokens are the same
+pub same_tokens : (sig : Signature) (hole : Bool) (t u : Tree) → IsReadBack sig → IsWellSorted sig t → IsWellSorted sig u → IsNumbered t → IsNumbered u
+    → tokens_of_term sig hole t ≡ tokens_of_term sig hole u → t ≡ u
+same_tokens sig hole t u ok h k a b e =
+    let P : List (List ℕ) → Type 0 = λ us. Spells sig [] hole 1 (sort_of u) us (named_term hole u) in
+    let spells = subst P (sym e) ((spelled sig hole ok.operators ok.printable u k).spells [] 1 (omega arith)) in
+    let once = back sig hole [] ok.operators ok.printable ok.words ok.sorts ok.different (nothing_declared sig) t h 1 (sort_of u) (named_term hole u) spells in
+    same_term hole t u a b (sym once.1)
+
 pub printed_once : (sig : Signature) (hole : Bool) (t u : Tree) → IsReadBack sig → IsWellSorted sig t → IsWellSorted sig u → IsNumbered t → IsNumbered u
     → text_of_term sig hole t ≡ text_of_term sig hole u → t ≡ u
 printed_once sig hole t u ok h k a b e =
     let printed = spelled sig hole ok.operators ok.printable u k in
     let P : List ℕ → Type 0 = λ text. AreTokens text (tokens_of_term sig hole u) in
     let cut = subst P (sym e) (prints_tokens _ (tokens_of_term sig hole u) printed.prints) in
-    let once = spelled_once sig [] hole t (tokens_of_term sig hole u) 1 (sort_of u) (named_term hole u) ok (nothing_declared sig) h cut (printed.spells [] 1 (omega arith)) in
-    same_term hole t u a b (sym once.1)
+    same_tokens sig hole t u ok h k a b (sym (cut_so sig hole t (tokens_of_term sig hole u) ok h cut))

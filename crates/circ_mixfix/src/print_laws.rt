@@ -4,7 +4,7 @@ ghost use Rattle.std.specs.Prelude.{◌≡◌, ℕ, List, Bool, codes, true, fal
 ghost use Rattle.circ_lexer.specs.TokenList.{AreTokens};
 ghost use Rattle.circ_term.specs.Tree.{Tree, sort_of};
 ghost use Rattle.circ_theory.specs.Signature.{Signature, IsWellSorted};
-ghost use Rattle.circ_theory.specs.Theory.{Declared, pair_with};
+ghost use Rattle.circ_theory.specs.Theory.{Declared, Pair, pair_with, IsWellSortedPair};
 ghost use Rattle.circ_mixfix.specs.Named.{Named};
 ghost use Rattle.circ_mixfix.specs.OwnWords.{IsReadBack, AreNoWords, IsNumbered};
 ghost use Rattle.circ_mixfix.specs.Printing.{text_of_term, text_of_pair};
@@ -13,7 +13,7 @@ ghost use Rattle.circ_mixfix.specs.Spells.{Spells};
 ghost use Rattle.circ_mixfix.specs.PrintedExamples.{sums, on_two};
 
 /// Where operators have words of their own, what is printed is the text of one term: its tokens spell
-/// this term alone, at whatever bound, and terms of one text are the same.
+/// this term alone, at whatever bound, and terms of one text are the same, and so are pairs.
 pub fn printed_terms_are_read_back()
     ensures one_spelling { (sig : Signature) (vars : List Declared) (hole : Bool) (t : Tree)
         (ws : List (List ℕ)) (b s : ℕ) (q : Named) →
@@ -23,6 +23,10 @@ pub fn printed_terms_are_read_back()
     ensures one_term { (sig : Signature) (hole : Bool) (t u : Tree) →
         IsReadBack sig → IsWellSorted sig t → IsWellSorted sig u → IsNumbered t → IsNumbered u →
         text_of_term sig hole t ≡ text_of_term sig hole u → t ≡ u }
+    ensures one_pair { (sig : Signature) (p q : Pair) →
+        IsReadBack sig → IsWellSortedPair sig p → IsWellSortedPair sig q →
+        IsNumbered p.left → IsNumbered p.right → IsNumbered q.left → IsNumbered q.right →
+        text_of_pair sig p ≡ text_of_pair sig q → p ≡ q }
 {}
 
 /// The texts of `_+_` and of `f` on two variables, with a hole and without, and of a pair.
