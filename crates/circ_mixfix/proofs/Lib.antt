@@ -28,6 +28,7 @@ pub mod PrintedTokens
 pub mod Printed
 pub mod SpelledLevels
 pub mod ReadBack
-pub mod PrintedPairs
+pub mod PrintedFronts
+pub mod PrintedGoals
 pub mod PrintedSums
 pub mod Parameters

@@ -8,7 +8,7 @@ use Rattle.std.proofs.lemmas.List.Recursion.{is_count_by}
 use Rattle.std.proofs.lemmas.Bool.Decides.{nat_tests}
 use Rattle.std.proofs.lemmas.Option.{slice_get_within, slice_get-get_or, get_or_from_slice_get}
 use Rattle.circ_lexer.specs.Bytes.{is_plain, is_special}
-use Rattle.circ_lexer.specs.TokenList.{IsToken, run_token, AreTokens}
+use Rattle.circ_lexer.specs.TokenList.{IsToken, run_token}
 use Rattle.circ_term.specs.Tree.{Tree, Trees, Var, App, none, more, sort_of}
 use Rattle.circ_form.specs.declared.forms.Piece.{Piece}
 use Rattle.circ_form.specs.declared.forms.Piece.TheVariants as piece
@@ -28,7 +28,7 @@ use Rattle.circ_mixfix.proofs.Cut.{Prints, Ends, prints_tokens, prints_nothing, 
 use Rattle.circ_mixfix.proofs.PrintedTokens.{fill, more_tokens, arguments_tokens, tokens_of_term, tokens_of_terms}
 use Rattle.circ_mixfix.proofs.FormWords.{IsTokenPiece, form_tokens, decimal_plain}
 
-ends_further : (b : ℕ) (sep : List ℕ) (xs : List (List ℕ)) → Ends (b ∷ sep) → Ends (further (b ∷ sep) xs)
+pub ends_further : (b : ℕ) (sep : List ℕ) (xs : List (List ℕ)) → Ends (b ∷ sep) → Ends (further (b ∷ sep) xs)
 ends_further b sep [] h = record { ends = λ rest e. e }
 ends_further b sep (x ∷ xs) h = record { ends = λ rest e. h.ends [] refl }
 
@@ -279,9 +279,9 @@ equals_token : IsToken (codes "=")
 equals_token = run_token (codes "=") (λ z. cc) refl refl
 
 -- the text of a pair is cut into the tokens of its sides, and '=' between them
-pub pair_cut : (sig : Signature) → ((o : Operator) → Contains sig.ops o → IsOperator sig o) → IsPrintable sig → (t u : Tree) → IsWellSorted sig t → IsWellSorted sig u
-    → AreTokens (text_of_pair sig (record { left = t; right = u })) (tokens_of_term sig false t ++ codes "=" ∷ tokens_of_term sig false u)
-pair_cut sig ops print t u h k =
+pub pair_prints : (sig : Signature) → ((o : Operator) → Contains sig.ops o → IsOperator sig o) → IsPrintable sig → (t u : Tree) → IsWellSorted sig t → IsWellSorted sig u
+    → Prints (text_of_pair sig (record { left = t; right = u })) (tokens_of_term sig false t ++ codes "=" ∷ tokens_of_term sig false u)
+pair_prints sig ops print t u h k =
     let l = spelled sig false ops print t h in
     let r = spelled sig false ops print u k in
     let a = text_of_term sig false t in
@@ -291,7 +291,7 @@ pair_cut sig ops print t u h k =
     let right : Prints (32 ∷ b) rs = prints_blank b rs r.prints in
     let middle : Prints (32 ∷ 61 ∷ 32 ∷ b) (codes "=" ∷ rs) =
     prints_blank (61 ∷ 32 ∷ b) _ (prints_both (codes "=") (32 ∷ b) (codes "=" ∷ []) rs (prints_token (codes "=") equals_token) right (record { ends = λ rest e. refl })) in
-    prints_tokens _ _ (rw (append_assoc a (codes " = ") b) (prints_both a (32 ∷ 61 ∷ 32 ∷ b) ls (codes "=" ∷ rs) l.prints middle (record { ends = λ rest e. refl })))
+    rw (append_assoc a (codes " = ") b) (prints_both a (32 ∷ 61 ∷ 32 ∷ b) ls (codes "=" ∷ rs) l.prints middle (record { ends = λ rest e. refl }))
 
 module _ (th : Theory) (ok : IsWellFormed th) (print : IsPrintable th.signature) where
   pub term_printed : (hole : Bool) (t : Tree) → IsWellSorted th.signature t → IsSpelling th.signature hole t
@@ -302,7 +302,7 @@ module _ (th : Theory) (ok : IsWellFormed th) (print : IsPrintable th.signature)
   pair_printed t u h k = record {
     left = tokens_of_term th.signature false t;
     right = tokens_of_term th.signature false u;
-    cut = pair_cut th.signature ok.operators print t u h k;
+    cut = prints_tokens _ _ (pair_prints th.signature ok.operators print t u h k);
     spells_left = (spelled th.signature false ok.operators print t h).spells;
     spells_right = (spelled th.signature false ok.operators print u k).spells;
   }
