@@ -1,10 +1,9 @@
 -- Where operators have words of their own, it is seen where a printed term ends, unless a parenthesis opens behind it.
-use Rattle.std.proofs.Common.{◌≡◌, ◌++◌, ◌||◌, ℕ, zero, suc, List, [], ◌∷◌, Bool, true, false, Option, Some, None, codes, sym, ◌∙◌, ap, subst, refl, arith, append_assoc}
-use Rattle.std.specs.Prelude.{if◌then◌else◌}
-use Rattle.std.specs.List.{slice_get, list_any, AllByRecursion, Contains}
+use Rattle.std.proofs.Common.{◌≡◌, ◌++◌, ℕ, List, [], ◌∷◌, Bool, true, false, Some, None, codes, sym, ◌∙◌, ap, subst, refl, arith, append_assoc}
+use Rattle.std.specs.List.{slice_get, list_any, Contains}
 use Rattle.std.specs.Option.{unwrap_or}
 use Rattle.std.proofs.lemmas.List.{append_cancel_left}
-use Rattle.circ_term.specs.Tree.{Tree, Trees, Var, App, none, more}
+use Rattle.circ_term.specs.Tree.{Tree, Trees, Var, App}
 use Rattle.circ_form.specs.declared.forms.Piece.{Piece}
 use Rattle.circ_form.specs.declared.forms.Piece.TheVariants as piece
 use Rattle.circ_form.specs.Form.{is_hole_piece, is_word}
@@ -14,10 +13,10 @@ use Rattle.circ_mixfix.specs.Printing.{printed_name}
 use Rattle.circ_mixfix.specs.OwnWords.{IsReadBack}
 use Rattle.circ_mixfix.proofs.Names.{before_colon, no_colon}
 use Rattle.circ_mixfix.proofs.SymbolWords.{form_word}
-use Rattle.circ_mixfix.proofs.Levels.{is_open, is_close, is_comma, always, step, walk, step_close, step_always, walk_next, walk_on, deeper, same_front}
+use Rattle.circ_mixfix.proofs.Levels.{is_open, is_comma, always, walk, step_close, step_always, walk_next, walk_on, deeper, same_front}
 use Rattle.circ_mixfix.proofs.PrintedTokens.{fill, more_tokens, arguments_tokens, application_tokens, operator_tokens, tokens_of_term, tokens_of_terms}
 use Rattle.circ_mixfix.proofs.SpelledLevels.{AllInner, contains_inner, listed, operator_inner}
-use Rattle.circ_mixfix.proofs.ReadBack.{AllWalk, more_inside, fill_outside, plain_front, printed_colon, balanced, all_balanced, nothing_declared}
+use Rattle.circ_mixfix.proofs.ReadBack.{AllWalk, more_inside, fill_outside, plain_front, printed_colon, all_balanced, nothing_declared}
 
 -- what stands in parentheses ends with them
 parentheses_end : (is js xs ys : List (List ℕ)) (x y : List ℕ) → walk is_comma 0 is ≡ Some 0 → walk is_comma 0 js ≡ Some 0 → is_open x ≡ false → is_open y ≡ false
