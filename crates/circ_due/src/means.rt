@@ -15,7 +15,7 @@ ghost use Rattle.circ_due.specs.Chosen.{IsReady, IsChoice, IsChosen, Chooses};
 ghost use Rattle.circ_due.specs.Chosen.{IsChosenOf, due_by, left_side};
 ghost use Rattle.circ_index.specs.Indexed.{HasLefts};
 
-use crate::assuming::{Assumed, assumed_at, kept};
+use crate::assuming::{Assumed, assumed_at, kept, shared};
 use crate::building::instance;
 use crate::choice::Choice;
 use crate::choosing::{choose_besides, choose_besides_above};
@@ -25,7 +25,7 @@ use circ_index::Finder;
 use circ_nodes::{Nodes, Terms};
 use circ_rewrite::{Rule, Trace};
 use circ_term::{Path, TermFault};
-use circ_theory::{Pair, Pairs, Theory, share_pairs};
+use circ_theory::{Pair, Pairs, Theory};
 use indexmap::IndexMap;
 use std::alloc::{AllocError, Global};
 
@@ -108,7 +108,7 @@ impl<'a> Means<'a> {
         ensures forgotten { OnErr result (self.new.assumptions ≡ []) }
     {
         self.forget();
-        let pairs = Pairs::of(share_pairs(self.alloc, assumptions)?);
+        let pairs = shared(self.alloc, assumptions)?;
         let assumed = kept(self.alloc, nodes, assumptions)?;
         self.assumptions = pairs;
         self.assumed = assumed;

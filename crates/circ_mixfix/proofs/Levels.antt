@@ -141,6 +141,18 @@ pub step_stops : (p : List ℕ → Bool) (w : List ℕ) → is_open w ≡ false 
 unfolding step
 step_stops p w a b c = rw (a, b, c) refl
 
+-- where each token outside is a stop, only an opening parenthesis is none
+abbrev pub always : List ℕ → Bool
+always w = true
+
+pub step_always : (w : List ℕ) → is_open w ≡ false → step always 0 w ≡ None
+unfolding step
+step_always w a = rw a (go (is_close w))
+  where
+    go : (b : Bool) → (if b then less 0 else outside 0 true) ≡ None
+    go true = refl
+    go false = refl
+
 pub next_over : (d : ℕ) (w : List ℕ) → is_open w ≡ false → is_close w ≡ false → next d w ≡ d
 unfolding next
 next_over d w a b = rw (a, b) refl

@@ -28,5 +28,7 @@ pub mod PrintedTokens
 pub mod Printed
 pub mod SpelledLevels
 pub mod ReadBack
+pub mod PrintedFronts
+pub mod PrintedGoals
 pub mod PrintedSums
 pub mod Parameters

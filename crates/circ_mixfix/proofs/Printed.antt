@@ -22,13 +22,13 @@ use Rattle.circ_theory.specs.Operators.{form_fits, IsOperator}
 use Rattle.circ_mixfix.specs.Named.{Named, NamedList, Variable, no_terms, terms}
 use Rattle.circ_mixfix.specs.Symbols.{Symbol, Word, Hole, every, below_first, below_last, below_inner, inner_symbols, form_symbols, more_arguments, arguments}
 use Rattle.circ_mixfix.specs.Spells.{HasNoColon, a_written_one, the_hole, Spells, SpellsSymbols, in_parentheses, a_variable, an_operator, no_symbol, a_word, a_hole}
-use Rattle.circ_mixfix.specs.Printing.{further, joined, filled, arguments_text, text_of_term, texts_of_terms}
+use Rattle.circ_mixfix.specs.Printing.{further, joined, filled, arguments_text, text_of_term, texts_of_terms, text_of_pair}
 use Rattle.circ_mixfix.specs.Printed.{IsName, IsPrintable, IsPrintableOperator, named_term, named_terms, IsSpelling, IsPairSpelling}
 use Rattle.circ_mixfix.proofs.Cut.{Prints, Ends, prints_tokens, prints_nothing, prints_blank, prints_special, prints_token, prints_both}
 use Rattle.circ_mixfix.proofs.PrintedTokens.{fill, more_tokens, arguments_tokens, tokens_of_term, tokens_of_terms}
 use Rattle.circ_mixfix.proofs.FormWords.{IsTokenPiece, form_tokens, decimal_plain}
 
-ends_further : (b : ℕ) (sep : List ℕ) (xs : List (List ℕ)) → Ends (b ∷ sep) → Ends (further (b ∷ sep) xs)
+pub ends_further : (b : ℕ) (sep : List ℕ) (xs : List (List ℕ)) → Ends (b ∷ sep) → Ends (further (b ∷ sep) xs)
 ends_further b sep [] h = record { ends = λ rest e. e }
 ends_further b sep (x ∷ xs) h = record { ends = λ rest e. h.ends [] refl }
 
@@ -278,26 +278,31 @@ module _ (sig : Signature) (hole : Bool) where
 equals_token : IsToken (codes "=")
 equals_token = run_token (codes "=") (λ z. cc) refl refl
 
+-- the text of a pair is cut into the tokens of its sides, and '=' between them
+pub pair_prints : (sig : Signature) → ((o : Operator) → Contains sig.ops o → IsOperator sig o) → IsPrintable sig → (t u : Tree) → IsWellSorted sig t → IsWellSorted sig u
+    → Prints (text_of_pair sig (record { left = t; right = u })) (tokens_of_term sig false t ++ codes "=" ∷ tokens_of_term sig false u)
+pair_prints sig ops print t u h k =
+    let l = spelled sig false ops print t h in
+    let r = spelled sig false ops print u k in
+    let a = text_of_term sig false t in
+    let b = text_of_term sig false u in
+    let ls = tokens_of_term sig false t in
+    let rs = tokens_of_term sig false u in
+    let right : Prints (32 ∷ b) rs = prints_blank b rs r.prints in
+    let middle : Prints (32 ∷ 61 ∷ 32 ∷ b) (codes "=" ∷ rs) =
+    prints_blank (61 ∷ 32 ∷ b) _ (prints_both (codes "=") (32 ∷ b) (codes "=" ∷ []) rs (prints_token (codes "=") equals_token) right (record { ends = λ rest e. refl })) in
+    rw (append_assoc a (codes " = ") b) (prints_both a (32 ∷ 61 ∷ 32 ∷ b) ls (codes "=" ∷ rs) l.prints middle (record { ends = λ rest e. refl }))
+
 module _ (th : Theory) (ok : IsWellFormed th) (print : IsPrintable th.signature) where
   pub term_printed : (hole : Bool) (t : Tree) → IsWellSorted th.signature t → IsSpelling th.signature hole t
   term_printed hole t h = let k = spelled th.signature hole ok.operators print t h in
       record { tokens = tokens_of_term th.signature hole t; cut = prints_tokens _ (tokens_of_term th.signature hole t) k.prints; spells = k.spells }
 
   pub pair_printed : (t u : Tree) → IsWellSorted th.signature t → IsWellSorted th.signature u → IsPairSpelling th.signature (record { left = t; right = u })
-  pair_printed t u h k =
-      let l = spelled th.signature false ok.operators print t h in
-      let r = spelled th.signature false ok.operators print u k in
-      let a = text_of_term th.signature false t in
-      let b = text_of_term th.signature false u in
-      let ls = tokens_of_term th.signature false t in
-      let rs = tokens_of_term th.signature false u in
-      let right : Prints (32 ∷ b) rs = prints_blank b rs r.prints in
-      let middle : Prints (32 ∷ 61 ∷ 32 ∷ b) (codes "=" ∷ rs) =
-      prints_blank (61 ∷ 32 ∷ b) _ (prints_both (codes "=") (32 ∷ b) (codes "=" ∷ []) rs (prints_token (codes "=") equals_token) right (record { ends = λ rest e. refl })) in
-      record {
-        left = ls;
-        right = rs;
-        cut = prints_tokens _ _ (rw (append_assoc a (codes " = ") b) (prints_both a (32 ∷ 61 ∷ 32 ∷ b) ls (codes "=" ∷ rs) l.prints middle (record { ends = λ rest e. refl })));
-        spells_left = l.spells;
-        spells_right = r.spells;
-      }
+  pair_printed t u h k = record {
+    left = tokens_of_term th.signature false t;
+    right = tokens_of_term th.signature false u;
+    cut = prints_tokens _ _ (pair_prints th.signature ok.operators print t u h k);
+    spells_left = (spelled th.signature false ok.operators print t h).spells;
+    spells_right = (spelled th.signature false ok.operators print u k).spells;
+  }

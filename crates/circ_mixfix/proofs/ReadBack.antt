@@ -38,16 +38,16 @@ use Rattle.circ_mixfix.proofs.SpelledLevels.{AllInner, contains_inner, is_word_o
 
 -- ---- lists of tokens that lead back outside
 
-abbrev AllWalk : (List ℕ → Bool) → List (List (List ℕ)) → Type 0
+abbrev pub AllWalk : (List ℕ → Bool) → List (List (List ℕ)) → Type 0
 AllWalk p xs = AllByRecursion (λ x. walk p 0 x ≡ Some 0) xs
 
-fill_inside : (p : List ℕ → Bool) (ps : List Piece) (xs : List (List (List ℕ))) → AllInner ps → AllWalk is_comma xs → walk p 1 (fill ps xs) ≡ Some 1
+pub fill_inside : (p : List ℕ → Bool) (ps : List Piece) (xs : List (List (List ℕ))) → AllInner ps → AllWalk is_comma xs → walk p 1 (fill ps xs) ≡ Some 1
 fill_inside p [] xs i h = refl
 fill_inside p (piece.Word w ∷ ps) xs i h = walk_next p 1 1 w (fill ps xs) (step_inside p 0 w i.0.0 i.0.1) ∙ fill_inside p ps xs i.1 h
 fill_inside p (piece.Hole ∷ ps) [] i h = fill_inside p ps [] i h
 fill_inside p (piece.Hole ∷ ps) (x ∷ xs) i h = walk_on p 1 1 x (fill ps xs) (deeper is_comma p 0 0 x h.0) ∙ fill_inside p ps xs i h.1
 
-more_inside : (p : List ℕ → Bool) (xs : List (List (List ℕ))) → AllWalk is_comma xs → walk p 1 (more_tokens xs) ≡ Some 0
+pub more_inside : (p : List ℕ → Bool) (xs : List (List (List ℕ))) → AllWalk is_comma xs → walk p 1 (more_tokens xs) ≡ Some 0
 more_inside p [] h = walk_next p 1 0 (codes ")") [] (step_close p 0)
 more_inside p (x ∷ xs) h =
     walk_next p 1 1 (codes ",") (x ++ more_tokens xs) (step_inside p 0 (codes ",") refl refl) ∙ walk_on p 1 1 x (more_tokens xs) (deeper is_comma p 0 0 x h.0) ∙ more_inside p xs h.1
@@ -65,7 +65,7 @@ words_walk p (piece.Word w ∷ ps) rest i h q =
     walk_next p 0 0 w (fill ps [] ++ rest) (step_over p 0 w i.0.0 i.0.1 (q w (0, omega arith, refl)))
     ∙ words_walk p ps rest i.1 h (λ v c. q v (suc c.0, omega arith, c.2))
 
-fill_outside : (ps : List Piece) (xs : List (List (List ℕ))) → AllInner ps → AllWalk is_comma xs → walk is_comma 0 (fill ps xs) ≡ Some 0
+pub fill_outside : (ps : List Piece) (xs : List (List (List ℕ))) → AllInner ps → AllWalk is_comma xs → walk is_comma 0 (fill ps xs) ≡ Some 0
 fill_outside [] xs i h = refl
 fill_outside (piece.Word w ∷ ps) xs i h = walk_next is_comma 0 0 w (fill ps xs) (step_over is_comma 0 w i.0.0 i.0.1 i.0.2) ∙ fill_outside ps xs i.1 h
 fill_outside (piece.Hole ∷ ps) [] i h = fill_outside ps [] i h
@@ -102,7 +102,7 @@ same_but_last (u ∷ us) (v ∷ vs) x e =
     ap (λ w. w ∷ us) h ∙ ap (λ ws. v ∷ ws) (same_but_last us vs x t)
 
 -- a list that begins with the words of a form begins with no parenthesis
-plain_front : (ps : List Piece) (rest us : List (List ℕ)) → AllInner ps → list_any is_hole_piece ps ≡ false → list_any is_word ps ≡ true → fill ps [] ++ rest ≡ codes "(" ∷ us → ⊥
+pub plain_front : (ps : List Piece) (rest us : List (List ℕ)) → AllInner ps → list_any is_hole_piece ps ≡ false → list_any is_word ps ≡ true → fill ps [] ++ rest ≡ codes "(" ∷ us → ⊥
 plain_front [] rest us i h w e = absurd (cc)
 plain_front (piece.Hole ∷ ps) rest us i h w e = absurd (cc)
 plain_front (piece.Word v ∷ ps) rest us i h w e = let q : v ≡ codes "(" = cc in absurd (let z : true ≡ false = ap is_open (sym q) ∙ i.0.0 in cc)
@@ -139,6 +139,12 @@ printed_plain hole n = go (hole && (n == 0))
     go true = refl
     go false = (decimal_plain n).1
 
+-- a printed variable has its colon behind its name
+pub printed_colon : (sig : Signature) (hole : Bool) (n s : ℕ) → before_colon (printed_name hole n ++ codes ":" ++ unwrap_or (slice_get sig.sorts s) []) ≡ Some (printed_name hole n)
+printed_colon sig hole n s =
+    let sort = unwrap_or (slice_get sig.sorts s) [] in
+    ap before_colon (append_assoc (printed_name hole n) (codes ":") sort) ∙ colon_at (printed_name hole n) sort (printed_plain hole n)
+
 module _ (sig : Signature) (hole : Bool) (vars : List Declared) (ops : (o : Operator) → Contains sig.ops o → IsOperator sig o) (print : IsPrintable sig)
     (own : HaveOwnWords sig) (sorts : AreDifferent sig.sorts) (different : AreDifferentOperators sig.ops) (none_of : AreNoWords sig vars) where
   abbrev T : Tree → List (List ℕ)
@@ -158,10 +164,10 @@ module _ (sig : Signature) (hole : Bool) (vars : List Declared) (ops : (o : Oper
   walks : (b s : ℕ) (ts : List (List ℕ)) (q : Named) → Spells sig vars hole b s ts q → walk is_comma 0 ts ≡ Some 0
   walks b s ts q k = spells_walk sig hole vars ops none_of b s ts q k 0
 
-  balanced : (t : Tree) → IsWellSorted sig t → walk is_comma 0 (T t) ≡ Some 0
+  pub balanced : (t : Tree) → IsWellSorted sig t → walk is_comma 0 (T t) ≡ Some 0
   balanced t w = walks 1 (sort_of t) (T t) (named_term hole t) ((spelled sig hole ops print t w).spells vars 1 (omega arith))
 
-  all_balanced : (ts : Trees) (ss : List ℕ) → HaveSorts sig ts ss → AllWalk is_comma (Ts ts)
+  pub all_balanced : (ts : Trees) (ss : List ℕ) → HaveSorts sig ts ss → AllWalk is_comma (Ts ts)
   all_balanced none ss h = tt
   all_balanced (more t ts) [] h = absurd h
   all_balanced (more t ts) (s ∷ ss) h = (balanced t h.1, all_balanced ts ss h.2)
@@ -178,7 +184,7 @@ module _ (sig : Signature) (hole : Bool) (vars : List Declared) (ops : (o : Oper
   token_is n s = append_assoc (printed_name hole n) (codes ":") (unwrap_or (slice_get sig.sorts s) [])
 
   token_colon : (n s : ℕ) → before_colon (token n s) ≡ Some (printed_name hole n)
-  token_colon n s = ap before_colon (token_is n s) ∙ colon_at (printed_name hole n) (unwrap_or (slice_get sig.sorts s) []) (printed_plain hole n)
+  token_colon n s = printed_colon sig hole n s
 
   quiet_walk : (p : List ℕ → Bool) → IsQuiet p → (t : Tree) → IsWellSorted sig t → walk p 0 (T t) ≡ Some 0
   quiet_walk p q (Var n s) w =
@@ -627,8 +633,17 @@ mutual
       let y : named_terms hole ts ≡ named_terms hole us = cc in
       ap (λ k. more k ts) (same_term hole t u a.0 b.0 x) ∙ ap (more u) (same_terms hole ts us a.1 b.1 y)
 
-nothing_declared : (sig : Signature) → AreNoWords sig []
+pub nothing_declared : (sig : Signature) → AreNoWords sig []
 nothing_declared sig d c = absurd (omega (arith, c.1))
+
+-- terms of the same tokens are the same
+pub same_tokens : (sig : Signature) (hole : Bool) (t u : Tree) → IsReadBack sig → IsWellSorted sig t → IsWellSorted sig u → IsNumbered t → IsNumbered u
+    → tokens_of_term sig hole t ≡ tokens_of_term sig hole u → t ≡ u
+same_tokens sig hole t u ok h k a b e =
+    let P : List (List ℕ) → Type 0 = λ us. Spells sig [] hole 1 (sort_of u) us (named_term hole u) in
+    let spells = subst P (sym e) ((spelled sig hole ok.operators ok.printable u k).spells [] 1 (omega arith)) in
+    let once = back sig hole [] ok.operators ok.printable ok.words ok.sorts ok.different (nothing_declared sig) t h 1 (sort_of u) (named_term hole u) spells in
+    same_term hole t u a b (sym once.1)
 
 pub printed_once : (sig : Signature) (hole : Bool) (t u : Tree) → IsReadBack sig → IsWellSorted sig t → IsWellSorted sig u → IsNumbered t → IsNumbered u
     → text_of_term sig hole t ≡ text_of_term sig hole u → t ≡ u
@@ -636,5 +651,4 @@ printed_once sig hole t u ok h k a b e =
     let printed = spelled sig hole ok.operators ok.printable u k in
     let P : List ℕ → Type 0 = λ text. AreTokens text (tokens_of_term sig hole u) in
     let cut = subst P (sym e) (prints_tokens _ (tokens_of_term sig hole u) printed.prints) in
-    let once = spelled_once sig [] hole t (tokens_of_term sig hole u) 1 (sort_of u) (named_term hole u) ok (nothing_declared sig) h cut (printed.spells [] 1 (omega arith)) in
-    same_term hole t u a b (sym once.1)
+    same_tokens sig hole t u ok h k a b (sym (cut_so sig hole t (tokens_of_term sig hole u) ok h cut))

@@ -5,7 +5,7 @@ use Rattle.circ_term.specs.Tree.{Tree, Trees, Var, App, none, more}
 use Rattle.circ_form.specs.declared.forms.Piece.{Piece}
 use Rattle.circ_form.specs.declared.forms.Piece.TheVariants.{Hole, Word}
 use Rattle.circ_theory.specs.Signature.{Signature, Operator}
-use Rattle.circ_theory.specs.Theory.{Declared}
+use Rattle.circ_theory.specs.Theory.{Declared, Pair, IsWellSortedPair}
 use Rattle.circ_theory.specs.Names.{AreDifferent}
 use Rattle.circ_theory.specs.Operators.{IsOperator, AreDifferentOperators}
 use Rattle.circ_mixfix.specs.Printed.{IsPrintable}
@@ -44,3 +44,9 @@ abbrev mutual
   pub AreAllNumbered : Trees → Type 0
   AreAllNumbered none = Unit {0}
   AreAllNumbered (more t ts) = IsNumbered t × AreAllNumbered ts
+
+-- a well-sorted pair of such terms
+pub record IsNumberedPair (sig : Signature) (p : Pair) : Type 0 where
+  pub sorted : IsWellSortedPair sig p
+  pub left : IsNumbered p.left
+  pub right : IsNumbered p.right
