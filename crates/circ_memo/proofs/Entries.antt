@@ -1,7 +1,10 @@
 -- What is kept, by number.
-use Rattle.std.proofs.Common.{◌≡◌, ℕ, ◌<◌, ◌≤◌, zero, suc, ◌⊎◌, inl, inr, List, [], ◌∷◌, ◌++◌, length, get_or, Option, Some, None, refl, ap, ◌∙◌, arith}
+use Rattle.std.proofs.Common.{◌≡◌, ℕ, ◌<◌, ◌≤◌, zero, suc, ◌⊎◌, inl, inr, List, [], ◌∷◌, ◌++◌, length, map, get_or, Option, Some, None, refl, ap, ◌∙◌, arith}
 use Rattle.std.specs.Prelude.{slice_set}
+use Rattle.std.proofs.lemmas.List.{length-map}
 use Rattle.circ_memo.specs.Keeping.{kept_at, HasSame, Puts}
+use Rattle.circ_memo.specs.Packing.{unpacked}
+use Rattle.circ_memo.specs.declared.packed.Packed.{Packed}
 use Rattle.circ_memo.specs.declared.parts.Entry.{Entry}
 
 pub kept_read : (os : List (Option Entry)) (n : ℕ) → get_or os n None ≡ kept_at os n
@@ -48,3 +51,27 @@ puts_on n e a b c g h = record { there = h.there; others = λ m. go m (h.others 
     go : (m : ℕ) → (m ≡ n) ⊎ (kept_at c m ≡ kept_at b m) → (m ≡ n) ⊎ (kept_at c m ≡ kept_at a m)
     go m (inl x) = inl x
     go m (inr x) = inr (x ∙ g m)
+
+-- ---- in 24 bytes each
+
+pub kept_packed : (ps : List Packed) (n : ℕ) (p : Packed) → p ≡ get_or ps n p → n < length ps → unpacked p ≡ kept_at (map unpacked ps) n
+kept_packed [] n p e h = absurd (omega (arith, h))
+kept_packed (q ∷ ps) zero p e h = ap unpacked e
+kept_packed (q ∷ ps) (suc n) p e h = kept_packed ps n p e (omega (arith, h))
+
+map_push : (ps : List Packed) (p : Packed) → map unpacked (ps ++ p ∷ []) ≡ map unpacked ps ++ unpacked p ∷ []
+map_push [] p = refl
+map_push (q ∷ ps) p = ap (λ os. unpacked q ∷ os) (map_push ps p)
+
+-- room is made for one more
+pub same_absent : (ps : List Packed) (p : Packed) → unpacked p ≡ None → HasSame (map unpacked ps) (map unpacked (ps ++ p ∷ []))
+same_absent ps p e n = ap (λ os. kept_at os n) (map_push ps p ∙ ap (λ o. map unpacked ps ++ o ∷ []) e) ∙ same_push (map unpacked ps) n
+
+map_set : (ps : List Packed) (n : ℕ) (p : Packed) → map unpacked (slice_set ps n p) ≡ slice_set (map unpacked ps) n (unpacked p)
+map_set [] n p = refl
+map_set (q ∷ ps) zero p = refl
+map_set (q ∷ ps) (suc n) p = ap (λ os. unpacked q ∷ os) (map_set ps n p)
+
+pub puts_packed : (ps : List Packed) (n : ℕ) (p : Packed) (e : Entry) → unpacked p ≡ Some e → n < length ps
+    → Puts n e (map unpacked ps) (map unpacked (slice_set ps n p))
+puts_packed ps n p e u h = rw (map_set ps n p, u) (puts_set (map unpacked ps) n e (omega (arith, h, length-map ps unpacked)))

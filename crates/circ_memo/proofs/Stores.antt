@@ -17,30 +17,30 @@ use Rattle.circ_memo.specs.declared.store.Store.{Store}
 use Rattle.circ_memo.proofs.Forms.{kept_later}
 use Rattle.circ_memo.proofs.Telling.{stays_self, stays_on, are_linked_later, are_linked_stays}
 
-pub store_later : (m : Means) (a b : Store) → Grows a.nodes b.nodes → b.entries.items ≡ a.entries.items → IsStore m a → IsStore m b
-store_later m a b g e h = record { ready = ready_later a.nodes b.nodes m g h.ready; kept = rw e (kept_later (due_by m) a.nodes b.nodes g a.entries.items h.kept) }
+pub store_later : (m : Means) (a b : Store) → Grows a.nodes b.nodes → b.entries ≡ a.entries → IsStore m a → IsStore m b
+store_later m a b g e h = record { ready = ready_later a.nodes b.nodes m g h.ready; kept = rw e (kept_later (due_by m) a.nodes b.nodes g a.entries h.kept) }
 
 -- more is kept, and no terms were added
-pub store_kept : (m : Means) (a b : Store) → b.nodes ≡ a.nodes → AreKept (due_by m) b.nodes b.entries.items → IsStore m a → IsStore m b
+pub store_kept : (m : Means) (a b : Store) → b.nodes ≡ a.nodes → AreKept (due_by m) b.nodes b.entries → IsStore m a → IsStore m b
 store_kept m a b e k h = record { ready = rw e h.ready; kept = k }
 
 pub extends_self : (a : Store) → Extends a a
-extends_self a = record { grows = grows_self a.nodes; stays = stays_self a.entries.items }
+extends_self a = record { grows = grows_self a.nodes; stays = stays_self a.entries }
 
 pub extends_on : (a b c : Store) → Extends a b → Extends b c → Extends a c
 extends_on a b c g h = record {
   grows = grows_more a.nodes b.nodes c.nodes g.grows h.grows;
-  stays = stays_on a.entries.items b.entries.items c.entries.items g.stays h.stays;
+  stays = stays_on a.entries b.entries c.entries g.stays h.stays;
 }
 
 -- terms are added, or more is kept
-pub extends_by : (a b : Store) → Grows a.nodes b.nodes → Stays a.entries.items b.entries.items → Extends a b
+pub extends_by : (a b : Store) → Grows a.nodes b.nodes → Stays a.entries b.entries → Extends a b
 extends_by a b g h = record { grows = g; stays = h }
 
 -- steps stay linked
-pub are_linked_extends : (a b : Store) → Extends a b → (n : ℕ) (ps : List Step) (m : ℕ) → AreLinked a.nodes a.entries.items n ps m → AreLinked b.nodes b.entries.items n ps m
+pub are_linked_extends : (a b : Store) → Extends a b → (n : ℕ) (ps : List Step) (m : ℕ) → AreLinked a.nodes a.entries n ps m → AreLinked b.nodes b.entries n ps m
 are_linked_extends a b e n ps m h =
-    are_linked_stays a.entries.items b.entries.items e.stays b.nodes n ps m (are_linked_later a.entries.items a.nodes b.nodes e.grows n ps m h)
+    are_linked_stays a.entries b.entries e.stays b.nodes n ps m (are_linked_later a.entries a.nodes b.nodes e.grows n ps m h)
 
 -- the depth of the term of a number, for measures
 abbrev pub depth_named : List Tree → ℕ → ℕ

@@ -16,7 +16,7 @@ rewriting m = record { theory = m.theory.now; rules = m.rules.items; assumptions
 -- the means are right for the terms, and so is all that is kept
 pub record IsStore (m : Means) (s : Store) : Type 0 where
   pub ready : IsReady s.nodes m
-  pub kept : AreKept (due_by m) s.nodes s.entries.items
+  pub kept : AreKept (due_by m) s.nodes s.entries
 
 -- the store is right, and so are the terms that were built of its numbers
 pub record IsAtWork (m : Means) (s : Store) (terms : List (ℕ × Tree)) : Type 0 where
@@ -26,4 +26,4 @@ pub record IsAtWork (m : Means) (s : Store) (terms : List (ℕ × Tree)) : Type 
 -- terms may have been added, and more may be kept
 pub record Extends (old new : Store) : Type 0 where
   pub grows : Grows old.nodes new.nodes
-  pub stays : Stays old.entries.items new.entries.items
+  pub stays : Stays old.entries new.entries

@@ -20,13 +20,13 @@ pub(crate) fn keep_settled(store: &mut Store, here: u32, way: Way) -> Result<Ent
     requires ready { way.ready < length store.old.nodes }
     ensures nodes { store.new.nodes ≡ store.old.nodes }
     ensures kept { (due : Tree → Option Replacement) (b : Bounds) (t u : Tree)
-        → AreKept due store.old.nodes store.old.entries.items
+        → AreKept due store.old.nodes store.old.entries
         → IsNamed store.old.nodes here t → IsWay due store.old.nodes b t way u
         → due u ≡ None
-        → IsWayKept store.old.nodes store.old.entries.items here t way.ready way.count
-        → AreKept due store.new.nodes store.new.entries.items
-        × Stays store.old.entries.items store.new.entries.items }
-    ensures there { IfOk result (λ e. IsNumberKept store.new.entries.items here e.count) }
+        → IsWayKept store.old.nodes store.old.entries here t way.ready way.count
+        → AreKept due store.new.nodes store.new.entries
+        × Stays store.old.entries store.new.entries }
+    ensures there { IfOk result (λ e. IsNumberKept store.new.entries here e.count) }
     ensures form { (due : Tree → Option Replacement) (b : Bounds) (t u : Tree)
         → IsWay due store.old.nodes b t way u → due u ≡ None
         → IfOk result (IsToKeep due store.new.nodes b t) }
@@ -63,20 +63,20 @@ pub(crate) fn keep_steps(
     requires count { passed_count steps.items + last.count < 2 ^ 64 }
     ensures nodes { store.new.nodes ≡ store.old.nodes }
     ensures kept { (due : Tree → Option Replacement) (b : Bounds) (t u : Tree) (n m : ℕ)
-        → AreKept due store.old.nodes store.old.entries.items
+        → AreKept due store.old.nodes store.old.entries
         → ArePassed due store.old.nodes b t steps.items u
         → IsForm due store.old.nodes u last → IsInBounds b last
-        → AreLinked store.old.nodes store.old.entries.items n steps.items m
-        → IsNumberKept store.old.entries.items m last.count
-        → AreKept due store.new.nodes store.new.entries.items
-        × Stays store.old.entries.items store.new.entries.items }
+        → AreLinked store.old.nodes store.old.entries n steps.items m
+        → IsNumberKept store.old.entries m last.count
+        → AreKept due store.new.nodes store.new.entries
+        × Stays store.old.entries store.new.entries }
     ensures there { (due : Tree → Option Replacement) (b : Bounds) (t u : Tree) (n m : ℕ)
-        → AreKept due store.old.nodes store.old.entries.items
+        → AreKept due store.old.nodes store.old.entries
         → ArePassed due store.old.nodes b t steps.items u
         → IsForm due store.old.nodes u last → IsInBounds b last
-        → AreLinked store.old.nodes store.old.entries.items n steps.items m
-        → IsNumberKept store.old.entries.items m last.count
-        → IfOk result (λ e. IsNumberKept store.new.entries.items n e.count) }
+        → AreLinked store.old.nodes store.old.entries n steps.items m
+        → IsNumberKept store.old.entries m last.count
+        → IfOk result (λ e. IsNumberKept store.new.entries n e.count) }
     ensures form { (due : Tree → Option Replacement) (b : Bounds) (t u : Tree)
         → ArePassed due store.old.nodes b t steps.items u
         → IsForm due store.old.nodes u last → IsInBounds b last
@@ -97,14 +97,14 @@ fn keep_step(store: &mut Store, step: Step, last: Entry) -> Result<Entry, AllocE
     requires count { step.way.count + 1 + last.count < 2 ^ 64 }
     ensures nodes { store.new.nodes ≡ store.old.nodes }
     ensures kept { (due : Tree → Option Replacement) (b : Bounds) (t u : Tree)
-        → AreKept due store.old.nodes store.old.entries.items
+        → AreKept due store.old.nodes store.old.entries
         → IsPassed due store.old.nodes b t step u
         → IsForm due store.old.nodes u last
-        → IsLinked store.old.nodes store.old.entries.items step.here step
-        → IsNumberKept store.old.entries.items step.next last.count
-        → AreKept due store.new.nodes store.new.entries.items
-        × Stays store.old.entries.items store.new.entries.items }
-    ensures there { IfOk result (λ e. IsNumberKept store.new.entries.items step.here e.count) }
+        → IsLinked store.old.nodes store.old.entries step.here step
+        → IsNumberKept store.old.entries step.next last.count
+        → AreKept due store.new.nodes store.new.entries
+        × Stays store.old.entries store.new.entries }
+    ensures there { IfOk result (λ e. IsNumberKept store.new.entries step.here e.count) }
     ensures form { (due : Tree → Option Replacement) (b : Bounds) (t u : Tree)
         → IsPassed due store.old.nodes b t step u
         → IsForm due store.old.nodes u last → IsInBounds b last

@@ -11,6 +11,7 @@ mod keeping;
 mod listing;
 mod memo;
 mod normalising;
+mod packed;
 mod parts;
 mod passing;
 mod settling;

@@ -30,7 +30,7 @@ pub(crate) fn list(
     traces: &mut Vec<Trace>,
 ) -> Result<(), AllocError>
     requires store { IsStore means.now store.now }
-    requires kept { (c : ℕ) × IsNumberKept store.now.entries.items number c }
+    requires kept { (c : ℕ) × IsNumberKept store.now.entries number c }
     requires built { AreBuilt store.now.nodes terms.old }
     ensures built { AreBuilt store.now.nodes terms.new }
     ensures path { OnOk result (path.new.items ≡ path.old.items) }
@@ -60,7 +60,7 @@ fn list_step(
     traces: &mut Vec<Trace>,
 ) -> Result<Option<u32>, AllocError>
     requires store { IsStore means.now store.now }
-    requires kept { (c : ℕ) × IsNumberKept store.now.entries.items here c }
+    requires kept { (c : ℕ) × IsNumberKept store.now.entries here c }
     requires built { AreBuilt store.now.nodes terms.old }
     ensures built { AreBuilt store.now.nodes terms.new }
     ensures path { OnOk result (path.new.items ≡ path.old.items) }
@@ -68,8 +68,8 @@ fn list_step(
         (ListsStep (due_by means.now) store.now.nodes path.old.items t
         (plain_traces traces.old.items) (plain_traces traces.new.items)) }
     ensures next { IfOk result (λ o. IfSome o (λ m. (c : ℕ)
-        × IsNumberKept store.now.entries.items m c
-        × (c < count_at store.now.entries.items here))) }
+        × IsNumberKept store.now.entries m c
+        × (c < count_at store.now.entries here))) }
 {
     let Some(entry) = store.entry(here) else {
         unreachable!();
@@ -107,8 +107,8 @@ fn list_args(
 ) -> Result<(), AllocError>
     requires store { IsStore means.now store.now }
     requires kept { (t : Tree) × IsNamed store.now.nodes here t
-        × HasKeptArgs store.now.nodes store.now.entries.items t
-        (count_at store.now.entries.items here) }
+        × HasKeptArgs store.now.nodes store.now.entries t
+        (count_at store.now.entries here) }
     requires built { AreBuilt store.now.nodes terms.old }
     ensures built { AreBuilt store.now.nodes terms.new }
     ensures path { OnOk result (path.new.items ≡ path.old.items) }
@@ -138,7 +138,7 @@ fn list_arg(
     traces: &mut Vec<Trace>,
 ) -> Result<(), AllocError>
     requires store { IsStore means.now store.now }
-    requires kept { (c : ℕ) × IsNumberKept store.now.entries.items arg c }
+    requires kept { (c : ℕ) × IsNumberKept store.now.entries arg c }
     requires built { AreBuilt store.now.nodes terms.old }
     ensures built { AreBuilt store.now.nodes terms.new }
     ensures path { OnOk result (path.new.items ≡ path.old.items) }

@@ -122,7 +122,7 @@ impl<'a> Memo<'a> {
         ensures forgotten { OnErr result (self.new.assumptions ≡ []) }
     {
         let work = &mut *self.work;
-        work.store.entries.truncate(0);
+        work.store.entries.clear();
         work.means.assume(&mut work.store.nodes, assumptions)
     }
 
@@ -173,7 +173,7 @@ fn settle_term(
     ensures store { IsStore means.now store.new }
     ensures grows { Grows store.old.nodes store.new.nodes }
     ensures less { budget.new ≤ budget.old }
-    ensures exact { AnswersKept (due_by means.now) store.new.nodes store.new.entries.items term.now
+    ensures exact { AnswersKept (due_by means.now) store.new.nodes store.new.entries term.now
         result budget.new (run (due_by means.now) budget.old term.now []) }
 {
     let number = store.nodes.intern(term)?;
@@ -197,7 +197,7 @@ fn settle_number(
     ensures grows { Grows store.old.nodes store.new.nodes }
     ensures less { budget.new ≤ budget.old }
     ensures exact { (t : Tree) → IsNamed store.old.nodes number t
-        → AnswersKept (due_by means.now) store.new.nodes store.new.entries.items t
+        → AnswersKept (due_by means.now) store.new.nodes store.new.entries t
         result budget.new (run (due_by means.now) budget.old t []) }
 {
     store.nodes.known_at(number);
@@ -221,7 +221,7 @@ fn listed(
     entry: Entry,
 ) -> Result<Normal, AllocError>
     requires store { IsStore means.now store.now }
-    requires kept { IsNumberKept store.now.entries.items number entry.count }
+    requires kept { IsNumberKept store.now.entries number entry.count }
     requires value { entry.value < length store.now.nodes }
     requires built { AreBuilt store.now.nodes terms.old }
     ensures built { AreBuilt store.now.nodes terms.new }

@@ -32,7 +32,7 @@ pub(crate) fn settle(
     ensures less { budget.new ≤ budget.old }
     ensures settles { (t : Tree) → IsNamed store.old.nodes number t
         → Settles (due_by means.now) store.new.nodes bounds budget.old budget.new t result }
-    ensures there { IfOk result (λ e. IsNumberKept store.new.entries.items number e.count) }
+    ensures there { IfOk result (λ e. IsNumberKept store.new.entries number e.count) }
 {
     let mut steps = Vec::new(store.alloc);
     let mut here = number;
@@ -65,7 +65,7 @@ fn turn(
     ensures less { budget.new ≤ budget.old }
     ensures turns { (t : Tree) → IsNamed store.old.nodes here t
         → Turns (due_by means.now) store.new.nodes bounds budget.old budget.new t result }
-    ensures kept { IfOk result (IsTurnKept store.new.nodes store.new.entries.items here) }
+    ensures kept { IfOk result (IsTurnKept store.new.nodes store.new.entries here) }
 {
     if let Some(entry) = store.fitting(here, bounds, *budget) {
         *budget -= entry.count;
@@ -100,7 +100,7 @@ fn settle_args(
     ensures finds { (t : Tree) → IsNamed store.old.nodes here t
         → FindsWay (due_by means.now) store.new.nodes bounds budget.old budget.new t result }
     ensures kept { (t : Tree) → IsNamed store.old.nodes here t → IfOk result
-        (λ w. IsWayKept store.new.nodes store.new.entries.items here t w.ready w.count) }
+        (λ w. IsWayKept store.new.nodes store.new.entries here t w.ready w.count) }
 {
     let Some(mut passing) = Passing::begin(store.alloc, &store.nodes, here)? else {
         return Ok(Way {
@@ -143,9 +143,9 @@ fn settle_arg(
         → Passes (due_by means.now) store.new.nodes bounds (budget.old + passing.old.count)
         budget.new t (place + 1) passing.new result }
     ensures kept { (t : Tree)
-        → HasPassed store.old.nodes store.old.entries.items t place passing.old
+        → HasPassed store.old.nodes store.old.entries t place passing.old
         → OnOk result
-        (HasPassed store.new.nodes store.new.entries.items t (place + 1) passing.new) }
+        (HasPassed store.new.nodes store.new.entries t (place + 1) passing.new) }
     ensures len { length passing.new.args.items ≡ length passing.old.args.items }
 {
     let arg = passing.arg(place);

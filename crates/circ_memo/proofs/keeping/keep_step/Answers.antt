@@ -55,12 +55,12 @@ is_next c due b t u es count p kept less =
     (p.replacement, p.is_due, subst (λ x. IsNamed c.args.store.now.nodes c.args.step.next x) (sym p.new) p.next, c.args.last.count, kept, less)
 
 -- what is kept, once the entry of the term with normal arguments is put
-put_after : (c : After-max-4) (due : Tree → Option Replacement) (b : Bounds) (t u : Tree) (es : List (Option Entry)) → Puts c.args.step.way.ready (after c) c.args.store.now.entries.items es
-    → AreKept due c.args.store.now.nodes c.args.store.now.entries.items → IsPassed due c.args.store.now.nodes b t c.args.step u
-    → IsForm due c.args.store.now.nodes u c.args.last → IsNumberKept c.args.store.now.entries.items c.args.step.next c.args.last.count
-    → AreKept due c.args.store.now.nodes es × Stays c.args.store.now.entries.items es
+put_after : (c : After-max-4) (due : Tree → Option Replacement) (b : Bounds) (t u : Tree) (es : List (Option Entry)) → Puts c.args.step.way.ready (after c) c.args.store.now.entries es
+    → AreKept due c.args.store.now.nodes c.args.store.now.entries → IsPassed due c.args.store.now.nodes b t c.args.step u
+    → IsForm due c.args.store.now.nodes u c.args.last → IsNumberKept c.args.store.now.entries c.args.step.next c.args.last.count
+    → AreKept due c.args.store.now.nodes es × Stays c.args.store.now.entries es
 put_after c due b t u es put kept p f next =
-    kept_put due c.args.store.now.nodes c.args.step.way.ready p.ready (after c) c.args.store.now.entries.items es put p.way.there (is_after c due b t u p f)
+    kept_put due c.args.store.now.nodes c.args.step.way.ready p.ready (after c) c.args.store.now.entries es put p.way.there (is_after c due b t u p f)
     (record {
       ready = p.ready;
       known = [];
@@ -69,7 +69,7 @@ put_after c due b t u es put kept p f next =
       there = p.way.there;
       readies = readies_self due p.ready p.way.readies.settled;
       way = inl refl;
-      next = is_next c due b t u c.args.store.now.entries.items (1 + c.args.last.count) p next (omega arith);
+      next = is_next c due b t u c.args.store.now.entries (1 + c.args.last.count) p next (omega arith);
     }) kept
 
 -- and that of the term itself

@@ -34,18 +34,18 @@ keep_step-requires-clause-count c =
     omega (arith, c.requires.count, c.loop-step.invariant.count, counted (goal.at.keep_step-requires-clause-count c).In-Some)
 
 -- what is kept, and how the last step is linked to the others and to what it leads to
-linked : (c : In-Some) (due : Tree → Option Replacement) (b : Bounds) (t u : Tree) (n m : ℕ) → AreKept due c.args.store.now.nodes c.args.store.now.entries.items
+linked : (c : In-Some) (due : Tree → Option Replacement) (b : Bounds) (t u : Tree) (n m : ℕ) → AreKept due c.args.store.now.nodes c.args.store.now.entries
     → ArePassed due c.args.store.now.nodes b t c.args.steps.items u → IsForm due c.args.store.now.nodes u c.args.last → IsInBounds b c.args.last
-    → AreLinked c.args.store.now.nodes c.args.store.now.entries.items n c.args.steps.items m → IsNumberKept c.args.store.now.entries.items m c.args.last.count
-    → AreKept due c.loop-step.store.nodes c.loop-step.store.entries.items × Stays c.args.store.now.entries.items c.loop-step.store.entries.items
-    × AreLinked c.loop-step.store.nodes c.loop-step.store.entries.items n c.pop.new.self.items c.in-Some.step.here
-    × IsLinked c.loop-step.store.nodes c.loop-step.store.entries.items c.in-Some.step.here c.in-Some.step
-    × IsNumberKept c.loop-step.store.entries.items c.in-Some.step.next c.loop-step.last.count
+    → AreLinked c.args.store.now.nodes c.args.store.now.entries n c.args.steps.items m → IsNumberKept c.args.store.now.entries m c.args.last.count
+    → AreKept due c.loop-step.store.nodes c.loop-step.store.entries × Stays c.args.store.now.entries c.loop-step.store.entries
+    × AreLinked c.loop-step.store.nodes c.loop-step.store.entries n c.pop.new.self.items c.in-Some.step.here
+    × IsLinked c.loop-step.store.nodes c.loop-step.store.entries c.in-Some.step.here c.in-Some.step
+    × IsNumberKept c.loop-step.store.entries c.in-Some.step.next c.loop-step.last.count
 linked c due b t u n m kept p f w l next =
     let now = c.loop-step.invariant.kept due b t u n m kept p f w l next in
     let back =
-    linked_back c.loop-step.store.nodes c.loop-step.store.entries.items n c.pop.new.self.items now.0 c.in-Some.step (rw c.in-Some.ensures.items at now.3) in
-    (now.1, now.2, back.0, back.1, subst (λ k. IsNumberKept c.loop-step.store.entries.items k c.loop-step.last.count) (sym back.2) now.4)
+    linked_back c.loop-step.store.nodes c.loop-step.store.entries n c.pop.new.self.items now.0 c.in-Some.step (rw c.in-Some.ensures.items at now.3) in
+    (now.1, now.2, back.0, back.1, subst (λ k. IsNumberKept c.loop-step.store.entries k c.loop-step.last.count) (sym back.2) now.4)
 
 pub returns-in_err-last-clause-kept : goal.returns-in_err-last-clause-kept
 returns-in_err-last-clause-kept c = λ due b t u n m kept p f w l next.
@@ -70,7 +70,7 @@ loop-step-preserved c =
             c.in-Some.step.here,
             now.0,
             stays_on _ _ _ y.1 now.1,
-            subst (λ ns. AreLinked ns c.keep_step.new.store.entries.items n c.pop.new.self.items c.in-Some.step.here) same
+            subst (λ ns. AreLinked ns c.keep_step.new.store.entries n c.pop.new.self.items c.in-Some.step.here) same
                 (are_linked_stays _ _ now.1 c.loop-step.store.nodes n c.pop.new.self.items c.in-Some.step.here y.2),
             c.in_ok-last.ensures.there,
           );
@@ -90,13 +90,13 @@ returns-clause-there c = λ due b t u n m kept p f w l next.
     let now = c.loop-step.invariant.kept due b t u n m kept p f w l next in
     let empty : c.loop-step.steps.items ≡ [] = search rules in
     let same : n ≡ now.0 = rw empty at now.3 in
-    subst (λ k. IsNumberKept c.loop-step.store.entries.items k c.loop-step.last.count) (sym same) now.4
+    subst (λ k. IsNumberKept c.loop-step.store.entries k c.loop-step.last.count) (sym same) now.4
 
 pub loop-step-init : goal.loop-step-init
 loop-step-init c = record {
   nodes = refl;
   there = c.requires.there;
   count = refl;
-  kept = λ due b t u n m kept p f w l next. (m, kept, stays_self c.args.store.now.entries.items, l, next);
+  kept = λ due b t u n m kept p f w l next. (m, kept, stays_self c.args.store.now.entries, l, next);
   form = λ due b t u p f w. (u, p, f, w);
 }

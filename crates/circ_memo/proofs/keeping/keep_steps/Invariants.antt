@@ -13,11 +13,11 @@ invariant-loop-step l = record {
   there : AllByRecursion (IsStepIn l.store.nodes) l.steps.items;
   count : passed_count l.steps.items + l.last.count ≡ passed_count l.initial.steps.items + l.initial.last.count;
   kept :
-      (due : Tree → Option Replacement) (b : Bounds) (t u : Tree) (n m : ℕ) → AreKept due l.initial.store.nodes l.initial.store.entries.items
+      (due : Tree → Option Replacement) (b : Bounds) (t u : Tree) (n m : ℕ) → AreKept due l.initial.store.nodes l.initial.store.entries
       → ArePassed due l.initial.store.nodes b t l.initial.steps.items u → IsForm due l.initial.store.nodes u l.initial.last → IsInBounds b l.initial.last
-      → AreLinked l.initial.store.nodes l.initial.store.entries.items n l.initial.steps.items m → IsNumberKept l.initial.store.entries.items m l.initial.last.count
-      → (k : ℕ) × AreKept due l.store.nodes l.store.entries.items × Stays l.initial.store.entries.items l.store.entries.items
-      × AreLinked l.store.nodes l.store.entries.items n l.steps.items k × IsNumberKept l.store.entries.items k l.last.count;
+      → AreLinked l.initial.store.nodes l.initial.store.entries n l.initial.steps.items m → IsNumberKept l.initial.store.entries m l.initial.last.count
+      → (k : ℕ) × AreKept due l.store.nodes l.store.entries × Stays l.initial.store.entries l.store.entries
+      × AreLinked l.store.nodes l.store.entries n l.steps.items k × IsNumberKept l.store.entries k l.last.count;
   form :
       (due : Tree → Option Replacement) (b : Bounds) (t u : Tree)
       → ArePassed due l.initial.store.nodes b t l.initial.steps.items u → IsForm due l.initial.store.nodes u l.initial.last → IsInBounds b l.initial.last

@@ -46,7 +46,7 @@ list-loop-next-preserved t c =
         step.1,
         lists_on due c.args.path.now.items w.0 w.1 step.0 (plain_traces c.args.traces.now.items) (plain_traces c.loop-next.traces.items) (plain_traces c.list_step.new.traces.items) w.4 step.2,
       );
-      fewer = inr (fewer c.args.store.now.entries.items c.in-Some.next c.loop-next.here c.args.number next.0 (number_count c.args.store.now.entries.items c.in-Some.next next.0 next.1) next.2 i.fewer);
+      fewer = inr (fewer c.args.store.now.entries c.in-Some.next c.loop-next.here c.args.number next.0 (number_count c.args.store.now.entries c.in-Some.next next.0 next.1) next.2 i.fewer);
     }
 
 pub list_arg-returns-clause-lists : goal.list_arg-returns-clause-lists
@@ -67,7 +67,7 @@ list_args-overflow_cast-place t c =
 pub list_args-list_arg-requires : goal.list_args-list_arg-requires
 list_args-list_arg-requires t c =
     let nodes = c.args.store.now.nodes in
-    let es = c.args.store.now.entries.items in
+    let es = c.args.store.now.entries in
     let k = c.requires.kept in
     let shape = c.in-Application.ensures.shape k.0 k.1 in
     let at = slice_get-get_or c.in-Application.args.now c.loop-place.place 0 c.loop-place-test.true in (
@@ -130,7 +130,7 @@ pub list_step-returns-in_default-next-clause-lists : goal.list_step-returns-in_d
 list_step-returns-in_default-next-clause-lists t c = λ u n.
     let due = due_by c.args.means.now in
     let nodes = c.args.store.now.nodes in
-    let es = c.args.store.now.entries.items in
+    let es = c.args.store.now.entries in
     let kept = c.requires.store.kept c.args.here c.in-Some.entry (sym c.entry.ensures ∙ c.in-Some.is) in
     let told = kept.told in
     let none = subst (λ o. IsNextKept due nodes es told.ready c.in-Some.entry.count o) c.in_default-next.is told.next in
@@ -156,14 +156,14 @@ pub list_step-list_root-requires-clause-there : goal.list_step-list_root-require
 list_step-list_root-requires-clause-there t c =
     let kept = c.requires.store.kept c.args.here c.in-Some.entry (sym c.entry.ensures ∙ c.in-Some.is) in
     let next =
-    subst (λ o. IsNextKept (due_by c.args.means.now) c.args.store.now.nodes c.args.store.now.entries.items kept.told.ready c.in-Some.entry.count o) c.in-Some-next.is kept.told.next in
+    subst (λ o. IsNextKept (due_by c.args.means.now) c.args.store.now.nodes c.args.store.now.entries kept.told.ready c.in-Some.entry.count o) c.in-Some-next.is kept.told.next in
     named_below c.args.store.now.nodes c.in-Some-next.next next.0.new next.2
 
 pub list_step-returns-clause-lists : goal.list_step-returns-clause-lists
 list_step-returns-clause-lists t c = λ u n.
     let due = due_by c.args.means.now in
     let nodes = c.args.store.now.nodes in
-    let es = c.args.store.now.entries.items in
+    let es = c.args.store.now.entries in
     let kept = c.requires.store.kept c.args.here c.in-Some.entry (sym c.entry.ensures ∙ c.in-Some.is) in
     let told = kept.told in
     let next = subst (λ o. IsNextKept due nodes es told.ready c.in-Some.entry.count o) c.in-Some-next.is told.next in

@@ -152,7 +152,7 @@ settle_args-loop-place-init t c =
     record {
       store = c.requires.store;
       extends = extends_self c.args.store.now;
-      passing = (i.0, i.1, begins.0, rw c.in-Some.is at (c.in_ok-passing.ensures.kept c.args.store.now.entries.items i.0 i.1));
+      passing = (i.0, i.1, begins.0, rw c.in-Some.is at (c.in_ok-passing.ensures.kept c.args.store.now.entries i.0 i.1));
       len = sym c.len-len.ensures.value;
       count = omega (arith, begins.1);
     }
@@ -216,10 +216,10 @@ settled t c =
     let none = rw c.in-Ok-None.field-0-is at (c.in-Ok-None.ensures.advances way.0 way.1.there way.1.readies.settled) in
     let before : Store = record { alloc = a.alloc; nodes = c.advance.new.nodes; entries = a.entries } in
     let kept =
-    c.keep_settled.ensures.kept due c.args.bounds i.0 way.0 (kept_later due a.nodes c.advance.new.nodes g a.entries.items c.settle_args.ensures.store.kept)
+    c.keep_settled.ensures.kept due c.args.bounds i.0 way.0 (kept_later due a.nodes c.advance.new.nodes g a.entries c.settle_args.ensures.store.kept)
     (named_later a.nodes c.advance.new.nodes c.args.here i.0 g (named_later old.nodes a.nodes c.args.here i.0 c.settle_args.ensures.extends.grows i.1))
     (way_later due a.nodes c.advance.new.nodes g c.args.bounds i.0 c.in-Ok.way way.0 way.1) none.0
-    (way_kept_later a.entries.items a.nodes c.advance.new.nodes g c.args.here i.0 c.in-Ok.way.ready c.in-Ok.way.count (c.in-Ok.ensures.kept i.0 i.1)) in (
+    (way_kept_later a.entries a.nodes c.advance.new.nodes g c.args.here i.0 c.in-Ok.way.ready c.in-Ok.way.count (c.in-Ok.ensures.kept i.0 i.1)) in (
       store_kept c.args.means.now before c.keep_settled.new.store c.keep_settled.ensures.nodes kept.0 (store_later c.args.means.now a before g refl c.settle_args.ensures.store),
       extends_on old a c.keep_settled.new.store c.settle_args.ensures.extends (extends_by a c.keep_settled.new.store (rw c.keep_settled.ensures.nodes g) kept.1),
     )
@@ -379,7 +379,7 @@ settle-loop-stop-preserved t c =
       );
       linked =
           rw items
-          (linked_on c.turn.new.store.nodes c.turn.new.store.entries.items c.args.number c.loop-stop.steps.items c.loop-stop.here c.in-Ok-Stepped.step
+          (linked_on c.turn.new.store.nodes c.turn.new.store.entries c.args.number c.loop-stop.steps.items c.loop-stop.here c.in-Ok-Stepped.step
           (are_linked_extends c.loop-stop.store c.turn.new.store c.turn.ensures.extends c.args.number c.loop-stop.steps.items c.loop-stop.here i.linked) (rw c.in-Ok-Stepped.field-0-is at c.in-Ok-Stepped.ensures.kept));
       count = omega (arith, ap passed_count items, count_on c.loop-stop.steps.items c.in-Ok-Stepped.step, stepped.2, i.count);
       below = omega (arith, depth_named_is c.turn.new.store.nodes c.in-Ok-Stepped.step.next stepped.0 stepped.1.next, stepped.1.shallow, w.5.deep, stepped.2, i.count);
@@ -388,7 +388,7 @@ settle-loop-stop-preserved t c =
 pub settle_arg-returns-then-is_still-clause-kept : goal.settle_arg-returns-then-is_still-clause-kept
 settle_arg-returns-then-is_still-clause-kept t c = λ u h.
     let still = c.is_still.ensures c.if-is_still.true in
-    passed_next c.args.store.now.nodes c.args.store.now.entries.items u c.args.place c.args.passing.now _ c.arg-arg.result h c.arg-arg.ensures (still.0, still.1, omega (arith, still.2))
+    passed_next c.args.store.now.nodes c.args.store.now.entries u c.args.place c.args.passing.now _ c.arg-arg.result h c.arg-arg.ensures (still.0, still.1, omega (arith, still.2))
     (omega arith) refl (λ j l. refl)
 
 pub settle_arg-returns-in-Ok-clause-kept : goal.settle_arg-returns-in-Ok-clause-kept
@@ -396,19 +396,19 @@ settle_arg-returns-in-Ok-clause-kept t c = λ u h.
     let old = c.args.store.now in
     let new = c.settle.new.store in
     let e = c.settle.ensures.extends in
-    passed_next new.nodes new.entries.items u c.args.place c.args.passing.now c.pass.new.self c.arg-arg.result
-    (passed_stays old.entries.items new.entries.items e.stays new.nodes u c.args.place c.args.passing.now (has_passed_later old.entries.items old.nodes new.nodes e.grows u c.args.place c.args.passing.now h))
+    passed_next new.nodes new.entries u c.args.place c.args.passing.now c.pass.new.self c.arg-arg.result
+    (passed_stays old.entries new.entries e.stays new.nodes u c.args.place c.args.passing.now (has_passed_later old.entries old.nodes new.nodes e.grows u c.args.place c.args.passing.now h))
     c.arg-arg.ensures
-    (number_more new.entries.items c.arg-arg.result c.in-Ok.entry.count c.pass.new.self.count (omega (arith, c.pass.ensures.count)) c.in-Ok.ensures.there)
+    (number_more new.entries c.arg-arg.result c.in-Ok.entry.count c.pass.new.self.count (omega (arith, c.pass.ensures.count)) c.in-Ok.ensures.there)
     (omega (arith, c.pass.ensures.count)) c.pass.ensures.len c.pass.ensures.rest
 
 pub settle_args-returns-clause-kept : goal.settle_args-returns-clause-kept
 settle_args-returns-clause-kept t c = λ u n.
     let i = c.loop-place.invariant in
     let same = named_one c.args.store.now.nodes c.args.here i.passing.0 u i.passing.1 n in
-    c.finish.ensures.kept c.loop-place.store.entries.items u
-    (passed_all c.loop-place.store.nodes c.loop-place.store.entries.items u c.loop-place.place c.loop-place.passing
-    (subst (λ x. HasPassed c.loop-place.store.nodes c.loop-place.store.entries.items x c.loop-place.place c.loop-place.passing) same i.passing.3)
+    c.finish.ensures.kept c.loop-place.store.entries u
+    (passed_all c.loop-place.store.nodes c.loop-place.store.entries u c.loop-place.place c.loop-place.passing
+    (subst (λ x. HasPassed c.loop-place.store.nodes c.loop-place.store.entries x c.loop-place.place c.loop-place.passing) same i.passing.3)
     (omega (arith, i.len, c.loop-place-test.false)))
 
 pub turn-returns-in-Ok-Some-clause-kept : goal.turn-returns-in-Ok-Some-clause-kept
@@ -420,7 +420,7 @@ turn-returns-in-Ok-Some-clause-kept t c =
       here = refl;
       term = i.0;
       named = named_later a.nodes c.advance.new.nodes c.args.here i.0 g (named_later c.args.store.now.nodes a.nodes c.args.here i.0 c.settle_args.ensures.extends.grows i.1);
-      way = way_kept_later a.entries.items a.nodes c.advance.new.nodes g c.args.here i.0 c.in-Ok.way.ready c.in-Ok.way.count (c.in-Ok.ensures.kept i.0 i.1);
+      way = way_kept_later a.entries a.nodes c.advance.new.nodes g c.args.here i.0 c.in-Ok.way.ready c.in-Ok.way.count (c.in-Ok.ensures.kept i.0 i.1);
     }
 
 pub settle-loop-stop-init : goal.settle-loop-stop-init
@@ -453,7 +453,7 @@ turn-settle_args-requires t c = (omega arith, (c.requires.store, (c.requires.ins
 pub settle_arg-returns-in-Err-Outgrows-clause-extends : goal.settle_arg-returns-in-Err-Outgrows-clause-extends
 settle_arg-returns-in-Err-Outgrows-clause-extends t c =
     let mid = c.settle.new.store in
-    extends_on c.args.store.now mid _ c.settle.ensures.extends (extends_by mid _ c.outgrow.ensures.grows (stays_self mid.entries.items))
+    extends_on c.args.store.now mid _ c.settle.ensures.extends (extends_by mid _ c.outgrow.ensures.grows (stays_self mid.entries))
 
 pub settle_args-returns-in-Err-clause-extends : goal.settle_args-returns-in-Err-clause-extends
 settle_args-returns-in-Err-clause-extends t c =
@@ -462,17 +462,17 @@ settle_args-returns-in-Err-clause-extends t c =
 pub settle_args-returns-clause-extends : goal.settle_args-returns-clause-extends
 settle_args-returns-clause-extends t c =
     let mid = c.loop-place.store in
-    extends_on c.args.store.now mid _ c.loop-place.invariant.extends (extends_by mid _ c.finish.ensures.grows (stays_self mid.entries.items))
+    extends_on c.args.store.now mid _ c.loop-place.invariant.extends (extends_by mid _ c.finish.ensures.grows (stays_self mid.entries))
 
 pub turn-returns-in-Err-advance-clause-extends : goal.turn-returns-in-Err-advance-clause-extends
 turn-returns-in-Err-advance-clause-extends t c =
     let mid = c.settle_args.new.store in
-    extends_on c.args.store.now mid _ c.settle_args.ensures.extends (extends_by mid _ c.advance.ensures.grows (stays_self mid.entries.items))
+    extends_on c.args.store.now mid _ c.settle_args.ensures.extends (extends_by mid _ c.advance.ensures.grows (stays_self mid.entries))
 
 pub turn-returns-in-Ok-Some-clause-extends : goal.turn-returns-in-Ok-Some-clause-extends
 turn-returns-in-Ok-Some-clause-extends t c =
     let mid = c.settle_args.new.store in
-    extends_on c.args.store.now mid _ c.settle_args.ensures.extends (extends_by mid _ c.advance.ensures.grows (stays_self mid.entries.items))
+    extends_on c.args.store.now mid _ c.settle_args.ensures.extends (extends_by mid _ c.advance.ensures.grows (stays_self mid.entries))
 
 pub settle-returns-in-Err-clause-extends : goal.settle-returns-in-Err-clause-extends
 settle-returns-in-Err-clause-extends t c =

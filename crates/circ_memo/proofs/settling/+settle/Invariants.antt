@@ -27,7 +27,7 @@ invariant-settle-loop-stop l = record {
   way :
       (t u : Tree) × IsNamed l.initial.store.nodes l.number t × IsNamed l.store.nodes l.here u × ArePassed (due_by l.means) l.store.nodes l.bounds t l.steps.items u
       × IsWithin l.bounds u;
-  linked : AreLinked l.store.nodes l.store.entries.items l.number l.steps.items l.here;
+  linked : AreLinked l.store.nodes l.store.entries l.number l.steps.items l.here;
   count : passed_count l.steps.items + l.budget ≡ l.initial.budget;
   below : l.budget * 4004 + 4 * depth_named l.store.nodes l.here ≤ l.initial.budget * 4004 + 4 * depth_named l.initial.store.nodes l.number;
 }
@@ -41,7 +41,7 @@ invariant-settle_args-loop-place l = record {
   extends : Extends l.initial.store l.store;
   passing :
       (t : Tree) × IsNamed l.initial.store.nodes l.here t × IsPassing (due_by l.means) l.store.nodes l.bounds t l.place l.passing
-      × HasPassed l.store.nodes l.store.entries.items t l.place l.passing;
+      × HasPassed l.store.nodes l.store.entries t l.place l.passing;
   len : length l.passing.args.items ≡ l.len;
   count : l.budget + l.passing.count ≡ l.initial.budget;
 }

@@ -8,7 +8,7 @@ invariant_of-result c =
     (record {
       store = record {
         ready = c.in_ok-means.ensures.ready c.new-store.result.nodes;
-        kept = kept_nothing (due_by c.in_ok-means.means) c.new-store.result.nodes c.new-store.result.entries.items c.new-store.ensures;
+        kept = kept_nothing (due_by c.in_ok-means.means) c.new-store.result.nodes c.new-store.result.entries c.new-store.ensures;
       };
       built = c.new-terms.ensures c.new-store.result.nodes;
     })

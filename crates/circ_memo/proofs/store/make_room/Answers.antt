@@ -1,9 +1,0 @@
-use Rattle.std.proofs.Common.{arith}
-use Rattle.circ_memo.proofs.Entries.{same_push, same_on}
-use Rattle.circ_memo.proofs.store.make_room.Goals as goal
-
-pub loop-preserved : goal.loop-preserved
-loop-preserved c = record {
-  same = rw c.in_ok-push.ensures.items (same_on c.args.entries.now.items c.loop.entries.items _ c.loop.invariant.same (same_push c.loop.entries.items));
-  long = omega (arith, c.loop.invariant.long, c.in_ok-push.ensures.len);
-}
