@@ -104,10 +104,7 @@ impl<'a> Reducer<'a> {
     {
         match &mut self.way {
             Way::Plain(memo) => memo.value(term, budget),
-            Way::Tried(trying) => match trying.normal(term, tries, budget) {
-                Ok(normal) => Ok(normal.term),
-                Err(fault) => Err(fault),
-            },
+            Way::Tried(trying) => trying.value(term, tries, budget),
         }
     }
 

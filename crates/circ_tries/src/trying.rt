@@ -5,6 +5,7 @@ ghost use Rattle.circ_theory.specs.Pairs.{plain_pair};
 ghost use Rattle.circ_rewrite.specs.Due.{IsRewriteRule};
 ghost use Rattle.circ_rewrite.specs.Plain.{Answers};
 ghost use Rattle.circ_conditional_norm.specs.Norm.{conditional_norm};
+ghost use Rattle.circ_memo.specs.Value.{AnswersValue};
 ghost use Rattle.circ_tries.specs.Store.{IsStore};
 ghost use Rattle.circ_tries.specs.Trying.{norm_by};
 
@@ -97,6 +98,25 @@ impl<'a> Trying<'a> {
         let work = &mut *self.work;
         normal_of(&work.means, &mut work.store, term, tries, budget)
     }
+
+    // The same without its traces.
+    pub(crate) fn value(
+        &mut self,
+        term: &Term,
+        tries: u32,
+        budget: &mut u64,
+    ) -> Result<Term, RewriteFault>
+        requires tries { tries ≤ 8 }
+        ensures exact { AnswersValue result budget.new (conditional_norm tries
+            self.old.theory.signature self.old.rules self.old.assumptions budget.old term.now) }
+        ensures less { budget.new ≤ budget.old }
+        ensures same { self.new ≡ self.old }
+    {
+        match self.normal(term, tries, budget) {
+            Ok(normal) => Ok(normal.term),
+            Err(fault) => Err(fault),
+        }
+    }
 }
 
 fn normal_of(
@@ -113,11 +133,14 @@ fn normal_of(
     ensures exact { Answers result budget.new (norm_by means.now tries budget.old term.now) }
 {
     let number = store.nodes.intern(term)?;
-    match settle_whole(means, store, number, tries, budget) {
+    let mut left = *budget;
+    let settled = settle_whole(means, store, number, tries, &mut left);
+    *budget = left;
+    match settled {
+        Err(fault) => Err(fault),
         Ok((value, traces)) => {
             let term = store.nodes.term(value).share()?;
             Ok(Normal { term, traces })
         }
-        Err(fault) => Err(fault),
     }
 }

@@ -10,5 +10,5 @@ nothing (p ∷ ps) h = absurd (omega (arith, h))
 pub loop-rule-preserved : goal.loop-rule-preserved
 loop-rule-preserved c =
     let read = drop_read c.args.rules.now c.loop-rule.rule-index c.rule-item.result c.loop-rule-test.true c.rule-item.is in
-    let none = nothing c.rule-item.result.conds (omega (arith, c.len.ensures, c.if-len-not-eq0.false)) in
+    let none = nothing c.rule-item.result.conds (omega (arith, c.len.ensures, c.if-len-ne0.false)) in
     λ h. c.loop-rule.invariant (rw read (none, h))
