@@ -108,12 +108,7 @@ fn push_lemma(
 }
 
 // The goal goes behind the rules.
-fn push_rule(
-    alloc: Global,
-    memo: &mut Memo<'_>,
-    number: u32,
-    goal: &Goal,
-) -> Result<(), AllocError>
+fn push_rule(alloc: Global, memo: &mut Memo<'_>, number: u32, goal: &Goal) -> Result<(), AllocError>
     requires rewrites { can_rewrite goal.now ≡ true }
     requires plain { goal.now.conds ≡ [] }
     requires few { length memo.old.rules + 1 < 2 ^ 32 }

@@ -146,12 +146,7 @@ fn hypothesis_link(
     }
 }
 
-fn assumption_link(
-    alloc: Global,
-    number: u32,
-    way: Way,
-    path: &Path,
-) -> Result<Link, NumberFault>
+fn assumption_link(alloc: Global, number: u32, way: Way, path: &Path) -> Result<Link, NumberFault>
     ensures link { IfOk result (λ x. plain_link x ≡ Assumption_link number way path.now.items) }
     ensures err { IfErr result (λ e. e ≡ Memory) }
 {

@@ -143,12 +143,7 @@ impl NamedTerms {
     }
 
     // The same of its term, built of its arguments.
-    fn build(
-        &mut self,
-        table: &Table,
-        number: u32,
-        args: Vec<Term>,
-    ) -> Result<u32, AllocError>
+    fn build(&mut self, table: &Table, number: u32, args: Vec<Term>) -> Result<u32, AllocError>
         requires same { table.now ≡ self.old.0 }
         requires number { number < length self.old.0 }
         requires args { (t : Tree) → slice_get self.old.0 number ≡ Some t
