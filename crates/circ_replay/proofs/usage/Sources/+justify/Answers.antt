@@ -117,3 +117,27 @@ each_justified-loop-i-preserved t c =
           ∙ ap (λ n. take n (old ++ x ∷ [])) (c.len-count.ensures ∙ c.args.assumptions.now.ok.0) ∙ take-append_seam old (x ∷ []);
       rest = (λ h. at.invariant.rest.0 (parts.1 (holds, h)), λ h. (parts.0 (at.invariant.rest.1 h)).1);
     }
+
+pub each_justified-returns-then-not-justified-clause-exact : goal.each_justified-returns-then-not-justified-clause-exact
+each_justified-returns-then-not-justified-clause-exact t c =
+    let at = c.loop-i in
+    let self = c.args.self.now in
+    let old = c.args.assumptions.now.items in
+    let why = c.index-whys-i.result in
+    let ks = c.args.constants.now in
+    let x : PairOfTerms = record { left = c.args.term.now; right = App (get_or ks at.i 0) (sort_of c.args.term.now) none } in
+    let put = c.in_ok-assume.ensures ∙ ap (λ gs. gs ++ x ∷ []) at.invariant.same in
+    let seen = ap (map plain_pair) put ∙ map-append plain_pair old (x ∷ []) in
+    let P : List Pair → Type 0 = λ ps. Justified (setting_of self ps) (plain_pair c.args.pair.now) (resolved_why self.table.now (plain_why why)) in
+    let tells = (rw c.if-not-justified.true at c.in_ok-justified.ensures.exact).1 in
+    let parts = each_parts (setting_of self (map plain_pair old)) (plain_pair c.args.pair.now) c.args.term.now ks self.table.now c.args.whys.now at.i why (omega arith) c.loop-i-test.true c.index-whys-i.is in
+    ((λ never. absurd (cc)), (λ r. absurd (let z = tells (subst P (sym seen) (parts.0 (at.invariant.rest.1 r)).0) in cc)))
+
+pub each_justified-returns-then-not-justified-clause-same : goal.each_justified-returns-then-not-justified-clause-same
+each_justified-returns-then-not-justified-clause-same t c =
+    let at = c.loop-i in
+    let old = c.args.assumptions.now.items in
+    let x : PairOfTerms = record { left = c.args.term.now; right = App (get_or c.args.constants.now at.i 0) (sort_of c.args.term.now) none } in
+    let put = c.in_ok-assume.ensures ∙ ap (λ gs. gs ++ x ∷ []) at.invariant.same in
+    c.truncate.ensures.items ∙ ap (take c.len-count.result) (c.in_ok-justified.ensures.same ∙ put)
+    ∙ ap (λ n. take n (old ++ x ∷ [])) (c.len-count.ensures ∙ c.args.assumptions.now.ok.0) ∙ take-append_seam old (x ∷ [])
