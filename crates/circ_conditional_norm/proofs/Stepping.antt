@@ -3,6 +3,7 @@ use Rattle.std.proofs.Common.{◌≡◌, ◌⊎◌, inl, inr, ℕ, ◌+◌, ◌�
 use Rattle.std.specs.List.{slice_get}
 use Rattle.circ_term.specs.Tree.{Tree, Trees, App, list_of, put_at, size_of, depth_of}
 use Rattle.circ_term.specs.Limits.{node_limit, depth_limit, Limit, first_limit}
+use Rattle.circ_term.proofs.Limits.{within_limits}
 use Rattle.circ_rewrite.specs.Replacement.{Replacement, Placed, placed, Traced, traced}
 use Rattle.circ_rewrite.specs.Standing.{IsSettled}
 use Rattle.circ_chain.specs.Chain.{under}
@@ -11,7 +12,7 @@ use Rattle.circ_conditional_norm.specs.Within.{Bounded, Form, Ran_out, Broken, O
 use Rattle.circ_conditional_norm.specs.Work.{Work, Made, Out, Past, map_found, LeavesAtMost}
 use Rattle.circ_conditional_norm.proofs.Looking.{look_from_leaves}
 use Rattle.circ_conditional_norm.proofs.Sure.{look_none}
-use Rattle.circ_conditional_norm.proofs.Within.{inside, enough, in_place, first_arg, next_arg}
+use Rattle.circ_conditional_norm.proofs.Within.{inside, enough, in_place, first_arg, next_arg, stays_inside}
 
 -- The bounds that an application leaves to its argument i, which is a.
 pub record IsRoomFor (B b : Room) (f s i : ℕ) (ts : Trees) (a : Tree) : Type 0 where
@@ -204,3 +205,34 @@ module _ (due : (budget : ℕ) → Tree → Work (Option Replacement)) (falls : 
           at_limit (Some x) p y = absurd (cc)
           at_limit None true y = absurd (cc)
           at_limit None false y = let i = ih q.path (remade t q) (ts ++ traced q ∷ []) m y in inl (omega (arith, i, h))
+
+-- ---- within the limits no term is outgrown
+
+module _ (due : (budget : ℕ) → Tree → Work (Option Replacement)) where
+  abbrev top : Room
+  top = record { big = node_limit; deep = depth_limit }
+
+  pub never_outgrown : (n : ℕ) (from : List ℕ) (t x : Tree) (ts : List Traced) (k l : ℕ) → run_in due top n from t ts k ≡ Outgrown x l → ⊥
+  never_outgrown zero from t x ts k l e = go (look_from due from t k) e
+    where
+      go : (w : Work (Option Placed)) → looked_in due (λ q m. Ran_out) t ts w ≡ Outgrown x l → ⊥
+      go (Made (Some q) m) z = cc
+      go (Made None m) z = cc
+      go Out z = cc
+      go (Past y m) z = cc
+  never_outgrown (suc n) from t x ts k l e = go (look_from due from t k) e (λ p v vs m y. never_outgrown n p v x vs m l y)
+    where
+      go : (w : Work (Option Placed)) → looked_in due (make_in due top (run_in due top n) t ts) t ts w ≡ Outgrown x l
+          → ((p : List ℕ) (v : Tree) (vs : List Traced) (m : ℕ) → run_in due top n p v vs m ≡ Outgrown x l → ⊥) → ⊥
+      go (Made None m) z ih = cc
+      go Out z ih = cc
+      go (Past y m) z ih = cc
+      go (Made (Some q) zero) z ih = cc
+      go (Made (Some q) (suc m)) z ih = at_limit (first_limit (remade t q)) refl z
+        where
+          at_limit : (o : Option Limit) → first_limit (remade t q) ≡ o
+              → bounded o (is_past top (remade t q)) (remade t q) (suc m) (run_in due top n q.path (remade t q) (ts ++ traced q ∷ []) m) ≡ Outgrown x l → ⊥
+          at_limit (Some y) f z = cc
+          at_limit None f z =
+              let w = within_limits (remade t q) f in
+              ih q.path (remade t q) (ts ++ traced q ∷ []) m (sym (rw (stays_inside top (remade t q) w.0 w.1) refl) ∙ z)

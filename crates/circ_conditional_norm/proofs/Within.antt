@@ -52,10 +52,10 @@ outside b t e = go (nat_lt b.big (size_of t)) refl (nat_lt b.deep (depth_of t)) 
     go false g true h z = inr (above_if b.deep (depth_of t) h)
     go false g false h z = absurd (cc)
 
-stays_inside : (b : Room) (t : Tree) → size_of t ≤ b.big → depth_of t ≤ b.deep → is_past b t ≡ false
+pub stays_inside : (b : Room) (t : Tree) → size_of t ≤ b.big → depth_of t ≤ b.deep → is_past b t ≡ false
 stays_inside b t s d = rw (not_above b.big (size_of t) s, not_above b.deep (depth_of t) d) refl
 
-goes_outside : (b : Room) (t : Tree) → (b.big < size_of t) ⊎ (b.deep < depth_of t) → is_past b t ≡ true
+pub goes_outside : (b : Room) (t : Tree) → (b.big < size_of t) ⊎ (b.deep < depth_of t) → is_past b t ≡ true
 goes_outside b t (inl h) = rw (is_above b.big (size_of t) h) refl
 goes_outside b t (inr h) = go (nat_lt b.big (size_of t))
   where

@@ -14,7 +14,7 @@ use Rattle.circ_theory.proofs.Casing.{contains_first}
 use Rattle.circ_theory.proofs.Weakening.{in_rest}
 use Rattle.circ_special.specs.declared.place.Place.{Place}
 use Rattle.circ_special.specs.Special.{IsPlace}
-use Rattle.circ_rewrite.specs.Norm.{norm}
+use Rattle.circ_conditional_norm.specs.Norm.{conditional_norm}
 use Rattle.circ_rewrite.specs.TheoryRules.{theory_rules}
 use Rattle.circ_rewrite.specs.declared.parts.Normal.{Normal}
 use Rattle.circ_rules.specs.Admitting.{IsStart}
@@ -38,30 +38,30 @@ module _ (th : Theory) (budget : ℕ) where
 
     -- what it comes to
     pub start_comes : (t : Tree) → IsBuilt (start_term o s.place d) t → (x : Option Normal)
-        → ComesTo (norm th.signature (theory_rules th) [] budget t) x → GivesNormal th budget s.place d x
+        → ComesTo (conditional_norm 0 th.signature (theory_rules th) [] budget t) x → GivesNormal th budget s.place d x
     start_comes t w None c = λ normal traces h.
-        let same : norm th.signature (theory_rules th) [] budget t ≡ norm th.signature (theory_rules th) [] budget (start_term h.place.operator s.place d)
-        = ap (norm th.signature (theory_rules th) [] budget) w.same
-        ∙ ap (λ o. norm th.signature (theory_rules th) [] budget (start_term o s.place d)) (sym (its h.place)) in
+        let same : conditional_norm 0 th.signature (theory_rules th) [] budget t ≡ conditional_norm 0 th.signature (theory_rules th) [] budget (start_term h.place.operator s.place d)
+        = ap (conditional_norm 0 th.signature (theory_rules th) [] budget) w.same
+        ∙ ap (λ o. conditional_norm 0 th.signature (theory_rules th) [] budget (start_term o s.place d)) (sym (its h.place)) in
         c normal traces h.left (same ∙ h.form)
     start_comes t w (Some n) c =
         let p = start.place in
         let P : Operator → Type 0 = λ o. IsWithinLimits (start_term o s.place d) in
-        let same : norm th.signature (theory_rules th) [] budget (start_term p.operator s.place d) ≡ norm th.signature (theory_rules th) [] budget t
-        = ap (λ o. norm th.signature (theory_rules th) [] budget (start_term o s.place d)) (its p)
-        ∙ ap (norm th.signature (theory_rules th) [] budget) (sym w.same) in
+        let same : conditional_norm 0 th.signature (theory_rules th) [] budget (start_term p.operator s.place d) ≡ conditional_norm 0 th.signature (theory_rules th) [] budget t
+        = ap (λ o. conditional_norm 0 th.signature (theory_rules th) [] budget (start_term o s.place d)) (its p)
+        ∙ ap (conditional_norm 0 th.signature (theory_rules th) [] budget) (sym w.same) in
         record { place = p; within = subst P (sym (its p)) w.within; left = c.0; form = same ∙ c.1 }
 
   -- the same for the derivative of a number
   module _ (s : Start) (start : IsStart th s) (i : ℕ) (d : Derivative) (there : slice_get th.derivatives i ≡ Some d) where
     pub comes_at : (t : Tree) → IfSome (slice_get th.derivatives i) (λ d. Gives (IsBuilt (start_term (operator_of s.decl.now) s.place d)) (Some t))
         → {E : Type 0} (r : Result (Option Normal) E)
-        → IfOk r (ComesTo (norm th.signature (theory_rules th) [] budget t)) → IfSome (slice_get th.derivatives i) (λ d. IfOk r (GivesNormal th budget s.place d))
+        → IfOk r (ComesTo (conditional_norm 0 th.signature (theory_rules th) [] budget t)) → IfSome (slice_get th.derivatives i) (λ d. IfOk r (GivesNormal th budget s.place d))
     comes_at t x r y =
         let w = some_if_at (λ d. Gives (IsBuilt (start_term (operator_of s.decl.now) s.place d)) (Some t)) (slice_get th.derivatives i) d there x in
         if_some_at (λ d. IfOk r (GivesNormal th budget s.place d)) (slice_get th.derivatives i) d there (go r y w)
       where
-        go : {E : Type 0} (r : Result (Option Normal) E) → IfOk r (ComesTo (norm th.signature (theory_rules th) [] budget t))
+        go : {E : Type 0} (r : Result (Option Normal) E) → IfOk r (ComesTo (conditional_norm 0 th.signature (theory_rules th) [] budget t))
             → IsBuilt (start_term (operator_of s.decl.now) s.place d) t → IfOk r (GivesNormal th budget s.place d)
         go (Ok x) y w = start_comes s start d t w x y
         go (Err x) y w = tt

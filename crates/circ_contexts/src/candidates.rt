@@ -2,20 +2,19 @@
 ghost use Rattle.std.specs.Prelude.{◌≡◌, IfOk, Some};
 ghost use Rattle.std.specs.List.{AllByRecursion, slice_get};
 ghost use Rattle.std.specs.Option.{IfSome, option_map};
-ghost use Rattle.circ_theory.specs.Theory.{HasNoConditions};
 ghost use Rattle.circ_special.specs.Special.{IsPlace};
-ghost use Rattle.circ_rewrite.specs.Norm.{norm};
+ghost use Rattle.circ_conditional_norm.specs.Norm.{conditional_norm};
 ghost use Rattle.circ_rules.specs.Admitting.{IsStart};
 ghost use Rattle.circ_contexts.specs.Candidates.{ComesTo, GivesNormal, GivesNormals};
 ghost use Rattle.circ_contexts.specs.Candidates.{GivesCandidate, AreCandidates};
 ghost use Rattle.circ_contexts.specs.ByTheory.{by_theory};
 
-use circ_memo::Memo;
 use circ_rewrite::{Normal, RewriteFault, theory_rules};
 use circ_rules::{Start, start_at, start_term};
 use circ_special::Place;
 use circ_term::Term;
 use circ_theory::Theory;
+use circ_tries::Reducer;
 use std::alloc::{AllocError, Global};
 
 // A place, with the sort of its argument and the normal forms of its start terms.
@@ -37,30 +36,29 @@ pub(crate) struct Means<'a> {
 impl Means<'_> {
     // The candidates among the places, in order. Normal forms are kept from one place to the next.
     pub(crate) fn candidates(&self, places: &[Place]) -> Result<Vec<Candidate>, AllocError>
-        requires unconditional { HasNoConditions self.now.theory.now }
-        requires places { AllByRecursion (IsPlace self.now.theory.now) places.now }
+        requires { AllByRecursion (IsPlace self.now.theory.now) places.now }
         ensures { IfOk result (λ v. AreCandidates self.now.theory.now self.now.budget
             places.now v.items) }
     {
         let rules = theory_rules(self.alloc, self.theory)?;
-        let mut memo = Memo::new(self.alloc, self.theory, rules)?;
-        self.candidates_by(&mut memo, places)
+        let mut reducer = Reducer::new(self.alloc, self.theory, rules)?;
+        self.candidates_by(&mut reducer, places)
     }
 
-    // The same by a memo of the theory's rules.
+    // The same by the theory's rules.
     fn candidates_by(
         &self,
-        memo: &mut Memo<'_>,
+        reducer: &mut Reducer<'_>,
         places: &[Place],
     ) -> Result<Vec<Candidate>, AllocError>
-        requires memo { memo.old ≡ by_theory self.now.theory.now }
+        requires reducer { reducer.old ≡ by_theory self.now.theory.now }
         requires places { AllByRecursion (IsPlace self.now.theory.now) places.now }
         ensures { IfOk result (λ v. AreCandidates self.now.theory.now self.now.budget
             places.now v.items) }
     {
         let mut found = Vec::new(self.alloc);
         for place in places {
-            match self.candidate(memo, *place)? {
+            match self.candidate(reducer, *place)? {
                 Some(candidate) => found.push(candidate)?,
                 None => {}
             }
@@ -69,14 +67,14 @@ impl Means<'_> {
     }
 
     // The candidate of a place. None where it is none.
-    fn candidate(&self, memo: &mut Memo<'_>, place: Place) -> Result<Option<Candidate>, AllocError>
-        requires memo { memo.old ≡ by_theory self.now.theory.now }
+    fn candidate(&self, reducer: &mut Reducer<'_>, place: Place) -> Result<Option<Candidate>, AllocError>
+        requires reducer { reducer.old ≡ by_theory self.now.theory.now }
         requires place { IsPlace self.now.theory.now place }
         ensures exact { IfOk result (GivesCandidate self.now.theory.now self.now.budget place) }
-        ensures same { memo.new ≡ memo.old }
+        ensures same { reducer.new ≡ reducer.old }
     {
         let start = start_at(self.alloc, self.theory, place)?;
-        match self.normals(memo, &start)? {
+        match self.normals(reducer, &start)? {
             Some(normals) => Ok(Some(Candidate {
                 place,
                 sort: start.sort,
@@ -90,19 +88,19 @@ impl Means<'_> {
     // them has none.
     fn normals(
         &self,
-        memo: &mut Memo<'_>,
+        reducer: &mut Reducer<'_>,
         start: &Start<'_>,
     ) -> Result<Option<Vec<Normal>>, AllocError>
-        requires memo { memo.old ≡ by_theory self.now.theory.now }
+        requires reducer { reducer.old ≡ by_theory self.now.theory.now }
         requires start { IsStart self.now.theory.now start.now }
         ensures exact { IfOk result
             (GivesNormals self.now.theory.now self.now.budget start.now.place) }
-        ensures same { memo.new ≡ memo.old }
+        ensures same { reducer.new ≡ reducer.old }
     {
         let mut normals = Vec::new(self.alloc);
         for derivative in 0..self.theory.derivative_count() {
             if self.theory.takes(derivative, start.decl.result) {
-                match self.normal(memo, start, derivative)? {
+                match self.normal(reducer, start, derivative)? {
                     Some(normal) => normals.push(normal)?,
                     None => return Ok(None),
                 }
@@ -114,33 +112,33 @@ impl Means<'_> {
     // The normal form of the start term of a derivative. None where it has none.
     fn normal(
         &self,
-        memo: &mut Memo<'_>,
+        reducer: &mut Reducer<'_>,
         start: &Start<'_>,
         derivative: u32,
     ) -> Result<Option<Normal>, AllocError>
-        requires memo { memo.old ≡ by_theory self.now.theory.now }
+        requires reducer { reducer.old ≡ by_theory self.now.theory.now }
         requires start { IsStart self.now.theory.now start.now }
         requires hole { option_map (λ d. d.hole)
             (slice_get self.now.theory.now.derivatives derivative) ≡
             Some start.now.decl.now.result }
         ensures exact { IfSome (slice_get self.now.theory.now.derivatives derivative) (λ d.
             IfOk result (GivesNormal self.now.theory.now self.now.budget start.now.place d)) }
-        ensures same { memo.new ≡ memo.old }
+        ensures same { reducer.new ≡ reducer.old }
     {
         match start_term(self.alloc, self.theory, start, derivative)? {
-            Some(term) => self.normal_form(memo, &term),
+            Some(term) => self.normal_form(reducer, &term),
             None => Ok(None),
         }
     }
 
     // The normal form of a term. None where it has none within the budget and the limits.
-    fn normal_form(&self, memo: &mut Memo<'_>, term: &Term) -> Result<Option<Normal>, AllocError>
-        ensures exact { IfOk result (ComesTo (norm memo.old.theory.signature memo.old.rules
-            memo.old.assumptions self.now.budget term.now)) }
-        ensures same { memo.new ≡ memo.old }
+    fn normal_form(&self, reducer: &mut Reducer<'_>, term: &Term) -> Result<Option<Normal>, AllocError>
+        ensures exact { IfOk result (ComesTo (conditional_norm 0 reducer.old.theory.signature
+            reducer.old.rules reducer.old.assumptions self.now.budget term.now)) }
+        ensures same { reducer.new ≡ reducer.old }
     {
         let mut budget = self.budget;
-        match memo.normal(term, &mut budget) {
+        match reducer.normal(term, 0, &mut budget) {
             Ok(normal) => Ok(Some(normal)),
             Err(RewriteFault::Memory) => Err(AllocError),
             Err(RewriteFault::Spent) => Ok(None),

@@ -1,6 +1,5 @@
 //! The greatest special set, by dropping candidates until none is dropped.
 ghost use Rattle.std.specs.Prelude.{◌≡◌, ◌↔◌, ◌++◌, IsTrue, IfOk, OnOk, map};
-ghost use Rattle.circ_theory.specs.Theory.{HasNoConditions};
 ghost use Rattle.circ_special.specs.Special.{IsSet};
 ghost use Rattle.circ_plain_search.specs.Greatest.{GreatestSpecialSet};
 ghost use Rattle.circ_plain_search.specs.Keeps.{Keeps};
@@ -14,15 +13,13 @@ use circ_special::{Gamma, Place, guarded};
 use circ_theory::Theory;
 use std::alloc::{AllocError, Global};
 
-/// The greatest special set of a theory without conditions, with a list of traces for each
-/// certificate that is due for it. Each start term is brought to its normal form once, with the
-/// whole budget.
+/// The greatest special set of a theory, with a list of traces for each certificate that is due
+/// for it. Each start term is brought to its normal form once, with the whole budget.
 pub fn special_contexts(
     alloc: Global,
     theory: &Theory,
     budget: u64,
 ) -> Result<(Gamma, Vec<Vec<Trace>>), AllocError>
-    requires { HasNoConditions theory.now }
     ensures greatest { IfOk result (λ r.
         GreatestSpecialSet theory.now budget r.0 (plain_lists r.1.items)) }
 {

@@ -1,5 +1,5 @@
 -- The certificates of the greatest special set: their terms are fine, and their numbers and paths are small.
-use Rattle.std.proofs.Common.{◌≡◌, ℕ, zero, suc, ◌+◌, ◌≤◌, length, List, [], ◌∷◌, map, Some, refl, ap, arith}
+use Rattle.std.proofs.Common.{◌≡◌, ℕ, zero, suc, ◌+◌, ◌-◌, ◌≤◌, length, List, [], ◌∷◌, map, Some, refl, ap, sym, ◌∙◌, arith}
 use Rattle.std.specs.List.{slice_get, AllByRecursion, Contains}
 use Rattle.circ_term.specs.Tree.{Tree, App, trees_of}
 use Rattle.circ_theory.specs.Signature.{Operator, IsWellSorted}
@@ -17,6 +17,8 @@ use Rattle.circ_rewrite.specs.Links.{link_of}
 use Rattle.circ_rewrite.specs.Replacement.{Traced}
 use Rattle.circ_rewrite.specs.TheoryRules.{theory_rules}
 use Rattle.circ_rewrite.proofs.RuleLists.{rules_are, theory_unconditional}
+use Rattle.circ_conditional_norm.specs.Norm.{try_limit}
+use Rattle.circ_conditional_norm.proofs.Before.{norm_before}
 use Rattle.circ_proof.specs.Certified.{start_args, start_term, derivatives_at, due, Certified, AreCertified}
 use Rattle.circ_proof.proofs.Sorted.{sorted_none}
 use Rattle.circ_proof.proofs.Starting.{few_args}
@@ -82,14 +84,15 @@ module _ (th : Theory) (wf : IsWellFormed th) (none : HasNoConditions th) where
         within = f.within;
         low = start_low x.0 o x.1 f.place.listed c;
       } in (
-        (normal_form_led th wf most (omega arith) [] (theory_rules th) (rules_are th wf []) (theory_unconditional th none) [] tt [] (start_term o x.0 x.1) a.0.0 ts budget f.left fine f.form).terms,
+        (normal_form_led th wf most (omega arith) [] (theory_rules th) (rules_are th wf []) (theory_unconditional th none) [] tt [] (start_term o x.0 x.1) a.0.0 ts budget f.left fine
+            (sym (norm_before th.signature (theory_rules th) (theory_unconditional th none) [] (try_limit - 0) budget (start_term o x.0 x.1)) ∙ f.form)).terms,
         traces_fine budget G xs tss (λ y d. h y (in_rest x y xs d)) a.1,
       )
 
   pub greatest_certified : (budget : ℕ) (G : List Place) (tss : List (List Traced)) → GreatestSpecialSet th budget G tss
       → IsCertifiedSet th G (map (map link_of) tss)
   greatest_certified budget G tss g =
-      let c = is_certified th wf none budget G tss g in
+      let c = is_certified th wf budget G tss g in
       record { set = c.0; certified = c.1; terms = traces_fine budget G (due th G) tss (from_due th G) g.recorded }
 
   -- ---- ranges

@@ -1,5 +1,5 @@
 -- The greatest special set is a special set, and its traces are certificates.
-use Rattle.std.specs.Prelude.{◌≡◌, ℕ, true, Bool, ◌==◌, List, [], ◌∷◌, length, map, Option, Some, refl}
+use Rattle.std.specs.Prelude.{◌≡◌, ◌-◌, ℕ, true, Bool, ◌==◌, List, [], ◌∷◌, length, map, Option, Some, refl}
 use Rattle.std.specs.List.{AllByRecursion, Contains, slice_get, filter}
 use Rattle.std.specs.Option.{option_map_or}
 use Rattle.std.proofs.Common.{sym, subst, inl, inr}
@@ -7,7 +7,7 @@ use Rattle.std.proofs.lemmas.Bool.{cases_Bool, eqb-true}
 use Rattle.std.proofs.lemmas.List.Elements.{Contains-append_cases}
 use Rattle.circ_term.specs.Tree.{Tree, App}
 use Rattle.circ_theory.specs.Signature.{Operator, IsWellSorted}
-use Rattle.circ_theory.specs.Theory.{Theory, Derivative, HasNoConditions}
+use Rattle.circ_theory.specs.Theory.{Theory, Derivative}
 use Rattle.circ_theory.specs.WellFormed.{IsWellFormed}
 use Rattle.circ_theory.specs.Fresh.{numbered_from}
 use Rattle.circ_theory.specs.Fresh.{derivatives_of}
@@ -17,13 +17,12 @@ use Rattle.circ_theory.proofs.Weakening.{in_rest}
 use Rattle.circ_special.specs.declared.place.Place.{Place}
 use Rattle.circ_special.specs.Special.{IsPlace, IsSet}
 use Rattle.circ_proof.specs.Link.{setting}
-use Rattle.circ_rewrite.specs.Due.{due_under}
 use Rattle.circ_rewrite.specs.Links.{link_of}
 use Rattle.circ_rewrite.specs.Replacement.{Traced}
 use Rattle.circ_rewrite.specs.TheoryRules.{theory_rules}
-use Rattle.circ_rewrite.proofs.Linked.{are_links}
-use Rattle.circ_rewrite.proofs.RuleLists.{rules_are, theory_unconditional}
-use Rattle.circ_rewrite.proofs.Runs.{normal_form_reduces}
+use Rattle.circ_rewrite.proofs.RuleLists.{rules_are}
+use Rattle.circ_conditional_norm.specs.Norm.{try_limit}
+use Rattle.circ_conditional_norm.proofs.Linked.{norm_links}
 use Rattle.circ_proof.specs.Certified.{start_args, start_term, due, due_at, derivatives_at, Certified, AreCertified}
 use Rattle.circ_proof.proofs.Starting.{applied_sorted}
 use Rattle.circ_plain_search.specs.Greatest.{HasNormalForm, IsSelfGuarded, AreTraces, GreatestSpecialSet}
@@ -74,15 +73,14 @@ from_due th (g ∷ G) x c = elim (Contains-append_cases (due_at th g) (due th G)
 
 -- ---- the certificates
 
-module _ (th : Theory) (ok : IsWellFormed th) (none : HasNoConditions th) (budget : ℕ) (G : List Place) (s : IsSelfGuarded th budget G) where
+module _ (th : Theory) (ok : IsWellFormed th) (budget : ℕ) (G : List Place) (s : IsSelfGuarded th budget G) where
   certified : (g : Place) (d : Derivative) (normal : Tree) (ts : List Traced) → Contains G g → Contains (derivatives_at th g) d
       → HasNormalForm th budget g d normal ts → Certified th G g d (map link_of ts)
   certified g d normal ts c e h =
       let o = h.place.operator in
       let x = of_place th g o d h.place.listed e in
       let w : IsWellSorted th.signature (start_term o g d) = start_sorted th ok g o d h.place.listed x.0 x.1 in
-      let r = normal_form_reduces (due_under th.signature (theory_rules th) []) budget (start_term o g d) normal ts h.left h.form in
-      let l = are_links (setting th G [] []) ok tt (theory_rules th) (rules_are th ok []) (theory_unconditional th none) ts (start_term o g d) normal w r.leads in
+      let l = norm_links (setting th G [] []) ok tt (theory_rules th) (rules_are th ok []) (try_limit - 0) budget (start_term o g d) normal ts h.left w h.form in
       record { place = h.place; within = h.within; last = normal; leads = l.lead; guarded = s.guarded g c d e normal ts h }
 
   all_certified : (xs : List (Place × Derivative)) (tss : List (List Traced))
@@ -99,12 +97,12 @@ all_places : (th : Theory) (G : List Place) → ((g : Place) → Contains G g �
 all_places th [] h = tt
 all_places th (g ∷ G) h = (h g (contains_first g G), all_places th G (λ f c. h f (in_rest g f G c)))
 
-pub is_certified : (th : Theory) → IsWellFormed th → HasNoConditions th → (budget : ℕ) (G : List Place) (tss : List (List Traced)) → GreatestSpecialSet th budget G tss
+pub is_certified : (th : Theory) → IsWellFormed th → (budget : ℕ) (G : List Place) (tss : List (List Traced)) → GreatestSpecialSet th budget G tss
     → IsSet th G × AreCertified th G (due th G) (map (map link_of) tss)
-is_certified th ok none budget G tss g =
+is_certified th ok budget G tss g =
     let s = g.self_guarded in (
       record { increasing = g.increasing; places = all_places th G (λ f c. (s.candidates f c).place) },
-      all_certified th ok none budget G s (due th G) tss (from_due th G) g.recorded,
+      all_certified th ok budget G s (due th G) tss (from_due th G) g.recorded,
     )
 
 pub starts_sorted : (th : Theory) → IsWellFormed th → (g : Place) (o : Operator) (d : Derivative) → slice_get th.signature.ops g.op ≡ Some o

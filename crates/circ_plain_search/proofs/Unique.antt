@@ -8,10 +8,11 @@ use Rattle.circ_theory.specs.Signature.{Operator}
 use Rattle.circ_theory.specs.Theory.{Theory, Derivative}
 use Rattle.circ_special.specs.declared.place.Place.{Place}
 use Rattle.circ_special.specs.Special.{IsPlace}
-use Rattle.circ_rewrite.specs.Norm.{Normalised, Normal_form, Budget_spent, Limit_passed, norm}
+use Rattle.circ_rewrite.specs.Norm.{Normalised, Normal_form, Budget_spent, Limit_passed}
 use Rattle.circ_rewrite.specs.Replacement.{Traced}
 use Rattle.circ_proof.specs.Certified.{start_term, due}
 use Rattle.circ_rewrite.specs.TheoryRules.{theory_rules}
+use Rattle.circ_conditional_norm.specs.Norm.{conditional_norm}
 use Rattle.circ_plain_search.specs.Greatest.{HasNormalForm, AreTraces, GreatestSpecialSet}
 use Rattle.circ_plain_search.proofs.Increasing.{same_places}
 
@@ -37,7 +38,7 @@ module _ (th : Theory) (budget : ℕ) where
   module _ (g : Place) (d : Derivative) (t u : Tree) (ts us : List Traced) (a : HasNormalForm th budget g d t ts) (b : HasNormalForm th budget g d u us) where
     one_form : Normal_form t ts a.left ≡ Normal_form u us b.left
     one_form =
-        sym a.form ∙ ap (λ o. norm th.signature (theory_rules th) [] budget (start_term o g d)) (one_operator th g a.place b.place) ∙ b.form
+        sym a.form ∙ ap (λ o. conditional_norm 0 th.signature (theory_rules th) [] budget (start_term o g d)) (one_operator th g a.place b.place) ∙ b.form
 
     pub one_normal : t ≡ u
     one_normal = ap normal_of one_form

@@ -7,10 +7,11 @@ use Rattle.circ_theory.specs.Theory.{Theory, Derivative}
 use Rattle.circ_special.specs.declared.place.Place.{Place}
 use Rattle.circ_special.specs.Special.{IsPlace, IsIncreasing, IsWithin}
 use Rattle.circ_special.specs.Guarded.{Guarded}
-use Rattle.circ_rewrite.specs.Norm.{Normal_form, norm}
+use Rattle.circ_rewrite.specs.Norm.{Normal_form}
 use Rattle.circ_rewrite.specs.Replacement.{Traced}
 use Rattle.circ_proof.specs.Certified.{start_term, derivatives_at, due}
 use Rattle.circ_rewrite.specs.TheoryRules.{theory_rules}
+use Rattle.circ_conditional_norm.specs.Norm.{conditional_norm}
 
 -- The start term of a place and a derivative is within the limits, and the theory's rules, with this budget for it alone, lead it to this normal
 -- form by these traces.
@@ -18,7 +19,7 @@ pub record HasNormalForm (th : Theory) (budget : ℕ) (g : Place) (d : Derivativ
   pub place : IsPlace th g
   pub within : IsWithinLimits (start_term place.operator g d)
   pub left : ℕ
-  pub form : norm th.signature (theory_rules th) [] budget (start_term place.operator g d) ≡ Normal_form normal traces left
+  pub form : conditional_norm 0 th.signature (theory_rules th) [] budget (start_term place.operator g d) ≡ Normal_form normal traces left
 
 -- A candidate is a place each of whose start terms has a normal form: one for each derivative of its result sort.
 pub record IsCandidate (th : Theory) (budget : ℕ) (g : Place) : Type 0 where

@@ -3,7 +3,7 @@
 ghost use Rattle.std.specs.Prelude.{◌≡◌, ◌<◌, ◌+◌, ◌-◌, ℕ, List, [], ◌∷◌, map, Some, Ok};
 ghost use Rattle.std.specs.List.{slice_get, Contains};
 ghost use Rattle.circ_theory.specs.Signature.{Operator, IsWellSorted};
-ghost use Rattle.circ_theory.specs.Theory.{Theory, Derivative, HasNoConditions, goal};
+ghost use Rattle.circ_theory.specs.Theory.{Theory, Derivative, goal};
 ghost use Rattle.circ_theory.specs.WellFormed.{IsWellFormed};
 ghost use Rattle.circ_theory.specs.declared.parts.Goal.{Goal};
 ghost use Rattle.circ_special.specs.declared.place.Place.{Place};
@@ -85,11 +85,10 @@ pub fn some_set()
         → ⊥ }
 {}
 
-/// In a well-formed theory without conditions the greatest special set is a special set, whose
-/// places the traces certify as links.
+/// In a well-formed theory the greatest special set is a special set, whose places the traces
+/// certify as links.
 pub fn set_is_certified()
-    ensures { (th : Theory) → IsWellFormed th → HasNoConditions th →
-        (budget : ℕ) (G : List Place) (tss : List (List Traced)) →
+    ensures { (th : Theory) → IsWellFormed th → (budget : ℕ) (G : List Place) (tss : List (List Traced)) →
         GreatestSpecialSet th budget G tss →
         IsSet th G × AreCertified th G (due th G) (map (map link_of) tss) }
 {}

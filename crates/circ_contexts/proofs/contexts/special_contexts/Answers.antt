@@ -5,10 +5,7 @@ use Rattle.circ_contexts.proofs.Dropping.{all_placed, stands_first, is_set, is_g
 use Rattle.circ_contexts.proofs.contexts.special_contexts.Goals as goal
 
 pub candidates-requires : goal.candidates-requires
-candidates-requires c = record {
-  unconditional = c.requires;
-  places = rw c.as_slice.ensures.value (all_placed c.args.theory.now c.args.budget c.in_ok-places.ensures);
-}
+candidates-requires c = rw c.as_slice.ensures.value (all_placed c.args.theory.now c.args.budget c.in_ok-places.ensures)
 
 pub greatest-requires : goal.greatest-requires
 greatest-requires c =

@@ -5,7 +5,7 @@ use Rattle.circ_contexts.proofs.candidates.Means.candidates_by.Goals.{in-Some+in
 
 pub loop-place-init : goal.loop-place-init
 loop-place-init c =
-    record { memo = refl; gathered = rw c.new-found.ensures.items (gather_start c.args.self.now.theory.now c.args.self.now.budget c.args.places.now) }
+    record { reducer = refl; gathered = rw c.new-found.ensures.items (gather_start c.args.self.now.theory.now c.args.self.now.budget c.args.places.now) }
 
 pub loop-place-preserved : goal.loop-place-preserved
 loop-place-preserved c =
@@ -15,7 +15,7 @@ loop-place-preserved c =
     let i = c.loop-place.place-index in
     let cs = c.loop-place.found.items in
     record {
-      memo = c.candidate.ensures.same ∙ c.loop-place.invariant.memo;
+      reducer = c.candidate.ensures.same ∙ c.loop-place.invariant.reducer;
       gathered = elim c.match-branch-2.branch [
         | in-Some+in_ok-push-in-Some w ↦
             rw (w.found-is, w.in_ok-push-in-Some.ensures.items)

@@ -4,6 +4,6 @@ use Rattle.circ_contexts.proofs.candidates.Means.candidates_by.Given as goal
 
 abbrev pub invariant-loop-place : goal.invariant-loop-place
 invariant-loop-place l = record {
-  memo : l.memo ≡ l.fn.memo;
+  reducer : l.reducer ≡ l.fn.reducer;
   gathered : Gathered l.self.theory.now l.self.budget l.places l.place-index l.found.items;
 }

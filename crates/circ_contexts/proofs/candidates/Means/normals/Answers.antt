@@ -22,14 +22,14 @@ loop-derivative-preserved c =
     elim c.if-takes.branch [
       | then-takes+in_ok-normal+in-Some+in_ok-push-in-Some w ↦
           record {
-            memo = w.memo-is ∙ w.normal.ensures.same ∙ c.loop-derivative.invariant.memo;
+            reducer = w.reducer-is ∙ w.normal.ensures.same ∙ c.loop-derivative.invariant.reducer;
             normals = rw (w.normals-is, w.in_ok-push-in-Some.ensures.items)
                 (normals_taken th c.args.self.now.budget g k i ns within c.loop-derivative.invariant.normals (sym c.takes.ensures ∙ w.if-takes.true) w.in-Some.normal
                 (rw w.in-Some.is at w.in_ok-normal.ensures.exact));
           }
       | else-takes w ↦
           record {
-            memo = w.memo-is ∙ c.loop-derivative.invariant.memo;
+            reducer = w.reducer-is ∙ c.loop-derivative.invariant.reducer;
             normals = rw w.normals-is
                 (normals_passed th c.args.self.now.budget g k i ns within c.loop-derivative.invariant.normals (sym c.takes.ensures ∙ w.if-takes.false));
           }

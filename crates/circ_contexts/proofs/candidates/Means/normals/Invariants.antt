@@ -4,6 +4,6 @@ use Rattle.circ_contexts.proofs.candidates.Means.normals.Given as goal
 
 abbrev pub invariant-loop-derivative : goal.invariant-loop-derivative
 invariant-loop-derivative l = record {
-  memo : l.memo ≡ l.fn.memo;
+  reducer : l.reducer ≡ l.fn.reducer;
   normals : NormalsTo l.self.theory.now l.self.budget l.start.place l.start.decl.now.result l.derivative l.normals.items;
 }

@@ -1,0 +1,12 @@
+pub mod Still
+pub mod Going
+pub mod Tried
+pub mod Faulting
+pub mod Arguments
+pub mod Rooting
+pub mod Measures
+pub mod Stores
+pub mod Passed
+pub mod Ruling
+pub mod Holding
+pub mod Untried

@@ -1,0 +1,21 @@
+-- Where no rule has conditions, what a memo answers is the answer with any number of tries around.
+use Rattle.std.proofs.Common.{ℕ, ◌-◌, Result, sym, subst}
+use Rattle.circ_term.specs.Tree.{Tree}
+use Rattle.circ_rewrite.specs.Due.{AreUnconditional}
+use Rattle.circ_rewrite.specs.Norm.{Normalised, norm}
+use Rattle.circ_rewrite.specs.Plain.{Answers}
+use Rattle.circ_rewrite.specs.declared.fault.RewriteFault.{RewriteFault}
+use Rattle.circ_rewrite.specs.declared.parts.Normal.{Normal}
+use Rattle.circ_memo.specs.Value.{Rewriting, AnswersValue}
+use Rattle.circ_conditional_norm.specs.Norm.{conditional_norm, try_limit}
+use Rattle.circ_conditional_norm.proofs.Before.{norm_before}
+
+module _ (r : Rewriting) (all : AreUnconditional r.rules) (tries k left : ℕ) (t : Tree) where
+  pub value_untried : (x : Result Tree RewriteFault) → AnswersValue x left (norm r.theory.signature r.rules r.assumptions k t)
+      → AnswersValue x left (conditional_norm tries r.theory.signature r.rules r.assumptions k t)
+  value_untried x h =
+      subst (λ (o : Normalised). AnswersValue x left o) (sym (norm_before r.theory.signature r.rules all r.assumptions (try_limit - tries) k t)) h
+
+  pub normal_untried : (x : Result Normal RewriteFault) → Answers x left (norm r.theory.signature r.rules r.assumptions k t)
+      → Answers x left (conditional_norm tries r.theory.signature r.rules r.assumptions k t)
+  normal_untried x h = subst (λ (o : Normalised). Answers x left o) (sym (norm_before r.theory.signature r.rules all r.assumptions (try_limit - tries) k t)) h

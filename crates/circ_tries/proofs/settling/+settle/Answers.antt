@@ -1,0 +1,803 @@
+use Rattle.std.proofs.Common.{◌≡◌, ◌⊎◌, inl, inr, ℕ, ◌+◌, ◌-◌, ◌≤◌, ◌<◌, zero, suc, true, List, [], ◌∷◌, ◌++◌, map, drop, take, length, Option, Some, None, Ok, Err, is_some, refl, ap, sym, subst, ◌∙◌, arith, append-nil, drop_of_length-le}
+use Rattle.std.specs.List.{slice_get}
+use Rattle.std.proofs.lemmas.Option.{same_Some, slice_get_read, slice_get_within}
+use Rattle.circ_term.specs.Tree.{Tree, args_of, operator_number, replaced, size_of, depth_of}
+use Rattle.circ_term.specs.Subst.{substitution_of}
+use Rattle.circ_term.specs.Substitution.{instance}
+use Rattle.circ_term.proofs.Limits.{within_limits}
+use Rattle.circ_term.proofs.Within.{drop_read}
+use Rattle.circ_theory.specs.Pairs.{plain_pair}
+use Rattle.circ_rewrite.specs.Plain.{plain_passes, plain_traces}
+use Rattle.circ_rewrite.specs.Replacement.{Traced}
+use Rattle.circ_rewrite.specs.declared.parts.Rule.{Rule}
+use Rattle.circ_nodes.specs.Named.{IsNamed, tree_at}
+use Rattle.circ_nodes.proofs.Numbers.{named_below, named_one, named_later, there_named, are_named_length, grows_self, grows_more}
+use Rattle.circ_due.specs.Bounds.{bounds_in, AreBound}
+use Rattle.circ_due.specs.Chosen.{IsFit, by_rule, due_by}
+use Rattle.circ_due.specs.declared.choice.Choice.TheVariants.{Ruled}
+use Rattle.circ_due.proofs.Givens.{bounds_later}
+use Rattle.circ_conditional_norm.specs.Tries.{rule_replaces, conditions_hold}
+use Rattle.circ_conditional_norm.specs.Within.{IsInRoom, Form, run_in}
+use Rattle.circ_conditional_norm.proofs.Stepping.{never_outgrown, root_none}
+use Rattle.circ_tries.specs.Store.{IsStore}
+use Rattle.circ_tries.specs.Trying.{due_in, conditions_by, norm_by, FindsDue, FindsPasses, TestsCondition}
+use Rattle.circ_tries.specs.Turning.{plain_room, IsInside, GoesOn, StopsAt, SettlesAt, TurnsAt, Writes}
+use Rattle.circ_tries.specs.declared.parts.Course.{Course}
+use Rattle.circ_tries.specs.declared.parts.Found.{Found}
+use Rattle.circ_tries.specs.declared.parts.Room.{Room}
+use Rattle.circ_tries.proofs.Arguments.{writes_arg}
+use Rattle.circ_tries.proofs.Faulting.{root_faults}
+use Rattle.circ_tries.proofs.Going.{take_front, writes_none, writes_on, goes_self, goes_on, stops_on, settles_on, steps_on, turns_on}
+use Rattle.circ_tries.proofs.Measures.{depth_at, depth_is, below_on}
+use Rattle.circ_tries.proofs.Passed.{variable_at_root, behind_args, args_start, settles_still, passes_still, passes_formed, passes_faults, passes_outgrown, deeper_than, arg_inside, room_limits, put_arg, put_limits, put_passes, formed_in_room}
+use Rattle.circ_tries.proofs.Still.{settled_at}
+use Rattle.circ_tries.proofs.Stores.{store_later, store_made, store_kept, due_falls, nothing_in, whole_faults_by, whole_settles}
+use Rattle.circ_tries.proofs.Holding.{first_hinders, second_hinders, forms_differ, forms_same, cond_hinders, other_numbers, same_numbers}
+use Rattle.circ_tries.proofs.Rooting.{found_later}
+use Rattle.circ_tries.proofs.Ruling.{rule_hinders, rule_fails, rule_applies}
+use Rattle.circ_tries.proofs.Tried.{due_behind, found_first, holds_all, holds_not, holds_on, replaces_by, rules_none, some_conditions, still_from, tried_some, tries_left}
+use Rattle.circ_tries.proofs.settling.+settle.Goals as goal
+
+-- ---- a whole term
+
+pub settle_whole-settle-requires : goal.settle_whole-settle-requires
+settle_whole-settle-requires t c =
+    let w = within_limits (tree_at c.args.store.now.nodes c.args.number) c.known_at.ensures.within in (
+      omega arith,
+      (
+        c.requires.store,
+        (
+          record { term = tree_at c.args.store.now.nodes c.args.number; named = c.known_at.ensures.named; room = record { small = w.0; shallow = w.1 }; big = omega arith; deep = omega arith },
+          (c.requires.tries, c.requires.fits),
+        ),
+      ),
+    )
+
+pub settle_whole-unreachable-requires : goal.settle_whole-unreachable-requires
+settle_whole-unreachable-requires t c =
+    let s = rw c.in-Err-Outgrows.field-0-is at (rw c.in-Err-Outgrows.is at (c.settle.ensures.ends (tree_at c.args.store.now.nodes c.args.number) c.known_at.ensures.named)) in
+    never_outgrown (due_in c.args.means.now c.args.tries) c.args.budget.now [] (tree_at c.args.store.now.nodes c.args.number) s.0 [] c.args.budget.now c.settle.new.budget (s.2 [])
+
+pub settle_whole-returns-in-Ok-clause-exact : goal.settle_whole-returns-in-Ok-clause-exact
+settle_whole-returns-in-Ok-clause-exact t c = λ u n.
+    let h = c.in-Ok.ensures.ends u n in
+    (h.0, h.2, whole_settles c.args.means.now c.args.tries _ (refl, refl) c.settle.new.store.nodes c.new-course.result.path.items c.new-course.result c.settle.new.course u c.args.budget.now c.settle.new.budget c.in-Ok.value
+    c.new-course.ensures.path c.new-course.ensures.traces h)
+
+pub settle_whole-returns-in-Err-Fault-clause-exact : goal.settle_whole-returns-in-Err-Fault-clause-exact
+settle_whole-returns-in-Err-Fault-clause-exact t c = λ u n.
+    whole_faults_by c.args.means.now c.args.tries _ (refl, refl) c.settle.new.store.nodes u c.args.budget.now c.settle.new.budget c.in-Err-Fault.fault
+    (rw c.in-Err-Fault.field-0-is at (rw c.in-Err-Fault.is at (c.settle.ensures.ends u n)))
+
+-- ---- one turn after the other
+
+pub settle-loop-stop-init : goal.settle-loop-stop-init
+settle-loop-stop-init t c =
+    let i = c.requires.inside in
+    record {
+      store = c.requires.store;
+      grows = grows_self c.args.store.now.nodes;
+      way = (
+        i.term,
+        i.term,
+        [],
+        i.named,
+        i.named,
+        goes_self (due_in c.args.means.now c.args.tries) c.args.room [] i.term c.args.budget.now,
+        writes_none c.args.course.now.path.items c.args.course.now refl,
+        i.room,
+      );
+      less = omega arith;
+      below = omega arith;
+    }
+
+pub settle-turn-requires : goal.settle-turn-requires
+settle-turn-requires t c =
+    let i = c.loop-stop.invariant in
+    let w = i.way in
+    let r = c.requires.inside in (
+      omega (arith, i.below),
+      (i.store, (record { term = w.1; named = w.4; room = w.7; big = r.big; deep = r.deep }, (c.requires.tries, omega (arith, i.less, c.requires.fits)))),
+    )
+
+pub settle-returns-in-Err-clause-ends : goal.settle-returns-in-Err-clause-ends
+settle-returns-in-Err-clause-ends t c = λ u n.
+    let due = due_in c.args.means.now c.args.tries in
+    let w = c.loop-stop.invariant.way in
+    let same = named_one c.args.store.now.nodes c.args.number w.0 u w.3 n in
+    subst (λ x. StopsAt due c.args.room c.turn.new.store.nodes [] x c.args.budget.now c.turn.new.budget c.in-Err.stop) same
+    (stops_on due c.args.room c.turn.new.store.nodes [] [] w.0 w.1 c.args.budget.now c.loop-stop.budget c.turn.new.budget w.2 c.in-Err.stop w.5 (c.in-Err.ensures.turns w.1 w.4))
+
+pub settle-returns-in-Ok-Settled-clause-ends : goal.settle-returns-in-Ok-Settled-clause-ends
+settle-returns-in-Ok-Settled-clause-ends t c = λ u n.
+    let due = due_in c.args.means.now c.args.tries in
+    let path = c.args.course.now.path.items in
+    let w = c.loop-stop.invariant.way in
+    let same = named_one c.args.store.now.nodes c.args.number w.0 u w.3 n in
+    let settled = rw c.in-Ok-Settled.field-0-is at (c.in-Ok-Settled.ensures.turns w.1 w.4) in
+    subst (λ x. SettlesAt due c.args.room c.turn.new.store.nodes path c.args.course.now c.turn.new.course [] x c.args.budget.now c.turn.new.budget c.in-Ok-Settled.value) same
+    (settles_on due c.args.room c.turn.new.store.nodes path [] [] c.args.course.now c.loop-stop.course c.turn.new.course w.0 w.1 c.args.budget.now c.loop-stop.budget c.turn.new.budget
+    c.in-Ok-Settled.value w.2 w.5 w.6 (rw w.6.1 at settled))
+
+pub settle-loop-stop-preserved : goal.settle-loop-stop-preserved
+settle-loop-stop-preserved t c =
+    let due = due_in c.args.means.now c.args.tries in
+    let path = c.args.course.now.path.items in
+    let i = c.loop-stop.invariant in
+    let w = i.way in
+    let r = c.requires.inside in
+    let stepped = rw c.in-Ok-Stepped.field-0-is at (c.in-Ok-Stepped.ensures.turns w.1 w.4) in
+    let on =
+    steps_on due c.args.room c.turn.new.store.nodes path [] [] c.args.course.now c.loop-stop.course c.turn.new.course w.0 w.1 c.args.budget.now c.loop-stop.budget c.turn.new.budget
+    c.in-Ok-Stepped.next w.2 i.less w.5 w.6 (rw w.6.1 at stepped) in
+    record {
+      store = c.turn.ensures.store;
+      grows = grows_more c.args.store.now.nodes c.loop-stop.store.nodes c.turn.new.store.nodes i.grows c.turn.ensures.grows;
+      way = (w.0, on.0, on.1, w.3, on.2, on.3, on.4, on.5);
+      less = (let f = on.6 in omega (arith, f));
+      below =
+          (let f = on.6 in
+          let d = depth_is c.turn.new.store.nodes c.in-Ok-Stepped.next on.0 on.2 in
+          let s = on.5.shallow in omega (arith, f, d, s, r.deep));
+    }
+
+pub settle-loop-stop-smaller : goal.settle-loop-stop-smaller
+settle-loop-stop-smaller t c =
+    let w = c.loop-stop.invariant.way in
+    let stepped = rw c.in-Ok-Stepped.field-0-is at (c.in-Ok-Stepped.ensures.turns w.1 w.4) in
+    let f = stepped.6 in omega (arith, f)
+
+pub settle-returns-in-Err-clause-grows : goal.settle-returns-in-Err-clause-grows
+settle-returns-in-Err-clause-grows t c =
+    grows_more c.args.store.now.nodes c.loop-stop.store.nodes c.turn.new.store.nodes c.loop-stop.invariant.grows c.turn.ensures.grows
+
+pub settle-returns-in-Ok-Settled-clause-grows : goal.settle-returns-in-Ok-Settled-clause-grows
+settle-returns-in-Ok-Settled-clause-grows t c =
+    grows_more c.args.store.now.nodes c.loop-stop.store.nodes c.turn.new.store.nodes c.loop-stop.invariant.grows c.turn.ensures.grows
+
+-- ---- a turn
+
+pub turn-returns-then-is_still-clause-turns : goal.turn-returns-then-is_still-clause-turns
+turn-returns-then-is_still-clause-turns t c = λ u n.
+    let m = c.args.means.now in
+    let nodes = c.args.store.now.nodes in
+    settles_still (due_in m c.args.tries) c.args.room (due_by m) (nothing_in m c.args.tries) nodes c.args.course.now.path.items c.args.course.now u c.args.budget.now c.args.here refl n
+    (settled_at (due_by m) nodes c.args.store.now.still.items c.args.here u c.requires.store.right (sym c.is_still.ensures ∙ c.if-is_still.true) n)
+
+pub turn-settle_args-requires : goal.turn-settle_args-requires
+turn-settle_args-requires t c = (omega arith, (c.requires.store, (c.requires.inside, (c.requires.tries, c.requires.fits))))
+
+pub turn-advance-requires : goal.turn-advance-requires
+turn-advance-requires t c =
+    let i = c.requires.inside in
+    let r = c.in-Ok.ensures.readies i.term i.named in (
+      omega (arith, c.settle_args.ensures.less),
+      (
+        c.settle_args.ensures.store,
+        (record { term = r.0; named = r.3; room = r.7; big = i.big; deep = i.deep }, (c.requires.tries, omega (arith, c.settle_args.ensures.less, c.requires.fits))),
+      ),
+    )
+
+pub turn-returns-in-Ok-clause-turns : goal.turn-returns-in-Ok-clause-turns
+turn-returns-in-Ok-clause-turns t c = λ u n.
+    let due = due_in c.args.means.now c.args.tries in
+    let path = c.args.course.now.path.items in
+    let r = c.in-Ok.ensures.readies u n in
+    turns_on due c.args.room c.advance.new.store.nodes path [] r.2 c.args.course.now c.settle_args.new.course c.advance.new.course u r.0 c.args.budget.now c.settle_args.new.budget
+    c.advance.new.budget r.1 c.advance.result c.settle_args.ensures.less r.4 r.6 (rw r.6.1 at (c.advance.ensures.turns r.0 r.2 r.3 r.5))
+
+pub turn-returns-in-Ok-clause-grows : goal.turn-returns-in-Ok-clause-grows
+turn-returns-in-Ok-clause-grows t c =
+    grows_more c.args.store.now.nodes c.settle_args.new.store.nodes c.advance.new.store.nodes c.settle_args.ensures.grows c.advance.ensures.grows
+
+-- ---- the arguments
+
+pub settle_args-returns-in-Variable-clause-readies : goal.settle_args-returns-in-Variable-clause-readies
+settle_args-returns-in-Variable-clause-readies t c = λ u n.
+    let due = due_in c.args.means.now c.args.tries in
+    let i = c.requires.inside in
+    let same = named_one c.args.store.now.nodes c.args.number i.term u i.named n in (
+      u,
+      [],
+      [],
+      n,
+      goes_self due c.args.room [] u c.args.budget.now,
+      variable_at_root due u c.in-Variable.number c.in-Variable.sort (c.in-Variable.ensures.shape u n),
+      writes_none c.args.course.now.path.items c.args.course.now refl,
+      subst (IsInRoom (plain_room c.args.room)) same i.room,
+    )
+
+pub settle_args-loop-place-init : goal.settle_args-loop-place-init
+settle_args-loop-place-init t c =
+    let due = due_in c.args.means.now c.args.tries in
+    let i = c.requires.inside in
+    let s = c.in-Application.ensures.shape i.term i.named in
+    let o : is_some (operator_number i.term) ≡ true = ap (λ u. is_some (operator_number u)) s.1 in
+    record {
+      store = c.requires.store;
+      grows = grows_self c.args.store.now.nodes;
+      way = (
+        i.term,
+        i.term,
+        [],
+        i.named,
+        i.named,
+        args_start due c.args.room i.term c.args.budget.now o,
+        (o, refl),
+        writes_none c.args.course.now.path.items c.args.course.now refl,
+        i.room,
+        ap (λ u. length (args_of u)) s.1 ∙ sym (are_named_length c.args.store.now.nodes c.in-Application.args.now s.0 s.2),
+      );
+      less = omega arith;
+      below = omega arith;
+    }
+
+pub settle_args-settle_arg-requires : goal.settle_args-settle_arg-requires
+settle_args-settle_arg-requires t c =
+    let i = c.loop-place.invariant in
+    let w = i.way in
+    let r = c.requires.inside in (
+      omega (arith, i.below),
+      (
+        i.store,
+        (
+          record { term = w.1; named = w.4; room = w.8; big = r.big; deep = r.deep },
+          (
+            (λ x nx.
+                let same = named_one c.loop-place.store.nodes c.loop-place.here w.1 x w.4 nx in
+                omega (arith, ap (λ u. length (args_of u)) same, w.6.1, w.9, c.loop-place-test.true)),
+            (c.requires.tries, omega (arith, i.less, c.requires.fits)),
+          ),
+        ),
+      ),
+    )
+
+pub settle_args-returns-in-Err-clause-readies : goal.settle_args-returns-in-Err-clause-readies
+settle_args-returns-in-Err-clause-readies t c = λ u n.
+    let due = due_in c.args.means.now c.args.tries in
+    let w = c.loop-place.invariant.way in
+    let same = named_one c.args.store.now.nodes c.args.number w.0 u w.3 n in
+    subst (λ x. StopsAt due c.args.room c.settle_arg.new.store.nodes [] x c.args.budget.now c.settle_arg.new.budget c.in-Err.stop) same
+    (stops_on due c.args.room c.settle_arg.new.store.nodes [] (c.loop-place.place ∷ []) w.0 w.1 c.args.budget.now c.loop-place.budget c.settle_arg.new.budget w.2 c.in-Err.stop w.5
+    (c.in-Err.ensures.passes w.1 w.4))
+
+pub settle_args-returns-in-Err-clause-grows : goal.settle_args-returns-in-Err-clause-grows
+settle_args-returns-in-Err-clause-grows t c =
+    grows_more c.args.store.now.nodes c.loop-place.store.nodes c.settle_arg.new.store.nodes c.loop-place.invariant.grows c.settle_arg.ensures.grows
+
+pub settle_args-loop-place-preserved : goal.settle_args-loop-place-preserved
+settle_args-loop-place-preserved t c =
+    let due = due_in c.args.means.now c.args.tries in
+    let path = c.args.course.now.path.items in
+    let i = c.loop-place.invariant in
+    let w = i.way in
+    let r = c.requires.inside in
+    let k = c.loop-place.place in
+    let p = c.in-Ok.ensures.passes w.1 w.4 in
+    record {
+      store = c.settle_arg.ensures.store;
+      grows = grows_more c.args.store.now.nodes c.loop-place.store.nodes c.settle_arg.new.store.nodes i.grows c.settle_arg.ensures.grows;
+      way = (
+        w.0,
+        p.0,
+        w.2 ++ p.1,
+        w.3,
+        p.2,
+        goes_on due c.args.room [] (k ∷ []) ((k + 1) ∷ []) w.0 w.1 p.0 c.args.budget.now c.loop-place.budget c.settle_arg.new.budget w.2 p.1 w.5 p.3,
+        (p.4.0, p.4.1 ∙ w.6.1),
+        writes_on path c.args.course.now c.loop-place.course c.settle_arg.new.course w.2 p.1 w.7 (rw w.7.1 at p.5),
+        p.6,
+        w.9,
+      );
+      less = omega (arith, i.less, c.settle_arg.ensures.less);
+      below =
+          (let du = depth_is c.loop-place.store.nodes c.loop-place.here w.1 w.4 in
+          let dv = depth_is c.settle_arg.new.store.nodes c.in-Ok.next p.0 p.2 in
+          let s = p.6.shallow in
+          below_on _ c.loop-place.budget c.settle_arg.new.budget (depth_at c.loop-place.store.nodes c.loop-place.here) (depth_at c.settle_arg.new.store.nodes c.in-Ok.next) i.below
+              c.settle_arg.ensures.less (same_depth p.7 du dv) (omega (arith, dv, s, r.deep)));
+    }
+  where
+    same_depth : {a b : ℕ} {x y : Tree} {m n : ℕ} → (a < b) ⊎ (x ≡ y) → m ≡ depth_of x → n ≡ depth_of y → (a < b) ⊎ (m ≡ n)
+    same_depth (inl f) h g = inl f
+    same_depth (inr e) h g = inr (h ∙ ap depth_of e ∙ sym g)
+
+pub settle_args-returns-clause-readies : goal.settle_args-returns-clause-readies
+settle_args-returns-clause-readies t c = λ u n.
+    let due = due_in c.args.means.now c.args.tries in
+    let w = c.loop-place.invariant.way in
+    let same = named_one c.args.store.now.nodes c.args.number w.0 u w.3 n in
+    let k = c.loop-place.place in
+    let all : length (args_of w.1) ≤ k = omega (arith, w.6.1, w.9, c.loop-place.auto.place-end, c.loop-place-test.false) in
+    (w.1, w.2, k ∷ [], w.4, subst (λ x. GoesOn due c.args.room [] x c.args.budget.now (k ∷ []) w.1 w.2 c.loop-place.budget) same w.5, behind_args due w.1 k w.6.0 all, w.7, w.8)
+
+-- ---- one argument
+
+pub settle_arg-returns-then-is_still-clause-passes : goal.settle_arg-returns-then-is_still-clause-passes
+settle_arg-returns-then-is_still-clause-passes t c = λ u n.
+    let m = c.args.means.now in
+    let nodes = c.args.store.now.nodes in
+    let i = c.requires.inside in
+    let a = c.arg_at-arg.ensures.arg u n in
+    let room = subst (IsInRoom (plain_room c.args.room)) (named_one nodes c.args.here i.term u i.named n) i.room in
+    passes_still (due_in m c.args.tries) (due_falls m c.args.tries) c.args.room i.big i.deep (due_by m) (nothing_in m c.args.tries) u c.args.place a.0 c.args.budget.now a.1 room nodes
+    c.args.course.now.path.items c.args.course.now c.args.here refl n
+    (settled_at (due_by m) nodes c.args.store.now.still.items c.arg_at-arg.result a.0 c.requires.store.right (sym c.is_still.ensures ∙ c.if-is_still.true) a.2)
+
+pub settle_arg-room_for-left-requires : goal.settle_arg-room_for-left-requires
+settle_arg-room_for-left-requires t c =
+    let i = c.requires.inside in
+    let a = c.arg_at-arg.ensures.arg i.term i.named in
+    let d = deeper_than (due_in c.args.means.now c.args.tries) (due_falls c.args.means.now c.args.tries) c.args.room i.big i.deep i.term c.args.place a.0 a.1 in
+    let s = i.room.shallow in
+    record { inside = i; arg = named_below c.args.store.now.nodes c.arg_at-arg.result a.0 a.2; deep = omega (arith, d, s) }
+
+pub settle_arg-settle-settled-requires : goal.settle_arg-settle-settled-requires
+settle_arg-settle-settled-requires t c =
+    let due = due_in c.args.means.now c.args.tries in
+    let falls = due_falls c.args.means.now c.args.tries in
+    let nodes = c.args.store.now.nodes in
+    let i = c.requires.inside in
+    let a = c.arg_at-arg.ensures.arg i.term i.named in
+    let left = c.room_for-left.ensures i.term a.0 i.named a.2 in
+    let inside = arg_inside due falls c.args.room i.big i.deep i.term c.args.place a.0 a.1 i.room in
+    let limits = room_limits due falls c.args.room i.big i.deep i.term c.args.place a.0 a.1 i.room in
+    let d = deeper_than due falls c.args.room i.big i.deep i.term c.args.place a.0 a.1 in
+    let da = depth_is nodes c.arg_at-arg.result a.0 a.2 in
+    let dt = depth_is nodes c.args.here i.term i.named in (
+      omega (arith, d, da, dt),
+      (
+        c.requires.store,
+        (
+          record {
+            term = a.0;
+            named = a.2;
+            room = subst (λ (r : Room). IsInRoom (plain_room r) a.0) (sym left) inside;
+            big = omega (arith, ap (λ (r : Room). r.big) left, limits.0);
+            deep = omega (arith, ap (λ (r : Room). r.deep) left, limits.1);
+          },
+          (c.requires.tries, c.requires.fits),
+        ),
+      ),
+    )
+
+pub settle_arg-put_value-requires : goal.settle_arg-put_value-requires
+settle_arg-put_value-requires t c =
+    let i = c.requires.inside in
+    let nodes = c.args.store.now.nodes in
+    let new = c.settle-settled.new.store.nodes in
+    let a = c.arg_at-arg.ensures.arg i.term i.named in
+    let g = c.settle-settled.ensures.grows in
+    let here = named_later nodes new c.args.here i.term g i.named in
+    let h = rw c.in-Ok.is at (c.settle-settled.ensures.ends a.0 a.2) in
+    record {
+      there = named_below new c.args.here i.term here;
+      value = named_below new c.in-Ok.value h.0 h.2;
+      place = λ x nx. let same = named_one new c.args.here i.term x here nx in subst (λ y. c.args.place < length (args_of y)) same (c.requires.place i.term i.named);
+    }
+
+pub settle_arg-outgrow-requires-clause-there : goal.settle_arg-outgrow-requires-clause-there
+settle_arg-outgrow-requires-clause-there t c =
+    let i = c.requires.inside in
+    let new = c.settle-settled.new.store.nodes in
+    named_below new c.args.here i.term (named_later c.args.store.now.nodes new c.args.here i.term c.settle-settled.ensures.grows i.named)
+
+pub settle_arg-outgrow-requires-clause-new : goal.settle_arg-outgrow-requires-clause-new
+settle_arg-outgrow-requires-clause-new t c =
+    let i = c.requires.inside in
+    let a = c.arg_at-arg.ensures.arg i.term i.named in
+    let s = rw (rw c.in-Err-Outgrows.is at c.in-Err-Outgrows.field-0-is) at (rw c.in-Err-Outgrows.is at (c.settle-settled.ensures.ends a.0 a.2)) in
+    named_below c.settle-settled.new.store.nodes c.in-Err-Outgrows.new s.0 s.1
+
+pub settle_arg-outgrow-requires-clause-place : goal.settle_arg-outgrow-requires-clause-place
+settle_arg-outgrow-requires-clause-place t c = λ x nx.
+    let i = c.requires.inside in
+    let new = c.settle-settled.new.store.nodes in
+    let here = named_later c.args.store.now.nodes new c.args.here i.term c.settle-settled.ensures.grows i.named in
+    let same = named_one new c.args.here i.term x here nx in
+    subst (λ y. c.args.place < length (args_of y)) same (c.requires.place i.term i.named)
+
+pub settle_arg-returns-in-Ok-clause-store : goal.settle_arg-returns-in-Ok-clause-store
+settle_arg-returns-in-Ok-clause-store t c = store_later c.args.means.now c.settle-settled.new.store _ c.put_value.ensures.grows refl refl c.settle-settled.ensures.store
+
+pub settle_arg-returns-in-Err-Outgrows-clause-store : goal.settle_arg-returns-in-Err-Outgrows-clause-store
+settle_arg-returns-in-Err-Outgrows-clause-store t c = store_later c.args.means.now c.settle-settled.new.store _ c.outgrow.ensures.grows refl refl c.settle-settled.ensures.store
+
+pub settle_arg-returns-in-Ok-clause-passes : goal.settle_arg-returns-in-Ok-clause-passes
+settle_arg-returns-in-Ok-clause-passes t c = λ u n.
+    let due = due_in c.args.means.now c.args.tries in
+    let falls = due_falls c.args.means.now c.args.tries in
+    let nodes = c.args.store.now.nodes in
+    let new = c.settle-settled.new.store.nodes in
+    let path = c.args.course.now.path.items in
+    let k = c.args.budget.now in
+    let i = c.requires.inside in
+    let a = c.arg_at-arg.ensures.arg u n in
+    let room = subst (IsInRoom (plain_room c.args.room)) (named_one nodes c.args.here i.term u i.named n) i.room in
+    let left = c.room_for-left.ensures u a.0 n a.2 in
+    let g = c.settle-settled.ensures.grows in
+    let h = rw c.in-Ok.is at (c.settle-settled.ensures.ends a.0 a.2) in
+    let form = ap (λ (r : Room). run_in due (plain_room r) k [] a.0 [] k) (sym left) ∙ h.3 [] in
+    let put = put_arg due falls c.args.room i.big i.deep u c.args.place a.0 h.0 a.1 in
+    let inner = formed_in_room due falls c.args.room i.big i.deep u c.args.place a.0 h.0 h.1 k c.settle-settled.new.budget a.1 room form in
+    let limits = put_limits due falls c.args.room i.big i.deep u c.args.place a.0 h.0 put.0 a.1 room inner put.1 in
+    let is = c.put_value.ensures.puts u a.0 h.0 put.0 (named_later nodes new c.args.here u g n) a.1 (named_later nodes new c.arg_at-arg.result a.0 g a.2) h.2 put.1 limits in
+    let course : Course = record { path = c.truncate.new.self; traces = c.settle-settled.new.course.traces } in
+    let back =
+    c.truncate.ensures.items ∙ ap (take c.len-depth.result) (h.4.1 ∙ c.in_ok-push.ensures.ok) ∙ take_front path (c.args.place ∷ []) c.len-depth.result c.len-depth.ensures.value in
+    put_passes due c.args.room c.put_value.new.nodes path c.args.course.now course u c.args.place k c.settle-settled.new.budget put.0 c.put_value.result is
+    (λ m named. passes_formed due falls c.args.room i.big i.deep u c.args.place a.0 h.0 put.0 k a.1 room put.1 c.put_value.new.nodes path c.args.course.now course m c.settle-settled.new.budget h.1
+    named form (writes_arg path c.args.place c.args.course.now course h.1 (rw c.in_ok-push.ensures.ok at h.4.0) back))
+
+pub settle_arg-returns-in-Err-Fault-clause-passes : goal.settle_arg-returns-in-Err-Fault-clause-passes
+settle_arg-returns-in-Err-Fault-clause-passes t c = λ u n.
+    let due = due_in c.args.means.now c.args.tries in
+    let nodes = c.args.store.now.nodes in
+    let i = c.requires.inside in
+    let a = c.arg_at-arg.ensures.arg u n in
+    let room = subst (IsInRoom (plain_room c.args.room)) (named_one nodes c.args.here i.term u i.named n) i.room in
+    let left = c.room_for-left.ensures u a.0 n a.2 in
+    let s = rw (rw c.in-Err-Fault.is at c.in-Err-Fault.field-0-is) at (rw c.in-Err-Fault.is at (c.settle-settled.ensures.ends a.0 a.2)) in
+    passes_faults due (due_falls c.args.means.now c.args.tries) c.args.room i.big i.deep u c.args.place a.0 c.args.budget.now a.1 room c.settle-settled.new.store.nodes c.settle-settled.new.budget
+    c.room_for-left.result c.in-Err-Fault.fault (ap plain_room left) s
+
+pub settle_arg-returns-in-Err-Outgrows-clause-passes : goal.settle_arg-returns-in-Err-Outgrows-clause-passes
+settle_arg-returns-in-Err-Outgrows-clause-passes t c = λ u n.
+    let due = due_in c.args.means.now c.args.tries in
+    let falls = due_falls c.args.means.now c.args.tries in
+    let nodes = c.args.store.now.nodes in
+    let new = c.settle-settled.new.store.nodes in
+    let k = c.args.budget.now in
+    let i = c.requires.inside in
+    let a = c.arg_at-arg.ensures.arg u n in
+    let room = subst (IsInRoom (plain_room c.args.room)) (named_one nodes c.args.here i.term u i.named n) i.room in
+    let left = c.room_for-left.ensures u a.0 n a.2 in
+    let s = rw (rw c.in-Err-Outgrows.is at c.in-Err-Outgrows.field-0-is) at (rw c.in-Err-Outgrows.is at (c.settle-settled.ensures.ends a.0 a.2)) in
+    let put = put_arg due falls c.args.room i.big i.deep u c.args.place a.0 s.0 a.1 in
+    passes_outgrown due falls c.args.room i.big i.deep u c.args.place a.0 s.0 put.0 k a.1 room put.1 c.outgrow.new.nodes c.settle-settled.new.budget c.outgrow.result
+    (ap (λ (r : Room). run_in due (plain_room r) k [] a.0 [] k) (sym left) ∙ s.2 [])
+    (c.outgrow.ensures.outgrows u s.0 put.0 (named_later nodes new c.args.here u c.settle-settled.ensures.grows n) s.1 put.1)
+
+-- ---- at the root
+
+pub advance-find_due-requires : goal.advance-find_due-requires
+advance-find_due-requires t c =
+    let i = c.requires.inside in
+    (omega arith, (c.requires.store, (named_below c.args.store.now.nodes c.args.number i.term i.named, (c.requires.tries, c.requires.fits))))
+
+pub advance-returns-in-Err-clause-turns : goal.advance-returns-in-Err-clause-turns
+advance-returns-in-Err-clause-turns t c = λ u from n root.
+    root_faults (due_in c.args.means.now c.args.tries) c.args.room c.find_due.new.store.nodes from u c.args.budget.now c.find_due.new.budget c.in-Err.fault root (c.in-Err.ensures.finds u n)
+
+pub advance-returns-in-Ok-None-clause-turns : goal.advance-returns-in-Ok-None-clause-turns
+advance-returns-in-Ok-None-clause-turns t c = λ u from n root.
+    let due = due_in c.args.means.now c.args.tries in
+    let k = c.args.budget.now in
+    let none = rw c.in-Ok-None.field-0-is at (c.in-Ok-None.ensures.finds u n) in
+    (u, [], named_later c.args.store.now.nodes c.find_due.new.store.nodes c.args.number u c.find_due.ensures.grows n,
+    (λ us. root_none due (plain_room c.args.room) from u us k (root k) k c.find_due.new.budget none ∙ ap (λ xs. Form u xs c.find_due.new.budget) (sym (append-nil us))),
+    writes_none c.args.course.now.path.items c.args.course.now refl)
+
+pub advance-make-requires : goal.advance-make-requires
+advance-make-requires t c =
+    let i = c.requires.inside in
+    let g = c.find_due.ensures.grows in
+    let here = named_later c.args.store.now.nodes c.find_due.new.store.nodes c.args.number i.term g i.named in
+    let found = rw c.in-Ok-Some.field-0-is at (c.in-Ok-Some.ensures.finds i.term i.named) in
+    record { ready = c.find_due.ensures.store.ready; built = c.find_due.ensures.store.built; there = named_below c.find_due.new.store.nodes c.args.number i.term here; found = (i.term, found.0, here, found.1) }
+
+pub advance-returns-in-Ok-clause-turns : goal.advance-returns-in-Ok-clause-turns
+advance-returns-in-Ok-clause-turns t c = λ u from n root.
+    let g = c.find_due.ensures.grows in
+    let here = named_later c.args.store.now.nodes c.find_due.new.store.nodes c.args.number u g n in
+    let found = rw c.in-Ok-Some.field-0-is at (c.in-Ok-Some.ensures.finds u n) in
+    c.in-Ok.ensures.makes (due_in c.args.means.now c.args.tries) (due_falls c.args.means.now c.args.tries) from u found.0 c.args.budget.now here found.1 root found.2
+
+pub advance-returns-in-Err-make-clause-turns : goal.advance-returns-in-Err-make-clause-turns
+advance-returns-in-Err-make-clause-turns t c = λ u from n root.
+    let g = c.find_due.ensures.grows in
+    let here = named_later c.args.store.now.nodes c.find_due.new.store.nodes c.args.number u g n in
+    let found = rw c.in-Ok-Some.field-0-is at (c.in-Ok-Some.ensures.finds u n) in
+    c.in-Err-make.ensures.makes (due_in c.args.means.now c.args.tries) (due_falls c.args.means.now c.args.tries) from u found.0 c.args.budget.now here found.1 root found.2
+
+pub advance-returns-in-Ok-clause-store : goal.advance-returns-in-Ok-clause-store
+advance-returns-in-Ok-clause-store t c = store_made c.args.means.now c.find_due.new.store _ c.make.ensures.grows refl c.make.ensures.built c.find_due.ensures.store
+
+pub advance-returns-in-Err-make-clause-store : goal.advance-returns-in-Err-make-clause-store
+advance-returns-in-Err-make-clause-store t c = store_made c.args.means.now c.find_due.new.store _ c.make.ensures.grows refl c.make.ensures.built c.find_due.ensures.store
+
+pub find_due-returns-in-Some-clause-finds : goal.find_due-returns-in-Some-clause-finds
+find_due-returns-in-Some-clause-finds t c = λ u n.
+    let m = c.args.means.now in
+    let chosen = rw c.in-Some.is at (c.choose_before_rules.ensures u n) in
+    found_first c.args.store.now.nodes m c.args.tries u c.args.budget.now (record { choice = c.in-Some.choice; conds = c.new.result }) chosen.0 chosen.2 chosen.1 c.new.ensures.items
+
+pub find_due-try_rules-requires : goal.find_due-try_rules-requires
+find_due-try_rules-requires t c =
+    (omega arith, (c.requires.store, (c.requires.there, (c.requires.tries, (c.requires.fits, λ u n. rw c.in_default.is at (c.choose_before_rules.ensures u n))))))
+
+pub find_due-returns-clause-finds : goal.find_due-returns-clause-finds
+find_due-returns-clause-finds t c = λ u n.
+    let m = c.args.means.now in
+    let none = rw c.in_default.is at (c.choose_before_rules.ensures u n) in
+    let same = due_behind (conditions_by m c.args.tries) m.theory.now.signature m.rules.items m.assumptions c.args.budget.now u c.requires.store.ready.rewrite none in
+    subst (λ w. FindsDue c.try_rules.new.store.nodes m u c.try_rules.new.budget w c.try_rules.result) (sym same) (c.try_rules.ensures.finds u n)
+
+-- ---- rules, one after the other
+
+pub try_rules-loop-store-init : goal.try_rules-loop-store-init
+try_rules-loop-store-init t c = record { store = c.requires.store; grows = grows_self c.args.store.now.nodes; less = omega arith; tried = λ u n. refl }
+
+pub try_rules-returns-in-None-clause-finds : goal.try_rules-returns-in-None-clause-finds
+try_rules-returns-in-None-clause-finds t c = λ u n.
+    let i = c.loop-store.invariant in
+    let here = named_later c.args.store.now.nodes c.loop-store.store.nodes c.args.number u i.grows n in
+    i.tried u n ∙ rules_none (conditions_by c.args.means.now c.args.tries) u c.args.means.now.rules.items c.loop-store.from c.loop-store.budget (rw c.in-None.is at (c.in_ok-rule_from.ensures u here))
+
+pub try_rules-returns-in-None-clause-store : goal.try_rules-returns-in-None-clause-store
+try_rules-returns-in-None-clause-store t c =
+    let m = c.args.means.now in
+    let old = c.args.store.now.nodes in
+    let i = c.loop-store.invariant in
+    let u = there_named old c.args.number c.requires.there in
+    let here = named_later old c.loop-store.store.nodes c.args.number u.0 i.grows u.1 in
+    let none = rw c.in-None.is at (c.in_ok-rule_from.ensures u.0 here) in
+    store_kept m c.loop-store.store c.keep_still.new.store c.keep_still.ensures.nodes c.keep_still.ensures.terms
+    (c.keep_still.ensures.right (due_by m) u.0 i.store.right here (λ e. still_from m.theory.now.signature m.rules.items m.assumptions u.0 c.loop-store.from (c.requires.none u.0 u.1) none e)) i.store
+
+pub try_rules-returns-in_err-keep_still-in-None-clause-store : goal.try_rules-returns-in_err-keep_still-in-None-clause-store
+try_rules-returns-in_err-keep_still-in-None-clause-store t c =
+    let m = c.args.means.now in
+    let old = c.args.store.now.nodes in
+    let i = c.loop-store.invariant in
+    let u = there_named old c.args.number c.requires.there in
+    let here = named_later old c.loop-store.store.nodes c.args.number u.0 i.grows u.1 in
+    let none = rw c.in-None.is at (c.in_ok-rule_from.ensures u.0 here) in
+    store_kept m c.loop-store.store c.keep_still.new.store c.keep_still.ensures.nodes c.keep_still.ensures.terms
+    (c.keep_still.ensures.right (due_by m) u.0 i.store.right here (λ e. still_from m.theory.now.signature m.rules.items m.assumptions u.0 c.loop-store.from (c.requires.none u.0 u.1) none e)) i.store
+
+pub try_rules-try_rule-requires : goal.try_rules-try_rule-requires
+try_rules-try_rule-requires t c =
+    let old = c.args.store.now.nodes in
+    let i = c.loop-store.invariant in
+    let u = there_named old c.args.number c.requires.there in
+    let here = named_later old c.loop-store.store.nodes c.args.number u.0 i.grows u.1 in
+    let found = rw c.in-Some.is at (c.in_ok-rule_from.ensures u.0 here) in
+    (omega (arith, i.less), (i.store, (slice_get_within c.args.means.now.rules.items c.in-Some.rule found.1.0 found.1.1, (subst (AreBound c.loop-store.store.nodes) (sym c.as_slice.ensures) found.1.2.bound, (c.requires.tries, omega (arith, i.less, c.requires.fits))))))
+
+pub try_rules-overflow_add-from : goal.try_rules-overflow_add-from
+try_rules-overflow_add-from t c =
+    let old = c.args.store.now.nodes in
+    let i = c.loop-store.invariant in
+    let u = there_named old c.args.number c.requires.there in
+    let here = named_later old c.loop-store.store.nodes c.args.number u.0 i.grows u.1 in
+    let found = rw c.in-Some.is at (c.in_ok-rule_from.ensures u.0 here) in
+    omega (arith, slice_get_within c.args.means.now.rules.items c.in-Some.rule found.1.0 found.1.1, i.store.ready.few_rules)
+
+pub try_rules-returns-in-Err-clause-finds : goal.try_rules-returns-in-Err-clause-finds
+try_rules-returns-in-Err-clause-finds t c = λ u n.
+    let m = c.args.means.now in
+    let here = c.loop-store.store.nodes in
+    let i = c.loop-store.invariant in
+    let found = rw c.in-Some.is at (c.in_ok-rule_from.ensures u (named_later c.args.store.now.nodes here c.args.number u i.grows n)) in
+    rule_hinders (conditions_by m c.args.tries) here m.rules.items u c.args.budget.now c.loop-store.from c.loop-store.budget c.in-Some.rule found.1.0 c.as_slice.result.now
+    (record { before = i.tried u n; low = found.0; there = found.1.1; fit = subst (IsFit here found.1.0 u) (sym c.as_slice.ensures) found.1.2; none = found.2 }) c.in-Err.fault c.try_rule.new.budget (c.in-Err.ensures.finds found.1.0 found.1.1)
+
+pub try_rules-returns-in-Ok-Some-clause-finds : goal.try_rules-returns-in-Ok-Some-clause-finds
+try_rules-returns-in-Ok-Some-clause-finds t c = λ u n.
+    let m = c.args.means.now in
+    let here = c.loop-store.store.nodes in
+    let i = c.loop-store.invariant in
+    let given = c.in-Some.given.items in
+    let rule = rw c.in-Some.is at (c.in_ok-rule_from.ensures u (named_later c.args.store.now.nodes here c.args.number u i.grows n)) in
+    let r = rule.1.0 in
+    let fit = rule.1.2 in
+    let ps = plain_passes c.in-Ok-Some.conds.items in
+    let found : Found = record { choice = Ruled c.in-Some.rule c.in-Some.given; conds = c.in-Ok-Some.conds } in
+    let applies = rw c.in-Ok-Some.field-0-is at (c.in-Ok-Some.ensures.finds r rule.1.1) in (
+      rule_replaces r u ps,
+      found_later here c.try_rule.new.store.nodes c.try_rule.ensures.grows m u found (rule_replaces r u ps)
+          (by_rule here r given, (r, rule.1.1, fit, refl), replaces_by here r u given fit ps),
+      rule_applies (conditions_by m c.args.tries) here m.rules.items u c.args.budget.now c.loop-store.from c.loop-store.budget c.in-Some.rule r c.as_slice.result.now
+          (record { before = i.tried u n; low = rule.0; there = rule.1.1; fit = subst (IsFit here r u) (sym c.as_slice.ensures) fit; none = rule.2 }) c.try_rule.new.budget ps applies,
+    )
+
+pub try_rules-loop-store-smaller : goal.try_rules-loop-store-smaller
+try_rules-loop-store-smaller t c =
+    let old = c.args.store.now.nodes in
+    let i = c.loop-store.invariant in
+    let u = there_named old c.args.number c.requires.there in
+    let here = named_later old c.loop-store.store.nodes c.args.number u.0 i.grows u.1 in
+    let found = rw c.in-Some.is at (c.in_ok-rule_from.ensures u.0 here) in
+    let low = found.0 in
+    omega (arith, slice_get_within c.args.means.now.rules.items c.in-Some.rule found.1.0 found.1.1, low)
+
+pub try_rules-loop-store-preserved : goal.try_rules-loop-store-preserved
+try_rules-loop-store-preserved t c =
+    let m = c.args.means.now in
+    let here = c.loop-store.store.nodes in
+    let i = c.loop-store.invariant in
+    record {
+      store = c.try_rule.ensures.store;
+      grows = grows_more c.args.store.now.nodes here c.try_rule.new.store.nodes i.grows c.try_rule.ensures.grows;
+      less = omega (arith, i.less, c.try_rule.ensures.less);
+      tried = λ u n.
+          let found = rw c.in-Some.is at (c.in_ok-rule_from.ensures u (named_later c.args.store.now.nodes here c.args.number u i.grows n)) in
+          rule_fails (conditions_by m c.args.tries) here m.rules.items u c.args.budget.now c.loop-store.from c.loop-store.budget c.in-Some.rule found.1.0 c.as_slice.result.now
+          (record { before = i.tried u n; low = found.0; there = found.1.1; fit = subst (IsFit here found.1.0 u) (sym c.as_slice.ensures) found.1.2; none = found.2 }) c.try_rule.new.budget
+          (rw c.in-Ok-None.field-0-is at (c.in-Ok-None.ensures.finds found.1.0 found.1.1));
+    }
+
+-- ---- conditions, one after the other
+
+pub try_rule-returns-clause-finds : goal.try_rule-returns-clause-finds
+try_rule-returns-clause-finds t c = λ r g.
+    let m = c.args.means.now in
+    let k = c.args.budget.now in
+    let rules = m.rules.items in
+    let f = norm_by m (c.args.tries + 1) in
+    let σ = substitution_of (bounds_in c.args.store.now.nodes c.args.given.now) in
+    let q = c.index.result.now in
+    let there : slice_get rules c.args.rule ≡ Some q = slice_get_read rules (length rules) c.args.rule q refl c.requires.rule c.index.ensures in
+    let conds : map plain_pair c.as_slice-conds.result.now ≡ r.conds = c.as_slice-conds.ensures ∙ ap (λ (x : Rule). x.conds) (same_Some q r (sym there ∙ g)) in
+    let few : c.args.tries < 8 = omega (arith, c.requires.tries, c.if-tries-eq-MOST_TRIES.false) in
+    let some = some_conditions plain_pair c.as_slice-conds.result.now r.conds c.is_empty.result conds c.is_empty.ensures c.if-is_empty.false in
+    let same = tried_some (conditions_by m c.args.tries) σ f r.conds k some (tries_left m c.args.tries few) (omega (arith, c.if-budget-eq0.false)) in
+    let finds = subst (λ ps. FindsPasses (λ passes. plain_passes passes.items) c.try_conditions.new.budget (conditions_hold f σ ps (k - 1)) c.try_conditions.result) conds
+    c.try_conditions.ensures.finds in
+    subst (λ w. FindsPasses (λ passes. plain_passes passes.items) c.try_conditions.new.budget w c.try_conditions.result) (sym same) finds
+
+pub try_conditions-returns-in-Err-clause-finds : goal.try_conditions-returns-in-Err-clause-finds
+try_conditions-returns-in-Err-clause-finds t c =
+    let m = c.args.means.now in
+    let old = c.args.store.now.nodes in
+    let here = c.loop-cond.store.nodes in
+    let given = c.args.given.now in
+    let i = c.loop-cond.invariant in
+    let f = norm_by m c.args.tries in
+    let p = plain_pair c.cond-item.result in
+    let rest = map plain_pair (drop (c.loop-cond.cond-index + 1) c.args.conds.now) in
+    let read = drop_read c.args.conds.now c.loop-cond.cond-index c.cond-item.result c.loop-cond-test.true c.cond-item.is in
+    let same = bounds_later old here given i.grows c.requires.bound in
+    let tests = subst (λ bs. TestsCondition f (substitution_of bs) p c.loop-cond.budget c.try_condition.new.budget (Err c.in-Err.fault)) same c.in-Err.ensures.tests in
+    cond_hinders f (substitution_of (bounds_in old given)) (map plain_pair c.args.conds.now) p rest c.args.budget.now c.loop-cond.budget c.try_condition.new.budget c.loop-cond.passes.items
+    c.in-Err.fault (rw read at i.held) tests
+
+pub try_conditions-returns-in-Ok-None-clause-finds : goal.try_conditions-returns-in-Ok-None-clause-finds
+try_conditions-returns-in-Ok-None-clause-finds t c =
+    let m = c.args.means.now in
+    let old = c.args.store.now.nodes in
+    let here = c.loop-cond.store.nodes in
+    let given = c.args.given.now in
+    let i = c.loop-cond.invariant in
+    let f = norm_by m c.args.tries in
+    let p = plain_pair c.cond-item.result in
+    let rest = map plain_pair (drop (c.loop-cond.cond-index + 1) c.args.conds.now) in
+    let read = drop_read c.args.conds.now c.loop-cond.cond-index c.cond-item.result c.loop-cond-test.true c.cond-item.is in
+    let same = bounds_later old here given i.grows c.requires.bound in
+    let tests = subst (λ bs. TestsCondition f (substitution_of bs) p c.loop-cond.budget c.try_condition.new.budget (Ok None)) same (rw c.in-Ok-None.field-0-is at c.in-Ok-None.ensures.tests) in
+    holds_not f (substitution_of (bounds_in old given)) (map plain_pair c.args.conds.now) p rest c.args.budget.now c.loop-cond.budget c.try_condition.new.budget c.loop-cond.passes.items
+    (rw read at i.held) tests
+
+pub try_conditions-loop-cond-preserved : goal.try_conditions-loop-cond-preserved
+try_conditions-loop-cond-preserved t c =
+    let m = c.args.means.now in
+    let old = c.args.store.now.nodes in
+    let here = c.loop-cond.store.nodes in
+    let given = c.args.given.now in
+    let i = c.loop-cond.invariant in
+    let f = norm_by m c.args.tries in
+    let p = plain_pair c.cond-item.result in
+    let rest = map plain_pair (drop (c.loop-cond.cond-index + 1) c.args.conds.now) in
+    let read = drop_read c.args.conds.now c.loop-cond.cond-index c.cond-item.result c.loop-cond-test.true c.cond-item.is in
+    let same = bounds_later old here given i.grows c.requires.bound in
+    let tests = subst (λ bs. TestsCondition f (substitution_of bs) p c.loop-cond.budget c.try_condition.new.budget (Ok (Some c.in-Ok-Some.pass))) same
+    (rw c.in-Ok-Some.field-0-is at c.in-Ok-Some.ensures.tests) in
+    record {
+      store = c.try_condition.ensures.store;
+      grows = grows_more old here c.try_condition.new.store.nodes i.grows c.try_condition.ensures.grows;
+      less = omega (arith, i.less, c.try_condition.ensures.less);
+      held = rw c.in_ok-push-in-Ok-Some.ensures.items
+          (holds_on f (substitution_of (bounds_in old given)) (map plain_pair c.args.conds.now) p rest c.args.budget.now c.loop-cond.budget c.try_condition.new.budget c.loop-cond.passes.items
+          c.in-Ok-Some.pass (rw read at i.held) tests);
+    }
+
+pub try_conditions-returns-clause-finds : goal.try_conditions-returns-clause-finds
+try_conditions-returns-clause-finds t c =
+    let old = c.args.store.now.nodes in
+    let i = c.loop-cond.invariant in
+    let all : length c.args.conds.now ≤ c.loop-cond.cond-index = omega (arith, c.loop-cond-test.false) in
+    let none = drop_of_length-le c.args.conds.now all in
+    holds_all (norm_by c.args.means.now c.args.tries) (substitution_of (bounds_in old c.args.given.now)) (map plain_pair c.args.conds.now) c.args.budget.now c.loop-cond.budget
+    c.loop-cond.passes.items (rw none at i.held)
+
+-- ---- one condition
+
+pub try_condition-settle_whole-requires : goal.try_condition-settle_whole-requires
+try_condition-settle_whole-requires t c =
+    let p = plain_pair c.args.cond.now in
+    let σ = substitution_of (bounds_in c.args.store.now.nodes c.args.given.now) in
+    let nodes = c.build_sides.new.nodes in
+    let left = c.in-Ok.ensures.builds.0 in
+    let deep = (within_limits (instance σ p.left) left.1).1 in
+    let is = depth_is nodes c.in-Ok.sides.0 (instance σ p.left) left.0 in (
+      omega (arith, deep, is),
+      (
+        store_later c.args.means.now c.args.store.now _ c.build_sides.ensures.grows refl refl c.requires.store,
+        (named_below nodes c.in-Ok.sides.0 (instance σ p.left) left.0, (c.requires.tries, c.requires.fits)),
+      ),
+    )
+
+pub try_condition-settle_whole-requires-2 : goal.try_condition-settle_whole-requires-2
+try_condition-settle_whole-requires-2 t c =
+    let p = plain_pair c.args.cond.now in
+    let σ = substitution_of (bounds_in c.args.store.now.nodes c.args.given.now) in
+    let nodes = c.build_sides.new.nodes in
+    let later = c.settle_whole.new.store.nodes in
+    let right = c.in-Ok.ensures.builds.1 in
+    let here = named_later nodes later c.in-Ok.sides.1 (instance σ p.right) c.settle_whole.ensures.grows right.0 in
+    let deep = (within_limits (instance σ p.right) right.1).1 in
+    let is = depth_is later c.in-Ok.sides.1 (instance σ p.right) here in (
+      omega (arith, deep, is, c.settle_whole.ensures.less),
+      (
+        c.settle_whole.ensures.store,
+        (named_below later c.in-Ok.sides.1 (instance σ p.right) here, (c.requires.tries, omega (arith, c.settle_whole.ensures.less, c.requires.fits))),
+      ),
+    )
+
+pub try_condition-returns-in-Err-clause-store : goal.try_condition-returns-in-Err-clause-store
+try_condition-returns-in-Err-clause-store t c = store_later c.args.means.now c.args.store.now _ c.build_sides.ensures.grows refl refl c.requires.store
+
+pub try_condition-returns-in-Err-clause-tests : goal.try_condition-returns-in-Err-clause-tests
+try_condition-returns-in-Err-clause-tests t c = λ rest. c.in-Err.ensures.builds (norm_by c.args.means.now c.args.tries) c.args.budget.now rest
+
+pub try_condition-returns-in-Err-settle_whole-clause-tests : goal.try_condition-returns-in-Err-settle_whole-clause-tests
+try_condition-returns-in-Err-settle_whole-clause-tests t c = λ rest.
+    let p = plain_pair c.args.cond.now in
+    let σ = substitution_of (bounds_in c.args.store.now.nodes c.args.given.now) in
+    let sides = c.in-Ok.ensures.builds in
+    first_hinders (norm_by c.args.means.now c.args.tries) σ p c.args.budget.now rest sides.0.1 sides.1.1 c.in-Err-settle_whole.fault c.settle_whole.new.budget
+    (c.in-Err-settle_whole.ensures.exact (instance σ p.left) sides.0.0)
+
+pub try_condition-returns-in-Err-settle_whole-2-clause-tests : goal.try_condition-returns-in-Err-settle_whole-2-clause-tests
+try_condition-returns-in-Err-settle_whole-2-clause-tests t c = λ rest.
+    let p = plain_pair c.args.cond.now in
+    let σ = substitution_of (bounds_in c.args.store.now.nodes c.args.given.now) in
+    let nodes = c.build_sides.new.nodes in
+    let sides = c.in-Ok.ensures.builds in
+    let x = c.in-Ok-settle_whole.ensures.exact (instance σ p.left) sides.0.0 in
+    second_hinders (norm_by c.args.means.now c.args.tries) σ p c.args.budget.now rest sides.0.1 sides.1.1 x.0 (plain_traces c.in-Ok-settle_whole.settled.1.items) c.settle_whole.new.budget x.2
+    c.in-Err-settle_whole-2.fault c.settle_whole-2.new.budget
+    (c.in-Err-settle_whole-2.ensures.exact (instance σ p.right) (named_later nodes c.settle_whole.new.store.nodes c.in-Ok.sides.1 (instance σ p.right) c.settle_whole.ensures.grows sides.1.0))
+
+pub try_condition-returns-then-a-b-clause-tests : goal.try_condition-returns-then-a-b-clause-tests
+try_condition-returns-then-a-b-clause-tests t c = λ rest.
+    let p = plain_pair c.args.cond.now in
+    let σ = substitution_of (bounds_in c.args.store.now.nodes c.args.given.now) in
+    let nodes = c.build_sides.new.nodes in
+    let one = c.settle_whole.new.store.nodes in
+    let two = c.settle_whole-2.new.store.nodes in
+    let sides = c.in-Ok.ensures.builds in
+    let x = c.in-Ok-settle_whole.ensures.exact (instance σ p.left) sides.0.0 in
+    let y = c.in-Ok-settle_whole-2.ensures.exact (instance σ p.right) (named_later nodes one c.in-Ok.sides.1 (instance σ p.right) c.settle_whole.ensures.grows sides.1.0) in
+    let a = c.in-Ok-settle_whole.settled.0 in
+    let b = c.in-Ok-settle_whole-2.settled.0 in
+    forms_differ (norm_by c.args.means.now c.args.tries) σ p c.args.budget.now rest sides.0.1 sides.1.1 x.0 (plain_traces c.in-Ok-settle_whole.settled.1.items) c.settle_whole.new.budget x.2
+    y.0 (plain_traces c.in-Ok-settle_whole-2.settled.1.items) c.settle_whole-2.new.budget y.2
+    (other_numbers two a b x.0 y.0 c.known.ensures.once (named_later one two a x.0 c.settle_whole-2.ensures.grows x.1) y.1 c.if-a-b.true)
+
+pub try_condition-returns-clause-tests : goal.try_condition-returns-clause-tests
+try_condition-returns-clause-tests t c = λ rest.
+    let p = plain_pair c.args.cond.now in
+    let σ = substitution_of (bounds_in c.args.store.now.nodes c.args.given.now) in
+    let nodes = c.build_sides.new.nodes in
+    let one = c.settle_whole.new.store.nodes in
+    let two = c.settle_whole-2.new.store.nodes in
+    let sides = c.in-Ok.ensures.builds in
+    let x = c.in-Ok-settle_whole.ensures.exact (instance σ p.left) sides.0.0 in
+    let y = c.in-Ok-settle_whole-2.ensures.exact (instance σ p.right) (named_later nodes one c.in-Ok.sides.1 (instance σ p.right) c.settle_whole.ensures.grows sides.1.0) in
+    let a = c.in-Ok-settle_whole.settled.0 in
+    let b = c.in-Ok-settle_whole-2.settled.0 in
+    forms_same (norm_by c.args.means.now c.args.tries) σ p c.args.budget.now rest sides.0.1 sides.1.1 x.0 (plain_traces c.in-Ok-settle_whole.settled.1.items) c.settle_whole.new.budget x.2
+    y.0 (plain_traces c.in-Ok-settle_whole-2.settled.1.items) c.settle_whole-2.new.budget y.2
+    (same_numbers two a b x.0 y.0 (named_later one two a x.0 c.settle_whole-2.ensures.grows x.1) y.1 c.if-a-b.false)

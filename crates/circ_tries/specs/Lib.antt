@@ -1,0 +1,4 @@
+pub mod Store
+pub mod Turning
+pub mod Trying
+pub mod Value
