@@ -127,6 +127,19 @@ impl<'a> Walk<'a> {
         Ok(None)
     }
 
+    /// What the search finds from its start.
+    fn outcome(&mut self, alloc: Global) -> Result<Compared, AllocError>
+        requires { Knows self.old 0 0 }
+        ensures { IfOk result (λ c. FindsGoal (graph_of self.old) (found_word c)) }
+    {
+        match self.search()? {
+            Some(goal) => Ok(Compared::Differ {
+                word: self.word_to(alloc, goal)?,
+            }),
+            None => Ok(Compared::Same),
+        }
+    }
+
     /// The word that leads to a goal.
     fn word_to(&self, alloc: Global, goal: Visit) -> Result<Vec<u32>, AllocError>
         requires { EndsAtGoal self.now goal }
@@ -186,17 +199,22 @@ pub fn compare(alloc: Global, first: &Automaton, second: &Automaton) -> Result<C
 {
     first.known();
     second.known();
-    let start = first.start() * second.state_count() + second.start();
+    let start = start_of(first, second);
     if first.accepts_at(first.start()) != second.accepts_at(second.start()) {
         return Ok(Compared::Differ {
             word: Vec::new(alloc),
         });
     }
     let mut search = begin(alloc, first, second, start)?;
-    match search.search()? {
-        Some(goal) => Ok(Compared::Differ {
-            word: search.word_to(alloc, goal)?,
-        }),
-        None => Ok(Compared::Same),
-    }
+    search.outcome(alloc)
+}
+
+/// The pair of both starts.
+fn start_of(first: &Automaton, second: &Automaton) -> u32
+    ensures start { result ≡ (pairs first.now second.now).start }
+    ensures below { result < (pairs first.now second.now).points }
+{
+    first.known();
+    second.known();
+    first.start() * second.state_count() + second.start()
 }

@@ -1,6 +1,6 @@
 //! The rules and the lemmas of a block.
-ghost use Rattle.std.specs.Prelude.{◌≡◌, ◌≤◌, ◌<◌, ◌^◌, ◌++◌, ◌∷◌, []};
-ghost use Rattle.std.specs.Prelude.{List, length, take, IfOk, OnOk};
+ghost use Rattle.std.specs.Prelude.{◌≡◌, ◌≤◌, ◌<◌, ◌+◌, ◌^◌, ◌++◌, ◌∷◌, []};
+ghost use Rattle.std.specs.Prelude.{List, length, take, true, IfOk, OnOk};
 ghost use Rattle.std.specs.List.{AllByRecursion};
 ghost use Rattle.circ_theory.specs.Rule.{is_bound};
 ghost use Rattle.circ_theory.specs.Theory.{goal, HasNoConditions};
@@ -84,13 +84,41 @@ impl<'a> BlockRules<'a> {
             return Ok(());
         }
         if theory.is_hidden(goal.left.sort()) {
-            self.lemmas.push(lemma_rule(alloc, number, goal)?)?;
-            return Ok(());
+            return push_lemma(alloc, &mut self.lemmas, number, goal);
         }
-        self.plain.push(lemma_rule(alloc, number, goal)?)?;
-        self.cases.push(lemma_rule(alloc, number, goal)?)?;
-        Ok(())
+        push_rule(alloc, &mut self.plain, number, goal)?;
+        push_rule(alloc, &mut self.cases, number, goal)
     }
+}
+
+// The goal goes behind the lemmas.
+fn push_lemma(
+    alloc: Global,
+    lemmas: &mut Lemmas,
+    number: u32,
+    goal: &Goal,
+) -> Result<(), AllocError>
+    requires rewrites { can_rewrite goal.now ≡ true }
+    requires plain { goal.now.conds ≡ [] }
+    requires few { length lemmas.old + 1 < 2 ^ 32 }
+    ensures { OnOk result (lemmas.new ≡ lemmas.old ++ lemma_rule number goal.now ∷ []) }
+{
+    let rule = lemma_rule(alloc, number, goal)?;
+    lemmas.push(rule)
+}
+
+// The goal goes behind the rules.
+fn push_rule(alloc: Global, memo: &mut Memo<'_>, number: u32, goal: &Goal) -> Result<(), AllocError>
+    requires rewrites { can_rewrite goal.now ≡ true }
+    requires plain { goal.now.conds ≡ [] }
+    requires few { length memo.old.rules + 1 < 2 ^ 32 }
+    ensures { OnOk result (memo.new ≡ record memo.old {
+      rules = memo.old.rules ++ lemma_rule number goal.now ∷ [];
+      assumptions = [];
+    }) }
+{
+    let rule = lemma_rule(alloc, number, goal)?;
+    memo.push(rule)
 }
 
 // Two memos of these rules, without assumptions.

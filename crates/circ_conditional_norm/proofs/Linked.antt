@@ -1,17 +1,18 @@
 -- What is due is what a link asks, and keeps terms well-sorted; and so the traces of normal forms are links.
 use Rattle.std.proofs.Common.{◌≡◌, ◌⊎◌, inl, inr, ℕ, ◌+◌, zero, suc, Bool, true, false, ◌==◌, ◌&&◌, if◌then◌else◌, List, [], ◌∷◌, ◌++◌, map, Option, Some, None, refl, ap, sym, subst, ◌∙◌, arith, append_assoc, append-nil}
-use Rattle.std.specs.List.{slice_get, AllByRecursion}
+use Rattle.std.specs.List.{AllByRecursion}
 use Rattle.std.specs.Option.{option_or, option_map_or}
 use Rattle.std.proofs.lemmas.Option.{same_Some}
-use Rattle.circ_term.specs.Tree.{Tree, Trees, Var, App, none, more, sort_of, at, replaced}
+use Rattle.circ_term.specs.Tree.{Tree, Var, App, sort_of, at, replaced}
 use Rattle.circ_term.specs.Limits.{Limit, first_limit, or_else, IsWithinLimits}
 use Rattle.circ_term.specs.Order.{is_same}
 use Rattle.circ_term.specs.Substitution.{Substitution, instance}
 use Rattle.circ_term.proofs.Order.{same_here}
 use Rattle.circ_term.proofs.Paths.{replaced_there}
-use Rattle.circ_theory.specs.Signature.{Signature, IsWellSorted, HaveSorts, IsSubstitution}
+use Rattle.circ_theory.specs.Signature.{Signature, IsWellSorted, IsSubstitution}
 use Rattle.circ_theory.specs.Theory.{Theory, Pair, IsWellSortedPair, AreConditions}
 use Rattle.circ_theory.specs.declared.way.Way.TheVariants.{Forth}
+use Rattle.circ_theory.proofs.Lists.{all_at}
 use Rattle.circ_theory.proofs.Instances.{sort_of-instance_by, instance_well_sorted}
 use Rattle.circ_theory.proofs.Casing.{contains_next, contains_first}
 use Rattle.circ_theory.proofs.Sorting.{KeepsSort, at_sorted, replaced_sorted}
@@ -19,12 +20,12 @@ use Rattle.circ_aci.specs.Content.{HasContentOf}
 use Rattle.circ_aci.specs.Canonical.{canonical_under}
 use Rattle.circ_aci.proofs.Again.{is_canonical}
 use Rattle.circ_proof.specs.Runs.{Runs}
-use Rattle.circ_rewrite.specs.Matching.{image, images, matching, matches}
+use Rattle.circ_rewrite.specs.Matching.{matching, matches}
 use Rattle.circ_rewrite.specs.Due.{terms_by, assumed, content_due, rule_variables, rule_goal}
 use Rattle.circ_rewrite.specs.declared.parts.RuleName.{RuleName}
 use Rattle.circ_rewrite.specs.declared.parts.RuleName.TheVariants as name
 use Rattle.circ_rewrite.proofs.MatchingFacts.{matching-sorts}
-use Rattle.circ_rewrite.proofs.Linked.{fit_given, assumed_is}
+use Rattle.circ_rewrite.proofs.Linked.{fit_given, matching_substitution, assumed_is}
 use Rattle.circ_theory.specs.Rewriting.{by_terms, RewritesBy}
 use Rattle.circ_theory.specs.WellFormed.{IsWellFormed}
 use Rattle.circ_theory.specs.declared.parts.Goal.{Goal}
@@ -39,36 +40,6 @@ use Rattle.circ_conditional_norm.specs.Work.{Work, Made, Out, Past, map_found, n
 use Rattle.circ_conditional_norm.proofs.Working.{found_map, found_next, found_limit, both_none, same_found}
 use Rattle.circ_conditional_norm.proofs.Looking.{IsDueAt, look_from_there}
 use Rattle.circ_conditional_norm.proofs.Given.{MakeSame, gives_back}
-
--- ---- what matching gives is well-sorted
-
-mutual
-  image_sorted : (sig : Signature) (p t : Tree) (n s : ℕ) (u : Tree) → IsWellSorted sig t → image p t n s ≡ Some u → IsWellSorted sig u
-  image_sorted sig (Var m k) t n s u w e = go ((m == n) && (k == s)) (sort_of t == s) e
-    where
-      go : (a b : Bool) → (if a then (if b then Some t else None) else None) ≡ Some u → IsWellSorted sig u
-      go false b x = absurd (cc)
-      go true false x = absurd (cc)
-      go true true x = subst (λ v. IsWellSorted sig v) (same_Some t u x) w
-  image_sorted sig (App f k ps) (Var m j) n s u w e = absurd (cc)
-  image_sorted sig (App f k ps) (App g j ts) n s u w e = images_sorted sig ps ts w.0.args n s u w.3 e
-
-  images_sorted : (sig : Signature) (ps ts : Trees) (ss : List ℕ) (n s : ℕ) (u : Tree) → HaveSorts sig ts ss → images ps ts n s ≡ Some u → IsWellSorted sig u
-  images_sorted sig none ts ss n s u h e = absurd (cc)
-  images_sorted sig (more p ps) none ss n s u h e = absurd (cc)
-  images_sorted sig (more p ps) (more t ts) [] n s u h e = absurd h
-  images_sorted sig (more p ps) (more t ts) (k ∷ ss) n s u h e = go (image p t n s) refl (image_sorted sig p t n s u h.1) (images_sorted sig ps ts ss n s u h.2)
-    where
-      go : (o : Option Tree) → image p t n s ≡ o → (image p t n s ≡ Some u → IsWellSorted sig u) → (images ps ts n s ≡ Some u → IsWellSorted sig u) → IsWellSorted sig u
-      go None f a b = b (rw f at e)
-      go (Some x) f a b = a (f ∙ (rw f at e))
-
-pub matching_substitution : (sig : Signature) (p t : Tree) → IsWellSorted sig t → IsSubstitution sig (matching p t)
-matching_substitution sig p t w n s l = (matching-sorts p t n s, go (image p t n s) refl)
-  where
-    go : (o : Option Tree) → image p t n s ≡ o → IsWellSorted sig (matching p t n s)
-    go None f = rw f l
-    go (Some x) f = rw f (image_sorted sig p t n s x w f)
 
 -- ---- conditions that hold
 
@@ -183,11 +154,6 @@ pub all_sorted : (th : Theory) (E : List Pair) → AreConditions th E → AllByR
 all_sorted th [] h = tt
 all_sorted th (p ∷ ps) h = ((h p (contains_first p ps)).sorted, all_sorted th ps (λ q i. h q (contains_next p q ps i)))
 
-all_get : {X : Type 0} (P : X → Type 0) (xs : List X) (i : ℕ) (x : X) → AllByRecursion P xs → slice_get xs i ≡ Some x → P x
-all_get P [] i x a g = absurd (cc)
-all_get P (y ∷ xs) zero x a g = subst P (same_Some y x g) a.0
-all_get P (y ∷ xs) (suc i) x a g = all_get P xs i x a.1 g
-
 -- What is known of a replacement of a: its link leads wherever it is made, and it keeps the sort.
 pub record IsSound (c : Setting) (a : Tree) (r : Replacement) : Type 0 where
   pub leads : (path : List ℕ) (t u : Tree) → at t path ≡ Some a → replaced t path r.new ≡ Some u → IsWithinLimits u → Leads c (link_by path r.reason) t u
@@ -203,7 +169,7 @@ module _ (c : Setting) (ok : IsWellFormed c.theory) (fine : AllByRecursion (IsWe
       let new : Replacement = record { reason = By_assumption h.0; new = h.1.right } in
       let z : 0 + h.0 ≡ h.0 = omega arith in
       let is : new ≡ r = ap (λ k. record { reason = By_assumption k; new = h.1.right }) (sym z) ∙ sym h.4 in
-      let sorted = all_get (IsWellSortedPair th.signature) c.assumptions h.0 h.1 fine h.2 in
+      let sorted = all_at (IsWellSortedPair th.signature) c.assumptions h.0 h.1 fine h.2 in
       subst (λ y. IsSound c a y) is
       (record {
         leads = λ path t u there made within.

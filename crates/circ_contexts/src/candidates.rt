@@ -67,7 +67,11 @@ impl Means<'_> {
     }
 
     // The candidate of a place. None where it is none.
-    fn candidate(&self, reducer: &mut Reducer<'_>, place: Place) -> Result<Option<Candidate>, AllocError>
+    fn candidate(
+        &self,
+        reducer: &mut Reducer<'_>,
+        place: Place,
+    ) -> Result<Option<Candidate>, AllocError>
         requires reducer { reducer.old ≡ by_theory self.now.theory.now }
         requires place { IsPlace self.now.theory.now place }
         ensures exact { IfOk result (GivesCandidate self.now.theory.now self.now.budget place) }
@@ -132,7 +136,11 @@ impl Means<'_> {
     }
 
     // The normal form of a term. None where it has none within the budget and the limits.
-    fn normal_form(&self, reducer: &mut Reducer<'_>, term: &Term) -> Result<Option<Normal>, AllocError>
+    fn normal_form(
+        &self,
+        reducer: &mut Reducer<'_>,
+        term: &Term,
+    ) -> Result<Option<Normal>, AllocError>
         ensures exact { IfOk result (ComesTo (conditional_norm 0 reducer.old.theory.signature
             reducer.old.rules reducer.old.assumptions self.now.budget term.now)) }
         ensures same { reducer.new ≡ reducer.old }

@@ -84,7 +84,9 @@ fn first_fit(
             return Ok(Some(rule));
         }
         means.finder.pass(rule, walk);
-        rule = means.finder.next_number(nodes, number, &keys, rule + 1, walk)?;
+        rule = means
+            .finder
+            .next_number(nodes, number, &keys, rule + 1, walk)?;
     }
     Ok(None)
 }

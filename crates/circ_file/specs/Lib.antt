@@ -1,5 +1,6 @@
 pub mod Splits
 pub mod Conds
+pub mod Givens
 pub mod View
 pub mod Adding
 pub mod Counting

@@ -1,18 +1,20 @@
 //! Proofs from bytes.
-ghost use Rattle.std.specs.Prelude.{◌≡◌, [], IfOk};
-ghost use Rattle.circ_proof.specs.PlainProof.{plain_proof};
+ghost use Rattle.std.specs.Prelude.{◌≡◌, [], map, IfOk};
+ghost use Rattle.circ_proof.specs.Plain.{plain_links};
+ghost use Rattle.circ_proof.specs.PlainProof.{plain_proof, plain_names, plain_step};
 ghost use Rattle.circ_proof.specs.Proof.{Proof as PlainProof};
 ghost use Rattle.circ_proof_text.specs.Parts.{nothing_gathered, gathered};
 ghost use Rattle.circ_proof_text.specs.Parts.{gather, gather_all, end_block};
+ghost use Rattle.circ_proof_text.specs.Parts.{Head, Certificate, Goals, Step as StepPart};
 ghost use Rattle.circ_file.specs.View.{plain_part, queue_of};
 ghost use Rattle.circ_file.specs.Feeding.{IsSound, Stands};
 ghost use Rattle.circ_file.specs.Decoding.{gathered_of, Decodes};
 
 use crate::fault::FileFault;
 use crate::reader::FileReader;
-use circ_proof::{Block, GoalNames, Proof, Step};
+use circ_proof::{Block, GoalNames, Link, Proof, Step};
 use circ_special::Gamma;
-use circ_table::Part;
+use circ_table::{Part, Table};
 use circ_theory::{Goal, Theory};
 use std::alloc::{AllocError, Global};
 use std::mem;
@@ -107,20 +109,58 @@ impl Gathering {
             gather (gathered_of self.old) (plain_part part)) }
     {
         match part {
-            Part::Head { table, gamma } => {
-                self.proof.table = table.terms(self.alloc)?;
-                self.proof.gamma = gamma;
-            }
-            Part::Certificate { links } => self.proof.certificates.push(links)?,
+            Part::Head { table, gamma } => self.take_head(table, gamma),
+            Part::Certificate { links } => self.take_certificate(links),
             Part::Goals { goals, names } => {
-                self.goals = goals;
-                self.names = names;
-                self.steps = Vec::new(self.alloc);
+                self.take_goals(goals, names);
+                Ok(())
             }
-            Part::Step { step: Step::Done } => self.end_block()?,
-            Part::Step { step } => self.steps.push(step)?,
+            Part::Step { step } => self.take_step(step),
         }
+    }
+
+    fn take_head(&mut self, table: Table, gamma: Gamma) -> Result<(), AllocError>
+        ensures version { self.new.proof.version ≡ self.old.proof.version }
+        ensures gathered { IfOk result (λ _. gathered_of self.new ≡
+            gather (gathered_of self.old) (Head table gamma)) }
+    {
+        self.proof.table = table.terms(self.alloc)?;
+        self.proof.gamma = gamma;
         Ok(())
+    }
+
+    fn take_certificate(&mut self, links: Vec<Link>) -> Result<(), AllocError>
+        ensures version { self.new.proof.version ≡ self.old.proof.version }
+        ensures gathered { IfOk result (λ _. gathered_of self.new ≡
+            gather (gathered_of self.old) (Certificate (plain_links links.items))) }
+    {
+        self.proof.certificates.push(links)?;
+        Ok(())
+    }
+
+    // A block begins.
+    fn take_goals(&mut self, goals: Vec<Goal>, names: Vec<GoalNames>)
+        ensures version { self.new.proof.version ≡ self.old.proof.version }
+        ensures gathered { gathered_of self.new ≡
+            gather (gathered_of self.old) (Goals goals.items (map plain_names names.items)) }
+    {
+        self.goals = goals;
+        self.names = names;
+        self.steps = Vec::new(self.alloc);
+    }
+
+    fn take_step(&mut self, step: Step) -> Result<(), AllocError>
+        ensures version { self.new.proof.version ≡ self.old.proof.version }
+        ensures gathered { IfOk result (λ _. gathered_of self.new ≡
+            gather (gathered_of self.old) (StepPart (plain_step step))) }
+    {
+        match step {
+            Step::Done => self.end_block(),
+            step => {
+                self.steps.push(step)?;
+                Ok(())
+            }
+        }
     }
 
     // The block is whole by its last step.

@@ -9,6 +9,7 @@ mod counts;
 mod decoding;
 mod encoding;
 mod fault;
+mod givens;
 pub mod laws;
 mod lines;
 mod machine;

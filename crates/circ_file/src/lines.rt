@@ -145,6 +145,7 @@ impl<'a> LineReader<'a> {
             Handles taken wanted self.old (plain_line line) self.new) }
     {
         if !self.passes(&line) {
+            drop(line);
             return Ok(Taken::Line);
         }
         self.take_passed(line)

@@ -10,7 +10,8 @@ ghost use Rattle.circ_grammar.specs.Now.{is_step, give_chain_now};
 ghost use Rattle.circ_proof.specs.Proof.{goal_at, pair_at};
 ghost use Rattle.circ_theory.specs.Pairs.{plain_pair};
 ghost use Rattle.circ_grammar.specs.Grammar.{is_bare};
-ghost use Rattle.circ_grammar.specs.Machine.{goal_names};
+ghost use Rattle.circ_grammar.specs.Machine.{goal_names, add_left};
+ghost use Rattle.circ_file.specs.Givens.{Gives};
 ghost use Rattle.circ_file.specs.Splits.{given, tops, now_given, parts_given};
 ghost use Rattle.circ_file.specs.View.{now_of, queue_of, shown_step_parts};
 ghost use Rattle.circ_file.specs.View.{IsMachineOf, Moves, Begins};
@@ -18,6 +19,7 @@ ghost use Rattle.circ_file.specs.View.{EndsLast};
 ghost use Rattle.circ_file.specs.declared.machine.Mode.TheVariants.{Opened, Joining};
 
 use crate::conds::{give_chain, give_last, takes, takes_last};
+use crate::givens::{give_names, give_pair};
 use crate::machine::{Machine, Mode, empty_chain};
 use crate::splits::{OpenSplit, give};
 use circ_proof::{Chain, GoalNames, Link, Step, Why};
@@ -53,17 +55,11 @@ impl Machine {
             plain_pair pair ≡ pair_at ts (left, right) →
             Moves taken ts self.old (given_line left right) self.new) }
     {
-        let Some(mut goal) = self.goals.pop() else {
+        if !give_pair(&mut self.goals, pair)? {
             return Ok(false);
-        };
-        let Some(mut names) = self.names.pop() else {
-            return Ok(false);
-        };
-        goal.conds.push(pair)?;
-        names.conds.push((left, right))?;
-        self.goals.push(goal)?;
-        self.names.push(names)?;
-        Ok(true)
+        }
+        let given = give_names(&mut self.names, left, right)?;
+        Ok(given)
     }
 
     pub(crate) fn on_simplify(&mut self) -> Result<bool, AllocError>
@@ -139,17 +135,15 @@ impl Machine {
                 Ok(true)
             }
             Mode::Simplifying | Mode::Reducing => {
-                if !self.chain.right.is_empty() {
+                if !push_left(&mut self.chain, link)? {
                     return Ok(false);
                 }
-                self.chain.left.push(link)?;
                 Ok(true)
             }
             Mode::Joining => {
-                if !self.cond.right.is_empty() {
+                if !push_left(&mut self.cond, link)? {
                     return Ok(false);
                 }
-                self.cond.left.push(link)?;
                 Ok(true)
             }
             _ => Ok(false),
@@ -348,4 +342,16 @@ impl Machine {
             }
         }
     }
+}
+
+// A link of the left side, where the right side has none yet.
+fn push_left(chain: &mut Chain, link: Link) -> Result<bool, AllocError>
+    ensures { IfOk result (λ taken. Gives taken
+        (add_left (plain_chain chain.old) (plain_link link)) (plain_chain chain.new)) }
+{
+    if !chain.right.is_empty() {
+        return Ok(false);
+    }
+    chain.left.push(link)?;
+    Ok(true)
 }

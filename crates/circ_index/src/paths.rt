@@ -293,7 +293,12 @@ impl Paths {
     }
 
     // Puts the node last to which a branch goes.
-    pub(crate) fn put_child(&self, node: usize, symbol: u32, nodes: &mut Ends) -> Result<(), AllocError>
+    pub(crate) fn put_child(
+        &self,
+        node: usize,
+        symbol: u32,
+        nodes: &mut Ends,
+    ) -> Result<(), AllocError>
         ensures { OnOk result (nodes.new.items
             ≡ nodes.old.items ++ listed (child_in self.now.branches.keys node symbol)) }
     {

@@ -10,7 +10,7 @@ use Rattle.circ_form.specs.declared.forms.Piece.{Piece}
 use Rattle.circ_form.specs.declared.forms.Piece.TheVariants.{Hole, Word}
 use Rattle.circ_form.specs.Form.{is_hole, is_bracket, starts_with_bracket, before, pieces_of, is_bad_byte, is_reserved, is_bad_word, is_bad_piece, is_word, form_fault, text_of, IsForm}
 
-or_false : (a b : Bool) → (a || b) ≡ false → (a ≡ false) × (b ≡ false)
+pub or_false : (a b : Bool) → (a || b) ≡ false → (a ≡ false) × (b ≡ false)
 or_false true b e = absurd (cc)
 or_false false b e = (refl, e)
 
@@ -76,7 +76,7 @@ words_tokens (Word w ∷ ps) c bad front =
       words_tokens ps c.1 k.1 (λ v m. front v (suc m.0, omega arith, m.2)),
     )
 
-no_bad_piece : (text : List ℕ) → form_fault text ≡ None → list_any is_bad_piece (pieces_of text) ≡ false
+pub no_bad_piece : (text : List ℕ) → form_fault text ≡ None → list_any is_bad_piece (pieces_of text) ≡ false
 no_bad_piece text e = go (list_any is_word (pieces_of text)) (list_any is_bad_piece (pieces_of text)) refl refl
   where
     go : (h k : Bool) → list_any is_word (pieces_of text) ≡ h → list_any is_bad_piece (pieces_of text) ≡ k → list_any is_bad_piece (pieces_of text) ≡ false

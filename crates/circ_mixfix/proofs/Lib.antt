@@ -23,5 +23,12 @@ pub mod WellSorted
 pub mod Cut
 pub mod FormWords
 pub mod FromLeft
+pub mod Levels
+pub mod PrintedTokens
 pub mod Printed
+pub mod SpelledLevels
+pub mod ReadBack
+pub mod PrintedFronts
+pub mod PrintedGoals
+pub mod PrintedSums
 pub mod Parameters

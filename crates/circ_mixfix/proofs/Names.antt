@@ -47,7 +47,7 @@ colon_at (b ∷ n) w h = go (λ k. colon_at n w k) (b == 58) refl h
     go ih false e k = rw e (ap (option_map (λ x. b ∷ x)) (ih (rw e at k)))
 
 -- lists that differ are told apart
-apart : (xs ys : List ℕ) → xs ≢ ys → pointwise nat_eq xs ys ≡ false
+pub apart : (xs ys : List ℕ) → xs ≢ ys → pointwise nat_eq xs ys ≡ false
 apart xs ys h = go (pointwise nat_eq xs ys) refl
   where
     go : (r : Bool) → pointwise nat_eq xs ys ≡ r → pointwise nat_eq xs ys ≡ false

@@ -15,3 +15,4 @@ pub mod Answers
 pub mod Printing
 pub mod Printed
 pub mod PrintedExamples
+pub mod OwnWords

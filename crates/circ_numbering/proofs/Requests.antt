@@ -1,10 +1,11 @@
 -- One request to a table after another.
-use Rattle.std.proofs.Common.{◌≡◌, ℕ, true, List, [], ◌∷◌, ◌++◌, map, Result, Ok, Err, refl, ap, sym, subst, ◌∙◌, arith}
+use Rattle.std.proofs.Common.{◌≡◌, ℕ, true, List, [], ◌∷◌, ◌++◌, map, Result, Ok, Err, IfOk, IfErr, refl, ap, sym, subst, ◌∙◌, arith}
 use Rattle.circ_term.specs.Tree.{Tree}
 use Rattle.circ_term.specs.Growing.{Grows}
 use Rattle.circ_proof.specs.Plain.{LinkOf, ChainsOf, plain_link, plain_chains, map_chains}
 use Rattle.circ_proof.specs.Link.{chains_terms}
 use Rattle.circ_proof.specs.declared.links.Link.{Link}
+use Rattle.circ_proof.specs.declared.links.Chain.{Chain}
 use Rattle.circ_proof.specs.Table.{added, has, number_in}
 use Rattle.circ_proof.proofs.Tables.{grows_self, grows_more, grows_length, added_grows, added_has, number_stays}
 use Rattle.circ_plain_search.specs.Numbering.{asked_for}
@@ -67,3 +68,23 @@ parts_asked make path old new ts cs (Ok p) (Ok x) a m = (a.0, λ table g. let h 
 parts_asked make path old new ts cs (Ok p) (Err e) a m = absurd m
 parts_asked make path old new ts cs (Err f) (Ok x) a m = absurd m
 parts_asked make path old new ts cs (Err f) (Err e) a m = subst (IsFaultOf (asked_for old (ts ++ chains_terms cs))) (sym m) a
+
+-- parts whose terms and chains are there fail only for want of memory
+pub parts_made : (path : List ℕ) (old mid new ts : List Tree) (cs : ChainsOf Tree) (terms : List ℕ) (conds : List (Chain ℕ)) (result : Result Parts NumberFault)
+    → mid ≡ asked_for old ts → ((table : List Tree) → Grows mid table → terms ≡ map (number_in table) ts)
+    → new ≡ asked_for mid (chains_terms cs) → ((table : List Tree) → Grows new table → plain_chains conds ≡ map_chains (number_in table) cs)
+    → IfOk result (λ p. p.path.items ≡ path) → IfOk result (λ p. p.terms.items ≡ terms) → IfOk result (λ p. p.conds.items ≡ conds)
+    → IfErr result (λ e. e ≡ fault.Memory)
+    → Asks old new (ts ++ chains_terms cs)
+    (λ t g. (g.path.items ≡ path) × (g.terms.items ≡ map (number_in t) ts) × (plain_chains g.conds.items ≡ map_chains (number_in t) cs)) result
+parts_made path old mid new ts cs terms conds (Ok p) a f b g x y z e = (
+  both_asked old mid new ts (chains_terms cs) a b,
+  λ table h. (x, y ∙ f table (later_too mid new (chains_terms cs) table b h), ap plain_chains z ∙ g table h),
+)
+parts_made path old mid new ts cs terms conds (Err q) a f b g x y z e = subst (IsFaultOf (asked_for old (ts ++ chains_terms cs))) (sym e) tt
+
+-- a link without terms asks for none
+pub nothing_asked : (l : LinkOf ℕ) (old new : List Tree) (result : Result (Link ℕ) NumberFault) → new ≡ old → IfOk result (λ x. plain_link x ≡ l)
+    → IfErr result (λ e. e ≡ fault.Memory) → Asks old new [] (λ t x. plain_link x ≡ l) result
+nothing_asked l old new (Ok x) a h e = (a, λ table g. h)
+nothing_asked l old new (Err q) a h e = subst (IsFaultOf old) (sym e) tt

@@ -1,7 +1,8 @@
 //! Terms and links, with their numbers in a table.
 ghost use Rattle.std.specs.Prelude.{◌≡◌, ◌∷◌, ◌++◌, [], map, IfOk, IfErr};
 ghost use Rattle.circ_proof.specs.Plain.{plain_link, plain_links, plain_chain, plain_chains};
-ghost use Rattle.circ_proof.specs.Plain.{Equation_link, Hypothesis_link, Content_link};
+ghost use Rattle.circ_proof.specs.Plain.{Equation_link, Hypothesis_link};
+ghost use Rattle.circ_proof.specs.Plain.{Assumption_link, Content_link};
 ghost use Rattle.circ_proof.specs.Plain.{map_link, map_chain, map_chains};
 ghost use Rattle.circ_proof.specs.Link.{terms_of, chains_terms};
 ghost use Rattle.circ_proof.specs.Table.{number_in};
@@ -93,11 +94,7 @@ fn link(alloc: Global, table: &mut TableBuilder, recorded: &Link<Term>) -> Resul
             let parts = numbered_parts(alloc, table, path, terms.as_slice(), conds.as_slice());
             hypothesis_link(*number, *way, parts)
         }
-        Link::Assumption { number, way, path } => Ok(Link::Assumption {
-            number: *number,
-            way: *way,
-            path: copied(alloc, path)?,
-        }),
+        Link::Assumption { number, way, path } => assumption_link(alloc, *number, *way, path),
         Link::Content { op, path, term } => content_link(alloc, table, *op, path, term),
     }
 }
@@ -149,6 +146,14 @@ fn hypothesis_link(
     }
 }
 
+fn assumption_link(alloc: Global, number: u32, way: Way, path: &Path) -> Result<Link, NumberFault>
+    ensures link { IfOk result (λ x. plain_link x ≡ Assumption_link number way path.now.items) }
+    ensures err { IfErr result (λ e. e ≡ Memory) }
+{
+    let path = copied(alloc, path)?;
+    Ok(Link::Assumption { number, way, path })
+}
+
 fn content_link(
     alloc: Global,
     table: &mut TableBuilder,
@@ -180,15 +185,29 @@ fn numbered_parts(
         × (plain_chains g.conds.items
         ≡ map_chains (number_in t) (plain_chains conds.now))) result }
 {
-    let path = copied(alloc, path)?;
     let terms = match numbers(alloc, table, terms) {
         Ok(terms) => terms,
         Err(fault) => return Err(fault),
     };
     match chains(alloc, table, conds) {
-        Ok(conds) => Ok(Parts { path, terms, conds }),
+        Ok(conds) => make_parts(alloc, path, terms, conds),
         Err(fault) => Err(fault),
     }
+}
+
+fn make_parts(
+    alloc: Global,
+    path: &Path,
+    terms: Vec<u32>,
+    conds: Vec<Chain>,
+) -> Result<Parts, NumberFault>
+    ensures path { IfOk result (λ p. p.path.items ≡ path.now.items) }
+    ensures terms { IfOk result (λ p. p.terms.items ≡ terms.items) }
+    ensures conds { IfOk result (λ p. p.conds.items ≡ conds.items) }
+    ensures err { IfErr result (λ e. e ≡ Memory) }
+{
+    let path = copied(alloc, path)?;
+    Ok(Parts { path, terms, conds })
 }
 
 // The chains of conditions with numbers.

@@ -1,6 +1,9 @@
 //! A refutation, pair by pair.
-ghost use Rattle.std.specs.Prelude.{◌≡◌, ◌+◌, ◌≤◌, ◌^◌, ℕ, map, length, IfOk, OnOk};
+ghost use Rattle.std.specs.Prelude.{◌≡◌, ◌+◌, ◌≤◌, ◌^◌, ℕ, map, length, false, IfOk, OnOk};
 ghost use Rattle.std.specs.List.{list_any};
+ghost use Rattle.circ_term.specs.Tree.{sort_of};
+ghost use Rattle.circ_term.specs.Order.{is_same};
+ghost use Rattle.circ_theory.specs.Observing.{is_hidden};
 ghost use Rattle.circ_theory.specs.Theory.{sides, HasNoConditions, IsWellSortedPair};
 ghost use Rattle.circ_theory.specs.Fresh.{fresh_after};
 ghost use Rattle.circ_entry.specs.Plain.{plain_entry, plain_entries};
@@ -190,15 +193,30 @@ impl<'a> Refuter<'a> {
             }
             return self.expand(origin, left, right);
         }
-        if are_two_cases(self.theory, &left, &right) {
-            let entries = self.entries(origin)?;
-            return Err(Halt::Found(Refuted::Differs {
-                entries,
-                left,
-                right,
-            }));
+        self.judge_visible(origin, left, right)
+    }
+
+    // A visible pair of normal forms that are not the same is passed over, or is a difference.
+    fn judge_visible(&self, origin: Option<Origin>, left: Term, right: Term) -> Result<(), Halt>
+        requires room { HasRoom self.now.theory.now (progress self.now) }
+        requires origins { HaveOrigins self.now.expanded.items self.now.queue.items }
+        requires origin { HasOrigin (length self.now.expanded.items) origin }
+        requires apart { is_same left right ≡ false }
+        requires visible { is_hidden self.now.theory.now (sort_of left) ≡ false }
+        ensures { GoesOn self.now.theory.now
+            (conclusion_of_pair self.now.theory.now (progress self.now)
+            (entries_by self.now.theory.now (led_to self.now.theory.now self.now.expanded.items)
+            origin) left right) (work (progress self.now) + 1) (progress self.now) result }
+    {
+        if !are_two_cases(self.theory, &left, &right) {
+            return Ok(());
         }
-        Ok(())
+        let entries = self.entries(origin)?;
+        Err(Halt::Found(Refuted::Differs {
+            entries,
+            left,
+            right,
+        }))
     }
 
     // A pair is expanded, where a Derive is left.

@@ -19,7 +19,7 @@ use crate::usage::Sources;
 use circ_proof::{Chain, Why};
 use circ_special::Gamma;
 use circ_term::Term;
-use circ_theory::{Goal, Pair, Theory, constant_of};
+use circ_theory::{Goal, Pair, Theory, constant_of, share_pairs};
 use std::alloc::{AllocError, Global};
 
 /// Whether the goal holds by the reason, with its conditions as assumptions: each of its links
@@ -49,24 +49,12 @@ pub fn follow_why(
         gamma,
         hyps,
     };
-    let mut assumptions = shared(alloc, goal.conds.as_slice())?;
+    let mut assumptions = share_pairs(alloc, goal.conds.as_slice())?;
     let pair = Pair {
         left: goal.left.share()?,
         right: goal.right.share()?,
     };
     sources.is_justified(&mut assumptions, &pair, why)
-}
-
-fn shared(alloc: Global, pairs: &[Pair]) -> Result<Vec<Pair>, AllocError>
-    ensures { IfOk result (λ v. map plain_pair v.items ≡ map plain_pair pairs.now) }
-{
-    let mut made = Vec::new(alloc);
-    for pair in pairs {
-        let left = pair.left.share()?;
-        let right = pair.right.share()?;
-        made.push(Pair { left, right })?;
-    }
-    Ok(made)
 }
 
 impl Sources<'_> {

@@ -1,5 +1,5 @@
 -- What is due is what a link asks, and keeps terms well-sorted.
-use Rattle.std.proofs.Common.{◌≡◌, ℕ, ◌+◌, zero, suc, Bool, true, false, ◌==◌, ◌&&◌, ◌||◌, if◌then◌else◌, List, [], ◌∷◌, Option, Some, None, refl, ap, sym, subst, ◌∙◌, arith}
+use Rattle.std.proofs.Common.{◌≡◌, ℕ, ◌+◌, suc, Bool, true, false, ◌==◌, ◌&&◌, ◌||◌, if◌then◌else◌, List, [], ◌∷◌, Option, Some, None, refl, ap, sym, subst, ◌∙◌, arith}
 use Rattle.std.specs.List.{slice_get, list_any, AllByRecursion}
 use Rattle.std.specs.Option.{option_or}
 use Rattle.std.proofs.lemmas.Bool.{eqb-true, eq-eqb, and_parts}
@@ -16,6 +16,7 @@ use Rattle.circ_theory.specs.Variables.{Variable, is_variable, is_before, put_in
 use Rattle.circ_theory.specs.Rewriting.{RewritesBy, by_terms}
 use Rattle.circ_theory.specs.declared.parts.Goal.{Goal}
 use Rattle.circ_theory.specs.declared.way.Way.TheVariants.{Forth}
+use Rattle.circ_theory.proofs.Lists.{all_at}
 use Rattle.circ_theory.proofs.Instances.{sort_of-instance_by, instance_well_sorted}
 use Rattle.circ_theory.proofs.Sorting.{KeepsSort, at_sorted, replaced_sorted}
 use Rattle.circ_aci.specs.Content.{HasContentOf}
@@ -96,7 +97,7 @@ given_instance r ok σ t within =
 -- ---- what matching gives is well-sorted
 
 mutual
-  image_sorted : (sig : Signature) (p t : Tree) (n s : ℕ) (u : Tree) → IsWellSorted sig t → image p t n s ≡ Some u → IsWellSorted sig u
+  pub image_sorted : (sig : Signature) (p t : Tree) (n s : ℕ) (u : Tree) → IsWellSorted sig t → image p t n s ≡ Some u → IsWellSorted sig u
   image_sorted sig (Var m k) t n s u w e = go ((m == n) && (k == s)) (sort_of t == s) e
     where
       go : (a b : Bool) → (if a then (if b then Some t else None) else None) ≡ Some u → IsWellSorted sig u
@@ -116,7 +117,7 @@ mutual
       go None f a b = b (rw f at e)
       go (Some x) f a b = a (f ∙ (rw f at e))
 
-matching_substitution : (sig : Signature) (p t : Tree) → IsWellSorted sig t → IsSubstitution sig (matching p t)
+pub matching_substitution : (sig : Signature) (p t : Tree) → IsWellSorted sig t → IsSubstitution sig (matching p t)
 matching_substitution sig p t w n s l = (matching-sorts p t n s, go (image p t n s) refl)
   where
     go : (o : Option Tree) → image p t n s ≡ o → IsWellSorted sig (matching p t n s)
@@ -253,11 +254,6 @@ assumed_is n (p ∷ ps) t r e = go (is_same p.left t) refl (assumed_is (n + 1) p
         let z : n + 1 + h.0 ≡ n + suc h.0 = omega arith in
         (suc h.0, h.1, h.2, h.3, h.4 ∙ ap (λ k. record { reason = By_assumption k; new = h.1.right }) z)
 
-all_get : {X : Type 0} (P : X → Type 0) (xs : List X) (i : ℕ) (x : X) → AllByRecursion P xs → slice_get xs i ≡ Some x → P x
-all_get P [] i x a g = absurd (cc)
-all_get P (y ∷ xs) zero x a g = subst P (same_Some y x g) a.0
-all_get P (y ∷ xs) (suc i) x a g = all_get P xs i x a.1 g
-
 module _ (c : Setting) (ok : IsWellFormed c.theory) (fine : AllByRecursion (IsWellSortedPair c.theory.signature) c.assumptions) where
   by_assumption : (path : List ℕ) (r : Replacement) (t a u : Tree) → at t path ≡ Some a → assumed 0 c.assumptions a ≡ Some r
       → replaced t path r.new ≡ Some u → IsWithinLimits u → IsSound c path r t a u
@@ -266,7 +262,7 @@ module _ (c : Setting) (ok : IsWellFormed c.theory) (fine : AllByRecursion (IsWe
       let new : Replacement = record { reason = By_assumption h.0; new = h.1.right } in
       let z : 0 + h.0 ≡ h.0 = omega arith in
       let is : new ≡ r = ap (λ k. record { reason = By_assumption k; new = h.1.right }) (sym z) ∙ sym h.4 in
-      let sorted = all_get (IsWellSortedPair c.theory.signature) c.assumptions h.0 h.1 fine h.2 in
+      let sorted = all_at (IsWellSortedPair c.theory.signature) c.assumptions h.0 h.1 fine h.2 in
       subst (λ y. IsSound c path y t a u) is
       (record {
         leads = record {

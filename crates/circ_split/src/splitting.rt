@@ -17,7 +17,7 @@ use circ_join::Stop;
 use circ_memo::Memo;
 use circ_proof::Why;
 use circ_term::Term;
-use circ_theory::{Pair, Theory, constant_of};
+use circ_theory::{Pair, Theory, constant_of, share_pairs};
 use std::alloc::{AllocError, Global};
 
 /// What goals are split by.
@@ -276,17 +276,4 @@ fn case_of(alloc: Global, term: &Term, constant: u32) -> Result<Pair, AllocError
     let left = term.share()?;
     let right = constant_of(alloc, constant, term.sort())?;
     Ok(Pair { left, right })
-}
-
-// The same pairs, whose terms are shared.
-fn share_pairs(alloc: Global, pairs: &[Pair]) -> Result<Vec<Pair>, AllocError>
-    ensures { IfOk result (λ v. map plain_pair v.items ≡ map plain_pair pairs.now) }
-{
-    let mut copy = Vec::with_capacity(alloc, pairs.len())?;
-    for pair in pairs {
-        let left = pair.left.share()?;
-        let right = pair.right.share()?;
-        copy.push(Pair { left, right })?;
-    }
-    Ok(copy)
 }

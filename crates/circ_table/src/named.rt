@@ -3,7 +3,7 @@ ghost use Rattle.std.specs.Prelude.{◌≡◌, ◌<◌, ◌≤◌, ◌^◌, [], 
 ghost use Rattle.std.specs.Prelude.{Some, IfOk, OnOk, OnErr};
 ghost use Rattle.std.specs.List.{slice_get};
 ghost use Rattle.std.specs.Option.{IfSome};
-ghost use Rattle.circ_term.specs.Tree.{Tree};
+ghost use Rattle.circ_term.specs.Tree.{Tree, args_of};
 ghost use Rattle.circ_term.specs.Growing.{Grows};
 ghost use Rattle.circ_table.specs.Table.{AreIn};
 ghost use Rattle.circ_table.specs.Placed.{ArePlacesOf};
@@ -95,8 +95,7 @@ impl NamedTerms {
             let place = self.place(*arg)?;
             self.terms[place as usize].share_to(&mut args)?;
         }
-        let term = table.build(self.alloc, number, args)?;
-        self.put(number, term)
+        self.build(&table, number, args)
     }
 
     /// The term of a number.
@@ -141,6 +140,22 @@ impl NamedTerms {
         self.terms.push(term)?;
         self.places[number as usize] = place as u32;
         Ok(place as u32)
+    }
+
+    // The same of its term, built of its arguments.
+    fn build(&mut self, table: &Table, number: u32, args: Vec<Term>) -> Result<u32, AllocError>
+        requires same { table.now ≡ self.old.0 }
+        requires number { number < length self.old.0 }
+        requires args { (t : Tree) → slice_get self.old.0 number ≡ Some t
+            → args.items ≡ args_of t }
+        ensures table { self.new.0 ≡ self.old.0 }
+        ensures grows { Grows self.old.1 self.new.1 }
+        ensures placed { IfOk result (λ n.
+            slice_get self.new.1 n ≡ slice_get self.old.0 number) }
+        ensures there { IfOk result (λ n. n < length self.new.1) }
+    {
+        let term = table.build(self.alloc, number, args)?;
+        self.put(number, term)
     }
 }
 

@@ -1,10 +1,16 @@
 -- Keys that are told apart by their texts have different texts.
-use Rattle.std.proofs.Common.{◌≡◌, ℕ, zero, suc, List, [], ◌∷◌, map, Bool, false, Some, nat_eq, sym, ap, subst, refl, ◌∙◌}
+use Rattle.std.proofs.Common.{◌≡◌, ℕ, zero, suc, List, [], ◌∷◌, map, Bool, true, false, Some, nat_eq, sym, ap, subst, refl, ◌∙◌}
 use Rattle.std.specs.List.{slice_get, IsDistinct, AllByRecursion}
 use Rattle.std.specs.Map.{keys_of}
 use Rattle.std.specs.Cmp.Lexicographic.{pointwise, bytes_decides}
+use Rattle.circ_form.specs.Form.{text_of}
+use Rattle.circ_theory.specs.declared.parts.OpDecl.{OpDecl}
+use Rattle.circ_theory.specs.declared.theories.OpKey.{OpKey}
+use Rattle.circ_theory.specs.Signature.{Operator}
 use Rattle.circ_theory.specs.Theory.{declared}
 use Rattle.circ_theory.specs.Names.{AreDifferent, names_of}
+use Rattle.circ_theory.specs.Operators.{operator_of, AreDifferentOperators}
+use Rattle.circ_theory.specs.Inside.{IsKeyOf, IsEntry, is_same_key}
 
 module _ {K : Type 0} (f : K → List ℕ) where
   abbrev apart : K → K → Bool
@@ -30,3 +36,31 @@ module _ {K : Type 0} (f : K → List ℕ) where
   pub different_names : {V : Type 0} (v : V → ℕ) (es : List (K × V)) → IsDistinct (λ a b. pointwise nat_eq (f a) (f b)) (keys_of es)
       → AreDifferent (names_of (map (λ e. declared (f e.0) (v e.1)) es))
   different_names v es d = let P : List (List ℕ) → Type 0 = AreDifferent in subst P (sym (names_are v es)) (different (keys_of es) d)
+
+-- keys of operators of one form and the same argument sorts are the same
+key_again : (k j : OpKey) (o p : Operator) → IsKeyOf k o → IsKeyOf j p → o.form ≡ p.form → o.args ≡ p.args → is_same_key k j ≡ true
+key_again k j o p a b f g =
+    let form = (bytes_decides k.form.items j.form.items).1 (a.form ∙ ap text_of f ∙ sym b.form) in
+    let args = (bytes_decides k.args.items j.args.items).1 (a.args ∙ g ∙ sym b.args) in
+    rw (form, args) refl
+
+none_later : (k : OpKey) (o : Operator) (es : List (OpKey × OpDecl)) (n : ℕ) (p : Operator) → IsKeyOf k o → AllByRecursion IsEntry es
+    → AllByRecursion (λ j. is_same_key k j ≡ false) (keys_of es) → slice_get (map (λ e. operator_of e.1) es) n ≡ Some p → o.form ≡ p.form → o.args ≡ p.args → ⊥
+none_later k o [] n p a all d l f g = absurd (cc)
+none_later k o (e ∷ es) zero p a all d l f g =
+    let q : operator_of e.1 ≡ p = cc in
+    let again = key_again k e.0 o (operator_of e.1) a all.0 (f ∙ ap (λ x. x.form) (sym q)) (g ∙ ap (λ x. x.args) (sym q)) in
+    absurd (let z = sym again ∙ d.0 in cc)
+none_later k o (e ∷ es) (suc n) p a all d l f g = none_later k o es n p a all.1 d.1 l f g
+
+pub different_operators : (es : List (OpKey × OpDecl)) → AllByRecursion IsEntry es → IsDistinct is_same_key (keys_of es) → AreDifferentOperators (map (λ e. operator_of e.1) es)
+unfolding IsDistinct
+different_operators [] all d m n o p a b f g = absurd (cc)
+different_operators (e ∷ es) all d zero zero o p a b f g = refl
+different_operators (e ∷ es) all d zero (suc n) o p a b f g =
+    let q : operator_of e.1 ≡ o = cc in
+    absurd (none_later e.0 (operator_of e.1) es n p all.0 all.1 d.0 b (ap (λ x. x.form) q ∙ f) (ap (λ x. x.args) q ∙ g))
+different_operators (e ∷ es) all d (suc m) zero o p a b f g =
+    let q : operator_of e.1 ≡ p = cc in
+    absurd (none_later e.0 (operator_of e.1) es m o all.0 all.1 d.0 a (ap (λ x. x.form) q ∙ sym f) (ap (λ x. x.args) q ∙ sym g))
+different_operators (e ∷ es) all d (suc m) (suc n) o p a b f g = ap suc (different_operators es all.1 d.1 m n o p a b f g)

@@ -1,6 +1,6 @@
 -- Declared operators, and when two of them are the same.
-use Rattle.std.specs.Prelude.{◌≡◌, ℕ, ◌+◌, ◌≤◌, if◌then◌else◌, List, [], ◌∷◌, Bool, true, ◌==◌, ◌&&◌, ◌||◌, not, nat_eq, length}
-use Rattle.std.specs.List.{Contains}
+use Rattle.std.specs.Prelude.{◌≡◌, ℕ, ◌+◌, ◌≤◌, if◌then◌else◌, List, [], ◌∷◌, Bool, true, ◌==◌, ◌&&◌, ◌||◌, not, nat_eq, length, Some}
+use Rattle.std.specs.List.{slice_get, Contains}
 use Rattle.std.specs.Cmp.Lexicographic.{pointwise}
 use Rattle.circ_theory.specs.declared.parts.OpDecl.{OpDecl}
 use Rattle.circ_theory.specs.Limits.{argument_limit}
@@ -23,6 +23,10 @@ operator_of d = record {
 -- the same form, and the same argument sorts
 abbrev pub is_same_operator : Operator → Operator → Bool
 is_same_operator o p = pointwise is_same_piece o.form p.form && pointwise nat_eq o.args p.args
+
+-- no two operators have one form and the same argument sorts
+abbrev pub AreDifferentOperators : List Operator → Type 0
+AreDifferentOperators os = (m n : ℕ) (o p : Operator) → slice_get os m ≡ Some o → slice_get os n ≡ Some p → o.form ≡ p.form → o.args ≡ p.args → m ≡ n
 
 -- A form has a hole for each argument, or no hole.
 abbrev pub form_fits : Operator → Bool

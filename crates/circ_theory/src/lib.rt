@@ -23,7 +23,7 @@ pub use fault::TheoryFault;
 pub use fresh::{above, above_pairs, fresh_after, fresh_in};
 pub use observing::parameters_in_order;
 pub use order::in_order;
-pub use pairs::{Pair, Pairs};
+pub use pairs::{Pair, Pairs, share_pairs};
 pub use parts::{Equation, Goal, OpDecl, Side};
 pub use renumber::{Occurring, gather, renumbered};
 pub use theories::{Theory, Vars};

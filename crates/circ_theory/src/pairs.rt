@@ -49,6 +49,13 @@ impl Pairs {
         }
     }
 
+    /// The pairs of a list.
+    pub fn of(items: Vec<Pair>) -> Pairs
+        ensures { result ≡ map plain_pair items.items }
+    {
+        Pairs { items }
+    }
+
     /// Appends a pair.
     pub fn push(&mut self, pair: Pair) -> Result<(), AllocError>
         ensures pushed { OnOk result (self.new ≡ self.old ++ plain_pair pair ∷ []) }
@@ -76,7 +83,7 @@ impl Pairs {
     pub fn share(&self, alloc: Global) -> Result<Pairs, AllocError>
         ensures { IfOk result (λ pairs. pairs ≡ self.now) }
     {
-        shared(alloc, self.as_slice())
+        Ok(Pairs::of(share_pairs(alloc, self.as_slice())?))
     }
 
     /// The pairs, in order.
@@ -87,10 +94,11 @@ impl Pairs {
     }
 }
 
-fn shared(alloc: Global, pairs: &[Pair]) -> Result<Pairs, AllocError>
-    ensures { IfOk result (λ made. made ≡ map plain_pair pairs.now) }
+/// The same pairs in a list of their own. Their terms are shared.
+pub fn share_pairs(alloc: Global, pairs: &[Pair]) -> Result<Vec<Pair>, AllocError>
+    ensures { IfOk result (λ v. map plain_pair v.items ≡ map plain_pair pairs.now) }
 {
-    let mut made = Pairs::new(alloc);
+    let mut made = Vec::with_capacity(alloc, pairs.len())?;
     for pair in pairs {
         let left = pair.left.share()?;
         let right = pair.right.share()?;

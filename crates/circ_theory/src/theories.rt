@@ -3,6 +3,7 @@
 ghost use Rattle.std.specs.Prelude.{◌≡◌, [], IfOk};
 ghost use Rattle.circ_theory.specs.WellFormed.{IsWellFormed};
 ghost use Rattle.circ_theory.specs.Names.{AreDifferent, names_of};
+ghost use Rattle.circ_theory.specs.Operators.{AreDifferentOperators};
 
 mod adding;
 mod faults;
@@ -143,13 +144,15 @@ impl Theory {
         let _ = &self.parts;
     }
 
-    /// Does nothing. Its contract is the law of names: no two sorts have one name, and no two
-    /// variables.
+    /// Does nothing. Its contract is the law of names: no two sorts have one name, no two
+    /// variables, and no two operators one form over the same argument sorts.
     pub fn known_names(&self)
         ensures sorts { AreDifferent self.now.signature.sorts }
         ensures variables { AreDifferent (names_of self.now.variables) }
+        ensures operators { AreDifferentOperators self.now.signature.ops }
     {
         let _ = self.sort_count();
         let _ = self.var_count();
+        let _ = self.op_count();
     }
 }

@@ -13,20 +13,21 @@ use Rattle.circ_plain_search.specs.PlainSearch.{PlainSearch, AreSearchable, IsPr
 use Rattle.circ_plain_search.specs.Search.{Limits as SearchLimits}
 use Rattle.circ_top.specs.Answer.{Succeeds, Comes, RefusesCommand, DueAnswer, no_command, work_done, refusal, words_unread, AnswersDue, Succeeded}
 use Rattle.circ_top.specs.Causes.{AtFile, HasLongProof, IsPastLimit, IsReadFault, IsUnwritten, FailsToPut, IsWriteFault, IsQuietRun}
-use Rattle.circ_top.specs.Check.{report_text, refused, accepted, Accepts, Rejects, FilesRead}
+use Rattle.circ_reports.specs.Check.{report_text, refused, accepted}
+use Rattle.circ_top.specs.Check.{Accepts, Rejects, FilesRead}
 use Rattle.circ_top.specs.Command.{Command, Check, Prove, Show, Contexts, Reduce, Same, Differ, Regex, Upgrade, Library, Generate, Asks, IsNotStored, stored_name}
 use Rattle.circ_search.specs.Plain.{plain_limits}
 use Rattle.circ_top.specs.Prove.{IsSearched, StoresProof}
 use Rattle.circ_top.specs.Delivery.{Prints, Delivers, whole, write_failed, memory_wanted, text_wanted}
 use Rattle.circ_files.specs.Files.{Held, IsUnread, IsTooLong, IsFileFault}
-use Rattle.circ_found.specs.Ending.{Stored, ending}
+use Rattle.circ_files.specs.Ending.{Stored, ending}
 use Rattle.circ_found.specs.Answering.{SearchEnds}
 use Rattle.circ_top.specs.Outcome.{Outcome, command}
 use Rattle.circ_top.specs.Storing.{HoldsAfter, IsUnstored, Ends, stored_first, not_stored}
 use Rattle.circ_files.specs.Texts.{refused_text}
 use Rattle.circ_top.specs.Refusals.{refusal_text}
 use Rattle.circ_files.specs.TheoryFile.{TheoryRefusal, PlainTheoryRefusal}
-use Rattle.circ_top.specs.declared.request.Report.{Report}
+use Rattle.circ_reports.specs.declared.report.Report.{Report}
 use Rattle.circ_turn.specs.declared.search.Limits.{Limits}
 use Rattle.circ_files.specs.declared.status.Status.{Status}
 use Rattle.circ_files.specs.declared.status.Status.TheVariants as status
@@ -44,10 +45,11 @@ use Rattle.circ_regex.specs.Lang.{LANG}
 use Rattle.circ_top.specs.Regex.{equality_goals, IsEqualitySearched, StoresEquality}
 use Rattle.circ_top.proofs.RegexOutcomes.{regex_not_ok, regex_not_refused, regex_not_unread, regex_not_past, regex_not_unwritten}
 use Rattle.circ_top.proofs.RegexOutcomes.{GoalsBehave, AlikeMatch, equality_matches}
-use Rattle.circ_top.specs.Upgrade.{upgraded_file, StoresUpgraded}
+use Rattle.circ_reports.specs.Upgrade.{upgraded_file}
+use Rattle.circ_top.specs.Upgrade.{StoresUpgraded}
 use Rattle.circ_top.proofs.Upgraded.{upgraded_fits, upgraded_alike}
 use Rattle.circ_top.proofs.UpgradeOutcomes.{upgrade_not_ok, upgrade_not_refused, unread_upgrade, past_upgrade, unwritten_upgrade, upgraded_short}
-use Rattle.circ_top.specs.Same.{IsCompared}
+use Rattle.circ_reports.specs.Same.{IsCompared}
 use Rattle.circ_top.proofs.SameOutcomes.{same_not_ok, same_not_refused, unread_same, past_same, unwritten_same, compared_end}
 use Rattle.circ_top.proofs.Agreeing.{DueIs, outcome, nothing_read, no_memory_left}
 use Rattle.circ_top.proofs.Requests.{same_command}

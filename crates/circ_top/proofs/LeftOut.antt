@@ -13,49 +13,49 @@ use Rattle.circ_read.specs.declared.cause.Cause.TheVariants as cause
 use Rattle.circ_script.specs.ReadsAsScript.{ReadsAsScript, ScriptOrCause}
 use Rattle.circ_script.specs.declared.job.Job.{Job}
 use Rattle.circ_script.specs.declared.job.Job.TheVariants as job
-use Rattle.circ_top.specs.Check.{report_text, no_theory, no_proof, refused, accepted}
+use Rattle.circ_reports.specs.Check.{report_text, no_theory, no_proof, refused, accepted}
 use Rattle.circ_top.specs.Command.{Command, Check, Prove, Show, Contexts, Reduce, Same, Differ, Regex, Upgrade, Library, Generate, Asks}
 use Rattle.circ_files.specs.Files.{Held, Refusal, RefusesFile, Holds}
 use Rattle.circ_top.specs.InMemory.{HoldsFilesOf, HoldsFiles}
 use Rattle.circ_plain_search.specs.Numbering.{Found}
 use Rattle.circ_plain_search.specs.PlainSearch.{PlainSearch}
 use Rattle.circ_plain_search.specs.Search.{Limits as SearchLimits}
-use Rattle.circ_found.specs.Ending.{Stored, Ending}
+use Rattle.circ_files.specs.Ending.{Stored, Ending}
 use Rattle.circ_found.specs.Answering.{found_ending}
 use Rattle.circ_top.specs.Outcome.{Outcome, usage, command}
 use Rattle.circ_files.specs.ProofFile.{ProofRefusal}
-use Rattle.circ_top.specs.Reduce.{reduced, results_text, not_reduced, all_reduced}
-use Rattle.circ_top.specs.Reduce as reduce
+use Rattle.circ_reports.specs.Reduce.{reduced, results_text, not_reduced, all_reduced}
+use Rattle.circ_reports.specs.Reduce as reduce
 use Rattle.circ_search.specs.Plain.{plain_limits}
 use Rattle.circ_auto.specs.Text.{ReadsAsAutomaton}
-use Rattle.circ_top.specs.Same.{AutomatonRefusal, SecondRefusal, ReadsOver, compared_status, compared_text, no_first, no_second, compared}
-use Rattle.circ_top.proofs.SameDecides.{AutomataDecided, first_decides, second_decides, compared_decides}
+use Rattle.circ_reports.specs.Same.{AutomatonRefusal, SecondRefusal, ReadsOver, compared_status, compared_text, no_first, no_second, compared}
+use Rattle.circ_reports.proofs.SameDecides.{AutomataDecided, first_decides, second_decides, compared_decides}
 use Rattle.circ_refute.specs.PlainRefutation.{refutations, goals_in}
 use Rattle.circ_found.specs.Differing.{decision_ending}
 use Rattle.circ_top.specs.Scripted.{goals_done}
 use Rattle.circ_top.specs.Scripted as scripted
 use Rattle.circ_regex.specs.Lang.{LANG}
 use Rattle.circ_top.specs.Regex.{equality_goals, no_left, no_right, both_read}
-use Rattle.circ_top.specs.Upgrade.{upgraded_text, upgraded_file, given_anew}
-use Rattle.circ_top.specs.Upgrade as upgrade
-use Rattle.circ_top.specs.Contexts.{not_listed, listed}
+use Rattle.circ_reports.specs.Upgrade.{upgraded_text, upgraded_file, given_anew}
+use Rattle.circ_reports.specs.Upgrade as upgrade
+use Rattle.circ_reports.specs.Contexts.{not_listed, listed}
 use Rattle.circ_show.specs.PlacesText.{place_lines}
 use Rattle.circ_plain_search.proofs.Existing.{some_set}
 use Rattle.circ_generate.specs.Chain.{chain_theory, chain_script}
 use Rattle.circ_generate.specs.Generating.{Generates, greatest_limits, chain_ending, unread_ending}
 use Rattle.circ_generate.specs.Generating as generating
 use Rattle.circ_files.specs.ScriptFile.{ScriptRefusal}
-use Rattle.circ_top.specs.Show.{not_shown, shown}
+use Rattle.circ_reports.specs.Show.{not_shown, shown}
 use Rattle.circ_files.specs.Texts.{refused_text}
 use Rattle.circ_top.specs.Refusals.{usage_text, refusal_text}
 use Rattle.circ_files.specs.TheoryFile.{TheoryRefusal, ReadsAsPlain, PlainTheoryRefusal}
 use Rattle.circ_files.proofs.Readings.{plain_or_refused}
 use Rattle.circ_files.specs.declared.files.TheConstants.{MOST_BYTES}
-use Rattle.circ_top.specs.declared.request.Report.{Report}
+use Rattle.circ_reports.specs.declared.report.Report.{Report}
 use Rattle.circ_turn.specs.declared.search.Limits.{Limits}
 use Rattle.circ_files.specs.declared.status.Status.{Status}
 use Rattle.circ_files.specs.declared.status.Status.TheVariants as status
-use Rattle.circ_top.proofs.Ends.{forms_or_end}
+use Rattle.circ_reports.proofs.Ends.{forms_or_end}
 use Rattle.circ_top.proofs.RegexOutcomes.{short_or_long, word_decides}
 use Rattle.circ_top.proofs.TheoryTexts.{has_text}
 

@@ -8,7 +8,7 @@ use Rattle.circ_top.specs.Causes.{IsOutcomeOrFault, AnswersOutcome, printed, not
 use Rattle.circ_top.specs.Command.{Command, Check, Prove, Show, Contexts, Reduce, Same, Differ, Regex, Upgrade, Library, Generate}
 use Rattle.circ_files.specs.Files.{IsUnread}
 use Rattle.circ_top.specs.InMemory.{HoldsFilesOf, HoldsFiles, AppendsAnswer, Appends}
-use Rattle.circ_found.specs.Ending.{Stored}
+use Rattle.circ_files.specs.Ending.{Stored}
 use Rattle.circ_files.specs.declared.status.Status.{Status}
 use Rattle.circ_files.specs.declared.status.Status.TheVariants as status
 use Rattle.circ_files.proofs.FileFaults.{unread_rose}

@@ -3,14 +3,14 @@ use Rattle.std.proofs.Common.{◌≡◌, ℕ, List, refl, sym, ◌∙◌, subst,
 use Rattle.circ_outer.specs.Shelf.{ShelfState}
 use Rattle.circ_outer.specs.Sink.{SinkState}
 use Rattle.circ_top.specs.Answer.{Comes, RefusesCommand, DueAnswer, no_command, work_done, refusal, words_unread, AnswersDue}
-use Rattle.circ_top.specs.Check.{CheckOutcome}
-use Rattle.circ_top.specs.Reduce.{ReduceOutcome}
-use Rattle.circ_top.specs.Show.{ShowOutcome}
+use Rattle.circ_reports.specs.Check.{CheckOutcome}
+use Rattle.circ_reports.specs.Reduce.{ReduceOutcome}
+use Rattle.circ_reports.specs.Show.{ShowOutcome}
 use Rattle.circ_top.specs.Causes.{PrintsOutcome, IsOutcomeOrFault, PrintsPartOf, AnswersOutcome}
 use Rattle.circ_top.specs.Command.{Command, Check, Prove, Show, Contexts, Reduce, Same, Differ, Regex, Upgrade, Library, Generate, Asks}
 use Rattle.circ_top.specs.Delivery.{Delivers, whole, write_failed, memory_wanted, text_wanted}
 use Rattle.circ_files.specs.Like.{IsLike, itself}
-use Rattle.circ_found.specs.Ending.{Stored}
+use Rattle.circ_files.specs.Ending.{Stored}
 use Rattle.circ_top.specs.Outcome.{OutcomeOf, Outcome, usage, command}
 use Rattle.circ_top.specs.Storing.{HoldsAfter, IsUnstored, Ends, stored_first, not_stored}
 use Rattle.circ_top.specs.Refusals.{usage_text, refusal_text}
@@ -18,8 +18,8 @@ use Rattle.circ_files.specs.declared.status.Status.{Status}
 use Rattle.circ_files.specs.declared.status.Status.TheVariants as status
 use Rattle.circ_files.proofs.Readings.{ReadsOnce, reads_plain_once}
 use Rattle.circ_top.proofs.Agreeing.{DueIs, outcome, nothing_read, no_memory_left, Agrees, alike, AgreesWith, agreed, memory_with, stored_nothing, PrintsOnce, agree_answers, answers_part}
-use Rattle.circ_found.specs.Ending.{ending}
-use Rattle.circ_top.specs.Contexts.{ContextsOutcome}
+use Rattle.circ_files.specs.Ending.{ending}
+use Rattle.circ_reports.specs.Contexts.{ContextsOutcome}
 use Rattle.circ_top.proofs.ContextsOutcomes.{due_contexts, listed_outcome, contexts_agrees, listed_agrees}
 use Rattle.circ_top.proofs.GenerateOutcomes.{generates_alike}
 use Rattle.circ_top.specs.Prove.{ProofSought}
@@ -30,12 +30,12 @@ use Rattle.circ_turn.specs.declared.search.Limits.{Limits}
 use Rattle.circ_top.proofs.CheckOutcomes.{due_check, accepted_outcome, check_agrees, accepted_agrees}
 use Rattle.circ_top.proofs.ShowOutcomes.{due_show, shown_outcome, show_agrees, shown_agrees}
 use Rattle.circ_top.proofs.ReduceOutcomes.{due_reduce, reduced_outcome, reduce_agrees, reduced_agrees}
-use Rattle.circ_top.specs.Same.{SameOutcome}
+use Rattle.circ_reports.specs.Same.{SameOutcome}
 use Rattle.circ_top.proofs.SameOutcomes.{AutomataOnce, due_same, compared_outcome, same_agrees, compared_agrees}
 use Rattle.circ_top.specs.Differ.{DifferenceSought}
 use Rattle.circ_top.proofs.Differences.{one_difference, difference_done}
 use Rattle.circ_top.proofs.RegexOutcomes.{ExpressionsOnce, due_regex, equality_outcome, regex_agrees, equality_agrees}
-use Rattle.circ_top.specs.Upgrade.{UpgradeOutcome}
+use Rattle.circ_reports.specs.Upgrade.{UpgradeOutcome}
 use Rattle.circ_top.proofs.UpgradeOutcomes.{due_upgrade, upgraded_outcome, upgrade_agrees, upgraded_agrees}
 use Rattle.circ_top.proofs.Proofs.{ProofsOnce}
 use Rattle.circ_files.proofs.Scripts.{ScriptsOnce}

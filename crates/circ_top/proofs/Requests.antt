@@ -11,8 +11,8 @@ use Rattle.circ_top.specs.Command.{Command, Check, Prove, Show, Contexts, Reduce
 use Rattle.circ_top.specs.Command.{IsCommand, check, prove, show, contexts, reduce, same, differ, regex, upgrade, library, generate, IsNoneOfTable}
 use Rattle.circ_top.specs.Command.{Asks, IsNoCommand, IsBounded, plain_request}
 use Rattle.circ_top.specs.Words.{circ_app, IsBudget, Finds, FindsNothing}
-use Rattle.circ_top.specs.declared.request.Report.{Report}
-use Rattle.circ_top.specs.declared.request.Report.TheVariants.{Goals, Relation}
+use Rattle.circ_reports.specs.declared.report.Report.{Report}
+use Rattle.circ_reports.specs.declared.report.Report.TheVariants.{Goals, Relation}
 use Rattle.circ_top.specs.declared.request.Request.{Request}
 use Rattle.circ_turn.specs.declared.search.Limits.{Limits}
 

@@ -2,22 +2,22 @@
 use Rattle.std.specs.Prelude.{◌≡◌, ℕ, List, [], Option, None}
 use Rattle.circ_outer.specs.Shelf.{ShelfState, IsQuiet}
 use Rattle.circ_outer.specs.Sink.{SinkState}
-use Rattle.circ_top.specs.Contexts.{IsListed}
+use Rattle.circ_reports.specs.Contexts.{IsListed}
 use Rattle.circ_generate.specs.Generating.{Generates}
-use Rattle.circ_top.specs.Check.{IsAccepted, RefusesCheck}
+use Rattle.circ_reports.specs.Check.{IsAccepted, RefusesCheck}
 use Rattle.circ_top.specs.Command.{Command, Check, Prove, Show, Contexts, Reduce, Same, Differ, Regex, Upgrade, Library, Generate, Asks, IsNoCommand}
 use Rattle.circ_top.specs.Delivery.{Prints}
 use Rattle.circ_top.specs.Differ.{IsDifferenceSought}
-use Rattle.circ_found.specs.Ending.{ending}
-use Rattle.circ_top.specs.Library.{RefusesLibrary}
+use Rattle.circ_files.specs.Ending.{ending}
+use Rattle.circ_reports.specs.Library.{RefusesLibrary}
 use Rattle.circ_top.specs.Prove.{IsSearched}
 use Rattle.circ_top.specs.Scripted.{RefusesScript}
-use Rattle.circ_top.specs.Reduce.{IsReduced, RefusesReduce}
+use Rattle.circ_reports.specs.Reduce.{IsReduced, RefusesReduce}
 use Rattle.circ_top.specs.Regex.{IsEqualitySearched, RefusesRegex}
-use Rattle.circ_top.specs.Same.{IsCompared, RefusesSame}
-use Rattle.circ_top.specs.Show.{IsShown}
-use Rattle.circ_top.specs.Upgrade.{IsUpgraded, RefusesUpgrade}
-use Rattle.circ_found.specs.Ending.{Stored}
+use Rattle.circ_reports.specs.Same.{IsCompared, RefusesSame}
+use Rattle.circ_reports.specs.Show.{IsShown}
+use Rattle.circ_reports.specs.Upgrade.{IsUpgraded, RefusesUpgrade}
+use Rattle.circ_files.specs.Ending.{Stored}
 use Rattle.circ_top.specs.Storing.{HoldsAfter, Ends}
 use Rattle.circ_top.specs.Refusals.{usage_text, refusal_text}
 use Rattle.circ_files.specs.TheoryFile.{IsTheoryFault, IsPlainTheoryFault}

@@ -8,13 +8,13 @@ use Rattle.circ_top.specs.Command.{Command, Check, Prove, Show, Contexts, Reduce
 use Rattle.circ_top.specs.Delivery.{Prints, PrintsPart, PrintsFront}
 use Rattle.circ_files.specs.Files.{IsUnread, IsTooLong}
 use Rattle.circ_files.specs.Like.{IsLike}
-use Rattle.circ_found.specs.Ending.{ending}
+use Rattle.circ_files.specs.Ending.{ending}
 use Rattle.circ_generate.specs.Generating.{Generates}
 use Rattle.circ_top.specs.Outcome.{Outcome}
 use Rattle.circ_top.specs.Prove.{IsSearched}
 use Rattle.circ_top.specs.Regex.{IsEqualitySearched}
-use Rattle.circ_top.specs.Same.{AtAutomaton}
-use Rattle.circ_found.specs.Ending.{Stored}
+use Rattle.circ_reports.specs.Same.{AtAutomaton}
+use Rattle.circ_files.specs.Ending.{Stored}
 use Rattle.circ_top.specs.Storing.{HoldsAfter}
 use Rattle.circ_files.specs.TheoryFile.{TakesTheory, TakesPlainTheory}
 use Rattle.circ_files.specs.declared.status.Status.{Status}

@@ -4,8 +4,8 @@ use Rattle.clap.specs.Faults.{fault_of}
 use Rattle.clap.specs.Simple.{matches_of}
 use Rattle.circ_lib.specs.Library.{library_text}
 use Rattle.circ_top.specs.Words.{circ_app, Finds}
-use Rattle.circ_top.specs.declared.request.Report.{Report}
-use Rattle.circ_top.specs.declared.request.Report.TheVariants.{Goals, Relation}
+use Rattle.circ_reports.specs.declared.report.Report.{Report}
+use Rattle.circ_reports.specs.declared.report.Report.TheVariants.{Goals, Relation}
 use Rattle.circ_top.specs.declared.request.Request.{Request}
 use Rattle.circ_top.specs.declared.request.Request.TheVariants as request
 use Rattle.circ_turn.specs.declared.search.Limits.{Limits}

@@ -6,6 +6,7 @@ ghost use Rattle.circ_top.specs.Command.{report_name, IsNoReport, plain_request}
 
 use crate::words::{Words, found, is_word, matches, number};
 use circ_lib::lookup;
+use circ_reports::Report;
 use circ_search::Limits;
 use std::alloc::{AllocError, Global};
 
@@ -14,15 +15,6 @@ const LEAST_STREAMS: u64 = 2;
 
 /// The most streams of a chain.
 const MOST_STREAMS: u64 = 1_000;
-
-/// What is printed of an accepted proof.
-#[derive(Clone, Copy, PartialEq, Eq)]
-pub(crate) enum Report {
-    /// Its goals.
-    Goals,
-    /// Its goals, and what each block derived: the relation that the proof builds.
-    Relation,
-}
 
 /// A command with what it takes: names of files, or the text of the library that is named.
 #[derive(Drop)]

@@ -1,10 +1,10 @@
 -- An argument that is normalised by itself, and the application in which it stands.
-use Rattle.std.proofs.Common.{◌≡◌, ◌⊎◌, inl, inr, ℕ, ◌+◌, ◌-◌, ◌≤◌, ◌<◌, max, zero, suc, true, List, [], ◌∷◌, ◌++◌, map, length, Option, Some, None, is_some, Result, Ok, Err, refl, ap, sym, subst, ◌∙◌, arith, append_assoc}
+use Rattle.std.proofs.Common.{◌≡◌, ◌⊎◌, inl, inr, ℕ, ◌+◌, ◌-◌, ◌≤◌, ◌<◌, zero, suc, true, List, [], ◌∷◌, ◌++◌, map, length, Option, Some, Ok, refl, ap, sym, subst, ◌∙◌, arith, append_assoc}
 use Rattle.std.specs.Prelude.{slice_set}
 use Rattle.std.specs.List.{slice_get}
 use Rattle.std.proofs.lemmas.Option.{same_Some}
-use Rattle.circ_term.specs.Tree.{Tree, Trees, Var, App, list_of, args_of, operator_number, put_at, replaced, size_of, depth_of}
-use Rattle.circ_term.specs.Limits.{node_limit, depth_limit, Limit, Big, Deep, first_limit, IsWithinLimits}
+use Rattle.circ_term.specs.Tree.{Tree, Trees, Var, App, list_of, args_of, put_at, replaced, size_of}
+use Rattle.circ_term.specs.Limits.{node_limit, depth_limit, Big, Deep, IsWithinLimits}
 use Rattle.circ_term.proofs.Limits.{first_limit_none}
 use Rattle.circ_term.proofs.Paths.{replaced_self}
 use Rattle.circ_term.proofs.Trees.{list_of-trees_of}
@@ -15,7 +15,7 @@ use Rattle.circ_rewrite.specs.declared.fault.RewriteFault.TheVariants.{Spent, To
 use Rattle.circ_chain.specs.Chain.{under}
 use Rattle.circ_chain.proofs.Standings.{size_arg, arg_smaller, arg_less_deep, depth_put}
 use Rattle.circ_nodes.specs.Named.{IsNamed}
-use Rattle.circ_conditional_norm.specs.Within.{Room as PlainRoom, IsInRoom, Bounded, Form, Ran_out, Broken, Outgrown, bounded, run_in}
+use Rattle.circ_conditional_norm.specs.Within.{Room as PlainRoom, IsInRoom, Form, Ran_out, Outgrown, bounded, run_in}
 use Rattle.circ_conditional_norm.specs.Work.{Work}
 use Rattle.circ_conditional_norm.proofs.Sure.{none_due, stands_there}
 use Rattle.circ_conditional_norm.proofs.Stepping.{IsRoomFor, arg_formed, arg_ran_out, arg_broken, arg_outgrown, form_in_room, form_spends}
@@ -23,7 +23,7 @@ use Rattle.circ_tries.specs.declared.parts.Course.{Course}
 use Rattle.circ_tries.specs.declared.parts.Room.{Room}
 use Rattle.circ_tries.specs.declared.parts.Stop.{Stop}
 use Rattle.circ_tries.specs.declared.parts.Stop.TheVariants as stop
-use Rattle.circ_tries.specs.Turning.{plain_room, Writes, ComesTo, GoesOn, IsAlike, IsFallingDue, FaultsAt, StopsAt, SettlesAt, PassesArg, IsOutgrown}
+use Rattle.circ_tries.specs.Turning.{plain_room, Writes, GoesOn, IsFallingDue, FaultsAt, StopsAt, PassesArg, IsOutgrown}
 
 -- a term with an argument is an application
 pub record IsApplied (t : Tree) (i : ℕ) : Type 0 where
@@ -142,9 +142,11 @@ module _ (b : Room) (f s i : ℕ) (ts : Trees) (a : Tree) (there : slice_get (li
     -- the argument outgrew its bounds
     pub arg_outgrows : (table : List Tree) (l : ℕ) (x : Tree) (o : Stop) → run_in due room k [] a [] k ≡ Outgrown x l → IsOutgrown table (App f s (put_at ts i x)) o
         → StopsAt due b table (i ∷ []) whole k l o
-    arg_outgrows table l x (stop.Outgrows m) e h =
-        (App f s (put_at ts i x), h.0,
-        λ us. arg_outgrown due falls (plain_room b) room f s i ts a arg_fits us k x l e ∙ ap (λ z. bounded z true (App f s (put_at ts i x)) l Ran_out) h.1)
+    arg_outgrows table l x (stop.Outgrows m) e h = (
+      App f s (put_at ts i x),
+      h.0,
+      λ us. arg_outgrown due falls (plain_room b) room f s i ts a arg_fits us k x l e ∙ ap (λ z. bounded z true (App f s (put_at ts i x)) l Ran_out) h.1,
+    )
     arg_outgrows table l x (stop.Fault Spent) e h = absurd h
     arg_outgrows table l x (stop.Fault (TooBig n)) e h = λ us.
         arg_outgrown due falls (plain_room b) room f s i ts a arg_fits us k x l e ∙ ap (λ z. bounded z true (App f s (put_at ts i x)) l Ran_out) h

@@ -1,22 +1,21 @@
 -- Faults of the work, and what they say of the work around it.
-use Rattle.std.proofs.Common.{◌≡◌, ℕ, List, [], ◌∷◌, ◌++◌, Option, Some, None, Result, Ok, Err, refl, ap, sym, ◌∙◌}
+use Rattle.std.proofs.Common.{◌≡◌, ℕ, List, [], Option, Some, None, refl, ap, sym, ◌∙◌}
 use Rattle.circ_term.specs.Tree.{Tree}
 use Rattle.circ_term.specs.Limits.{Big, Deep, first_limit, Names, IsWithinLimits}
 use Rattle.circ_term.specs.declared.fault.TermFault.{TermFault}
 use Rattle.circ_term.specs.declared.fault.TermFault.TheVariants as term
-use Rattle.circ_rewrite.specs.Norm.{Normalised, Normal_form, Budget_spent, Limit_passed}
+use Rattle.circ_rewrite.specs.Norm.{Normalised}
 use Rattle.circ_rewrite.specs.Plain.{Faults, rewrite_fault}
-use Rattle.circ_rewrite.specs.Replacement.{Replacement, placed, Traced}
+use Rattle.circ_rewrite.specs.Replacement.{Replacement, Traced}
 use Rattle.circ_rewrite.specs.declared.fault.RewriteFault.{RewriteFault}
 use Rattle.circ_rewrite.specs.declared.fault.RewriteFault.TheVariants.{Spent, TooBig, TooDeep, Memory}
 use Rattle.circ_conditional_norm.specs.Norm.{run_from}
-use Rattle.circ_conditional_norm.specs.Within.{Bounded, Form, Ran_out, Broken, run_in, whole_form}
-use Rattle.circ_conditional_norm.specs.Work.{Work, Made, Out, Past, or_next, map_found, normal_then}
+use Rattle.circ_conditional_norm.specs.Within.{run_in, whole_form}
+use Rattle.circ_conditional_norm.specs.Work.{Work, or_next, map_found, normal_then}
 use Rattle.circ_conditional_norm.proofs.Stepping.{root_out, root_past}
 use Rattle.circ_tries.specs.declared.parts.Room.{Room}
-use Rattle.circ_tries.specs.declared.parts.Stop.{Stop}
 use Rattle.circ_tries.specs.declared.parts.Stop.TheVariants as stop
-use Rattle.circ_tries.specs.Turning.{plain_room, ComesTo, FaultsAt, IsAtRoot, IsOutgrown}
+use Rattle.circ_tries.specs.Turning.{plain_room, FaultsAt, IsAtRoot, IsOutgrown}
 use Rattle.circ_tries.specs.Trying.{Hinders}
 
 -- work that is hindered hinders what comes behind it

@@ -1,5 +1,5 @@
 -- Work at a term goes on, and then comes to what it comes to from there.
-use Rattle.std.proofs.Common.{◌≡◌, ◌⊎◌, inl, inr, ℕ, ◌+◌, ◌≤◌, ◌<◌, zero, suc, List, [], ◌∷◌, ◌++◌, length, take, map, Option, Some, None, Result, Ok, Err, refl, ap, sym, subst, ◌∙◌, arith, append_assoc, append-nil}
+use Rattle.std.proofs.Common.{◌≡◌, ℕ, ◌≤◌, zero, suc, List, [], ◌∷◌, ◌++◌, length, take, map, Option, Result, Ok, Err, refl, ap, sym, ◌∙◌, arith, append_assoc, append-nil}
 use Rattle.circ_term.specs.Tree.{Tree}
 use Rattle.circ_term.specs.Growing.{Grows}
 use Rattle.circ_rewrite.specs.Replacement.{Replacement, Traced}
@@ -7,8 +7,6 @@ use Rattle.circ_rewrite.specs.Plain.{plain_traces}
 use Rattle.circ_rewrite.specs.declared.fault.RewriteFault.{RewriteFault}
 use Rattle.circ_rewrite.specs.declared.fault.RewriteFault.TheVariants.{Spent, TooBig, TooDeep, Memory}
 use Rattle.circ_chain.specs.Chain.{under}
-use Rattle.circ_nodes.specs.Named.{IsNamed}
-use Rattle.circ_nodes.proofs.Numbers.{named_later}
 use Rattle.circ_conditional_norm.specs.Within.{Bounded, Form, run_in}
 use Rattle.circ_conditional_norm.specs.Work.{Work}
 use Rattle.circ_tries.specs.declared.parts.Course.{Course}
@@ -17,7 +15,7 @@ use Rattle.circ_tries.specs.declared.parts.Stop.{Stop}
 use Rattle.circ_tries.specs.declared.parts.Stop.TheVariants as stop
 use Rattle.circ_tries.specs.declared.parts.Turn.{Turn}
 use Rattle.circ_tries.specs.declared.parts.Turn.TheVariants.{Settled, Stepped}
-use Rattle.circ_tries.specs.Turning.{plain_room, Writes, ComesTo, GoesOn, FaultsAt, StopsAt, SettlesAt, StepsTo, TurnsAt, MakesAt}
+use Rattle.circ_tries.specs.Turning.{plain_room, Writes, ComesTo, GoesOn, FaultsAt, StopsAt, SettlesAt, StepsTo, TurnsAt}
 
 pub map_append : {X Y : Type 0} (f : X → Y) (xs ys : List X) → map f (xs ++ ys) ≡ map f xs ++ map f ys
 map_append f [] ys = refl

@@ -1,5 +1,5 @@
 -- One condition: both sides are built, then normalised, then compared.
-use Rattle.std.proofs.Common.{◌≡◌, ℕ, Bool, true, false, if◌then◌else◌, List, ◌∷◌, Option, Some, None, refl, ap, sym, subst, ◌∙◌}
+use Rattle.std.proofs.Common.{◌≡◌, ℕ, Bool, true, false, if◌then◌else◌, List, ◌∷◌, Option, Some, None, refl, ap, subst, ◌∙◌}
 use Rattle.circ_term.specs.Tree.{Tree}
 use Rattle.circ_term.specs.Limits.{Limit, Big, Deep, first_limit, or_else, Names}
 use Rattle.circ_term.specs.Order.{is_same}
@@ -11,7 +11,7 @@ use Rattle.circ_theory.specs.Theory.{Pair}
 use Rattle.circ_nodes.specs.Named.{IsNamed, IsOnce}
 use Rattle.circ_nodes.proofs.Numbers.{named_one}
 use Rattle.circ_rewrite.proofs.MatchingFacts.{is_same_term}
-use Rattle.circ_rewrite.specs.Norm.{Normalised, Normal_form}
+use Rattle.circ_rewrite.specs.Norm.{Normal_form}
 use Rattle.circ_rewrite.specs.Plain.{Faults, rewrite_fault}
 use Rattle.circ_rewrite.specs.Replacement.{Passes, more_passes, Traced, trace_row}
 use Rattle.circ_rewrite.specs.declared.fault.RewriteFault.{RewriteFault}

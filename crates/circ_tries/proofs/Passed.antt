@@ -1,27 +1,26 @@
 -- A term whose arguments are normalised: before the first, at each, and behind the last.
-use Rattle.std.proofs.Common.{◌≡◌, ◌⊎◌, inl, inr, ℕ, ◌+◌, ◌-◌, ◌≤◌, ◌<◌, zero, suc, true, List, [], ◌∷◌, ◌++◌, map, length, Option, Some, None, is_some, Result, Ok, Err, refl, ap, sym, subst, ◌∙◌, arith, append-nil}
+use Rattle.std.proofs.Common.{◌≡◌, ℕ, ◌+◌, ◌-◌, ◌≤◌, zero, true, List, [], ◌∷◌, map, length, Option, Some, None, is_some, Result, Ok, Err, refl, ap, sym, subst, ◌∙◌, append-nil}
 use Rattle.std.specs.List.{slice_get}
 use Rattle.std.proofs.lemmas.Option.{same_Some}
-use Rattle.circ_term.specs.Tree.{Tree, Trees, Var, App, list_of, args_of, at, operator_number, put_at, replaced, size_of, depth_of}
+use Rattle.circ_term.specs.Tree.{Tree, Var, App, args_of, at, operator_number, put_at, replaced, size_of, depth_of}
 use Rattle.circ_term.specs.Limits.{node_limit, depth_limit, IsWithinLimits}
 use Rattle.circ_term.proofs.Paths.{replaced_self}
-use Rattle.circ_rewrite.specs.Replacement.{Replacement, Traced, placed}
+use Rattle.circ_rewrite.specs.Replacement.{Replacement, Traced}
 use Rattle.circ_rewrite.specs.Standing.{IsSettled}
 use Rattle.circ_rewrite.specs.declared.fault.RewriteFault.{RewriteFault}
 use Rattle.circ_chain.specs.Chain.{under}
 use Rattle.circ_nodes.specs.Named.{IsNamed}
 use Rattle.circ_conditional_norm.specs.Within.{IsInRoom, Form, Outgrown, run_in}
-use Rattle.circ_conditional_norm.specs.Work.{Work, Made, map_found}
+use Rattle.circ_conditional_norm.specs.Work.{Work, Made}
 use Rattle.circ_conditional_norm.proofs.Stepping.{args_begin, settled_form, form_in_room}
 use Rattle.circ_conditional_norm.proofs.Within.{at_the_root}
 use Rattle.circ_chain.proofs.Standings.{arg_less_deep}
 use Rattle.circ_tries.specs.declared.parts.Course.{Course}
 use Rattle.circ_tries.specs.declared.parts.Room.{Room}
 use Rattle.circ_tries.specs.declared.parts.Stop.{Stop}
-use Rattle.circ_tries.specs.declared.parts.Stop.TheVariants as stop
-use Rattle.circ_tries.specs.Turning.{plain_room, Writes, ComesTo, GoesOn, IsAtRoot, IsAlike, IsFallingDue, FaultsAt, StopsAt, SettlesAt, PassesArg, IsPut, IsOutgrown}
-use Rattle.circ_tries.proofs.Arguments.{left_for, arg_in_room, arg_limits, put_in_room, put_within, put_is, arg_passes, arg_faults, arg_outgrows, writes_arg}
-use Rattle.circ_tries.proofs.Going.{writes_none, goes_self}
+use Rattle.circ_tries.specs.Turning.{plain_room, Writes, GoesOn, IsAtRoot, IsFallingDue, FaultsAt, StopsAt, SettlesAt, PassesArg, IsPut, IsOutgrown}
+use Rattle.circ_tries.proofs.Arguments.{left_for, arg_in_room, arg_limits, put_within, put_is, arg_passes, arg_faults, arg_outgrows}
+use Rattle.circ_tries.proofs.Going.{writes_none}
 
 module _ (due : (budget : ℕ) → Tree → Work (Option Replacement)) where
   -- ---- the root

@@ -1,7 +1,6 @@
 -- A replacement that is made at the root, in a table that grows.
-use Rattle.std.proofs.Common.{◌≡◌, ℕ, ◌+◌, ◌-◌, ◌≤◌, ◌<◌, zero, suc, Bool, true, false, List, [], ◌∷◌, ◌++◌, map, Option, Some, None, Result, Ok, Err, refl, ap, sym, subst, ◌∙◌, arith, append-nil}
-use Rattle.std.specs.List.{slice_get}
-use Rattle.circ_term.specs.Tree.{Tree, size_of, depth_of}
+use Rattle.std.proofs.Common.{◌≡◌, ℕ, ◌<◌, zero, suc, Bool, true, false, List, [], ◌∷◌, ◌++◌, Option, Some, None, refl, ap, sym, subst, ◌∙◌, append-nil}
+use Rattle.circ_term.specs.Tree.{Tree}
 use Rattle.circ_term.specs.Limits.{Limit, Big, Deep, first_limit, Names, IsWithinLimits}
 use Rattle.circ_term.specs.Growing.{Grows}
 use Rattle.circ_term.specs.Subst.{substitution_of}
@@ -13,32 +12,28 @@ use Rattle.circ_match.specs.Matcher.{IsMatcher, Makes, has_variable}
 use Rattle.circ_rewrite.specs.Due.{rule_variables, terms_by}
 use Rattle.circ_rewrite.specs.Plain.{plain_trace, plain_traces, rewrite_fault}
 use Rattle.circ_rewrite.specs.Replacement.{By_rule, Passes, no_pass, Replacement, placed, Traced, traced}
-use Rattle.circ_rewrite.specs.declared.fault.RewriteFault.{RewriteFault}
-use Rattle.circ_rewrite.specs.declared.fault.RewriteFault.TheVariants.{Spent, TooBig, TooDeep, Memory}
+use Rattle.circ_rewrite.specs.declared.fault.RewriteFault.TheVariants.{Spent}
 use Rattle.circ_rewrite.specs.declared.parts.Rule.{Rule}
 use Rattle.circ_rewrite.specs.declared.parts.Trace.{Trace}
-use Rattle.circ_chain.specs.Chain.{under}
 use Rattle.circ_nodes.specs.Named.{IsNamed}
 use Rattle.circ_nodes.proofs.Numbers.{named_later}
 use Rattle.circ_due.specs.Chosen.{IsFit, IsChoice, by_rule}
-use Rattle.circ_due.specs.Bounds.{bounds_in}
 use Rattle.circ_due.specs.declared.choice.Bound.{Bound}
 use Rattle.circ_due.specs.declared.choice.Choice.{Choice}
 use Rattle.circ_due.specs.declared.choice.Choice.TheVariants.{Assumed, Content, Ruled}
 use Rattle.circ_due.specs.declared.means.Means.{Means}
 use Rattle.circ_due.proofs.Givens.{bounds_later, are_bound_later}
-use Rattle.circ_conditional_norm.specs.Within.{Room as PlainRoom, IsInRoom, Bounded, Form, Ran_out, Broken, Outgrown, bounded, is_past, run_in}
-use Rattle.circ_conditional_norm.specs.Work.{Work, Made, LeavesAtMost}
+use Rattle.circ_conditional_norm.specs.Within.{IsInRoom, bounded, is_past, run_in}
+use Rattle.circ_conditional_norm.specs.Work.{Work, Made}
 use Rattle.circ_conditional_norm.proofs.Stepping.{root_made, root_unpaid}
-use Rattle.circ_conditional_norm.proofs.Within.{stays_inside, goes_outside}
+use Rattle.circ_conditional_norm.proofs.Within.{stays_inside}
 use Rattle.circ_tries.proofs.Going.{map_append}
 use Rattle.circ_tries.specs.declared.parts.Course.{Course}
 use Rattle.circ_tries.specs.declared.parts.Found.{Found}
 use Rattle.circ_tries.specs.declared.parts.Room.{Room}
-use Rattle.circ_tries.specs.declared.parts.Stop.{Stop}
 use Rattle.circ_tries.specs.declared.parts.Stop.TheVariants as stop
 use Rattle.circ_tries.specs.Trying.{IsFound, passing, with_passes}
-use Rattle.circ_tries.specs.Turning.{plain_room, Writes, GoesOn, IsAtRoot, IsFallingDue, StopsAt, StepsTo, MakesAt}
+use Rattle.circ_tries.specs.Turning.{plain_room, Writes, IsAtRoot, IsFallingDue, StopsAt, StepsTo}
 
 -- the number is that of the term, which is within the limits
 abbrev pub IsNamedWithin : (nodes : List Tree) (n : ℕ) → Tree → Type 0
@@ -94,9 +89,15 @@ module _ (due : (budget : ℕ) → Tree → Work (Option Replacement)) (falls : 
 
   pub make_steps : (path : List ℕ) (x y : Course) (l m : ℕ) → due k t ≡ Made (Some d) (suc l) → l < k → IsNamed table m d.new → IsWithinLimits d.new → IsInRoom (plain_room b) d.new
       → Writes path x y (traced (placed [] d) ∷ []) → StepsTo due b table path x y from t k l m
-  make_steps path x y l m e less named w inside writes =
-      (d.new, traced (placed [] d) ∷ [], named,
-      (λ us. made_is l e None w false (stays_inside (plain_room b) d.new inside.small inside.shallow) us), writes, inside, less)
+  make_steps path x y l m e less named w inside writes = (
+    d.new,
+    traced (placed [] d) ∷ [],
+    named,
+    (λ us. made_is l e None w false (stays_inside (plain_room b) d.new inside.small inside.shallow) us),
+    writes,
+    inside,
+    less,
+  )
 
 -- the trace of a replacement at the root, in the whole
 pub writes_one : (path : List ℕ) (x y : Course) (one : Trace) (d : Replacement) → y.traces.items ≡ x.traces.items ++ one ∷ []

@@ -1,11 +1,11 @@
 -- A store stays right when terms are added, and what is due with tries around.
-use Rattle.std.proofs.Common.{◌≡◌, ℕ, ◌-◌, List, [], ◌∷◌, ◌++◌, map, Option, Some, None, refl, ap, sym, ◌∙◌}
+use Rattle.std.proofs.Common.{◌≡◌, ℕ, ◌-◌, List, [], ◌∷◌, ◌++◌, map, None, refl, ap, sym, ◌∙◌}
 use Rattle.circ_term.specs.Tree.{Tree}
 use Rattle.circ_term.specs.Growing.{Grows}
 use Rattle.circ_term.specs.Limits.{node_limit, depth_limit}
-use Rattle.circ_rewrite.specs.Norm.{Normalised, Normal_form}
+use Rattle.circ_rewrite.specs.Norm.{Normal_form}
 use Rattle.circ_rewrite.specs.Plain.{Faults, plain_traces}
-use Rattle.circ_rewrite.specs.Replacement.{Replacement, Traced}
+use Rattle.circ_rewrite.specs.Replacement.{Traced}
 use Rattle.circ_rewrite.specs.declared.fault.RewriteFault.{RewriteFault}
 use Rattle.circ_chain.specs.Chain.{under}
 use Rattle.circ_nodes.specs.Built.{AreBuilt}
@@ -13,9 +13,9 @@ use Rattle.circ_nodes.proofs.Building.{built_later}
 use Rattle.circ_due.specs.Chosen.{due_by}
 use Rattle.circ_due.specs.declared.means.Means.{Means}
 use Rattle.circ_due.proofs.Later.{ready_later}
-use Rattle.circ_conditional_norm.specs.Norm.{inner_norm, run_from, try_limit}
+use Rattle.circ_conditional_norm.specs.Norm.{inner_norm, try_limit}
 use Rattle.circ_conditional_norm.specs.Work.{Made}
-use Rattle.circ_conditional_norm.specs.Within.{Bounded, Form, run_in, whole_form}
+use Rattle.circ_conditional_norm.specs.Within.{run_in, whole_form}
 use Rattle.circ_conditional_norm.proofs.Falling.{due_leaves, inner_falls}
 use Rattle.circ_conditional_norm.proofs.Within.{whole_run}
 use Rattle.circ_tries.specs.declared.parts.Course.{Course}
@@ -23,7 +23,7 @@ use Rattle.circ_tries.specs.declared.parts.Room.{Room}
 use Rattle.circ_tries.specs.declared.store.Store.{Store}
 use Rattle.circ_tries.specs.Store.{IsStore, AreStill}
 use Rattle.circ_tries.specs.Trying.{due_in, norm_by}
-use Rattle.circ_tries.specs.Turning.{plain_room, IsFallingDue, FaultsAt, SettlesAt, Writes}
+use Rattle.circ_tries.specs.Turning.{plain_room, IsFallingDue, FaultsAt, SettlesAt}
 use Rattle.circ_tries.proofs.Faulting.{whole_faults}
 use Rattle.circ_tries.proofs.Still.{right_later}
 use Rattle.circ_tries.proofs.Tried.{nothing_due}

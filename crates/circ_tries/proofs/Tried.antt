@@ -1,7 +1,7 @@
 -- Rules that are tried one after the other, and the conditions of one.
-use Rattle.std.proofs.Common.{◌≡◌, ℕ, ◌+◌, ◌-◌, ◌≤◌, ◌<◌, ◌==◌, zero, suc, Bool, true, false, if◌then◌else◌, List, [], ◌∷◌, ◌++◌, drop, length, map, Option, Some, None, is_some, Result, Ok, Err, refl, ap, sym, subst, ◌∙◌, arith}
+use Rattle.std.proofs.Common.{◌≡◌, ℕ, ◌+◌, ◌-◌, ◌≤◌, ◌<◌, ◌==◌, zero, suc, Bool, true, false, List, [], ◌∷◌, ◌++◌, drop, length, map, Option, Some, None, is_some, Ok, refl, ap, sym, subst, ◌∙◌, arith}
 use Rattle.std.specs.List.{slice_get, AllByRecursion}
-use Rattle.std.specs.Option.{option_or, option_map_or}
+use Rattle.std.specs.Option.{option_or}
 use Rattle.std.proofs.lemmas.Bool.{eqb-true}
 use Rattle.std.proofs.lemmas.Option.{same_Some}
 use Rattle.circ_term.specs.Tree.{Tree, Var, App, operator_number}
@@ -11,13 +11,13 @@ use Rattle.circ_theory.specs.Signature.{Signature}
 use Rattle.circ_theory.specs.Theory.{Pair}
 use Rattle.circ_rewrite.specs.Due.{assumed, content_due, rule_due, ruled, rule_variables, terms_by, due_under, IsRewriteRule}
 use Rattle.circ_rewrite.specs.Matching.{matching, matches}
-use Rattle.circ_rewrite.specs.Plain.{plain_passes, plain_traces}
-use Rattle.circ_rewrite.specs.Replacement.{By_rule, Passes, no_pass, more_passes, Replacement, trace_row}
+use Rattle.circ_rewrite.specs.Plain.{plain_passes}
+use Rattle.circ_rewrite.specs.Replacement.{By_rule, Passes, no_pass, Replacement}
 use Rattle.circ_rewrite.specs.declared.parts.Pass.{Pass}
 use Rattle.circ_rewrite.specs.declared.parts.Rule.{Rule}
 use Rattle.circ_rewrite.proofs.MatchingFacts.{matcher_agrees, matches-instance}
 use Rattle.circ_due.specs.Bounds.{bounds_in}
-use Rattle.circ_due.specs.Chosen.{IsFit, IsChoice, by_rule, due_by}
+use Rattle.circ_due.specs.Chosen.{IsFit, IsChoice, by_rule}
 use Rattle.circ_due.specs.Finding.{NoneFits}
 use Rattle.circ_due.proofs.Found.{none_ruled}
 use Rattle.circ_due.specs.declared.choice.Bound.{Bound}
@@ -201,9 +201,11 @@ plain_found nodes m t (Ruled number given) r ps h e = ap (λ q. passing q r) e �
 pub found_first : (nodes : List Tree) (m : Means) (tries : ℕ) (t : Tree) (k : ℕ) (found : Found) (r : Replacement) → IsChoice nodes m t found.choice r
     → before_rules m.theory.now.signature m.assumptions t ≡ Some r → found.conds.items ≡ [] → FindsDue nodes m t k (due_in m tries k t) (Ok (Some found))
 found_first nodes m tries t k found r h e none =
-    let same = plain_found nodes m t found.choice r (plain_passes found.conds.items) h (ap plain_passes none) in
-    (passing (plain_passes found.conds.items) r, (r, h, refl),
-    due_before (conditions_by m tries) m.theory.now.signature m.rules.items m.assumptions k t r e ∙ ap (λ d. Made (Some d) k) (sym same))
+    let same = plain_found nodes m t found.choice r (plain_passes found.conds.items) h (ap plain_passes none) in (
+      passing (plain_passes found.conds.items) r,
+      (r, h, refl),
+      due_before (conditions_by m tries) m.theory.now.signature m.rules.items m.assumptions k t r e ∙ ap (λ d. Made (Some d) k) (sym same),
+    )
 
 -- ---- a condition that holds, and the others
 

@@ -6,7 +6,7 @@ use Rattle.circ_term.specs.Substitution.{Substitution, instance}
 use Rattle.circ_theory.specs.Theory.{Pair}
 use Rattle.circ_rewrite.specs.Norm.{Normalised, Normal_form}
 use Rattle.circ_rewrite.specs.Plain.{Faults, plain_passes, plain_traces}
-use Rattle.circ_rewrite.specs.Replacement.{Reason, By_rule, By_assumption, By_content, Passes, more_passes, Replacement, Traced, trace_row}
+use Rattle.circ_rewrite.specs.Replacement.{Reason, By_rule, By_assumption, By_content, Passes, more_passes, Replacement, trace_row}
 use Rattle.circ_rewrite.specs.declared.fault.RewriteFault.{RewriteFault}
 use Rattle.circ_rewrite.specs.declared.fault.RewriteFault.TheVariants.{Spent, TooBig, TooDeep, Memory}
 use Rattle.circ_rewrite.specs.declared.parts.Pass.{Pass}

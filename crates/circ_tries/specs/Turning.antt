@@ -2,7 +2,7 @@
 use Rattle.std.specs.Prelude.{◌≡◌, ◌⊎◌, ◌≤◌, ◌<◌, ℕ, ◌+◌, true, List, [], ◌∷◌, ◌++◌, length, map, Option, Some, None, is_some, Result, Ok, Err}
 use Rattle.circ_term.specs.Tree.{Tree, args_of, operator_number}
 use Rattle.circ_term.specs.Limits.{Big, Deep, first_limit, node_limit, depth_limit}
-use Rattle.circ_rewrite.specs.Replacement.{Replacement, Placed, placed, Traced}
+use Rattle.circ_rewrite.specs.Replacement.{Replacement, placed, Traced}
 use Rattle.circ_rewrite.specs.Plain.{plain_traces}
 use Rattle.circ_rewrite.specs.declared.fault.RewriteFault.{RewriteFault}
 use Rattle.circ_rewrite.specs.declared.fault.RewriteFault.TheVariants.{Spent, TooBig, TooDeep, Memory}

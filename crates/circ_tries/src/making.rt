@@ -117,13 +117,7 @@ pub(crate) fn put_value(
 }
 
 // Why the work stops where an argument outgrows its bounds by the term of a number.
-pub(crate) fn outgrow(
-    alloc: Global,
-    nodes: &mut Nodes,
-    number: u32,
-    place: usize,
-    new: u32,
-) -> Stop
+pub(crate) fn outgrow(alloc: Global, nodes: &mut Nodes, number: u32, place: usize, new: u32) -> Stop
     requires there { number < length nodes.old }
     requires new { new < length nodes.old }
     requires place { (t : Tree) → IsNamed nodes.old number t → place < length (args_of t) }
@@ -218,7 +212,17 @@ fn passing(trace: Trace, conds: Vec<Pass>) -> Trace
     } }
 {
     match trace {
-        Trace::Rewrite { name, path, terms, .. } => Trace::Rewrite { name, path, terms, conds },
+        Trace::Rewrite {
+            name,
+            path,
+            terms,
+            ..
+        } => Trace::Rewrite {
+            name,
+            path,
+            terms,
+            conds,
+        },
         other => other,
     }
 }

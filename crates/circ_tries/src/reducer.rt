@@ -90,12 +90,7 @@ impl<'a> Reducer<'a> {
     /// budget falls by one for each replacement and for each try, whether it is made or known.
     /// After a limit is passed it holds what was left, and where memory ran out no more than
     /// before.
-    pub fn value(
-        &mut self,
-        term: &Term,
-        tries: u32,
-        budget: &mut u64,
-    ) -> Result<Term, RewriteFault>
+    pub fn value(&mut self, term: &Term, tries: u32, budget: &mut u64) -> Result<Term, RewriteFault>
         requires tries { tries ≤ 8 }
         ensures exact { AnswersValue result budget.new (conditional_norm tries
             self.old.theory.signature self.old.rules self.old.assumptions budget.old term.now) }

@@ -145,6 +145,14 @@ pass_goes th G l st g rest n b e h =
     let f : Sides → Result Standing Ending = λ n. if has_links n.chain then Ok (with_sides st rest n) else open_turn th l st g rest in
     ap (λ x. and_then (or_end l st x) f) e ∙ ap (λ x. if x then Ok (with_sides st rest n) else open_turn th l st g rest) h
 
+-- what is made of the sides is what the pass makes of the goal
+pub pass_turn_goes : {X : Type 0} (th : Theory) (G : List Place) (l : Limits) (st : Standing) (g : Goal) (rest : List Goal) (n : Sides) (new : Standing)
+    (r : Result X End) → swept_sides th G st.earlier g.left g.right st.budget ≡ Ok n
+    → GoesTo (if has_links n.chain then Ok (with_sides st rest n) else open_turn th l st g rest) new r → GoesTo (pass_turn th G l st g rest) new r
+pass_turn_goes th G l st g rest n new r e h =
+    goes_same (pass_turn th G l st g rest) (if has_links n.chain then Ok (with_sides st rest n) else open_turn th l st g rest) new r
+    (pass_goes th G l st g rest n (has_links n.chain) e refl) h
+
 pub goal_goes : (th : Theory) (G : List Place) (l : Limits) (st : Standing) (g : Goal) (rest : List Goal) (n : Sides)
     → normal_sides th (block_rules th st.earlier) [] g.left g.right st.budget ≡ Ok n
     → goal_turn th G l st g rest ≡ sides_turn th G l (with_sides st rest n) (goal [] n.left n.right) rest

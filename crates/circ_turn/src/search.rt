@@ -50,14 +50,27 @@ impl<'a> Search<'a> {
         ensures { RunEnds (Reaches self.now.theory.now self.now.gamma.now
             (plain_limits self.now.limits) (standing state.old)) (standing state.new) result }
     {
+        let mut rules = BlockRules::new(self.alloc, self.theory)?;
+        let done = self.turns(&mut rules, state);
+        drop(rules);
+        done
+    }
+
+    // One turn after another, with the rules of the first block.
+    fn turns(&self, rules: &mut BlockRules<'a>, state: &mut State<'_>) -> Result<(), End>
+        requires start { IsStart self.now.theory.now (plain_limits self.now.limits)
+            (standing state.old) }
+        requires rules { IsRulesOf self.now.theory.now [] rules.old }
+        ensures { RunEnds (Reaches self.now.theory.now self.now.gamma.now
+            (plain_limits self.now.limits) (standing state.old)) (standing state.new) result }
+    {
         self.theory.known();
         standings_are_small();
         normal_goals_are_ready();
         what_comes_reaches();
         turns_end();
-        let mut rules = BlockRules::new(self.alloc, self.theory)?;
         loop {
-            match self.turn(&mut rules, state) {
+            match self.turn(rules, state) {
                 Ok(true) => {}
                 Ok(false) => return Ok(()),
                 Err(end) => return Err(end),
@@ -65,9 +78,9 @@ impl<'a> Search<'a> {
         }
     }
 
-    // One turn: the first goal of the queue is looked at, or, where there is none, the block is
-    // finished. False where every goal is done.
-    fn turn(&self, rules: &mut BlockRules<'a>, state: &mut State<'_>) -> Result<bool, End>
+    /// One turn: the first goal of the queue is looked at, or, where there is none, the block is
+    /// finished. False where every goal is done.
+    pub fn turn(&self, rules: &mut BlockRules<'a>, state: &mut State<'_>) -> Result<bool, End>
         requires rules { IsRulesOf self.now.theory.now state.old.hyps.earlier rules.old }
         requires small { IsSmall (standing state.old) }
         requires ready { (g : TheGoal) (rest : List TheGoal) (n : Sides)

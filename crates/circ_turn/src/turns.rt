@@ -1,5 +1,6 @@
 //! The turns of a search.
 ghost use Rattle.std.specs.Prelude.{◌≡◌, ◌<◌, ◌∷◌, [], List, length, drop, Some, Ok, IfOk};
+ghost use Rattle.std.specs.Prelude.{OnOk, if◌then◌else◌};
 ghost use Rattle.circ_theory.specs.declared.parts.Goal.{Goal as TheGoal};
 ghost use Rattle.circ_theory.specs.Theory.{goal};
 ghost use Rattle.circ_plain_search.specs.BlockRules.{block_rules, hidden_lemmas};
@@ -8,6 +9,7 @@ ghost use Rattle.circ_plain_search.specs.Joining.{put_counted};
 ghost use Rattle.circ_plain_search.specs.Search.{goal_turn, sides_turn, join_turn, pass_turn};
 ghost use Rattle.circ_plain_search.specs.Search.{open_turn, visible_turn, swept_sides};
 ghost use Rattle.circ_plain_search.specs.Search.{pass_uses, with_sides, sides_with};
+ghost use Rattle.circ_plain_search.specs.Search.{has_links};
 ghost use Rattle.circ_plain_search.specs.Search.{normal_sides, Sides as TheSides};
 ghost use Rattle.circ_block.specs.Rules.{IsRulesOf};
 ghost use Rattle.circ_join.specs.Uses.{plain_uses};
@@ -87,9 +89,26 @@ impl Search<'_> {
             (standing state.new) result }
         ensures rules { IsRulesOf self.now.theory.now state.old.hyps.earlier rules.new }
     {
+        let goal = self.put_sides(state, sides, budget)?;
+        self.sides_turn(rules, state, &goal)
+    }
+
+    // The goal in hand has these sides now, and is answered.
+    fn put_sides(
+        &self,
+        state: &mut State<'_>,
+        sides: Sides,
+        budget: u64,
+    ) -> Result<Goal, AllocError>
+        requires { 0 < length state.old.queue.items }
+        ensures goal { IfOk result (λ g. g ≡ goal [] sides.left sides.right) }
+        ensures put { OnOk result (standing state.new
+            ≡ with_sides (standing state.old) (drop 1 state.old.queue.items)
+            (sides_with sides.left sides.right (plain_chain sides.chain) budget)) }
+    {
         let goal = goal_of(self.alloc, &sides)?;
         state.set_sides(self.alloc, sides, budget)?;
-        self.sides_turn(rules, state, &goal)
+        Ok(goal)
     }
 
     // A goal whose sides are in normal form.
@@ -161,14 +180,37 @@ impl Search<'_> {
         let mut budget = state.budget;
         match self.swept_sides(&rules.lemmas, goal, &mut budget) {
             Err(stop) => Err(self.end(state, stop)),
-            Ok(sides) => {
-                if !has_links(&sides.chain) {
-                    return self.open_turn(rules, state, goal);
-                }
-                state.set_sides(self.alloc, sides, budget)?;
-                Ok(())
-            }
+            Ok(sides) => self.swept_turn(rules, state, goal, sides, budget),
         }
+    }
+
+    // The goal goes on from what the lemma pass has made of its sides, where it made anything.
+    fn swept_turn(
+        &self,
+        rules: &mut BlockRules<'_>,
+        state: &mut State<'_>,
+        goal: &Goal,
+        sides: Sides,
+        budget: u64,
+    ) -> Result<(), End>
+        requires rules { IsRulesOf self.now.theory.now state.old.hyps.earlier rules.old }
+        requires some { 0 < length state.old.queue.items }
+        requires small { IsSmall (standing state.old) }
+        requires ready { IsReady self.now.theory.now goal.now }
+        ensures exact { GoesTo (if has_links (plain_chain sides.chain)
+            then Ok (with_sides (standing state.old) (drop 1 state.old.queue.items)
+            (sides_with sides.left sides.right (plain_chain sides.chain) budget))
+            else open_turn self.now.theory.now (plain_limits self.now.limits)
+            (standing state.old) goal.now (drop 1 state.old.queue.items))
+            (standing state.new) result }
+        ensures rules { IsRulesOf self.now.theory.now state.old.hyps.earlier rules.new }
+    {
+        if !has_links(&sides.chain) {
+            drop(sides);
+            return self.open_turn(rules, state, goal);
+        }
+        state.set_sides(self.alloc, sides, budget)?;
+        Ok(())
     }
 
     // A lemma pass over both sides, the left one first.

@@ -7,7 +7,7 @@ ghost use Rattle.circ_theory.specs.Limits.{sort_limit, variable_limit, operator_
 ghost use Rattle.circ_theory.specs.Limits.{equation_limit, derivative_limit};
 ghost use Rattle.circ_theory.specs.Theory.{goal_of, declared, IsHidden, HasNoConditions};
 ghost use Rattle.circ_theory.specs.Variables.{sorts_of};
-ghost use Rattle.circ_theory.specs.Operators.{operator_of, ops_by_word};
+ghost use Rattle.circ_theory.specs.Operators.{operator_of, ops_by_word, AreDifferentOperators};
 ghost use Rattle.circ_theory.specs.Adding.{sort_number, var_number, op_of_form};
 ghost use Rattle.circ_theory.specs.Names.{AreDifferent, names_of};
 ghost use Rattle.circ_theory.specs.Rule.{is_rule, is_conditional};
@@ -88,10 +88,11 @@ impl Theory {
         }
     }
 
-    /// The number of operators.
+    /// The number of operators, of which no two have one form and the same argument sorts.
     pub fn op_count(&self) -> u32
         ensures count { result ≡ length self.now.signature.ops }
         ensures few { result ≤ operator_limit }
+        ensures different { AreDifferentOperators self.now.signature.ops }
     {
         self.parts.ops.len() as u32
     }

@@ -1,12 +1,12 @@
-use Rattle.std.proofs.Common.{◌∙◌, ℕ, List, ap, sym, subst, arith}
+use Rattle.std.proofs.Common.{◌∙◌, ℕ, List, refl, ap, sym, subst, arith}
 use Rattle.circ_plain_search.specs.Numbering.{asked_for, links_terms, chain_terms, numbered_links}
 use Rattle.circ_numbering.specs.Asking.{IsFaultOf}
-use Rattle.circ_proof.specs.Plain.{LinkOf, ChainOf, Equation_link, Hypothesis_link, plain_link, plain_links, plain_chain, plain_chains, map_link, map_chain}
+use Rattle.circ_proof.specs.Plain.{LinkOf, ChainOf, Equation_link, Hypothesis_link, Assumption_link, plain_link, plain_links, plain_chain, plain_chains, map_link, map_chain}
 use Rattle.circ_proof.specs.Link.{terms_of, chains_terms}
 use Rattle.circ_proof.specs.Nesting.{link_nesting, chains_nesting}
 use Rattle.circ_proof.specs.Table.{number_in}
 use Rattle.circ_proof.proofs.Rows.{equation_plain, hypothesis_plain}
-use Rattle.circ_numbering.proofs.Requests.{first_fails, second_fails, both_asked, later_too, parts_asked}
+use Rattle.circ_numbering.proofs.Requests.{first_fails, second_fails, both_asked, later_too, parts_asked, parts_made, nothing_asked}
 use Rattle.circ_numbering.proofs.Walks.{walk_fails, walk_on, walk_asked, walk_named, flat_seen, map_seen}
 use Rattle.circ_numbering.proofs.Chains.{link_in, chain_in, chains_flat, chains_named}
 use Rattle.circ_numbering.proofs.asking.+link.Goals as goal
@@ -85,14 +85,9 @@ numbered_parts-returns-in-Err-chains t c =
 
 pub numbered_parts-returns-in-Ok-chains : goal.numbered_parts-returns-in-Ok-chains
 numbered_parts-returns-in-Ok-chains t c =
-    let cs = chains_terms (plain_chains c.args.conds.now) in (
-      both_asked c.args.table.now c.numbers.new.table c.chains.new.table c.args.terms.now cs c.in-Ok.ensures.0 c.in-Ok-chains.ensures.0,
-      λ table a. (
-        c.in_ok-path.ensures.items,
-        c.in-Ok.ensures.1 table (later_too c.numbers.new.table c.chains.new.table cs table c.in-Ok-chains.ensures.0 a),
-        c.in-Ok-chains.ensures.1 table a,
-      ),
-    )
+    parts_made c.args.path.now.items c.args.table.now c.numbers.new.table c.chains.new.table c.args.terms.now (plain_chains c.args.conds.now) c.in-Ok.terms.items
+    c.in-Ok-chains.conds.items c.make_parts.result c.in-Ok.ensures.0 c.in-Ok.ensures.1 c.in-Ok-chains.ensures.0 c.in-Ok-chains.ensures.1
+    c.make_parts.ensures.path c.make_parts.ensures.terms c.make_parts.ensures.conds c.make_parts.ensures.err
 
 pub links-link-requires : goal.links-link-requires
 links-link-requires t c =
@@ -132,3 +127,9 @@ link-returns-in-Hypothesis t c =
     c.numbered_parts-parts-in-Hypothesis.result c.hypothesis_link.result
     (rw (c.as_slice-in-Hypothesis.ensures.value, c.as_slice-in-Hypothesis-2.ensures.value) at c.numbered_parts-parts-in-Hypothesis.ensures)
     c.hypothesis_link.ensures)
+
+pub link-returns-in-Assumption : goal.link-returns-in-Assumption
+link-returns-in-Assumption t c =
+    let x = c.in-Assumption in
+    rw x.is (nothing_asked (Assumption_link x.number x.way x.path.items) c.args.table.now c.args.table.now c.assumption_link.result refl c.assumption_link.ensures.link
+    c.assumption_link.ensures.err)

@@ -2,8 +2,8 @@ use Rattle.std.proofs.Common.{List, map}
 use Rattle.circ_theory.specs.declared.parts.Goal.{Goal}
 use Rattle.circ_search.proofs.proving.search_with.Goals as goal
 
-pub search_from-requires-clause-start : goal.search_from-requires-clause-start
-search_from-requires-clause-start c = record {
+pub search_from-found-requires-clause-start : goal.search_from-found-requires-clause-start
+search_from-found-requires-clause-start c = record {
   blocks = map (λ b. b.items) c.args.blocks.now;
   searchable = c.requires.searchable;
   start = c.in_ok-state.ensures c.args.limits.now.derives;
@@ -12,4 +12,4 @@ search_from-requires-clause-start c = record {
 pub returns : goal.returns
 returns c =
     let bs : List (List Goal) = map (λ b. b.items) c.args.blocks.now in
-    record { exact = c.search_from.ensures bs (c.in_ok-state.ensures c.args.limits.now.derives) }
+    record { exact = c.search_from-found.ensures bs (c.in_ok-state.ensures c.args.limits.now.derives) }

@@ -34,8 +34,7 @@ returns-in-Ok-instance-clause-builds c =
     let two = c.instance-2.new.nodes in
     let p = plain_pair c.args.cond.now in
     let left = c.in-Ok.ensures.interns in
-    let same = bounds_later old one c.args.given.now c.instance.ensures.grows c.requires.bound in
-    (
+    let same = bounds_later old one c.args.given.now c.instance.ensures.grows c.requires.bound in (
       (named_later one two c.in-Ok.left (instance (substitution_of (bounds_in old c.args.given.now)) p.left) c.instance-2.ensures.grows left.0, left.1),
       subst (λ bs. IsNamedWithin two c.in-Ok-instance.right (instance (substitution_of bs) p.right)) same c.in-Ok-instance.ensures.interns,
     )

@@ -1,7 +1,7 @@
 use Rattle.std.proofs.Common.{◌≡◌, ◌-◌, ◌≤◌, ℕ, Option, Some, suc, refl, ap, sym, subst, ◌∙◌, arith}
 use Rattle.circ_term.specs.Limits.{first_limit, Names}
 use Rattle.circ_nodes.specs.Named.{tree_at}
-use Rattle.circ_nodes.proofs.Numbers.{named_below, named_one, named_later}
+use Rattle.circ_nodes.proofs.Numbers.{named_below, named_one}
 use Rattle.circ_due.proofs.Later.{ready_later}
 use Rattle.circ_rewrite.specs.Plain.{rewrite_fault, plain_passes, plain_trace}
 use Rattle.circ_rewrite.specs.Replacement.{Replacement, placed, traced}

@@ -1,4 +1,4 @@
-use Rattle.std.proofs.Common.{Some, ap, sym, subst, ◌∙◌, ◌∷◌, [], arith, length, get_or, ◌<◌}
+use Rattle.std.proofs.Common.{ap, sym, subst, ◌∙◌, ◌∷◌, [], arith, length, get_or, ◌<◌}
 use Rattle.std.proofs.lemmas.Option.{same_Some, slice_get-get_or}
 use Rattle.circ_term.specs.Tree.{Tree, App, args_of, put_at, replaced}
 use Rattle.circ_nodes.specs.Named.{Interns}

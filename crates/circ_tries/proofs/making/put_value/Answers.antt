@@ -1,6 +1,6 @@
-use Rattle.std.proofs.Common.{◌≡◌, Some, [], ◌∷◌, ap, sym, subst, ◌∙◌}
+use Rattle.std.proofs.Common.{◌≡◌, [], ◌∷◌, ap, sym, subst, ◌∙◌}
 use Rattle.std.proofs.lemmas.Option.{same_Some}
-use Rattle.circ_term.specs.Tree.{Tree, replaced}
+use Rattle.circ_term.specs.Tree.{replaced}
 use Rattle.circ_term.proofs.Paths.{replaced_self}
 use Rattle.circ_nodes.specs.Named.{IsNamed}
 use Rattle.circ_nodes.proofs.Numbers.{named_one}

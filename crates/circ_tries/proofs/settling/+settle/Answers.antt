@@ -1,16 +1,15 @@
-use Rattle.std.proofs.Common.{◌≡◌, ◌⊎◌, inl, inr, ℕ, ◌+◌, ◌-◌, ◌≤◌, ◌<◌, zero, suc, true, List, [], ◌∷◌, ◌++◌, map, drop, take, length, Option, Some, None, Ok, Err, is_some, refl, ap, sym, subst, ◌∙◌, arith, append-nil, drop_of_length-le}
+use Rattle.std.proofs.Common.{◌≡◌, ◌⊎◌, inl, inr, ℕ, ◌+◌, ◌-◌, ◌≤◌, ◌<◌, true, [], ◌∷◌, ◌++◌, map, drop, take, length, Some, None, Ok, Err, is_some, refl, ap, sym, subst, ◌∙◌, arith, append-nil, drop_of_length-le}
 use Rattle.std.specs.List.{slice_get}
 use Rattle.std.proofs.lemmas.Option.{same_Some, slice_get_read, slice_get_within}
-use Rattle.circ_term.specs.Tree.{Tree, args_of, operator_number, replaced, size_of, depth_of}
+use Rattle.circ_term.specs.Tree.{Tree, args_of, operator_number, depth_of}
 use Rattle.circ_term.specs.Subst.{substitution_of}
 use Rattle.circ_term.specs.Substitution.{instance}
 use Rattle.circ_term.proofs.Limits.{within_limits}
 use Rattle.circ_term.proofs.Within.{drop_read}
 use Rattle.circ_theory.specs.Pairs.{plain_pair}
 use Rattle.circ_rewrite.specs.Plain.{plain_passes, plain_traces}
-use Rattle.circ_rewrite.specs.Replacement.{Traced}
 use Rattle.circ_rewrite.specs.declared.parts.Rule.{Rule}
-use Rattle.circ_nodes.specs.Named.{IsNamed, tree_at}
+use Rattle.circ_nodes.specs.Named.{tree_at}
 use Rattle.circ_nodes.proofs.Numbers.{named_below, named_one, named_later, there_named, are_named_length, grows_self, grows_more}
 use Rattle.circ_due.specs.Bounds.{bounds_in, AreBound}
 use Rattle.circ_due.specs.Chosen.{IsFit, by_rule, due_by}
@@ -19,9 +18,8 @@ use Rattle.circ_due.proofs.Givens.{bounds_later}
 use Rattle.circ_conditional_norm.specs.Tries.{rule_replaces, conditions_hold}
 use Rattle.circ_conditional_norm.specs.Within.{IsInRoom, Form, run_in}
 use Rattle.circ_conditional_norm.proofs.Stepping.{never_outgrown, root_none}
-use Rattle.circ_tries.specs.Store.{IsStore}
 use Rattle.circ_tries.specs.Trying.{due_in, conditions_by, norm_by, FindsDue, FindsPasses, TestsCondition}
-use Rattle.circ_tries.specs.Turning.{plain_room, IsInside, GoesOn, StopsAt, SettlesAt, TurnsAt, Writes}
+use Rattle.circ_tries.specs.Turning.{plain_room, GoesOn, StopsAt, SettlesAt}
 use Rattle.circ_tries.specs.declared.parts.Course.{Course}
 use Rattle.circ_tries.specs.declared.parts.Found.{Found}
 use Rattle.circ_tries.specs.declared.parts.Room.{Room}
@@ -60,9 +58,12 @@ settle_whole-unreachable-requires t c =
 
 pub settle_whole-returns-in-Ok-clause-exact : goal.settle_whole-returns-in-Ok-clause-exact
 settle_whole-returns-in-Ok-clause-exact t c = λ u n.
-    let h = c.in-Ok.ensures.ends u n in
-    (h.0, h.2, whole_settles c.args.means.now c.args.tries _ (refl, refl) c.settle.new.store.nodes c.new-course.result.path.items c.new-course.result c.settle.new.course u c.args.budget.now c.settle.new.budget c.in-Ok.value
-    c.new-course.ensures.path c.new-course.ensures.traces h)
+    let h = c.in-Ok.ensures.ends u n in (
+      h.0,
+      h.2,
+      whole_settles c.args.means.now c.args.tries _ (refl, refl) c.settle.new.store.nodes c.new-course.result.path.items c.new-course.result c.settle.new.course u c.args.budget.now c.settle.new.budget c.in-Ok.value
+          c.new-course.ensures.path c.new-course.ensures.traces h,
+    )
 
 pub settle_whole-returns-in-Err-Fault-clause-exact : goal.settle_whole-returns-in-Err-Fault-clause-exact
 settle_whole-returns-in-Err-Fault-clause-exact t c = λ u n.
@@ -295,7 +296,7 @@ settle_args-loop-place-preserved t c =
           let dv = depth_is c.settle_arg.new.store.nodes c.in-Ok.next p.0 p.2 in
           let s = p.6.shallow in
           below_on _ c.loop-place.budget c.settle_arg.new.budget (depth_at c.loop-place.store.nodes c.loop-place.here) (depth_at c.settle_arg.new.store.nodes c.in-Ok.next) i.below
-              c.settle_arg.ensures.less (same_depth p.7 du dv) (omega (arith, dv, s, r.deep)));
+          c.settle_arg.ensures.less (same_depth p.7 du dv) (omega (arith, dv, s, r.deep)));
     }
   where
     same_depth : {a b : ℕ} {x y : Tree} {m n : ℕ} → (a < b) ⊎ (x ≡ y) → m ≡ depth_of x → n ≡ depth_of y → (a < b) ⊎ (m ≡ n)
@@ -473,10 +474,13 @@ pub advance-returns-in-Ok-None-clause-turns : goal.advance-returns-in-Ok-None-cl
 advance-returns-in-Ok-None-clause-turns t c = λ u from n root.
     let due = due_in c.args.means.now c.args.tries in
     let k = c.args.budget.now in
-    let none = rw c.in-Ok-None.field-0-is at (c.in-Ok-None.ensures.finds u n) in
-    (u, [], named_later c.args.store.now.nodes c.find_due.new.store.nodes c.args.number u c.find_due.ensures.grows n,
-    (λ us. root_none due (plain_room c.args.room) from u us k (root k) k c.find_due.new.budget none ∙ ap (λ xs. Form u xs c.find_due.new.budget) (sym (append-nil us))),
-    writes_none c.args.course.now.path.items c.args.course.now refl)
+    let none = rw c.in-Ok-None.field-0-is at (c.in-Ok-None.ensures.finds u n) in (
+      u,
+      [],
+      named_later c.args.store.now.nodes c.find_due.new.store.nodes c.args.number u c.find_due.ensures.grows n,
+      (λ us. root_none due (plain_room c.args.room) from u us k (root k) k c.find_due.new.budget none ∙ ap (λ xs. Form u xs c.find_due.new.budget) (sym (append-nil us))),
+      writes_none c.args.course.now.path.items c.args.course.now refl,
+    )
 
 pub advance-make-requires : goal.advance-make-requires
 advance-make-requires t c =

@@ -1,4 +1,4 @@
-use Rattle.std.proofs.Common.{◌≡◌, ◌≤◌, ◌<◌, ◌+◌, ◌-◌, ◌*◌, ℕ, List, [], ◌∷◌, drop, map, length}
+use Rattle.std.proofs.Common.{◌≡◌, ◌≤◌, ◌+◌, ◌-◌, ◌*◌, List, [], ◌∷◌, drop, map, length}
 use Rattle.circ_term.specs.Tree.{Tree, args_of}
 use Rattle.circ_term.specs.Growing.{Grows}
 use Rattle.circ_term.specs.Subst.{substitution_of}
@@ -84,7 +84,7 @@ invariant-try_rules-loop-store l = record {
   tried :
       (t : Tree) → IsNamed l.initial.store.nodes l.number t
       → rules_tried (conditions_by l.means l.tries) l.means.rules.items l.initial.budget t
-          ≡ rules_tried (conditions_by l.means l.tries) (drop l.from l.means.rules.items) l.budget t;
+      ≡ rules_tried (conditions_by l.means l.tries) (drop l.from l.means.rules.items) l.budget t;
 }
 
 abbrev pub decreases-try_rules-loop-store : goal.decreases-try_rules-loop-store

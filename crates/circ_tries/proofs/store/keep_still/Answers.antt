@@ -1,4 +1,3 @@
-use Rattle.std.proofs.Common.{refl}
 use Rattle.circ_tries.proofs.Still.{right_marked, whole_settled}
 use Rattle.circ_tries.proofs.store.keep_still.Goals as goal
 

@@ -12,8 +12,8 @@ pub invariant_of-self : goal.invariant_of-self
 invariant_of-self c = record {
   store = record {
     ready =
-      c.push.ensures.ready c.new-2.result.nodes
-      (c.forget.ensures.ready c.self.inside.work.value.store.nodes c.new-2.result.nodes (rw c.deref_mut-work.ensures.value c.self.invariant.store.ready));
+        c.push.ensures.ready c.new-2.result.nodes
+        (c.forget.ensures.ready c.self.inside.work.value.store.nodes c.new-2.result.nodes (rw c.deref_mut-work.ensures.value c.self.invariant.store.ready));
     kept = kept_nothing (due_by c.push.new.self) c.new-2.result.nodes c.new-2.result.entries c.new-2.ensures;
   };
   built = c.new.ensures c.new-2.result.nodes;

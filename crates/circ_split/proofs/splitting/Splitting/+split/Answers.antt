@@ -1,4 +1,4 @@
-use Rattle.std.proofs.Common.{◌+◌, ◌-◌, List, Ok, ap, sym, subst, ◌∙◌, arith, drop, map}
+use Rattle.std.proofs.Common.{◌+◌, ◌-◌, ◌∷◌, [], List, Ok, ap, sym, subst, ◌∙◌, arith, drop, map, length, length-append}
 use Rattle.circ_proof.specs.Plain.{Split_why}
 use Rattle.circ_plain_search.specs.Joining.{and_then}
 use Rattle.circ_plain_search.specs.Search.{Sides, sides_with, reason_with, each_case, split_cases, open_cases, constants_of}
@@ -104,3 +104,43 @@ split_with-returns-in-Some-clause-exact t c =
     let e = o ∙ ap (λ x. open_cases c.args.self.now.theory.now c.args.memo.now.rules (split_cases c.args.self.now.theory.now c.args.memo.now.rules (c.args.room - 1)) x
     (map plain_pair c.args.assumptions.now.items) c.args.left.now c.args.right.now c.args.budget.now) (sym some) in
     rw e c.each_case.ensures.exact
+
+-- ---- what the calls require
+
+pub split_with-each_case-requires : goal.split_with-each_case-requires
+split_with-each_case-requires t c = (omega arith, (c.requires.theory, omega (arith, c.requires.few)))
+
+pub each_case-one_case-requires : goal.each_case-one_case-requires
+each_case-one_case-requires t c =
+    (omega arith, (c.loop-i.invariant.theory ∙ c.requires.theory, omega (arith, c.requires.few, ap length c.loop-i.invariant.same)))
+
+pub one_case-case_reason-requires : goal.one_case-case_reason-requires
+one_case-case_reason-requires t c =
+    let pushed = ap length c.in_ok-push.ensures.items in
+    (omega arith, (c.requires.theory, omega (arith, c.requires.few, pushed, length-append c.args.assumptions.now.items (c.in_ok-case.case ∷ []))))
+
+pub case_reason-sides_reason-requires : goal.case_reason-sides_reason-requires
+case_reason-sides_reason-requires t c = (omega arith, (c.in-Ok.ensures.theory ∙ c.requires.theory, c.requires.few))
+
+pub sides_reason-split_with-requires : goal.sides_reason-split_with-requires
+sides_reason-split_with-requires t c = (omega arith, (c.requires.theory, c.requires.few))
+
+-- ---- the memo and the budget, from one call to the next
+
+pub case_reason-returns-in-Ok-clause-less : goal.case_reason-returns-in-Ok-clause-less
+case_reason-returns-in-Ok-clause-less t c = omega (arith, c.in-Ok.ensures.less, c.sides_reason.ensures.less)
+
+pub case_reason-returns-in-Ok-clause-theory : goal.case_reason-returns-in-Ok-clause-theory
+case_reason-returns-in-Ok-clause-theory t c = c.sides_reason.ensures.theory ∙ c.in-Ok.ensures.theory
+
+pub case_reason-returns-in-Ok-clause-rules : goal.case_reason-returns-in-Ok-clause-rules
+case_reason-returns-in-Ok-clause-rules t c = c.sides_reason.ensures.rules ∙ c.in-Ok.ensures.rules
+
+pub each_case-returns-in-Err-clause-less : goal.each_case-returns-in-Err-clause-less
+each_case-returns-in-Err-clause-less t c = omega (arith, c.in-Err.ensures.less, c.loop-i.invariant.less)
+
+pub each_case-returns-in-Err-clause-theory : goal.each_case-returns-in-Err-clause-theory
+each_case-returns-in-Err-clause-theory t c = c.in-Err.ensures.theory ∙ c.loop-i.invariant.theory
+
+pub each_case-returns-in-Err-clause-rules : goal.each_case-returns-in-Err-clause-rules
+each_case-returns-in-Err-clause-rules t c = c.in-Err.ensures.rules ∙ c.loop-i.invariant.rules

@@ -46,14 +46,16 @@ place-requires m c =
     let below = all_at c.args.number c.args-numbers.result.now c.loop-arg.arg-index c.args-numbers.ensures.before c.loop-arg-test.true in
     (omega (arith, below, c.decreases), omega (arith, below, c.requires, ap length c.loop-arg.invariant.table))
 
+pub build-requires-clause-same : goal.build-requires-clause-same
+build-requires-clause-same m c = c.in_ok-table.ensures ∙ ap (λ x. x.0) c.self.view_is ∙ sym c.loop-arg.invariant.table
+
 pub build-requires-clause-args : goal.build-requires-clause-args
 build-requires-clause-args m c = λ t e.
     let table = c.args.self.now.0 in
     let ns = c.args-numbers.result.now in
-    let same : c.in_ok-table.table ≡ table = c.in_ok-table.ensures ∙ ap (λ x. x.0) c.self.view_is in
     let P : List ℕ → Type 0 = λ ms. Gathered table c.args.number ms c.loop-arg.args.items in
     gathered_all table c.args.number c.loop-arg.args.items t (subst P (drop_all c.loop-arg.arg-index ns c.loop-arg-test.false) c.loop-arg.invariant.gathered)
-    (ap (λ ts. slice_get ts c.args.number) (sym same) ∙ e)
+    (ap (λ ts. slice_get ts c.args.number) (sym c.loop-arg.invariant.table) ∙ e)
 
 pub returns-in_err-place-clause-grows : goal.returns-in_err-place-clause-grows
 returns-in_err-place-clause-grows m c =
@@ -63,5 +65,8 @@ pub returns-in_err-share_to-clause-grows : goal.returns-in_err-share_to-clause-g
 returns-in_err-share_to-clause-grows m c =
     grows_more c.args.self.now.1 c.loop-arg.self.1 c.place.new.self.1 c.loop-arg.invariant.grows c.place.ensures.grows
 
+pub returns-clause-table : goal.returns-clause-table
+returns-clause-table m c = c.build.ensures.table ∙ c.loop-arg.invariant.table
+
 pub returns-clause-grows : goal.returns-clause-grows
-returns-clause-grows m c = grows_more c.args.self.now.1 c.loop-arg.self.1 c.put.new.self.1 c.loop-arg.invariant.grows c.put.ensures.grows
+returns-clause-grows m c = grows_more c.args.self.now.1 c.loop-arg.self.1 c.build.new.self.1 c.loop-arg.invariant.grows c.build.ensures.grows

@@ -1,4 +1,3 @@
-use Rattle.std.proofs.Common.{arith}
 use Rattle.circ_tries.proofs.Still.{puts_set, puts_on}
 use Rattle.circ_tries.proofs.store.Store.mark.Goals as goal
 
