@@ -8,6 +8,8 @@ use Rattle.circ_rewrite.specs.Plain.{Faults, plain_traces}
 use Rattle.circ_rewrite.specs.Replacement.{Traced}
 use Rattle.circ_rewrite.specs.declared.fault.RewriteFault.{RewriteFault}
 use Rattle.circ_chain.specs.Chain.{under}
+use Rattle.circ_nodes.specs.Built.{AreBuilt}
+use Rattle.circ_nodes.proofs.Building.{built_later}
 use Rattle.circ_due.specs.Chosen.{due_by}
 use Rattle.circ_due.specs.declared.means.Means.{Means}
 use Rattle.circ_due.proofs.Later.{ready_later}
@@ -26,12 +28,24 @@ use Rattle.circ_tries.proofs.Faulting.{whole_faults}
 use Rattle.circ_tries.proofs.Still.{right_later}
 use Rattle.circ_tries.proofs.Tried.{nothing_due}
 
-pub store_later : (m : Means) (a b : Store) → Grows a.nodes b.nodes → b.still.items ≡ a.still.items → IsStore m a → IsStore m b
-store_later m a b g e h = record { ready = ready_later a.nodes b.nodes m g h.ready; right = rw e (right_later (due_by m) a.nodes b.nodes a.still.items g h.right) }
+pub store_later : (m : Means) (a b : Store) → Grows a.nodes b.nodes → b.still.items ≡ a.still.items → b.terms ≡ a.terms → IsStore m a → IsStore m b
+store_later m a b g e f h = record {
+  ready = ready_later a.nodes b.nodes m g h.ready;
+  right = rw e (right_later (due_by m) a.nodes b.nodes a.still.items g h.right);
+  built = rw f (built_later a.nodes b.nodes a.terms g h.built);
+}
+
+-- a replacement was made, and terms were built
+pub store_made : (m : Means) (a b : Store) → Grows a.nodes b.nodes → b.still.items ≡ a.still.items → AreBuilt b.nodes b.terms → IsStore m a → IsStore m b
+store_made m a b g e k h = record {
+  ready = ready_later a.nodes b.nodes m g h.ready;
+  right = rw e (right_later (due_by m) a.nodes b.nodes a.still.items g h.right);
+  built = k;
+}
 
 -- more is known, and no terms were added
-pub store_kept : (m : Means) (a b : Store) → b.nodes ≡ a.nodes → AreStill (due_by m) b.nodes b.still.items → IsStore m a → IsStore m b
-store_kept m a b e k h = record { ready = rw e h.ready; right = k }
+pub store_kept : (m : Means) (a b : Store) → b.nodes ≡ a.nodes → b.terms ≡ a.terms → AreStill (due_by m) b.nodes b.still.items → IsStore m a → IsStore m b
+store_kept m a b e f k h = record { ready = rw e h.ready; right = k; built = rw (e, f) h.built }
 
 -- ---- what is due with tries around
 

@@ -4,6 +4,7 @@ use Rattle.std.specs.List.{list_all}
 use Rattle.circ_term.specs.Tree.{Tree, Trees, App}
 use Rattle.circ_rewrite.specs.Replacement.{Replacement}
 use Rattle.circ_rewrite.specs.Standing.{IsSettled}
+use Rattle.circ_nodes.specs.Built.{AreBuilt}
 use Rattle.circ_nodes.specs.Named.{IsNamed, AreNamed}
 use Rattle.circ_due.specs.Chosen.{IsReady, due_by}
 use Rattle.circ_due.specs.declared.means.Means.{Means}
@@ -36,3 +37,4 @@ AreStill due nodes still = (n : ℕ) → still_at still n ≡ true → (t : Tree
 pub record IsStore (m : Means) (s : Store) : Type 0 where
   pub ready : IsReady s.nodes m
   pub right : AreStill (due_by m) s.nodes s.still.items
+  pub built : AreBuilt s.nodes s.terms

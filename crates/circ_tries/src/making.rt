@@ -7,7 +7,8 @@ ghost use Rattle.circ_term.specs.Limits.{IsWithinLimits};
 ghost use Rattle.circ_term.specs.Growing.{Grows};
 ghost use Rattle.circ_rewrite.specs.Plain.{plain_trace, plain_passes, rewrite_fault};
 ghost use Rattle.circ_rewrite.specs.Replacement.{Replacement};
-ghost use Rattle.circ_nodes.specs.Named.{IsNamed, Interns};
+ghost use Rattle.circ_nodes.specs.Built.{AreBuilt};
+ghost use Rattle.circ_nodes.specs.Named.{IsNamed, Interns, tree_at};
 ghost use Rattle.circ_due.specs.Chosen.{IsReady};
 ghost use Rattle.circ_conditional_norm.specs.Work.{Work, Made};
 ghost use Rattle.circ_tries.specs.Trying.{BuildsSides, IsFound, with_passes};
@@ -20,9 +21,9 @@ ghost use Rattle.circ_tries.specs.Turning.{MakesAt, plain_room};
 
 use crate::parts::{Course, Found, Room, Stop, Turn};
 use circ_due::{Bound, Means, instance};
-use circ_nodes::{Nodes, Numbers, Shape};
+use circ_nodes::{Nodes, Numbers, Shape, Terms};
 use circ_rewrite::{Pass, RewriteFault, Trace};
-use circ_term::{Term, TermFault};
+use circ_term::TermFault;
 use circ_theory::Pair;
 use std::alloc::Global;
 
@@ -48,8 +49,10 @@ pub(crate) fn room_for(nodes: &Nodes, number: u32, arg: u32, room: Room) -> Room
     ensures { (t a : Tree) → IsNamed nodes.now number t → IsNamed nodes.now arg a
         → result ≡ record { big = room.big - size_of t + size_of a; deep = room.deep - 1 } }
 {
+    nodes.known_at(number);
+    nodes.known_at(arg);
     Room {
-        big: room.big - nodes.term(number).size() + nodes.term(arg).size(),
+        big: room.big - nodes.size(number) + nodes.size(arg),
         deep: room.deep - 1,
     }
 }
@@ -132,6 +135,7 @@ pub(crate) fn outgrow(alloc: Global, nodes: &mut Nodes, number: u32, place: usiz
 pub(crate) fn make(
     means: &Means<'_>,
     nodes: &mut Nodes,
+    terms: &mut Terms,
     course: &mut Course,
     number: u32,
     found: Found,
@@ -142,6 +146,8 @@ pub(crate) fn make(
     requires there { number < length nodes.old }
     requires found { (t : Tree) × (d : Replacement) × IsNamed nodes.old number t
         × IsFound nodes.old means.now t found d }
+    requires built { AreBuilt nodes.old terms.old }
+    ensures built { AreBuilt nodes.new terms.new }
     ensures grows { Grows nodes.old nodes.new }
     ensures less { budget.new ≤ budget.old }
     ensures makes { (due : ℕ → Tree → Work (Option Replacement)) → IsFallingDue due
@@ -159,10 +165,11 @@ pub(crate) fn make(
         Ok(new) => new,
         Err(fault) => return Err(Stop::Fault(rewrite_fault(fault))),
     };
-    if is_past(nodes.term(new), room) {
+    nodes.known_at(new);
+    if is_past(nodes, new, room) {
         return Err(Stop::Outgrows(new));
     }
-    let trace = means.trace(nodes, &choice, course.path.as_slice(), new)?;
+    let trace = means.trace(nodes, terms, &choice, course.path.as_slice(), new)?;
     course.traces.push(passing(trace, conds))?;
     *budget -= 1;
     Ok(new)
@@ -191,10 +198,11 @@ pub(crate) fn build_sides(
 }
 
 // Whether a term is past the bounds.
-fn is_past(term: &Term, room: Room) -> bool
-    ensures { result ≡ is_past (plain_room room) term.now }
+fn is_past(nodes: &Nodes, number: u32, room: Room) -> bool
+    requires { number < length nodes.now }
+    ensures { result ≡ is_past (plain_room room) (tree_at nodes.now number) }
 {
-    term.size() > room.big || term.depth() > room.deep
+    nodes.size(number) > room.big || nodes.depth(number) > room.deep
 }
 
 // The trace with these passes for the conditions of its rule.

@@ -46,7 +46,7 @@ pub(crate) fn settle_whole(
         → AnswersNumber (λ traces. traces.items) store.new.nodes budget.new
         (norm_by means.now tries budget.old t) result }
 {
-    store.nodes.term(number).known();
+    store.nodes.known_at(number);
     let room = Room {
         big: MOST_NODES,
         deep: MOST_DEPTH,
@@ -227,7 +227,8 @@ fn advance(
         Err(fault) => Err(Stop::Fault(fault)),
         Ok(None) => Ok(Turn::Settled(number)),
         Ok(Some(found)) => {
-            match make(means, &mut store.nodes, course, number, found, room, budget) {
+            let nodes = &mut store.nodes;
+            match make(means, nodes, &mut store.terms, course, number, found, room, budget) {
                 Ok(next) => Ok(Turn::Stepped(next)),
                 Err(stop) => Err(stop),
             }

@@ -1,32 +1,36 @@
 //! Interned terms, and which of them are known to be normal.
-ghost use Rattle.std.specs.Prelude.{◌≡◌, ◌<◌, ◌≤◌, [], Option, None, length, OnOk, OnErr};
+ghost use Rattle.std.specs.Prelude.{◌≡◌, ◌<◌, ◌≤◌, [], List, Option, None, length, OnOk, OnErr};
 ghost use Rattle.std.specs.Prelude.{IsTrue};
 ghost use Rattle.std.specs.List.{list_all};
 ghost use Rattle.circ_term.specs.Tree.{Tree};
 ghost use Rattle.circ_rewrite.specs.Replacement.{Replacement};
+ghost use Rattle.circ_nodes.specs.Built.{AreBuilt};
 ghost use Rattle.circ_nodes.specs.Named.{IsNamed};
 ghost use Rattle.circ_tries.specs.Store.{still_at, HasSameStill, HasStillArgs, PutsStill, AreStill};
 
-use circ_nodes::{Nodes, Shape};
+use circ_nodes::{Nodes, Shape, Terms};
 use std::alloc::{AllocError, Global};
 
 // Interned terms, and by number whether no rule, conditions or not, and nothing else applies
-// anywhere in the term.
+// anywhere in the term; and the terms that were built.
 #[derive(Drop)]
 pub(crate) struct Store {
     pub(crate) alloc: Global,
     pub(crate) nodes: Nodes,
     pub(crate) still: Vec<bool>,
+    pub(crate) terms: Terms,
 }
 
 impl Store {
     pub(crate) fn new(alloc: Global) -> Store
-        ensures { result.still.items ≡ [] }
+        ensures still { result.still.items ≡ [] }
+        ensures terms { (nodes : List Tree) → AreBuilt nodes result.terms }
     {
         Store {
             alloc,
             nodes: Nodes::new(alloc),
             still: Vec::new(alloc),
+            terms: Terms::new(alloc),
         }
     }
 
@@ -52,6 +56,7 @@ impl Store {
     pub(crate) fn mark(&mut self, number: u32) -> Result<(), AllocError>
         requires { number < length self.old.nodes }
         ensures nodes { self.new.nodes ≡ self.old.nodes }
+        ensures terms { self.new.terms ≡ self.old.terms }
         ensures marked { OnOk result (PutsStill number self.old.still.items self.new.still.items) }
         ensures err { OnErr result (HasSameStill self.old.still.items self.new.still.items) }
     {
@@ -66,6 +71,7 @@ impl Store {
 pub(crate) fn keep_still(store: &mut Store, number: u32, is_still: bool) -> Result<(), AllocError>
     requires { number < length store.old.nodes }
     ensures nodes { store.new.nodes ≡ store.old.nodes }
+    ensures terms { store.new.terms ≡ store.old.terms }
     ensures right { (due : Tree → Option Replacement) (t : Tree)
         → AreStill due store.old.nodes store.old.still.items
         → IsNamed store.old.nodes number t → (IsTrue is_still → due t ≡ None)

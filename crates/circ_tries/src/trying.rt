@@ -139,7 +139,7 @@ fn normal_of(
     match settled {
         Err(fault) => Err(fault),
         Ok((value, traces)) => {
-            let term = store.nodes.term(value).share()?;
+            let term = store.terms.term(&store.nodes, value)?;
             Ok(Normal { term, traces })
         }
     }

@@ -1,5 +1,6 @@
 use Rattle.std.proofs.Common.{◌≡◌, ◌-◌, ◌≤◌, ℕ, Option, Some, suc, refl, ap, sym, subst, ◌∙◌, arith}
 use Rattle.circ_term.specs.Limits.{first_limit, Names}
+use Rattle.circ_nodes.specs.Named.{tree_at}
 use Rattle.circ_nodes.proofs.Numbers.{named_below, named_one}
 use Rattle.circ_due.proofs.Later.{ready_later}
 use Rattle.circ_rewrite.specs.Plain.{rewrite_fault, plain_passes, plain_trace}
@@ -33,8 +34,8 @@ returns-in-Err-clause-makes c = λ due falls from t d k named f root e.
     (make_faults due falls c.args.room c.build.new.nodes from t d k root (c.args.budget.now - 1) (e ∙ ap (Made (Some d)) (sym z)) c.in-Err.fault
     (subst (λ x. Names c.in-Err.fault (first_limit x)) new names)))
 
-pub term-requires : goal.term-requires
-term-requires c =
+pub known_at-requires : goal.known_at-requires
+known_at-requires c =
     let f = c.requires.found in
     named_below c.build.new.nodes c.in-Ok.new f.3.0.new (c.in-Ok.ensures.interns f.0 f.3.0 f.2 f.3.1).0
 
@@ -42,7 +43,7 @@ pub returns-then-is_past-clause-makes : goal.returns-then-is_past-clause-makes
 returns-then-is_past-clause-makes c = λ due falls from t d k named f root e.
     let r : Replacement = f.0 in
     let made = c.in-Ok.ensures.interns t r named f.1 in
-    let is = named_one c.build.new.nodes c.in-Ok.new c.term.result.now r.new c.term.ensures made.0 in
+    let is = named_one c.build.new.nodes c.in-Ok.new (tree_at c.build.new.nodes c.in-Ok.new) r.new c.known_at.ensures.named made.0 in
     let new : r.new ≡ d.new = ap (λ (x : Replacement). x.new) (sym f.2) in
     let z : suc (c.args.budget.now - 1) ≡ c.args.budget.now = omega (arith, c.if-budget-eq0.false) in
     let here = subst (λ x. IsNamedWithin c.build.new.nodes c.in-Ok.new x) new made in
@@ -69,13 +70,13 @@ returns-clause-makes c = λ due falls from t d k named f root e.
     let path = c.args.course.now.path.items in
     let new = c.build.new.nodes in
     let made = c.in-Ok.ensures.interns t r named f.1 in
-    let is = named_one new c.in-Ok.new c.term.result.now r.new c.term.ensures made.0 in
+    let is = named_one new c.in-Ok.new (tree_at new c.in-Ok.new) r.new c.known_at.ensures.named made.0 in
     let same : r.new ≡ d.new = ap (λ (x : Replacement). x.new) (sym f.2) in
     let z : suc (c.args.budget.now - 1) ≡ c.args.budget.now = omega (arith, c.if-budget-eq0.false) in
     let here = subst (λ x. IsNamedWithin new c.in-Ok.new x) same made in
     let within = inside (plain_room c.args.room) d.new (ap (is_past (plain_room c.args.room)) (sym (is ∙ same)) ∙ sym c.is_past.ensures ∙ c.if-is_past.false) in
     let choice = choice_later c.args.nodes.now new c.build.ensures.grows c.args.means.now t c.args.found.choice r f.1 in
-    let trace = c.passing.ensures ∙ traced_passing path _ r d (plain_passes c.args.found.conds.items) (subst (λ p. plain_trace c.in_ok-trace.trace ≡ traced (placed p r)) c.as_slice.ensures (c.in_ok-trace.ensures t r made.0 choice)) f.2 in
+    let trace = c.passing.ensures ∙ traced_passing path _ r d (plain_passes c.args.found.conds.items) (subst (λ p. plain_trace c.in_ok-trace.trace ≡ traced (placed p r)) c.as_slice.ensures (c.in_ok-trace.ensures.traced t r made.0 choice)) f.2 in
     let course : Course = record { path = c.args.course.now.path; traces = c.push.new.self } in
     make_steps due falls c.args.room new from t d k root path c.args.course.now course (c.args.budget.now - 1) c.in-Ok.new (e ∙ ap (Made (Some d)) (sym z))
     (omega (arith, c.if-budget-eq0.false, made_less k c.args.budget.now d (due k t) e (falls k t))) here.0 here.1 (record { small = within.0; shallow = within.1 })

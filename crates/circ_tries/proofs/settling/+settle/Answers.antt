@@ -9,6 +9,7 @@ use Rattle.circ_term.proofs.Within.{drop_read}
 use Rattle.circ_theory.specs.Pairs.{plain_pair}
 use Rattle.circ_rewrite.specs.Plain.{plain_passes, plain_traces}
 use Rattle.circ_rewrite.specs.declared.parts.Rule.{Rule}
+use Rattle.circ_nodes.specs.Named.{tree_at}
 use Rattle.circ_nodes.proofs.Numbers.{named_below, named_one, named_later, there_named, are_named_length, grows_self, grows_more}
 use Rattle.circ_due.specs.Bounds.{bounds_in, AreBound}
 use Rattle.circ_due.specs.Chosen.{IsFit, by_rule, due_by}
@@ -28,7 +29,7 @@ use Rattle.circ_tries.proofs.Going.{take_front, writes_none, writes_on, goes_sel
 use Rattle.circ_tries.proofs.Measures.{depth_at, depth_is, below_on}
 use Rattle.circ_tries.proofs.Passed.{variable_at_root, behind_args, args_start, settles_still, passes_still, passes_formed, passes_faults, passes_outgrown, deeper_than, arg_inside, room_limits, put_arg, put_limits, put_passes, formed_in_room}
 use Rattle.circ_tries.proofs.Still.{settled_at}
-use Rattle.circ_tries.proofs.Stores.{store_later, store_kept, due_falls, nothing_in, whole_faults_by, whole_settles}
+use Rattle.circ_tries.proofs.Stores.{store_later, store_made, store_kept, due_falls, nothing_in, whole_faults_by, whole_settles}
 use Rattle.circ_tries.proofs.Holding.{first_hinders, second_hinders, forms_differ, forms_same, cond_hinders, other_numbers, same_numbers}
 use Rattle.circ_tries.proofs.Rooting.{found_later}
 use Rattle.circ_tries.proofs.Ruling.{rule_hinders, rule_fails, rule_applies}
@@ -39,12 +40,12 @@ use Rattle.circ_tries.proofs.settling.+settle.Goals as goal
 
 pub settle_whole-settle-requires : goal.settle_whole-settle-requires
 settle_whole-settle-requires t c =
-    let w = within_limits c.term.result.now c.known.ensures in (
+    let w = within_limits (tree_at c.args.store.now.nodes c.args.number) c.known_at.ensures.within in (
       omega arith,
       (
         c.requires.store,
         (
-          record { term = c.term.result.now; named = c.term.ensures; room = record { small = w.0; shallow = w.1 }; big = omega arith; deep = omega arith },
+          record { term = tree_at c.args.store.now.nodes c.args.number; named = c.known_at.ensures.named; room = record { small = w.0; shallow = w.1 }; big = omega arith; deep = omega arith },
           (c.requires.tries, c.requires.fits),
         ),
       ),
@@ -52,8 +53,8 @@ settle_whole-settle-requires t c =
 
 pub settle_whole-unreachable-requires : goal.settle_whole-unreachable-requires
 settle_whole-unreachable-requires t c =
-    let s = rw c.in-Err-Outgrows.field-0-is at (rw c.in-Err-Outgrows.is at (c.settle.ensures.ends c.term.result.now c.term.ensures)) in
-    never_outgrown (due_in c.args.means.now c.args.tries) c.args.budget.now [] c.term.result.now s.0 [] c.args.budget.now c.settle.new.budget (s.2 [])
+    let s = rw c.in-Err-Outgrows.field-0-is at (rw c.in-Err-Outgrows.is at (c.settle.ensures.ends (tree_at c.args.store.now.nodes c.args.number) c.known_at.ensures.named)) in
+    never_outgrown (due_in c.args.means.now c.args.tries) c.args.budget.now [] (tree_at c.args.store.now.nodes c.args.number) s.0 [] c.args.budget.now c.settle.new.budget (s.2 [])
 
 pub settle_whole-returns-in-Ok-clause-exact : goal.settle_whole-returns-in-Ok-clause-exact
 settle_whole-returns-in-Ok-clause-exact t c = λ u n.
@@ -398,10 +399,10 @@ settle_arg-outgrow-requires-clause-place t c = λ x nx.
     subst (λ y. c.args.place < length (args_of y)) same (c.requires.place i.term i.named)
 
 pub settle_arg-returns-in-Ok-clause-store : goal.settle_arg-returns-in-Ok-clause-store
-settle_arg-returns-in-Ok-clause-store t c = store_later c.args.means.now c.settle-settled.new.store _ c.put_value.ensures.grows refl c.settle-settled.ensures.store
+settle_arg-returns-in-Ok-clause-store t c = store_later c.args.means.now c.settle-settled.new.store _ c.put_value.ensures.grows refl refl c.settle-settled.ensures.store
 
 pub settle_arg-returns-in-Err-Outgrows-clause-store : goal.settle_arg-returns-in-Err-Outgrows-clause-store
-settle_arg-returns-in-Err-Outgrows-clause-store t c = store_later c.args.means.now c.settle-settled.new.store _ c.outgrow.ensures.grows refl c.settle-settled.ensures.store
+settle_arg-returns-in-Err-Outgrows-clause-store t c = store_later c.args.means.now c.settle-settled.new.store _ c.outgrow.ensures.grows refl refl c.settle-settled.ensures.store
 
 pub settle_arg-returns-in-Ok-clause-passes : goal.settle_arg-returns-in-Ok-clause-passes
 settle_arg-returns-in-Ok-clause-passes t c = λ u n.
@@ -487,7 +488,7 @@ advance-make-requires t c =
     let g = c.find_due.ensures.grows in
     let here = named_later c.args.store.now.nodes c.find_due.new.store.nodes c.args.number i.term g i.named in
     let found = rw c.in-Ok-Some.field-0-is at (c.in-Ok-Some.ensures.finds i.term i.named) in
-    record { ready = c.find_due.ensures.store.ready; there = named_below c.find_due.new.store.nodes c.args.number i.term here; found = (i.term, found.0, here, found.1) }
+    record { ready = c.find_due.ensures.store.ready; built = c.find_due.ensures.store.built; there = named_below c.find_due.new.store.nodes c.args.number i.term here; found = (i.term, found.0, here, found.1) }
 
 pub advance-returns-in-Ok-clause-turns : goal.advance-returns-in-Ok-clause-turns
 advance-returns-in-Ok-clause-turns t c = λ u from n root.
@@ -504,10 +505,10 @@ advance-returns-in-Err-make-clause-turns t c = λ u from n root.
     c.in-Err-make.ensures.makes (due_in c.args.means.now c.args.tries) (due_falls c.args.means.now c.args.tries) from u found.0 c.args.budget.now here found.1 root found.2
 
 pub advance-returns-in-Ok-clause-store : goal.advance-returns-in-Ok-clause-store
-advance-returns-in-Ok-clause-store t c = store_later c.args.means.now c.find_due.new.store _ c.make.ensures.grows refl c.find_due.ensures.store
+advance-returns-in-Ok-clause-store t c = store_made c.args.means.now c.find_due.new.store _ c.make.ensures.grows refl c.make.ensures.built c.find_due.ensures.store
 
 pub advance-returns-in-Err-make-clause-store : goal.advance-returns-in-Err-make-clause-store
-advance-returns-in-Err-make-clause-store t c = store_later c.args.means.now c.find_due.new.store _ c.make.ensures.grows refl c.find_due.ensures.store
+advance-returns-in-Err-make-clause-store t c = store_made c.args.means.now c.find_due.new.store _ c.make.ensures.grows refl c.make.ensures.built c.find_due.ensures.store
 
 pub find_due-returns-in-Some-clause-finds : goal.find_due-returns-in-Some-clause-finds
 find_due-returns-in-Some-clause-finds t c = λ u n.
@@ -545,7 +546,7 @@ try_rules-returns-in-None-clause-store t c =
     let u = there_named old c.args.number c.requires.there in
     let here = named_later old c.loop-store.store.nodes c.args.number u.0 i.grows u.1 in
     let none = rw c.in-None.is at (c.in_ok-rule_from.ensures u.0 here) in
-    store_kept m c.loop-store.store c.keep_still.new.store c.keep_still.ensures.nodes
+    store_kept m c.loop-store.store c.keep_still.new.store c.keep_still.ensures.nodes c.keep_still.ensures.terms
     (c.keep_still.ensures.right (due_by m) u.0 i.store.right here (λ e. still_from m.theory.now.signature m.rules.items m.assumptions u.0 c.loop-store.from (c.requires.none u.0 u.1) none e)) i.store
 
 pub try_rules-returns-in_err-keep_still-in-None-clause-store : goal.try_rules-returns-in_err-keep_still-in-None-clause-store
@@ -556,7 +557,7 @@ try_rules-returns-in_err-keep_still-in-None-clause-store t c =
     let u = there_named old c.args.number c.requires.there in
     let here = named_later old c.loop-store.store.nodes c.args.number u.0 i.grows u.1 in
     let none = rw c.in-None.is at (c.in_ok-rule_from.ensures u.0 here) in
-    store_kept m c.loop-store.store c.keep_still.new.store c.keep_still.ensures.nodes
+    store_kept m c.loop-store.store c.keep_still.new.store c.keep_still.ensures.nodes c.keep_still.ensures.terms
     (c.keep_still.ensures.right (due_by m) u.0 i.store.right here (λ e. still_from m.theory.now.signature m.rules.items m.assumptions u.0 c.loop-store.from (c.requires.none u.0 u.1) none e)) i.store
 
 pub try_rules-try_rule-requires : goal.try_rules-try_rule-requires
@@ -726,7 +727,7 @@ try_condition-settle_whole-requires t c =
     let is = depth_is nodes c.in-Ok.sides.0 (instance σ p.left) left.0 in (
       omega (arith, deep, is),
       (
-        store_later c.args.means.now c.args.store.now _ c.build_sides.ensures.grows refl c.requires.store,
+        store_later c.args.means.now c.args.store.now _ c.build_sides.ensures.grows refl refl c.requires.store,
         (named_below nodes c.in-Ok.sides.0 (instance σ p.left) left.0, (c.requires.tries, c.requires.fits)),
       ),
     )
@@ -749,7 +750,7 @@ try_condition-settle_whole-requires-2 t c =
     )
 
 pub try_condition-returns-in-Err-clause-store : goal.try_condition-returns-in-Err-clause-store
-try_condition-returns-in-Err-clause-store t c = store_later c.args.means.now c.args.store.now _ c.build_sides.ensures.grows refl c.requires.store
+try_condition-returns-in-Err-clause-store t c = store_later c.args.means.now c.args.store.now _ c.build_sides.ensures.grows refl refl c.requires.store
 
 pub try_condition-returns-in-Err-clause-tests : goal.try_condition-returns-in-Err-clause-tests
 try_condition-returns-in-Err-clause-tests t c = λ rest. c.in-Err.ensures.builds (norm_by c.args.means.now c.args.tries) c.args.budget.now rest

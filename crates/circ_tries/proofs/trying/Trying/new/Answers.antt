@@ -7,5 +7,6 @@ invariant_of-result c =
     rw c.in_ok-new.ensures.ok
     (record {
       ready = c.in_ok-means.ensures.ready c.new-store.result.nodes;
-      right = right_nothing (due_by c.in_ok-means.means) c.new-store.result.nodes c.new-store.result.still.items c.new-store.ensures;
+      right = right_nothing (due_by c.in_ok-means.means) c.new-store.result.nodes c.new-store.result.still.items c.new-store.ensures.still;
+      built = c.new-store.ensures.terms c.new-store.result.nodes;
     })
