@@ -228,7 +228,16 @@ fn advance(
         Ok(None) => Ok(Turn::Settled(number)),
         Ok(Some(found)) => {
             let nodes = &mut store.nodes;
-            match make(means, nodes, &mut store.terms, course, number, found, room, budget) {
+            match make(
+                means,
+                nodes,
+                &mut store.terms,
+                course,
+                number,
+                found,
+                room,
+                budget,
+            ) {
                 Ok(next) => Ok(Turn::Stepped(next)),
                 Err(stop) => Err(stop),
             }
