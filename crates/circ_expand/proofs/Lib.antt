@@ -1,3 +1,8 @@
+pub mod Keeping
+pub mod Overs
+pub mod Below
+pub mod Guarding
+pub mod Ends
 pub mod Putting
 pub mod Going
 pub mod Depth

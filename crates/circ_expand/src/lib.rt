@@ -8,13 +8,19 @@
 //! [`goal_misfit`] tells whether there is such a goal, and whether the experiment fits it.
 #![tactic(auto)]
 
-mod expanding;
+mod by;
+mod certified;
 mod fault;
+mod fitting;
 mod goals;
+mod guards;
+mod histories;
 mod laws;
+mod matching;
 mod rows;
+mod valuation;
+mod variables;
 
-pub use expanding::expand;
 pub use fault::ExpandFault;
 pub use goals::{goal_misfit, goal_numbered};
 pub use laws::{expansion_is_worked_off, expansion_leads};
