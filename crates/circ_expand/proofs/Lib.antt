@@ -3,6 +3,7 @@ pub mod Overs
 pub mod Below
 pub mod Guarding
 pub mod Ends
+pub mod Meeting
 pub mod Putting
 pub mod Going
 pub mod Depth

@@ -17,6 +17,7 @@ mod guards;
 mod histories;
 mod laws;
 mod matching;
+mod meetings;
 mod rows;
 mod valuation;
 mod variables;
