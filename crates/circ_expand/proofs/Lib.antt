@@ -4,6 +4,7 @@ pub mod Below
 pub mod Guarding
 pub mod Ends
 pub mod Meeting
+pub mod Holes
 pub mod Putting
 pub mod Going
 pub mod Depth

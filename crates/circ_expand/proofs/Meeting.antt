@@ -1,6 +1,8 @@
 -- What a step acts on, and the steps after it.
-use Rattle.std.proofs.Common.{◌≡◌, ℕ, List, [], ◌∷◌, ◌++◌, map, length, refl, ap, sym, ◌∙◌, subst, append_assoc}
+use Rattle.std.proofs.Common.{◌≡◌, ◌≤◌, arith, ℕ, List, [], ◌∷◌, ◌++◌, map, length, refl, ap, sym, ◌∙◌, subst, append_assoc, append-nil}
 use Rattle.std.specs.List.{AllByRecursion}
+use Rattle.std.proofs.lemmas.List.{length-map}
+use Rattle.circ_expand.specs.declared.histories.Met.{Met}
 use Rattle.circ_term.specs.Tree.{Tree, sort_of}
 use Rattle.circ_theory.specs.Theory.{Theory, Pair, pair_with, goal, sides, Derivative}
 use Rattle.circ_theory.specs.Fresh.{fresh_in, derivatives_of}
@@ -12,10 +14,10 @@ use Rattle.circ_proof.specs.Justified.{ChainLeads}
 use Rattle.circ_proof.specs.Proof.{IsPlainStep}
 use Rattle.circ_proof.specs.Rules.{State, state, ProofStep, Simplify, Reduce, Derive, Cases, Done, map_step, StepOf, StepsOf, derived_goal, derivatives_on}
 use Rattle.circ_proof.proofs.Stepping.{step_one}
-use Rattle.circ_expand.specs.Followed.{led_all, led_goal}
+use Rattle.circ_expand.specs.Followed.{led_all, led_goal, told, and_simplified, and_reduced, and_derived}
 use Rattle.circ_proof.specs.PlainProof.{plain_step, plain_steps}
 use Rattle.circ_proof.specs.declared.proof.Step.{Step}
-use Rattle.circ_expand.specs.Histories.{Meeting, meetings, Meets}
+use Rattle.circ_expand.specs.Histories.{Meeting, meetings, Meets, Lengthens, told_from, meeting_of}
 use Rattle.circ_expand.proofs.Led.{links_led}
 
 abbrev pub HaveNone : List Goal → Type 0
@@ -92,3 +94,51 @@ step_met th G f x ys H (p ∷ ps) F b some i a r o ms ns whole m e =
       met = ap (λ y. y ++ meetings th G b.hypotheses b.goals ss) (m p ps refl)
           ∙ append_assoc ms ((p, length ps) ∷ []) (meetings th G b.hypotheses b.goals ss) ∙ ap (λ y. ms ++ y) (sym n.met) ∙ e;
     }
+
+-- a step puts hypotheses behind those that there were
+pub hyps_grow : (th : Theory) (G : List Place) (f : ℕ → Tree) (s : ProofStep ℕ) (H gs : List Goal) (b : State) → IsPlainStep s
+    → StepOf th G (map_step f s) (state H gs) b → Lengthens H b.hypotheses
+hyps_grow th G f (Simplify chain) H [] b i r = absurd r
+hyps_grow th G f (Simplify chain) H (g ∷ gs) b i r = ([], ap (λ (x : State). x.hypotheses) r.2 ∙ sym (append-nil H))
+hyps_grow th G f (Reduce why) H [] b i r = absurd r
+hyps_grow th G f (Reduce why) H (g ∷ gs) b i r = ([], ap (λ (x : State). x.hypotheses) r.1 ∙ sym (append-nil H))
+hyps_grow th G f Derive H [] b i r = absurd r
+hyps_grow th G f Derive H (g ∷ gs) b i r = (g ∷ [], ap (λ (x : State). x.hypotheses) r.2)
+hyps_grow th G f (Cases u) H gs b i r = absurd i
+hyps_grow th G f Done H [] b i r = ([], ap (λ (x : State). x.hypotheses) r ∙ sym (append-nil H))
+hyps_grow th G f Done H (g ∷ gs) b i r = absurd r
+
+pub longer_still : (H K L : List Goal) → Lengthens H K → Lengthens K L → Lengthens H L
+longer_still H K L a b = (a.0 ++ b.0, b.1 ∙ ap (λ x. x ++ b.0) a.1 ∙ append_assoc H a.0 b.0)
+
+-- no step acts on two goals
+pub meetings_few : (th : Theory) (G : List Place) (H gs : List Goal) (ss : List (ProofStep Tree)) → length (meetings th G H gs ss) ≤ length ss
+meetings_few th G H gs [] = omega arith
+meetings_few th G H [] (s ∷ ss) = omega arith
+meetings_few th G H (p ∷ ps) (Simplify chain ∷ ss) = omega (arith, meetings_few th G H (led_goal (setting th G H []) chain p ∷ ps) ss)
+meetings_few th G H (p ∷ ps) (Reduce why ∷ ss) = omega (arith, meetings_few th G H ps ss)
+meetings_few th G H (p ∷ ps) (Derive ∷ ss) = omega (arith, meetings_few th G (H ++ p ∷ []) (ps ++ derivatives_on th p) ss)
+meetings_few th G H (p ∷ ps) (Cases u ∷ ss) = omega arith
+meetings_few th G H (p ∷ ps) (Done ∷ ss) = omega arith
+
+-- what is told is told by what the steps act on
+pub told_is : (th : Theory) (G : List Place) (H gs : List Goal) (ss : List (ProofStep Tree)) → told_from (meetings th G H gs ss) ss ≡ told th G H gs ss
+told_is th G H gs [] = refl
+told_is th G H [] (s ∷ ss) = refl
+told_is th G H (p ∷ ps) (Simplify chain ∷ ss) = ap (and_simplified p chain) (told_is th G H (led_goal (setting th G H []) chain p ∷ ps) ss)
+told_is th G H (p ∷ ps) (Reduce why ∷ ss) = ap (and_reduced p why) (told_is th G H ps ss)
+told_is th G H (p ∷ ps) (Derive ∷ ss) = ap (and_derived p (length ps)) (told_is th G (H ++ p ∷ []) (ps ++ derivatives_on th p) ss)
+told_is th G H (p ∷ ps) (Cases u ∷ ss) = refl
+told_is th G H (p ∷ ps) (Done ∷ ss) = refl
+
+pub few_met : (th : Theory) (G : List Place) (f : ℕ → Tree) (H gs : List Goal) (steps : List (Step ℕ)) (ms : List Met)
+    → map meeting_of ms ≡ meetings th G H gs (map (map_step f) (plain_steps steps)) → length ms ≤ length steps
+few_met th G f H gs steps ms e =
+    omega (
+      arith,
+      ap length e,
+      length-map ms meeting_of,
+      length-map steps plain_step,
+      length-map (plain_steps steps) (map_step f),
+      meetings_few th G H gs (map (map_step f) (plain_steps steps)),
+    )

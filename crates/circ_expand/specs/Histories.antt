@@ -64,6 +64,10 @@ meetings th G H (p ∷ ps) (Done ∷ ss) = []
 abbrev pub Meets : List Goal → (ms ns : List Meeting) → Type 0
 Meets gs ms ns = (p : Goal) (ps : List Goal) → gs ≡ p ∷ ps → ns ≡ ms ++ (p, length ps) ∷ []
 
+-- hypotheses are put behind those that there were
+abbrev pub Lengthens : (H K : List Goal) → Type 0
+Lengthens H K = (ds : List Goal) × (K ≡ H ++ ds)
+
 -- what is told by one step of what is told by those after it
 abbrev pub told_by : Meeting → ProofStep Tree → Told → Told
 told_by m (Simplify chain) t = and_simplified m.0 chain t

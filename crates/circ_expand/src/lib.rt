@@ -8,6 +8,7 @@
 //! [`goal_misfit`] tells whether there is such a goal, and whether the experiment fits it.
 #![tactic(auto)]
 
+mod book;
 mod by;
 mod certified;
 mod fault;
@@ -16,9 +17,11 @@ mod goals;
 mod guards;
 mod histories;
 mod laws;
+mod links;
 mod matching;
 mod meetings;
 mod rows;
+mod uses;
 mod valuation;
 mod variables;
 

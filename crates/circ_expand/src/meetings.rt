@@ -8,7 +8,7 @@ ghost use Rattle.circ_proof.specs.PlainProof.{plain_state, plain_step, plain_ste
 ghost use Rattle.circ_proof.specs.Rules.{State as PlainState, state as state_with, map_step};
 ghost use Rattle.circ_proof.specs.Rules.{AllOfStep, IsSortedState, StepOf, StepsOf};
 ghost use Rattle.circ_proof.specs.Proof.{IsPlainStep};
-ghost use Rattle.circ_expand.specs.Histories.{meeting_of, meetings, Meets};
+ghost use Rattle.circ_expand.specs.Histories.{meeting_of, meetings, Meets, Lengthens};
 
 use crate::histories::Met;
 use circ_proof::{State, Step};
@@ -41,9 +41,10 @@ impl Ground<'_> {
         requires runs { (F : List TheGoal) × StepsOf self.now.theory.now self.now.gamma.now
             (map (map_step (named self.now.table.now)) (plain_steps steps.now))
             (plain_state state.old) (state_with F []) }
-        ensures { IfOk result (λ v. map meeting_of v.items ≡ meetings self.now.theory.now
+        ensures met { IfOk result (λ v. map meeting_of v.items ≡ meetings self.now.theory.now
             self.now.gamma.now state.old.hyps.items state.old.goals.items
             (map (map_step (named self.now.table.now)) (plain_steps steps.now))) }
+        ensures hyps { OnOk result (Lengthens state.old.hyps.items state.new.hyps.items) }
     {
         let mut met = Vec::new(self.alloc);
         for step in steps {

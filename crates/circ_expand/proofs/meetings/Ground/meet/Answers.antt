@@ -8,7 +8,7 @@ use Rattle.circ_proof.specs.Proof.{IsPlainStep}
 use Rattle.circ_proof.specs.Rules.{state, map_step, AllOfStep, StepsOf}
 use Rattle.circ_proof.specs.declared.proof.Step.{Step}
 use Rattle.circ_expand.specs.Histories.{meeting_of, meetings}
-use Rattle.circ_expand.proofs.Meeting.{step_met}
+use Rattle.circ_expand.proofs.Meeting.{step_met, hyps_grow, longer_still}
 use Rattle.circ_expand.proofs.meetings.Ground.meet.Goals as goal
 
 pub meet_one-requires : goal.meet_one-requires
@@ -54,6 +54,9 @@ loop-step-preserved c =
       in_table = (subst T e inv.in_table).1;
       sorted = c.in_ok-meet_one.ensures.state_sorted;
       none = m.none;
+      hyps = longer_still c.args.state.now.hyps.items c.loop-step.state.hyps.items c.meet_one.new.state.hyps.items inv.hyps
+          (hyps_grow th G f (plain_step x) c.loop-step.state.hyps.items c.loop-step.state.goals.items (plain_state c.meet_one.new.state)
+          (subst P e inv.plain).0 c.in_ok-meet_one.ensures.applied);
       plain = (subst P e inv.plain).1;
       runs = (inv.runs.0, m.runs);
       met = m.met;

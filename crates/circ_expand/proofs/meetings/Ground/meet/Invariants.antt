@@ -5,7 +5,7 @@ use Rattle.circ_theory.specs.declared.parts.Goal.{Goal}
 use Rattle.circ_proof.specs.PlainProof.{plain_state, plain_steps}
 use Rattle.circ_proof.specs.Proof.{IsPlainStep}
 use Rattle.circ_proof.specs.Rules.{state, map_step, AllOfStep, IsSortedState, StepsOf}
-use Rattle.circ_expand.specs.Histories.{meeting_of, meetings}
+use Rattle.circ_expand.specs.Histories.{meeting_of, meetings, Lengthens}
 use Rattle.circ_expand.proofs.Meeting.{HaveNone}
 use Rattle.circ_expand.proofs.meetings.Ground.meet.Given as goal
 
@@ -19,6 +19,7 @@ invariant-loop-step l =
       in_table : AllByRecursion (AllOfStep (λ n. n < length table)) (plain_steps rest);
       sorted : IsSortedState th (plain_state l.state);
       none : HaveNone l.state.goals.items;
+      hyps : Lengthens l.initial.state.hyps.items l.state.hyps.items;
       plain : AllByRecursion IsPlainStep (plain_steps rest);
       runs : (F : List Goal) × StepsOf th G (map (map_step (named table)) (plain_steps rest)) (plain_state l.state) (state F []);
       met : map meeting_of l.met.items ++ meetings th G l.state.hyps.items l.state.goals.items (map (map_step (named table)) (plain_steps rest))

@@ -1,0 +1,36 @@
+-- What becomes of all goals of a proof, as the code keeps it.
+use Rattle.std.specs.Prelude.{◌≡◌, ◌≤◌, ℕ, ◌+◌, List, [], ◌∷◌, ◌++◌, map, length}
+use Rattle.std.specs.declared.collections.VecDeque.{VecDeque}
+use Rattle.std.proofs.Common.{Global}
+use Rattle.circ_term.specs.Tree.{Tree}
+use Rattle.circ_theory.specs.Theory.{Theory}
+use Rattle.circ_theory.specs.Rewriting.{named}
+use Rattle.circ_theory.specs.declared.parts.Goal.{Goal}
+use Rattle.circ_special.specs.declared.place.Place.{Place}
+use Rattle.circ_proof.specs.PlainProof.{plain_steps}
+use Rattle.circ_proof.specs.Rules.{map_step}
+use Rattle.circ_proof.specs.declared.proof.Block.{Block}
+use Rattle.circ_expand.specs.Followed.{told}
+use Rattle.circ_expand.specs.Histories.{told_at, AreNodes, Adds}
+use Rattle.circ_expand.specs.declared.histories.Numbers.{Numbers}
+use Rattle.circ_expand.specs.declared.book.Followed.{Followed}
+use Rattle.circ_expand.specs.declared.book.Derivations.{Derivations}
+use Rattle.circ_expand.specs.declared.book.Book.{Book}
+
+-- nodes in a block
+abbrev pub kept_in : (block : ℕ) → List ℕ → List Followed
+kept_in b ks = map (λ k. record { block = b; node = k }) ks
+
+abbrev pub derivations : (earlier : ℕ) → VecDeque ℕ Global → Derivations
+derivations n d = record { earlier = n; derived = d }
+
+-- The block is told of by steps on its goals: its numbers are nodes, behind those that there were. Its goals come last, and its hypotheses are the goals before
+-- them and what it derives.
+pub record AddsBlock (th : Theory) (G : List Place) (table : List Tree) (a b : Book) (H : List Goal) (block : Block) : Type 0 where
+  pub numbers : Numbers
+  pub nodes : Adds a.nodes.items b.nodes.items
+  pub few : length b.nodes.items ≤ length a.nodes.items + length block.steps.items
+  pub are : AreNodes b.nodes.items numbers
+  pub right : told_at table b.nodes.items numbers ≡ told th G H block.goals.items (map (map_step (named table)) (plain_steps block.steps.items))
+  pub goals : b.goals.items ≡ a.goals.items ++ kept_in (length a.blocks.items) numbers.goals.items
+  pub blocks : b.blocks.items ≡ a.blocks.items ++ derivations (length a.goals.items) numbers.derived ∷ []
