@@ -5,6 +5,7 @@ pub mod Guarding
 pub mod Ends
 pub mod Meeting
 pub mod Holes
+pub mod Finding
 pub mod Putting
 pub mod Going
 pub mod Depth

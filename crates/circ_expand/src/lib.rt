@@ -20,6 +20,7 @@ mod laws;
 mod links;
 mod matching;
 mod meetings;
+mod paths;
 mod rows;
 mod uses;
 mod valuation;
