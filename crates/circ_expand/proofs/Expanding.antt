@@ -65,7 +65,7 @@ goals_append [] ys = refl
 goals_append (x ∷ xs) ys = ap (λ ps. goal_in x.history ∷ ps) (goals_append xs ys)
 
 -- the goals of a plain block have no conditions
-block_bare : (table : List Tree) (gs : List Goal) (ns : List GoalNames) → gs ≡ map (goal_at table) ns → AllByRecursion (λ (n : GoalNames). n.conds ≡ []) ns
+pub block_bare : (table : List Tree) (gs : List Goal) (ns : List GoalNames) → gs ≡ map (goal_at table) ns → AllByRecursion (λ (n : GoalNames). n.conds ≡ []) ns
     → AreBareGoals gs
 block_bare table gs ns e a = subst AreBareGoals (sym e) (named_bare ns a)
   where

@@ -6,6 +6,8 @@ pub mod Ends
 pub mod Meeting
 pub mod Holes
 pub mod Finding
+pub mod Rising
+pub mod Reading
 pub mod Putting
 pub mod Going
 pub mod Depth

@@ -1,5 +1,5 @@
 -- What becomes of all goals of a proof, as the code keeps it.
-use Rattle.std.specs.Prelude.{◌≡◌, ◌≤◌, ℕ, ◌+◌, List, [], ◌∷◌, ◌++◌, map, length}
+use Rattle.std.specs.Prelude.{◌≡◌, ◌≤◌, ℕ, ◌+◌, List, [], ◌∷◌, ◌++◌, map, length, take}
 use Rattle.std.specs.declared.collections.VecDeque.{VecDeque}
 use Rattle.std.proofs.Common.{Global}
 use Rattle.circ_term.specs.Tree.{Tree}
@@ -10,8 +10,10 @@ use Rattle.circ_special.specs.declared.place.Place.{Place}
 use Rattle.circ_proof.specs.PlainProof.{plain_steps}
 use Rattle.circ_proof.specs.Rules.{map_step}
 use Rattle.circ_proof.specs.declared.proof.Block.{Block}
-use Rattle.circ_expand.specs.Followed.{told}
-use Rattle.circ_expand.specs.Histories.{told_at, AreNodes, Adds}
+use Rattle.circ_proof.specs.Proof.{Proof}
+use Rattle.circ_expand.specs.Followed.{told, hypotheses_of, goals_of, Followed as History_in}
+use Rattle.circ_expand.specs.Histories.{told_at, history_at, AreNodes, Adds}
+use Rattle.circ_expand.specs.declared.histories.Node.{Node}
 use Rattle.circ_expand.specs.declared.histories.Numbers.{Numbers}
 use Rattle.circ_expand.specs.declared.book.Followed.{Followed}
 use Rattle.circ_expand.specs.declared.book.Derivations.{Derivations}
@@ -34,3 +36,18 @@ pub record AddsBlock (th : Theory) (G : List Place) (table : List Tree) (a b : B
   pub right : told_at table b.nodes.items numbers ≡ told th G H block.goals.items (map (map_step (named table)) (plain_steps block.steps.items))
   pub goals : b.goals.items ≡ a.goals.items ++ kept_in (length a.blocks.items) numbers.goals.items
   pub blocks : b.blocks.items ≡ a.blocks.items ++ derivations (length a.goals.items) numbers.derived ∷ []
+
+-- a goal with what becomes of it
+abbrev pub followed_by : (table : List Tree) → List Node → Followed → History_in
+followed_by table ns x = record { block = x.block; history = history_at table ns x.node }
+
+-- the hypotheses of the blocks from this one on, each as it is followed
+abbrev pub hypotheses_in : (table : List Tree) → List Node → (goals : List Followed) → (block : ℕ) → List Derivations → List (List History_in)
+hypotheses_in table ns gs n [] = []
+hypotheses_in table ns gs n (d ∷ ds) =
+    (map (followed_by table ns) (take d.earlier gs) ++ map (followed_by table ns) (kept_in n d.derived.items)) ∷ hypotheses_in table ns gs (n + 1) ds
+
+-- All goals of the proof are in it as they are followed, and all hypotheses.
+pub record IsBook (th : Theory) (p : Proof) (b : Book) : Type 0 where
+  pub goals : map (followed_by p.table b.nodes.items) b.goals.items ≡ goals_of th p 0 [] p.blocks
+  pub hypotheses : hypotheses_in p.table b.nodes.items b.goals.items 0 b.blocks.items ≡ hypotheses_of th p 0 [] [] p.blocks

@@ -13,6 +13,8 @@ use Rattle.circ_expand.specs.declared.valuation.Variable.{Variable}
 use Rattle.circ_expand.specs.declared.valuation.Valuation.{Valuation}
 use Rattle.circ_expand.specs.declared.by.Over.{Over}
 use Rattle.circ_expand.specs.declared.by.By.{By}
+use Rattle.circ_expand.specs.declared.by.Plugged.{Plugged}
+use Rattle.circ_theory.specs.Experiment.{plug}
 
 abbrev pub bound_of : Variable × Tree → Bound
 bound_of e = record { number = e.0.number; sort = e.0.sort; term = e.1 }
@@ -41,5 +43,13 @@ abbrev pub over_number : Theory → Over → (number sort : ℕ) → Option ℕ
 over_number th o n s =
     if not (nat_lt n o.first) && has_variable (derivative_at th o.derivative).body (suc (n - o.first)) s then Some (suc (n - o.first)) else None
 
+abbrev pub kept_by : By → Substitution
+kept_by b = with_overs b.theory.now (valued_by b.base.value) b.overs.items
+
+-- with a term for a hole before it
+abbrev pub plugged_by : Option Plugged → Substitution → Substitution
+plugged_by None σ = σ
+plugged_by (Some p) σ = plug p.hole p.term σ
+
 abbrev pub by_of : By → Substitution
-by_of b = with_overs b.theory.now (valued_by b.base.value) b.overs.items
+by_of b = plugged_by b.plugged (kept_by b)

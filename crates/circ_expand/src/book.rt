@@ -8,12 +8,14 @@ ghost use Rattle.circ_theory.specs.declared.parts.Goal.{Goal as TheGoal};
 ghost use Rattle.circ_proof.specs.PlainProof.{plain_state, plain_steps};
 ghost use Rattle.circ_proof.specs.Rules.{state as state_with, map_step, AllOfStep};
 ghost use Rattle.circ_proof.specs.Rules.{IsSortedState, StepsOf};
-ghost use Rattle.circ_proof.specs.Proof.{IsPlainStep};
-ghost use Rattle.circ_expand.specs.Book.{AddsBlock, kept_in, derivations};
+ghost use Rattle.circ_proof.specs.Proof.{IsPlainStep, IsPlain, ProofFor};
+ghost use Rattle.circ_proof.specs.PlainProof.{plain_proof};
+ghost use Rattle.circ_proof.specs.Accepted.{Accepted};
+ghost use Rattle.circ_expand.specs.Book.{AddsBlock, IsBook, kept_in, derivations};
 
 use crate::histories::{Node, Numbers, tell};
 use crate::meetings::Ground;
-use circ_proof::{Block, State};
+use circ_proof::{Block, Proof, State};
 use circ_theory::Goal;
 use std::alloc::{AllocError, Global};
 use std::collections::VecDeque;
@@ -117,6 +119,31 @@ impl Ground<'_> {
         state.hyps.truncate(earlier);
         add_goals(self.alloc, &mut state.hyps, block.goals.as_slice())?;
         Ok(())
+    }
+
+    // All blocks of an accepted proof, in order.
+    pub(crate) fn read<'a>(&self, proof: &'a Proof) -> Result<Book<'a>, AllocError>
+        requires table { self.now.table.now ≡ proof.now.table.items }
+        requires gamma { self.now.gamma.now ≡ proof.now.gamma }
+        requires for_theory { ProofFor self.now.theory.now (plain_proof proof.now) }
+        requires plain { IsPlain (plain_proof proof.now) }
+        requires accepted { Accepted self.now.theory.now (plain_proof proof.now) }
+        ensures { IfOk result (IsBook self.now.theory.now (plain_proof proof.now)) }
+    {
+        self.theory.known();
+        let mut book = Book {
+            nodes: Vec::new(self.alloc),
+            goals: Vec::new(self.alloc),
+            blocks: Vec::new(self.alloc),
+        };
+        let mut state = State {
+            hyps: Vec::new(self.alloc),
+            goals: VecDeque::new(self.alloc),
+        };
+        for block in &proof.blocks {
+            self.add_block(&mut book, &mut state, block)?;
+        }
+        Ok(book)
     }
 }
 

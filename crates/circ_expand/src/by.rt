@@ -5,7 +5,7 @@ ghost use Rattle.circ_term.specs.Limits.{Builds};
 ghost use Rattle.circ_term.specs.Substitution.{instance, instances};
 ghost use Rattle.circ_term.specs.Subst.{BuildsAll};
 ghost use Rattle.circ_match.specs.Matcher.{has_variable, have_variable};
-ghost use Rattle.circ_expand.specs.Valuations.{by_of, valued_by};
+ghost use Rattle.circ_expand.specs.Valuations.{by_of, kept_by, valued_by};
 ghost use Rattle.circ_expand.specs.Valuations.{over_number};
 
 use crate::valuation::Valuation;
@@ -28,6 +28,14 @@ pub(crate) struct By<'a> {
     pub(crate) theory: &'a Theory,
     pub(crate) base: Rc<Valuation>,
     pub(crate) overs: Vec<Over>,
+    pub(crate) plugged: Option<Plugged>,
+}
+
+// A term for the hole of a derivative.
+#[derive(Drop)]
+pub(crate) struct Plugged {
+    pub(crate) hole: u32,
+    pub(crate) term: Term,
 }
 
 impl Over {
@@ -88,12 +96,28 @@ impl<'a> By<'a> {
             theory,
             base: Rc::new(alloc, values).map_err(AllocError::from)?,
             overs: Vec::new(alloc),
+            plugged: None,
         })
     }
 
     // What a variable becomes.
     fn value(&self, number: u32, sort: u32) -> Result<Term, AllocError>
         ensures { IfOk result (λ t. t ≡ by_of self.now number sort) }
+    {
+        match &self.plugged {
+            Some(plugged) => {
+                if number == 0 && sort == plugged.hole {
+                    return plugged.term.share();
+                }
+                self.kept(number, sort)
+            }
+            None => self.kept(number, sort),
+        }
+    }
+
+    // What a variable becomes that is no hole.
+    fn kept(&self, number: u32, sort: u32) -> Result<Term, AllocError>
+        ensures { IfOk result (λ t. t ≡ kept_by self.now number sort) }
     {
         let mut left = self.overs.len();
         while left > 0 {

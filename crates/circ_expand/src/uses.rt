@@ -1,14 +1,19 @@
 //! Entries and layers of uses, and the whole terms in which they stand.
-ghost use Rattle.std.specs.Prelude.{◌≡◌, ◌++◌, IfOk, OnOk};
+ghost use Rattle.std.specs.Prelude.{◌≡◌, ◌++◌, ◌∷◌, [], unwrap_or, slice_set, IfOk, OnOk};
+ghost use Rattle.circ_term.specs.Tree.{App, put_at, trees_of, args_of, sort_of};
+ghost use Rattle.circ_term.specs.Tree.{operator_number};
 ghost use Rattle.circ_term.specs.Limits.{Builds};
 ghost use Rattle.circ_expand.specs.Followed.{put_or_same};
 ghost use Rattle.circ_entry.specs.Entries.{derivative_at};
-ghost use Rattle.circ_expand.specs.Expand.{holes, hole_path};
-ghost use Rattle.circ_expand.specs.Uses.{entries_of};
+ghost use Rattle.circ_expand.specs.Expand.{holes, hole_path, layered, risen};
+ghost use Rattle.circ_theory.specs.Experiment.{derived};
+ghost use Rattle.circ_expand.specs.Valuations.{valued_by};
+ghost use Rattle.circ_expand.specs.Uses.{entries_of, layers_of, layer_by, BuildsLast};
 
+use crate::by::{By, Plugged};
 use crate::fitting::hole_path;
 use crate::valuation::Valuation;
-use circ_term::{Term, TermFault};
+use circ_term::{Term, TermFault, share_all};
 use circ_theory::Theory;
 use std::alloc::{AllocError, Global};
 use std::rc::Rc;
@@ -78,4 +83,87 @@ pub(crate) fn put(alloc: Global, whole: &Term, path: &[u16], new: &Term) -> Resu
             Ok(whole.share()?)
         }
     }
+}
+
+// Layers, the innermost first, are put round a term.
+pub(crate) fn layered(
+    alloc: Global,
+    theory: &Theory,
+    layers: &[Rc<Layer>],
+    term: &Term,
+) -> Result<Term, TermFault>
+    ensures { BuildsLast result (risen (layers_of theory.now layers.now) term.now)
+        (layered (layers_of theory.now layers.now) term.now) }
+{
+    term.known();
+    let mut here = term.share()?;
+    for layer in layers {
+        match around(alloc, theory, layer, &here) {
+            Err(fault) => return Err(fault),
+            Ok(made) => here = made,
+        }
+    }
+    Ok(here)
+}
+
+// One layer is put round a term.
+fn around(alloc: Global, theory: &Theory, layer: &Layer, term: &Term) -> Result<Term, TermFault>
+    ensures { Builds result (layered (layer_by theory.now layer.now ∷ []) term.now) }
+{
+    match layer {
+        Layer::Place { term: outer, arg } => at_place(alloc, outer, *arg, term),
+        Layer::Entry { held } => derived(alloc, theory, held, term),
+    }
+}
+
+// An application with this term as an argument.
+fn at_place(alloc: Global, outer: &Term, arg: u16, term: &Term) -> Result<Term, TermFault>
+    ensures { Builds result (App (unwrap_or (operator_number outer.now) 0) (sort_of outer.now)
+        (put_at (trees_of (args_of outer.now)) arg term.now)) }
+{
+    let args = with_arg(alloc, outer.args(), arg as usize, term)?;
+    let op = outer.op_number().unwrap_or(0);
+    Term::app(alloc, op, outer.sort(), args)
+}
+
+// The arguments with this term at a place, if there is one.
+fn with_arg(
+    alloc: Global,
+    args: &[Term],
+    place: usize,
+    term: &Term,
+) -> Result<Vec<Term>, AllocError>
+    ensures { IfOk result (λ v. v.items ≡ slice_set args.now place term.now) }
+{
+    if place >= args.len() {
+        return share_all(alloc, args);
+    }
+    let mut copy = share_all(alloc, args)?;
+    copy[place] = term.share()?;
+    Ok(copy)
+}
+
+// The derivative of an entry on a term.
+fn derived(alloc: Global, theory: &Theory, held: &Held, term: &Term) -> Result<Term, TermFault>
+    ensures { Builds result (derived (derivative_at theory.now held.now.number) term.now
+        (valued_by held.now.params.value)) }
+{
+    let Some(body) = theory.derivative(held.number) else {
+        term.known();
+        return Ok(term.share()?);
+    };
+    let Some(hole) = theory.hole_sort(held.number) else {
+        term.known();
+        return Ok(term.share()?);
+    };
+    let by = By {
+        theory,
+        base: held.params.clone()?,
+        overs: Vec::new(alloc),
+        plugged: Some(Plugged {
+            hole,
+            term: term.share()?,
+        }),
+    };
+    by.apply(alloc, body)
 }
