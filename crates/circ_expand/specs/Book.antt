@@ -1,5 +1,7 @@
 -- What becomes of all goals of a proof, as the code keeps it.
 use Rattle.std.specs.Prelude.{◌≡◌, ◌≤◌, ℕ, ◌+◌, List, [], ◌∷◌, ◌++◌, map, length, take}
+use Rattle.std.specs.List.{slice_get}
+use Rattle.std.specs.Option.{option_map_or}
 use Rattle.std.specs.declared.collections.VecDeque.{VecDeque}
 use Rattle.std.proofs.Common.{Global}
 use Rattle.circ_term.specs.Tree.{Tree}
@@ -51,3 +53,10 @@ hypotheses_in table ns gs n (d ∷ ds) =
 pub record IsBook (th : Theory) (p : Proof) (b : Book) : Type 0 where
   pub goals : map (followed_by p.table b.nodes.items) b.goals.items ≡ goals_of th p 0 [] p.blocks
   pub hypotheses : hypotheses_in p.table b.nodes.items b.goals.items 0 b.blocks.items ≡ hypotheses_of th p 0 [] [] p.blocks
+
+-- the hypotheses of a block
+abbrev pub kept_hypotheses : (goals : List Followed) → (block : ℕ) → Derivations → List Followed
+kept_hypotheses gs n d = take d.earlier gs ++ kept_in n d.derived.items
+
+abbrev pub kept_at : Book → (block : ℕ) → List Followed
+kept_at b n = option_map_or (kept_hypotheses b.goals.items n) (slice_get b.blocks.items n) []

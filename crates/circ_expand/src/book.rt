@@ -12,6 +12,9 @@ ghost use Rattle.circ_proof.specs.Proof.{IsPlainStep, IsPlain, ProofFor};
 ghost use Rattle.circ_proof.specs.PlainProof.{plain_proof};
 ghost use Rattle.circ_proof.specs.Accepted.{Accepted};
 ghost use Rattle.circ_expand.specs.Book.{AddsBlock, IsBook, kept_in, derivations};
+ghost use Rattle.circ_expand.specs.Book.{kept_hypotheses, kept_at};
+ghost use Rattle.std.specs.List.{slice_get};
+ghost use Rattle.std.specs.Option.{option_copied, option_map};
 
 use crate::histories::{Node, Numbers, tell};
 use crate::meetings::Ground;
@@ -62,6 +65,48 @@ impl<'a> Book<'a> {
             derived: told.derived,
         })?;
         Ok(())
+    }
+}
+
+impl Book<'_> {
+    // The hypothesis of this number at the end of a block.
+    pub(crate) fn hypothesis(&self, block: u32, number: u32) -> Option<Followed>
+        ensures { result ≡ slice_get (kept_at self.now block) number }
+    {
+        match self.blocks.get(block as usize) {
+            Some(of_block) => self.hypothesis_in(of_block, block, number as usize),
+            None => None,
+        }
+    }
+
+    fn hypothesis_in(
+        &self,
+        of_block: &Derivations,
+        block: u32,
+        number: usize,
+    ) -> Option<Followed>
+        ensures { result ≡ slice_get (kept_hypotheses self.now.goals.items block of_block.now)
+            number }
+    {
+        let earlier = of_block.earlier.min(self.goals.len());
+        if number < earlier {
+            return Some(self.goals[number]);
+        }
+        match of_block.derived.get(number - earlier) {
+            Some(node) => Some(Followed { block, node: *node }),
+            None => None,
+        }
+    }
+
+    // The goal of a node.
+    pub(crate) fn goal(&self, node: u32) -> Option<&Goal>
+        ensures { option_copied result ≡ option_map (λ n. n.goal)
+            (slice_get self.now.nodes.items node) }
+    {
+        match self.nodes.get(node as usize) {
+            Some(node) => Some(&node.goal),
+            None => None,
+        }
     }
 }
 

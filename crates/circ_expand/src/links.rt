@@ -1,16 +1,17 @@
 //! What links put into terms.
-ghost use Rattle.std.specs.Prelude.{◌≡◌, IfOk, map};
+ghost use Rattle.std.specs.Prelude.{◌≡◌, IfOk, map, unwrap_or};
 ghost use Rattle.circ_term.specs.Limits.{Builds};
 ghost use Rattle.circ_term.specs.Substitution.{instance};
 ghost use Rattle.circ_theory.specs.Theory.{goal, sides, pair_with};
 ghost use Rattle.circ_theory.specs.Pairs.{plain_pair};
 ghost use Rattle.circ_theory.specs.Rewriting.{named, by_terms, to_side};
-ghost use Rattle.circ_expand.specs.Followed.{equation_at};
+ghost use Rattle.circ_expand.specs.Followed.{equation_at, no_goal, assumption_at};
+ghost use Rattle.std.specs.Option.{option_copied};
 
 use crate::by::By;
 use crate::variables::{given, variables_of};
 use circ_term::{Term, TermFault};
-use circ_theory::{Pair, Theory, Way};
+use circ_theory::{Goal, Pair, Theory, Way};
 use std::alloc::{AllocError, Global};
 
 // The term of a table with this number.
@@ -63,6 +64,46 @@ pub(crate) fn by_equation(
             let nothing = Term::var(0, 0);
             other_side(alloc, theory, &nothing, &nothing, &[], way, terms)
         }
+    }
+}
+
+// What a hypothesis puts at its path.
+pub(crate) fn by_hypothesis(
+    alloc: Global,
+    theory: &Theory,
+    goal: Option<&Goal>,
+    way: Way,
+    terms: &[Term],
+) -> Result<Term, TermFault>
+    ensures { Builds result (instance
+        (by_terms (unwrap_or (option_copied goal.entry) no_goal) terms.now)
+        (to_side way (sides (unwrap_or (option_copied goal.entry) no_goal)))) }
+{
+    match goal {
+        Some(goal) => other_side(
+            alloc,
+            theory,
+            &goal.left,
+            &goal.right,
+            goal.conds.as_slice(),
+            way,
+            terms,
+        ),
+        None => {
+            let nothing = Term::var(0, 0);
+            other_side(alloc, theory, &nothing, &nothing, &[], way, terms)
+        }
+    }
+}
+
+// What an assumption puts at its path.
+pub(crate) fn by_assumption(assumptions: &[Pair], number: u32, way: Way) -> Result<Term, AllocError>
+    ensures { IfOk result (λ t. t ≡
+        to_side way (assumption_at (map plain_pair assumptions.now) number)) }
+{
+    match assumptions.get(number as usize) {
+        Some(pair) => to_side(way, &pair.left, &pair.right).share(),
+        None => Ok(Term::var(0, 0)),
     }
 }
 
