@@ -17,6 +17,7 @@ mod goals;
 mod guards;
 mod histories;
 mod laws;
+mod leading;
 mod links;
 mod matching;
 mod meetings;
