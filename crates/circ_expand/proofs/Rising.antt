@@ -39,7 +39,7 @@ or_again : (a b c : Option Limit) → or_else (or_else a b) c ≡ or_else a (or_
 or_again None b c = refl
 or_again (Some x) b c = refl
 
-first_append : (xs ys : List Tree) → first_of (xs ++ ys) ≡ or_else (first_of xs) (first_of ys)
+pub first_append : (xs ys : List Tree) → first_of (xs ++ ys) ≡ or_else (first_of xs) (first_of ys)
 first_append [] ys = refl
 first_append (x ∷ xs) ys = ap (or_else (first_limit x)) (first_append xs ys) ∙ sym (or_again (first_limit x) (first_of xs) (first_of ys))
 
@@ -53,3 +53,12 @@ pub names_risen : (xs : List Layer) (t : Tree) (e : TermFault) → Names e (firs
 names_risen xs t (TooBig n) h = first_risen xs t _ h
 names_risen xs t (TooDeep n) h = first_risen xs t _ h
 names_risen xs t Memory h = tt
+
+-- a fault of the first ones is one of all
+pub names_first : (xs ys : List Tree) (e : TermFault) → Names e (first_of xs) → Names e (first_of (xs ++ ys))
+names_first xs ys (TooBig n) h = first_append xs ys ∙ ap (λ o. or_else o (first_of ys)) h
+names_first xs ys (TooDeep n) h = first_append xs ys ∙ ap (λ o. or_else o (first_of ys)) h
+names_first xs ys Memory h = tt
+
+pub none_first : (xs ys : List Tree) → first_of xs ≡ None → first_of (xs ++ ys) ≡ first_of ys
+none_first xs ys e = first_append xs ys ∙ ap (λ o. or_else o (first_of ys)) e

@@ -3,10 +3,10 @@ ghost use Rattle.std.specs.Prelude.{◌≡◌, List, unwrap_or};
 ghost use Rattle.std.specs.Option.{option_copied};
 ghost use Rattle.circ_term.specs.Tree.{Tree};
 ghost use Rattle.circ_term.specs.Limits.{Builds};
-ghost use Rattle.circ_proof.specs.Plain.{plain_link};
-ghost use Rattle.circ_proof.specs.Link.{resolved_link};
-ghost use Rattle.circ_expand.specs.Followed.{link_path, new_of, led, hypothesis_at, no_goal};
-ghost use Rattle.circ_expand.specs.Expand.{link_terms};
+ghost use Rattle.circ_proof.specs.Plain.{plain_link, plain_links};
+ghost use Rattle.circ_proof.specs.Link.{resolved_link, resolved_links};
+ghost use Rattle.circ_expand.specs.Followed.{link_path, new_of, led, led_all, hypothesis_at, no_goal};
+ghost use Rattle.circ_expand.specs.Expand.{link_terms, trail};
 ghost use Rattle.circ_expand.specs.Settings.{goals_at, setting_of};
 ghost use Rattle.circ_expand.specs.Uses.{BuildsLast};
 
@@ -45,6 +45,24 @@ impl Side<'_> {
             Err(fault) => Err(fault),
             Ok(new) => put(self.alloc, term, path_of(link), &new),
         }
+    }
+
+    // The term to which links lead, one after another.
+    pub(crate) fn led_all(&self, links: &[Link], term: &Term) -> Result<Term, TermFault>
+        ensures { BuildsLast result
+            (trail (setting_of self.now)
+            (resolved_links self.now.table.now (plain_links links.now)) term.now)
+            (led_all (setting_of self.now)
+            (resolved_links self.now.table.now (plain_links links.now)) term.now) }
+    {
+        let mut here = term.share()?;
+        for link in links {
+            match self.led(link, &here) {
+                Err(fault) => return Err(fault),
+                Ok(next) => here = next,
+            }
+        }
+        Ok(here)
     }
 
     // What the link puts at its path.
