@@ -9,6 +9,7 @@ pub mod Finding
 pub mod Rising
 pub mod Reading
 pub mod Putting
+pub mod Exceeding
 pub mod Going
 pub mod Depth
 pub mod Working

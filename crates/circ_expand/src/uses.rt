@@ -2,12 +2,14 @@
 ghost use Rattle.std.specs.Prelude.{◌≡◌, ◌++◌, ◌∷◌, [], unwrap_or, slice_set, IfOk, OnOk};
 ghost use Rattle.circ_term.specs.Tree.{App, put_at, trees_of, args_of, sort_of};
 ghost use Rattle.circ_term.specs.Tree.{operator_number};
-ghost use Rattle.circ_term.specs.Limits.{Builds};
+ghost use Rattle.circ_term.specs.Tree.{Tree};
+ghost use Rattle.circ_term.specs.Limits.{Builds, Names, first_limit};
+ghost use Rattle.circ_term.specs.Substitution.{instance};
 ghost use Rattle.circ_expand.specs.Followed.{put_or_same};
 ghost use Rattle.circ_entry.specs.Entries.{derivative_at};
 ghost use Rattle.circ_expand.specs.Expand.{holes, hole_path, layered, risen};
 ghost use Rattle.circ_theory.specs.Experiment.{derived};
-ghost use Rattle.circ_expand.specs.Valuations.{valued_by};
+ghost use Rattle.circ_expand.specs.Valuations.{by_of, valued_by};
 ghost use Rattle.circ_expand.specs.Uses.{entries_of, layers_of, layer_by, BuildsLast};
 
 use crate::by::{By, Plugged};
@@ -85,6 +87,34 @@ pub(crate) fn put(alloc: Global, whole: &Term, path: &[u16], new: &Term) -> Resu
     }
 }
 
+// The whole term with the instance of a term of the proof at the path, if that is in it.
+pub(crate) fn around(
+    alloc: Global,
+    whole: &Term,
+    path: &[u16],
+    by: &By<'_>,
+    term: &Term,
+) -> Result<Term, TermFault>
+    ensures { Builds result (put_or_same whole.now path.now (instance (by_of by.now) term.now)) }
+{
+    match by.apply(alloc, term) {
+        Ok(made) => put(alloc, whole, path, &made),
+        Err(fault) => unmade(whole, path, fault),
+    }
+}
+
+// The instance is past a limit, or memory ran out.
+fn unmade(whole: &Term, path: &[u16], fault: TermFault) -> Result<Term, TermFault>
+    ensures { (x : Tree) → Names fault (first_limit x) →
+        Builds result (put_or_same whole.now path.now x) }
+{
+    whole.known();
+    match whole.at(path) {
+        Some(_) => Err(fault),
+        None => Ok(whole.share()?),
+    }
+}
+
 // Layers, the innermost first, are put round a term.
 pub(crate) fn layered(
     alloc: Global,
@@ -98,7 +128,7 @@ pub(crate) fn layered(
     term.known();
     let mut here = term.share()?;
     for layer in layers {
-        match around(alloc, theory, layer, &here) {
+        match within_layer(alloc, theory, layer, &here) {
             Err(fault) => return Err(fault),
             Ok(made) => here = made,
         }
@@ -107,7 +137,7 @@ pub(crate) fn layered(
 }
 
 // One layer is put round a term.
-fn around(alloc: Global, theory: &Theory, layer: &Layer, term: &Term) -> Result<Term, TermFault>
+fn within_layer(alloc: Global, theory: &Theory, layer: &Layer, term: &Term) -> Result<Term, TermFault>
     ensures { Builds result (layered (layer_by theory.now layer.now ∷ []) term.now) }
 {
     match layer {
