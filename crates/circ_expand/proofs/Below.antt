@@ -8,7 +8,7 @@ use Rattle.circ_term.specs.Tree.{Tree}
 use Rattle.circ_theory.specs.declared.parts.Goal.{Goal}
 use Rattle.circ_proof.specs.Plain.{ChainOf, WhyOf}
 use Rattle.circ_expand.specs.Followed.{History, Histories, Simplified, Reduced_by, Derived, Open, no_history, more_histories, Told, told_as, and_simplified}
-use Rattle.circ_expand.specs.Followed.{and_reduced, and_derived, first_history, other_histories, first_histories, histories_after}
+use Rattle.circ_expand.specs.Followed.{and_reduced, and_derived, first_histories, histories_after}
 use Rattle.std.proofs.lemmas.Option.{same_Some}
 use Rattle.circ_proof.specs.Rules.{ProofStep}
 use Rattle.circ_expand.specs.Histories.{histories_of, history_with, history_below, history_at, Meeting, told_by, told_from}

@@ -1,5 +1,5 @@
 -- Where lists end.
-use Rattle.std.proofs.Common.{◌≡◌, ◌≤◌, ◌<◌, ◌+◌, ℕ, Bool, true, false, ◌==◌, if◌then◌else◌, List, [], ◌∷◌, zero, suc, length, take, drop, min, Option, Some, None, refl, ap, sym, ◌∙◌, arith}
+use Rattle.std.proofs.Common.{◌≡◌, ◌≤◌, ◌<◌, ◌+◌, ℕ, ◌==◌, if◌then◌else◌, List, [], ◌∷◌, zero, suc, length, take, drop, min, Option, Some, None, refl, ap, arith}
 use Rattle.std.specs.Option.{option_or}
 use Rattle.circ_term.specs.Tree.{Tree, Trees, Var, none, more, trees_of}
 use Rattle.circ_theory.specs.Theory.{Derivative}

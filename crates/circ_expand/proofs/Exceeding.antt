@@ -1,5 +1,5 @@
 -- A whole term within which a term past a limit is put.
-use Rattle.std.proofs.Common.{◌≡◌, ℕ, ◌+◌, zero, suc, List, [], ◌∷◌, Option, Some, None, unwrap_or, refl, ap, sym, ◌∙◌, subst}
+use Rattle.std.proofs.Common.{◌≡◌, ℕ, ◌+◌, zero, suc, List, [], ◌∷◌, Option, Some, None, unwrap_or, refl, ap, sym, ◌∙◌}
 use Rattle.std.specs.List.{slice_get}
 use Rattle.std.specs.Option.{option_and_then}
 use Rattle.circ_term.specs.Tree.{Tree, Trees, Var, App, none, more, list_of, trees_of, at, walk, replaced, with_arg, put_at}
@@ -7,7 +7,6 @@ use Rattle.circ_term.specs.Limits.{Limit, first_limit, first_limits, limit_at, o
 use Rattle.circ_term.specs.Tree.{sizes_of, depths_of}
 use Rattle.circ_term.specs.declared.fault.TermFault.{TermFault}
 use Rattle.circ_term.specs.declared.fault.TermFault.TheVariants.{TooBig, TooDeep, Memory}
-use Rattle.circ_term.proofs.Trees.{trees_of-list_of}
 use Rattle.circ_term.proofs.Paths.{walk_none}
 use Rattle.circ_expand.specs.Followed.{put_or_same}
 use Rattle.circ_expand.proofs.Putting.{put_there}

@@ -7,7 +7,7 @@ use Rattle.circ_term.specs.Tree.{Tree, sort_of}
 use Rattle.circ_theory.specs.Theory.{Theory, Derivative}
 use Rattle.circ_theory.specs.Observing.{is_hidden}
 use Rattle.circ_special.specs.declared.place.Place.{Place}
-use Rattle.circ_expand.specs.Expand.{Case, Visible_case, Hidden_case, above_hole, is_special_path, visible_case, hidden_case}
+use Rattle.circ_expand.specs.Expand.{Visible_case, Hidden_case, above_hole, is_special_path, visible_case, hidden_case}
 use Rattle.circ_expand.specs.Guards.{visible_above, hidden_above}
 
 pub drop_at : {X : Type 0} (xs : List X) (k : ℕ) (x : X) → slice_get xs k ≡ Some x → drop k xs ≡ x ∷ drop (k + 1) xs

@@ -1,9 +1,8 @@
 -- The paths of holes, entry by entry.
-use Rattle.std.proofs.Common.{◌≡◌, ◌∷◌, ◌++◌, [], ℕ, List, map, reverse, refl, ap, sym, ◌∙◌, append_assoc, append-nil}
+use Rattle.std.proofs.Common.{◌≡◌, ◌∷◌, ◌++◌, [], ℕ, List, map, reverse, ap, sym, ◌∙◌, append_assoc, append-nil}
 use Rattle.std.proofs.lemmas.List.{reverse-append, map-append}
 use Rattle.std.specs.declared.rc.Rc.{Rc}
 use Rattle.circ_term.specs.Substitution.{Substitution}
-use Rattle.circ_term.specs.Tree.{Tree}
 use Rattle.circ_theory.specs.Theory.{Theory}
 use Rattle.circ_entry.specs.Entries.{Numbered}
 use Rattle.circ_expand.specs.Expand.{holes, hole_path}

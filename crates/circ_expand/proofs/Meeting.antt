@@ -4,11 +4,11 @@ use Rattle.std.specs.List.{AllByRecursion}
 use Rattle.std.proofs.lemmas.List.{length-map}
 use Rattle.circ_expand.specs.declared.histories.Met.{Met}
 use Rattle.circ_term.specs.Tree.{Tree, sort_of}
-use Rattle.circ_theory.specs.Theory.{Theory, Pair, pair_with, goal, sides, Derivative}
+use Rattle.circ_theory.specs.Theory.{Theory, Pair, goal, sides, Derivative}
 use Rattle.circ_theory.specs.Fresh.{fresh_in, derivatives_of}
 use Rattle.circ_theory.specs.declared.parts.Goal.{Goal}
 use Rattle.circ_special.specs.declared.place.Place.{Place}
-use Rattle.circ_proof.specs.Plain.{ChainOf, map_chain, map_why}
+use Rattle.circ_proof.specs.Plain.{ChainOf, map_chain}
 use Rattle.circ_proof.specs.Link.{setting, Leads}
 use Rattle.circ_proof.specs.Justified.{ChainLeads}
 use Rattle.circ_proof.specs.Proof.{IsPlainStep}

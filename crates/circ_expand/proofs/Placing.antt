@@ -34,9 +34,9 @@ use Rattle.circ_soundness.proofs.Starting.{starts, arg_sort, start_place}
 use Rattle.circ_entry.specs.Entries.{Numbered, bare_entries}
 use Rattle.circ_expand.specs.Followed.{put_or_same, led_all}
 use Rattle.circ_expand.specs.Pieces.{Pieces, pieces_joined, turned, PiecesLead}
-use Rattle.circ_expand.specs.Expand.{Spending, Yields, continued, Layer, At_place, layered, Background, Call, Expander, base, whole_with, around, Basis}
+use Rattle.circ_expand.specs.Expand.{Spending, Yields, continued, Layer, At_place, Background, Call, Expander, base, whole_with, Basis}
 use Rattle.circ_expand.specs.Expand.{basis, link_setting, links_written, paths_of, holes, hole_path}
-use Rattle.circ_expand.specs.Expand.{start_at, certified_call, no_basis, derived_place, left_here, right_here, occurrences_written, place_terms, through_place}
+use Rattle.circ_expand.specs.Expand.{start_at, certified_call, no_basis, left_here, right_here, occurrences_written, place_terms, through_place}
 use Rattle.circ_expand.specs.Expand as expand
 use Rattle.circ_expand.proofs.Going.{Goes, goes_on, goes_all_tested, goes_value}
 use Rattle.circ_expand.proofs.Putting.{put_there}

@@ -1,6 +1,6 @@
 -- What is read of a proof, block by block.
 use Rattle.std.proofs.Common.{◌≡◌, ◌≤◌, ◌<◌, ℕ, ◌+◌, zero, suc, List, [], ◌∷◌, ◌++◌, map, length, take, refl, ap, sym, ◌∙◌, subst, arith, append_assoc, append-nil}
-use Rattle.std.specs.List.{AllByRecursion, Contains}
+use Rattle.std.specs.List.{AllByRecursion}
 use Rattle.std.proofs.lemmas.List.{map-append, length-append}
 use Rattle.circ_term.specs.Tree.{Tree}
 use Rattle.circ_theory.specs.Theory.{Theory}
@@ -12,7 +12,7 @@ use Rattle.circ_proof.specs.PlainProof.{plain_block, plain_steps}
 use Rattle.circ_proof.specs.Rules.{state, ProofStep, map_step, StepsOf}
 use Rattle.circ_proof.specs.Accepted.{steps_of, BlocksDerive}
 use Rattle.circ_proof.specs.declared.proof.Block.{Block as TheBlock}
-use Rattle.circ_expand.specs.Followed.{Followed as History_in, History, Histories, list_in, followed_in, told, told_in, Told, hypotheses_of, goals_of, no_history, more_histories}
+use Rattle.circ_expand.specs.Followed.{Followed as History_in, History, followed_in, told, told_in, Told, hypotheses_of, goals_of}
 use Rattle.circ_expand.specs.Histories.{history_at, histories_of, told_at, AreNodes, Adds}
 use Rattle.circ_expand.specs.Book.{kept_in, followed_by, hypotheses_in, derivations, AddsBlock, IsBook}
 use Rattle.circ_expand.specs.declared.book.Book.{Book}

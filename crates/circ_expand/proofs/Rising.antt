@@ -1,13 +1,15 @@
 -- Terms within layers, from the innermost.
-use Rattle.std.proofs.Common.{◌≡◌, ◌∷◌, ◌++◌, [], List, map, reverse, Option, Some, None, refl, ap, sym, ◌∙◌}
+use Rattle.std.proofs.Common.{◌≡◌, ◌∷◌, ◌++◌, [], ℕ, unwrap_or, List, map, reverse, Option, Some, None, refl, ap, sym, ◌∙◌}
 use Rattle.std.proofs.lemmas.List.{reverse-append, map-append}
 use Rattle.std.specs.declared.rc.Rc.{Rc}
-use Rattle.circ_term.specs.Tree.{Tree}
+use Rattle.std.specs.List.{slice_get}
+use Rattle.circ_term.specs.Tree.{Tree, Var, App, trees_of}
+use Rattle.circ_term.proofs.Trees.{list_of-trees_of}
 use Rattle.circ_term.specs.Limits.{Limit, first_limit, or_else, Names, IsWithinLimits}
 use Rattle.circ_term.specs.declared.fault.TermFault.{TermFault}
 use Rattle.circ_term.specs.declared.fault.TermFault.TheVariants.{TooBig, TooDeep, Memory}
 use Rattle.circ_theory.specs.Theory.{Theory}
-use Rattle.circ_expand.specs.Expand.{Layer, At_place, By_entry, layered, risen}
+use Rattle.circ_expand.specs.Expand.{Layer, At_place, layered, risen, places_on}
 use Rattle.circ_expand.specs.Uses.{layer_by, layers_of, first_of}
 use Rattle.circ_expand.specs.declared.uses.Layer.{Layer as Kept}
 use Rattle.circ_expand.proofs.Occurring.{filled_append}
@@ -62,3 +64,16 @@ names_first xs ys Memory h = tt
 
 pub none_first : (xs ys : List Tree) → first_of xs ≡ None → first_of (xs ++ ys) ≡ first_of ys
 none_first xs ys e = first_append xs ys ∙ ap (λ o. or_else o (first_of ys)) e
+
+-- ---- places on a path
+
+pub none_on : (p : List ℕ) → places_on (Var 0 0) p ≡ []
+none_on [] = refl
+none_on (i ∷ p) = refl
+
+pub layers_last : {A : Type 0} (th : Theory) (l : Rc Kept A) (ls : List (Rc Kept A)) → layers_of th (ls ++ l ∷ []) ≡ layer_by th l.value ∷ layers_of th ls
+layers_last {A = A} th l ls = let f = λ (r : Rc Kept A). layer_by th r.value in ap (map f) (reverse-append ls (l ∷ []))
+
+pub places_next : (f s i : ℕ) (ts : List Tree) (p : List ℕ) → places_on (App f s (trees_of ts)) (i ∷ p)
+    ≡ At_place f s i (trees_of ts) ∷ places_on (unwrap_or (slice_get ts i) (Var 0 0)) p
+places_next f s i ts p = ap (λ us. At_place f s i (trees_of ts) ∷ places_on (unwrap_or (slice_get us i) (Var 0 0)) p) (list_of-trees_of ts)

@@ -1,13 +1,16 @@
 //! Entries and layers of uses, and the whole terms in which they stand.
-ghost use Rattle.std.specs.Prelude.{◌≡◌, ◌++◌, ◌∷◌, [], unwrap_or, slice_set, IfOk, OnOk};
+ghost use Rattle.std.specs.Prelude.{◌≡◌, ◌++◌, ◌∷◌, [], unwrap_or, slice_get, slice_set, IfOk, OnOk};
 ghost use Rattle.circ_term.specs.Tree.{App, put_at, trees_of, args_of, sort_of};
 ghost use Rattle.circ_term.specs.Tree.{operator_number};
-ghost use Rattle.circ_term.specs.Tree.{Tree};
+ghost use Rattle.circ_term.specs.Tree.{Tree, Var};
 ghost use Rattle.circ_term.specs.Limits.{Builds, Names, first_limit};
 ghost use Rattle.circ_term.specs.Substitution.{instance};
 ghost use Rattle.circ_expand.specs.Followed.{put_or_same};
 ghost use Rattle.circ_entry.specs.Entries.{derivative_at};
 ghost use Rattle.circ_expand.specs.Expand.{holes, hole_path, layered, risen};
+ghost use Rattle.circ_expand.specs.Expand.{places_on};
+ghost use Rattle.circ_theory.specs.Theory.{Theory};
+ghost use Rattle.std.specs.Option.{option_copied};
 ghost use Rattle.circ_theory.specs.Experiment.{derived};
 ghost use Rattle.circ_expand.specs.Valuations.{by_of, valued_by};
 ghost use Rattle.circ_expand.specs.Uses.{entries_of, layers_of, layer_by, BuildsLast};
@@ -15,7 +18,7 @@ ghost use Rattle.circ_expand.specs.Uses.{entries_of, layers_of, layer_by, Builds
 use crate::by::{By, Plugged};
 use crate::fitting::hole_path;
 use crate::valuation::Valuation;
-use circ_term::{Term, TermFault, share_all};
+use circ_term::{Kind, Term, TermFault, share_all};
 use circ_theory::Theory;
 use std::alloc::{AllocError, Global};
 use std::rc::Rc;
@@ -113,6 +116,66 @@ fn unmade(whole: &Term, path: &[u16], fault: TermFault) -> Result<Term, TermFaul
         Some(_) => Err(fault),
         None => Ok(whole.share()?),
     }
+}
+
+// The places on a path in a term are put before layers.
+#[cycle(add_places)]
+pub(crate) fn add_places(
+    alloc: Global,
+    term: &Term,
+    path: &[u16],
+    layers: &mut Vec<Rc<Layer>>,
+) -> Result<(), AllocError>
+    ensures { (th : Theory) → OnOk result (layers_of th layers.new.items ≡
+        places_on term.now path.now ++ layers_of th layers.old.items) }
+{
+    let Some((arg, rest)) = path.split_first() else {
+        return Ok(());
+    };
+    match term.kind() {
+        Kind::Variable { .. } => Ok(()),
+        Kind::Application { args, .. } => {
+            add_below(alloc, arg_at(args, *arg), rest, layers)?;
+            let place = kept(
+                alloc,
+                Layer::Place {
+                    term: term.share()?,
+                    arg: *arg,
+                },
+            )?;
+            layers.push(place)?;
+            Ok(())
+        }
+    }
+}
+
+#[cycle(add_places)]
+fn add_below(
+    alloc: Global,
+    term: Option<&Term>,
+    path: &[u16],
+    layers: &mut Vec<Rc<Layer>>,
+) -> Result<(), AllocError>
+    ensures { (th : Theory) → OnOk result (layers_of th layers.new.items ≡
+        places_on (unwrap_or (option_copied term.entry) (Var 0 0)) path.now ++
+        layers_of th layers.old.items) }
+{
+    match term {
+        Some(term) => add_places(alloc, term, path, layers),
+        None => Ok(()),
+    }
+}
+
+fn arg_at(args: &[Term], arg: u16) -> Option<&Term>
+    ensures { option_copied result ≡ slice_get args.now arg }
+{
+    args.get(arg as usize)
+}
+
+fn kept(alloc: Global, layer: Layer) -> Result<Rc<Layer>, AllocError>
+    ensures { IfOk result (λ r. r.value ≡ layer) }
+{
+    Rc::new(alloc, layer).map_err(AllocError::from)
 }
 
 // Layers, the innermost first, are put round a term.

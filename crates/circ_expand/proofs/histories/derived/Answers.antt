@@ -1,5 +1,4 @@
-use Rattle.std.proofs.Common.{◌≡◌, ◌∷◌, ◌++◌, [], ℕ, List, length, take, drop, map, refl, ap, sym, ◌∙◌, arith}
-use Rattle.circ_term.specs.Tree.{Tree}
+use Rattle.std.proofs.Common.{◌≡◌, ◌∷◌, ◌++◌, [], length, take, map, ap, ◌∙◌, arith}
 use Rattle.circ_expand.specs.Followed.{and_derived, Derived}
 use Rattle.circ_expand.specs.Histories.{history_at, histories_of}
 use Rattle.circ_expand.specs.declared.histories.Node.{Node}

@@ -1,5 +1,4 @@
-use Rattle.std.proofs.Common.{◌≡◌, ◌∷◌, ◌++◌, [], ℕ, List, length, refl, ap, ◌∙◌, arith}
-use Rattle.circ_term.specs.Tree.{Tree}
+use Rattle.std.proofs.Common.{◌≡◌, ◌∷◌, ◌++◌, [], length, refl, ap, ◌∙◌, arith}
 use Rattle.circ_proof.specs.Plain.{plain_why}
 use Rattle.circ_proof.specs.Link.{resolved_why}
 use Rattle.circ_expand.specs.Followed.{and_reduced}

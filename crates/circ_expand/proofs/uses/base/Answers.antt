@@ -1,4 +1,4 @@
-use Rattle.std.proofs.Common.{◌≡◌, ◌++◌, ap, sym, ◌∙◌, append_assoc, drop, ◌+◌}
+use Rattle.std.proofs.Common.{◌++◌, ap, sym, ◌∙◌, append_assoc, drop, ◌+◌}
 use Rattle.circ_term.proofs.Within.{drop_read}
 use Rattle.circ_entry.specs.Entries.{derivative_at}
 use Rattle.circ_expand.specs.Expand.{holes, hole_path}

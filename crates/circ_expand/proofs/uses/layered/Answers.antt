@@ -1,4 +1,4 @@
-use Rattle.std.proofs.Common.{◌≡◌, ◌∷◌, [], ◌+◌, List, Option, None, drop, ap, sym, subst, ◌∙◌}
+use Rattle.std.proofs.Common.{◌≡◌, ◌∷◌, [], ◌+◌, Option, None, drop, ap, sym, subst, ◌∙◌}
 use Rattle.std.proofs.lemmas.List.{drop_all}
 use Rattle.circ_term.specs.Tree.{Tree}
 use Rattle.circ_term.specs.Limits.{Limit, first_limit, or_else, Names, IsWithinLimits}

@@ -1,5 +1,4 @@
-use Rattle.std.proofs.Common.{sym, ap, ◌∙◌, subst}
-use Rattle.circ_term.specs.Tree.{Tree}
+use Rattle.std.proofs.Common.{sym, ap, ◌∙◌}
 use Rattle.circ_term.specs.Limits.{first_limit}
 use Rattle.circ_expand.proofs.Exceeding.{names_put, nowhere_put}
 use Rattle.circ_expand.proofs.uses.unmade.Goals as goal

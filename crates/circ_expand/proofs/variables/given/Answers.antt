@@ -1,4 +1,4 @@
-use Rattle.std.proofs.Common.{◌≡◌, ◌+◌, ℕ, List, [], ◌∷◌, drop, map, sym, ap, refl, unwrap_or, ◌∙◌}
+use Rattle.std.proofs.Common.{◌+◌, ◌∷◌, drop, map, sym, ap, refl, unwrap_or, ◌∙◌}
 use Rattle.std.proofs.lemmas.List.{drop_all}
 use Rattle.circ_term.specs.Subst.{found}
 use Rattle.circ_expand.proofs.Ends.{given_none}

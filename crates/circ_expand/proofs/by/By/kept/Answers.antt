@@ -1,4 +1,4 @@
-use Rattle.std.proofs.Common.{◌≡◌, ◌+◌, ◌-◌, ap, sym, ◌∙◌, subst, arith, None, Some}
+use Rattle.std.proofs.Common.{◌≡◌, ◌-◌, ap, sym, ◌∙◌, subst, arith, None, Some}
 use Rattle.std.specs.Result.{IfOk}
 use Rattle.circ_term.specs.Tree.{Tree}
 use Rattle.circ_expand.specs.Valuations.{kept_by, valued_by}

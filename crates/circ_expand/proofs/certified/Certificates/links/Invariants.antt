@@ -1,5 +1,4 @@
 use Rattle.std.proofs.Common.{◌≡◌, drop}
-use Rattle.circ_special.specs.declared.place.Place.{Place}
 use Rattle.circ_expand.specs.Expand.{certificate_of}
 use Rattle.circ_expand.specs.Certificates.{lists_in}
 use Rattle.circ_expand.proofs.certified.Certificates.links.Given as goal

@@ -1,4 +1,4 @@
-use Rattle.std.proofs.Common.{◌≡◌, ap, sym, ◌∙◌, arith}
+use Rattle.std.proofs.Common.{ap, sym, ◌∙◌, arith}
 use Rattle.circ_proof.specs.Plain.{plain_links}
 use Rattle.circ_proof.specs.Link.{resolved_links}
 use Rattle.circ_expand.specs.Expand.{first_links}

@@ -1,5 +1,4 @@
-use Rattle.std.proofs.Common.{◌≡◌, ◌+◌, ℕ, List, Option, drop, ap, sym, subst, ◌∙◌}
-use Rattle.circ_term.specs.Tree.{Tree}
+use Rattle.std.proofs.Common.{◌+◌, ℕ, List, Option, drop, ap, sym, subst, ◌∙◌}
 use Rattle.circ_term.specs.Limits.{Limit, Names}
 use Rattle.circ_term.proofs.Within.{drop_read}
 use Rattle.circ_proof.specs.Plain.{plain_link, plain_links}

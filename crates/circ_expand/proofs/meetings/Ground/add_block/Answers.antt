@@ -1,4 +1,4 @@
-use Rattle.std.proofs.Common.{◌≡◌, ◌≤◌, ℕ, List, length, map, ap, sym, subst, ◌∙◌, arith}
+use Rattle.std.proofs.Common.{◌≡◌, ℕ, List, length, map, ap, sym, subst, ◌∙◌, arith}
 use Rattle.circ_theory.specs.Rewriting.{named}
 use Rattle.circ_theory.specs.declared.parts.Goal.{Goal}
 use Rattle.circ_proof.specs.PlainProof.{plain_steps}

@@ -2,7 +2,6 @@ use Rattle.std.proofs.Common.{◌≡◌, ◌<◌, ◌+◌, ◌++◌, [], ◌∷�
 use Rattle.std.specs.List.{AllByRecursion}
 use Rattle.circ_term.proofs.Within.{drop_read}
 use Rattle.circ_theory.specs.Rewriting.{named}
-use Rattle.circ_theory.specs.declared.parts.Goal.{Goal}
 use Rattle.circ_proof.specs.PlainProof.{plain_state, plain_step, plain_steps}
 use Rattle.circ_proof.specs.Proof.{IsPlainStep}
 use Rattle.circ_proof.specs.Rules.{state, map_step, AllOfStep, StepsOf}
