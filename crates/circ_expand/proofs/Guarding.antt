@@ -67,4 +67,3 @@ hidden_next th G ds t p k d e o h =
     let rest = hidden_case th G (k + 1) (drop (k + 1) ds) t p in
     ap (λ xs. hidden_case th G k xs t p) (drop_at ds k d e)
     ∙ ap (λ x. option_or x rest) (hidden_is th G k d t p ∙ ap (option_map (Hidden_case k)) (sym h) ∙ taken (Hidden_case k) p o)
-

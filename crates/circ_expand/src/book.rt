@@ -79,12 +79,7 @@ impl Book<'_> {
         }
     }
 
-    fn hypothesis_in(
-        &self,
-        of_block: &Derivations,
-        block: u32,
-        number: usize,
-    ) -> Option<Followed>
+    fn hypothesis_in(&self, of_block: &Derivations, block: u32, number: usize) -> Option<Followed>
         ensures { result ≡ slice_get (kept_hypotheses self.now.goals.items block of_block.now)
             number }
     {
@@ -154,12 +149,7 @@ impl Ground<'_> {
         let earlier = state.hyps.len();
         begin(self.alloc, state, block.goals.as_slice())?;
         let met = self.meet(state, block.steps.as_slice())?;
-        let told = tell(
-            self.alloc,
-            &mut book.nodes,
-            met,
-            block.steps.as_slice(),
-        )?;
+        let told = tell(self.alloc, &mut book.nodes, met, block.steps.as_slice())?;
         book.note(told)?;
         state.hyps.truncate(earlier);
         add_goals(self.alloc, &mut state.hyps, block.goals.as_slice())?;

@@ -89,7 +89,11 @@ fn numbered_in_all(terms: &[Term], number: u64, sort: u32) -> Option<u32>
 
 impl<'a> By<'a> {
     // The substitution of these variables alone.
-    pub(crate) fn of(alloc: Global, theory: &'a Theory, values: Valuation) -> Result<By<'a>, AllocError>
+    pub(crate) fn of(
+        alloc: Global,
+        theory: &'a Theory,
+        values: Valuation,
+    ) -> Result<By<'a>, AllocError>
         ensures { IfOk result (λ b. (n s : ℕ) → by_of b n s ≡ valued_by values n s) }
     {
         Ok(By {

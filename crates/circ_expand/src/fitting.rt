@@ -91,11 +91,7 @@ fn first_path(alloc: Global, term: &Term, number: u32) -> Result<Option<Vec<u16>
 }
 
 #[cycle(first_path)]
-fn first_path_in(
-    alloc: Global,
-    terms: &[Term],
-    number: u32,
-) -> Result<Option<Vec<u16>>, AllocError>
+fn first_path_in(alloc: Global, terms: &[Term], number: u32) -> Result<Option<Vec<u16>>, AllocError>
     requires few { length terms.now ≤ 2 ^ 16 }
     ensures { IfOk result (λ o. option_map (λ v. reverse v.items) o ≡
         first_path_in number 0 (trees_of terms.now)) }

@@ -72,13 +72,19 @@ impl Side<'_> {
     {
         match link {
             Link::Equation {
-                number, way, terms, ..
+                number,
+                way,
+                terms,
+                ..
             } => {
                 let terms = all_named(self.alloc, self.table, terms.as_slice())?;
                 by_equation(self.alloc, self.theory, *number, *way, terms.as_slice())
             }
             Link::Hypothesis {
-                number, way, terms, ..
+                number,
+                way,
+                terms,
+                ..
             } => {
                 let terms = all_named(self.alloc, self.table, terms.as_slice())?;
                 let goal = self.hypothesis(*number);

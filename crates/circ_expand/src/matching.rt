@@ -12,11 +12,7 @@ use std::alloc::{AllocError, Global};
 
 // Each variable of the pattern with the subterm at its first place from the left, if that is of its
 // sort.
-pub(crate) fn matching(
-    alloc: Global,
-    pattern: &Term,
-    term: &Term,
-) -> Result<Valuation, AllocError>
+pub(crate) fn matching(alloc: Global, pattern: &Term, term: &Term) -> Result<Valuation, AllocError>
     ensures { IfOk result (λ v. (n s : ℕ) →
         valued_by v n s ≡ matching pattern.now term.now n s) }
 {

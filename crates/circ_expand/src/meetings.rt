@@ -57,12 +57,7 @@ impl Ground<'_> {
     }
 
     // One step is done, and the goal that it acts on put last.
-    fn meet_one(
-        &self,
-        state: &mut State,
-        met: &mut Vec<Met>,
-        step: &Step,
-    ) -> Result<(), AllocError>
+    fn meet_one(&self, state: &mut State, met: &mut Vec<Met>, step: &Step) -> Result<(), AllocError>
         requires in_table { AllOfStep (λ n. n < length self.now.table.now) (plain_step step.now) }
         requires table_sorted { AllByRecursion (IsWellSorted self.now.theory.now.signature)
             self.now.table.now }
@@ -77,14 +72,7 @@ impl Ground<'_> {
         ensures state_sorted { IsSortedState self.now.theory.now (plain_state state.new) }
     {
         note_first(self.alloc, &state.goals, met)?;
-        if !apply(
-            self.alloc,
-            self.theory,
-            self.table,
-            self.gamma,
-            state,
-            step,
-        )? {
+        if !apply(self.alloc, self.theory, self.table, self.gamma, state, step)? {
             unreachable!()
         }
         Ok(())
@@ -92,11 +80,7 @@ impl Ground<'_> {
 }
 
 // The first goal is put last.
-fn note_first(
-    alloc: Global,
-    goals: &VecDeque<Goal>,
-    met: &mut Vec<Met>,
-) -> Result<(), AllocError>
+fn note_first(alloc: Global, goals: &VecDeque<Goal>, met: &mut Vec<Met>) -> Result<(), AllocError>
     ensures { OnOk result (Meets goals.now.items (map meeting_of met.old.items)
         (map meeting_of met.new.items)) }
 {

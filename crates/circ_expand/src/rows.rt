@@ -36,9 +36,15 @@ pub enum Row {
     },
     /// One side of an assumption is replaced by the other. The assumptions are those of the cases
     /// around the row, counted from 0 from the outermost.
-    Assumption { number: u64, way: Way, path: Path },
+    Assumption {
+        number: u64,
+        way: Way,
+        path: Path,
+    },
     /// Cases of this term begin. A part follows for each constant of the case list of its sort.
-    Cases { term: Term },
+    Cases {
+        term: Term,
+    },
     /// A part of the innermost cases begins.
     Case,
     /// The innermost cases end.

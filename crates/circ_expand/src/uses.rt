@@ -200,7 +200,12 @@ pub(crate) fn layered(
 }
 
 // One layer is put round a term.
-fn within_layer(alloc: Global, theory: &Theory, layer: &Layer, term: &Term) -> Result<Term, TermFault>
+fn within_layer(
+    alloc: Global,
+    theory: &Theory,
+    layer: &Layer,
+    term: &Term,
+) -> Result<Term, TermFault>
     ensures { Builds result (layered (layer_by theory.now layer.now ∷ []) term.now) }
 {
     match layer {

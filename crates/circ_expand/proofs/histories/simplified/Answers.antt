@@ -22,13 +22,12 @@ returns c = λ a.
     c.unwrap_or-next.ensures ∙ first_popped gs c.pop_front.new.self.items c.pop_front.result c.pop_front.ensures.items (λ h. c.pop_front.ensures.variant.1 (omega (arith, h, c.args.told.now.goals.ok.0))) c.len-number.result
     ∙ ap (λ n. first_or n gs) (c.len-number.ensures ∙ c.args.nodes.now.ok.0) in
     let f : us ≡ length ns ∷ rest_of gs =
-    c.in_ok-push_front.ensures.items ∙ ap (λ k. k ∷ c.pop_front.new.self.items) (c.len-number.ensures ∙ c.args.nodes.now.ok.0) ∙ ap (λ ks. length ns ∷ ks) popped in
-    (
+    c.in_ok-push_front.ensures.items ∙ ap (λ k. k ∷ c.pop_front.new.self.items) (c.len-number.ensures ∙ c.args.nodes.now.ok.0) ∙ ap (λ ks. length ns ∷ ks) popped in (
       (x ∷ [], e),
       omega (arith, ap length e, longer ns x),
       record { goals = new_in ns ms x e (rest_of gs) us (rest_in (length ns) gs a.goals) f; derived = more_in ns ms x e ds a.derived },
       λ table.
           let chain = resolved_chain table (plain_chain c.args.chain.now) in
           told_of table ns ms x e (length ns ∷ rest_of gs) ds us ds f refl (and_simplified c.args.goal chain (told_lists table ns gs ds))
-              (tells_simplified table ns x c.args.goal chain gs ds a.goals a.derived (ap (λ k. Simplified c.args.goal chain (history_at table ns k)) next)),
+          (tells_simplified table ns x c.args.goal chain gs ds a.goals a.derived (ap (λ k. Simplified c.args.goal chain (history_at table ns k)) next)),
     )

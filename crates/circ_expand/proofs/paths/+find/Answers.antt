@@ -41,7 +41,7 @@ find_in-loop-i-preserved t c =
     let pushed : c.push.new.self.items ≡ h ++ i ∷ [] = c.in_ok-push.ensures.items ∙ ap (λ y. y ++ i ∷ []) inv.kept in
     let before = plain_paths c.loop-i.paths.items in
     record {
-      kept = taken_off h c.pop.new.self.items c.find.new.here.items i (c.in_ok-find.ensures.kept ∙ pushed) 
+      kept = taken_off h c.pop.new.self.items c.find.new.here.items i (c.in_ok-find.ensures.kept ∙ pushed)
           (c.pop.ensures.rest ∙ ap (λ k. take (k - 1) c.find.new.here.items) c.find.new.here.ok.0);
       found = ap (λ y. y ++ map (λ p. h ++ p) (paths_from (i + 1) n s rest)) (c.in_ok-find.ensures.found
           ∙ ap (λ y. before ++ map (λ p. y ++ p) (paths_of n s x)) pushed)

@@ -45,8 +45,7 @@ pub returns : goal.returns
 returns c =
     let th = c.args.theory.now in
     let t = c.loop-layer.here in
-    let d = drop_all c.loop-layer.layer-index c.args.layers.now c.loop-layer-test.false in
-    (
+    let d = drop_all c.loop-layer.layer-index c.args.layers.now c.loop-layer-test.false in (
       ap (λ ls. layered (layers_of th ls) t) (sym d) ∙ c.loop-layer.invariant.same,
       sym c.loop-layer.invariant.limits ∙ ap (λ ls. first_of (risen (layers_of th ls) t)) d ∙ ap (λ o. or_else o None) c.loop-layer.invariant.within,
     )
