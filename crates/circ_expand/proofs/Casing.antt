@@ -1,6 +1,6 @@
 -- The case of an occurrence is what it says, and what stands at its path is an instance of its derivative.
 use Rattle.std.proofs.Common.{◌≡◌, ◌⊎◌, ℕ, ◌+◌, ◌-◌, ◌||◌, length-append, List, [], ◌∷◌, ◌++◌, zero, suc, Bool, true, false, nat_eq, ◌==◌, ◌&&◌}
-use Rattle.std.proofs.Common.{if◌then◌else◌, length, take, Option, Some, None, unwrap_or, refl, ap, sym, ◌∙◌, subst, arith, inl, inr}
+use Rattle.std.proofs.Common.{IsTrue, ◌↔◌, if◌then◌else◌, length, take, Option, Some, None, unwrap_or, refl, ap, sym, ◌∙◌, subst, arith, inl, inr}
 use Rattle.std.specs.List.{slice_get, list_any, Contains}
 use Rattle.std.specs.Option.{option_map, option_map_or, option_or}
 use Rattle.std.specs.Cmp.Lexicographic.{pointwise}
@@ -285,6 +285,15 @@ special_told G (App f s ts) (i ∷ p) sp =
     let below = special_told G sp.1 p sp.3 in
     let there = sp.2 in
     rw (here, there, below) refl
+
+-- what tells that a path is special is the test
+pub special_is : (G : List Place) (t : Tree) (p : List ℕ) (b : Bool) → (IsTrue b ↔ IsSpecial G t p) → b ≡ is_special_path G t p
+special_is G t p true i = sym (special_told G t p (i.0 refl))
+special_is G t p false i = go (is_special_path G t p) refl
+  where
+    go : (v : Bool) → is_special_path G t p ≡ v → false ≡ v
+    go true e = absurd (let z = i.1 (special_holds G t p e) in cc)
+    go false e = refl
 
 path_itself : (p : List ℕ) → pointwise nat_eq p p ≡ true
 path_itself [] = refl

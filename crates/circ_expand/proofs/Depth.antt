@@ -25,6 +25,7 @@ use Rattle.circ_expand.specs.Expand.{links_written, cases_at, case_basis, case_c
 use Rattle.circ_expand.specs.Expand.{Case, Visible_case, Place_case, Hidden_case, No_case, guard_case, paths_of, arg_sort, start_at, occurrence_call}
 use Rattle.circ_expand.specs.Expand.{occurrence_use}
 use Rattle.circ_expand.specs.Expand.{occurrences_written, derived_place, certified_call, no_basis, left_here, right_here, through_place, ly, single_use, uses}
+use Rattle.circ_expand.specs.Expand.{stood, link_terms, trail, place_terms}
 use Rattle.circ_expand.specs.Machine.{all_uses}
 
 -- the units that are left are not more than there were
@@ -102,9 +103,11 @@ module _ (f : Background) (run ran : Expander) (k : ℕ) (same : AreAlike run ra
       let L : ℕ → Spending Pieces = λ m. links_written run f c b ls u m in
       let R : ℕ → Spending Pieces = λ m. links_written ran f c b ls u m in
       let T : (ℕ → Spending Pieces) → ℕ → Spending Pieces = λ o m. tested (around c u) (and_piece x (o m)) in
-      alike_counted n (λ m. all_tested vs (T L m)) (λ m. all_tested vs (T R m)) (λ j lt.
+      alike_all_tested n (link_terms (link_setting f b) (Equation_link number way path terms conds) t)
+      (counted n (λ m. all_tested vs (T L m))) (counted n (λ m. all_tested vs (T R m)))
+      (alike_counted n (λ m. all_tested vs (T L m)) (λ m. all_tested vs (T R m)) (λ j lt.
       alike_all_tested j vs (T L j) (T R j)
-      (alike_tested j (around c u) (and_piece x (L j)) (and_piece x (R j)) (alike_piece x j (L j) (R j) (links_alike c b ls u j (omega (arith, lt, le))))))
+      (alike_tested j (around c u) (and_piece x (L j)) (and_piece x (R j)) (alike_piece x j (L j) (R j) (links_alike c b ls u j (omega (arith, lt, le)))))))
   links_alike c b (Content_link op path term ∷ ls) t n le =
       let u : Tree = led (link_setting f b) (Content_link op path term) t in
       let old : Tree = unwrap_or (at t path) t in
@@ -112,17 +115,20 @@ module _ (f : Background) (run ran : Expander) (k : ℕ) (same : AreAlike run ra
       let L : ℕ → Spending Pieces = λ m. links_written run f c b ls u m in
       let R : ℕ → Spending Pieces = λ m. links_written ran f c b ls u m in
       let T : (ℕ → Spending Pieces) → ℕ → Spending Pieces = λ o m. tested (around c u) (and_piece x (o m)) in
-      alike_counted n (λ m. tested (instance c.by term) (T L m)) (λ m. tested (instance c.by term) (T R m)) (λ j lt.
+      alike_all_tested n (link_terms (link_setting f b) (Content_link op path term) t)
+      (counted n (λ m. tested (instance c.by term) (T L m))) (counted n (λ m. tested (instance c.by term) (T R m)))
+      (alike_counted n (λ m. tested (instance c.by term) (T L m)) (λ m. tested (instance c.by term) (T R m)) (λ j lt.
       alike_tested j (instance c.by term) (T L j) (T R j)
-      (alike_tested j (around c u) (and_piece x (L j)) (and_piece x (R j)) (alike_piece x j (L j) (R j) (links_alike c b ls u j (omega (arith, lt, le))))))
+      (alike_tested j (around c u) (and_piece x (L j)) (and_piece x (R j)) (alike_piece x j (L j) (R j) (links_alike c b ls u j (omega (arith, lt, le)))))))
   links_alike c b (Assumption_link number way path ∷ ls) t n le =
       let u : Tree = led (link_setting f b) (Assumption_link number way path) t in
       let x : Piece = Assumption_piece (b.raised + number) way (base c ++ path) in
       let L : ℕ → Spending Pieces = λ m. links_written run f c b ls u m in
       let R : ℕ → Spending Pieces = λ m. links_written ran f c b ls u m in
       let T : (ℕ → Spending Pieces) → ℕ → Spending Pieces = λ o m. tested (around c u) (and_piece x (o m)) in
-      alike_counted n (T L) (T R) (λ j lt.
-      alike_tested j (around c u) (and_piece x (L j)) (and_piece x (R j)) (alike_piece x j (L j) (R j) (links_alike c b ls u j (omega (arith, lt, le)))))
+      alike_all_tested n (link_terms (link_setting f b) (Assumption_link number way path) t) (counted n (T L)) (counted n (T R))
+      (alike_counted n (T L) (T R) (λ j lt.
+      alike_tested j (around c u) (and_piece x (L j)) (and_piece x (R j)) (alike_piece x j (L j) (R j) (links_alike c b ls u j (omega (arith, lt, le))))))
   links_alike c b (Hypothesis_link number way path terms conds ∷ ls) t n le =
       let u : Tree = led (link_setting f b) (Hypothesis_link number way path terms conds) t in
       let vs : List Tree = map (instance c.by) terms in
@@ -132,12 +138,14 @@ module _ (f : Background) (run ran : Expander) (k : ℕ) (same : AreAlike run ra
       let G : Pieces → ℕ → Spending Pieces = λ xs i. and_pieces (by_way way xs) (links_written ran f c b ls u i) in
       let L : ℕ → Spending Pieces = λ m. tested (around c u) (continued (run d m) F) in
       let R : ℕ → Spending Pieces = λ m. tested (around c u) (continued (ran d m) G) in
-      alike_counted n (λ m. all_tested vs (L m)) (λ m. all_tested vs (R m)) (λ j lt.
+      alike_all_tested n (link_terms (link_setting f b) (Hypothesis_link number way path terms conds) t ++ stood c t)
+      (counted n (λ m. all_tested vs (L m))) (counted n (λ m. all_tested vs (R m)))
+      (alike_counted n (λ m. all_tested vs (L m)) (λ m. all_tested vs (R m)) (λ j lt.
       alike_all_tested j vs (L j) (R j)
       (alike_tested j (around c u) (continued (run d j) F) (continued (ran d j) G)
       (alike_on j (run d j) (ran d j) F G (same d j (omega (arith, lt, le))) (λ xs i li.
       alike_pieces (by_way way xs) i (links_written run f c b ls u i) (links_written ran f c b ls u i)
-      (links_alike c b ls u i (omega (arith, li, lt, le)))))))
+      (links_alike c b ls u i (omega (arith, li, lt, le))))))))
 
   mutual
     whys_alike : (c : Call) (b : Basis) (w : WhyOf Tree) (s t : Tree) (n : ℕ) → n ≤ k
@@ -159,7 +167,9 @@ module _ (f : Background) (run ran : Expander) (k : ℕ) (same : AreAlike run ra
         let R : Pieces → Pieces → ℕ → Spending Pieces = λ xs ys i. tested u (continued (each_why ran f c b ws term l l.constants y z i) (V xs ys)) in
         let F : Pieces → ℕ → Spending Pieces = λ xs m. continued (links_written run f c b chain.right t m) (λ ys j. counted j (L xs ys)) in
         let G : Pieces → ℕ → Spending Pieces = λ xs m. continued (links_written ran f c b chain.right t m) (λ ys j. counted j (R xs ys)) in
-        alike_on n (links_written run f c b chain.left s n) (links_written ran f c b chain.left s n) F G (links_alike c b chain.left s n le) (λ xs m lm.
+        alike_all_tested n (trail (link_setting f b) chain.left s ++ trail (link_setting f b) chain.right t)
+        (continued (links_written run f c b chain.left s n) F) (continued (links_written ran f c b chain.left s n) G)
+        (alike_on n (links_written run f c b chain.left s n) (links_written ran f c b chain.left s n) F G (links_alike c b chain.left s n le) (λ xs m lm.
         alike_on m (links_written run f c b chain.right t m) (links_written ran f c b chain.right t m) (λ ys j. counted j (L xs ys))
         (λ ys j. counted j (R xs ys))
         (links_alike c b chain.right t m (omega (arith, lm, le))) (λ ys j lj.
@@ -168,7 +178,7 @@ module _ (f : Background) (run ran : Expander) (k : ℕ) (same : AreAlike run ra
         (continued (each_why ran f c b ws term l l.constants y z i) (V xs ys))
         (alike_on i (each_why run f c b ws term l l.constants y z i) (each_why ran f c b ws term l l.constants y z i) (V xs ys) (V xs ys)
         (each_alike c b ws term l l.constants y z i (omega (arith, li, lj, lm, le)))
-        (λ ps e le2. alike_value e (pieces_joined xs (more_pieces (Cases_piece u ps) (turned ys))))))))
+        (λ ps e le2. alike_value e (pieces_joined xs (more_pieces (Cases_piece u ps) (turned ys)))))))))
 
     each_alike : (c : Call) (b : Basis) (ws : WhysOf Tree) (v : Tree) (l : CaseList) (ks : List ℕ) (s t : Tree) (n : ℕ) → n ≤ k
         → Alike n (each_why run f c b ws v l ks s t n) (each_why ran f c b ws v l ks s t n)
@@ -180,9 +190,10 @@ module _ (f : Background) (run ran : Expander) (k : ℕ) (same : AreAlike run ra
         let V : Pieces → Parts → ℕ → Spending Parts = λ p ps i. Yields (more_parts p ps) i in
         let F : Pieces → ℕ → Spending Parts = λ p m. continued (each_why run f c b ws v l ks s t m) (V p) in
         let G : Pieces → ℕ → Spending Parts = λ p m. continued (each_why ran f c b ws v l ks s t m) (V p) in
-        alike_on n (whys_written run f d e w s t n) (whys_written ran f d e w s t n) F G (whys_alike d e w s t n le) (λ p m lm.
+        alike_all_tested n (instance c.by v ∷ stood c s) (continued (whys_written run f d e w s t n) F) (continued (whys_written ran f d e w s t n) G)
+        (alike_on n (whys_written run f d e w s t n) (whys_written ran f d e w s t n) F G (whys_alike d e w s t n le) (λ p m lm.
         alike_on m (each_why run f c b ws v l ks s t m) (each_why ran f c b ws v l ks s t m) (V p) (V p)
-        (each_alike c b ws v l ks s t m (omega (arith, lm, le))) (λ ps i li. alike_value i (more_parts p ps)))
+        (each_alike c b ws v l ks s t m (omega (arith, lm, le))) (λ ps i li. alike_value i (more_parts p ps))))
 
   ex_alike : (c : Call) (h : History) (cs : List Numbered) (n : ℕ) → n ≤ k → Alike n (ex run f c h cs n) (ex ran f c h cs n)
   ex_alike c Open cs n le = alike_stopped n
@@ -194,14 +205,16 @@ module _ (f : Background) (run ran : Expander) (k : ℕ) (same : AreAlike run ra
       let R : Pieces → Pieces → ℕ → Spending Pieces = λ xs ys i. continued (ran d i) (V xs ys) in
       let F : Pieces → ℕ → Spending Pieces = λ xs m. continued (links_written run f c b chain.right g.right m) (λ ys j. counted j (L xs ys)) in
       let G : Pieces → ℕ → Spending Pieces = λ xs m. continued (links_written ran f c b chain.right g.right m) (λ ys j. counted j (R xs ys)) in
-      alike_on n (links_written run f c b chain.left g.left n) (links_written ran f c b chain.left g.left n) F G (links_alike c b chain.left g.left n le)
+      alike_all_tested n (trail (link_setting f b) chain.left g.left ++ stood c (led_all (link_setting f b) chain.left g.left))
+      (continued (links_written run f c b chain.left g.left n) F) (continued (links_written ran f c b chain.left g.left n) G)
+      (alike_on n (links_written run f c b chain.left g.left n) (links_written ran f c b chain.left g.left n) F G (links_alike c b chain.left g.left n le)
       (λ xs m lm.
       alike_on m (links_written run f c b chain.right g.right m) (links_written ran f c b chain.right g.right m)
       (λ ys j. counted j (L xs ys)) (λ ys j. counted j (R xs ys))
       (links_alike c b chain.right g.right m (omega (arith, lm, le))) (λ ys j lj.
       alike_counted j (L xs ys) (R xs ys) (λ i li.
       alike_on i (run d i) (ran d i) (V xs ys) (V xs ys) (same d i (omega (arith, li, lj, lm, le)))
-      (λ zs y ly. alike_value y (pieces_joined xs (pieces_joined zs (turned ys)))))))
+      (λ zs y ly. alike_value y (pieces_joined xs (pieces_joined zs (turned ys))))))))
   ex_alike c (Reduced_by g why) cs n le = whys_alike c (basis_in run f c) why g.left g.right n le
   ex_alike c (Derived g children) [] n le = alike_stopped n
   ex_alike c (Derived g children) (e ∷ cs) n le =
@@ -225,11 +238,12 @@ module _ (f : Background) (run ran : Expander) (k : ℕ) (same : AreAlike run ra
       let G : Pieces → ℕ → Spending Pieces = λ ys i. and_pieces ys (occurrences_written ran f c xs b last ps v i) in
       let L : ℕ → Spending Pieces = λ m. continued (occurrence_use run f x d m) F in
       let R : ℕ → Spending Pieces = λ m. continued (occurrence_use ran f x d m) G in
-      alike_counted n (λ m. tested (whole_with c v) (L m)) (λ m. tested (whole_with c v) (R m)) (λ j lt.
+      alike_all_tested n (whole_with c here ∷ v ∷ []) (counted n (λ m. tested (whole_with c v) (L m))) (counted n (λ m. tested (whole_with c v) (R m)))
+      (alike_counted n (λ m. tested (whole_with c v) (L m)) (λ m. tested (whole_with c v) (R m)) (λ j lt.
       alike_tested j (whole_with c v) (L j) (R j)
       (alike_on j (occurrence_use run f x d j) (occurrence_use ran f x d j) F G (occurrence_alike x d j (omega (arith, lt, le))) (λ ys i li.
       alike_pieces ys i (occurrences_written run f c xs b last ps v i) (occurrences_written ran f c xs b last ps v i)
-      (occurrences_alike c xs b last ps v i (omega (arith, li, lt, le))))))
+      (occurrences_alike c xs b last ps v i (omega (arith, li, lt, le)))))))
 
   through_alike : (c : Call) (g : Place) (s : ℕ) (ts : Trees) (xs : List Layer) (cs : List Numbered) (n : ℕ) → n ≤ k
       → Alike n (through_place run f c g s ts xs cs n) (through_place ran f c g s ts xs cs n)
@@ -251,13 +265,14 @@ module _ (f : Background) (run ran : Expander) (k : ℕ) (same : AreAlike run ra
       let G2 : Pieces → Pieces → ℕ → Spending Pieces = λ l r j. continued (occurrences_written ran f co xs y last paths (instance σ last) j) (V l r) in
       let F : Pieces → ℕ → Spending Pieces = λ l m. continued (links_written run f cr b ls start m) (F2 l) in
       let G : Pieces → ℕ → Spending Pieces = λ l m. continued (links_written ran f cr b ls start m) (G2 l) in
-      alike_on n (links_written run f cl b ls start n) (links_written ran f cl b ls start n) F G (links_alike cl b ls start n le) (λ l m lm.
+      alike_all_tested n (place_terms run f c g s ts xs e) (continued (links_written run f cl b ls start n) F) (continued (links_written ran f cl b ls start n) G)
+      (alike_on n (links_written run f cl b ls start n) (links_written ran f cl b ls start n) F G (links_alike cl b ls start n le) (λ l m lm.
       alike_on m (links_written run f cr b ls start m) (links_written ran f cr b ls start m) (F2 l) (G2 l)
       (links_alike cr b ls start m (omega (arith, lm, le))) (λ r j lj.
       alike_on j (occurrences_written run f co xs y last paths (instance σ last) j) (occurrences_written ran f co xs y last paths (instance σ last) j)
       (V l r) (V l r)
       (occurrences_alike co xs y last paths (instance σ last) j (omega (arith, lj, lm, le)))
-      (λ o i li. alike_value i (pieces_joined l (pieces_joined o (turned r))))))
+      (λ o i li. alike_value i (pieces_joined l (pieces_joined o (turned r)))))))
 
   ly_alike : (c : Call) (xs : List Layer) (n : ℕ) → n ≤ k → Alike n (ly run f c xs n) (ly ran f c xs n)
   ly_alike c [] n le =

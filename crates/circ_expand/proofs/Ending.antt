@@ -13,12 +13,12 @@ use Rattle.circ_special.specs.Special.{place}
 use Rattle.circ_proof.specs.Plain.{LinkOf, Equation_link, Hypothesis_link, Assumption_link, Content_link, WhyOf, WhysOf, Same_why, Split_why, no_why}
 use Rattle.circ_proof.specs.Plain.{more_whys}
 use Rattle.circ_entry.specs.Entries.{Numbered}
-use Rattle.circ_expand.specs.Followed.{History, Simplified, Reduced_by, Derived, Open, Followed, goal_in, put_or_same, led}
+use Rattle.circ_expand.specs.Followed.{History, Simplified, Reduced_by, Derived, Open, Followed, goal_in, put_or_same, led, led_all}
 use Rattle.circ_expand.specs.Pieces.{Piece, Pieces, Equation_piece, Content_piece, Assumption_piece, no_piece, more_pieces, pieces_joined}
 use Rattle.circ_expand.specs.Expand.{Spending, Yields, Long, Past, Stopped, continued, counted, tested, all_tested, Layer, At_place, By_entry, Background}
 use Rattle.circ_expand.specs.Expand.{Call, Expander, Basis}
 use Rattle.circ_expand.specs.Expand.{Case, Visible_case, Place_case, Hidden_case, No_case, guard_case, occurrence_call, base, whole_with, around, followed_at}
-use Rattle.circ_expand.specs.Expand.{link_setting, bounds_of, hypothesis_call}
+use Rattle.circ_expand.specs.Expand.{link_setting, bounds_of, hypothesis_call, basis_in, stood, link_terms, trail, place_terms}
 use Rattle.circ_expand.specs.Machine.{Value, In_row, In_parts, Task, Links, Give_reason, Give_reasons, Begin_use, Enter_use, Occurrences, Empty_row, Put_behind, Put_between}
 use Rattle.circ_expand.specs.Machine.{Add_part}
 use Rattle.circ_expand.specs.Machine.{Begin_split, End_split, Pending, pending, put_behind, put_between, add_part, end_split, links_step, reason_step, reasons_step}
@@ -59,6 +59,18 @@ link_down : (n w : ℕ) (ts : List Tree) (t : Tree) (u : Pending) → CountsDown
 link_down n w ts t u = counted_down n w (λ m. all_tested ts (tested t (Yields u m)))
     (λ k. all_tested_keep k ts (tested t (Yields u k)) (tested_keeps k t (Yields u k) refl))
 
+-- terms that are tested before a step count nothing
+tested_down : (n w : ℕ) (t : Tree) (o : Spending Pending) → CountsDown n w o → CountsDown n w (tested t o)
+tested_down n w t o k = go (first_limit t)
+  where
+    go : (l : Option Limit) → CountsDown n w (option_map_or Past l o)
+    go None = k
+    go (Some l) = tt
+
+all_tested_down : (n w : ℕ) (ts : List Tree) (o : Spending Pending) → CountsDown n w o → CountsDown n w (all_tested ts o)
+all_tested_down n w [] o k = k
+all_tested_down n w (t ∷ ts) o k = tested_down n w t (all_tested ts o) (all_tested_down n w ts o k)
+
 -- values are put together without a unit
 values_down : (js : List Task) (n w : ℕ) → tasks_weight js < w → (o : Spending (List Value)) → ((vs : List Value) (m : ℕ) → o ≡ Yields vs m → m ≡ n)
     → CountsDown n w (continued o (λ vs m. Yields (pending js vs) m))
@@ -75,39 +87,53 @@ module _ (run : Expander) (f : Background) where
       let u : Tree = led (link_setting f b) (Equation_link number way path terms conds) t in
       let ts : List Tree = map (instance c.by) terms in
       let x : Piece = Equation_piece number way (base c ++ path) ts in
-      link_down n (1 + tasks_weight js) ts (around c u) (pending (Links c b ls u ∷ js) (In_row (pieces_joined v (more_pieces x no_piece)) ∷ vs))
+      let next : Pending = pending (Links c b ls u ∷ js) (In_row (pieces_joined v (more_pieces x no_piece)) ∷ vs) in
+      all_tested_down n (1 + tasks_weight js) (link_terms (link_setting f b) (Equation_link number way path terms conds) t)
+      (counted n (λ m. all_tested ts (tested (around c u) (Yields next m)))) (link_down n (1 + tasks_weight js) ts (around c u) next)
   links_down c b (Content_link op path term ∷ ls) t js v vs n =
       let u : Tree = led (link_setting f b) (Content_link op path term) t in
       let old : Tree = unwrap_or (at t path) t in
       let x : Piece = Content_piece op (base c ++ path) old term (bounds_of c.by old term) in
-      link_down n (1 + tasks_weight js) (instance c.by term ∷ []) (around c u)
-      (pending (Links c b ls u ∷ js) (In_row (pieces_joined v (more_pieces x no_piece)) ∷ vs))
+      let next : Pending = pending (Links c b ls u ∷ js) (In_row (pieces_joined v (more_pieces x no_piece)) ∷ vs) in
+      all_tested_down n (1 + tasks_weight js) (link_terms (link_setting f b) (Content_link op path term) t)
+      (counted n (λ m. tested (instance c.by term) (tested (around c u) (Yields next m))))
+      (link_down n (1 + tasks_weight js) (instance c.by term ∷ []) (around c u) next)
   links_down c b (Assumption_link number way path ∷ ls) t js v vs n =
       let u : Tree = led (link_setting f b) (Assumption_link number way path) t in
       let x : Piece = Assumption_piece (b.raised + number) way (base c ++ path) in
-      link_down n (1 + tasks_weight js) [] (around c u) (pending (Links c b ls u ∷ js) (In_row (pieces_joined v (more_pieces x no_piece)) ∷ vs))
+      let next : Pending = pending (Links c b ls u ∷ js) (In_row (pieces_joined v (more_pieces x no_piece)) ∷ vs) in
+      all_tested_down n (1 + tasks_weight js) (link_terms (link_setting f b) (Assumption_link number way path) t)
+      (counted n (λ m. tested (around c u) (Yields next m))) (link_down n (1 + tasks_weight js) [] (around c u) next)
   links_down c b (Hypothesis_link number way path terms conds ∷ ls) t js v vs n =
       let u : Tree = led (link_setting f b) (Hypothesis_link number way path terms conds) t in
       let ts : List Tree = map (instance c.by) terms in
       let h : Followed = followed_at b.hypotheses number in
       let d : Call = hypothesis_call f c h way path t u (by_terms (goal_in h.history) ts) in
-      link_down n (1 + tasks_weight js) ts (around c u) (pending (Enter_use d ∷ Put_behind way ∷ Links c b ls u ∷ js) (In_row v ∷ vs))
+      let next : Pending = pending (Enter_use d ∷ Put_behind way ∷ Links c b ls u ∷ js) (In_row v ∷ vs) in
+      all_tested_down n (1 + tasks_weight js) (link_terms (link_setting f b) (Hypothesis_link number way path terms conds) t ++ stood c t)
+      (counted n (λ m. all_tested ts (tested (around c u) (Yields next m)))) (link_down n (1 + tasks_weight js) ts (around c u) next)
 
   reason_down : (c : Call) (b : Basis) (w : WhyOf Tree) (s t : Tree) (js : List Task) (vs : List Value) (n : ℕ)
       → CountsDown n (reason_weight w + tasks_weight js) (reason_step run f c b w s t js vs n)
   reason_down c b (Same_why chain) s t js vs n = inr (refl, omega arith)
-  reason_down c b (Split_why chain term ws) s t js vs n = inr (refl, omega arith)
+  reason_down c b (Split_why chain term ws) s t js vs n =
+      all_tested_down n (reason_weight (Split_why chain term ws) + tasks_weight js)
+      (trail (link_setting f b) chain.left s ++ trail (link_setting f b) chain.right t) _ (inr (refl, omega arith))
 
   reasons_down : (c : Call) (b : Basis) (ws : WhysOf Tree) (v : Tree) (l : CaseList) (ks : List ℕ) (s t : Tree) (js : List Task) (vs : List Value) (n : ℕ)
       → CountsDown n (reasons_weight ws + tasks_weight js) (reasons_step run f c b ws v l ks s t js vs n)
   reasons_down c b no_why v l ks s t js vs n = inr (refl, omega arith)
   reasons_down c b (more_whys w ws) v l [] s t js vs n = inr (refl, omega arith)
-  reasons_down c b (more_whys w ws) v l (k ∷ ks) s t js vs n = inr (refl, omega arith)
+  reasons_down c b (more_whys w ws) v l (k ∷ ks) s t js vs n =
+      all_tested_down n (reasons_weight (more_whys w ws) + tasks_weight js) (instance c.by v ∷ stood c s) _ (inr (refl, omega arith))
 
   goal_down : (c : Call) (h : History) (cs : List Numbered) (js : List Task) (vs : List Value) (n : ℕ)
       → CountsDown n (goal_weight h + tasks_weight js) (goal_step run f c h cs js vs n)
   goal_down c Open cs js vs n = tt
-  goal_down c (Simplified g chain h) cs js vs n = inr (refl, omega arith)
+  goal_down c (Simplified g chain h) cs js vs n =
+      let S = link_setting f (basis_in run f c) in
+      all_tested_down n (goal_weight (Simplified g chain h) + tasks_weight js) (trail S chain.left g.left ++ stood c (led_all S chain.left g.left)) _
+      (inr (refl, omega arith))
   goal_down c (Reduced_by g why) cs js vs n = inr (refl, omega arith)
   goal_down c (Derived g children) [] js vs n = tt
   goal_down c (Derived g children) (e ∷ cs) js vs n = inr (refl, omega arith)
@@ -115,7 +141,8 @@ module _ (run : Expander) (f : Background) where
   place_down : (c : Call) (g : Place) (s : ℕ) (ts : Trees) (xs : List Layer) (cs : List Numbered) (js : List Task) (vs : List Value) (n w : ℕ) → 7 ≤ w
       → CountsDown n (w + tasks_weight js) (place_step run f c g s ts xs cs js vs n)
   place_down c g s ts xs [] js vs n w l = tt
-  place_down c g s ts xs (e ∷ cs) js vs n w l = inr (refl, omega (arith, l))
+  place_down c g s ts xs (e ∷ cs) js vs n w l =
+      all_tested_down n (w + tasks_weight js) (place_terms run f c g s ts xs e) _ (inr (refl, omega (arith, l)))
 
   along_down : (c : Call) (xs : List Layer) (js : List Task) (vs : List Value) (n w : ℕ) → 7 ≤ w
       → CountsDown n (w + tasks_weight js) (along_step run f c xs js vs n)
@@ -148,9 +175,10 @@ module _ (run : Expander) (f : Background) where
       let u : Tree = put_or_same here p b in
       let next : ℕ → Spending Pending = λ m. case_step run f k (occurrence_call run f c xs here p k) (Put_behind Forth ∷ Occurrences c xs b last ps u ∷ js)
       (In_row v ∷ vs) m in
-      counted_down n (1 + tasks_weight js) (λ m. tested (whole_with c u) (next m)) (λ m.
+      all_tested_down n (1 + tasks_weight js) (whole_with c here ∷ u ∷ []) (counted n (λ m. tested (whole_with c u) (next m)))
+      (counted_down n (1 + tasks_weight js) (λ m. tested (whole_with c u) (next m)) (λ m.
       tested_keeps m (whole_with c u) (next m) (case_keeps k (occurrence_call run f c xs here p k) (Put_behind Forth ∷ Occurrences c xs b last ps u ∷ js)
-      (In_row v ∷ vs) m))
+      (In_row v ∷ vs) m)))
 
   behind_keeps : (way : Way) (vs us : List Value) (n m : ℕ) → put_behind run f way vs n ≡ Yields us m → m ≡ n
   behind_keeps way (In_row x ∷ In_row v ∷ vs) us n m e = cc

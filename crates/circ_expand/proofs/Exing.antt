@@ -1,5 +1,5 @@
 -- Ex leads from one side of a goal to the other.
-use Rattle.std.proofs.Common.{◌≡◌, ◌≤◌, ◌<◌, ℕ, List, [], ◌∷◌, zero, suc, Bool, true, false, ◌==◌, if◌then◌else◌, map, Some, refl, ap, sym, ◌∙◌, subst, arith}
+use Rattle.std.proofs.Common.{◌≡◌, ◌≤◌, ◌<◌, ℕ, List, [], ◌∷◌, ◌++◌, zero, suc, Bool, true, false, ◌==◌, if◌then◌else◌, map, Some, refl, ap, sym, ◌∙◌, subst, arith}
 use Rattle.std.specs.List.{slice_get, filter}
 use Rattle.std.proofs.lemmas.Bool.{eq-eqb}
 use Rattle.std.proofs.lemmas.Option.{same_Some}
@@ -23,8 +23,8 @@ use Rattle.circ_expand.specs.Followed.{History, Histories, Simplified, Reduced_b
 use Rattle.circ_expand.specs.Followed.{other_histories, put_or_same, led_all}
 use Rattle.circ_expand.specs.Pieces.{Pieces, pieces_joined, turned, PiecesLead}
 use Rattle.circ_expand.specs.Expand.{Spending, Yields, continued, counted, Background, Call, Expander, base, around, Basis, link_setting, links_written}
-use Rattle.circ_expand.specs.Expand.{extended, child, derive_call, simplified_call, basis_in, whys_written, ex}
-use Rattle.circ_expand.proofs.Going.{Goes, goes_on, goes_counted, goes_value}
+use Rattle.circ_expand.specs.Expand.{extended, child, derive_call, simplified_call, basis_in, whys_written, ex, stood, trail}
+use Rattle.circ_expand.proofs.Going.{Goes, goes_on, goes_counted, goes_all_tested, goes_value}
 use Rattle.circ_expand.proofs.Derives.{joined_lead, pieces_turned}
 use Rattle.circ_expand.proofs.Lifting.{AreNumbered, extended_derived, extended_substitution}
 use Rattle.circ_expand.proofs.Led.{links_led}
@@ -161,7 +161,9 @@ module _ (f : Background) (fr : IsBackground f) (run : Expander) (d : ℕ) (so :
       let SL : Pieces → Type 0 = Sided f c (instance c.by s) (instance c.by q.left) in
       let SR : Pieces → Type 0 = Sided f c (instance c.by t) (instance c.by q.right) in
       let M : Tree → Pieces → Type 0 = λ y ys. PiecesLead th c.assumptions ys (around c q.left) y in
-      goes_on SL P n (links_written run f c b chain.left s n) (λ l k. continued (links_written run f c b chain.right t k) (λ r j. rest sl l r j))
+      let both : Pieces → ℕ → Spending Pieces = λ l k. continued (links_written run f c b chain.right t k) (λ r j. rest sl l r j) in
+      goes_all_tested P n (trail S chain.left s ++ stood c sl) (continued (links_written run f c b chain.left s n) both)
+      (goes_on SL P n (links_written run f c b chain.left s n) both
       (links_lead f fr run d so c (instance c.by s) st b full.basis chain.left i.1.0.0 i.1.1.0 s q.left i.0.sorted.left i.2.left el refl n le)
       (λ l k lk gl. goes_on SR P k (links_written run f c b chain.right t k) (λ r j. rest sl l r j)
       (links_lead f fr run d so c (instance c.by s) st b full.basis chain.right i.1.0.1 i.1.1.1 t q.right i.0.sorted.right i.2.right er se_r k
@@ -189,7 +191,7 @@ module _ (f : Background) (fr : IsBackground f) (run : Expander) (d : ℕ) (so :
       (subst W end_same (so (inner q.left) y (omega (arith, lt, lj, lk, le)) call))
       (λ ys z lz mid. goes_value P z (pieces_joined l (pieces_joined ys (turned r)))
       (joined_lead th c.assumptions l (pieces_joined ys (turned r)) (around c s) (around c q.left) (around c t) gl.lead
-      (joined_lead th c.assumptions ys (turned r) (around c q.left) (around c q.right) (around c t) mid back)))))))
+      (joined_lead th c.assumptions ys (turned r) (around c q.left) (around c q.right) (around c t) mid back))))))))
 
   pub ex_leads : (h : History) → IsHistory (setting_in f (block_hypotheses f c.goal.block)) h → (es : List Numbered) → c.entries ≡ es
       → Stands f c (instance c.by (goal_in h).left)

@@ -35,8 +35,8 @@ use Rattle.circ_expand.specs.Goals.{all_goals}
 use Rattle.circ_expand.specs.Followed.{Histories, no_history, more_histories, goal_in, list_in, Followed, followed_in, told_in, hypotheses_of, goals_of, Told}
 use Rattle.circ_expand.specs.Pieces.{Pieces, PiecesLead}
 use Rattle.circ_expand.specs.Expand.{Spending, Yields, Stopped, counted, tested, Background, followed_goals, uses, followed_at, first_links, later_links}
-use Rattle.circ_expand.specs.Expand.{links_for, links_after, result_sort, certificate_of, background_of, expansion}
-use Rattle.circ_expand.proofs.Going.{Goes, goes_so, goes_counted, goes_tested}
+use Rattle.circ_expand.specs.Expand.{links_for, links_after, result_sort, certificate_of, background_of, expansion, stages}
+use Rattle.circ_expand.proofs.Going.{Goes, goes_so, goes_counted, goes_tested, goes_all_tested}
 use Rattle.circ_expand.proofs.Plainness.{AreBare, AreBareGoals, steps_bare, certificates_bare}
 use Rattle.circ_expand.proofs.Lifting.{AreNumbered}
 use Rattle.circ_expand.proofs.Listed.{one_list_found}
@@ -65,7 +65,7 @@ goals_append [] ys = refl
 goals_append (x ∷ xs) ys = ap (λ ps. goal_in x.history ∷ ps) (goals_append xs ys)
 
 -- the goals of a plain block have no conditions
-block_bare : (table : List Tree) (gs : List Goal) (ns : List GoalNames) → gs ≡ map (goal_at table) ns → AllByRecursion (λ (n : GoalNames). n.conds ≡ []) ns
+pub block_bare : (table : List Tree) (gs : List Goal) (ns : List GoalNames) → gs ≡ map (goal_at table) ns → AllByRecursion (λ (n : GoalNames). n.conds ≡ []) ns
     → AreBareGoals gs
 block_bare table gs ns e a = subst AreBareGoals (sym e) (named_bare ns a)
   where
@@ -299,13 +299,14 @@ expansion_goes th ok p f pl a n g listed ws fw k =
     let work : ℕ → Spending Pieces = uses k F (whole_call h cs) in
     let X : Goal → Type 0 = λ y. Goes (λ xs. LeadsOnGoal th xs ws y) k (expansion k th p n ws) in
     subst X there.1
+    (goes_all_tested W k (stages (bare_entries cs) q.left ++ stages (bare_entries cs) q.right) (tested s (tested t (counted k work)))
     (goes_tested W k s (tested t (counted k work)) (λ ws_in.
     goes_tested W k t (counted k work) (λ wt_in.
     goes_counted W k work (λ j lt.
     let es : IsEnd th s = record { well_sorted = on_sorted th ok (bare_entries cs) q.left fit sp.left; within = ws_in } in
     let et : IsEnd th t = record { well_sorted = on_sorted th ok (bare_entries cs) q.right (subst FI (sym sp.same_sort) fit) sp.right; within = wt_in } in
     goes_so L W j (λ xs l. record { lead = l; derivable = expanded_derivable F fr s t es xs l }) (work j)
-    (expanded_leads F fr h fo cs num fit es et k j lt)))))
+    (expanded_leads F fr h fo cs num fit es et k j lt))))))
 
 -- what is given leads from the one side to the other
 pub given_leads : (th : Theory) (p : Proof) (k n : ℕ) (g : Goal) (ws : List Written) → IsAnswered th p k n g ws → (m : ℕ) (xs : Pieces)

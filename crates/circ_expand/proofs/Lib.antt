@@ -1,4 +1,15 @@
+pub mod Keeping
+pub mod Overs
+pub mod Below
+pub mod Guarding
+pub mod Ends
+pub mod Meeting
+pub mod Holes
+pub mod Finding
+pub mod Rising
+pub mod Reading
 pub mod Putting
+pub mod Exceeding
 pub mod Going
 pub mod Depth
 pub mod Working

@@ -27,12 +27,12 @@ use Rattle.circ_proof.specs.Link.{setting, Leads, ConditionsLead, AllOfLink, All
 use Rattle.circ_proof.proofs.Leading.{IsSortedSetting, link_sorted}
 use Rattle.circ_soundness.proofs.Agreeing.{special_instance}
 use Rattle.circ_entry.specs.Entries.{bare_entries}
-use Rattle.circ_expand.specs.Followed.{goal_in, Followed, put_or_same}
+use Rattle.circ_expand.specs.Followed.{goal_in, Followed, put_or_same, led}
 use Rattle.circ_expand.specs.Pieces.{Piece, Pieces, Equation_piece, Content_piece, Assumption_piece, no_piece, more_pieces, pieces_joined, turned, PieceLeads}
 use Rattle.circ_expand.specs.Pieces.{PiecesLead}
 use Rattle.circ_expand.specs.Expand.{Spending, Yields, continued, counted, tested, all_tested, places_on, Background, Call, Expander, base, whole_with}
 use Rattle.circ_expand.specs.Expand.{around, and_piece, and_pieces, by_way, start_of, followed_at, followed_goals, Basis, link_setting, bounds_of}
-use Rattle.circ_expand.specs.Expand.{hypothesis_call, links_written}
+use Rattle.circ_expand.specs.Expand.{hypothesis_call, links_written, stood, link_terms}
 use Rattle.circ_expand.proofs.Going.{Goes, goes_so, goes_on, goes_counted, goes_tested, goes_all_tested, goes_value}
 use Rattle.circ_expand.proofs.Putting.{put_is, replaced_back}
 use Rattle.circ_expand.proofs.Derives.{piece_follows, piece_within, pieces_follow, joined_lead, pieces_within, pieces_turned}
@@ -276,12 +276,13 @@ module _ (f : Background) (fr : IsBackground f) (run : Expander) (d : ℕ) (so :
         ),
       ) in
       let next : ℕ → Spending Pieces = λ j. and_piece x1 (links_written run f c b ls v j) in
-      subst G (sym (link_led (link_setting f b) (Equation_link number way path terms conds) t v lead))
+      goes_all_tested S n (link_terms (link_setting f b) (Equation_link number way path terms conds) t) (counted n (F (led (link_setting f b) (Equation_link number way path terms conds) t)))
+      (subst G (sym (link_led (link_setting f b) (Equation_link number way path terms conds) t v lead))
       (goes_counted S n (F v) (λ j lt.
       goes_all_tested S j vs (tested (around c v) (next j))
       (goes_tested S j (around c v) (next j) (λ w.
       one_more f fr c st.assumptions x1 (instance c.by t) (instance c.by v) (instance c.by u) e (one w) j (links_written run f c b ls v j)
-      (λ ev. rest ev j (omega (arith, lt, le)))))))
+      (λ ev. rest ev j (omega (arith, lt, le))))))))
 
   content_leads : (op : ℕ) (path : List ℕ) (term : Tree) (ls : List (LinkOf Tree)) → IsWellSorted f.theory.signature term
       → (t v u : Tree) → IsWellSorted f.theory.signature t → Leads (link_setting f b) (Content_link op path term) t v → IsEnd f.theory (around c t)
@@ -311,13 +312,14 @@ module _ (f : Background) (fr : IsBackground f) (run : Expander) (d : ℕ) (so :
         };
       } in
       let next : ℕ → Spending Pieces = λ j. and_piece (x1 old) (links_written run f c b ls v j) in
-      subst G (sym (link_led (link_setting f b) (Content_link op path term) t v lead))
+      goes_all_tested S n (link_terms (link_setting f b) (Content_link op path term) t) (counted n (F (led (link_setting f b) (Content_link op path term) t) there))
+      (subst G (sym (link_led (link_setting f b) (Content_link op path term) t v lead))
       (subst O (sym (ap (λ o. unwrap_or o t) lead.replaces.there))
       (goes_counted S n (F v old) (λ j lt.
       goes_tested S j (instance c.by term) (tested (around c v) (next j)) (λ h.
       goes_tested S j (around c v) (next j) (λ w.
       one_more f fr c st.assumptions (x1 old) (instance c.by t) (instance c.by v) (instance c.by u) e (one w) j (links_written run f c b ls v j)
-      (λ ev. rest ev j (omega (arith, lt, le))))))))
+      (λ ev. rest ev j (omega (arith, lt, le)))))))))
 
   assumption_leads : (number : ℕ) (way : Way) (path : List ℕ) (ls : List (LinkOf Tree))
       → (t v u : Tree) → IsWellSorted f.theory.signature t → Leads (link_setting f b) (Assumption_link number way path) t v → IsEnd f.theory (around c t)
@@ -341,11 +343,12 @@ module _ (f : Background) (fr : IsBackground f) (run : Expander) (d : ℕ) (so :
         };
       } in
       let next : ℕ → Spending Pieces = λ j. and_piece x1 (links_written run f c b ls v j) in
-      subst G (sym (link_led (link_setting f b) (Assumption_link number way path) t v lead))
+      goes_all_tested S n (link_terms (link_setting f b) (Assumption_link number way path) t) (counted n (F (led (link_setting f b) (Assumption_link number way path) t)))
+      (subst G (sym (link_led (link_setting f b) (Assumption_link number way path) t v lead))
       (goes_counted S n (F v) (λ j lt.
       goes_tested S j (around c v) (next j) (λ w.
       one_more f fr c st.assumptions x1 (instance c.by t) (instance c.by v) (instance c.by u) e (one w) j (links_written run f c b ls v j)
-      (λ ev. rest ev j (omega (arith, lt, le))))))
+      (λ ev. rest ev j (omega (arith, lt, le)))))))
 
   hypothesis_leads : (number : ℕ) (way : Way) (path : List ℕ) (terms : List Tree) (conds : ChainsOf Tree) (ls : List (LinkOf Tree))
       → AllByRecursion (IsWellSorted f.theory.signature) terms
@@ -383,7 +386,8 @@ module _ (f : Background) (fr : IsBackground f) (run : Expander) (d : ℕ) (so :
       λ hid. special_instance f.places c.by path t (let H : Goal → Type 0 = λ y. IsHidden th (sort_of y.left) in lead.0.special (subst H q.0 hid)) in
       let work : ℕ → Spending Pieces = λ j. run (hypothesis_call f c h way path t v τ) j in
       let U : Pieces → Type 0 = λ ys. PiecesLead th c.assumptions (by_way way ys) (around c t) (around c v) in
-      subst G (sym (link_led (link_setting f b) (Hypothesis_link number way path terms conds) t v lead))
+      goes_all_tested S n (link_terms (link_setting f b) (Hypothesis_link number way path terms conds) t ++ stood c t) (counted n (F (led (link_setting f b) (Hypothesis_link number way path terms conds) t)))
+      (subst G (sym (link_led (link_setting f b) (Hypothesis_link number way path terms conds) t v lead))
       (goes_counted S n (F v) (λ j lt.
       goes_all_tested S j vs (tested (around c v) (continued (work j) (after v)))
       (goes_tested S j (around c v) (continued (work j) (after v)) (λ w.
@@ -393,7 +397,7 @@ module _ (f : Background) (fr : IsBackground f) (run : Expander) (d : ℕ) (so :
       ∙ ap Some old_is) (ap (replaced (instance c.by t) path) (sym new_is) ∙ k.is) special e ev j (omega (arith, lt, le)) in
       goes_on U S j (work j) (after v) used (λ ys i li l.
       some_more f fr c st.assumptions (by_way way ys) (instance c.by t) (instance c.by v) (instance c.by u) e l i (links_written run f c b ls v i)
-      (λ w2. rest w2 i (omega (arith, li, lt, le))))))))
+      (λ w2. rest w2 i (omega (arith, li, lt, le)))))))))
 
   pub links_lead : (ls : List (LinkOf Tree)) → AllOfLinks (IsWellSorted f.theory.signature) ls → AreBare ls → (t u : Tree)
       → IsWellSorted f.theory.signature t → Runs (Leads (link_setting f b)) ls t u

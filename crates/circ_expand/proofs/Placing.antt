@@ -34,11 +34,11 @@ use Rattle.circ_soundness.proofs.Starting.{starts, arg_sort, start_place}
 use Rattle.circ_entry.specs.Entries.{Numbered, bare_entries}
 use Rattle.circ_expand.specs.Followed.{put_or_same, led_all}
 use Rattle.circ_expand.specs.Pieces.{Pieces, pieces_joined, turned, PiecesLead}
-use Rattle.circ_expand.specs.Expand.{Spending, Yields, continued, Layer, At_place, layered, Background, Call, Expander, base, whole_with, around, Basis}
+use Rattle.circ_expand.specs.Expand.{Spending, Yields, continued, Layer, At_place, Background, Call, Expander, base, whole_with, Basis}
 use Rattle.circ_expand.specs.Expand.{basis, link_setting, links_written, paths_of, holes, hole_path}
-use Rattle.circ_expand.specs.Expand.{start_at, certified_call, no_basis, derived_place, left_here, right_here, occurrences_written, through_place}
+use Rattle.circ_expand.specs.Expand.{start_at, certified_call, no_basis, left_here, right_here, occurrences_written, place_terms, through_place}
 use Rattle.circ_expand.specs.Expand as expand
-use Rattle.circ_expand.proofs.Going.{Goes, goes_on, goes_value}
+use Rattle.circ_expand.proofs.Going.{Goes, goes_on, goes_all_tested, goes_value}
 use Rattle.circ_expand.proofs.Putting.{put_there}
 use Rattle.circ_expand.proofs.Derives.{joined_lead, pieces_turned}
 use Rattle.circ_expand.proofs.Lifting.{AreNumbered, on_there, derived_there}
@@ -317,8 +317,9 @@ module _ (f : Background) (fr : IsBackground f) (run : Expander) (depth : ℕ) (
       let SR : Pieces → Type 0 = Sided f cr (instance τ start) (instance τ t.last) in
       let SO : Pieces → Type 0 = Sided f co (instance σ t.last) (instance τ t.last) in
       let all : Tree → Pieces → Pieces → ℕ → Spending Pieces = λ z l w j. continued (middle z j) (whole3 l w) in
-      goes_on SL P n (links_written run f cl (no_basis run f) ls start n)
-      (λ l k. continued (links_written run f cr (no_basis run f) ls start k) (λ w j. all last l w j))
+      let both : Pieces → ℕ → Spending Pieces = λ l k. continued (links_written run f cr (no_basis run f) ls start k) (λ w j. all last l w j) in
+      goes_all_tested P n (place_terms run f c (place g i) s ts xs e) (continued (links_written run f cl (no_basis run f) ls start n) both)
+      (goes_on SL P n (links_written run f cl (no_basis run f) ls start n) both
       (certificate_leads e cs t x σ stl sx el n le)
       (λ l k lk gl. goes_on SR P k (links_written run f cr (no_basis run f) ls start k) (λ w j. all last l w j)
       (certificate_leads e cs t x τ str sy en k (omega (arith, lk, le)))
@@ -340,4 +341,4 @@ module _ (f : Background) (fr : IsBackground f) (run : Expander) (depth : ℕ) (
       (whole_with cr (instance τ start)) go.lead back) in
       let LL : Tree → Type 0 = λ z. PiecesLead th c.assumptions zs z (whole_with cr (instance τ start)) in
       let LR : Tree → Type 0 = λ z. PiecesLead th c.assumptions zs c.whole z in
-      goes_value P i2 zs (subst LR (whole_r ∙ back_entries) (subst LL whole_l lead))))))
+      goes_value P i2 zs (subst LR (whole_r ∙ back_entries) (subst LL whole_l lead)))))))

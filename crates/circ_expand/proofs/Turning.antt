@@ -9,7 +9,7 @@ use Rattle.circ_expand.specs.Followed.{goal_in, put_or_same}
 use Rattle.circ_expand.specs.Pieces.{Pieces, no_piece, PiecesLead}
 use Rattle.circ_expand.specs.Expand.{Spending, continued, counted, tested, Layer, layered, Background, Call, Expander, base, whole_with, and_pieces, Case}
 use Rattle.circ_expand.specs.Expand.{guard_case, occurrence_call, occurrence_use, occurrences_written}
-use Rattle.circ_expand.proofs.Going.{Goes, goes_on, goes_counted, goes_tested, goes_value}
+use Rattle.circ_expand.proofs.Going.{Goes, goes_on, goes_counted, goes_tested, goes_all_tested, goes_value}
 use Rattle.circ_expand.proofs.Putting.{put_is}
 use Rattle.circ_expand.proofs.Standing.{IsFollowed, IsBackground, AreLayers, IsEnd, Stands, IsSound, whole_there, whole_sorted}
 use Rattle.circ_expand.proofs.Linking.{Sided, some_more}
@@ -48,7 +48,8 @@ module _ (f : Background) (fr : IsBackground f) (run : Expander) (depth : ℕ) (
       let kept = replaced_sorted th p u (σ 0 s) (τ 0 s) v wu ch.old (record { well_sorted = z.1; same_sort = z.0 ∙ sym a.0 }) ch.new in
       let whole = whole_sorted f c x st u v eu.well_sorted kept.well_sorted kept.same_sort in
       let is_case = case_holds th fr.well_formed f.places last s p (guarded p ch.variable) in
-      subst G (sym first_is)
+      goes_all_tested S n (whole_with c u ∷ put_or_same u p b ∷ []) (counted n (F (put_or_same u p b)))
+      (subst G (sym first_is)
       (goes_counted S n (F v) (λ j lt.
       goes_tested S j (whole_with c v) (continued (step j) (rest v)) (λ h.
       let ev : IsEnd th (whole_with c v) = record { well_sorted = whole; within = h } in
@@ -56,4 +57,4 @@ module _ (f : Background) (fr : IsBackground f) (run : Expander) (depth : ℕ) (
       (occurrence_leads f fr run depth so c x st fo u v su eu ev xs it σ τ iσ iτ s ea eb last wl p ch k is_case j (omega (arith, lt, le)))
       (λ ys i li lead.
       some_more f fr c st.assumptions ys u v w eu lead i (occurrences_written run f c xs b last ps v i)
-      (λ e. occurrences_lead ps v w mv.2 e (kept.same_sort ∙ su) i (omega (arith, li, lt, le)))))))
+      (λ e. occurrences_lead ps v w mv.2 e (kept.same_sort ∙ su) i (omega (arith, li, lt, le))))))))

@@ -18,8 +18,8 @@ use Rattle.circ_entry.specs.Entries.{bare_entries}
 use Rattle.circ_expand.specs.Followed.{led_all}
 use Rattle.circ_expand.specs.Pieces.{Pieces, Parts, Cases_piece, more_pieces, no_part, more_parts, pieces_joined, turned, PiecesLead, PartsLead}
 use Rattle.circ_expand.specs.Expand.{Spending, Yields, continued, counted, tested, Background, Call, Expander, base, around, Basis, link_setting}
-use Rattle.circ_expand.specs.Expand.{links_written, cases_at, case_basis, case_call, whys_written, each_why}
-use Rattle.circ_expand.proofs.Going.{Goes, goes_on, goes_counted, goes_tested, goes_value}
+use Rattle.circ_expand.specs.Expand.{links_written, cases_at, case_basis, case_call, whys_written, each_why, stood, trail}
+use Rattle.circ_expand.proofs.Going.{Goes, goes_on, goes_counted, goes_tested, goes_all_tested, goes_value}
 use Rattle.circ_expand.proofs.Putting.{put_is}
 use Rattle.circ_proof.proofs.Cases.{case_sorted}
 use Rattle.circ_expand.proofs.Plainness.{IsBareWhy, AreBareWhys}
@@ -169,7 +169,9 @@ module _ (f : Background) (fr : IsBackground f) (run : Expander) (d : ℕ) (so :
         let kl = links_sorted S good chain.left a.0.0 s q.left sp.left j.1.left in
         let sort_y : sort_of (instance c.by q.left) ≡ sort_of x =
         sort_of-instance_by sig c.by q.left st.by kl.well_sorted ∙ kl.same_sort ∙ sym (sort_of-instance_by sig c.by s st.by sp.left) ∙ se in
-        goes_on SL P n (links_written run f c b chain.left s n) (λ l k. continued (links_written run f c b chain.right t k) (λ r h. split cases sl sr l r h))
+        let both : Pieces → ℕ → Spending Pieces = λ l k. continued (links_written run f c b chain.right t k) (λ r h. split cases sl sr l r h) in
+        goes_all_tested P n (trail S chain.left s ++ trail S chain.right t) (continued (links_written run f c b chain.left s n) both)
+        (goes_on SL P n (links_written run f c b chain.left s n) both
         (links_lead f fr run d so c x st b i.basis chain.left a.0.0 bw.0.0 s q.left sp.left j.1.left el se n le)
         (λ l k lk gl. goes_on SR P k (links_written run f c b chain.right t k) (λ r h. split cases sl sr l r h)
         (links_lead f fr run d so c x st b i.basis chain.right a.0.1 bw.0.1 t q.right sp.right j.1.right er (sort_right c x st p sp se) k
@@ -189,7 +191,7 @@ module _ (f : Background) (fr : IsBackground f) (run : Expander) (d : ℕ) (so :
           (cl, j.3, wu, su, parts),
           pieces_turned th fr.well_formed c.assumptions r (around c t)
               (around c q.right) gr.lead er.within,
-        ))))))))))
+        )))))))))))
 
     each_leads : (c : Call) (x : Tree) → Stands f c x → (b : Basis) → IsFull f c b → (q : Pair) → IsWellSortedPair f.theory.signature q
         → (v : Tree) (l : CaseList) → Contains f.theory.cases l → IsWellSorted f.theory.signature v → sort_of v ≡ l.sort
@@ -222,7 +224,8 @@ module _ (f : Background) (fr : IsBackground f) (run : Expander) (d : ℕ) (so :
         let Q2 : Parts → Type 0 = λ ps. PartsLead th c.assumptions u l ks ps (around c s) (around c t) in
         let P : Parts → Type 0 = λ ps. PartsLead th c.assumptions u l (k ∷ ks) ps (around c s) (around c t) in
         let others : Pieces → ℕ → Spending Parts = λ p m. continued (each_why run f c b ws v l ks s t m) (λ ps y. Yields (more_parts p ps) y) in
-        goes_on Q1 P n (whys_written run f c1 b1 w s t n) others
+        goes_all_tested P n (u ∷ stood c s) (continued (whys_written run f c1 b1 w s t n) others)
+        (goes_on Q1 P n (whys_written run f c1 b1 w s t n) others
         (whys_lead c1 (instance c.by s) st1 b1 (case_full f run c b i s v l k wp) q sq w a.0 bw.0 j.0 (subst E (sym ws_s) el)
         (subst E (sym ws_t) er) refl n le)
         (λ p m lm one. goes_on Q2 P m (each_why run f c b ws v l ks s t m) (λ ps y. Yields (more_parts p ps) y)
@@ -230,4 +233,4 @@ module _ (f : Background) (fr : IsBackground f) (run : Expander) (d : ℕ) (so :
         (λ ps y ly rest.
         let L : Tree → Type 0 = λ z. PiecesLead th (c.assumptions ++ e ∷ []) p z (around c1 t) in
         let R : Tree → Type 0 = λ z. PiecesLead th (c.assumptions ++ e ∷ []) p (around c s) z in
-        goes_value P y (more_parts p ps) (subst R ws_t (subst L ws_s one), rest)))
+        goes_value P y (more_parts p ps) (subst R ws_t (subst L ws_s one), rest))))

@@ -28,7 +28,7 @@ use Rattle.circ_expand.specs.Expand.{single_use}
 use Rattle.circ_expand.specs.Expand.{Case, Visible_case, Place_case, Hidden_case, No_case, guard_case, paths_of, arg_sort, start_at, occurrence_call}
 use Rattle.circ_expand.specs.Expand.{occurrence_use}
 use Rattle.circ_expand.specs.Expand.{occurrences_written, derived_place, certified_call, no_basis, left_here, right_here, through_place, uses, background_of}
-use Rattle.circ_expand.specs.Expand.{expansion}
+use Rattle.circ_expand.specs.Expand.{expansion, stood, link_terms, trail, stages, place_terms}
 use Rattle.circ_expand.specs.Machine.{Value, In_row, In_parts, Task, Links, Give_reason, Give_reasons, Begin_use, Enter_use, Occurrences, Empty_row, Put_behind, Put_between}
 use Rattle.circ_expand.specs.Machine.{Add_part}
 use Rattle.circ_expand.specs.Machine.{Begin_split, End_split, Pending, pending, with_behind, put_behind, put_between, add_part, end_split, with_row}
@@ -127,20 +127,27 @@ module _ (run : Expander) (f : Background) where
       let x : Piece = Equation_piece number way (base c ++ path) ts in
       let L : ℕ → Spending Pieces = λ m. and_piece x (links_written run f c b ls u m) in
       let N : ℕ → Spending Pending = λ m. Yields (pending (Links c b ls u ∷ js) (In_row (pieces_joined v (more_pieces x no_piece)) ∷ vs)) m in
-      link_same n ts (around c u) L N (with_more js v vs) rest_of (λ k. piece_goes js v vs x (links_written run f c b ls u k))
+      all_tested_same (link_terms (link_setting f b) (Equation_link number way path terms conds) t)
+      (counted n (λ m. all_tested ts (tested (around c u) (L m)))) (counted n (λ m. all_tested ts (tested (around c u) (N m)))) (with_more js v vs) rest_of
+      (link_same n ts (around c u) L N (with_more js v vs) rest_of (λ k. piece_goes js v vs x (links_written run f c b ls u k)))
   links_right c b (Content_link op path term ∷ ls) t js v vs n =
       let u : Tree = led (link_setting f b) (Content_link op path term) t in
       let old : Tree = unwrap_or (at t path) t in
       let x : Piece = Content_piece op (base c ++ path) old term (bounds_of c.by old term) in
       let L : ℕ → Spending Pieces = λ m. and_piece x (links_written run f c b ls u m) in
       let N : ℕ → Spending Pending = λ m. Yields (pending (Links c b ls u ∷ js) (In_row (pieces_joined v (more_pieces x no_piece)) ∷ vs)) m in
-      link_same n (instance c.by term ∷ []) (around c u) L N (with_more js v vs) rest_of (λ k. piece_goes js v vs x (links_written run f c b ls u k))
+      all_tested_same (link_terms (link_setting f b) (Content_link op path term) t)
+      (counted n (λ m. tested (instance c.by term) (tested (around c u) (L m)))) (counted n (λ m. tested (instance c.by term) (tested (around c u) (N m))))
+      (with_more js v vs) rest_of
+      (link_same n (instance c.by term ∷ []) (around c u) L N (with_more js v vs) rest_of (λ k. piece_goes js v vs x (links_written run f c b ls u k)))
   links_right c b (Assumption_link number way path ∷ ls) t js v vs n =
       let u : Tree = led (link_setting f b) (Assumption_link number way path) t in
       let x : Piece = Assumption_piece (b.raised + number) way (base c ++ path) in
       let L : ℕ → Spending Pieces = λ m. and_piece x (links_written run f c b ls u m) in
       let N : ℕ → Spending Pending = λ m. Yields (pending (Links c b ls u ∷ js) (In_row (pieces_joined v (more_pieces x no_piece)) ∷ vs)) m in
-      link_same n [] (around c u) L N (with_more js v vs) rest_of (λ k. piece_goes js v vs x (links_written run f c b ls u k))
+      all_tested_same (link_terms (link_setting f b) (Assumption_link number way path) t)
+      (counted n (λ m. tested (around c u) (L m))) (counted n (λ m. tested (around c u) (N m))) (with_more js v vs) rest_of
+      (link_same n [] (around c u) L N (with_more js v vs) rest_of (λ k. piece_goes js v vs x (links_written run f c b ls u k)))
   links_right c b (Hypothesis_link number way path terms conds ∷ ls) t js v vs n =
       let u : Tree = led (link_setting f b) (Hypothesis_link number way path terms conds) t in
       let ts : List Tree = map (instance c.by) terms in
@@ -149,12 +156,14 @@ module _ (run : Expander) (f : Background) where
       let F : Pieces → ℕ → Spending Pieces = λ xs i. and_pieces (by_way way xs) (links_written run f c b ls u i) in
       let L : ℕ → Spending Pieces = λ m. continued (run d m) F in
       let N : ℕ → Spending Pending = λ m. Yields (pending (Enter_use d ∷ Put_behind way ∷ Links c b ls u ∷ js) (In_row v ∷ vs)) m in
-      link_same n ts (around c u) L N (with_more js v vs) rest_of (λ k.
+      all_tested_same (link_terms (link_setting f b) (Hypothesis_link number way path terms conds) t ++ stood c t)
+      (counted n (λ m. all_tested ts (tested (around c u) (L m)))) (counted n (λ m. all_tested ts (tested (around c u) (N m)))) (with_more js v vs) rest_of
+      (link_same n ts (around c u) L N (with_more js v vs) rest_of (λ k.
       continued_twice (run d k) F (with_more js v vs)
       ∙ continued_same (run d k) (λ xs i. continued (F xs i) (with_more js v vs))
       (λ xs i. all_done run f (Links c b ls u ∷ js) (In_row (pieces_joined v (by_way way xs)) ∷ vs) i)
       (λ xs i. pieces_go js v vs (by_way way xs) (links_written run f c b ls u i))
-      ∙ sym (row_then (Put_behind way ∷ Links c b ls u ∷ js) (In_row v ∷ vs) (run d k)))
+      ∙ sym (row_then (Put_behind way ∷ Links c b ls u ∷ js) (In_row v ∷ vs) (run d k))))
 
   -- the links on two sides, each in a row of its own
   two_sides : (c d : Call) (b : Basis) (ls rs : List (LinkOf Tree)) (s t : Tree) (js : List Task) (vs : List Value) (n : ℕ)
@@ -201,14 +210,18 @@ module _ (run : Expander) (f : Background) where
       let E : ℕ → Spending Parts = λ i. each_why run f c b ws term l l.constants y z i in
       let F : Pieces → Pieces → ℕ → Spending Pieces = λ xs ys k. counted k (λ i. tested u (continued (E i) (V xs ys))) in
       let split : List Task = Give_reasons c b ws term l l.constants y z ∷ End_split u ∷ Put_between ∷ js in
-      sides_then c c b chain.left chain.right s t n F D
+      let begun : List Task = Links c b chain.left s ∷ Empty_row ∷ Links c b chain.right t ∷ Begin_split u ∷ split in
+      all_tested_same (trail (link_setting f b) chain.left s ++ trail (link_setting f b) chain.right t)
+      (continued (links_written run f c b chain.left s n) (λ xs m. continued (links_written run f c b chain.right t m) (F xs)))
+      (Yields (pending begun (In_row no_piece ∷ vs)) n) D rest_of
+      (sides_then c c b chain.left chain.right s t n F D
       ∙ sides_same c c b chain.left chain.right s t n (λ xs ys k. continued (F xs ys k) D)
       (λ xs ys k. all_done run f (Begin_split u ∷ split) (In_row ys ∷ In_row xs ∷ vs) k)
       (λ xs ys k. counted_same k (λ i. tested u (continued (E i) (V xs ys))) (λ i. tested u (Yields (In_row ys ∷ In_row xs ∷ vs) i)) D (all_done run f split) (λ i.
       tested_same u (continued (E i) (V xs ys)) (Yields (In_row ys ∷ In_row xs ∷ vs) i) D (all_done run f split)
       (continued_twice (E i) (V xs ys) D
       ∙ sym (continued_twice (E i) (λ ps m. Yields (In_parts ps ∷ In_row ys ∷ In_row xs ∷ vs) m) (all_done run f (End_split u ∷ Put_between ∷ js))))))
-      ∙ sym (two_sides c c b chain.left chain.right s t (Begin_split u ∷ split) vs n)
+      ∙ sym (two_sides c c b chain.left chain.right s t (Begin_split u ∷ split) vs n))
 
   reasons_right : (c : Call) (b : Basis) (ws : WhysOf Tree) (v : Tree) (l : CaseList) (ks : List ℕ) (s t : Tree) (js : List Task) (vs : List Value) (n : ℕ)
       → continued (each_why run f c b ws v l ks s t n) (λ ps m. all_done run f js (In_parts ps ∷ vs) m) ≡ continued
@@ -222,11 +235,13 @@ module _ (run : Expander) (f : Background) where
       let W : Spending Pieces = whys_written run f d e w s t n in
       let E : ℕ → Spending Parts = λ m. each_why run f c b ws v l ks s t m in
       let F : Pieces → ℕ → Spending Parts = λ p m. continued (E m) (λ ps i. Yields (more_parts p ps) i) in
-      continued_twice W F D
+      all_tested_same (instance c.by v ∷ stood c s) (continued W F)
+      (Yields (pending (Give_reason d e w s t ∷ Give_reasons c b ws v l ks s t ∷ Add_part ∷ js) vs) n) D rest_of
+      (continued_twice W F D
       ∙ continued_same W (λ p m. continued (F p m) D) (λ p m. all_done run f (Give_reasons c b ws v l ks s t ∷ Add_part ∷ js) (In_row p ∷ vs) m)
       (λ p m. continued_twice (E m) (λ ps i. Yields (more_parts p ps) i) D
       ∙ sym (continued_twice (E m) (λ ps i. Yields (In_parts ps ∷ In_row p ∷ vs) i) (all_done run f (Add_part ∷ js))))
-      ∙ sym (row_then (Give_reasons c b ws v l ks s t ∷ Add_part ∷ js) vs W)
+      ∙ sym (row_then (Give_reasons c b ws v l ks s t ∷ Add_part ∷ js) vs W))
 
   -- a use whose unit is counted
   begun_use : (d : Call) (js : List Task) (vs : List Value) (n : ℕ)
@@ -243,13 +258,17 @@ module _ (run : Expander) (f : Background) where
       let D : Pieces → ℕ → Spending (List Value) = λ xs m. all_done run f js (In_row xs ∷ vs) m in
       let V : Pieces → Pieces → Pieces → ℕ → Spending Pieces = λ xs ys zs i. Yields (pieces_joined xs (pieces_joined zs (turned ys))) i in
       let F : Pieces → Pieces → ℕ → Spending Pieces = λ xs ys k. counted k (λ i. continued (run d i) (V xs ys)) in
-      sides_then c c b chain.left chain.right g.left g.right n F D
+      let begun : List Task = Links c b chain.left g.left ∷ Empty_row ∷ Links c b chain.right g.right ∷ Begin_use d ∷ Put_between ∷ js in
+      all_tested_same (trail (link_setting f b) chain.left g.left ++ stood c (led_all (link_setting f b) chain.left g.left))
+      (continued (links_written run f c b chain.left g.left n) (λ xs m. continued (links_written run f c b chain.right g.right m) (F xs)))
+      (Yields (pending begun (In_row no_piece ∷ vs)) n) D rest_of
+      (sides_then c c b chain.left chain.right g.left g.right n F D
       ∙ sides_same c c b chain.left chain.right g.left g.right n (λ xs ys k. continued (F xs ys k) D)
       (λ xs ys k. all_done run f (Begin_use d ∷ Put_between ∷ js) (In_row ys ∷ In_row xs ∷ vs) k)
       (λ xs ys k. counted_same k (λ i. continued (run d i) (V xs ys)) (λ i. with_row run f (In_row ys ∷ In_row xs ∷ vs) (run d i)) D
       (all_done run f (Put_between ∷ js)) (λ i.
       continued_twice (run d i) (V xs ys) D ∙ sym (row_then (Put_between ∷ js) (In_row ys ∷ In_row xs ∷ vs) (run d i))))
-      ∙ sym (two_sides c c b chain.left chain.right g.left g.right (Begin_use d ∷ Put_between ∷ js) vs n)
+      ∙ sym (two_sides c c b chain.left chain.right g.left g.right (Begin_use d ∷ Put_between ∷ js) vs n))
   goal_right c (Reduced_by g why) cs js vs n = sym (row_then js vs (whys_written run f c (basis_in run f c) why g.left g.right n))
   goal_right c (Derived g children) [] js vs n = refl
   goal_right c (Derived g children) (e ∷ cs) js vs n = begun_use (derive_call run f c g children e cs) js vs n
@@ -273,12 +292,14 @@ module _ (run : Expander) (f : Background) where
       let more : List Task = Put_behind Forth ∷ Occurrences c xs b last ps u ∷ js in
       let L : ℕ → Spending Pieces = λ m. continued (occurrence_use run f x d m) F in
       let N : ℕ → Spending Pending = λ m. case_step run f x d more (In_row v ∷ vs) m in
-      link_same n [] (whole_with c u) L N (with_more js v vs) rest_of (λ k.
+      all_tested_same (whole_with c here ∷ u ∷ []) (counted n (λ m. tested (whole_with c u) (L m))) (counted n (λ m. tested (whole_with c u) (N m)))
+      (with_more js v vs) rest_of
+      (link_same n [] (whole_with c u) L N (with_more js v vs) rest_of (λ k.
       continued_twice (occurrence_use run f x d k) F (with_more js v vs)
       ∙ continued_same (occurrence_use run f x d k) (λ ys i. continued (F ys i) (with_more js v vs))
       (λ ys i. all_done run f (Occurrences c xs b last ps u ∷ js) (In_row (pieces_joined v ys) ∷ vs) i)
       (λ ys i. pieces_go js v vs ys (occurrences_written run f c xs b last ps u i))
-      ∙ case_right x d more (In_row v ∷ vs) k)
+      ∙ case_right x d more (In_row v ∷ vs) k))
 
   place_right : (c : Call) (g : Place) (s : ℕ) (ts : Trees) (xs : List Layer) (cs : List Numbered) (js : List Task) (vs : List Value) (n : ℕ)
       → continued (through_place run f c g s ts xs cs n) (λ ys m. all_done run f js (In_row ys ∷ vs) m) ≡ continued
@@ -301,10 +322,14 @@ module _ (run : Expander) (f : Background) where
       let V : Pieces → Pieces → Pieces → ℕ → Spending Pieces = λ l r o j. Yields (pieces_joined l (pieces_joined o (turned r))) j in
       let F : Pieces → Pieces → ℕ → Spending Pieces = λ l r k. continued (O k) (V l r) in
       let middle : List Task = Occurrences co xs y last paths (instance σ last) ∷ Put_between ∷ js in
-      sides_then cl cr b ls ls start start n F D
+      let begun : List Task = Links cl b ls start ∷ Empty_row ∷ Links cr b ls start ∷ Empty_row ∷ middle in
+      all_tested_same (place_terms run f c g s ts xs e)
+      (continued (links_written run f cl b ls start n) (λ l m. continued (links_written run f cr b ls start m) (F l)))
+      (Yields (pending begun (In_row no_piece ∷ vs)) n) D rest_of
+      (sides_then cl cr b ls ls start start n F D
       ∙ sides_same cl cr b ls ls start start n (λ l r k. continued (F l r k) D) (λ l r k. all_done run f (Empty_row ∷ middle) (In_row r ∷ In_row l ∷ vs) k)
       (λ l r k. continued_twice (O k) (V l r) D ∙ sym (behind_then (Put_between ∷ js) no_piece (In_row r ∷ In_row l ∷ vs) (O k)))
-      ∙ sym (two_sides cl cr b ls ls start start (Empty_row ∷ middle) vs n)
+      ∙ sym (two_sides cl cr b ls ls start start (Empty_row ∷ middle) vs n))
 
   along_right : (c : Call) (xs : List Layer) (js : List Task) (vs : List Value) (n : ℕ)
       → continued (ly run f c xs n) (λ ys m. all_done run f js (In_row ys ∷ vs) m) ≡ continued (along_step run f c xs js vs n) rest_of
@@ -364,7 +389,8 @@ pub worked_right : (k : ℕ) (th : Theory) (p : Proof) (goal : ℕ) (ws : List W
 worked_right k th p goal ws =
     let g : Followed = followed_at (goals_of th p 0 [] p.blocks) goal in
     let cs : List Numbered = numbered_entries th ws in
-    ap (λ o. tested (on (bare_entries cs) (goal_in g.history).left) (tested (on (bare_entries cs) (goal_in g.history).right) o))
+    ap (λ o. all_tested (stages (bare_entries cs) (goal_in g.history).left ++ stages (bare_entries cs) (goal_in g.history).right)
+    (tested (on (bare_entries cs) (goal_in g.history).left) (tested (on (bare_entries cs) (goal_in g.history).right) o)))
     (begins_right (background_of th p) (opening_use th p goal ws) k)
 
 pub rest_right : (f : Background) (j : Task) (js : List Task) (vs : List Value) (n : ℕ)

@@ -31,7 +31,7 @@ use Rattle.circ_proof.specs.Proof.{Proof}
 use Rattle.circ_proof.specs.Accepted.{certificates_of}
 use Rattle.circ_entry.specs.Entries.{Written, Numbered, numbered_entries, bare_entries, derivative_at}
 use Rattle.circ_expand.specs.Followed.{History, Histories, Simplified, Reduced_by, Derived, Open, goal_in, first_history, other_histories, Followed, put_or_same}
-use Rattle.circ_expand.specs.Followed.{led, led_all, hypotheses_of, goals_of}
+use Rattle.circ_expand.specs.Followed.{led, led_all, new_of, hypotheses_of, goals_of}
 use Rattle.circ_expand.specs.Pieces.{Piece, Pieces, Parts, Equation_piece, Content_piece, Assumption_piece, Cases_piece, no_piece, more_pieces, no_part}
 use Rattle.circ_expand.specs.Pieces.{more_parts, pieces_joined, turned, bounds_by}
 
@@ -133,6 +133,32 @@ whole_with c t = put_or_same c.whole (base c) t
 abbrev pub around : Call → Tree → Tree
 around c t = whole_with c (instance c.by t)
 
+-- Terms of which a whole term is made are tested before it: a term of the proof, what a link puts into it, and their instances. Of an accepted proof none of
+-- them is past a limit where the whole is not.
+
+-- a term of the proof under the substitution, and the whole with it
+abbrev pub stood : Call → Tree → List Tree
+stood c t = instance c.by t ∷ around c t ∷ []
+
+-- what a link puts at its path, and the term that comes of it
+abbrev pub link_terms : Setting → LinkOf Tree → Tree → List Tree
+link_terms S l t = new_of S l ∷ led S l t ∷ []
+
+-- the same of links one after another
+abbrev pub trail : Setting → List (LinkOf Tree) → Tree → List Tree
+trail S [] t = []
+trail S (l ∷ ls) t = link_terms S l t ++ trail S ls (led S l t)
+
+-- a term within layers, from the innermost
+abbrev pub risen : List Layer → Tree → List Tree
+risen [] t = t ∷ []
+risen (x ∷ xs) t = risen xs t ++ layered (x ∷ xs) t ∷ []
+
+-- the experiment on a term, entry by entry
+abbrev pub stages : List Entry → Tree → List Tree
+stages [] t = []
+stages (c ∷ cs) t = derived c.derivative t c.parameters ∷ stages cs (derived c.derivative t c.parameters)
+
 -- ---- links of one side
 
 abbrev pub and_piece : Piece → Spending Pieces → Spending Pieces
@@ -189,22 +215,26 @@ module _ (run : Expander) (f : Background) where
   links_written c b (Equation_link number way path terms conds ∷ ls) t n =
       let u = led (link_setting f b) (Equation_link number way path terms conds) t in
       let vs = map (instance c.by) terms in
-      counted n (λ m. all_tested vs (tested (around c u) (and_piece (Equation_piece number way (base c ++ path) vs) (links_written c b ls u m))))
+      all_tested (link_terms (link_setting f b) (Equation_link number way path terms conds) t)
+      (counted n (λ m. all_tested vs (tested (around c u) (and_piece (Equation_piece number way (base c ++ path) vs) (links_written c b ls u m)))))
   links_written c b (Content_link op path term ∷ ls) t n =
       let u = led (link_setting f b) (Content_link op path term) t in
       let old = unwrap_or (at t path) t in
-      counted n (λ m. tested (instance c.by term) (tested (around c u)
-      (and_piece (Content_piece op (base c ++ path) old term (bounds_of c.by old term)) (links_written c b ls u m))))
+      all_tested (link_terms (link_setting f b) (Content_link op path term) t)
+      (counted n (λ m. tested (instance c.by term) (tested (around c u)
+      (and_piece (Content_piece op (base c ++ path) old term (bounds_of c.by old term)) (links_written c b ls u m)))))
   links_written c b (Assumption_link number way path ∷ ls) t n =
       let u = led (link_setting f b) (Assumption_link number way path) t in
-      counted n (λ m. tested (around c u) (and_piece (Assumption_piece (b.raised + number) way (base c ++ path)) (links_written c b ls u m)))
+      all_tested (link_terms (link_setting f b) (Assumption_link number way path) t)
+      (counted n (λ m. tested (around c u) (and_piece (Assumption_piece (b.raised + number) way (base c ++ path)) (links_written c b ls u m))))
   links_written c b (Hypothesis_link number way path terms conds ∷ ls) t n =
       let u = led (link_setting f b) (Hypothesis_link number way path terms conds) t in
       let vs = map (instance c.by) terms in
       let h = followed_at b.hypotheses number in
-      counted n (λ m. all_tested vs (tested (around c u)
+      all_tested (link_terms (link_setting f b) (Hypothesis_link number way path terms conds) t ++ stood c t)
+      (counted n (λ m. all_tested vs (tested (around c u)
       (continued (run (hypothesis_call f c h way path t u (by_terms (goal_in h.history) vs)) m)
-      (λ xs k. and_pieces (by_way way xs) (links_written c b ls u k)))))
+      (λ xs k. and_pieces (by_way way xs) (links_written c b ls u k))))))
 
   -- ---- Ex
 
@@ -223,18 +253,20 @@ module _ (run : Expander) (f : Background) where
     whys_written c b (Same_why chain) s t n =
         continued (links_written c b chain.left s n) (λ xs m. continued (links_written c b chain.right t m) (λ ys k. Yields (pieces_joined xs (turned ys)) k))
     whys_written c b (Split_why chain term ws) s t n =
-        continued (links_written c b chain.left s n) (λ xs m. continued (links_written c b chain.right t m) (λ ys k.
+        all_tested (trail (link_setting f b) chain.left s ++ trail (link_setting f b) chain.right t)
+        (continued (links_written c b chain.left s n) (λ xs m. continued (links_written c b chain.right t m) (λ ys k.
         counted k (λ j. tested (instance c.by term)
         (continued (each_why c b ws term (cases_at (sort_of term)) (cases_at (sort_of term)).constants
         (led_all (link_setting f b) chain.left s) (led_all (link_setting f b) chain.right t) j)
-        (λ ps i. Yields (pieces_joined xs (more_pieces (Cases_piece (instance c.by term) ps) (turned ys))) i)))))
+        (λ ps i. Yields (pieces_joined xs (more_pieces (Cases_piece (instance c.by term) ps) (turned ys))) i))))))
 
     pub each_why : Call → Basis → WhysOf Tree → (term : Tree) → CaseList → (constants : List ℕ) → (left right : Tree) → ℕ → Spending Parts
     each_why c b no_why v l ks s t n = Yields no_part n
     each_why c b (more_whys w ws) v l [] s t n = Yields no_part n
     each_why c b (more_whys w ws) v l (k ∷ ks) s t n =
-        continued (whys_written (case_call c s (is_case (instance c.by v) l k)) (case_basis b (is_case v l k)) w s t n)
-        (λ p m. continued (each_why c b ws v l ks s t m) (λ ps j. Yields (more_parts p ps) j))
+        all_tested (instance c.by v ∷ stood c s)
+        (continued (whys_written (case_call c s (is_case (instance c.by v) l k)) (case_basis b (is_case v l k)) w s t n)
+        (λ p m. continued (each_why c b ws v l ks s t m) (λ ps j. Yields (more_parts p ps) j)))
 
 -- the substitution with the parameters of an entry, as variables numbered from k
 abbrev pub extended : Derivative → (k : ℕ) → Substitution → Substitution → Substitution
@@ -266,10 +298,12 @@ module _ (run : Expander) (f : Background) where
   abbrev pub ex : Call → History → List Numbered → ℕ → Spending Pieces
   ex c Open cs n = Stopped
   ex c (Simplified g chain h) cs n =
-      continued (links_written run f c (basis_in c) chain.left g.left n) (λ xs m.
+      let s = led_all (link_setting f (basis_in c)) chain.left g.left in
+      all_tested (trail (link_setting f (basis_in c)) chain.left g.left ++ stood c s)
+      (continued (links_written run f c (basis_in c) chain.left g.left n) (λ xs m.
       continued (links_written run f c (basis_in c) chain.right g.right m) (λ ys k.
-      counted k (λ j. continued (run (simplified_call c (led_all (link_setting f (basis_in c)) chain.left g.left) h) j)
-      (λ zs i. Yields (pieces_joined xs (pieces_joined zs (turned ys))) i))))
+      counted k (λ j. continued (run (simplified_call c s h) j)
+      (λ zs i. Yields (pieces_joined xs (pieces_joined zs (turned ys))) i)))))
   ex c (Reduced_by g why) cs n = whys_written run f c (basis_in c) why g.left g.right n
   ex c (Derived g children) [] n = Stopped
   ex c (Derived g children) (e ∷ cs) n = counted n (run (derive_call c g children e cs))
@@ -358,9 +392,10 @@ module _ (run : Expander) (f : Background) where
   abbrev pub occurrences_written : Call → List Layer → (b last : Tree) → List (List ℕ) → (here : Tree) → ℕ → Spending Pieces
   occurrences_written c xs b last [] here n = Yields no_piece n
   occurrences_written c xs b last (p ∷ ps) here n =
-      counted n (λ m. tested (whole_with c (put_or_same here p b))
+      all_tested (whole_with c here ∷ put_or_same here p b ∷ [])
+      (counted n (λ m. tested (whole_with c (put_or_same here p b))
       (continued (occurrence_use (guard_case f.theory f.places last p) (occurrence_call c xs here p (guard_case f.theory f.places last p)) m)
-      (λ ys k. and_pieces ys (occurrences_written c xs b last ps (put_or_same here p b) k))))
+      (λ ys k. and_pieces ys (occurrences_written c xs b last ps (put_or_same here p b) k)))))
 
   -- the derivative of the entry on the operator with this term at the place
   abbrev pub derived_place : Place → (sort : ℕ) → Trees → Entry → Tree → Tree
@@ -379,6 +414,17 @@ module _ (run : Expander) (f : Background) where
   abbrev pub right_here : Call → List Layer → Tree
   right_here c xs = layered xs (instance c.by (goal_in c.goal.history).right)
 
+  -- the terms of a use at a place: the certificate's, and those that stand at the place with a side of the goal in it
+  abbrev pub place_terms : Call → Place → (sort : ℕ) → Trees → List Layer → Numbered → List Tree
+  place_terms c g s ts xs e =
+      let start = start_at f.theory g e.entry.derivative in
+      let ls = f.certificate g e.number in
+      let ys = By_entry e ∷ At_place g.op s g.arg ts ∷ xs in
+      let left = instance c.by (goal_in c.goal.history).left in
+      let right = instance c.by (goal_in c.goal.history).right in
+      let σ = matching start (layered ys left) in
+      start ∷ (trail (link_setting f no_basis) ls start ++ (risen ys left ++ (risen ys right ++ instance σ (led_all (link_setting f no_basis) ls start) ∷ [])))
+
   -- the certificate of a place and the first entry, forwards from the left end and from the right end, and between them its occurrences
   abbrev pub through_place : Call → Place → (sort : ℕ) → Trees → List Layer → List Numbered → ℕ → Spending Pieces
   through_place c g s ts xs [] n = Stopped
@@ -389,10 +435,11 @@ module _ (run : Expander) (f : Background) where
       let τ = matching start (derived_place g s ts e.entry (right_here c xs)) in
       let last = led_all (link_setting f no_basis) ls start in
       let paths = paths_of 0 (arg_sort f.theory g) last in
-      continued (links_written run f (certified_call c cs σ) no_basis ls start n) (λ l m.
+      all_tested (place_terms c g s ts xs e)
+      (continued (links_written run f (certified_call c cs σ) no_basis ls start n) (λ l m.
       continued (links_written run f (certified_call c cs τ) no_basis ls start m) (λ r k.
       continued (occurrences_written (record c { entries = cs }) xs (right_here c xs) last paths (instance σ last) k) (λ o j.
-      Yields (pieces_joined l (pieces_joined o (turned r))) j)))
+      Yields (pieces_joined l (pieces_joined o (turned r))) j))))
 
   abbrev pub ly : Call → List Layer → ℕ → Spending Pieces
   ly c [] n = counted n (run (record c { along = None }))
@@ -454,4 +501,5 @@ expansion k th p goal ws =
     let s = on (bare_entries cs) (goal_in g.history).left in
     let t = on (bare_entries cs) (goal_in g.history).right in
     let whole : Call = record { whole = s; path = []; entries = cs; along = None; goal = g; by = Var; assumptions = [] } in
-    tested s (tested t (counted k (uses k (background_of th p) whole)))
+    all_tested (stages (bare_entries cs) (goal_in g.history).left ++ stages (bare_entries cs) (goal_in g.history).right)
+    (tested s (tested t (counted k (uses k (background_of th p) whole))))

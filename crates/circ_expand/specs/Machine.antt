@@ -24,7 +24,7 @@ use Rattle.circ_expand.specs.Expand.{base, whole_with, around, by_way, followed_
 use Rattle.circ_expand.specs.Expand.{case_basis}
 use Rattle.circ_expand.specs.Expand.{case_call, whys_written, each_why, derive_call, simplified_call, basis_in, Case, Visible_case, Place_case, Hidden_case}
 use Rattle.circ_expand.specs.Expand.{No_case, guard_case, paths_of, arg_sort, start_at, occurrence_call, occurrences_written, derived_place, certified_call}
-use Rattle.circ_expand.specs.Expand.{no_basis}
+use Rattle.circ_expand.specs.Expand.{no_basis, stood, link_terms, trail, stages, place_terms}
 use Rattle.circ_expand.specs.Expand.{left_here, right_here, uses, background_of}
 
 -- what is written so far: pieces in a row, or parts of cases
@@ -132,23 +132,27 @@ module _ (run : Expander) (f : Background) where
       let u = led (link_setting f b) (Equation_link number way path terms conds) t in
       let ts = map (instance c.by) terms in
       let x = Equation_piece number way (base c ++ path) ts in
-      counted n (λ m. all_tested ts (tested (around c u) (Yields (pending (Links c b ls u ∷ js) (In_row (pieces_joined v (more_pieces x no_piece)) ∷ vs)) m)))
+      all_tested (link_terms (link_setting f b) (Equation_link number way path terms conds) t)
+      (counted n (λ m. all_tested ts (tested (around c u) (Yields (pending (Links c b ls u ∷ js) (In_row (pieces_joined v (more_pieces x no_piece)) ∷ vs)) m))))
   links_step c b (Content_link op path term ∷ ls) t js v vs n =
       let u = led (link_setting f b) (Content_link op path term) t in
       let old = unwrap_or (at t path) t in
       let x = Content_piece op (base c ++ path) old term (bounds_of c.by old term) in
-      counted n (λ m. tested (instance c.by term) (tested (around c u)
-      (Yields (pending (Links c b ls u ∷ js) (In_row (pieces_joined v (more_pieces x no_piece)) ∷ vs)) m)))
+      all_tested (link_terms (link_setting f b) (Content_link op path term) t)
+      (counted n (λ m. tested (instance c.by term) (tested (around c u)
+      (Yields (pending (Links c b ls u ∷ js) (In_row (pieces_joined v (more_pieces x no_piece)) ∷ vs)) m))))
   links_step c b (Assumption_link number way path ∷ ls) t js v vs n =
       let u = led (link_setting f b) (Assumption_link number way path) t in
       let x = Assumption_piece (b.raised + number) way (base c ++ path) in
-      counted n (λ m. tested (around c u) (Yields (pending (Links c b ls u ∷ js) (In_row (pieces_joined v (more_pieces x no_piece)) ∷ vs)) m))
+      all_tested (link_terms (link_setting f b) (Assumption_link number way path) t)
+      (counted n (λ m. tested (around c u) (Yields (pending (Links c b ls u ∷ js) (In_row (pieces_joined v (more_pieces x no_piece)) ∷ vs)) m)))
   links_step c b (Hypothesis_link number way path terms conds ∷ ls) t js v vs n =
       let u = led (link_setting f b) (Hypothesis_link number way path terms conds) t in
       let ts = map (instance c.by) terms in
       let h = followed_at b.hypotheses number in
       let d = hypothesis_call f c h way path t u (by_terms (goal_in h.history) ts) in
-      counted n (λ m. all_tested ts (tested (around c u) (Yields (pending (Enter_use d ∷ Put_behind way ∷ Links c b ls u ∷ js) (In_row v ∷ vs)) m)))
+      all_tested (link_terms (link_setting f b) (Hypothesis_link number way path terms conds) t ++ stood c t)
+      (counted n (λ m. all_tested ts (tested (around c u) (Yields (pending (Enter_use d ∷ Put_behind way ∷ Links c b ls u ∷ js) (In_row v ∷ vs)) m))))
 
   abbrev pub reason_step : Call → Basis → WhyOf Tree → (s t : Tree) → List Task → List Value → ℕ → Spending Pending
   reason_step c b (Same_why chain) s t js vs n =
@@ -159,7 +163,8 @@ module _ (run : Expander) (f : Background) where
       let z = led_all (link_setting f b) chain.right t in
       let u = instance c.by term in
       let split = Begin_split u ∷ Give_reasons c b ws term l l.constants y z ∷ End_split u ∷ Put_between ∷ js in
-      Yields (pending (Links c b chain.left s ∷ Empty_row ∷ Links c b chain.right t ∷ split) (In_row no_piece ∷ vs)) n
+      all_tested (trail (link_setting f b) chain.left s ++ trail (link_setting f b) chain.right t)
+      (Yields (pending (Links c b chain.left s ∷ Empty_row ∷ Links c b chain.right t ∷ split) (In_row no_piece ∷ vs)) n)
 
   abbrev pub reasons_step : Call → Basis → WhysOf Tree → Tree → CaseList → List ℕ → (s t : Tree) → List Task → List Value → ℕ → Spending Pending
   reasons_step c b no_why v l ks s t js vs n = Yields (pending js (In_parts no_part ∷ vs)) n
@@ -167,14 +172,16 @@ module _ (run : Expander) (f : Background) where
   reasons_step c b (more_whys w ws) v l (k ∷ ks) s t js vs n =
       let d = case_call run f c s (is_case (instance c.by v) l k) in
       let e = case_basis run f b (is_case v l k) in
-      Yields (pending (Give_reason d e w s t ∷ Give_reasons c b ws v l ks s t ∷ Add_part ∷ js) vs) n
+      all_tested (instance c.by v ∷ stood c s) (Yields (pending (Give_reason d e w s t ∷ Give_reasons c b ws v l ks s t ∷ Add_part ∷ js) vs) n)
 
   abbrev pub goal_step : Call → History → List Numbered → List Task → List Value → ℕ → Spending Pending
   goal_step c Open cs js vs n = Stopped
   goal_step c (Simplified g chain h) cs js vs n =
       let b = basis_in run f c in
-      let d = simplified_call run f c (led_all (link_setting f b) chain.left g.left) h in
-      Yields (pending (Links c b chain.left g.left ∷ Empty_row ∷ Links c b chain.right g.right ∷ Begin_use d ∷ Put_between ∷ js) (In_row no_piece ∷ vs)) n
+      let s = led_all (link_setting f b) chain.left g.left in
+      let d = simplified_call run f c s h in
+      all_tested (trail (link_setting f b) chain.left g.left ++ stood c s)
+      (Yields (pending (Links c b chain.left g.left ∷ Empty_row ∷ Links c b chain.right g.right ∷ Begin_use d ∷ Put_between ∷ js) (In_row no_piece ∷ vs)) n)
   goal_step c (Reduced_by g why) cs js vs n = Yields (pending (Give_reason c (basis_in run f c) why g.left g.right ∷ js) vs) n
   goal_step c (Derived g children) [] js vs n = Stopped
   goal_step c (Derived g children) (e ∷ cs) js vs n = Yields (pending (Begin_use (derive_call run f c g children e cs) ∷ js) vs) n
@@ -191,7 +198,7 @@ module _ (run : Expander) (f : Background) where
       let paths = paths_of 0 (arg_sort f.theory g) last in
       let middle = Occurrences (record c { entries = cs }) xs (right_here run f c xs) last paths (instance σ last) in
       let both = Links (certified_call run f c cs σ) b ls start ∷ Empty_row ∷ Links (certified_call run f c cs τ) b ls start ∷ Empty_row ∷ [] in
-      Yields (pending (both ++ middle ∷ Put_between ∷ js) (In_row no_piece ∷ vs)) n
+      all_tested (place_terms run f c g s ts xs e) (Yields (pending (both ++ middle ∷ Put_between ∷ js) (In_row no_piece ∷ vs)) n)
 
   abbrev pub along_step : Call → List Layer → List Task → List Value → ℕ → Spending Pending
   along_step c [] js vs n = Yields (pending (Begin_use (record c { along = None }) ∷ js) vs) n
@@ -214,8 +221,9 @@ module _ (run : Expander) (f : Background) where
   occurrences_step c xs b last (p ∷ ps) here js v vs n =
       let k = guard_case f.theory f.places last p in
       let u = put_or_same here p b in
-      counted n (λ m. tested (whole_with c u)
-      (case_step k (occurrence_call run f c xs here p k) (Put_behind Forth ∷ Occurrences c xs b last ps u ∷ js) (In_row v ∷ vs) m))
+      all_tested (whole_with c here ∷ u ∷ [])
+      (counted n (λ m. tested (whole_with c u)
+      (case_step k (occurrence_call run f c xs here p k) (Put_behind Forth ∷ Occurrences c xs b last ps u ∷ js) (In_row v ∷ vs) m)))
 
   abbrev pub task_step : Task → List Task → List Value → ℕ → Spending Pending
   task_step (Links c b ls t) js vs n = on_row vs (λ v us. links_step c b ls t js v us n)
@@ -260,8 +268,9 @@ abbrev pub worked_off : (units : ℕ) → Theory → Proof → (goal : ℕ) → 
 worked_off k th p goal ws =
     let g = followed_at (goals_of th p 0 [] p.blocks) goal in
     let cs = numbered_entries th ws in
-    tested (on (bare_entries cs) (goal_in g.history).left) (tested (on (bare_entries cs) (goal_in g.history).right)
-    (continued (rest_done (background_of th p) (pending (Begin_use (opening_use th p goal ws) ∷ []) []) k) last_row))
+    all_tested (stages (bare_entries cs) (goal_in g.history).left ++ stages (bare_entries cs) (goal_in g.history).right)
+    (tested (on (bare_entries cs) (goal_in g.history).left) (tested (on (bare_entries cs) (goal_in g.history).right)
+    (continued (rest_done (background_of th p) (pending (Begin_use (opening_use th p goal ws) ∷ []) []) k) last_row)))
 
 -- ---- that it ends
 

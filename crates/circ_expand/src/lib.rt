@@ -8,8 +8,26 @@
 //! [`goal_misfit`] tells whether there is such a goal, and whether the experiment fits it.
 #![tactic(auto)]
 
+mod book;
+mod by;
+mod certified;
+mod fault;
+mod fitting;
 mod goals;
+mod guards;
+mod histories;
 mod laws;
+mod leading;
+mod links;
+mod matching;
+mod meetings;
+mod paths;
+mod rows;
+mod uses;
+mod valuation;
+mod variables;
 
+pub use fault::ExpandFault;
 pub use goals::{goal_misfit, goal_numbered};
 pub use laws::{expansion_is_worked_off, expansion_leads};
+pub use rows::{Given, Row};
