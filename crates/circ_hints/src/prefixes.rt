@@ -72,10 +72,7 @@ impl Reader<'_> {
         if !self.reads(next(equals), to)? {
             return self.unread_term(next(equals), to);
         }
-        Ok(Some(Mark::at(
-            from,
-            "each side spells a term, but not both of one sort",
-        )))
+        Ok(Some(Mark::at(from, "each side spells a term, but not both of one sort")))
     }
 
     /// The mark behind the longest part of a term that reads.
