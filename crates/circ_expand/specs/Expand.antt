@@ -422,8 +422,7 @@ module _ (run : Expander) (f : Background) where
       let ys = By_entry e ∷ At_place g.op s g.arg ts ∷ xs in
       let left = instance c.by (goal_in c.goal.history).left in
       let right = instance c.by (goal_in c.goal.history).right in
-      let σ = matching start (layered ys left) in
-      start ∷ (trail (link_setting f no_basis) ls start ++ (risen ys left ++ (risen ys right ++ instance σ (led_all (link_setting f no_basis) ls start) ∷ [])))
+      start ∷ (trail (link_setting f no_basis) ls start ++ (risen ys left ++ risen ys right))
 
   -- the certificate of a place and the first entry, forwards from the left end and from the right end, and between them its occurrences
   abbrev pub through_place : Call → Place → (sort : ℕ) → Trees → List Layer → List Numbered → ℕ → Spending Pieces
