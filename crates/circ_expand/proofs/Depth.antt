@@ -205,7 +205,7 @@ module _ (f : Background) (run ran : Expander) (k : ℕ) (same : AreAlike run ra
       let R : Pieces → Pieces → ℕ → Spending Pieces = λ xs ys i. continued (ran d i) (V xs ys) in
       let F : Pieces → ℕ → Spending Pieces = λ xs m. continued (links_written run f c b chain.right g.right m) (λ ys j. counted j (L xs ys)) in
       let G : Pieces → ℕ → Spending Pieces = λ xs m. continued (links_written ran f c b chain.right g.right m) (λ ys j. counted j (R xs ys)) in
-      alike_all_tested n (trail (link_setting f b) chain.left g.left ++ stood c (led_all (link_setting f b) chain.left g.left))
+      alike_all_tested n (trail (link_setting f b) chain.left g.left)
       (continued (links_written run f c b chain.left g.left n) F) (continued (links_written ran f c b chain.left g.left n) G)
       (alike_on n (links_written run f c b chain.left g.left n) (links_written ran f c b chain.left g.left n) F G (links_alike c b chain.left g.left n le)
       (λ xs m lm.
@@ -238,7 +238,7 @@ module _ (f : Background) (run ran : Expander) (k : ℕ) (same : AreAlike run ra
       let G : Pieces → ℕ → Spending Pieces = λ ys i. and_pieces ys (occurrences_written ran f c xs b last ps v i) in
       let L : ℕ → Spending Pieces = λ m. continued (occurrence_use run f x d m) F in
       let R : ℕ → Spending Pieces = λ m. continued (occurrence_use ran f x d m) G in
-      alike_all_tested n (whole_with c here ∷ v ∷ []) (counted n (λ m. tested (whole_with c v) (L m))) (counted n (λ m. tested (whole_with c v) (R m)))
+      alike_all_tested n (whole_with c here ∷ []) (counted n (λ m. tested (whole_with c v) (L m))) (counted n (λ m. tested (whole_with c v) (R m)))
       (alike_counted n (λ m. tested (whole_with c v) (L m)) (λ m. tested (whole_with c v) (R m)) (λ j lt.
       alike_tested j (whole_with c v) (L j) (R j)
       (alike_on j (occurrence_use run f x d j) (occurrence_use ran f x d j) F G (occurrence_alike x d j (omega (arith, lt, le))) (λ ys i li.

@@ -132,7 +132,7 @@ module _ (run : Expander) (f : Background) where
   goal_down c Open cs js vs n = tt
   goal_down c (Simplified g chain h) cs js vs n =
       let S = link_setting f (basis_in run f c) in
-      all_tested_down n (goal_weight (Simplified g chain h) + tasks_weight js) (trail S chain.left g.left ++ stood c (led_all S chain.left g.left)) _
+      all_tested_down n (goal_weight (Simplified g chain h) + tasks_weight js) (trail S chain.left g.left) _
       (inr (refl, omega arith))
   goal_down c (Reduced_by g why) cs js vs n = inr (refl, omega arith)
   goal_down c (Derived g children) [] js vs n = tt
@@ -175,7 +175,7 @@ module _ (run : Expander) (f : Background) where
       let u : Tree = put_or_same here p b in
       let next : ℕ → Spending Pending = λ m. case_step run f k (occurrence_call run f c xs here p k) (Put_behind Forth ∷ Occurrences c xs b last ps u ∷ js)
       (In_row v ∷ vs) m in
-      all_tested_down n (1 + tasks_weight js) (whole_with c here ∷ u ∷ []) (counted n (λ m. tested (whole_with c u) (next m)))
+      all_tested_down n (1 + tasks_weight js) (whole_with c here ∷ []) (counted n (λ m. tested (whole_with c u) (next m)))
       (counted_down n (1 + tasks_weight js) (λ m. tested (whole_with c u) (next m)) (λ m.
       tested_keeps m (whole_with c u) (next m) (case_keeps k (occurrence_call run f c xs here p k) (Put_behind Forth ∷ Occurrences c xs b last ps u ∷ js)
       (In_row v ∷ vs) m)))

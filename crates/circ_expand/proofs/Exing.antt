@@ -162,7 +162,7 @@ module _ (f : Background) (fr : IsBackground f) (run : Expander) (d : ℕ) (so :
       let SR : Pieces → Type 0 = Sided f c (instance c.by t) (instance c.by q.right) in
       let M : Tree → Pieces → Type 0 = λ y ys. PiecesLead th c.assumptions ys (around c q.left) y in
       let both : Pieces → ℕ → Spending Pieces = λ l k. continued (links_written run f c b chain.right t k) (λ r j. rest sl l r j) in
-      goes_all_tested P n (trail S chain.left s ++ stood c sl) (continued (links_written run f c b chain.left s n) both)
+      goes_all_tested P n (trail S chain.left s) (continued (links_written run f c b chain.left s n) both)
       (goes_on SL P n (links_written run f c b chain.left s n) both
       (links_lead f fr run d so c (instance c.by s) st b full.basis chain.left i.1.0.0 i.1.1.0 s q.left i.0.sorted.left i.2.left el refl n le)
       (λ l k lk gl. goes_on SR P k (links_written run f c b chain.right t k) (λ r j. rest sl l r j)

@@ -48,7 +48,7 @@ module _ (f : Background) (fr : IsBackground f) (run : Expander) (depth : ℕ) (
       let kept = replaced_sorted th p u (σ 0 s) (τ 0 s) v wu ch.old (record { well_sorted = z.1; same_sort = z.0 ∙ sym a.0 }) ch.new in
       let whole = whole_sorted f c x st u v eu.well_sorted kept.well_sorted kept.same_sort in
       let is_case = case_holds th fr.well_formed f.places last s p (guarded p ch.variable) in
-      goes_all_tested S n (whole_with c u ∷ put_or_same u p b ∷ []) (counted n (F (put_or_same u p b)))
+      goes_all_tested S n (whole_with c u ∷ []) (counted n (F (put_or_same u p b)))
       (subst G (sym first_is)
       (goes_counted S n (F v) (λ j lt.
       goes_tested S j (whole_with c v) (continued (step j) (rest v)) (λ h.

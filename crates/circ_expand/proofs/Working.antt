@@ -259,7 +259,7 @@ module _ (run : Expander) (f : Background) where
       let V : Pieces → Pieces → Pieces → ℕ → Spending Pieces = λ xs ys zs i. Yields (pieces_joined xs (pieces_joined zs (turned ys))) i in
       let F : Pieces → Pieces → ℕ → Spending Pieces = λ xs ys k. counted k (λ i. continued (run d i) (V xs ys)) in
       let begun : List Task = Links c b chain.left g.left ∷ Empty_row ∷ Links c b chain.right g.right ∷ Begin_use d ∷ Put_between ∷ js in
-      all_tested_same (trail (link_setting f b) chain.left g.left ++ stood c (led_all (link_setting f b) chain.left g.left))
+      all_tested_same (trail (link_setting f b) chain.left g.left)
       (continued (links_written run f c b chain.left g.left n) (λ xs m. continued (links_written run f c b chain.right g.right m) (F xs)))
       (Yields (pending begun (In_row no_piece ∷ vs)) n) D rest_of
       (sides_then c c b chain.left chain.right g.left g.right n F D
@@ -292,7 +292,7 @@ module _ (run : Expander) (f : Background) where
       let more : List Task = Put_behind Forth ∷ Occurrences c xs b last ps u ∷ js in
       let L : ℕ → Spending Pieces = λ m. continued (occurrence_use run f x d m) F in
       let N : ℕ → Spending Pending = λ m. case_step run f x d more (In_row v ∷ vs) m in
-      all_tested_same (whole_with c here ∷ u ∷ []) (counted n (λ m. tested (whole_with c u) (L m))) (counted n (λ m. tested (whole_with c u) (N m)))
+      all_tested_same (whole_with c here ∷ []) (counted n (λ m. tested (whole_with c u) (L m))) (counted n (λ m. tested (whole_with c u) (N m)))
       (with_more js v vs) rest_of
       (link_same n [] (whole_with c u) L N (with_more js v vs) rest_of (λ k.
       continued_twice (occurrence_use run f x d k) F (with_more js v vs)

@@ -133,8 +133,8 @@ whole_with c t = put_or_same c.whole (base c) t
 abbrev pub around : Call → Tree → Tree
 around c t = whole_with c (instance c.by t)
 
--- Terms of which a whole term is made are tested before it: a term of the proof, what a link puts into it, and their instances. Of an accepted proof none of
--- them is past a limit where the whole is not.
+-- Terms of which a whole term is made are tested before it: terms of the proof, and wholes that an earlier unit tested. Of an accepted proof none of
+-- them is past a limit, so no fault comes out of the order of units.
 
 -- a term of the proof under the substitution, and the whole with it
 abbrev pub stood : Call → Tree → List Tree
@@ -299,7 +299,7 @@ module _ (run : Expander) (f : Background) where
   ex c Open cs n = Stopped
   ex c (Simplified g chain h) cs n =
       let s = led_all (link_setting f (basis_in c)) chain.left g.left in
-      all_tested (trail (link_setting f (basis_in c)) chain.left g.left ++ stood c s)
+      all_tested (trail (link_setting f (basis_in c)) chain.left g.left)
       (continued (links_written run f c (basis_in c) chain.left g.left n) (λ xs m.
       continued (links_written run f c (basis_in c) chain.right g.right m) (λ ys k.
       counted k (λ j. continued (run (simplified_call c s h) j)
@@ -392,7 +392,7 @@ module _ (run : Expander) (f : Background) where
   abbrev pub occurrences_written : Call → List Layer → (b last : Tree) → List (List ℕ) → (here : Tree) → ℕ → Spending Pieces
   occurrences_written c xs b last [] here n = Yields no_piece n
   occurrences_written c xs b last (p ∷ ps) here n =
-      all_tested (whole_with c here ∷ put_or_same here p b ∷ [])
+      all_tested (whole_with c here ∷ [])
       (counted n (λ m. tested (whole_with c (put_or_same here p b))
       (continued (occurrence_use (guard_case f.theory f.places last p) (occurrence_call c xs here p (guard_case f.theory f.places last p)) m)
       (λ ys k. and_pieces ys (occurrences_written c xs b last ps (put_or_same here p b) k)))))

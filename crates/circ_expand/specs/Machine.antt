@@ -180,7 +180,7 @@ module _ (run : Expander) (f : Background) where
       let b = basis_in run f c in
       let s = led_all (link_setting f b) chain.left g.left in
       let d = simplified_call run f c s h in
-      all_tested (trail (link_setting f b) chain.left g.left ++ stood c s)
+      all_tested (trail (link_setting f b) chain.left g.left)
       (Yields (pending (Links c b chain.left g.left ∷ Empty_row ∷ Links c b chain.right g.right ∷ Begin_use d ∷ Put_between ∷ js) (In_row no_piece ∷ vs)) n)
   goal_step c (Reduced_by g why) cs js vs n = Yields (pending (Give_reason c (basis_in run f c) why g.left g.right ∷ js) vs) n
   goal_step c (Derived g children) [] js vs n = Stopped
@@ -221,7 +221,7 @@ module _ (run : Expander) (f : Background) where
   occurrences_step c xs b last (p ∷ ps) here js v vs n =
       let k = guard_case f.theory f.places last p in
       let u = put_or_same here p b in
-      all_tested (whole_with c here ∷ u ∷ [])
+      all_tested (whole_with c here ∷ [])
       (counted n (λ m. tested (whole_with c u)
       (case_step k (occurrence_call run f c xs here p k) (Put_behind Forth ∷ Occurrences c xs b last ps u ∷ js) (In_row v ∷ vs) m)))
 
