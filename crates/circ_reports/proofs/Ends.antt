@@ -9,7 +9,7 @@ use Rattle.circ_outer.specs.Shelf.{ShelfState}
 use Rattle.circ_script.specs.Script.{Script}
 use Rattle.circ_script.specs.declared.job.Job.TheVariants as job
 use Rattle.circ_files.specs.ScriptFile.{TakesScript}
-use Rattle.circ_files.specs.TheoryFile.{TakesPlainTheory}
+use Rattle.circ_files.specs.TheoryFile.{TakesTheory}
 use Rattle.circ_reports.specs.Reduce.{Reduced, Results, Spent, Past_limit, EndsWith, Ends, FaultEnds, reduced, limit_status, fault_status}
 use Rattle.circ_reports.specs.Reduce.{RefusesReduce, theory_fault, term_ends}
 use Rattle.circ_files.specs.declared.status.Status.{Status}
@@ -60,7 +60,7 @@ module _ (budget : ℕ) where
 
 module _ (budget : ℕ) (theory script : List ℕ) (before after : ShelfState) where
   -- terms that end, or want of memory, refuse a `reduce` whose files read
-  pub ends_refuse : (th : Theory) (sc : Script) → TakesPlainTheory theory th before → TakesScript script th job.Reduce sc before
+  pub ends_refuse : (th : Theory) (sc : Script) → TakesTheory theory th before → TakesScript script th job.Reduce sc before
       → (s : Status) → Ends th budget sc.terms s → RefusesReduce budget theory script before after s
   ends_refuse th sc a b status.Memory e = theory_fault status.Memory tt
   ends_refuse th sc a b s e = term_ends s (record { th = th; sc = sc; ends = e; takes_theory = a; takes_script = b })

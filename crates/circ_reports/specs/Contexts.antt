@@ -8,7 +8,7 @@ use Rattle.circ_plain_search.specs.Greatest.{GreatestSpecialSet}
 use Rattle.circ_show.specs.PlacesText.{place_lines}
 use Rattle.circ_files.specs.Refusals.{statement_places, text_of_refusal}
 use Rattle.circ_files.specs.Files.{Held, RefusesFile}
-use Rattle.circ_files.specs.TheoryFile.{ReadsPlainTheory, TakesPlainTheory, PlainTheoryRefusal}
+use Rattle.circ_files.specs.TheoryFile.{ReadsTheory, TakesTheory, TheoryRefusal}
 use Rattle.circ_files.specs.declared.status.Status.{Status}
 use Rattle.circ_files.specs.declared.status.Status.TheVariants as status
 
@@ -21,13 +21,13 @@ pub record IsContextsText (th : Theory) (budget : ℕ) (text : List ℕ) : Type 
 
 -- The outcome, with its text: the theory file refuses the command; or it reads, and the lines of its set are given.
 pub data ContextsOutcome (held : Held) (budget : ℕ) (theory : List ℕ) : Status → (text : List ℕ) → Type 0 where
-  not_listed : (s : Status) → RefusesFile held 1 theory PlainTheoryRefusal s
+  not_listed : (s : Status) → RefusesFile held 1 theory TheoryRefusal s
       → ContextsOutcome held budget theory s (text_of_refusal statement_places s)
-  listed : (th : Theory) (text : List ℕ) → ReadsPlainTheory held theory th → IsContextsText th budget text
+  listed : (th : Theory) (text : List ℕ) → ReadsTheory held theory th → IsContextsText th budget text
       → ContextsOutcome held budget theory status.Ok text
 
 -- The file reads, and these are the lines of the theory's set.
 pub record IsListed (budget : ℕ) (theory text : List ℕ) (before : ShelfState) : Type 0 where
   pub th : Theory
   pub lines_are : IsContextsText th budget text
-  pub takes_theory : TakesPlainTheory theory th before
+  pub takes_theory : TakesTheory theory th before

@@ -6,16 +6,17 @@ use Rattle.circ_term.specs.Limits.{Limit, Big, Deep}
 use Rattle.circ_theory.specs.Signature.{Signature}
 use Rattle.circ_theory.specs.Theory.{Theory}
 use Rattle.circ_mixfix.specs.Printing.{text_of_term}
-use Rattle.circ_rewrite.specs.Norm.{Normalised, Normal_form, Budget_spent, Limit_passed, norm}
+use Rattle.circ_rewrite.specs.Norm.{Normalised, Normal_form, Budget_spent, Limit_passed}
 use Rattle.circ_rewrite.specs.TheoryRules.{theory_rules}
 use Rattle.circ_rewrite.specs.declared.fault.RewriteFault.{RewriteFault}
 use Rattle.circ_rewrite.specs.declared.fault.RewriteFault.TheVariants as fault
+use Rattle.circ_conditional_norm.specs.Norm.{conditional_norm}
 use Rattle.circ_script.specs.Script.{Script}
 use Rattle.circ_script.specs.declared.job.Job.TheVariants as job
 use Rattle.circ_files.specs.Refusals.{statement_places, text_of_refusal}
 use Rattle.circ_files.specs.Files.{Held, RefusesFile}
 use Rattle.circ_files.specs.ScriptFile.{ReadsScript, TakesScript, ScriptRefusal, IsScriptFault}
-use Rattle.circ_files.specs.TheoryFile.{ReadsPlainTheory, TakesPlainTheory, PlainTheoryRefusal, IsPlainTheoryFault}
+use Rattle.circ_files.specs.TheoryFile.{ReadsTheory, TakesTheory, TheoryRefusal, IsTheoryFault}
 use Rattle.circ_files.specs.declared.status.Status.{Status}
 use Rattle.circ_files.specs.declared.status.Status.TheVariants as status
 
@@ -32,11 +33,11 @@ go_on (Normal_form u traces left) next = next u left
 go_on Budget_spent next = Spent
 go_on (Limit_passed l left) next = Past_limit l
 
--- the terms in order, each with what the one before left, by the theory's rules and no assumptions; these are the results so far
+-- the terms in order, each with what the one before left, by the theory's rules and no assumptions, with no try around it; these are the results so far
 abbrev pub reduced_after : Theory → (results : List Tree) → (budget : ℕ) → List Tree → Reduced
 reduced_after th results n [] = Results results n
 reduced_after th results n (t ∷ ts) =
-    go_on (norm th.signature (theory_rules th) [] n t) (λ u left. reduced_after th (results ++ u ∷ []) left ts)
+    go_on (conditional_norm 0 th.signature (theory_rules th) [] n t) (λ u left. reduced_after th (results ++ u ∷ []) left ts)
 
 abbrev pub reduced : Theory → (budget : ℕ) → List Tree → Reduced
 reduced th budget ts = reduced_after th [] budget ts
@@ -76,13 +77,13 @@ results_text sig results rewrites = flat_map (result_line sig) results ++ codes 
 -- The outcome, with its text: the theory file refuses the command; or this reads, and the script file refuses it; or both read, and a term has no normal
 -- form; or all have.
 pub data ReduceOutcome (held : Held) (budget : ℕ) (theory script : List ℕ) : Status → (text : List ℕ) → Type 0 where
-  no_theory : (s : Status) → RefusesFile held 1 theory PlainTheoryRefusal s
+  no_theory : (s : Status) → RefusesFile held 1 theory TheoryRefusal s
       → ReduceOutcome held budget theory script s (text_of_refusal statement_places s)
-  no_script : (s : Status) (th : Theory) → ReadsPlainTheory held theory th → RefusesFile held 2 script (ScriptRefusal th job.Reduce) s
+  no_script : (s : Status) (th : Theory) → ReadsTheory held theory th → RefusesFile held 2 script (ScriptRefusal th job.Reduce) s
       → ReduceOutcome held budget theory script s (text_of_refusal statement_places s)
-  not_reduced : (s : Status) (th : Theory) (sc : Script) → ReadsPlainTheory held theory th → ReadsScript held script th job.Reduce sc
+  not_reduced : (s : Status) (th : Theory) (sc : Script) → ReadsTheory held theory th → ReadsScript held script th job.Reduce sc
       → EndsWith budget (reduced th budget sc.terms) s → ReduceOutcome held budget theory script s (text_of_refusal statement_places s)
-  all_reduced : (th : Theory) (sc : Script) (results : List Tree) (left : ℕ) → ReadsPlainTheory held theory th → ReadsScript held script th job.Reduce sc
+  all_reduced : (th : Theory) (sc : Script) (results : List Tree) (left : ℕ) → ReadsTheory held theory th → ReadsScript held script th job.Reduce sc
       → reduced th budget sc.terms ≡ Results results left
       → ReduceOutcome held budget theory script status.Ok (results_text th.signature results (budget - left))
 
@@ -103,7 +104,7 @@ pub record IsReduced (budget : ℕ) (theory script : List ℕ) (text : List ℕ)
   pub th : Theory
   pub sc : Script
   pub reduces : Reduces th budget sc.terms text
-  pub takes_theory : TakesPlainTheory theory th before
+  pub takes_theory : TakesTheory theory th before
   pub takes_script : TakesScript script th job.Reduce sc before
 
 -- The two files read, and the terms of the script end with this status.
@@ -111,12 +112,12 @@ pub record TermsEnd (budget : ℕ) (theory script : List ℕ) (s : Status) (befo
   pub th : Theory
   pub sc : Script
   pub ends : EndsWith budget (reduced th budget sc.terms) s
-  pub takes_theory : TakesPlainTheory theory th before
+  pub takes_theory : TakesTheory theory th before
   pub takes_script : TakesScript script th job.Reduce sc before
 
 -- Why it is refused: the theory file is at fault; or it reads, and the script file is at fault; or both read, and a term has no normal form.
 pub data RefusesReduce (budget : ℕ) (theory script : List ℕ) (before after : ShelfState) : Status → Type 0 where
-  theory_fault : (s : Status) → IsPlainTheoryFault theory before after s → RefusesReduce budget theory script before after s
-  script_fault : (s : Status) (th : Theory) → TakesPlainTheory theory th before → IsScriptFault script th job.Reduce before after s
+  theory_fault : (s : Status) → IsTheoryFault theory before after s → RefusesReduce budget theory script before after s
+  script_fault : (s : Status) (th : Theory) → TakesTheory theory th before → IsScriptFault script th job.Reduce before after s
       → RefusesReduce budget theory script before after s
   term_ends : (s : Status) → TermsEnd budget theory script s before → RefusesReduce budget theory script before after s

@@ -1,22 +1,20 @@
 //! The command `reduce`: the terms of a script are brought to their normal forms.
 ghost use Rattle.std.specs.Prelude.{◌≡◌, ◌++◌, ◌≤◌, [], flat_map, IfOk, IfErr, OnOk};
 ghost use Rattle.circ_outer.specs.Shelf.{ShelfFrame};
-ghost use Rattle.circ_theory.specs.Theory.{HasNoConditions};
 ghost use Rattle.circ_rewrite.specs.TheoryRules.{theory_rules};
 ghost use Rattle.circ_files.specs.Quiet.{IsQuietCall};
 ghost use Rattle.circ_reports.specs.Reduce.{reduced, Reduces, Ends, Results, FaultEnds};
 ghost use Rattle.circ_reports.specs.Reduce.{result_line, results_text, IsReduced, RefusesReduce};
 ghost use Rattle.circ_reports.specs.Reduce.{fault_status};
 
-use circ_files::{Status, push_numbered, take_plain_theory, take_script};
-use circ_memo::Memo;
+use circ_files::{Status, push_numbered, take_script, take_theory};
 use circ_mixfix::print;
 use circ_outer::Shelf;
-use circ_rewrite::laws::theory_rules_are_unconditional;
 use circ_rewrite::{RewriteFault, theory_rules};
 use circ_script::Job;
 use circ_term::Term;
 use circ_theory::Theory;
+use circ_tries::Reducer;
 use std::alloc::{AllocError, Global};
 
 /// The normal forms of a script's terms as text, or the answer in its place. The budget is shared
@@ -35,7 +33,7 @@ pub fn reduce<S: Shelf>(
     ensures quiet { IsQuietCall (S.state shelf.old) (S.state shelf.new) result }
     ensures frame { ShelfFrame (S.state shelf.old) (S.state shelf.new) }
 {
-    let mut theory = match take_plain_theory(alloc, shelf, theory) {
+    let mut theory = match take_theory(alloc, shelf, theory) {
         Ok(theory) => theory,
         Err(status) => return Err(status),
     };
@@ -53,7 +51,6 @@ fn reduce_terms(
     theory: &Theory,
     terms: &[Term],
 ) -> Result<Vec<u8>, Status>
-    requires { HasNoConditions theory.now }
     ensures reduced { IfOk result (λ v. Reduces theory.now budget terms.now v.items) }
     ensures ends { IfErr result (Ends theory.now budget terms.now) }
 {
@@ -89,34 +86,32 @@ fn normal_forms(
     terms: &[Term],
     budget: &mut u64,
 ) -> Result<Vec<Term>, RewriteFault>
-    requires { HasNoConditions theory.now }
     ensures results { IfOk result (λ v.
         reduced theory.now budget.old terms.now ≡ Results v.items budget.new) }
     ensures fault { IfErr result (FaultEnds (reduced theory.now budget.old terms.now)) }
     ensures less { budget.new ≤ budget.old }
 {
-    theory_rules_are_unconditional();
     let rules = theory_rules(alloc, theory)?;
-    let mut memo = Memo::new(alloc, theory, rules)?;
-    normal_forms_by(alloc, &mut memo, terms, budget)
+    let mut reducer = Reducer::new(alloc, theory, rules)?;
+    normal_forms_by(alloc, &mut reducer, terms, budget)
 }
 
 fn normal_forms_by(
     alloc: Global,
-    memo: &mut Memo<'_>,
+    reducer: &mut Reducer<'_>,
     terms: &[Term],
     budget: &mut u64,
 ) -> Result<Vec<Term>, RewriteFault>
-    requires rules { memo.old.rules ≡ theory_rules memo.old.theory }
-    requires none { memo.old.assumptions ≡ [] }
+    requires rules { reducer.old.rules ≡ theory_rules reducer.old.theory }
+    requires none { reducer.old.assumptions ≡ [] }
     ensures results { IfOk result (λ v.
-        reduced memo.old.theory budget.old terms.now ≡ Results v.items budget.new) }
-    ensures fault { IfErr result (FaultEnds (reduced memo.old.theory budget.old terms.now)) }
+        reduced reducer.old.theory budget.old terms.now ≡ Results v.items budget.new) }
+    ensures fault { IfErr result (FaultEnds (reduced reducer.old.theory budget.old terms.now)) }
     ensures less { budget.new ≤ budget.old }
 {
     let mut results = Vec::new(alloc);
     for term in terms {
-        let value = match memo.value(term, budget) {
+        let value = match reducer.value(term, 0, budget) {
             Ok(value) => value,
             Err(fault) => return Err(fault),
         };

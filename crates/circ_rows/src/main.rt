@@ -16,7 +16,7 @@ use std::alloc::{AllocError, Global};
 use std::{fs, io};
 
 /// The tables, in the order in which they are run.
-const TABLES: [&str; 27] = [
+const TABLES: [&str; 28] = [
     "rows-words",
     "rows-faults",
     "rows-causes",
@@ -25,6 +25,7 @@ const TABLES: [&str; 27] = [
     "rows-terms",
     "rows-show",
     "rows-reduce",
+    "rows-conditional-reduce",
     "rows-memo",
     "rows-contexts",
     "rows-prove",

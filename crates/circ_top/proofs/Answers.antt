@@ -26,7 +26,7 @@ use Rattle.circ_top.specs.Outcome.{Outcome, command}
 use Rattle.circ_top.specs.Storing.{HoldsAfter, IsUnstored, Ends, stored_first, not_stored}
 use Rattle.circ_files.specs.Texts.{refused_text}
 use Rattle.circ_top.specs.Refusals.{refusal_text}
-use Rattle.circ_files.specs.TheoryFile.{TheoryRefusal, PlainTheoryRefusal}
+use Rattle.circ_files.specs.TheoryFile.{TheoryRefusal}
 use Rattle.circ_reports.specs.declared.report.Report.{Report}
 use Rattle.circ_turn.specs.declared.search.Limits.{Limits}
 use Rattle.circ_files.specs.declared.status.Status.{Status}
@@ -59,7 +59,7 @@ module _ (before after : ShelfState) where
   command_not_ok (Check report theory proof) s r e = check_not_ok theory proof before after s r e
   command_not_ok (Prove limits theory script proof) s r e = script_not_ok theory script before after s r e
   command_not_ok (Show theory) s r e = file_fault_not_ok 1 theory TheoryRefusal before after s e r
-  command_not_ok (Contexts budget theory) s r e = file_fault_not_ok 1 theory PlainTheoryRefusal before after s e r
+  command_not_ok (Contexts budget theory) s r e = file_fault_not_ok 1 theory TheoryRefusal before after s e r
   command_not_ok (Reduce budget theory script) s r e = reduce_not_ok budget theory script before after s r e
   command_not_ok (Same first second) s r e = same_not_ok first second before after s r e
   command_not_ok (Differ limits theory script) s r e = script_not_ok theory script before after s r e
@@ -76,7 +76,7 @@ module _ (before after : ShelfState) where
   unread_command (Check report theory proof) s n r e = unread_check theory proof before after s n r e
   unread_command (Prove limits theory script proof) s n r e = unread_script theory script before after s n r e
   unread_command (Show theory) s n r e = let P : Status → Type 0 = IsFileFault 1 theory TheoryRefusal before after in subst P e r
-  unread_command (Contexts budget theory) s n r e = let P : Status → Type 0 = IsFileFault 1 theory PlainTheoryRefusal before after in subst P e r
+  unread_command (Contexts budget theory) s n r e = let P : Status → Type 0 = IsFileFault 1 theory TheoryRefusal before after in subst P e r
   unread_command (Reduce budget theory script) s n r e = unread_reduce budget theory script before after s n r e
   unread_command (Same first second) s n r e = unread_same first second before after s n r e
   unread_command (Differ limits theory script) s n r e = unread_script theory script before after s n r e
@@ -91,7 +91,7 @@ module _ (before after : ShelfState) where
   past_command (Prove limits theory script proof) s file n r e = past_script theory script before after s file n r e
   past_command (Show theory) s file n r e = let P : Status → Type 0 = IsFileFault 1 theory TheoryRefusal before after in let x = subst P e r in (sym x.0, x.1)
   past_command (Contexts budget theory) s file n r e =
-      let P : Status → Type 0 = IsFileFault 1 theory PlainTheoryRefusal before after in let x = subst P e r in (sym x.0, x.1)
+      let P : Status → Type 0 = IsFileFault 1 theory TheoryRefusal before after in let x = subst P e r in (sym x.0, x.1)
   past_command (Reduce budget theory script) s file n r e = past_reduce budget theory script before after s file n r e
   past_command (Same first second) s file n r e = past_same first second before after s file n r e
   past_command (Differ limits theory script) s file n r e = past_script theory script before after s file n r e
@@ -104,7 +104,7 @@ module _ (before after : ShelfState) where
   unwritten_command (Check report theory proof) s n r e = unwritten_check theory proof before after s n r e
   unwritten_command (Prove limits theory script proof) s n r e = unwritten_script theory script before after s n r e
   unwritten_command (Show theory) s n r e = let P : Status → Type 0 = IsFileFault 1 theory TheoryRefusal before after in subst P e r
-  unwritten_command (Contexts budget theory) s n r e = let P : Status → Type 0 = IsFileFault 1 theory PlainTheoryRefusal before after in subst P e r
+  unwritten_command (Contexts budget theory) s n r e = let P : Status → Type 0 = IsFileFault 1 theory TheoryRefusal before after in subst P e r
   unwritten_command (Reduce budget theory script) s n r e = unwritten_reduce budget theory script before after s n r e
   unwritten_command (Same first second) s n r e = unwritten_same first second before after s n r e
   unwritten_command (Differ limits theory script) s n r e = unwritten_script theory script before after s n r e
@@ -391,7 +391,7 @@ module _ (words : List (List ℕ)) (before after : ShelfState) (start end : Sink
           record { report = report; theory = theory; proof = proof; asks = i; refused = check_refused theory proof before after s n f e; quiet = q; prints = subst P e p }
       rejects (Prove limits theory script proof) s i f e p q = absurd (script_not_refused theory script before after s n f e)
       rejects (Show theory) s i f e p q = absurd (command_not_refused before after theory s n f e)
-      rejects (Contexts budget theory) s i f e p q = absurd (file_fault_not_refused 1 theory PlainTheoryRefusal before after s n e f)
+      rejects (Contexts budget theory) s i f e p q = absurd (file_fault_not_refused 1 theory TheoryRefusal before after s n e f)
       rejects (Reduce budget theory script) s i f e p q = absurd (reduce_not_refused budget theory script before after s n f e)
       rejects (Same first second) s i f e p q = absurd (same_not_refused first second before after s n f e)
       rejects (Differ limits theory script) s i f e p q = absurd (script_not_refused theory script before after s n f e)

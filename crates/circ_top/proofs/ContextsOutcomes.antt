@@ -9,10 +9,11 @@ use Rattle.circ_files.specs.Files.{RefusesFile}
 use Rattle.circ_files.specs.Like.{IsLike, itself}
 use Rattle.circ_reports.specs.Contexts.{IsContextsText, ContextsOutcome, not_listed, listed, IsListed}
 use Rattle.circ_top.specs.Refusals.{refusal_text}
-use Rattle.circ_files.specs.TheoryFile.{ReadsAsPlain, ReadsPlainTheory, PlainTheoryRefusal, IsPlainTheoryFault}
+use Rattle.circ_read.specs.ReadsAs.{ReadsAs}
+use Rattle.circ_files.specs.TheoryFile.{ReadsTheory, TheoryRefusal, IsTheoryFault}
 use Rattle.circ_files.specs.declared.status.Status.{Status}
 use Rattle.circ_files.specs.declared.status.Status.TheVariants as status
-use Rattle.circ_files.proofs.Readings.{ReadsPlainOnce}
+use Rattle.circ_files.proofs.Readings.{ReadsOnce}
 use Rattle.circ_top.proofs.Agreeing.{DueIs, file_due, Agrees, alike, unread_file, memory}
 use Rattle.circ_files.proofs.FileFaults.{FaultOf, fault_of, refuses, unread, out_of_memory, reads_not_refused, refused_held, holds_held}
 use Rattle.circ_top.proofs.Refused.{refused_alike}
@@ -25,31 +26,31 @@ one_text th budget text other a b =
     a.text_is ∙ ap (place_lines th.signature) e.0 ∙ sym b.text_is
 
 pub due_contexts : (words : List (List ℕ)) (budget : ℕ) (theory : List ℕ) (before after : ShelfState) (s : Status) → before.tells ≡ true → Asks words (Contexts budget theory)
-    → IsPlainTheoryFault theory before after s
+    → IsTheoryFault theory before after s
     → DueIs words before after s (refusal_text (Contexts budget theory) s) None
-due_contexts words budget theory before after s t i f = file_due words (Contexts budget theory) before after 1 theory PlainTheoryRefusal s t i f (λ r x. (not_listed r x, refl))
+due_contexts words budget theory before after s t i f = file_due words (Contexts budget theory) before after 1 theory TheoryRefusal s t i f (λ r x. (not_listed r x, refl))
 
 -- a success is the outcome
 pub listed_outcome : (budget : ℕ) (theory text : List ℕ) (before : ShelfState) → before.tells ≡ true → IsListed budget theory text before
     → ContextsOutcome before.holds budget theory status.Ok text
 listed_outcome budget theory text before t a = listed a.th text (a.takes_theory.reads t).0 a.lines_are
 
-module _ (once : ReadsPlainOnce) (budget : ℕ) (theory : List ℕ) (before after : ShelfState) (t : before.tells ≡ true) where
+module _ (once : ReadsOnce) (budget : ℕ) (theory : List ℕ) (before after : ShelfState) (t : before.tells ≡ true) where
   contexts_held : (s : Status) (text : List ℕ) → ContextsOutcome before.holds budget theory s text → before.holds theory ≡ None → ⊥
-  contexts_held s _ (not_listed _ r) e = refused_held before.holds 1 theory PlainTheoryRefusal s r e
-  contexts_held _ _ (listed u text ru x) e = holds_held before.holds theory (λ b. ReadsAsPlain b u) ru e
+  contexts_held s _ (not_listed _ r) e = refused_held before.holds 1 theory TheoryRefusal s r e
+  contexts_held _ _ (listed u text ru x) e = holds_held before.holds theory (λ b. ReadsAs b u) ru e
 
-  not_theory : (s : Status) (u : Theory) → ReadsPlainTheory before.holds theory u → RefusesFile before.holds 1 theory PlainTheoryRefusal s → ⊥
-  not_theory s u ru x = reads_not_refused before.holds 1 theory PlainTheoryRefusal (λ b. ReadsAsPlain b u) s ru (λ p c b h n. once.either b u p c h n) x
+  not_theory : (s : Status) (u : Theory) → ReadsTheory before.holds theory u → RefusesFile before.holds 1 theory TheoryRefusal s → ⊥
+  not_theory s u ru x = reads_not_refused before.holds 1 theory TheoryRefusal (λ b. ReadsAs b u) s ru (λ p c b h n. once.either b u p c h n) x
 
-  pub contexts_agrees : (r s : Status) (text : List ℕ) → IsPlainTheoryFault theory before after r → ContextsOutcome before.holds budget theory s text
+  pub contexts_agrees : (r s : Status) (text : List ℕ) → IsTheoryFault theory before after r → ContextsOutcome before.holds budget theory s text
       → Agrees before after s text r (refusal_text (Contexts budget theory) r)
-  contexts_agrees r s text f c = go r s text (fault_of 1 theory PlainTheoryRefusal before after r t f) c
+  contexts_agrees r s text f c = go r s text (fault_of 1 theory TheoryRefusal before after r t f) c
     where
-      go : (r s : Status) (text : List ℕ) → FaultOf 1 theory PlainTheoryRefusal before after r → ContextsOutcome before.holds budget theory s text
+      go : (r s : Status) (text : List ℕ) → FaultOf 1 theory TheoryRefusal before after r → ContextsOutcome before.holds budget theory s text
           → Agrees before after s text r (refusal_text (Contexts budget theory) r)
       go r s _ (refuses _ x) (not_listed _ y) =
-          alike r (refusal_text (Contexts budget theory) r) (refused_alike (Contexts budget theory) before.holds 1 theory PlainTheoryRefusal s r once.alike y x)
+          alike r (refusal_text (Contexts budget theory) r) (refused_alike (Contexts budget theory) before.holds 1 theory TheoryRefusal s r once.alike y x)
       go r _ _ (refuses _ x) (listed u text ru p) = absurd (not_theory r u ru x)
       go _ s text (unread n e u) c = unread_file n (unread_rose theory before after (contexts_held s text c) u)
       go _ s text out_of_memory c = memory

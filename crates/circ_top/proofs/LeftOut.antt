@@ -125,7 +125,7 @@ module _ (reads : (bytes : List ℕ) → ReadOrRefused bytes) (proofs : ProofsDe
       (λ s x. let text : List ℕ = refusal_text (Show theory) s in none_is s text None (command (Show theory) s text None i (not_shown s x, refl)))
 
   no_reduce : (budget : ℕ) (theory script : List ℕ) → Asks words (Reduce budget theory script) → HoldsFilesOf held (Reduce budget theory script) → ⊥
-  no_reduce budget theory script i h = file_decides held 1 theory PlainTheoryRefusal ReadsAsPlain h.0 plain_reads
+  no_reduce budget theory script i h = file_decides held 1 theory TheoryRefusal ReadsAs h.0 reads
       (λ th rt. file_decides held 2 script (ScriptRefusal th job.Reduce) (ReadsAsScript th job.Reduce) h.1 (scripts th job.Reduce)
       (λ q rq. forms_or_end budget (reduced th budget q.terms)
       (λ results left e. let text : List ℕ = results_text th.signature results (budget - left) in none_is status.Ok text None
@@ -196,7 +196,7 @@ module _ (reads : (bytes : List ℕ) → ReadOrRefused bytes) (proofs : ProofsDe
       (command (Upgrade theory proof new) s text None i (upgrade.no_theory s x)))
 
   no_contexts : (budget : ℕ) (theory : List ℕ) → Asks words (Contexts budget theory) → HoldsFilesOf held (Contexts budget theory) → ⊥
-  no_contexts budget theory i h = file_decides held 1 theory PlainTheoryRefusal ReadsAsPlain h plain_reads
+  no_contexts budget theory i h = file_decides held 1 theory TheoryRefusal ReadsAs h reads
       (λ th rt. some_set th budget (λ G tss g. let text : List ℕ = place_lines th.signature G in none_is status.Ok text None
       (command (Contexts budget theory) status.Ok text None i
       (listed th text rt (record { places = G; traces = tss; greatest = g; text_is = refl }), refl))))

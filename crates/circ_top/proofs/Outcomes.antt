@@ -113,10 +113,10 @@ module _ (once : ReadsOnce) (proofs : ProofsOnce) (scripts : ScriptsOnce) (autom
       stored_nothing before after s text stored r (refusal_text (Show theory) r) c.1 (show_agrees once theory before after t r s text f c.0)
   refusal_agrees (Contexts budget theory) s r text stored c f =
       stored_nothing before after s text stored r (refusal_text (Contexts budget theory) r) c.1
-      (contexts_agrees (reads_plain_once once) budget theory before after t r s text f c.0)
+      (contexts_agrees once budget theory before after t r s text f c.0)
   refusal_agrees (Reduce budget theory script) s r text stored c f =
       stored_nothing before after s text stored r (refusal_text (Reduce budget theory script) r) c.1
-      (reduce_agrees (reads_plain_once once) scripts budget theory script before after t r s text f c.0)
+      (reduce_agrees once scripts budget theory script before after t r s text f c.0)
   refusal_agrees (Same first second) s r text stored c f =
       stored_nothing before after s text stored r (refusal_text (Same first second) r) c.1
       (same_agrees automata first second before after t r s text f c.0)
@@ -149,9 +149,9 @@ module _ (once : ReadsOnce) (proofs : ProofsOnce) (scripts : ScriptsOnce) (autom
   work_agrees (Show theory) s r text given stored other c a =
       ok_agrees s r text given stored other a.0 a.1.1 c.1 (shown_agrees once theory before after t printed_once given a.1.0 s text c.0)
   work_agrees (Contexts budget theory) s r text given stored other c a =
-      ok_agrees s r text given stored other a.0 a.1.1 c.1 (listed_agrees (reads_plain_once once) budget theory before after t given a.1.0 s text c.0)
+      ok_agrees s r text given stored other a.0 a.1.1 c.1 (listed_agrees once budget theory before after t given a.1.0 s text c.0)
   work_agrees (Reduce budget theory script) s r text given stored other c a =
-      ok_agrees s r text given stored other a.0 a.1.1 c.1 (reduced_agrees (reads_plain_once once) scripts budget theory script before after t given a.1.0 s text c.0)
+      ok_agrees s r text given stored other a.0 a.1.1 c.1 (reduced_agrees once scripts budget theory script before after t given a.1.0 s text c.0)
   work_agrees (Same first second) s r text given stored other c a =
       let Q : Option Stored → Type 0 = λ x. AgreesWith before after s text stored r given x in
       subst Q (sym a.1) (stored_nothing before after s text stored r given c.1 (compared_agrees automata first second before after t r given a.0 s text c.0))

@@ -15,10 +15,11 @@ use Rattle.circ_reports.specs.Reduce.{Results, reduced, EndsWith, Ends, results_
 use Rattle.circ_reports.specs.Reduce.{IsReduced, TermsEnd, RefusesReduce, theory_fault, script_fault, term_ends}
 use Rattle.circ_files.specs.ScriptFile.{ReadsScript, TakesScript, ScriptRefusal}
 use Rattle.circ_top.specs.Refusals.{refusal_text}
-use Rattle.circ_files.specs.TheoryFile.{ReadsAsPlain, ReadsPlainTheory, TakesPlainTheory, PlainTheoryRefusal}
+use Rattle.circ_read.specs.ReadsAs.{ReadsAs}
+use Rattle.circ_files.specs.TheoryFile.{ReadsTheory, TakesTheory, TheoryRefusal}
 use Rattle.circ_files.specs.declared.status.Status.{Status}
 use Rattle.circ_files.specs.declared.status.Status.TheVariants as status
-use Rattle.circ_files.proofs.Readings.{ReadsPlainOnce}
+use Rattle.circ_files.proofs.Readings.{ReadsOnce}
 use Rattle.circ_top.proofs.Agreeing.{DueIs, outcome, file_due, Agrees, alike, unread_file, memory}
 use Rattle.circ_reports.proofs.Ends.{no_end, one_end, no_early_end}
 use Rattle.circ_files.proofs.FileFaults.{FaultOf, fault_of, refuses, unread, out_of_memory, reads_not_refused, refused_held, holds_held}
@@ -28,32 +29,32 @@ use Rattle.circ_files.proofs.Scripts.{ScriptsOnce}
 
 module _ (budget : ℕ) (theory script : List ℕ) (before after : ShelfState) where
   pub reduce_not_ok : (s : Status) → RefusesReduce budget theory script before after s → s ≡ status.Ok → ⊥
-  reduce_not_ok s (theory_fault _ f) e = file_fault_not_ok 1 theory PlainTheoryRefusal before after s e f
+  reduce_not_ok s (theory_fault _ f) e = file_fault_not_ok 1 theory TheoryRefusal before after s e f
   reduce_not_ok s (script_fault _ th a f) e = file_fault_not_ok 2 script (ScriptRefusal th job.Reduce) before after s e f
   reduce_not_ok s (term_ends _ f) e = no_end budget (reduced f.th budget f.sc.terms) s status.Ok (λ x. x) f.ends e
 
   pub reduce_not_refused : (s : Status) (n : ℕ) → RefusesReduce budget theory script before after s → s ≡ status.Refused n → ⊥
-  reduce_not_refused s n (theory_fault _ f) e = file_fault_not_refused 1 theory PlainTheoryRefusal before after s n e f
+  reduce_not_refused s n (theory_fault _ f) e = file_fault_not_refused 1 theory TheoryRefusal before after s n e f
   reduce_not_refused s n (script_fault _ th a f) e = file_fault_not_refused 2 script (ScriptRefusal th job.Reduce) before after s n e f
   reduce_not_refused s n (term_ends _ f) e = no_end budget (reduced f.th budget f.sc.terms) s (status.Refused n) (λ x. x) f.ends e
 
   pub unread_reduce : (s : Status) (n : ℕ) → RefusesReduce budget theory script before after s → s ≡ status.ReadFault n
-      → (n ≡ after.count) × AtEither (λ th. TakesPlainTheory theory th before) theory script (λ f name. IsUnread name before after)
-  unread_reduce s n (theory_fault _ f) e = let P : Status → Type 0 = IsFileFault 1 theory PlainTheoryRefusal before after in let r = subst P e f in (r.0, inl r.1)
+      → (n ≡ after.count) × AtEither (λ th. TakesTheory theory th before) theory script (λ f name. IsUnread name before after)
+  unread_reduce s n (theory_fault _ f) e = let P : Status → Type 0 = IsFileFault 1 theory TheoryRefusal before after in let r = subst P e f in (r.0, inl r.1)
   unread_reduce s n (script_fault _ th a f) e =
       let P : Status → Type 0 = IsFileFault 2 script (ScriptRefusal th job.Reduce) before after in let r = subst P e f in (r.0, inr (th, (a, r.1)))
   unread_reduce s n (term_ends _ f) e = absurd (no_end budget (reduced f.th budget f.sc.terms) s (status.ReadFault n) (λ x. x) f.ends e)
 
   pub past_reduce : (s : Status) (file n : ℕ) → RefusesReduce budget theory script before after s → s ≡ status.TooLong file n
-      → AtEither (λ th. TakesPlainTheory theory th before) theory script (λ f name. (f ≡ file) × IsTooLong name n before)
+      → AtEither (λ th. TakesTheory theory th before) theory script (λ f name. (f ≡ file) × IsTooLong name n before)
   past_reduce s file n (theory_fault _ f) e =
-      let P : Status → Type 0 = IsFileFault 1 theory PlainTheoryRefusal before after in let r = subst P e f in inl (sym r.0, r.1)
+      let P : Status → Type 0 = IsFileFault 1 theory TheoryRefusal before after in let r = subst P e f in inl (sym r.0, r.1)
   past_reduce s file n (script_fault _ th a f) e =
       let P : Status → Type 0 = IsFileFault 2 script (ScriptRefusal th job.Reduce) before after in let r = subst P e f in inr (th, (a, (sym r.0, r.1)))
   past_reduce s file n (term_ends _ f) e = absurd (no_end budget (reduced f.th budget f.sc.terms) s (status.TooLong file n) (λ x. x) f.ends e)
 
   pub unwritten_reduce : (s : Status) (n : ℕ) → RefusesReduce budget theory script before after s → s ≡ status.WriteFault n → ⊥
-  unwritten_reduce s n (theory_fault _ f) e = let P : Status → Type 0 = IsFileFault 1 theory PlainTheoryRefusal before after in subst P e f
+  unwritten_reduce s n (theory_fault _ f) e = let P : Status → Type 0 = IsFileFault 1 theory TheoryRefusal before after in subst P e f
   unwritten_reduce s n (script_fault _ th a f) e = let P : Status → Type 0 = IsFileFault 2 script (ScriptRefusal th job.Reduce) before after in subst P e f
   unwritten_reduce s n (term_ends _ f) e = no_end budget (reduced f.th budget f.sc.terms) s (status.WriteFault n) (λ x. x) f.ends e
 
@@ -67,7 +68,7 @@ module _ (budget : ℕ) (theory script : List ℕ) (before after : ShelfState) w
   pub due_reduce : (words : List (List ℕ)) (s : Status) → before.tells ≡ true → Asks words (Reduce budget theory script)
       → RefusesReduce budget theory script before after s → DueIs words before after s (refusal_text (Reduce budget theory script) s) None
   due_reduce words s t i (theory_fault _ f) =
-      file_due words (Reduce budget theory script) before after 1 theory PlainTheoryRefusal s t i f (λ r x. (no_theory r x, refl))
+      file_due words (Reduce budget theory script) before after 1 theory TheoryRefusal s t i f (λ r x. (no_theory r x, refl))
   due_reduce words s t i (script_fault _ th a f) =
       file_due words (Reduce budget theory script) before after 2 script (ScriptRefusal th job.Reduce) s t i f (λ r x. (no_script r th (a.reads t).0 x, refl))
   due_reduce words s t i (term_ends _ f) =
@@ -75,15 +76,15 @@ module _ (budget : ℕ) (theory script : List ℕ) (before after : ShelfState) w
       outcome s text None
       (command (Reduce budget theory script) s text None i (not_reduced s f.th f.sc (f.takes_theory.reads t).0 (f.takes_script.reads t).0 f.ends, refl))
 
-module _ (once : ReadsPlainOnce) (scripts : ScriptsOnce) (budget : ℕ) (theory script : List ℕ) (before after : ShelfState) (t : before.tells ≡ true) where
+module _ (once : ReadsOnce) (scripts : ScriptsOnce) (budget : ℕ) (theory script : List ℕ) (before after : ShelfState) (t : before.tells ≡ true) where
   theory_held : (s : Status) (text : List ℕ) → ReduceOutcome before.holds budget theory script s text → before.holds theory ≡ None → ⊥
-  theory_held s _ (no_theory _ r) e = refused_held before.holds 1 theory PlainTheoryRefusal s r e
-  theory_held s _ (no_script _ u ru r) e = holds_held before.holds theory (λ b. ReadsAsPlain b u) ru e
-  theory_held s _ (not_reduced _ u q ru rq f) e = holds_held before.holds theory (λ b. ReadsAsPlain b u) ru e
-  theory_held _ _ (all_reduced u q rs n ru rq a) e = holds_held before.holds theory (λ b. ReadsAsPlain b u) ru e
+  theory_held s _ (no_theory _ r) e = refused_held before.holds 1 theory TheoryRefusal s r e
+  theory_held s _ (no_script _ u ru r) e = holds_held before.holds theory (λ b. ReadsAs b u) ru e
+  theory_held s _ (not_reduced _ u q ru rq f) e = holds_held before.holds theory (λ b. ReadsAs b u) ru e
+  theory_held _ _ (all_reduced u q rs n ru rq a) e = holds_held before.holds theory (λ b. ReadsAs b u) ru e
 
-  not_theory : (s : Status) (u : Theory) → ReadsPlainTheory before.holds theory u → RefusesFile before.holds 1 theory PlainTheoryRefusal s → ⊥
-  not_theory s u ru x = reads_not_refused before.holds 1 theory PlainTheoryRefusal (λ b. ReadsAsPlain b u) s ru (λ p c b h n. once.either b u p c h n) x
+  not_theory : (s : Status) (u : Theory) → ReadsTheory before.holds theory u → RefusesFile before.holds 1 theory TheoryRefusal s → ⊥
+  not_theory s u ru x = reads_not_refused before.holds 1 theory TheoryRefusal (λ b. ReadsAs b u) s ru (λ p c b h n. once.either b u p c h n) x
 
   not_script : (s : Status) (u : Theory) (q : Script) → ReadsScript before.holds script u job.Reduce q
       → RefusesFile before.holds 2 script (ScriptRefusal u job.Reduce) s → ⊥
@@ -99,7 +100,7 @@ module _ (once : ReadsPlainOnce) (scripts : ScriptsOnce) (budget : ℕ) (theory 
     terms_done : (q : Script) (results : List Tree) (left : ℕ) → ReadsScript before.holds script th job.Reduce q
         → reduced th budget q.terms ≡ Results results left → Fixed th status.Ok (results_text th.signature results (budget - left))
 
-  fixed : (th : Theory) → IsOnly th (ReadsPlainTheory before.holds theory) → (s : Status) (text : List ℕ)
+  fixed : (th : Theory) → IsOnly th (ReadsTheory before.holds theory) → (s : Status) (text : List ℕ)
       → ReduceOutcome before.holds budget theory script s text → Fixed th s text
   fixed th only s _ (no_theory _ r) = absurd (not_theory s th only.0 r)
   fixed th only s _ (no_script _ u ru r) =
@@ -160,11 +161,11 @@ module _ (once : ReadsPlainOnce) (scripts : ScriptsOnce) (budget : ℕ) (theory 
   script_agrees th _ s text (unread n e u) f = unread_file n (unread_rose script before after (script_held th s text f) u)
   script_agrees th _ s text out_of_memory f = memory
 
-  theory_agrees : (r s : Status) (text : List ℕ) → FaultOf 1 theory PlainTheoryRefusal before after r → ReduceOutcome before.holds budget theory script s text
+  theory_agrees : (r s : Status) (text : List ℕ) → FaultOf 1 theory TheoryRefusal before after r → ReduceOutcome before.holds budget theory script s text
       → Agrees before after s text r (refusal_text (Reduce budget theory script) r)
   theory_agrees r s _ (refuses _ x) (no_theory _ y) =
       alike r (refusal_text (Reduce budget theory script) r)
-      (refused_alike (Reduce budget theory script) before.holds 1 theory PlainTheoryRefusal s r once.alike y x)
+      (refused_alike (Reduce budget theory script) before.holds 1 theory TheoryRefusal s r once.alike y x)
   theory_agrees r s _ (refuses _ x) (no_script _ u ru y) = absurd (not_theory r u ru x)
   theory_agrees r s _ (refuses _ x) (not_reduced _ u q ru rq f) = absurd (not_theory r u ru x)
   theory_agrees r _ _ (refuses _ x) (all_reduced u q rs n ru rq a) = absurd (not_theory r u ru x)
@@ -173,7 +174,7 @@ module _ (once : ReadsPlainOnce) (scripts : ScriptsOnce) (budget : ℕ) (theory 
 
   pub reduce_agrees : (r s : Status) (text : List ℕ) → RefusesReduce budget theory script before after r
       → ReduceOutcome before.holds budget theory script s text → Agrees before after s text r (refusal_text (Reduce budget theory script) r)
-  reduce_agrees r s text (theory_fault _ f) c = theory_agrees r s text (fault_of 1 theory PlainTheoryRefusal before after r t f) c
+  reduce_agrees r s text (theory_fault _ f) c = theory_agrees r s text (fault_of 1 theory TheoryRefusal before after r t f) c
   reduce_agrees r s text (script_fault _ th a f) c =
       script_agrees th r s text (fault_of 2 script (ScriptRefusal th job.Reduce) before after r t f) (fixed th (a.reads t) s text c)
   reduce_agrees r s text (term_ends _ f) c = ended_agrees r f s text (fixed f.th (f.takes_theory.reads t) s text c)

@@ -20,7 +20,7 @@ use Rattle.circ_reports.specs.Upgrade.{IsUpgraded, RefusesUpgrade}
 use Rattle.circ_files.specs.Ending.{Stored}
 use Rattle.circ_top.specs.Storing.{HoldsAfter, Ends}
 use Rattle.circ_top.specs.Refusals.{usage_text, refusal_text}
-use Rattle.circ_files.specs.TheoryFile.{IsTheoryFault, IsPlainTheoryFault}
+use Rattle.circ_files.specs.TheoryFile.{IsTheoryFault}
 use Rattle.circ_files.specs.declared.status.Status.{Status}
 use Rattle.circ_files.specs.declared.status.Status.TheVariants as status
 
@@ -53,7 +53,7 @@ abbrev pub RefusesCommand : Command → (before after : ShelfState) → Status �
 RefusesCommand (Check report theory proof) before after s = RefusesCheck theory proof before after s
 RefusesCommand (Prove limits theory script proof) before after s = RefusesScript theory script before after s
 RefusesCommand (Show theory) before after s = IsTheoryFault theory before after s
-RefusesCommand (Contexts budget theory) before after s = IsPlainTheoryFault theory before after s
+RefusesCommand (Contexts budget theory) before after s = IsTheoryFault theory before after s
 RefusesCommand (Reduce budget theory script) before after s = RefusesReduce budget theory script before after s
 RefusesCommand (Same first second) before after s = RefusesSame first second before after s
 RefusesCommand (Differ limits theory script) before after s = RefusesScript theory script before after s

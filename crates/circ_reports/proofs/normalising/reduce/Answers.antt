@@ -42,6 +42,3 @@ returns-clause-refused g c =
     if_err (Ends th c.args.budget sc.terms) (RefusesReduce c.args.budget c.args.theory.now c.args.script.now before after) c.reduce_terms.result ends
     (ends_refuse c.args.budget c.args.theory.now c.args.script.now before after th sc c.in-Ok.ensures.takes
     (script_before c.args.script.now th job.Reduce sc _ _ c.in-Ok.ensures.frame c.in-Ok-take_script.ensures.takes))
-
-pub reduce_terms-requires : goal.reduce_terms-requires
-reduce_terms-requires g c = rw c.in-Ok-take_script.ensures.kept c.in-Ok.ensures.takes.plain
