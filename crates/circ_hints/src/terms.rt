@@ -2,25 +2,40 @@
 use crate::known::Known;
 use crate::marks::Mark;
 use crate::parts::{Part, is};
+use crate::prefixes::unread_behind;
+use crate::unreadable_hint::Source;
 use circ_lexer::Tokens;
+use std::alloc::{AllocError, Global};
 
 /// The mark of a statement or an item with a term that has no reading: a word that nothing declares,
-/// or else a parenthesis without its other one, or else the whole.
-pub(crate) fn unread_word(tokens: &Tokens<'_>, part: Part, known: &Known<'_>) -> Mark {
+/// or else a parenthesis without its other one, or else what stands behind the longest part that
+/// reads, or else the whole.
+pub(crate) fn unread_word(
+    alloc: Global,
+    source: &Source<'_>,
+    tokens: &Tokens<'_>,
+    part: Part,
+    known: &Known<'_>,
+) -> Result<Mark, AllocError> {
     let from = terms_begin(tokens, part);
     if let Some(number) = undeclared(tokens, from, part.to, known) {
-        return Mark::naming(
+        return Ok(Mark::naming(
             number,
             "nothing that is declared before has this word (an inclusion brings no variables)",
-        );
+        ));
     }
     if let Some(mark) = unbalanced(tokens, from, part.to) {
-        return mark;
+        return Ok(mark);
     }
-    Mark::at(
+    if !is(tokens, part.from, b"cases") {
+        if let Some(mark) = unread_behind(alloc, source, tokens, part, from)? {
+            return Ok(mark);
+        }
+    }
+    Ok(Mark::at(
         from,
         "each word is declared, but this spells no term: see sorts, parentheses and blanks",
-    )
+    ))
 }
 
 /// Where the terms of a statement or an item begin.

@@ -232,11 +232,11 @@ fn by_names(
 ) -> Result<Mark, AllocError> {
     let mut known = Known::new(alloc, wanted);
     add_known(alloc, &mut known, source, tokens, part)?;
-    Ok(match cause {
-        Cause::UnknownSort => unknown_sort(tokens, part, &known),
-        Cause::Twice { .. } => declared_twice(tokens, part, &known),
-        _ => unread_word(tokens, part, &known),
-    })
+    match cause {
+        Cause::UnknownSort => Ok(unknown_sort(tokens, part, &known)),
+        Cause::Twice { .. } => Ok(declared_twice(tokens, part, &known)),
+        _ => unread_word(alloc, source, tokens, part, &known),
+    }
 }
 
 /// Adds what is declared before a part, in a script also by the theory.
