@@ -15,7 +15,7 @@ use Rattle.circ_trace.specs.declared.parent.Parent.{Parent}
 
 module _ (th : Theory) (G : List Place) (l : Limits) where
   -- Whatever turns come from here, their lines come behind those so far.
-  pub abbrev GoesOn : (first : Standing) → (old : List ℕ) → List Parent → Standing → (lines : List ℕ) → Type 0
+  abbrev pub GoesOn : (first : Standing) → (old : List ℕ) → List Parent → Standing → (lines : List ℕ) → Type 0
   GoesOn first old ps st lines =
       (sts : List Standing) (e : Ending) → Turns th G l st sts e → IsTold th G l first old (lines ++ turns_text th G ps sts) e
 

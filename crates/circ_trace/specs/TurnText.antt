@@ -45,6 +45,10 @@ parent_text th (Some p) = codes " = " ++ derivative_text th p.derivative ++ code
 abbrev pub heading : Theory → List Parent → Standing → List ℕ
 heading th ps st = block_text st ++ codes ", goal " ++ decimal (st.taken + 1) ++ parent_text th (parent_of ps st) ++ codes "\n"
 
+-- the goal as it stands
+abbrev pub goal_line : Signature → Goal → List ℕ
+goal_line sig g = codes "goal: " ++ shown_goal sig g ++ codes "\n"
+
 -- ---- what is done with it
 
 abbrev pub further_hypothesis : ℕ → List ℕ
@@ -59,11 +63,14 @@ abbrev pub split_text : Signature → Option Tree → List ℕ
 split_text sig None = codes "no term to split on"
 split_text sig (Some u) = codes "split on " ++ shown sig u
 
--- A hidden goal is derived, and so becomes the next hypothesis. A visible one is split.
+-- the next hypothesis
+abbrev pub derived_text : Standing → List ℕ
+derived_text st = codes "derive: " ++ hypothesis_text (length st.hypotheses + 1)
+
+-- A hidden goal is derived, and so becomes a hypothesis. A visible one is split.
 abbrev pub opening_text : Theory → Standing → (left right : Tree) → List ℕ
 opening_text th st s t =
-    if is_hidden th (sort_of s) then codes "derive: " ++ hypothesis_text (length st.hypotheses + 1)
-    else split_text th.signature (option_or (first_open th s) (first_open th t))
+    if is_hidden th (sort_of s) then derived_text st else split_text th.signature (option_or (first_open th s) (first_open th t))
 
 abbrev pub deed_text : Theory → Standing → (left right : Tree) → Deed → List ℕ
 deed_text th st s t (Joins ns) = uses_text (codes "equal") (codes "joins by ") ns
@@ -96,7 +103,7 @@ done_text sig st = block_text st ++ codes ", done\n" ++ handed_on sig (length st
 
 abbrev pub text_at : Theory → List Parent → Standing → Option Account → (queue : List Goal) → List ℕ
 text_at th ps st a [] = done_text th.signature st
-text_at th ps st a (g ∷ rest) = heading th ps st ++ (codes "goal: " ++ shown_goal th.signature g ++ codes "\n") ++ account_text th st a
+text_at th ps st a (g ∷ rest) = heading th ps st ++ goal_line th.signature g ++ account_text th st a
 
 abbrev pub turn_text : Theory → List Parent → Standing → Option Account → List ℕ
 turn_text th ps st a = text_at th ps st a st.queue

@@ -1,19 +1,22 @@
 //! The account of the turn that comes next.
-ghost use Rattle.std.specs.Prelude.{◌≡◌, ◌≢◌, ◌++◌, [], None, map, IfOk, OnOk};
+ghost use Rattle.std.specs.Prelude.{◌≡◌, ◌≢◌, ◌++◌, [], Some, None, IfOk, OnOk};
 ghost use Rattle.circ_block.specs.Rules.{IsRulesOf};
 ghost use Rattle.circ_join.specs.Uses.{plain_uses, plain_lemma_uses};
 ghost use Rattle.circ_join.specs.declared.stop.Stop.TheVariants.{Memory};
-ghost use Rattle.circ_plain_search.specs.BlockRules.{hidden_lemmas};
+ghost use Rattle.circ_plain_search.specs.BlockRules.{block_rules, hidden_lemmas};
 ghost use Rattle.circ_plain_search.specs.Joining.{swept};
+ghost use Rattle.circ_plain_search.specs.Search.{normal_sides};
 ghost use Rattle.circ_turn.specs.Standing.{standing};
-ghost use Rattle.circ_trace.specs.Account.{account, deed_on, deed_by, numbers_of};
+ghost use Rattle.circ_trace.specs.Account.{account, account_of, account_with};
+ghost use Rattle.circ_trace.specs.Account.{deed_on, deed_by, numbers_of};
 ghost use Rattle.circ_trace.specs.Account.{plain_account_if, plain_deed};
 
 use crate::account::{Account, Deed};
 use circ_block::BlockRules;
 use circ_join::{HypothesisUse, Joining, LemmaUse, Lemmas, Passing, Stop};
-use circ_split::normal_sides;
+use circ_split::{Sides, normal_sides};
 use circ_term::Term;
+use circ_theory::Goal;
 use circ_turn::{Search, State};
 use std::alloc::{AllocError, Global};
 
@@ -29,39 +32,67 @@ pub(crate) fn account(
         ≡ account search.now.theory.now search.now.gamma.now (standing state.now)) }
     ensures rules { IsRulesOf search.now.theory.now state.now.hyps.earlier rules.new }
 {
-    let Some(hand) = state.queue.front() else {
-        return Ok(None);
-    };
+    match state.queue.front() {
+        None => Ok(None),
+        Some(goal) => goal_account(search, rules, state, goal),
+    }
+}
+
+// The same where this goal is in hand.
+fn goal_account(
+    search: &Search<'_>,
+    rules: &mut BlockRules<'_>,
+    state: &State<'_>,
+    goal: &Goal,
+) -> Result<Option<Account>, AllocError>
+    requires rules { IsRulesOf search.now.theory.now state.now.hyps.earlier rules.old }
+    ensures exact { IfOk result (λ o. plain_account_if o ≡ account_of search.now.theory.now
+        search.now.gamma.now (standing state.now) (normal_sides search.now.theory.now
+        (block_rules search.now.theory.now state.now.hyps.earlier) [] goal.now.left goal.now.right
+        state.now.budget)) }
+    ensures rules { IsRulesOf search.now.theory.now state.now.hyps.earlier rules.new }
+{
     let mut budget = state.budget;
     match normal_sides(
         search.alloc,
         &mut rules.plain,
-        &hand.left,
-        &hand.right,
+        &goal.left,
+        &goal.right,
         &mut budget,
     ) {
-        Err(stop) => {
-            unless_memory(&stop)?;
-            Ok(None)
-        }
-        Ok(sides) => {
-            let deed = deed(search, &rules.lemmas, state, &sides.left, &sides.right)?;
-            Ok(Some(Account {
-                left: sides.left,
-                right: sides.right,
-                deed,
-            }))
-        }
+        Err(stop) => none_unless_memory(&stop),
+        Ok(sides) => sides_account(search, &rules.lemmas, state, sides),
     }
 }
 
-// Fails where memory ran out.
-fn unless_memory(stop: &Stop) -> Result<(), AllocError>
-    ensures { OnOk result (stop.now ≢ Memory) }
+// The same where these are the goal's sides in normal form.
+fn sides_account(
+    search: &Search<'_>,
+    lemmas: &Lemmas,
+    state: &State<'_>,
+    sides: Sides,
+) -> Result<Option<Account>, AllocError>
+    requires lemmas { lemmas.now ≡ hidden_lemmas search.now.theory.now 0 state.now.hyps.earlier }
+    ensures { IfOk result (λ o. plain_account_if o ≡ Some (account_with sides.left sides.right
+        (deed_on search.now.theory.now search.now.gamma.now (standing state.now) sides.left
+        sides.right))) }
+{
+    let deed = deed(search, lemmas, state, &sides.left, &sides.right)?;
+    Ok(Some(Account {
+        left: sides.left,
+        right: sides.right,
+        deed,
+    }))
+}
+
+// There is no account where normalising ends the search.
+fn none_unless_memory(stop: &Stop) -> Result<Option<Account>, AllocError>
+    ensures none { IfOk result (λ o. plain_account_if o ≡ None) }
+    ensures stopped { OnOk result (stop.now ≢ Memory) }
 {
     match stop {
         Stop::Memory => Err(AllocError),
-        _ => Ok(()),
+        _ => Ok(None),
     }
 }
 

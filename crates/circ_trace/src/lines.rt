@@ -121,8 +121,15 @@ pub(crate) fn put_uses(
         return out.extend_from_slice(none);
     };
     out.extend_from_slice(some)?;
-    push_numbered(out, b"hypothesis ", u64::from(*first) + 1)?;
+    put_name(*first, out)?;
     put_others(others, out)
+}
+
+// The name of the hypothesis of this number from 0.
+fn put_name(number: u32, out: &mut Vec<u8>) -> Result<(), AllocError>
+    ensures { OnOk result (out.new.items ≡ out.old.items ++ hypothesis_text (number + 1)) }
+{
+    push_numbered(out, b"hypothesis ", u64::from(number) + 1)
 }
 
 fn put_others(numbers: &[u32], out: &mut Vec<u8>) -> Result<(), AllocError>
@@ -130,9 +137,16 @@ fn put_others(numbers: &[u32], out: &mut Vec<u8>) -> Result<(), AllocError>
         ++ flat_map further_hypothesis numbers.now) }
 {
     for number in numbers {
-        push_numbered(out, b", hypothesis ", u64::from(*number) + 1)?;
+        put_other(*number, out)?;
     }
     Ok(())
+}
+
+fn put_other(number: u32, out: &mut Vec<u8>) -> Result<(), AllocError>
+    ensures { OnOk result (out.new.items ≡ out.old.items ++ further_hypothesis number) }
+{
+    out.extend_from_slice(b", ")?;
+    put_name(number, out)
 }
 
 /// Appends a line for each goal, as a hypothesis. So many hypotheses are before them.

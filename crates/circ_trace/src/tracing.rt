@@ -104,7 +104,7 @@ fn answer<'a>(
     let Ending {
         status,
         text: answer,
-        stored: _,
+        stored: _stored,
     } = found_ending(alloc, theory, found, "")?;
     let mut text = lines;
     text.extend_from_slice(answer.as_slice())?;

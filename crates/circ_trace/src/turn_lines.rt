@@ -1,9 +1,9 @@
 //! The lines of a turn.
-ghost use Rattle.std.specs.Prelude.{◌≡◌, ◌≤◌, ◌++◌, codes, length, OnOk};
+ghost use Rattle.std.specs.Prelude.{◌≡◌, ◌≤◌, ◌++◌, length, OnOk};
 ghost use Rattle.circ_turn.specs.Standing.{standing};
 ghost use Rattle.circ_trace.specs.Account.{plain_account, plain_account_if};
-ghost use Rattle.circ_trace.specs.TurnText.{shown_goal, block_text, parent_text, heading};
-ghost use Rattle.circ_trace.specs.TurnText.{opening_text, deed_text, account_text};
+ghost use Rattle.circ_trace.specs.TurnText.{block_text, parent_text, heading, goal_line};
+ghost use Rattle.circ_trace.specs.TurnText.{derived_text, opening_text, deed_text, account_text};
 ghost use Rattle.circ_trace.specs.TurnText.{done_text, turn_text};
 ghost use Rattle.circ_plain_search.specs.Coming.{IsSmall};
 
@@ -32,12 +32,28 @@ pub(crate) fn put_turn(
 {
     match state.queue.front() {
         None => put_done(alloc, theory, state, out),
-        Some(goal) => {
-            put_heading(alloc, theory, parents, state, out)?;
-            put_taken(alloc, theory, goal, out)?;
-            put_account(alloc, theory, state, account, out)
-        }
+        Some(goal) => put_goal_turn(alloc, theory, parents, state, goal, account, out),
     }
+}
+
+// The lines of a turn on this goal.
+fn put_goal_turn(
+    alloc: Global,
+    theory: &Theory,
+    parents: &[Parent],
+    state: &State<'_>,
+    goal: &Goal,
+    account: &Option<Account>,
+    out: &mut Vec<u8>,
+) -> Result<(), AllocError>
+    requires { IsSmall (standing state.now) }
+    ensures { OnOk result (out.new.items ≡ out.old.items ++ (heading theory.now parents.now
+        (standing state.now) ++ goal_line theory.now.signature goal.now
+        ++ account_text theory.now (standing state.now) (plain_account_if account.now))) }
+{
+    put_heading(alloc, theory, parents, state, out)?;
+    put_taken(alloc, theory, goal, out)?;
+    put_account(alloc, theory, state, account, out)
 }
 
 // Which goal it is, and how it came about.
@@ -91,8 +107,8 @@ fn put_taken(
     goal: &Goal,
     out: &mut Vec<u8>,
 ) -> Result<(), AllocError>
-    ensures { OnOk result (out.new.items ≡ out.old.items ++ (codes "goal: "
-        ++ shown_goal theory.now.signature goal.now ++ codes "\n")) }
+    ensures { OnOk result (out.new.items ≡ out.old.items
+        ++ goal_line theory.now.signature goal.now) }
 {
     out.extend_from_slice(b"goal: ")?;
     put_goal(alloc, theory, goal, out)?;
@@ -154,10 +170,17 @@ fn put_opening(
         (standing state.now) account.now.left account.now.right) }
 {
     if theory.is_hidden(account.left.sort()) {
-        let number = state.hyps.goals().len() as u64 + 1;
-        return push_numbered(out, b"derive: hypothesis ", number);
+        return put_derived(state, out);
     }
     put_split(alloc, theory, &account.left, &account.right, out)
+}
+
+// The goal becomes the next hypothesis.
+fn put_derived(state: &State<'_>, out: &mut Vec<u8>) -> Result<(), AllocError>
+    requires hyps { length state.now.hyps.all ≤ 100000 }
+    ensures { OnOk result (out.new.items ≡ out.old.items ++ derived_text (standing state.now)) }
+{
+    push_numbered(out, b"derive: hypothesis ", state.hyps.goals().len() as u64 + 1)
 }
 
 // The block is done. Where another comes its goals are hypotheses there.

@@ -10,6 +10,6 @@ pub returns : goal.returns
 returns c = λ bs e.
     let th = c.args.theory.now in
     let l = plain_limits c.args.limits.now in
-    let st = standing c.run.new.state in
-    let P : Standing → Type 0 = λ x. RunEnds (Reaches th c.args.gamma l x) st c.run.result in
-    found_plain th bs l c.args.gamma (plain_lists c.args.traces.items) c.requires.greatest st c.run.result (subst P e c.run.ensures) c.found_at.result c.found_at.ensures
+    let st = standing c.run-end.new.state in
+    let P : Standing → Type 0 = λ x. RunEnds (Reaches th c.args.gamma l x) st c.run-end.result in
+    found_plain th bs l c.args.gamma (plain_lists c.args.traces.items) c.requires.greatest st c.run-end.result (subst P e c.run-end.ensures) c.found_at.result c.found_at.ensures

@@ -17,7 +17,7 @@ answer-requires c = λ p same.
     let th = c.args.theory.now in
     let l = plain_limits c.args.limits.now in
     let it = c.in_ok-found.ensures in
-    let told = run_ending (IsTold th c.args.gamma l (standing c.args.state.now) [] c.run_turns.new.lines.items) (standing c.run_turns.new.state) c.run_turns.result it.0 it.1 c.run_turns.ensures in
+    let told = run_ending (IsTold th c.args.gamma l (standing c.args.state.now) [] c.run_turns-end.new.lines.items) (standing c.run_turns-end.new.state) c.run_turns-end.result it.0 it.1 c.run_turns-end.ensures in
     let P : Standing → Type 0 = λ x. plain.Reaches th c.args.gamma l x it.0 in
     (c.proved_is_accepted.ensures th c.known.ensures c.requires.start.blocks c.requires.start.searchable l p (record {
       places = c.args.gamma;
@@ -33,6 +33,6 @@ returns c = λ bs e.
     let th = c.args.theory.now in
     let l = plain_limits c.args.limits.now in
     let it = c.in_ok-found.ensures in
-    let told = run_ending (IsTold th c.args.gamma l (standing c.args.state.now) [] c.run_turns.new.lines.items) (standing c.run_turns.new.state) c.run_turns.result it.0 it.1 c.run_turns.ensures in
-    told_trace th l bs c.args.gamma (plain_lists c.args.traces.items) c.requires.greatest (standing c.args.state.now) e c.run_turns.new.lines.items it.0 told (plain_found c.in_ok-found.found) it.2
+    let told = run_ending (IsTold th c.args.gamma l (standing c.args.state.now) [] c.run_turns-end.new.lines.items) (standing c.run_turns-end.new.state) c.run_turns-end.result it.0 it.1 c.run_turns-end.ensures in
+    told_trace th l bs c.args.gamma (plain_lists c.args.traces.items) c.requires.greatest (standing c.args.state.now) e c.run_turns-end.new.lines.items it.0 told (plain_found c.in_ok-found.found) it.2
     c.answer.result c.answer.ensures
