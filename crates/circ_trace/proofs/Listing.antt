@@ -1,6 +1,6 @@
 -- Lines and parents one after another.
-use Rattle.std.proofs.Common.{◌≡◌, ◌<◌, ◌+◌, ◌==◌, ℕ, Bool, true, false, List, [], ◌∷◌, ◌++◌, length, drop, if◌then◌else◌, refl, ap, sym, ◌∙◌, append_assoc}
-use Rattle.std.specs.Prelude.{codes}
+use Rattle.std.proofs.Common.{◌≡◌, ◌<◌, ◌+◌, ◌==◌, ℕ, Bool, true, false, List, [], ◌∷◌, ◌++◌, length, drop, if◌then◌else◌, ap, sym, ◌∙◌, append_assoc}
+use Rattle.std.specs.Prelude.{codes, flat_map}
 use Rattle.std.specs.List.{slice_get}
 use Rattle.std.specs.Option.{option_map_or}
 use Rattle.circ_theory.specs.Signature.{Signature}
@@ -8,7 +8,7 @@ use Rattle.circ_theory.specs.Theory.{Derivative}
 use Rattle.circ_theory.specs.declared.parts.Goal.{Goal}
 use Rattle.circ_proof.proofs.Derivatives.{StartsWith, derivative_at}
 use Rattle.circ_trace.specs.Parents.{parent, parents_from}
-use Rattle.circ_trace.specs.TurnText.{hypothesis_text, shown_goal, hypothesis_lines}
+use Rattle.circ_trace.specs.TurnText.{hypothesis_text, further_hypothesis, shown_goal, hypothesis_lines}
 use Rattle.circ_trace.specs.declared.parent.Parent.{Parent}
 
 -- one more hypothesis, of number m
@@ -20,6 +20,13 @@ one_line sig out new whole n m g gs rest e k a h =
     ∙ append_assoc out (hypothesis_text m ++ codes ": " ++ shown_goal sig g ++ codes "\n") (hypothesis_lines sig m rest)
     ∙ ap (λ x. out ++ ((hypothesis_text x ++ codes ": " ++ shown_goal sig g ++ codes "\n") ++ hypothesis_lines sig x rest)) k
     ∙ ap (λ x. out ++ hypothesis_lines sig n x) (sym e) ∙ h
+
+-- one more of the hypotheses behind the first
+pub one_other : (out new whole : List ℕ) (n : ℕ) (ns rest : List ℕ) → ns ≡ n ∷ rest → new ≡ out ++ further_hypothesis n
+    → out ++ flat_map further_hypothesis ns ≡ whole → new ++ flat_map further_hypothesis rest ≡ whole
+one_other out new whole n ns rest e a h =
+    ap (λ x. x ++ flat_map further_hypothesis rest) a ∙ append_assoc out (further_hypothesis n) (flat_map further_hypothesis rest)
+    ∙ ap (λ x. out ++ flat_map further_hypothesis x) (sym e) ∙ h
 
 module _ (ds : List Derivative) (n s i : ℕ) (h : i < length ds) (ps whole : List Parent) (so : ps ++ parents_from n s i (drop i ds) ≡ whole) where
   next : (b : Bool) (d : Derivative) → StartsWith ds i d → option_map_or (λ x. x.hole == s) (slice_get ds i) false ≡ b

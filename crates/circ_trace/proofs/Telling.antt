@@ -1,5 +1,5 @@
 -- Lines behind lines, turn by turn.
-use Rattle.std.proofs.Common.{◌≡◌, ◌+◌, ℕ, List, [], ◌∷◌, ◌++◌, Result, Ok, Err, refl, ap, sym, subst, ◌∙◌, append_assoc}
+use Rattle.std.proofs.Common.{◌≡◌, ◌+◌, ℕ, List, [], ◌∷◌, ◌++◌, Ok, Err, refl, ap, sym, subst, ◌∙◌, append_assoc}
 use Rattle.circ_theory.specs.Theory.{Theory}
 use Rattle.circ_special.specs.declared.place.Place.{Place}
 use Rattle.circ_plain_search.specs.Search.{Limits, Standing, Ending, turn, Reaches}
@@ -35,7 +35,7 @@ module _ (th : Theory) (G : List Place) (l : Limits) where
       let P : List ℕ → Type 0 = λ x. IsTold th G l first old x e in
       let is : lines ++ (lines_of ps st ++ turns_text th G (next_parents ps st) sts) ≡ new ++ turns_text th G qs sts
       = sym (append_assoc lines (lines_of ps st) (turns_text th G (next_parents ps st) sts))
-        ∙ ap (λ x. x ++ turns_text th G (next_parents ps st) sts) (sym a) ∙ ap (λ x. new ++ turns_text th G x sts) (sym b) in
+      ∙ ap (λ x. x ++ turns_text th G (next_parents ps st) sts) (sym a) ∙ ap (λ x. new ++ turns_text th G x sts) (sym b) in
       subst P is all
 
   pub the_last : (first : Standing) (old : List ℕ) (ps : List Parent) (st : Standing) (e : Ending) (lines new : List ℕ) → GoesOn first old ps st lines

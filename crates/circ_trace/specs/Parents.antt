@@ -1,5 +1,5 @@
 -- Which goals of a block were derived, and from which.
-use Rattle.std.specs.Prelude.{ℕ, ◌+◌, ◌-◌, ◌==◌, Bool, true, false, List, [], ◌∷◌, ◌++◌, length, nat_lt, if◌then◌else◌, Option, Some, None}
+use Rattle.std.specs.Prelude.{ℕ, ◌+◌, ◌-◌, ◌==◌, Bool, false, List, [], ◌∷◌, ◌++◌, length, nat_lt, if◌then◌else◌, Option, Some, None}
 use Rattle.std.specs.List.{slice_get}
 use Rattle.circ_term.specs.Tree.{sort_of}
 use Rattle.circ_theory.specs.Theory.{Theory, Derivative}

@@ -1,5 +1,5 @@
 -- The lines that `trace` prints of a turn.
-use Rattle.std.specs.Prelude.{ℕ, ◌+◌, List, [], ◌∷◌, ◌++◌, length, flat_map, nat_lt, if◌then◌else◌, Bool, true, false, Option, Some, None, codes, decimal}
+use Rattle.std.specs.Prelude.{ℕ, ◌+◌, List, [], ◌∷◌, ◌++◌, length, flat_map, nat_lt, if◌then◌else◌, true, false, Option, Some, None, codes, decimal}
 use Rattle.std.specs.List.{slice_get}
 use Rattle.std.specs.Option.{option_map, option_map_or, option_or}
 use Rattle.circ_term.specs.Tree.{Tree, sort_of, size_of}

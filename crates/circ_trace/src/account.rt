@@ -14,13 +14,9 @@ pub struct Account {
 #[derive(Drop)]
 pub enum Deed {
     /// They join by these hypotheses; by none where they are equal.
-    Joins {
-        hypotheses: Vec<u32>,
-    },
+    Joins { hypotheses: Vec<u32> },
     /// A lemma pass uses these hypotheses.
-    Passes {
-        hypotheses: Vec<u32>,
-    },
+    Passes { hypotheses: Vec<u32> },
     /// Neither: the goal is derived, or split.
     Opens,
 }

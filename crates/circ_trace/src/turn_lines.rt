@@ -180,7 +180,11 @@ fn put_derived(state: &State<'_>, out: &mut Vec<u8>) -> Result<(), AllocError>
     requires hyps { length state.now.hyps.all ≤ 100000 }
     ensures { OnOk result (out.new.items ≡ out.old.items ++ derived_text (standing state.now)) }
 {
-    push_numbered(out, b"derive: hypothesis ", state.hyps.goals().len() as u64 + 1)
+    push_numbered(
+        out,
+        b"derive: hypothesis ",
+        state.hyps.goals().len() as u64 + 1,
+    )
 }
 
 // The block is done. Where another comes its goals are hypotheses there.

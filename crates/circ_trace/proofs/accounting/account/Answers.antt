@@ -1,4 +1,4 @@
-use Rattle.std.proofs.Common.{◌≡◌, ◌∷◌, [], List, drop, Result, ap, sym, subst, ◌∙◌}
+use Rattle.std.proofs.Common.{◌≡◌, ◌∷◌, [], List, drop, ap, sym, subst}
 use Rattle.std.specs.Prelude.{IfOk}
 use Rattle.circ_term.proofs.Within.{drop_read}
 use Rattle.circ_theory.specs.declared.parts.Goal.{Goal}

@@ -1,4 +1,3 @@
-use Rattle.std.proofs.Common.{sym, ap, ◌∙◌}
 use Rattle.circ_plain_search.specs.Search.{sides_with, Sides}
 use Rattle.circ_proof.specs.Plain.{plain_chain}
 use Rattle.circ_turn.specs.Standing.{standing}
