@@ -181,7 +181,8 @@ fn push_range(
     if begin <= end && end <= bytes.len() {
         text.extend_from_slice(&bytes[begin..end])?;
     }
-    text.push(b' ')
+    text.push(b' ')?;
+    Ok(())
 }
 
 /// Where a token begins among so many bytes; behind them if there is none.

@@ -5,17 +5,20 @@ use std::os::unix::fs::{FileTypeExt, MetadataExt};
 use std::rt::Files;
 use std::time::{Clock, Duration, Instant};
 
-/// The time after which something is told, and told again.
-const PAUSE: Duration = Duration::from_secs(1);
+/// So many seconds pass before something is told, and told again.
+const PAUSE: u64 = 1;
 
 /// What standard error is.
 const STANDARD_ERROR: &str = "/proc/self/fd/2";
 
-/// How much of the begun file was taken, and when that was told.
+/// The line that tells how much of the begun file was taken.
 #[derive(Drop)]
-struct Taken {
+struct Line<R: Clock + Eprint + AllocGlobal + Drop> {
+    rt: R,
+    is_told: bool,
     name: String,
     bytes: u64,
+    /// When the file was begun, or the line was told last.
     told: Option<Instant>,
     is_shown: bool,
 }
@@ -25,26 +28,21 @@ struct Taken {
 #[derive(Drop)]
 pub struct Progress<S: Shelf + Drop, R: Clock + Eprint + AllocGlobal + Drop> {
     inner: S,
-    rt: R,
-    is_told: bool,
-    taken: Taken,
+    line: Line<R>,
 }
 
 impl<S: Shelf + Drop, R: Files + Clock + Eprint + AllocGlobal + Drop> Progress<S, R> {
     /// Over a shelf.
     pub fn new(inner: S, rt: R) -> Progress<S, R> {
-        let taken = Taken {
+        let line = Line {
+            is_told: is_terminal(&rt),
             name: String::new(rt.alloc()),
+            rt,
             bytes: 0,
             told: None,
             is_shown: false,
         };
-        Progress {
-            inner,
-            is_told: is_terminal(&rt),
-            rt,
-            taken,
-        }
+        Progress { inner, line }
     }
 }
 
@@ -63,38 +61,30 @@ fn is_of_terminals(driver: u64) -> bool {
     driver == 4 || driver == 5 || (136 <= driver && driver <= 143)
 }
 
-impl<S: Shelf + Drop, R: Clock + Eprint + AllocGlobal + Drop> Progress<S, R> {
-    /// The shelf.
-    pub fn inner(&self) -> &S {
-        &self.inner
-    }
-
+impl<R: Clock + Eprint + AllocGlobal + Drop> Line<R> {
     /// A file is begun.
     fn start(&mut self, name: &str) {
         self.clear();
         let mut copy = String::new(self.rt.alloc());
         let _ = copy.push_str(name);
-        self.taken = Taken {
-            name: copy,
-            bytes: 0,
-            told: Instant::now(&self.rt).ok(),
-            is_shown: false,
-        };
+        self.name = copy;
+        self.bytes = 0;
+        self.told = Instant::now(&self.rt).ok();
     }
 
     /// So many bytes more were taken; the file is at its end if there are none.
     fn add(&mut self, count: usize) {
-        self.taken.bytes = self.taken.bytes.saturating_add(count as u64);
+        self.bytes = self.bytes.saturating_add(count as u64);
         if count == 0 {
             self.clear();
             return;
         }
-        let Some(told) = self.taken.told else {
+        let Some(told) = self.told else {
             return;
         };
         match Instant::now(&self.rt) {
-            Ok(now) if now.duration_since(told) >= PAUSE => {
-                self.taken.told = Some(now);
+            Ok(now) if now.duration_since(told) >= Duration::from_secs(PAUSE) => {
+                self.told = Some(now);
                 self.show();
             }
             _ => {}
@@ -102,18 +92,30 @@ impl<S: Shelf + Drop, R: Clock + Eprint + AllocGlobal + Drop> Progress<S, R> {
     }
 
     fn show(&mut self) {
-        self.taken.is_shown = true;
-        let name = self.taken.name.as_str();
-        let bytes = self.taken.bytes;
+        self.is_shown = true;
+        let name = self.name.as_str();
+        let bytes = self.bytes;
         let _ = eprint!(self.rt; "\rcirc: {name}: {bytes} bytes");
+    }
+
+    /// Takes the line away.
+    fn clear(&mut self) {
+        if self.is_shown {
+            self.is_shown = false;
+            let _ = eprint!(self.rt; "\r\x1b[K");
+        }
+    }
+}
+
+impl<S: Shelf + Drop, R: Clock + Eprint + AllocGlobal + Drop> Progress<S, R> {
+    /// The shelf.
+    pub fn inner(&self) -> &S {
+        &self.inner
     }
 
     /// Takes the line away, for what is told next.
     pub fn clear(&mut self) {
-        if self.taken.is_shown {
-            self.taken.is_shown = false;
-            let _ = eprint!(self.rt; "\r\x1b[K");
-        }
+        self.line.clear();
     }
 }
 
@@ -121,16 +123,16 @@ impl<S: Shelf + Drop, R: Clock + Eprint + AllocGlobal + Drop> Shelf for Progress
     ghost state = { λ p. S.state p.inner };
 
     fn begin(&mut self, name: &str) -> Result<(), OuterFault> {
-        if self.is_told {
-            self.start(name);
+        if self.line.is_told {
+            self.line.start(name);
         }
         self.inner.begin(name)
     }
 
     fn piece(&mut self, buf: &mut [u8]) -> Result<usize, OuterFault> {
         let count = self.inner.piece(buf)?;
-        if self.is_told {
-            self.add(count);
+        if self.line.is_told {
+            self.line.add(count);
         }
         Ok(count)
     }
