@@ -46,8 +46,8 @@ pub fn search<'a>(
     found_ending(alloc, theory, &found, name)
 }
 
-/// What is answered by what the search found.
-fn found_ending<'a>(
+/// What is answered by what a search found. A proof's text is to be stored under this name.
+pub fn found_ending<'a>(
     alloc: Global,
     theory: &Theory,
     found: &Found,

@@ -1,9 +1,9 @@
 //! What is answered after a search: the status, its text, and the text of the proof that is to be
 //! stored.
 //!
-//! [`search`] searches for a proof of goals and gives how that ends, and [`differ`] looks for an
-//! experiment that tells the sides of one apart; [`searchable`] says that the goals of a script can
-//! be searched for.
+//! [`search`] searches for a proof of goals and gives how that ends, [`found_ending`] gives it for
+//! what was found, and [`differ`] looks for an experiment that tells the sides of one apart;
+//! [`searchable`] says that the goals of a script can be searched for.
 #![tactic(auto)]
 
 mod answering;
@@ -12,7 +12,7 @@ mod differing;
 mod script_goals;
 mod texts;
 
-pub use answering::{GREATEST_DERIVES, GREATEST_STEPS, search};
+pub use answering::{GREATEST_DERIVES, GREATEST_STEPS, found_ending, search};
 pub use differing::differ;
 pub use script_goals::searchable;
 pub use texts::push_counts;

@@ -1,5 +1,5 @@
 -- What is answered is what the plain search finds.
-use Rattle.std.proofs.Common.{◌≡◌, List, Some, Result, Ok, Err, subst}
+use Rattle.std.proofs.Common.{◌≡◌, List, Option, Some, Result, Ok, Err, subst, ◌∙◌}
 use Rattle.std.specs.Prelude.{IfOk}
 use Rattle.std.proofs.lemmas.Option.{same_Some}
 use Rattle.circ_theory.specs.Theory.{Theory}
@@ -8,13 +8,13 @@ use Rattle.circ_special.specs.declared.place.Place.{Place}
 use Rattle.circ_rewrite.specs.Replacement.{Traced}
 use Rattle.circ_proof.specs.Proof.{Proof}
 use Rattle.circ_plain_search.specs.Greatest.{GreatestSpecialSet}
-use Rattle.circ_plain_search.specs.Search.{Limits, Ending, Reaches, start}
-use Rattle.circ_plain_search.specs.Numbering.{Proved, found_of}
+use Rattle.circ_plain_search.specs.Search.{Limits, Standing, Ending, Reaches, start}
+use Rattle.circ_plain_search.specs.Numbering.{Proved, Special, found_of}
 use Rattle.circ_plain_search.specs.PlainSearch.{PlainSearch, IsProofOf}
-use Rattle.circ_turn.specs.Ending.{IsEnd}
+use Rattle.circ_turn.specs.Ending.{IsEnd, RunEnds}
 use Rattle.circ_turn.specs.declared.end.End.{End}
 use Rattle.circ_turn.specs.declared.end.End.TheVariants as end
-use Rattle.circ_search.specs.Plain.{plain_found, ending_of, special_with, IfProved}
+use Rattle.circ_search.specs.Plain.{plain_found, ending_of, ending_at, special_with, IfProved}
 use Rattle.circ_search.specs.declared.found.Found.{Found}
 use Rattle.circ_search.specs.declared.found.Found.TheVariants as found
 
@@ -25,17 +25,36 @@ is_ended R (end.TooBig n) x h r = let y = same_Some _ x h in subst R y r
 is_ended R (end.TooDeep n) x h r = let y = same_Some _ x h in subst R y r
 is_ended R end.Memory x h r = absurd (cc)
 
-module _ (th : Theory) (blocks : List (List Goal)) (l : Limits) (G : List Place) (traces : List (List Traced)) (greatest : GreatestSpecialSet th l.steps G traces) where
-  pub done_plain : {E : Type 0} (r : Result Found E) (e : Ending) → Reaches th G l (start l blocks) e
-      → IfOk r (λ f. plain_found f ≡ found_of (special_with G traces) e) → IfOk r (λ f. PlainSearch th blocks l (plain_found f))
-  done_plain (Ok f) e run is = record { places = G; traces = traces; greatest = greatest; ending = e; run = run; is = is }
-  done_plain (Err x) e run is = tt
+-- what holds of how a run ends holds of its ending
+pub run_ending : {X : Type 0} (R : Ending → Type 0) (st : Standing) (r : Result X End) (x : Ending) → ending_at st r ≡ Some x → RunEnds R st r → R x
+run_ending R st (Ok y) x h r = let z = same_Some _ x h in subst R z r
+run_ending R st (Err e) x h r = is_ended R e x h r
 
-  pub ended_plain : {E : Type 0} (r : Result Found E) (e : End) → IsEnd (Reaches th G l (start l blocks)) e
-      → IfOk r (λ f. (x : Ending) × (ending_of e ≡ Some x) × (plain_found f ≡ found_of (special_with G traces) x)) → IfOk r (λ f. PlainSearch th blocks l (plain_found f))
-  ended_plain (Ok f) e run is =
-      record { places = G; traces = traces; greatest = greatest; ending = is.0; run = is_ended (Reaches th G l (start l blocks)) e is.0 is.1 run; is = is.2 }
-  ended_plain (Err x) e run is = tt
+-- what is found at an ending that a run comes to
+pub found_there : {X E : Type 0} (s : Special) (st : Standing) (end : Result X End) (e : Ending) → ending_at st end ≡ Some e → (r : Result Found E)
+    → IfOk r (λ f. plain_found f ≡ found_of s e) → IfOk r (λ f. (x : Ending) × (ending_at st end ≡ Some x) × (plain_found f ≡ found_of s x))
+found_there s st end e h (Ok f) is = (e, h, is)
+found_there s st end e h (Err x) is = tt
+
+pub found_so : {X E : Type 0} (s : Special) (st : Standing) (end : Result X End) (o : Option Ending) → ending_at st end ≡ o → (r : Result Found E)
+    → IfOk r (λ f. (x : Ending) × (o ≡ Some x) × (plain_found f ≡ found_of s x))
+    → IfOk r (λ f. (x : Ending) × (ending_at st end ≡ Some x) × (plain_found f ≡ found_of s x))
+found_so s st end o h (Ok f) is = (is.0, h ∙ is.1, is.2)
+found_so s st end o h (Err x) is = tt
+
+module _ (th : Theory) (blocks : List (List Goal)) (l : Limits) (G : List Place) (traces : List (List Traced)) (greatest : GreatestSpecialSet th l.steps G traces) where
+  pub found_plain : {X E : Type 0} (st : Standing) (end : Result X End) → RunEnds (Reaches th G l (start l blocks)) st end → (r : Result Found E)
+      → IfOk r (λ f. (x : Ending) × (ending_at st end ≡ Some x) × (plain_found f ≡ found_of (special_with G traces) x))
+      → IfOk r (λ f. PlainSearch th blocks l (plain_found f))
+  found_plain st end run (Ok f) is = record {
+    places = G;
+    traces = traces;
+    greatest = greatest;
+    ending = is.0;
+    run = run_ending (Reaches th G l (start l blocks)) st end is.0 is.1 run;
+    is = is.2;
+  }
+  found_plain st end run (Err x) is = tt
 
 -- what is proved is accepted
 pub proofs_hold : {E : Type 0} (th : Theory) (blocks : List (List Goal)) (l : Limits) (r : Result Found E)

@@ -1,12 +1,12 @@
 -- What contracts see of what a search finds.
-use Rattle.std.specs.Prelude.{List, map, Option, Some, None}
+use Rattle.std.specs.Prelude.{List, map, Option, Some, None, Result, Ok, Err}
 use Rattle.circ_theory.specs.Pairs.{plain_pair}
 use Rattle.circ_rewrite.specs.Links.{link_of}
 use Rattle.circ_rewrite.specs.Replacement.{Traced}
 use Rattle.circ_proof.specs.PlainProof.{plain_proof}
 use Rattle.circ_proof.specs.Proof.{Proof}
 use Rattle.circ_special.specs.declared.place.Place.{Place}
-use Rattle.circ_plain_search.specs.Search.{Ending, Is_stuck, Is_spent, Is_too_big, Is_too_deep}
+use Rattle.circ_plain_search.specs.Search.{Standing, Ending, All_done, Is_stuck, Is_spent, Is_too_big, Is_too_deep}
 use Rattle.circ_plain_search.specs.Numbering.{Found, Proved, LongTable, Stuck, Spent, TooBig, TooDeep, Special, special}
 use Rattle.circ_turn.specs.declared.end.End.{End}
 use Rattle.circ_turn.specs.declared.end.End.TheVariants as end
@@ -29,6 +29,11 @@ ending_of (end.Spent rewrites derives steps) = Some (Is_spent rewrites derives s
 ending_of (end.TooBig nodes) = Some (Is_too_big nodes)
 ending_of (end.TooDeep depth) = Some (Is_too_deep depth)
 ending_of end.Memory = None
+
+-- the ending of a run that has come to this standing, unless memory ran out
+abbrev pub ending_at : {X : Type 0} → Standing → Result X End → Option Ending
+ending_at st (Ok x) = Some (All_done st.finished st.derives st.made st.deep)
+ending_at st (Err e) = ending_of e
 
 -- the set with its certificates, from the traces
 abbrev pub special_with : List Place → List (List Traced) → Special

@@ -1,7 +1,7 @@
 //! The search for proofs by circular coinduction.
 //!
 //! [`prove`] searches a proof of blocks of goals, as the plain search does, and gives it in the
-//! form in which it is stored.
+//! form in which it is stored. [`found_at`] says what is found where a search ends.
 #![tactic(auto)]
 
 mod found;
@@ -9,4 +9,4 @@ mod proving;
 
 pub use circ_turn::Limits;
 pub use found::Found;
-pub use proving::prove;
+pub use proving::{found_at, prove};

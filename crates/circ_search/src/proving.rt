@@ -11,8 +11,8 @@ ghost use Rattle.circ_plain_search.specs.Search.{All_done, Ending, start};
 ghost use Rattle.circ_turn.specs.Standing.{standing, IsStart};
 ghost use Rattle.circ_numbering.specs.Asking.{GivesProof};
 ghost use Rattle.circ_numbering.specs.Plain.{plain_term_blocks, plain_term_certificates};
-ghost use Rattle.circ_search.specs.Plain.{plain_found, plain_limits, ending_of, special_with};
-ghost use Rattle.circ_search.specs.Plain.{IfProved};
+ghost use Rattle.circ_search.specs.Plain.{plain_found, plain_limits, special_with, IfProved};
+ghost use Rattle.circ_search.specs.Plain.{ending_of, ending_at};
 
 use crate::found::Found;
 use circ_contexts::special_contexts;
@@ -91,7 +91,22 @@ fn search_from(
         gamma: &gamma,
         limits: *limits,
     };
-    match search.run(state) {
+    let end = search.run(state);
+    found_at(alloc, gamma, traces, state, end)
+}
+
+/// What is found where a run of the search ends so that has come to this state.
+pub fn found_at(
+    alloc: Global,
+    gamma: Gamma,
+    traces: Vec<Vec<Trace>>,
+    state: &State<'_>,
+    end: Result<(), End>,
+) -> Result<Found, AllocError>
+    ensures { IfOk result (λ f. (e : Ending) × (ending_at (standing state.now) end ≡ Some e)
+        × (plain_found f ≡ found_of (special_with gamma (plain_lists traces.items)) e)) }
+{
+    match end {
         Ok(()) => found(alloc, gamma, traces, state),
         Err(end) => ended(end),
     }

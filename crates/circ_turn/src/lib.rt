@@ -1,7 +1,7 @@
 //! The search for a proof, turn by turn.
 //!
 //! A [`Search`] says what a search goes by. [`Search::run`] takes a [`State`] from turn to turn
-//! until every goal is done, or tells the [`End`].
+//! until every goal is done, or tells the [`End`]; [`Search::turn`] makes one turn.
 #![tactic(auto)]
 
 mod end;

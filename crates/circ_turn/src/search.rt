@@ -65,9 +65,9 @@ impl<'a> Search<'a> {
         }
     }
 
-    // One turn: the first goal of the queue is looked at, or, where there is none, the block is
-    // finished. False where every goal is done.
-    fn turn(&self, rules: &mut BlockRules<'a>, state: &mut State<'_>) -> Result<bool, End>
+    /// One turn: the first goal of the queue is looked at, or, where there is none, the block is
+    /// finished. False where every goal is done.
+    pub fn turn(&self, rules: &mut BlockRules<'a>, state: &mut State<'_>) -> Result<bool, End>
         requires rules { IsRulesOf self.now.theory.now state.old.hyps.earlier rules.old }
         requires small { IsSmall (standing state.old) }
         requires ready { (g : TheGoal) (rest : List TheGoal) (n : Sides)

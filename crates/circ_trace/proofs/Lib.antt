@@ -1,0 +1,4 @@
+pub mod Accounts
+pub mod Listing
+pub mod Telling
+pub mod Traces

@@ -1,0 +1,46 @@
+-- Lines and parents one after another.
+use Rattle.std.proofs.Common.{◌≡◌, ◌<◌, ◌+◌, ◌==◌, ℕ, Bool, true, false, List, [], ◌∷◌, ◌++◌, length, drop, if◌then◌else◌, ap, sym, ◌∙◌, append_assoc}
+use Rattle.std.specs.Prelude.{codes, flat_map}
+use Rattle.std.specs.List.{slice_get}
+use Rattle.std.specs.Option.{option_map_or}
+use Rattle.circ_theory.specs.Signature.{Signature}
+use Rattle.circ_theory.specs.Theory.{Derivative}
+use Rattle.circ_theory.specs.declared.parts.Goal.{Goal}
+use Rattle.circ_proof.proofs.Derivatives.{StartsWith, derivative_at}
+use Rattle.circ_trace.specs.Parents.{parent, parents_from}
+use Rattle.circ_trace.specs.TurnText.{hypothesis_text, further_hypothesis, shown_goal, hypothesis_lines}
+use Rattle.circ_trace.specs.declared.parent.Parent.{Parent}
+
+-- one more hypothesis, of number m
+pub one_line : (sig : Signature) (out new whole : List ℕ) (n m : ℕ) (g : Goal) (gs rest : List Goal) → gs ≡ g ∷ rest → m ≡ n + 1
+    → new ≡ out ++ (hypothesis_text m ++ codes ": " ++ shown_goal sig g ++ codes "\n") → out ++ hypothesis_lines sig n gs ≡ whole
+    → new ++ hypothesis_lines sig m rest ≡ whole
+one_line sig out new whole n m g gs rest e k a h =
+    ap (λ x. x ++ hypothesis_lines sig m rest) a
+    ∙ append_assoc out (hypothesis_text m ++ codes ": " ++ shown_goal sig g ++ codes "\n") (hypothesis_lines sig m rest)
+    ∙ ap (λ x. out ++ ((hypothesis_text x ++ codes ": " ++ shown_goal sig g ++ codes "\n") ++ hypothesis_lines sig x rest)) k
+    ∙ ap (λ x. out ++ hypothesis_lines sig n x) (sym e) ∙ h
+
+-- one more of the hypotheses behind the first
+pub one_other : (out new whole : List ℕ) (n : ℕ) (ns rest : List ℕ) → ns ≡ n ∷ rest → new ≡ out ++ further_hypothesis n
+    → out ++ flat_map further_hypothesis ns ≡ whole → new ++ flat_map further_hypothesis rest ≡ whole
+one_other out new whole n ns rest e a h =
+    ap (λ x. x ++ flat_map further_hypothesis rest) a ∙ append_assoc out (further_hypothesis n) (flat_map further_hypothesis rest)
+    ∙ ap (λ x. out ++ flat_map further_hypothesis x) (sym e) ∙ h
+
+module _ (ds : List Derivative) (n s i : ℕ) (h : i < length ds) (ps whole : List Parent) (so : ps ++ parents_from n s i (drop i ds) ≡ whole) where
+  next : (b : Bool) (d : Derivative) → StartsWith ds i d → option_map_or (λ x. x.hole == s) (slice_get ds i) false ≡ b
+      → parents_from n s i (drop i ds)
+      ≡ (if b then parent n i ∷ parents_from n s (i + 1) (drop (i + 1) ds) else parents_from n s (i + 1) (drop (i + 1) ds))
+  next b d w e =
+      let t : (d.hole == s) ≡ b = sym (ap (λ o. option_map_or (λ x. x.hole == s) o false) w.there) ∙ e in
+      ap (parents_from n s i) w.rest
+      ∙ ap (λ c. if c then parent n i ∷ parents_from n s (i + 1) (drop (i + 1) ds) else parents_from n s (i + 1) (drop (i + 1) ds)) t
+
+  pub parent_taken : option_map_or (λ x. x.hole == s) (slice_get ds i) false ≡ true → (ps ++ parent n i ∷ []) ++ parents_from n s (i + 1) (drop (i + 1) ds) ≡ whole
+  parent_taken e =
+      let d = derivative_at ds i h in
+      append_assoc ps (parent n i ∷ []) (parents_from n s (i + 1) (drop (i + 1) ds)) ∙ ap (λ x. ps ++ x) (sym (next true d.0 d.1 e)) ∙ so
+
+  pub parent_passed : option_map_or (λ x. x.hole == s) (slice_get ds i) false ≡ false → ps ++ parents_from n s (i + 1) (drop (i + 1) ds) ≡ whole
+  parent_passed e = let d = derivative_at ds i h in ap (λ x. ps ++ x) (sym (next false d.0 d.1 e)) ∙ so

@@ -1,0 +1,5 @@
+pub mod Account
+pub mod Parents
+pub mod Telling
+pub mod Tracing
+pub mod TurnText

@@ -1,0 +1,109 @@
+-- The lines that `trace` prints of a turn.
+use Rattle.std.specs.Prelude.{ℕ, ◌+◌, List, [], ◌∷◌, ◌++◌, length, flat_map, nat_lt, if◌then◌else◌, true, false, Option, Some, None, codes, decimal}
+use Rattle.std.specs.List.{slice_get}
+use Rattle.std.specs.Option.{option_map, option_map_or, option_or}
+use Rattle.circ_term.specs.Tree.{Tree, sort_of, size_of}
+use Rattle.circ_theory.specs.Signature.{Signature}
+use Rattle.circ_theory.specs.Theory.{Theory}
+use Rattle.circ_theory.specs.Observing.{is_hidden}
+use Rattle.circ_theory.specs.declared.parts.Goal.{Goal}
+use Rattle.circ_mixfix.specs.Printing.{text_of_term}
+use Rattle.circ_plain_search.specs.Joining.{first_open}
+use Rattle.circ_plain_search.specs.Search.{Standing}
+use Rattle.circ_trace.specs.Account.{Account, Deed, Joins, Passes, Opens}
+use Rattle.circ_trace.specs.Parents.{parent_of}
+use Rattle.circ_trace.specs.declared.parent.Parent.{Parent}
+
+-- a term, or, where it has more than 1,000 nodes, how many
+abbrev pub shown : Signature → Tree → List ℕ
+shown sig t = if nat_lt 1000 (size_of t) then codes "(" ++ decimal (size_of t) ++ codes " nodes)" else text_of_term sig false t
+
+abbrev pub shown_goal : Signature → Goal → List ℕ
+shown_goal sig g = shown sig g.left ++ codes " = " ++ shown sig g.right
+
+abbrev pub shown_side : (label : List ℕ) → Signature → Tree → List ℕ
+shown_side label sig t = label ++ shown sig t ++ codes "\n"
+
+-- hypotheses are counted from 1
+abbrev pub hypothesis_text : (number : ℕ) → List ℕ
+hypothesis_text n = codes "hypothesis " ++ decimal n
+
+-- blocks are counted from 1
+abbrev pub block_text : Standing → List ℕ
+block_text st = codes "block " ++ decimal (length st.finished + 1)
+
+-- ---- which goal it is
+
+abbrev pub derivative_text : Theory → (number : ℕ) → List ℕ
+derivative_text th i = option_map_or (text_of_term th.signature true) (option_map (λ d. d.body) (slice_get th.derivatives i)) []
+
+abbrev pub parent_text : Theory → Option Parent → List ℕ
+parent_text th None = []
+parent_text th (Some p) = codes " = " ++ derivative_text th p.derivative ++ codes " of goal " ++ decimal p.goal
+
+-- the number of the goal in hand, and how it came about
+abbrev pub heading : Theory → List Parent → Standing → List ℕ
+heading th ps st = block_text st ++ codes ", goal " ++ decimal (st.taken + 1) ++ parent_text th (parent_of ps st) ++ codes "\n"
+
+-- the goal as it stands
+abbrev pub goal_line : Signature → Goal → List ℕ
+goal_line sig g = codes "goal: " ++ shown_goal sig g ++ codes "\n"
+
+-- ---- what is done with it
+
+abbrev pub further_hypothesis : ℕ → List ℕ
+further_hypothesis n = codes ", " ++ hypothesis_text (n + 1)
+
+-- the hypotheses that are used, or this where none is
+abbrev pub uses_text : (none some : List ℕ) → List ℕ → List ℕ
+uses_text none some [] = none
+uses_text none some (n ∷ ns) = some ++ hypothesis_text (n + 1) ++ flat_map further_hypothesis ns
+
+abbrev pub split_text : Signature → Option Tree → List ℕ
+split_text sig None = codes "no term to split on"
+split_text sig (Some u) = codes "split on " ++ shown sig u
+
+-- the next hypothesis
+abbrev pub derived_text : Standing → List ℕ
+derived_text st = codes "derive: " ++ hypothesis_text (length st.hypotheses + 1)
+
+-- A hidden goal is derived, and so becomes a hypothesis. A visible one is split.
+abbrev pub opening_text : Theory → Standing → (left right : Tree) → List ℕ
+opening_text th st s t =
+    if is_hidden th (sort_of s) then derived_text st else split_text th.signature (option_or (first_open th s) (first_open th t))
+
+abbrev pub deed_text : Theory → Standing → (left right : Tree) → Deed → List ℕ
+deed_text th st s t (Joins ns) = uses_text (codes "equal") (codes "joins by ") ns
+deed_text th st s t (Passes ns) = uses_text (codes "lemma pass") (codes "lemma pass by ") ns
+deed_text th st s t Opens = opening_text th st s t
+
+-- nothing where normalising ends the search
+abbrev pub account_text : Theory → Standing → Option Account → List ℕ
+account_text th st None = []
+account_text th st (Some a) =
+    shown_side (codes "left: ") th.signature a.left ++ shown_side (codes "right: ") th.signature a.right
+    ++ deed_text th st a.left a.right a.deed ++ codes "\n"
+
+-- ---- where no goal is left
+
+-- goals as hypotheses, of which the first has number n + 1
+abbrev pub hypothesis_lines : Signature → (n : ℕ) → List Goal → List ℕ
+hypothesis_lines sig n [] = []
+hypothesis_lines sig n (g ∷ gs) = (hypothesis_text (n + 1) ++ codes ": " ++ shown_goal sig g ++ codes "\n") ++ hypothesis_lines sig (n + 1) gs
+
+-- the goals of the block, which are hypotheses of the blocks to come, if there is one
+abbrev pub handed_on : Signature → (n : ℕ) → (later : List (List Goal)) → List Goal → List ℕ
+handed_on sig n [] gs = []
+handed_on sig n (b ∷ bs) gs = hypothesis_lines sig n gs
+
+abbrev pub done_text : Signature → Standing → List ℕ
+done_text sig st = block_text st ++ codes ", done\n" ++ handed_on sig (length st.earlier) st.later st.goals
+
+-- ---- a turn
+
+abbrev pub text_at : Theory → List Parent → Standing → Option Account → (queue : List Goal) → List ℕ
+text_at th ps st a [] = done_text th.signature st
+text_at th ps st a (g ∷ rest) = heading th ps st ++ goal_line th.signature g ++ account_text th st a
+
+abbrev pub turn_text : Theory → List Parent → Standing → Option Account → List ℕ
+turn_text th ps st a = text_at th ps st a st.queue

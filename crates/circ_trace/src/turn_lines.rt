@@ -1,0 +1,210 @@
+//! The lines of a turn.
+ghost use Rattle.std.specs.Prelude.{◌≡◌, ◌≤◌, ◌++◌, length, OnOk};
+ghost use Rattle.circ_turn.specs.Standing.{standing};
+ghost use Rattle.circ_trace.specs.Account.{plain_account, plain_account_if};
+ghost use Rattle.circ_trace.specs.TurnText.{block_text, parent_text, heading, goal_line};
+ghost use Rattle.circ_trace.specs.TurnText.{derived_text, opening_text, deed_text, account_text};
+ghost use Rattle.circ_trace.specs.TurnText.{done_text, turn_text};
+ghost use Rattle.circ_plain_search.specs.Coming.{IsSmall};
+
+use crate::account::{Account, Deed};
+use crate::lines::{put_derivative, put_goal, put_hypotheses, put_side, put_split, put_uses};
+use crate::parent::Parent;
+use crate::parents::parent_of;
+use circ_files::push_numbered;
+use circ_theory::{Goal, Theory};
+use circ_turn::State;
+use std::alloc::{AllocError, Global};
+
+/// Appends the lines of the turn that comes next, of which this is the account. The parents are
+/// those of the goals that the block has derived.
+pub(crate) fn put_turn(
+    alloc: Global,
+    theory: &Theory,
+    parents: &[Parent],
+    state: &State<'_>,
+    account: &Option<Account>,
+    out: &mut Vec<u8>,
+) -> Result<(), AllocError>
+    requires { IsSmall (standing state.now) }
+    ensures { OnOk result (out.new.items ≡ out.old.items ++ turn_text theory.now parents.now
+        (standing state.now) (plain_account_if account.now)) }
+{
+    match state.queue.front() {
+        None => put_done(alloc, theory, state, out),
+        Some(goal) => put_goal_turn(alloc, theory, parents, state, goal, account, out),
+    }
+}
+
+// The lines of a turn on this goal.
+fn put_goal_turn(
+    alloc: Global,
+    theory: &Theory,
+    parents: &[Parent],
+    state: &State<'_>,
+    goal: &Goal,
+    account: &Option<Account>,
+    out: &mut Vec<u8>,
+) -> Result<(), AllocError>
+    requires { IsSmall (standing state.now) }
+    ensures { OnOk result (out.new.items ≡ out.old.items ++ (heading theory.now parents.now
+        (standing state.now) ++ goal_line theory.now.signature goal.now
+        ++ account_text theory.now (standing state.now) (plain_account_if account.now))) }
+{
+    put_heading(alloc, theory, parents, state, out)?;
+    put_taken(alloc, theory, goal, out)?;
+    put_account(alloc, theory, state, account, out)
+}
+
+// Which goal it is, and how it came about.
+fn put_heading(
+    alloc: Global,
+    theory: &Theory,
+    parents: &[Parent],
+    state: &State<'_>,
+    out: &mut Vec<u8>,
+) -> Result<(), AllocError>
+    requires finished { length state.now.finished.items ≤ 100000 }
+    requires taken { state.now.taken ≤ 100000 }
+    ensures { OnOk result (out.new.items ≡ out.old.items
+        ++ heading theory.now parents.now (standing state.now)) }
+{
+    put_block(state, out)?;
+    push_numbered(out, b", goal ", state.taken + 1)?;
+    put_parent(alloc, theory, parent_of(parents, state), out)?;
+    out.extend_from_slice(b"\n")
+}
+
+fn put_block(state: &State<'_>, out: &mut Vec<u8>) -> Result<(), AllocError>
+    requires finished { length state.now.finished.items ≤ 100000 }
+    ensures { OnOk result (out.new.items ≡ out.old.items ++ block_text (standing state.now)) }
+{
+    push_numbered(out, b"block ", state.finished.len() as u64 + 1)
+}
+
+fn put_parent(
+    alloc: Global,
+    theory: &Theory,
+    parent: Option<Parent>,
+    out: &mut Vec<u8>,
+) -> Result<(), AllocError>
+    ensures { OnOk result (out.new.items ≡ out.old.items ++ parent_text theory.now parent) }
+{
+    match parent {
+        None => Ok(()),
+        Some(parent) => {
+            out.extend_from_slice(b" = ")?;
+            put_derivative(alloc, theory, parent.derivative, out)?;
+            push_numbered(out, b" of goal ", parent.goal)
+        }
+    }
+}
+
+// The goal as it stands.
+fn put_taken(
+    alloc: Global,
+    theory: &Theory,
+    goal: &Goal,
+    out: &mut Vec<u8>,
+) -> Result<(), AllocError>
+    ensures { OnOk result (out.new.items ≡ out.old.items
+        ++ goal_line theory.now.signature goal.now) }
+{
+    out.extend_from_slice(b"goal: ")?;
+    put_goal(alloc, theory, goal, out)?;
+    out.extend_from_slice(b"\n")
+}
+
+// Its sides in normal form, and what is done with them.
+fn put_account(
+    alloc: Global,
+    theory: &Theory,
+    state: &State<'_>,
+    account: &Option<Account>,
+    out: &mut Vec<u8>,
+) -> Result<(), AllocError>
+    requires hyps { length state.now.hyps.all ≤ 100000 }
+    ensures { OnOk result (out.new.items ≡ out.old.items ++ account_text theory.now
+        (standing state.now) (plain_account_if account.now)) }
+{
+    let Some(account) = account else {
+        return Ok(());
+    };
+    put_side(alloc, theory, b"left: ", &account.left, out)?;
+    put_side(alloc, theory, b"right: ", &account.right, out)?;
+    put_deed(alloc, theory, state, account, out)?;
+    out.extend_from_slice(b"\n")
+}
+
+fn put_deed(
+    alloc: Global,
+    theory: &Theory,
+    state: &State<'_>,
+    account: &Account,
+    out: &mut Vec<u8>,
+) -> Result<(), AllocError>
+    requires hyps { length state.now.hyps.all ≤ 100000 }
+    ensures { OnOk result (out.new.items ≡ out.old.items ++ deed_text theory.now
+        (standing state.now) account.now.left account.now.right
+        (plain_account account.now).deed) }
+{
+    match &account.deed {
+        Deed::Joins { hypotheses } => put_uses(b"equal", b"joins by ", hypotheses.as_slice(), out),
+        Deed::Passes { hypotheses } => {
+            put_uses(b"lemma pass", b"lemma pass by ", hypotheses.as_slice(), out)
+        }
+        Deed::Opens => put_opening(alloc, theory, state, account, out),
+    }
+}
+
+// A hidden goal is derived, and a visible one is split.
+fn put_opening(
+    alloc: Global,
+    theory: &Theory,
+    state: &State<'_>,
+    account: &Account,
+    out: &mut Vec<u8>,
+) -> Result<(), AllocError>
+    requires hyps { length state.now.hyps.all ≤ 100000 }
+    ensures { OnOk result (out.new.items ≡ out.old.items ++ opening_text theory.now
+        (standing state.now) account.now.left account.now.right) }
+{
+    if theory.is_hidden(account.left.sort()) {
+        return put_derived(state, out);
+    }
+    put_split(alloc, theory, &account.left, &account.right, out)
+}
+
+// The goal becomes the next hypothesis.
+fn put_derived(state: &State<'_>, out: &mut Vec<u8>) -> Result<(), AllocError>
+    requires hyps { length state.now.hyps.all ≤ 100000 }
+    ensures { OnOk result (out.new.items ≡ out.old.items ++ derived_text (standing state.now)) }
+{
+    push_numbered(
+        out,
+        b"derive: hypothesis ",
+        state.hyps.goals().len() as u64 + 1,
+    )
+}
+
+// The block is done. Where another comes its goals are hypotheses there.
+fn put_done(
+    alloc: Global,
+    theory: &Theory,
+    state: &State<'_>,
+    out: &mut Vec<u8>,
+) -> Result<(), AllocError>
+    requires finished { length state.now.finished.items ≤ 100000 }
+    ensures { OnOk result (out.new.items ≡ out.old.items
+        ++ done_text theory.now.signature (standing state.now)) }
+{
+    put_block(state, out)?;
+    out.extend_from_slice(b", done\n")?;
+    match state.later.split_first() {
+        None => Ok(()),
+        Some(_) => {
+            let before = state.hyps.earlier().len() as u64;
+            put_hypotheses(alloc, theory, before, state.goals.as_slice(), out)
+        }
+    }
+}
