@@ -2,7 +2,7 @@
 use Rattle.std.specs.Prelude.{ℕ}
 use Rattle.circ_files.specs.declared.status.Status.{Status}
 use Rattle.circ_files.specs.declared.status.Status.TheVariants.{Ok, Refused, Unreadable, Usage, TooLong, Stuck, Spent, ReadFault, WriteFault, Memory, TooBig}
-use Rattle.circ_files.specs.declared.status.Status.TheVariants.{TooDeep, Differ}
+use Rattle.circ_files.specs.declared.status.Status.TheVariants.{TooDeep, Differ, Expansion, Misfit}
 
 abbrev pub number_of : Status → ℕ
 number_of Ok = 0
@@ -18,3 +18,5 @@ number_of Memory = 9
 number_of (TooBig n) = 10
 number_of (TooDeep n) = 10
 number_of (Differ n) = 11
+number_of (Expansion n) = 12
+number_of (Misfit n) = 13

@@ -64,6 +64,12 @@ too_big_text n = codes "too big: " ++ decimal n ++ codes " nodes\n"
 abbrev pub too_deep_text : (depth : ℕ) → List ℕ
 too_deep_text n = codes "too deep: " ++ decimal n ++ codes " levels\n"
 
+abbrev pub long_expansion_text : List ℕ
+long_expansion_text = codes "expansion too long\n"
+
+abbrev pub misfit_text : (entry : ℕ) → List ℕ
+misfit_text n = codes "no fit at " ++ decimal n ++ codes "\n"
+
 -- a word, with a space before each of its letters
 abbrev pub differ_text : List (List ℕ) → List ℕ
 differ_text letters = codes "differ:" ++ flat_map (λ w. 32 ∷ w) letters ++ codes "\n"

@@ -2,9 +2,11 @@
 //!
 //! [`take_into`] and [`take_file`] take a whole file in pieces, [`take_theory`] and [`take_script`]
 //! what it reads as. [`Status`] says how a run ended; its number is the exit status of the program.
-//! The texts of these answers are put together here.
+//! An [`Ending`] is how the work of a command ends, before anything is stored or printed. The texts of
+//! these answers are put together here.
 #![tactic(auto)]
 
+mod ending;
 mod files;
 mod intake;
 mod script_file;
@@ -12,6 +14,7 @@ mod status;
 mod texts;
 mod theory_file;
 
+pub use ending::{Ending, Stored};
 pub use files::{MOST_BYTES, PIECE, take_file, take_into};
 pub use intake::Intake;
 pub use script_file::take_script;

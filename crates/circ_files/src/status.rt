@@ -76,6 +76,16 @@ pub enum Status {
     Differ {
         length: u64,
     },
+    /// A derivation that needs more units than may be written out, and the first unit that is too
+    /// many.
+    Expansion {
+        units: u64,
+    },
+    /// An experiment that does not fit a goal: 0 where the proof has no such goal, else the first
+    /// entry that does not fit, counted from 1, or the number of entries plus 1.
+    Misfit {
+        entry: u64,
+    },
 }
 
 impl From<AllocError> for Status {
@@ -107,6 +117,8 @@ impl Status {
             Status::Memory => 9,
             Status::TooBig { .. } | Status::TooDeep { .. } => 10,
             Status::Differ { .. } => 11,
+            Status::Expansion { .. } => 12,
+            Status::Misfit { .. } => 13,
         }
     }
 }

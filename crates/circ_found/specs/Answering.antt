@@ -1,5 +1,5 @@
 -- What is answered by what a search finds, with its text and what is stored.
-use Rattle.std.specs.Prelude.{◌≡◌, ◌+◌, ℕ, List, [], ◌∷◌, ◌++◌, length, map, flat_map, Some, None, false, nat_lt, if◌then◌else◌, codes, decimal}
+use Rattle.std.specs.Prelude.{◌≡◌, ◌+◌, ℕ, List, [], ◌∷◌, ◌++◌, length, map, Some, None, false, nat_lt, if◌then◌else◌, codes, decimal}
 use Rattle.circ_term.specs.Tree.{Tree}
 use Rattle.circ_theory.specs.Signature.{Signature}
 use Rattle.circ_theory.specs.Theory.{Theory, Pair}
@@ -8,17 +8,13 @@ use Rattle.circ_mixfix.specs.Printing.{text_of_term}
 use Rattle.circ_proof.specs.Proof.{Block, Proof, steps_in}
 use Rattle.circ_proof.specs.Rules.{ProofStep, Derive}
 use Rattle.circ_proof_text.specs.ProofText.{proof_text}
-use Rattle.circ_show.specs.GoalsText.{pair_lines, goal_lines}
+use Rattle.circ_show.specs.GoalsText.{pair_lines, all_goal_lines}
 use Rattle.circ_plain_search.specs.Numbering.{Found, Proved, LongTable, Stuck, Spent, TooBig, TooDeep}
 use Rattle.circ_plain_search.specs.PlainSearch.{PlainSearch}
 use Rattle.circ_plain_search.specs.Search.{Limits}
 use Rattle.circ_files.specs.Texts.{too_long_text, spent_text, too_big_text, too_deep_text}
 use Rattle.circ_files.specs.declared.status.Status.TheVariants as status
-use Rattle.circ_found.specs.Ending.{stored_as, Ending, ending}
-
--- the goals of lists of goals, one a line
-abbrev pub all_goal_lines : Signature → List (List Goal) → List ℕ
-all_goal_lines sig goals = flat_map (goal_lines sig) goals
+use Rattle.circ_files.specs.Ending.{stored_as, Ending, ending}
 
 abbrev pub derives_among : List (ProofStep ℕ) → ℕ
 derives_among [] = 0

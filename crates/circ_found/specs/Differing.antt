@@ -12,7 +12,7 @@ use Rattle.circ_refute.specs.Difference.{IsRightDecision}
 use Rattle.circ_files.specs.Texts.{spent_text, too_big_text, too_deep_text}
 use Rattle.circ_files.specs.declared.status.Status.TheVariants as status
 use Rattle.circ_found.specs.Answering.{side_line}
-use Rattle.circ_found.specs.Ending.{Ending, ending}
+use Rattle.circ_files.specs.Ending.{Ending, ending}
 
 -- an entry of the experiment, as a line
 abbrev pub entry_line : Theory → Written → List ℕ

@@ -1,4 +1,3 @@
-pub mod Ending
 pub mod Answering
 pub mod Searchable
 pub mod Differing

@@ -8,14 +8,13 @@ ghost use Rattle.circ_search.specs.Plain.{plain_found, plain_limits};
 ghost use Rattle.circ_files.specs.Texts.{too_long_text, spent_text};
 ghost use Rattle.circ_files.specs.Texts.{too_big_text, too_deep_text};
 ghost use Rattle.circ_files.specs.declared.status.Status.TheVariants as status;
-ghost use Rattle.circ_found.specs.Ending.{ending, plain_ending};
+ghost use Rattle.circ_files.specs.Ending.{ending, plain_ending};
 ghost use Rattle.circ_found.specs.Answering.{SearchEnds, found_ending, proof_ending};
 
-use crate::ending::{Ending, Stored};
 use crate::texts::{proved_text, stuck_text};
 use circ_file::encode;
 use circ_file::laws::texts_decode;
-use circ_files::{MOST_BYTES, STORED_FILE, Status, push_counted, push_spent};
+use circ_files::{Ending, MOST_BYTES, STORED_FILE, Status, Stored, push_counted, push_spent};
 use circ_plain_search::laws::proved_is_accepted;
 use circ_proof::Proof;
 use circ_search::{Found, Limits, prove};

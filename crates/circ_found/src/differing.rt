@@ -8,13 +8,12 @@ ghost use Rattle.circ_show.specs.EntryText.{IsEntry};
 ghost use Rattle.circ_files.specs.declared.status.Status.TheVariants as status;
 ghost use Rattle.circ_found.specs.Differing.{entry_line, differs_text, refuted_ending, DifferEnds};
 ghost use Rattle.circ_found.specs.Differing.{AreEntries};
-ghost use Rattle.circ_found.specs.Ending.{ending, plain_ending};
+ghost use Rattle.circ_files.specs.Ending.{ending, plain_ending};
 
 use crate::answering::{spent, too_big, too_deep, unstored};
-use crate::ending::Ending;
 use crate::texts::put_side;
 use circ_entry::Entry;
-use circ_files::{Status, push_counted};
+use circ_files::{Ending, Status, push_counted};
 use circ_refute::{Refuted, refute_all};
 use circ_show::entry_text;
 use circ_term::Term;

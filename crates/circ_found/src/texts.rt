@@ -3,8 +3,8 @@ ghost use Rattle.std.specs.Prelude.{◌≡◌, ◌≤◌, ◌++◌, map, IfOk, O
 ghost use Rattle.circ_proof.specs.PlainProof.{plain_block, plain_proof};
 ghost use Rattle.circ_proof.specs.Proof.{steps_in};
 ghost use Rattle.circ_theory.specs.Pairs.{plain_pair};
-ghost use Rattle.circ_show.specs.GoalsText.{pair_line, pair_lines};
-ghost use Rattle.circ_found.specs.Answering.{all_goal_lines, counts_text, proved_text};
+ghost use Rattle.circ_show.specs.GoalsText.{pair_line, pair_lines, all_goal_lines};
+ghost use Rattle.circ_found.specs.Answering.{counts_text, proved_text};
 ghost use Rattle.circ_found.specs.Answering.{derives_in};
 ghost use Rattle.circ_found.specs.Answering.{side_line, stuck_text};
 

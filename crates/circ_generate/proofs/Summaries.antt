@@ -18,8 +18,8 @@ use Rattle.circ_files.specs.TheoryFile.{ReadsAsPlain}
 use Rattle.circ_files.proofs.FileFaults.{if_ok}
 use Rattle.circ_files.specs.declared.status.Status.TheVariants as status
 use Rattle.circ_found.specs.Answering.{proved_text, found_ending, SearchEnds}
-use Rattle.circ_found.specs.Ending.{Stored, stored_as, Ending, ending, plain_ending}
-use Rattle.circ_found.specs.declared.ending.Ending.{Ending as TheEnding}
+use Rattle.circ_files.specs.Ending.{Stored, stored_as, Ending, ending, plain_ending}
+use Rattle.circ_files.specs.declared.ending.Ending.{Ending as TheEnding}
 use Rattle.circ_generate.specs.Chain.{chain_theory, chain_script}
 use Rattle.circ_generate.specs.Generating.{greatest_limits, summary_text, chain_ending, Generates, searched, IsAcceptedText}
 

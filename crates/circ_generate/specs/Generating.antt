@@ -17,7 +17,7 @@ use Rattle.circ_files.specs.Texts.{too_long_text, unreadable_text}
 use Rattle.circ_files.specs.TheoryFile.{ReadsAsPlain, PlainTheoryRefusal}
 use Rattle.circ_files.specs.declared.status.Status.TheVariants as status
 use Rattle.circ_found.specs.Answering.{counts_text, derives_in, found_ending}
-use Rattle.circ_found.specs.Ending.{Ending, ending}
+use Rattle.circ_files.specs.Ending.{Ending, ending}
 use Rattle.circ_generate.specs.Chain.{chain_theory, chain_script}
 
 -- the most that a search may be given

@@ -23,6 +23,10 @@ labelled_goals label sig gs = flat_map (labelled_goal label sig) gs
 abbrev pub goal_lines : Signature → List Goal → List ℕ
 goal_lines sig goals = labelled_goals (codes "goal: ") sig goals
 
+-- the goals of lists of goals, one a line
+abbrev pub all_goal_lines : Signature → List (List Goal) → List ℕ
+all_goal_lines sig goals = flat_map (goal_lines sig) goals
+
 -- the number of a block, and the goals that it derived
 abbrev pub block_lines : Signature → (number : ℕ) → List Goal → List ℕ
 block_lines sig n derived = codes "block " ++ decimal n ++ codes "\n" ++ labelled_goals (codes "pair: ") sig derived

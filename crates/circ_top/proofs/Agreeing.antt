@@ -10,7 +10,7 @@ use Rattle.circ_top.specs.Command.{Command, Asks}
 use Rattle.circ_top.specs.Delivery.{Prints, PrintsPart, PrintsFront, Delivers, whole, write_failed, memory_wanted, text_wanted}
 use Rattle.circ_files.specs.Files.{Refusal, RefusesFile, IsFileFault}
 use Rattle.circ_files.specs.Like.{IsLike, itself}
-use Rattle.circ_found.specs.Ending.{Stored}
+use Rattle.circ_files.specs.Ending.{Stored}
 use Rattle.circ_top.specs.Outcome.{OutcomeOf, Outcome, command}
 use Rattle.circ_top.specs.Storing.{HoldsAfter, IsUnstored, FailsToStore, Ends, stored_first, not_stored}
 use Rattle.circ_top.specs.Refusals.{refusal_text}

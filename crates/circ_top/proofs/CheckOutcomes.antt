@@ -9,8 +9,8 @@ use Rattle.circ_proof.specs.Accepted.{Derives, FirstFail}
 use Rattle.circ_proof_text.specs.ProofText.{ReadsAsProof}
 use Rattle.circ_read.specs.ReadsAs.{ReadsAs}
 use Rattle.circ_top.specs.Causes.{AtEither}
-use Rattle.circ_top.specs.Check.{report_text, CheckOutcome, no_theory, no_proof, refused, accepted, IsAccepted, StepFails, RefusesCheck}
-use Rattle.circ_top.specs.Check.{theory_fault, proof_fault, step_fails}
+use Rattle.circ_reports.specs.Check.{report_text, CheckOutcome, no_theory, no_proof, refused, accepted, IsAccepted, StepFails, RefusesCheck}
+use Rattle.circ_reports.specs.Check.{theory_fault, proof_fault, step_fails}
 use Rattle.circ_top.specs.Command.{Check, Asks}
 use Rattle.circ_files.specs.Files.{IsOnly, RefusesFile, IsUnread, IsTooLong, IsFileFault}
 use Rattle.circ_files.specs.Like.{IsLike, itself}
@@ -19,7 +19,7 @@ use Rattle.circ_files.specs.ProofFile.{ReadsProof, ProofRefusal}
 use Rattle.circ_files.specs.Texts.{refused_text}
 use Rattle.circ_top.specs.Refusals.{refusal_text}
 use Rattle.circ_files.specs.TheoryFile.{ReadsTheory, TheoryRefusal, TakesTheory}
-use Rattle.circ_top.specs.declared.request.Report.{Report}
+use Rattle.circ_reports.specs.declared.report.Report.{Report}
 use Rattle.circ_files.specs.declared.status.Status.{Status}
 use Rattle.circ_files.specs.declared.status.Status.TheVariants as status
 use Rattle.circ_files.proofs.Readings.{ReadsOnce}

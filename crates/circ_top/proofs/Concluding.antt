@@ -7,7 +7,7 @@ use Rattle.circ_files.specs.Quiet.{IsQuietBut}
 use Rattle.circ_files.specs.declared.status.Status.{Status}
 use Rattle.circ_files.specs.declared.status.Status.TheVariants as status
 use Rattle.circ_files.proofs.FileFaults.{quiet_after}
-use Rattle.circ_found.specs.Ending.{Stored}
+use Rattle.circ_files.specs.Ending.{Stored}
 use Rattle.circ_top.specs.Answer.{DueAnswer}
 use Rattle.circ_top.specs.Causes.{IsQuietRun}
 use Rattle.circ_top.specs.Storing.{HoldsAfter, IsUnstored, FailsToStore, Ends, stored_first, not_stored, IsQuietEnd}

@@ -7,7 +7,7 @@ use Rattle.circ_show.specs.PlacesText.{place_lines}
 use Rattle.circ_top.specs.Command.{Contexts, Asks}
 use Rattle.circ_files.specs.Files.{RefusesFile}
 use Rattle.circ_files.specs.Like.{IsLike, itself}
-use Rattle.circ_top.specs.Contexts.{IsContextsText, ContextsOutcome, not_listed, listed, IsListed}
+use Rattle.circ_reports.specs.Contexts.{IsContextsText, ContextsOutcome, not_listed, listed, IsListed}
 use Rattle.circ_top.specs.Refusals.{refusal_text}
 use Rattle.circ_files.specs.TheoryFile.{ReadsAsPlain, ReadsPlainTheory, PlainTheoryRefusal, IsPlainTheoryFault}
 use Rattle.circ_files.specs.declared.status.Status.{Status}

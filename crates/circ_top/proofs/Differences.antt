@@ -12,7 +12,7 @@ use Rattle.circ_refute.specs.Difference.{DiffersBy, IsRightOf}
 use Rattle.circ_files.specs.declared.status.Status.{Status}
 use Rattle.circ_files.specs.declared.status.Status.TheVariants as status
 use Rattle.circ_found.specs.Differing.{differs_text, limit_ending, refuted_ending, decision_ending, DifferEnds}
-use Rattle.circ_found.specs.Ending.{Stored, Ending, ending}
+use Rattle.circ_files.specs.Ending.{Stored, Ending, ending}
 use Rattle.circ_top.specs.Differ.{DifferenceSought, IsDifferenceSought}
 use Rattle.circ_top.specs.Scripted.{IsDoneOn}
 use Rattle.circ_top.proofs.ScriptOutcomes.{EndsOnce}

@@ -17,7 +17,7 @@ use Rattle.circ_files.specs.Texts.{too_long_text}
 use Rattle.circ_files.specs.declared.status.Status.TheVariants as status
 use Rattle.circ_files.proofs.Readings.{ReadsPlainOnce}
 use Rattle.circ_files.proofs.Scripts.{ScriptsOnce}
-use Rattle.circ_found.specs.Ending.{Ending, ending}
+use Rattle.circ_files.specs.Ending.{Ending, ending}
 use Rattle.circ_generate.specs.Chain.{chain_theory, chain_script}
 use Rattle.circ_generate.specs.Generating.{greatest_limits, summary_text, chain_ending, unread_ending, Generates, no_theory, no_script, searched}
 use Rattle.circ_top.specs.Command.{Generate}

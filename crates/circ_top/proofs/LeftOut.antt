@@ -13,49 +13,50 @@ use Rattle.circ_read.specs.declared.cause.Cause.TheVariants as cause
 use Rattle.circ_script.specs.ReadsAsScript.{ReadsAsScript, ScriptOrCause}
 use Rattle.circ_script.specs.declared.job.Job.{Job}
 use Rattle.circ_script.specs.declared.job.Job.TheVariants as job
-use Rattle.circ_top.specs.Check.{report_text, no_theory, no_proof, refused, accepted}
-use Rattle.circ_top.specs.Command.{Command, Check, Prove, Show, Contexts, Reduce, Same, Differ, Regex, Upgrade, Library, Generate, Asks}
+use Rattle.circ_reports.specs.Check.{report_text, no_theory, no_proof, refused, accepted}
+use Rattle.circ_top.specs.Command.{Command, Check, Prove, Show, Contexts, Reduce, Same, Differ, Trace, Regex, Upgrade, Library, Generate, Asks}
 use Rattle.circ_files.specs.Files.{Held, Refusal, RefusesFile, Holds}
 use Rattle.circ_top.specs.InMemory.{HoldsFilesOf, HoldsFiles}
 use Rattle.circ_plain_search.specs.Numbering.{Found}
 use Rattle.circ_plain_search.specs.PlainSearch.{PlainSearch}
 use Rattle.circ_plain_search.specs.Search.{Limits as SearchLimits}
-use Rattle.circ_found.specs.Ending.{Stored, Ending}
+use Rattle.circ_files.specs.Ending.{Stored, Ending}
 use Rattle.circ_found.specs.Answering.{found_ending}
 use Rattle.circ_top.specs.Outcome.{Outcome, usage, command}
 use Rattle.circ_files.specs.ProofFile.{ProofRefusal}
-use Rattle.circ_top.specs.Reduce.{reduced, results_text, not_reduced, all_reduced}
-use Rattle.circ_top.specs.Reduce as reduce
+use Rattle.circ_reports.specs.Reduce.{reduced, results_text, not_reduced, all_reduced}
+use Rattle.circ_reports.specs.Reduce as reduce
 use Rattle.circ_search.specs.Plain.{plain_limits}
 use Rattle.circ_auto.specs.Text.{ReadsAsAutomaton}
-use Rattle.circ_top.specs.Same.{AutomatonRefusal, SecondRefusal, ReadsOver, compared_status, compared_text, no_first, no_second, compared}
-use Rattle.circ_top.proofs.SameDecides.{AutomataDecided, first_decides, second_decides, compared_decides}
+use Rattle.circ_reports.specs.Same.{AutomatonRefusal, SecondRefusal, ReadsOver, compared_status, compared_text, no_first, no_second, compared}
+use Rattle.circ_reports.proofs.SameDecides.{AutomataDecided, first_decides, second_decides, compared_decides}
 use Rattle.circ_refute.specs.PlainRefutation.{refutations, goals_in}
 use Rattle.circ_found.specs.Differing.{decision_ending}
+use Rattle.circ_trace.proofs.Traces.{some_answer as some_trace}
 use Rattle.circ_top.specs.Scripted.{goals_done}
 use Rattle.circ_top.specs.Scripted as scripted
 use Rattle.circ_regex.specs.Lang.{LANG}
 use Rattle.circ_top.specs.Regex.{equality_goals, no_left, no_right, both_read}
-use Rattle.circ_top.specs.Upgrade.{upgraded_text, upgraded_file, given_anew}
-use Rattle.circ_top.specs.Upgrade as upgrade
-use Rattle.circ_top.specs.Contexts.{not_listed, listed}
+use Rattle.circ_reports.specs.Upgrade.{upgraded_text, upgraded_file, given_anew}
+use Rattle.circ_reports.specs.Upgrade as upgrade
+use Rattle.circ_reports.specs.Contexts.{not_listed, listed}
 use Rattle.circ_show.specs.PlacesText.{place_lines}
 use Rattle.circ_plain_search.proofs.Existing.{some_set}
 use Rattle.circ_generate.specs.Chain.{chain_theory, chain_script}
 use Rattle.circ_generate.specs.Generating.{Generates, greatest_limits, chain_ending, unread_ending}
 use Rattle.circ_generate.specs.Generating as generating
 use Rattle.circ_files.specs.ScriptFile.{ScriptRefusal}
-use Rattle.circ_top.specs.Show.{not_shown, shown}
+use Rattle.circ_reports.specs.Show.{not_shown, shown}
 use Rattle.circ_files.specs.Texts.{refused_text}
 use Rattle.circ_top.specs.Refusals.{usage_text, refusal_text}
 use Rattle.circ_files.specs.TheoryFile.{TheoryRefusal, ReadsAsPlain, PlainTheoryRefusal}
 use Rattle.circ_files.proofs.Readings.{plain_or_refused}
 use Rattle.circ_files.specs.declared.files.TheConstants.{MOST_BYTES}
-use Rattle.circ_top.specs.declared.request.Report.{Report}
+use Rattle.circ_reports.specs.declared.report.Report.{Report}
 use Rattle.circ_turn.specs.declared.search.Limits.{Limits}
 use Rattle.circ_files.specs.declared.status.Status.{Status}
 use Rattle.circ_files.specs.declared.status.Status.TheVariants as status
-use Rattle.circ_top.proofs.Ends.{forms_or_end}
+use Rattle.circ_reports.proofs.Ends.{forms_or_end}
 use Rattle.circ_top.proofs.RegexOutcomes.{short_or_long, word_decides}
 use Rattle.circ_top.proofs.TheoryTexts.{has_text}
 
@@ -172,6 +173,17 @@ module _ (reads : (bytes : List ℕ) → ReadOrRefused bytes) (proofs : ProofsDe
       (λ s x. let text : List ℕ = refusal_text (Differ limits theory script) s in none_is s text None
       (command (Differ limits theory script) s text None i (scripted.no_theory s x)))
 
+  no_trace : (limits : Limits) (theory script : List ℕ) → Asks words (Trace limits theory script) → HoldsFilesOf held (Trace limits theory script) → ⊥
+  no_trace limits theory script i h = file_decides held 1 theory PlainTheoryRefusal ReadsAsPlain h.0 plain_reads
+      (λ th rt. file_decides held 2 script (ScriptRefusal th job.Prove) (ReadsAsScript th job.Prove) h.1 (scripts th job.Prove)
+      (λ q rq. some_trace th (plain_limits limits) q.blocks
+      (λ e x. none_is e.status e.text e.stored
+      (command (Trace limits theory script) e.status e.text e.stored i (goals_done e.status e.text e.stored th q rt rq x))))
+      (λ s x. let text : List ℕ = refusal_text (Trace limits theory script) s in none_is s text None
+      (command (Trace limits theory script) s text None i (scripted.no_script s th rt x))))
+      (λ s x. let text : List ℕ = refusal_text (Trace limits theory script) s in none_is s text None
+      (command (Trace limits theory script) s text None i (scripted.no_theory s x)))
+
   no_regex : (limits : Limits) (left right proof : List ℕ) → Asks words (Regex limits left right proof) → ⊥
   no_regex limits left right proof i = word_decides 1 left
       (λ e re. word_decides 2 right
@@ -223,6 +235,7 @@ module _ (reads : (bytes : List ℕ) → ReadOrRefused bytes) (proofs : ProofsDe
   no_command_left (Reduce budget theory script) i h = no_reduce budget theory script i h
   no_command_left (Same first second) i h = no_same first second i h
   no_command_left (Differ limits theory script) i h = no_differ limits theory script i h
+  no_command_left (Trace limits theory script) i h = no_trace limits theory script i h
   no_command_left (Regex limits left right proof) i h = no_regex limits left right proof i
   no_command_left (Upgrade theory proof new) i h = no_upgrade theory proof new i h
   no_command_left (Library text) i h = none_is status.Ok text None (command (Library text) status.Ok text None i ((refl, refl), refl))

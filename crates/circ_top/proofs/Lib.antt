@@ -1,7 +1,5 @@
 pub mod Printing
 pub mod WordRows
-pub mod ProofFiles
-pub mod Pieces
 pub mod PlainWords
 pub mod Requests
 pub mod Proofs
@@ -9,13 +7,8 @@ pub mod Refused
 pub mod Agreeing
 pub mod CheckOutcomes
 pub mod SameOutcomes
-pub mod SameDecides
-pub mod SameFiles
-pub mod SameTexts
 pub mod ShowOutcomes
 pub mod ContextsOutcomes
-pub mod Ends
-pub mod Reducing
 pub mod ReduceOutcomes
 pub mod Searches
 pub mod ScriptOutcomes
@@ -32,5 +25,6 @@ pub mod StoredProofs
 pub mod UpgradedChecks
 pub mod NoFaults
 pub mod TheoryTexts
+pub mod Traced
 pub mod LeftOut
 pub mod SecondProves

@@ -11,8 +11,8 @@ use Rattle.circ_top.specs.Command.{Reduce, Asks}
 use Rattle.circ_files.specs.Files.{IsOnly, RefusesFile, IsUnread, IsTooLong, IsFileFault}
 use Rattle.circ_files.specs.Like.{IsLike, itself}
 use Rattle.circ_top.specs.Outcome.{command}
-use Rattle.circ_top.specs.Reduce.{Results, reduced, EndsWith, Ends, results_text, ReduceOutcome, no_theory, no_script, not_reduced, all_reduced}
-use Rattle.circ_top.specs.Reduce.{IsReduced, TermsEnd, RefusesReduce, theory_fault, script_fault, term_ends}
+use Rattle.circ_reports.specs.Reduce.{Results, reduced, EndsWith, Ends, results_text, ReduceOutcome, no_theory, no_script, not_reduced, all_reduced}
+use Rattle.circ_reports.specs.Reduce.{IsReduced, TermsEnd, RefusesReduce, theory_fault, script_fault, term_ends}
 use Rattle.circ_files.specs.ScriptFile.{ReadsScript, TakesScript, ScriptRefusal}
 use Rattle.circ_top.specs.Refusals.{refusal_text}
 use Rattle.circ_files.specs.TheoryFile.{ReadsAsPlain, ReadsPlainTheory, TakesPlainTheory, PlainTheoryRefusal}
@@ -20,19 +20,13 @@ use Rattle.circ_files.specs.declared.status.Status.{Status}
 use Rattle.circ_files.specs.declared.status.Status.TheVariants as status
 use Rattle.circ_files.proofs.Readings.{ReadsPlainOnce}
 use Rattle.circ_top.proofs.Agreeing.{DueIs, outcome, file_due, Agrees, alike, unread_file, memory}
-use Rattle.circ_top.proofs.Ends.{no_end, one_end, no_early_end}
+use Rattle.circ_reports.proofs.Ends.{no_end, one_end, no_early_end}
 use Rattle.circ_files.proofs.FileFaults.{FaultOf, fault_of, refuses, unread, out_of_memory, reads_not_refused, refused_held, holds_held}
 use Rattle.circ_top.proofs.Refused.{refused_alike}
 use Rattle.circ_files.proofs.FileFaults.{unread_rose, file_fault_not_ok, file_fault_not_refused}
 use Rattle.circ_files.proofs.Scripts.{ScriptsOnce}
 
 module _ (budget : ℕ) (theory script : List ℕ) (before after : ShelfState) where
-  -- terms that end, or want of memory, refuse a `reduce` whose files read
-  pub ends_refuse : (th : Theory) (sc : Script) → TakesPlainTheory theory th before → TakesScript script th job.Reduce sc before
-      → (s : Status) → Ends th budget sc.terms s → RefusesReduce budget theory script before after s
-  ends_refuse th sc a b status.Memory e = theory_fault status.Memory tt
-  ends_refuse th sc a b s e = term_ends s (record { th = th; sc = sc; ends = e; takes_theory = a; takes_script = b })
-
   pub reduce_not_ok : (s : Status) → RefusesReduce budget theory script before after s → s ≡ status.Ok → ⊥
   reduce_not_ok s (theory_fault _ f) e = file_fault_not_ok 1 theory PlainTheoryRefusal before after s e f
   reduce_not_ok s (script_fault _ th a f) e = file_fault_not_ok 2 script (ScriptRefusal th job.Reduce) before after s e f

@@ -15,8 +15,8 @@ use Rattle.circ_files.proofs.FileFaults.{IsOneWay, unread_rose, file_fault_not_o
 use Rattle.circ_top.specs.Command.{Same, Asks}
 use Rattle.circ_top.specs.Outcome.{command}
 use Rattle.circ_top.specs.Refusals.{refusal_text}
-use Rattle.circ_top.specs.Same.{cause_of, AutomatonRefusal, ReadsOver, SecondRefusal, TakesAs, compared_status, letters_of, compared_text}
-use Rattle.circ_top.specs.Same.{SameOutcome, no_first, no_second, compared, IsCompared, RefusesSame, first_fault, second_fault, AtAutomaton}
+use Rattle.circ_reports.specs.Same.{cause_of, AutomatonRefusal, ReadsOver, SecondRefusal, TakesAs, compared_status, letters_of, compared_text}
+use Rattle.circ_reports.specs.Same.{SameOutcome, no_first, no_second, compared, IsCompared, RefusesSame, first_fault, second_fault, AtAutomaton}
 use Rattle.circ_top.proofs.Agreeing.{DueIs, outcome, file_due, Agrees, alike, unread_file, memory}
 use Rattle.circ_top.proofs.Refused.{refused_alike}
 use Rattle.circ_top.proofs.Searches.{IsSearchEnd}

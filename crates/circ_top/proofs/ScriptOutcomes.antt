@@ -16,7 +16,7 @@ use Rattle.circ_files.proofs.FileFaults.{FaultOf, fault_of, refuses, unread, out
 use Rattle.circ_files.proofs.FileFaults.{unread_rose, file_fault_not_ok, file_fault_not_refused}
 use Rattle.circ_files.proofs.Readings.{ReadsPlainOnce}
 use Rattle.circ_files.proofs.Scripts.{ScriptsOnce}
-use Rattle.circ_found.specs.Ending.{Stored, Ending, ending}
+use Rattle.circ_files.specs.Ending.{Stored, Ending, ending}
 use Rattle.circ_top.specs.Causes.{AtEither}
 use Rattle.circ_top.specs.Command.{Command, Asks}
 use Rattle.circ_top.specs.Outcome.{OutcomeOf}

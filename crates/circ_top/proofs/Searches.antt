@@ -12,7 +12,7 @@ use Rattle.circ_plain_search.specs.Search.{Limits}
 use Rattle.circ_files.specs.Texts.{too_long_text}
 use Rattle.circ_files.specs.declared.status.Status.{Status}
 use Rattle.circ_files.specs.declared.status.Status.TheVariants as status
-use Rattle.circ_found.specs.Ending.{Stored, stored_as, Ending, ending}
+use Rattle.circ_files.specs.Ending.{Stored, stored_as, Ending, ending}
 use Rattle.circ_found.specs.Answering.{proved_text, found_ending, SearchEnds}
 
 -- the answers with which a search, a chain or a comparison can end

@@ -12,7 +12,7 @@ use Rattle.circ_files.specs.ScriptFile.{ScriptRefusal}
 use Rattle.circ_files.specs.TheoryFile.{ReadsAsPlain, PlainTheoryRefusal}
 use Rattle.circ_files.specs.declared.status.Status.{Status}
 use Rattle.circ_files.specs.declared.status.Status.TheVariants as status
-use Rattle.circ_found.specs.Ending.{Stored}
+use Rattle.circ_files.specs.Ending.{Stored}
 use Rattle.circ_turn.specs.declared.search.Limits.{Limits}
 use Rattle.circ_top.specs.Causes.{IsNotPut}
 use Rattle.circ_top.specs.Command.{Command, Prove, Asks, IsNotStored, stored_name}
@@ -46,22 +46,12 @@ module _ (held later : Held) (old new : List ℕ) (same : later new ≡ held old
   refuses_too file N (status.TooBig n) r = absurd r
   refuses_too file N (status.TooDeep n) r = absurd r
   refuses_too file N (status.Differ n) r = absurd r
+  refuses_too file N (status.Expansion n) r = absurd r
+  refuses_too file N (status.Misfit n) r = absurd r
 
 -- a refusal's text is the same for any names
 same_text : (k : Limits) (t s p u v q : List ℕ) (x : Status) → refusal_text (Prove k t s p) x ≡ refusal_text (Prove k u v q) x
-same_text k t s p u v q status.Ok = refl
-same_text k t s p u v q (status.Refused n) = refl
-same_text k t s p u v q (status.Unreadable f place c) = refl
-same_text k t s p u v q status.Usage = refl
-same_text k t s p u v q (status.TooLong f n) = refl
-same_text k t s p u v q (status.Stuck b g) = refl
-same_text k t s p u v q (status.Spent r d n) = refl
-same_text k t s p u v q (status.ReadFault n) = refl
-same_text k t s p u v q (status.WriteFault n) = refl
-same_text k t s p u v q status.Memory = refl
-same_text k t s p u v q (status.TooBig n) = refl
-same_text k t s p u v q (status.TooDeep n) = refl
-same_text k t s p u v q (status.Differ n) = refl
+same_text k t s p u v q x = refl
 
 module _ (held later : Held) (k : Limits) (theory script other next name : List ℕ) (a : later other ≡ held theory) (b : later next ≡ held script) where
   proves_too : (s : Status) (text : List ℕ) (stored : Option Stored) → ProveOutcome held k theory script name s text stored

@@ -7,7 +7,7 @@ use Rattle.circ_show.specs.TheoryText.{IsTheoryText}
 use Rattle.circ_top.specs.Command.{Show, Asks}
 use Rattle.circ_files.specs.Files.{RefusesFile}
 use Rattle.circ_files.specs.Like.{IsLike, itself}
-use Rattle.circ_top.specs.Show.{ShowOutcome, not_shown, shown, IsShown}
+use Rattle.circ_reports.specs.Show.{ShowOutcome, not_shown, shown, IsShown}
 use Rattle.circ_top.specs.Refusals.{refusal_text}
 use Rattle.circ_files.specs.TheoryFile.{ReadsTheory, TheoryRefusal, IsTheoryFault}
 use Rattle.circ_files.specs.declared.status.Status.{Status}

@@ -15,12 +15,12 @@ use Rattle.circ_files.specs.declared.status.Status.TheVariants as status
 use Rattle.circ_files.proofs.FileFaults.{FaultOf, fault_of, refuses, unread, out_of_memory, reads_not_refused, refused_held, holds_held}
 use Rattle.circ_files.proofs.FileFaults.{unread_rose, file_fault_not_ok, file_fault_not_refused}
 use Rattle.circ_files.proofs.Readings.{ReadsOnce}
-use Rattle.circ_found.specs.Ending.{Stored}
+use Rattle.circ_files.specs.Ending.{Stored}
 use Rattle.circ_top.specs.Causes.{AtEither}
 use Rattle.circ_top.specs.Command.{Upgrade, Asks}
 use Rattle.circ_top.specs.Refusals.{refusal_text}
-use Rattle.circ_top.specs.Upgrade.{upgraded, upgraded_text, upgraded_file, UpgradeOutcome, no_theory, no_proof, given_anew, IsUpgraded}
-use Rattle.circ_top.specs.Upgrade.{RefusesUpgrade, theory_fault, proof_fault}
+use Rattle.circ_reports.specs.Upgrade.{upgraded, upgraded_text, upgraded_file, UpgradeOutcome, no_theory, no_proof, given_anew, IsUpgraded}
+use Rattle.circ_reports.specs.Upgrade.{RefusesUpgrade, theory_fault, proof_fault}
 use Rattle.circ_top.proofs.Agreeing.{DueIs, file_due, AgreesWith, agreed, unread_file_with, memory_with}
 use Rattle.circ_top.proofs.Proofs.{ProofsOnce, read_or_refused, proofs_once}
 use Rattle.circ_top.proofs.Refused.{refused_alike}
@@ -51,12 +51,6 @@ module _ (theory proof : List ℕ) (before after : ShelfState) where
   pub unwritten_upgrade : (s : Status) (n : ℕ) → RefusesUpgrade theory proof before after s → s ≡ status.WriteFault n → ⊥
   unwritten_upgrade s n (theory_fault _ f) e = let P : Status → Type 0 = IsFileFault 1 theory TheoryRefusal before after in subst P e f
   unwritten_upgrade s n (proof_fault _ th a f) e = let P : Status → Type 0 = IsFileFault 2 proof (ProofRefusal th) before after in subst P e f
-
-pub memory_refuses : (theory proof : List ℕ) (before after : ShelfState) (s : Status) → s ≡ status.Memory → RefusesUpgrade theory proof before after s
-memory_refuses theory proof before after s e =
-    let P : Status → Type 0 = RefusesUpgrade theory proof before after in subst P (sym e) (theory_fault status.Memory tt)
-
-pub ruleset refusing = (memory_refuses)
 
 -- the text of a proof that was read is within the limit, and so is that in version 2
 pub upgraded_short : (th : Theory) (p : Proof) → AreBytes (λ bytes. ReadsAsProof th bytes p) → length (proof_text (upgraded p)) ≤ 67108864

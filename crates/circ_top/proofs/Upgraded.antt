@@ -8,7 +8,7 @@ use Rattle.circ_grammar.specs.Grammar.{proof_lines}
 use Rattle.circ_proof.specs.Accepted.{BlocksDerive, Derives, BlockFails, FirstFail}
 use Rattle.circ_proof.specs.Proof.{Block, Proof, IsPlain, ProofFor}
 use Rattle.circ_proof_text.specs.ProofText.{numbers_of, proof_text}
-use Rattle.circ_top.specs.Upgrade.{upgraded, CheckAlike}
+use Rattle.circ_reports.specs.Upgrade.{upgraded, CheckAlike}
 use Rattle.circ_top.specs.Upgraded.{DifferInVersion}
 
 pub upgraded_fits : (th : Theory) (p : Proof) → ProofFor th p → ProofFor th (upgraded p)

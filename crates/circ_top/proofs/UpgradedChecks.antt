@@ -16,14 +16,14 @@ use Rattle.circ_files.specs.declared.status.Status.{Status}
 use Rattle.circ_files.specs.declared.status.Status.TheVariants as status
 use Rattle.circ_files.proofs.FileFaults.{reads_not_refused}
 use Rattle.circ_files.proofs.Readings.{ReadsOnce}
-use Rattle.circ_found.specs.Ending.{Stored}
-use Rattle.circ_top.specs.Check.{report_text, CheckOutcome, no_theory, no_proof, refused, accepted}
+use Rattle.circ_files.specs.Ending.{Stored}
+use Rattle.circ_reports.specs.Check.{report_text, CheckOutcome, no_theory, no_proof, refused, accepted}
 use Rattle.circ_top.specs.Command.{Command, Check, Asks}
 use Rattle.circ_top.specs.Outcome.{OutcomeOf, Outcome, usage, command}
-use Rattle.circ_top.specs.Upgrade.{upgraded}
+use Rattle.circ_reports.specs.Upgrade.{upgraded}
 use Rattle.circ_top.specs.Upgraded.{AsksOfUpgraded}
-use Rattle.circ_top.specs.declared.request.Report.{Report}
-use Rattle.circ_top.specs.declared.request.Report.TheVariants.{Goals, Relation}
+use Rattle.circ_reports.specs.declared.report.Report.{Report}
+use Rattle.circ_reports.specs.declared.report.Report.TheVariants.{Goals, Relation}
 use Rattle.circ_top.proofs.Proofs.{ProofsOnce, read_or_refused}
 use Rattle.circ_top.proofs.Requests.{same_command}
 use Rattle.circ_top.proofs.StoredProofs.{OneTheory, OneProofEach, same_bytes}

@@ -16,7 +16,7 @@ use Rattle.circ_files.specs.ScriptFile.{TakesScript}
 use Rattle.circ_files.specs.TheoryFile.{TakesPlainTheory}
 use Rattle.circ_files.specs.declared.status.Status.{Status}
 use Rattle.circ_found.specs.Differing.{differs_text, decision_ending, DifferEnds}
-use Rattle.circ_found.specs.Ending.{Stored, Ending}
+use Rattle.circ_files.specs.Ending.{Stored, Ending}
 use Rattle.circ_top.specs.Command.{Differ}
 use Rattle.circ_top.specs.Delivery.{Prints}
 use Rattle.circ_top.specs.Scripted.{GoalsEnd, ScriptOutcome, IsDoneOn}

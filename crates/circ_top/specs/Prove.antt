@@ -12,7 +12,7 @@ use Rattle.circ_files.specs.Files.{Held}
 use Rattle.circ_files.specs.ScriptFile.{TakesScript}
 use Rattle.circ_files.specs.TheoryFile.{TakesPlainTheory}
 use Rattle.circ_files.specs.declared.status.Status.{Status}
-use Rattle.circ_found.specs.Ending.{Stored, Ending}
+use Rattle.circ_files.specs.Ending.{Stored, Ending}
 use Rattle.circ_found.specs.Answering.{proved_text, SearchEnds}
 use Rattle.circ_top.specs.Command.{Prove}
 use Rattle.circ_search.specs.Plain.{plain_limits}

@@ -10,7 +10,7 @@ use Rattle.circ_files.specs.Files.{Held, RefusesFile}
 use Rattle.circ_files.specs.ScriptFile.{ReadsScript, TakesScript, ScriptRefusal, IsScriptFault}
 use Rattle.circ_files.specs.TheoryFile.{ReadsPlainTheory, TakesPlainTheory, PlainTheoryRefusal, IsPlainTheoryFault}
 use Rattle.circ_files.specs.declared.status.Status.{Status}
-use Rattle.circ_found.specs.Ending.{Stored, Ending, ending}
+use Rattle.circ_files.specs.Ending.{Stored, Ending, ending}
 use Rattle.circ_top.specs.Command.{Command}
 use Rattle.circ_top.specs.Refusals.{refusal_text}
 

@@ -4,7 +4,7 @@ use Rattle.circ_outer.specs.Shelf.{ShelfState, Struck, IsQuiet, PutFrame}
 use Rattle.circ_outer.specs.Sink.{SinkState}
 use Rattle.circ_files.specs.declared.status.Status.{Status}
 use Rattle.circ_files.specs.declared.status.Status.TheVariants as status
-use Rattle.circ_found.specs.Ending.{Stored}
+use Rattle.circ_files.specs.Ending.{Stored}
 use Rattle.circ_top.specs.Delivery.{Prints, Delivers}
 
 -- Afterwards the stored file holds its bytes, where the shelf tells, and every other name what it held.

@@ -8,8 +8,8 @@ use Rattle.circ_files.specs.Files.{Held}
 use Rattle.circ_files.specs.ProofFile.{ReadsProof}
 use Rattle.circ_files.specs.TheoryFile.{ReadsTheory}
 use Rattle.circ_top.specs.Command.{Check, Asks}
-use Rattle.circ_top.specs.Upgrade.{upgraded}
-use Rattle.circ_top.specs.declared.request.Report.{Report}
+use Rattle.circ_reports.specs.Upgrade.{upgraded}
+use Rattle.circ_reports.specs.declared.report.Report.{Report}
 
 -- The texts are the same but for one byte, the version. It is 2 in the second.
 pub record DifferInVersion (first second : List ℕ) : Type 0 where

@@ -7,16 +7,17 @@ ghost use Rattle.circ_theory.specs.Theory.{Theory};
 ghost use Rattle.circ_theory.specs.declared.parts.Goal.{Goal};
 ghost use Rattle.circ_proof.specs.Proof.{Proof};
 ghost use Rattle.circ_proof.specs.Accepted.{Derives, FirstFail};
-ghost use Rattle.circ_top.specs.declared.request.Report.{Report};
+ghost use Rattle.circ_reports.specs.declared.report.Report.{Report};
 ghost use Rattle.circ_turn.specs.declared.search.Limits.{Limits};
 ghost use Rattle.circ_top.specs.Command.{Check, Prove, Differ, Regex, Upgrade, Asks};
 ghost use Rattle.circ_top.specs.Command.{IsNotStored, IsReport, IsBounded, plain_request};
 ghost use Rattle.circ_files.specs.Texts.{refused_text};
-ghost use Rattle.circ_found.specs.Ending.{Stored as PlainStored, plain_stored, plain_ending};
+ghost use Rattle.circ_files.specs.Ending.{Stored as PlainStored, plain_stored, plain_ending};
 ghost use Rattle.circ_generate.specs.Generating.{Generates};
 ghost use Rattle.circ_top.specs.Refusals.{refusal_text};
 ghost use Rattle.circ_top.specs.Delivery.{Delivers};
-ghost use Rattle.circ_top.specs.Check.{report_text, Accepts, Rejects, FilesRead};
+ghost use Rattle.circ_reports.specs.Check.{report_text};
+ghost use Rattle.circ_top.specs.Check.{Accepts, Rejects, FilesRead};
 ghost use Rattle.circ_top.specs.Outcome.{Outcome};
 ghost use Rattle.circ_top.specs.Prove.{StoresProof};
 ghost use Rattle.circ_top.specs.Differ.{TellsApart};
@@ -29,21 +30,14 @@ ghost use Rattle.circ_top.specs.Causes.{IsOutcomeOrFault, AnswersOutcome, Prints
 ghost use Rattle.circ_top.specs.Causes.{IsPastLimit, IsReadFault, IsWriteFault, IsQuietRun};
 ghost use Rattle.circ_files.specs.Quiet.{IsQuietCall};
 
-use crate::check::check;
-use crate::contexts::contexts;
 use crate::differ::differ;
-use crate::library::library;
 use crate::prove::prove;
-use crate::reduce::reduce;
 use crate::refusals::{refusal, usage};
 use crate::regex::regex;
 use crate::request::{Request, asked};
-use crate::same::same;
-use crate::show::show;
-use crate::upgrade::upgrade;
+use crate::trace::trace;
 use circ_auto::laws::read_in_one_way as automata_read_in_one_way;
-use circ_files::Status;
-use circ_found::{Ending, Stored};
+use circ_files::{Ending, Status, Stored};
 use circ_generate::generate;
 use circ_outer::{OuterFault, Shelf, Sink, write_all};
 use circ_plain_search::laws::{one_answer as one_search, proved_is_accepted};
@@ -52,6 +46,7 @@ use circ_read::laws::read_in_one_way;
 use circ_regex::laws::{
     expressions_that_behave_match, read_in_one_way as expressions_read_in_one_way,
 };
+use circ_reports::{check, contexts, library, reduce, same, show, upgrade};
 use circ_script::laws::read_in_one_way as scripts_read_in_one_way;
 use circ_show::laws::printed_in_one_way;
 use circ_soundness::{goals_behave, one_verdict};
@@ -60,10 +55,10 @@ use std::alloc::Global;
 /// The program: `words` are its name and then a command with what it takes, which is
 /// `check THEORY PROOF`, `relation THEORY PROOF`, `prove THEORY SCRIPT PROOF`, `show THEORY`,
 /// `contexts THEORY`, `reduce THEORY SCRIPT`, `same FIRST SECOND`, `differ THEORY SCRIPT`,
-/// `regex LEFT RIGHT PROOF`, `upgrade THEORY PROOF NEW`, `library NAME` or `generate NUMBER`. The
-/// options `--steps N` and `--derives N` may stand before, behind or between them. The files are
-/// taken from the shelf, to which `prove`, `regex` and `upgrade` store a proof, and the text of the
-/// answer is written to the sink, whole.
+/// `trace THEORY SCRIPT`, `regex LEFT RIGHT PROOF`, `upgrade THEORY PROOF NEW`, `library NAME` or
+/// `generate NUMBER`. The options `--steps N` and `--derives N` may stand before, behind or between
+/// them. The files are taken from the shelf, to which `prove`, `regex` and `upgrade` store a proof,
+/// and the text of the answer is written to the sink, whole.
 pub fn circ<S: Shelf, K: Sink>(
     alloc: Global,
     words: &Vec<String>,
@@ -251,6 +246,11 @@ fn run<'a, S: Shelf>(
             theory,
             script,
         } => differ(alloc, shelf, *limits, theory, script),
+        Request::Trace {
+            limits,
+            theory,
+            script,
+        } => trace(alloc, shelf, *limits, theory, script),
         Request::Regex {
             limits,
             left,

@@ -2,12 +2,12 @@
 ghost use Rattle.std.specs.Prelude.{◌≤◌, IfOk, IfErr};
 ghost use Rattle.circ_outer.specs.Shelf.{ShelfFrame};
 ghost use Rattle.circ_files.specs.Quiet.{IsQuietCall};
-ghost use Rattle.circ_found.specs.Ending.{plain_ending};
+ghost use Rattle.circ_files.specs.Ending.{plain_ending};
 ghost use Rattle.circ_top.specs.Differ.{IsDifferenceSought};
 ghost use Rattle.circ_top.specs.Scripted.{RefusesScript};
 
-use circ_files::{Status, take_plain_theory, take_script};
-use circ_found::{Ending, differ as look_for_difference, searchable};
+use circ_files::{Ending, Status, take_plain_theory, take_script};
+use circ_found::{differ as look_for_difference, searchable};
 use circ_outer::Shelf;
 use circ_script::Job;
 use circ_script::laws::scripts_are_fit;

@@ -51,6 +51,8 @@ fn push_refusal(out: &mut Vec<u8>, request: &Request<'_>, status: &Status) -> Re
         } => push_spent(out, *rewrites, *derives, *steps),
         Status::TooBig { nodes } => push_counted(out, b"too big: ", *nodes, b" nodes\n"),
         Status::TooDeep { depth } => push_counted(out, b"too deep: ", *depth, b" levels\n"),
+        Status::Expansion { .. } => out.extend_from_slice(b"expansion too long\n"),
+        Status::Misfit { entry } => push_counted(out, b"no fit at ", *entry, b"\n"),
         _ => Ok(()),
     }
 }

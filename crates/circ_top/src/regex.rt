@@ -9,12 +9,12 @@ ghost use Rattle.circ_regex.specs.Member.{expression_term};
 ghost use Rattle.circ_plain_search.specs.PlainSearch.{AreSearchable};
 ghost use Rattle.circ_search.specs.Plain.{plain_limits};
 ghost use Rattle.circ_found.specs.Answering.{SearchEnds};
-ghost use Rattle.circ_found.specs.Ending.{plain_ending};
+ghost use Rattle.circ_files.specs.Ending.{plain_ending};
 ghost use Rattle.circ_top.specs.Regex.{IsWordFault, equality_goals, IsEqualitySearched};
 ghost use Rattle.circ_top.specs.Regex.{RefusesRegex};
 
-use circ_files::Status;
-use circ_found::{Ending, search};
+use circ_files::{Ending, Status};
+use circ_found::search;
 use circ_read::Cause;
 use circ_regex::laws::{lang_has_no_conditions, terms_are_sorted};
 use circ_regex::{Regex, RegexFault, lang_theory, read_regex, term_of};

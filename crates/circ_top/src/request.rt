@@ -6,6 +6,7 @@ ghost use Rattle.circ_top.specs.Command.{report_name, IsNoReport, plain_request}
 
 use crate::words::{Words, found, is_word, matches, number};
 use circ_lib::lookup;
+use circ_reports::Report;
 use circ_search::Limits;
 use std::alloc::{AllocError, Global};
 
@@ -14,15 +15,6 @@ const LEAST_STREAMS: u64 = 2;
 
 /// The most streams of a chain.
 const MOST_STREAMS: u64 = 1_000;
-
-/// What is printed of an accepted proof.
-#[derive(Clone, Copy, PartialEq, Eq)]
-pub(crate) enum Report {
-    /// Its goals.
-    Goals,
-    /// Its goals, and what each block derived: the relation that the proof builds.
-    Relation,
-}
 
 /// A command with what it takes: names of files, or the text of the library that is named.
 #[derive(Drop)]
@@ -66,6 +58,13 @@ pub(crate) enum Request<'a> {
     /// An experiment is looked for that tells the sides of a goal of a script file apart, over a
     /// theory file and within limits.
     Differ {
+        limits: Limits,
+        theory: &'a str,
+        script: &'a str,
+    },
+    /// The turns of the search for a proof of a script file's goals over a theory file are shown,
+    /// within limits.
+    Trace {
         limits: Limits,
         theory: &'a str,
         script: &'a str,
@@ -188,6 +187,13 @@ fn of_two<'a>(words: &Words<'_, 'a>, first: &'a str, second: &'a str) -> Option<
     }
     if is_word(words.name, b"differ") {
         return Some(Request::Differ {
+            limits: words.limits,
+            theory: first,
+            script: second,
+        });
+    }
+    if is_word(words.name, b"trace") {
+        return Some(Request::Trace {
             limits: words.limits,
             theory: first,
             script: second,

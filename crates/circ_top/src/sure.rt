@@ -3,7 +3,7 @@ ghost use Rattle.std.specs.Prelude.{◌≡◌, ◌⊎◌, ℕ, List, Option, map
 ghost use Rattle.circ_outer.specs.SureShelf.{holds_of, state_of as shelf_state};
 ghost use Rattle.circ_outer.specs.SureSink.{state_of as sink_state};
 ghost use Rattle.circ_top.specs.Command.{IsNotStored};
-ghost use Rattle.circ_found.specs.Ending.{Stored};
+ghost use Rattle.circ_files.specs.Ending.{Stored};
 ghost use Rattle.circ_top.specs.Outcome.{Outcome};
 ghost use Rattle.circ_top.specs.Answer.{AnswersDue};
 ghost use Rattle.circ_top.specs.InMemory.{HoldsFiles, AppendsAnswer, Appends};

@@ -13,8 +13,8 @@ use Rattle.circ_plain_search.proofs.Unique.{one_set}
 use Rattle.circ_plain_search.proofs.Existing.{some_set}
 use Rattle.circ_plain_search.proofs.Answers.{some_ending}
 use Rattle.circ_found.specs.Answering.{found_ending, SearchEnds}
-use Rattle.circ_found.specs.Ending.{Ending, plain_ending}
-use Rattle.circ_found.specs.declared.ending.Ending.{Ending as TheEnding}
+use Rattle.circ_files.specs.Ending.{Ending, plain_ending}
+use Rattle.circ_files.specs.declared.ending.Ending.{Ending as TheEnding}
 use Rattle.circ_trace.specs.Telling.{IsTold}
 use Rattle.circ_trace.specs.Tracing.{Turns, turns_text, after_lines, TraceEnds}
 use Rattle.circ_trace.proofs.Telling.{turns_reach, one_course, some_turns}

@@ -9,7 +9,7 @@ use Rattle.circ_plain_search.specs.Greatest.{GreatestSpecialSet}
 use Rattle.circ_plain_search.specs.Numbering.{special, found_of}
 use Rattle.circ_plain_search.specs.Search.{Limits, Standing, Ending as SearchEnding, turn, start}
 use Rattle.circ_found.specs.Answering.{found_ending}
-use Rattle.circ_found.specs.Ending.{Ending, ending}
+use Rattle.circ_files.specs.Ending.{Ending, ending}
 use Rattle.circ_trace.specs.Account.{account}
 use Rattle.circ_trace.specs.Parents.{parents_after}
 use Rattle.circ_trace.specs.TurnText.{turn_text}

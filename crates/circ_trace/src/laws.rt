@@ -4,7 +4,7 @@ ghost use Rattle.circ_theory.specs.Theory.{Theory};
 ghost use Rattle.circ_theory.specs.declared.parts.Goal.{Goal};
 ghost use Rattle.circ_plain_search.specs.Search.{Limits};
 ghost use Rattle.circ_found.specs.Answering.{SearchEnds};
-ghost use Rattle.circ_found.specs.Ending.{Ending};
+ghost use Rattle.circ_files.specs.Ending.{Ending};
 ghost use Rattle.circ_trace.specs.Tracing.{TraceEnds, after_lines};
 
 /// What is traced ends as the search for a proof of the same goals does, with lines before.

@@ -10,12 +10,13 @@ ghost use Rattle.circ_proof.specs.Proof.{Proof as PlainProof, ProofFor};
 ghost use Rattle.circ_turn.specs.Standing.{standing, IsStart};
 ghost use Rattle.circ_search.specs.Plain.{plain_found, plain_limits};
 ghost use Rattle.circ_found.specs.Answering.{found_ending};
-ghost use Rattle.circ_found.specs.Ending.{plain_ending};
+ghost use Rattle.circ_files.specs.Ending.{plain_ending};
 ghost use Rattle.circ_trace.specs.Tracing.{after_lines, TraceEnds};
 
 use crate::turns::run_turns;
 use circ_contexts::special_contexts;
-use circ_found::{Ending, found_ending};
+use circ_files::Ending;
+use circ_found::found_ending;
 use circ_plain_search::laws::proved_is_accepted;
 use circ_rewrite::Trace;
 use circ_search::{Found, Limits, found_at};

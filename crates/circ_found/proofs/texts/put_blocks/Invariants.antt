@@ -1,6 +1,6 @@
 use Rattle.std.proofs.Common.{◌≡◌, ◌++◌, drop, map}
 use Rattle.circ_proof.specs.PlainProof.{plain_block}
-use Rattle.circ_found.specs.Answering.{all_goal_lines}
+use Rattle.circ_show.specs.GoalsText.{all_goal_lines}
 use Rattle.circ_found.proofs.texts.put_blocks.Given as goal
 
 abbrev pub invariant-loop-block : goal.invariant-loop-block

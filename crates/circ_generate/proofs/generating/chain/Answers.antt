@@ -1,7 +1,7 @@
 use Rattle.circ_files.proofs.FileFaults.{if_ok}
 use Rattle.circ_files.specs.TheoryFile.{PlainTheoryRefusal}
 use Rattle.circ_files.specs.TheoryFile as file
-use Rattle.circ_found.specs.Ending.{plain_ending}
+use Rattle.circ_files.specs.Ending.{plain_ending}
 use Rattle.circ_generate.specs.Generating.{Generates, unread_ending, no_theory}
 use Rattle.std.proofs.Common.{◌≡◌}
 use Rattle.circ_generate.proofs.generating.chain.Goals as goal

@@ -3,7 +3,7 @@ use Rattle.circ_theory.specs.Theory.{HasNoConditions}
 use Rattle.circ_read.specs.declared.cause.Cause.TheVariants as cause
 use Rattle.circ_files.specs.TheoryFile.{has_condition}
 use Rattle.circ_files.proofs.FileFaults.{if_ok}
-use Rattle.circ_found.specs.Ending.{plain_ending}
+use Rattle.circ_files.specs.Ending.{plain_ending}
 use Rattle.circ_generate.specs.Chain.{chain_theory}
 use Rattle.circ_generate.specs.Generating.{Generates, unread_ending, no_theory}
 use Rattle.circ_generate.proofs.generating.of_theory.Goals as goal

@@ -5,7 +5,7 @@ use Rattle.circ_proof.specs.Proof.{Proof}
 use Rattle.circ_file.specs.Decoding.{Decodes}
 use Rattle.circ_files.specs.declared.status.Status.TheVariants as status
 use Rattle.circ_files.proofs.FileFaults.{if_ok}
-use Rattle.circ_found.specs.Ending.{ending, plain_ending}
+use Rattle.circ_files.specs.Ending.{ending, plain_ending}
 use Rattle.circ_generate.specs.Generating.{summary_text}
 use Rattle.circ_generate.proofs.generating.summary.Goals as goal
 

@@ -1,0 +1,9 @@
+pub mod Check
+pub mod CheckProof
+pub mod Incoming
+pub mod Same
+pub mod Upgrade
+pub mod Show
+pub mod Contexts
+pub mod Library
+pub mod Reduce

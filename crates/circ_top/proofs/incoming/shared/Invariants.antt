@@ -1,5 +1,0 @@
-use Rattle.std.proofs.Common.{◌≡◌, ◌++◌, drop}
-use Rattle.circ_top.proofs.incoming.shared.Given as goal
-
-abbrev pub invariant-loop-goal : goal.invariant-loop-goal
-invariant-loop-goal l = l.list.items ++ drop l.goal-index l.goals ≡ l.goals
