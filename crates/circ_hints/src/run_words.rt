@@ -40,7 +40,7 @@ impl<'a> Asked<'a> {
         match self.command() {
             "same" => SourceKind::Automaton,
             _ if number <= 1 => SourceKind::Theory,
-            "prove" | "reduce" | "differ" => SourceKind::Script,
+            "prove" | "reduce" | "differ" | "trace" => SourceKind::Script,
             _ => SourceKind::Proof,
         }
     }
