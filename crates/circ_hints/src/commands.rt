@@ -8,7 +8,7 @@ pub(crate) struct CommandWords {
 }
 
 /// All commands, in the order in which they are shown.
-pub(crate) const COMMANDS: [CommandWords; 12] = [
+pub(crate) const COMMANDS: [CommandWords; 13] = [
     CommandWords {
         name: "prove",
         takes: "THEORY SCRIPT PROOF",
@@ -43,6 +43,10 @@ pub(crate) const COMMANDS: [CommandWords; 12] = [
     },
     CommandWords {
         name: "differ",
+        takes: "THEORY SCRIPT",
+    },
+    CommandWords {
+        name: "trace",
         takes: "THEORY SCRIPT",
     },
     CommandWords {

@@ -1,5 +1,6 @@
 //! The words of a run, without its options.
 use crate::unreadable_hint::SourceKind;
+use std::alloc::AllocError;
 
 /// The words of a run, of which the first is the program's name.
 #[derive(Clone, Copy)]
@@ -39,7 +40,7 @@ impl<'a> Asked<'a> {
         match self.command() {
             "same" => SourceKind::Automaton,
             _ if number <= 1 => SourceKind::Theory,
-            "prove" | "reduce" | "differ" => SourceKind::Script,
+            "prove" | "reduce" | "differ" | "trace" => SourceKind::Script,
             _ => SourceKind::Proof,
         }
     }
@@ -65,6 +66,29 @@ impl<'a> Asked<'a> {
         None
     }
 
+    /// Appends the words of the `trace` that makes the search of these words, of a `prove`: with the
+    /// same options, and without the name of the proof.
+    pub(crate) fn push_traced(&self, out: &mut String) -> Result<(), AllocError> {
+        let mut count: u64 = 0;
+        let mut is_value = false;
+        let mut all_plain = false;
+        for word in self.words.iter().skip(1) {
+            let word = word.as_str();
+            if is_value {
+                is_value = false;
+                push_word(out, word)?;
+            } else if !all_plain && is_option(word) {
+                all_plain = word == "--";
+                is_value = takes_value(word);
+                push_word(out, word)?;
+            } else {
+                push_traced_word(out, word, count)?;
+                count = count.saturating_add(1);
+            }
+        }
+        Ok(())
+    }
+
     /// The word that so many come before which are no options and none of their values.
     fn plain(&self, number: usize) -> Option<&'a str> {
         let mut left = number;
@@ -85,6 +109,31 @@ impl<'a> Asked<'a> {
         }
         None
     }
+}
+
+/// Appends a word of a `prove` before which so many stand, as `trace` takes it.
+fn push_traced_word(out: &mut String, word: &str, count: u64) -> Result<(), AllocError> {
+    match count {
+        0 => push_word(out, "trace"),
+        1 | 2 => push_word(out, word),
+        _ => Ok(()),
+    }
+}
+
+/// Appends a word behind a blank, between quotes where a shell would take it apart.
+fn push_word(out: &mut String, word: &str) -> Result<(), AllocError> {
+    out.push(' ')?;
+    if !word.is_empty() && word.as_bytes().iter().all(|byte| is_of_a_word(*byte)) {
+        return out.push_str(word);
+    }
+    out.push('\'')?;
+    out.push_str(word)?;
+    out.push('\'')
+}
+
+/// Whether a shell takes the byte as it stands.
+fn is_of_a_word(byte: u8) -> bool {
+    byte.is_ascii_alphanumeric() || b"-_./=:,+@%".contains(&byte)
 }
 
 /// Whether a word is an option, or looks like one.

@@ -1,6 +1,7 @@
-//! The hint for a search that is stuck.
+//! The hints for a search that is stuck or goes on too long.
 use crate::drawing::{Place, push_picture, push_position};
 use crate::parts::{Part, behind_item, is, item_from};
+use crate::run_words::Asked;
 use circ_lexer::Tokens;
 use std::alloc::{AllocError, Global};
 use std::fmt::Write;
@@ -15,6 +16,17 @@ pub fn stuck_end(cases: u64) -> &'static str {
     } else {
         "circ: no rule, hypothesis or lemma leads on, and nothing is left to split on\n"
     }
+}
+
+/// The call that shows the turns of the search of these words; empty if they are of no `prove`.
+pub fn trace_call(alloc: Global, asked: Asked<'_>) -> Result<String, AllocError> {
+    let mut out = String::new(alloc);
+    if asked.command() == "prove" {
+        out.push_str("circ: each turn of the search: circ")?;
+        asked.push_traced(&mut out)?;
+        out.push('\n')?;
+    }
+    Ok(out)
 }
 
 /// The place in the script of the goal that is stuck, by the number of its block and how many goals

@@ -1,6 +1,8 @@
 //! Lines on standard error that help with an answer: where a text is wrong, which goal is stuck, which
 //! word is no command.
-use circ_hints::{Asked, Source, SourceKind, stuck_end, stuck_goal, unreadable, usage};
+use circ_hints::{
+    Asked, Source, SourceKind, stuck_end, stuck_goal, trace_call, unreadable, usage,
+};
 use circ_read::Cause;
 use circ_top::Status;
 use std::alloc::AllocError;
@@ -37,6 +39,9 @@ fn hint<R: Files + AllocGlobal>(
             unreadable_hint(rt, Asked::new(words), *file, *place, cause)
         }
         Status::Stuck { block, goal } => { stuck_hint(rt, Asked::new(words), *block, *goal, cases) }
+        Status::Spent { .. } | Status::TooBig { .. } | Status::TooDeep { .. } => {
+            Ok(Some(trace_call(rt.alloc(), Asked::new(words))?))
+        }
         _ => Ok(None),
     }
 }
@@ -98,5 +103,6 @@ fn stuck_hint<R: Files + AllocGlobal>(
         }
     }
     text.push_str(stuck_end(cases))?;
+    text.push_str(trace_call(rt.alloc(), asked)?.as_str())?;
     Ok(Some(text))
 }

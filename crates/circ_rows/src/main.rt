@@ -44,6 +44,7 @@ const TABLES: [&str; 28] = [
     "rows-expressions",
     "rows-upgrade",
     "rows-differ",
+    "rows-trace",
     "rows-experiments",
 ];
 

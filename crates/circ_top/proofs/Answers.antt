@@ -15,7 +15,7 @@ use Rattle.circ_top.specs.Answer.{Succeeds, Comes, RefusesCommand, DueAnswer, no
 use Rattle.circ_top.specs.Causes.{AtFile, HasLongProof, IsPastLimit, IsReadFault, IsUnwritten, FailsToPut, IsWriteFault, IsQuietRun}
 use Rattle.circ_reports.specs.Check.{report_text, refused, accepted}
 use Rattle.circ_top.specs.Check.{Accepts, Rejects, FilesRead}
-use Rattle.circ_top.specs.Command.{Command, Check, Prove, Show, Contexts, Reduce, Same, Differ, Regex, Upgrade, Library, Generate, Asks, IsNotStored, stored_name}
+use Rattle.circ_top.specs.Command.{Command, Check, Prove, Show, Contexts, Reduce, Same, Differ, Trace, Regex, Upgrade, Library, Generate, Asks, IsNotStored, stored_name}
 use Rattle.circ_search.specs.Plain.{plain_limits}
 use Rattle.circ_top.specs.Prove.{IsSearched, StoresProof}
 use Rattle.circ_top.specs.Delivery.{Prints, Delivers, whole, write_failed, memory_wanted, text_wanted}
@@ -41,6 +41,8 @@ use Rattle.circ_top.proofs.Searches.{IsSearchEnd, search_end, search_name, searc
 use Rattle.circ_top.proofs.ReduceOutcomes.{reduce_not_ok, reduce_not_refused, unread_reduce, past_reduce, unwritten_reduce}
 use Rattle.circ_top.specs.Differ.{IsDifferenceSought, TellsApart}
 use Rattle.circ_top.proofs.Differences.{difference_end, told_apart}
+use Rattle.circ_top.specs.Trace.{IsTraced}
+use Rattle.circ_top.proofs.Traced.{trace_end}
 use Rattle.circ_regex.specs.Lang.{LANG}
 use Rattle.circ_top.specs.Regex.{equality_goals, IsEqualitySearched, StoresEquality}
 use Rattle.circ_top.proofs.RegexOutcomes.{regex_not_ok, regex_not_refused, regex_not_unread, regex_not_past, regex_not_unwritten}
@@ -63,6 +65,7 @@ module _ (before after : ShelfState) where
   command_not_ok (Reduce budget theory script) s r e = reduce_not_ok budget theory script before after s r e
   command_not_ok (Same first second) s r e = same_not_ok first second before after s r e
   command_not_ok (Differ limits theory script) s r e = script_not_ok theory script before after s r e
+  command_not_ok (Trace limits theory script) s r e = script_not_ok theory script before after s r e
   command_not_ok (Regex limits left right proof) s r e = regex_not_ok left right s r e
   command_not_ok (Upgrade theory proof new) s r e = upgrade_not_ok theory proof before after s r e
   command_not_ok (Library text) s r e = let never : status.Memory ≡ status.Ok = sym r ∙ e in cc
@@ -80,6 +83,7 @@ module _ (before after : ShelfState) where
   unread_command (Reduce budget theory script) s n r e = unread_reduce budget theory script before after s n r e
   unread_command (Same first second) s n r e = unread_same first second before after s n r e
   unread_command (Differ limits theory script) s n r e = unread_script theory script before after s n r e
+  unread_command (Trace limits theory script) s n r e = unread_script theory script before after s n r e
   unread_command (Regex limits left right proof) s n r e = absurd (regex_not_unread left right s n r e)
   unread_command (Upgrade theory proof new) s n r e = unread_upgrade theory proof before after s n r e
   unread_command (Library text) s n r e = absurd (let never : status.Memory ≡ status.ReadFault n = sym r ∙ e in cc)
@@ -95,6 +99,7 @@ module _ (before after : ShelfState) where
   past_command (Reduce budget theory script) s file n r e = past_reduce budget theory script before after s file n r e
   past_command (Same first second) s file n r e = past_same first second before after s file n r e
   past_command (Differ limits theory script) s file n r e = past_script theory script before after s file n r e
+  past_command (Trace limits theory script) s file n r e = past_script theory script before after s file n r e
   past_command (Regex limits left right proof) s file n r e = absurd (regex_not_past left right s file n r e)
   past_command (Upgrade theory proof new) s file n r e = past_upgrade theory proof before after s file n r e
   past_command (Library text) s file n r e = absurd (let never : status.Memory ≡ status.TooLong file n = sym r ∙ e in cc)
@@ -108,6 +113,7 @@ module _ (before after : ShelfState) where
   unwritten_command (Reduce budget theory script) s n r e = unwritten_reduce budget theory script before after s n r e
   unwritten_command (Same first second) s n r e = unwritten_same first second before after s n r e
   unwritten_command (Differ limits theory script) s n r e = unwritten_script theory script before after s n r e
+  unwritten_command (Trace limits theory script) s n r e = unwritten_script theory script before after s n r e
   unwritten_command (Regex limits left right proof) s n r e = regex_not_unwritten left right s n r e
   unwritten_command (Upgrade theory proof new) s n r e = unwritten_upgrade theory proof before after s n r e
   unwritten_command (Library text) s n r e = let never : status.Memory ≡ status.WriteFault n = sym r ∙ e in cc
@@ -134,6 +140,7 @@ module _ (before : ShelfState) where
   work_end (Same first second) s text stored a = (compared_end a.0.compared.word s a.0.compared.status_is).0
   work_end (Differ limits theory script) s text stored a =
       (difference_end a.th limits.steps limits.derives a.sc.blocks (ending s text stored) a.ends).0
+  work_end (Trace limits theory script) s text stored a = (trace_end a.th (plain_limits limits) a.sc.blocks (ending s text stored) a.ends).0
   work_end (Regex limits left right proof) s text stored a = search_end LANG (plain_limits limits) proof (equality_goals a.e a.f) s text stored a.ends
   work_end (Upgrade theory proof new) s text stored a = ok_end s a.0
   work_end (Library given) s text stored a = ok_end s a.0
@@ -154,6 +161,8 @@ module _ (before : ShelfState) where
   work_succeeds (Same first second) s text stored a e = let P : Status → Type 0 = λ x. IsCompared first second x text before × (stored ≡ None) in subst P e a
   work_succeeds (Differ limits theory script) s text stored a e =
       let P : Status → Type 0 = λ x. IsDifferenceSought limits theory script (ending x text stored) before in subst P e a
+  work_succeeds (Trace limits theory script) s text stored a e =
+      let P : Status → Type 0 = λ x. IsTraced limits theory script (ending x text stored) before in subst P e a
   work_succeeds (Regex limits left right proof) s text stored a e =
       let P : Status → Type 0 = λ x. IsEqualitySearched limits left right proof (ending x text stored) in subst P e a
   work_succeeds (Upgrade theory proof new) s text stored a e = a.1
@@ -172,6 +181,8 @@ module _ (before : ShelfState) where
   work_past (Same first second) s text stored file n a e = absurd ((compared_end a.0.compared.word s a.0.compared.status_is).1 file n e)
   work_past (Differ limits theory script) s text stored file n a e =
       absurd ((difference_end a.th limits.steps limits.derives a.sc.blocks (ending s text stored) a.ends).2 file n e)
+  work_past (Trace limits theory script) s text stored file n a e =
+      let P : Status → Type 0 = λ x. IsTraced limits theory script (ending x text stored) before in (text, stored, subst P e a)
   work_past (Regex limits left right proof) s text stored file n a e =
       let P : Status → Type 0 = λ x. IsEqualitySearched limits left right proof (ending x text stored) in (text, stored, subst P e a)
   work_past (Upgrade theory proof new) s text stored file n a e = let never : status.Ok ≡ status.TooLong file n = sym a.0 ∙ e in cc
@@ -194,6 +205,8 @@ module _ (before : ShelfState) where
   work_name (Same first second) s text stored x a e = nothing_stored stored x a.1 e
   work_name (Differ limits theory script) s text stored x a e =
       nothing_stored stored x (difference_end a.th limits.steps limits.derives a.sc.blocks (ending s text stored) a.ends).1 e
+  work_name (Trace limits theory script) s text stored x a e =
+      nothing_stored stored x (trace_end a.th (plain_limits limits) a.sc.blocks (ending s text stored) a.ends).1 e
   work_name (Regex limits left right proof) s text stored x a e =
       let P : Option Stored → Type 0 = λ y. SearchEnds LANG (plain_limits limits) proof (equality_goals a.e a.f) (ending s text y) in
       ap Some (sym (search_name LANG (plain_limits limits) proof (equality_goals a.e a.f) s text x (subst P e a.ends)))
@@ -395,6 +408,7 @@ module _ (words : List (List ℕ)) (before after : ShelfState) (start end : Sink
       rejects (Reduce budget theory script) s i f e p q = absurd (reduce_not_refused budget theory script before after s n f e)
       rejects (Same first second) s i f e p q = absurd (same_not_refused first second before after s n f e)
       rejects (Differ limits theory script) s i f e p q = absurd (script_not_refused theory script before after s n f e)
+      rejects (Trace limits theory script) s i f e p q = absurd (script_not_refused theory script before after s n f e)
       rejects (Regex limits left right proof) s i f e p q = absurd (regex_not_refused left right s n f e)
       rejects (Upgrade theory proof new) s i f e p q = absurd (upgrade_not_refused theory proof before after s n f e)
       rejects (Library text) s i f e p q = absurd (let never : status.Memory ≡ status.Refused n = sym f ∙ e in cc)

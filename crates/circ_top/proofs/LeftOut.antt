@@ -14,7 +14,7 @@ use Rattle.circ_script.specs.ReadsAsScript.{ReadsAsScript, ScriptOrCause}
 use Rattle.circ_script.specs.declared.job.Job.{Job}
 use Rattle.circ_script.specs.declared.job.Job.TheVariants as job
 use Rattle.circ_reports.specs.Check.{report_text, no_theory, no_proof, refused, accepted}
-use Rattle.circ_top.specs.Command.{Command, Check, Prove, Show, Contexts, Reduce, Same, Differ, Regex, Upgrade, Library, Generate, Asks}
+use Rattle.circ_top.specs.Command.{Command, Check, Prove, Show, Contexts, Reduce, Same, Differ, Trace, Regex, Upgrade, Library, Generate, Asks}
 use Rattle.circ_files.specs.Files.{Held, Refusal, RefusesFile, Holds}
 use Rattle.circ_top.specs.InMemory.{HoldsFilesOf, HoldsFiles}
 use Rattle.circ_plain_search.specs.Numbering.{Found}
@@ -32,6 +32,7 @@ use Rattle.circ_reports.specs.Same.{AutomatonRefusal, SecondRefusal, ReadsOver, 
 use Rattle.circ_reports.proofs.SameDecides.{AutomataDecided, first_decides, second_decides, compared_decides}
 use Rattle.circ_refute.specs.PlainRefutation.{refutations, goals_in}
 use Rattle.circ_found.specs.Differing.{decision_ending}
+use Rattle.circ_trace.proofs.Traces.{some_answer as some_trace}
 use Rattle.circ_top.specs.Scripted.{goals_done}
 use Rattle.circ_top.specs.Scripted as scripted
 use Rattle.circ_regex.specs.Lang.{LANG}
@@ -172,6 +173,17 @@ module _ (reads : (bytes : List ℕ) → ReadOrRefused bytes) (proofs : ProofsDe
       (λ s x. let text : List ℕ = refusal_text (Differ limits theory script) s in none_is s text None
       (command (Differ limits theory script) s text None i (scripted.no_theory s x)))
 
+  no_trace : (limits : Limits) (theory script : List ℕ) → Asks words (Trace limits theory script) → HoldsFilesOf held (Trace limits theory script) → ⊥
+  no_trace limits theory script i h = file_decides held 1 theory PlainTheoryRefusal ReadsAsPlain h.0 plain_reads
+      (λ th rt. file_decides held 2 script (ScriptRefusal th job.Prove) (ReadsAsScript th job.Prove) h.1 (scripts th job.Prove)
+      (λ q rq. some_trace th (plain_limits limits) q.blocks
+      (λ e x. none_is e.status e.text e.stored
+      (command (Trace limits theory script) e.status e.text e.stored i (goals_done e.status e.text e.stored th q rt rq x))))
+      (λ s x. let text : List ℕ = refusal_text (Trace limits theory script) s in none_is s text None
+      (command (Trace limits theory script) s text None i (scripted.no_script s th rt x))))
+      (λ s x. let text : List ℕ = refusal_text (Trace limits theory script) s in none_is s text None
+      (command (Trace limits theory script) s text None i (scripted.no_theory s x)))
+
   no_regex : (limits : Limits) (left right proof : List ℕ) → Asks words (Regex limits left right proof) → ⊥
   no_regex limits left right proof i = word_decides 1 left
       (λ e re. word_decides 2 right
@@ -223,6 +235,7 @@ module _ (reads : (bytes : List ℕ) → ReadOrRefused bytes) (proofs : ProofsDe
   no_command_left (Reduce budget theory script) i h = no_reduce budget theory script i h
   no_command_left (Same first second) i h = no_same first second i h
   no_command_left (Differ limits theory script) i h = no_differ limits theory script i h
+  no_command_left (Trace limits theory script) i h = no_trace limits theory script i h
   no_command_left (Regex limits left right proof) i h = no_regex limits left right proof i
   no_command_left (Upgrade theory proof new) i h = no_upgrade theory proof new i h
   no_command_left (Library text) i h = none_is status.Ok text None (command (Library text) status.Ok text None i ((refl, refl), refl))

@@ -25,5 +25,6 @@ pub mod StoredProofs
 pub mod UpgradedChecks
 pub mod NoFaults
 pub mod TheoryTexts
+pub mod Traced
 pub mod LeftOut
 pub mod SecondProves

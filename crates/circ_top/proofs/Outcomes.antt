@@ -7,7 +7,7 @@ use Rattle.circ_reports.specs.Check.{CheckOutcome}
 use Rattle.circ_reports.specs.Reduce.{ReduceOutcome}
 use Rattle.circ_reports.specs.Show.{ShowOutcome}
 use Rattle.circ_top.specs.Causes.{PrintsOutcome, IsOutcomeOrFault, PrintsPartOf, AnswersOutcome}
-use Rattle.circ_top.specs.Command.{Command, Check, Prove, Show, Contexts, Reduce, Same, Differ, Regex, Upgrade, Library, Generate, Asks}
+use Rattle.circ_top.specs.Command.{Command, Check, Prove, Show, Contexts, Reduce, Same, Differ, Trace, Regex, Upgrade, Library, Generate, Asks}
 use Rattle.circ_top.specs.Delivery.{Delivers, whole, write_failed, memory_wanted, text_wanted}
 use Rattle.circ_files.specs.Like.{IsLike, itself}
 use Rattle.circ_files.specs.Ending.{Stored}
@@ -34,6 +34,8 @@ use Rattle.circ_reports.specs.Same.{SameOutcome}
 use Rattle.circ_top.proofs.SameOutcomes.{AutomataOnce, due_same, compared_outcome, same_agrees, compared_agrees}
 use Rattle.circ_top.specs.Differ.{DifferenceSought}
 use Rattle.circ_top.proofs.Differences.{one_difference, difference_done}
+use Rattle.circ_top.specs.Trace.{TraceSought}
+use Rattle.circ_top.proofs.Traced.{one_trace}
 use Rattle.circ_top.proofs.RegexOutcomes.{ExpressionsOnce, due_regex, equality_outcome, regex_agrees, equality_agrees}
 use Rattle.circ_reports.specs.Upgrade.{UpgradeOutcome}
 use Rattle.circ_top.proofs.UpgradeOutcomes.{due_upgrade, upgraded_outcome, upgrade_agrees, upgraded_agrees}
@@ -53,6 +55,8 @@ due_refusal words before after (Reduce budget theory script) s t i r = due_reduc
 due_refusal words before after (Same first second) s t i r = due_same first second before after words s t i r
 due_refusal words before after (Differ limits theory script) s t i r =
     due_script (Differ limits theory script) theory script (DifferenceSought limits) before after words s (λ u text x. x) t i r
+due_refusal words before after (Trace limits theory script) s t i r =
+    due_script (Trace limits theory script) theory script (TraceSought limits) before after words s (λ u text x. x) t i r
 due_refusal words before after (Regex limits left right proof) s t i r = due_regex limits left right proof words before after i s r
 due_refusal words before after (Upgrade theory proof new) s t i r = due_upgrade theory proof new before after words s t i r
 due_refusal words before after (Library text) s t i r =
@@ -79,6 +83,8 @@ due_work (Same first second) s text stored before t a = (compared_outcome first 
 due_work (Differ limits theory script) s text stored before t a =
     done_outcome (Differ limits theory script) theory script (DifferenceSought limits) before before s text stored t
     (difference_done limits theory script (ending s text stored) before a)
+due_work (Trace limits theory script) s text stored before t a =
+    done_outcome (Trace limits theory script) theory script (TraceSought limits) before before s text stored t a
 due_work (Regex limits left right proof) s text stored before t a = equality_outcome limits left right proof s text stored a
 due_work (Upgrade theory proof new) s text stored before t a =
     let P : Status → Type 0 = λ x. UpgradeOutcome before.holds theory proof new x text stored in
@@ -123,6 +129,9 @@ module _ (once : ReadsOnce) (proofs : ProofsOnce) (scripts : ScriptsOnce) (autom
   refusal_agrees (Differ limits theory script) s r text stored c f =
       refused_agrees (reads_plain_once once) scripts (Differ limits theory script) theory script (DifferenceSought limits) (one_difference limits)
       before after t r s text stored f c
+  refusal_agrees (Trace limits theory script) s r text stored c f =
+      refused_agrees (reads_plain_once once) scripts (Trace limits theory script) theory script (TraceSought limits) (one_trace limits)
+      before after t r s text stored f c
   refusal_agrees (Regex limits left right proof) s r text stored c f =
       regex_agrees limits left right proof expressions searches before after r s text stored f c
   refusal_agrees (Upgrade theory proof new) s r text stored c f = upgrade_agrees once proofs theory proof new before after t r s text stored f c
@@ -158,6 +167,9 @@ module _ (once : ReadsOnce) (proofs : ProofsOnce) (scripts : ScriptsOnce) (autom
   work_agrees (Differ limits theory script) s r text given stored other c a =
       done_agrees (reads_plain_once once) scripts (Differ limits theory script) theory script (DifferenceSought limits) (one_difference limits)
       before after t r given other (difference_done limits theory script (ending r given other) before a) s text stored c
+  work_agrees (Trace limits theory script) s r text given stored other c a =
+      done_agrees (reads_plain_once once) scripts (Trace limits theory script) theory script (TraceSought limits) (one_trace limits)
+      before after t r given other a s text stored c
   work_agrees (Regex limits left right proof) s r text given stored other c a =
       equality_agrees limits left right proof expressions searches before after r given other a s text stored c
   work_agrees (Upgrade theory proof new) s r text given stored other c a =

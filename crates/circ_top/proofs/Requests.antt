@@ -7,8 +7,8 @@ use Rattle.clap.specs.Faults.{fault_of}
 use Rattle.clap.specs.Simple.{matches_of}
 use Rattle.clap.specs.Walk.{Row, first_of}
 use Rattle.circ_lib.specs.Library.{library_text}
-use Rattle.circ_top.specs.Command.{Command, Check, Prove, Show, Contexts, Reduce, Same, Differ, Regex, Upgrade, Library, Generate}
-use Rattle.circ_top.specs.Command.{IsCommand, check, prove, show, contexts, reduce, same, differ, regex, upgrade, library, generate, IsNoneOfTable}
+use Rattle.circ_top.specs.Command.{Command, Check, Prove, Show, Contexts, Reduce, Same, Differ, Trace, Regex, Upgrade, Library, Generate}
+use Rattle.circ_top.specs.Command.{IsCommand, check, prove, show, contexts, reduce, same, differ, trace, regex, upgrade, library, generate, IsNoneOfTable}
 use Rattle.circ_top.specs.Command.{Asks, IsNoCommand, IsBounded, plain_request}
 use Rattle.circ_top.specs.Words.{circ_app, IsBudget, Finds, FindsNothing}
 use Rattle.circ_reports.specs.declared.report.Report.{Report}
@@ -54,6 +54,7 @@ row_of_two k n v w =
     else if has_key n (codes "reduce") then Fixed (Reduce k.steps v w)
     else if has_key n (codes "same") then Fixed (Same v w)
     else if has_key n (codes "differ") then Fixed (Differ k v w)
+    else if has_key n (codes "trace") then Fixed (Trace k v w)
     else Nothing
 
 abbrev row_of_three : Limits → (name first second third : List ℕ) → TableRow
@@ -86,6 +87,7 @@ module _ (k : Limits) (name : List ℕ) (given : List (List ℕ)) where
   in_row _ (reduce t s e i) = with_name (codes "reduce") (t ∷ s ∷ []) (Reduce k.steps t s) e i refl
   in_row _ (same v w e i) = with_name (codes "same") (v ∷ w ∷ []) (Same v w) e i refl
   in_row _ (differ t s e i) = with_name (codes "differ") (t ∷ s ∷ []) (Differ k t s) e i refl
+  in_row _ (trace t s e i) = with_name (codes "trace") (t ∷ s ∷ []) (Trace k t s) e i refl
   in_row _ (regex u v p e i) = with_name (codes "regex") (u ∷ v ∷ p ∷ []) (Regex k u v p) e i refl
   in_row _ (upgrade t p q e i) = with_name (codes "upgrade") (t ∷ p ∷ q ∷ []) (Upgrade t p q) e i refl
   in_row _ (library w text e i m) = with_name (codes "library") (w ∷ []) (Library text) e i (text, m, refl)

@@ -5,13 +5,14 @@ use Rattle.circ_outer.specs.Sink.{SinkState}
 use Rattle.circ_reports.specs.Contexts.{IsListed}
 use Rattle.circ_generate.specs.Generating.{Generates}
 use Rattle.circ_reports.specs.Check.{IsAccepted, RefusesCheck}
-use Rattle.circ_top.specs.Command.{Command, Check, Prove, Show, Contexts, Reduce, Same, Differ, Regex, Upgrade, Library, Generate, Asks, IsNoCommand}
+use Rattle.circ_top.specs.Command.{Command, Check, Prove, Show, Contexts, Reduce, Same, Differ, Trace, Regex, Upgrade, Library, Generate, Asks, IsNoCommand}
 use Rattle.circ_top.specs.Delivery.{Prints}
 use Rattle.circ_top.specs.Differ.{IsDifferenceSought}
 use Rattle.circ_files.specs.Ending.{ending}
 use Rattle.circ_reports.specs.Library.{RefusesLibrary}
 use Rattle.circ_top.specs.Prove.{IsSearched}
 use Rattle.circ_top.specs.Scripted.{RefusesScript}
+use Rattle.circ_top.specs.Trace.{IsTraced}
 use Rattle.circ_reports.specs.Reduce.{IsReduced, RefusesReduce}
 use Rattle.circ_top.specs.Regex.{IsEqualitySearched, RefusesRegex}
 use Rattle.circ_reports.specs.Same.{IsCompared, RefusesSame}
@@ -34,6 +35,7 @@ Succeeds (Contexts budget theory) text stored before = IsListed budget theory te
 Succeeds (Reduce budget theory script) text stored before = IsReduced budget theory script text before × (stored ≡ None)
 Succeeds (Same first second) text stored before = IsCompared first second status.Ok text before × (stored ≡ None)
 Succeeds (Differ limits theory script) text stored before = IsDifferenceSought limits theory script (ending status.Ok text stored) before
+Succeeds (Trace limits theory script) text stored before = IsTraced limits theory script (ending status.Ok text stored) before
 Succeeds (Regex limits left right proof) text stored before = IsEqualitySearched limits left right proof (ending status.Ok text stored)
 Succeeds (Upgrade theory proof new) text stored before = IsUpgraded theory proof new text stored before
 Succeeds (Library given) text stored before = (text ≡ given) × (stored ≡ None)
@@ -44,6 +46,7 @@ abbrev pub Comes : Command → Status → (text : List ℕ) → (stored : Option
 Comes (Prove limits theory script proof) s text stored before = IsSearched limits theory script proof (ending s text stored) before
 Comes (Same first second) s text stored before = IsCompared first second s text before × (stored ≡ None)
 Comes (Differ limits theory script) s text stored before = IsDifferenceSought limits theory script (ending s text stored) before
+Comes (Trace limits theory script) s text stored before = IsTraced limits theory script (ending s text stored) before
 Comes (Regex limits left right proof) s text stored before = IsEqualitySearched limits left right proof (ending s text stored)
 Comes (Generate n) s text stored before = Generates n (ending s text stored)
 Comes c s text stored before = (s ≡ status.Ok) × Succeeds c text stored before
@@ -57,6 +60,7 @@ RefusesCommand (Contexts budget theory) before after s = IsTheoryFault theory be
 RefusesCommand (Reduce budget theory script) before after s = RefusesReduce budget theory script before after s
 RefusesCommand (Same first second) before after s = RefusesSame first second before after s
 RefusesCommand (Differ limits theory script) before after s = RefusesScript theory script before after s
+RefusesCommand (Trace limits theory script) before after s = RefusesScript theory script before after s
 RefusesCommand (Regex limits left right proof) before after s = RefusesRegex left right s
 RefusesCommand (Upgrade theory proof new) before after s = RefusesUpgrade theory proof before after s
 RefusesCommand (Library given) before after s = RefusesLibrary s

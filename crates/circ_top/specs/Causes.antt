@@ -4,7 +4,7 @@ use Rattle.circ_outer.specs.Count.{Rose}
 use Rattle.circ_outer.specs.Shelf.{ShelfState, Struck, PutFrame, IsQuiet}
 use Rattle.circ_outer.specs.Sink.{SinkState}
 use Rattle.circ_theory.specs.Theory.{Theory}
-use Rattle.circ_top.specs.Command.{Command, Check, Prove, Show, Contexts, Reduce, Same, Differ, Regex, Upgrade, Library, Generate, Asks, stored_name}
+use Rattle.circ_top.specs.Command.{Command, Check, Prove, Show, Contexts, Reduce, Same, Differ, Trace, Regex, Upgrade, Library, Generate, Asks, stored_name}
 use Rattle.circ_top.specs.Delivery.{Prints, PrintsPart, PrintsFront}
 use Rattle.circ_files.specs.Files.{IsUnread, IsTooLong}
 use Rattle.circ_files.specs.Like.{IsLike}
@@ -13,6 +13,7 @@ use Rattle.circ_generate.specs.Generating.{Generates}
 use Rattle.circ_top.specs.Outcome.{Outcome}
 use Rattle.circ_top.specs.Prove.{IsSearched}
 use Rattle.circ_top.specs.Regex.{IsEqualitySearched}
+use Rattle.circ_top.specs.Trace.{IsTraced}
 use Rattle.circ_reports.specs.Same.{AtAutomaton}
 use Rattle.circ_files.specs.Ending.{Stored}
 use Rattle.circ_top.specs.Storing.{HoldsAfter}
@@ -67,6 +68,7 @@ AtFile before (Contexts budget theory) P = P 1 theory
 AtFile before (Reduce budget theory script) P = AtEither (λ th. TakesTheory theory th before) theory script P
 AtFile before (Same first second) P = AtAutomaton before first second P
 AtFile before (Differ limits theory script) P = AtEither (λ th. TakesPlainTheory theory th before) theory script P
+AtFile before (Trace limits theory script) P = AtEither (λ th. TakesPlainTheory theory th before) theory script P
 AtFile before (Regex limits left right proof) P = ⊥
 AtFile before (Upgrade theory proof new) P = AtEither (λ th. TakesTheory theory th before) theory proof P
 AtFile before (Library text) P = ⊥
@@ -76,6 +78,8 @@ AtFile before (Generate n) P = ⊥
 abbrev pub HasLongProof : ShelfState → Command → (file count : ℕ) → Type 0
 HasLongProof before (Prove limits theory script proof) file n =
     (text : List ℕ) × (stored : Option Stored) × IsSearched limits theory script proof (ending (status.TooLong file n) text stored) before
+HasLongProof before (Trace limits theory script) file n =
+    (text : List ℕ) × (stored : Option Stored) × IsTraced limits theory script (ending (status.TooLong file n) text stored) before
 HasLongProof before (Regex limits left right proof) file n =
     (text : List ℕ) × (stored : Option Stored) × IsEqualitySearched limits left right proof (ending (status.TooLong file n) text stored)
 HasLongProof before (Generate m) file n = (text : List ℕ) × (stored : Option Stored) × Generates m (ending (status.TooLong file n) text stored)

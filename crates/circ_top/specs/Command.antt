@@ -20,7 +20,8 @@ IsNoReport name = (r : Report) → name ≡ report_name r → ⊥
 
 -- Files go by their names. A proof is checked, and its goals are reported or the whole relation that it builds. A proof of a script's goals is searched for,
 -- within limits, and stored. The places of the greatest special set are listed, and the terms of a script are reduced, by so many replacements at most. Two
--- automata are compared. An experiment is looked for that tells the sides of a goal of a script apart, within limits. A proof that two regular expressions match the same words is searched for, within limits, and stored. A proof is stored in version 2
+-- automata are compared. An experiment is looked for that tells the sides of a goal of a script apart, within limits. The turns of the search for a proof of a script's goals are
+-- shown, within limits. A proof that two regular expressions match the same words is searched for, within limits, and stored. A proof is stored in version 2
 -- under another name. The library's text is that of a name that it knows. A chain of so many streams is made and proved.
 pub data Command : Type 0 where
   Check : (report : Report) (theory proof : List ℕ) → Command
@@ -30,6 +31,7 @@ pub data Command : Type 0 where
   Reduce : (budget : ℕ) → (theory script : List ℕ) → Command
   Same : (first second : List ℕ) → Command
   Differ : (limits : Limits) → (theory script : List ℕ) → Command
+  Trace : (limits : Limits) → (theory script : List ℕ) → Command
   Regex : (limits : Limits) → (left right proof : List ℕ) → Command
   Upgrade : (theory proof new : List ℕ) → Command
   Library : (text : List ℕ) → Command
@@ -48,6 +50,8 @@ pub data IsCommand (limits : Limits) (name : List ℕ) (given : List (List ℕ))
   same : (first second : List ℕ) → name ≡ codes "same" → given ≡ first ∷ second ∷ [] → IsCommand limits name given (Same first second)
   differ : (theory script : List ℕ) → name ≡ codes "differ" → given ≡ theory ∷ script ∷ []
       → IsCommand limits name given (Differ limits theory script)
+  trace : (theory script : List ℕ) → name ≡ codes "trace" → given ≡ theory ∷ script ∷ []
+      → IsCommand limits name given (Trace limits theory script)
   regex : (left right proof : List ℕ) → name ≡ codes "regex" → given ≡ left ∷ right ∷ proof ∷ []
       → IsCommand limits name given (Regex limits left right proof)
   upgrade : (theory proof new : List ℕ) → name ≡ codes "upgrade" → given ≡ theory ∷ proof ∷ new ∷ []
@@ -81,6 +85,7 @@ stored_name (Contexts budget theory) = None
 stored_name (Reduce budget theory script) = None
 stored_name (Same first second) = None
 stored_name (Differ limits theory script) = None
+stored_name (Trace limits theory script) = None
 stored_name (Regex limits left right proof) = Some proof
 stored_name (Upgrade theory proof new) = Some new
 stored_name (Library text) = None
@@ -91,6 +96,7 @@ abbrev pub IsReport : Command → Type 0
 IsReport (Prove limits theory script proof) = ⊥
 IsReport (Same first second) = ⊥
 IsReport (Differ limits theory script) = ⊥
+IsReport (Trace limits theory script) = ⊥
 IsReport (Regex limits left right proof) = ⊥
 IsReport (Upgrade theory proof new) = ⊥
 IsReport (Generate n) = ⊥
@@ -114,6 +120,7 @@ plain_request (request.Contexts budget theory) = Contexts budget theory.now
 plain_request (request.Reduce budget theory script) = Reduce budget theory.now script.now
 plain_request (request.Same first second) = Same first.now second.now
 plain_request (request.Differ limits theory script) = Differ limits theory.now script.now
+plain_request (request.Trace limits theory script) = Trace limits theory.now script.now
 plain_request (request.Regex limits left right proof) = Regex limits left.now right.now proof.now
 plain_request (request.Upgrade theory proof new) = Upgrade theory.now proof.now new.now
 plain_request (request.Library text) = Library text.now

@@ -5,6 +5,7 @@ pub mod Refusals
 pub mod Delivery
 pub mod Check
 pub mod Storing
+pub mod Trace
 pub mod Scripted
 pub mod Prove
 pub mod Differ

@@ -5,7 +5,7 @@ use Rattle.circ_generate.specs.Generating.{Generates}
 use Rattle.circ_reports.specs.Contexts.{ContextsOutcome}
 use Rattle.circ_reports.specs.Check.{CheckOutcome}
 use Rattle.circ_top.specs.Differ.{DifferOutcome}
-use Rattle.circ_top.specs.Command.{Command, Check, Prove, Show, Contexts, Reduce, Same, Differ, Regex, Upgrade, Library, Generate, Asks, IsNoCommand}
+use Rattle.circ_top.specs.Command.{Command, Check, Prove, Show, Contexts, Reduce, Same, Differ, Trace, Regex, Upgrade, Library, Generate, Asks, IsNoCommand}
 use Rattle.circ_files.specs.Files.{Held}
 use Rattle.circ_reports.specs.Library.{LibraryOutcome}
 use Rattle.circ_top.specs.Prove.{ProveOutcome}
@@ -13,6 +13,7 @@ use Rattle.circ_reports.specs.Reduce.{ReduceOutcome}
 use Rattle.circ_top.specs.Regex.{RegexOutcome}
 use Rattle.circ_reports.specs.Same.{SameOutcome}
 use Rattle.circ_reports.specs.Show.{ShowOutcome}
+use Rattle.circ_top.specs.Trace.{TraceOutcome}
 use Rattle.circ_reports.specs.Upgrade.{UpgradeOutcome}
 use Rattle.circ_files.specs.Ending.{Stored}
 use Rattle.circ_top.specs.Refusals.{usage_text}
@@ -28,6 +29,7 @@ OutcomeOf held (Contexts budget theory) s text stored = ContextsOutcome held bud
 OutcomeOf held (Reduce budget theory script) s text stored = ReduceOutcome held budget theory script s text × (stored ≡ None)
 OutcomeOf held (Same first second) s text stored = SameOutcome held first second s text × (stored ≡ None)
 OutcomeOf held (Differ limits theory script) s text stored = DifferOutcome held limits theory script s text stored
+OutcomeOf held (Trace limits theory script) s text stored = TraceOutcome held limits theory script s text stored
 OutcomeOf held (Regex limits left right proof) s text stored = RegexOutcome limits left right proof s text stored
 OutcomeOf held (Upgrade theory proof new) s text stored = UpgradeOutcome held theory proof new s text stored
 OutcomeOf held (Library given) s text stored = LibraryOutcome given s text × (stored ≡ None)

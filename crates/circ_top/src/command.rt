@@ -35,6 +35,7 @@ use crate::prove::prove;
 use crate::refusals::{refusal, usage};
 use crate::regex::regex;
 use crate::request::{Request, asked};
+use crate::trace::trace;
 use circ_auto::laws::read_in_one_way as automata_read_in_one_way;
 use circ_files::{Ending, Status, Stored};
 use circ_generate::generate;
@@ -54,10 +55,10 @@ use std::alloc::Global;
 /// The program: `words` are its name and then a command with what it takes, which is
 /// `check THEORY PROOF`, `relation THEORY PROOF`, `prove THEORY SCRIPT PROOF`, `show THEORY`,
 /// `contexts THEORY`, `reduce THEORY SCRIPT`, `same FIRST SECOND`, `differ THEORY SCRIPT`,
-/// `regex LEFT RIGHT PROOF`, `upgrade THEORY PROOF NEW`, `library NAME` or `generate NUMBER`. The
-/// options `--steps N` and `--derives N` may stand before, behind or between them. The files are
-/// taken from the shelf, to which `prove`, `regex` and `upgrade` store a proof, and the text of the
-/// answer is written to the sink, whole.
+/// `trace THEORY SCRIPT`, `regex LEFT RIGHT PROOF`, `upgrade THEORY PROOF NEW`, `library NAME` or
+/// `generate NUMBER`. The options `--steps N` and `--derives N` may stand before, behind or between
+/// them. The files are taken from the shelf, to which `prove`, `regex` and `upgrade` store a proof,
+/// and the text of the answer is written to the sink, whole.
 pub fn circ<S: Shelf, K: Sink>(
     alloc: Global,
     words: &Vec<String>,
@@ -245,6 +246,11 @@ fn run<'a, S: Shelf>(
             theory,
             script,
         } => differ(alloc, shelf, *limits, theory, script),
+        Request::Trace {
+            limits,
+            theory,
+            script,
+        } => trace(alloc, shelf, *limits, theory, script),
         Request::Regex {
             limits,
             left,

@@ -9,6 +9,7 @@ mod refusals;
 mod regex;
 mod request;
 pub mod sure;
+mod trace;
 mod words;
 
 pub use circ_files::Status;

@@ -62,6 +62,13 @@ pub(crate) enum Request<'a> {
         theory: &'a str,
         script: &'a str,
     },
+    /// The turns of the search for a proof of a script file's goals over a theory file are shown,
+    /// within limits.
+    Trace {
+        limits: Limits,
+        theory: &'a str,
+        script: &'a str,
+    },
     /// A proof that two regular expressions match the same words is searched for within limits,
     /// and stored under a name.
     Regex {
@@ -180,6 +187,13 @@ fn of_two<'a>(words: &Words<'_, 'a>, first: &'a str, second: &'a str) -> Option<
     }
     if is_word(words.name, b"differ") {
         return Some(Request::Differ {
+            limits: words.limits,
+            theory: first,
+            script: second,
+        });
+    }
+    if is_word(words.name, b"trace") {
+        return Some(Request::Trace {
             limits: words.limits,
             theory: first,
             script: second,

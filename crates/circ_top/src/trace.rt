@@ -1,0 +1,47 @@
+//! The command `trace`: the turns of the search for a proof of a script's goals are shown.
+ghost use Rattle.std.specs.Prelude.{IfOk, IfErr};
+ghost use Rattle.circ_outer.specs.Shelf.{ShelfFrame};
+ghost use Rattle.circ_files.specs.Quiet.{IsQuietCall};
+ghost use Rattle.circ_files.specs.Ending.{plain_ending};
+ghost use Rattle.circ_top.specs.Trace.{IsTraced};
+ghost use Rattle.circ_top.specs.Scripted.{RefusesScript};
+
+use circ_files::{Ending, Status, take_plain_theory, take_script};
+use circ_found::searchable;
+use circ_outer::Shelf;
+use circ_script::Job;
+use circ_script::laws::scripts_are_fit;
+use circ_search::Limits;
+use circ_trace::trace as trace_search;
+use std::alloc::Global;
+
+/// How the trace of the search for a proof of a script's goals ends, or the answer in its place.
+pub(crate) fn trace<'a, S: Shelf>(
+    alloc: Global,
+    shelf: &mut S,
+    limits: Limits,
+    theory: &str,
+    script: &str,
+) -> Result<Ending<'a>, Status>
+    ensures traced { IfOk result (λ e. IsTraced limits theory.now script.now
+        (plain_ending e) (S.state shelf.old)) }
+    ensures refused { IfErr result
+        (RefusesScript theory.now script.now (S.state shelf.old) (S.state shelf.new)) }
+    ensures quiet { IsQuietCall (S.state shelf.old) (S.state shelf.new) result }
+    ensures frame { ShelfFrame (S.state shelf.old) (S.state shelf.new) }
+{
+    let mut theory = match take_plain_theory(alloc, shelf, theory) {
+        Ok(theory) => theory,
+        Err(status) => return Err(status),
+    };
+    let script = match take_script(alloc, shelf, script, &mut theory, Job::Prove) {
+        Ok(script) => script,
+        Err(status) => return Err(status),
+    };
+    scripts_are_fit();
+    searchable(&theory, &script);
+    match trace_search(alloc, &theory, script.blocks.as_slice(), &limits) {
+        Ok(ending) => Ok(ending),
+        Err(_) => Err(Status::Memory),
+    }
+}
