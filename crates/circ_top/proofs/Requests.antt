@@ -176,6 +176,7 @@ asks_bounded ws c a = go c a.is
     go _ (contexts t e i) = tt
     go _ (reduce t s e i) = tt
     go _ (same v w e i) = tt
+    go _ (trace t s e i) = tt
     go _ (differ t s e i) = budget_bounded (first_of (codes "derives") (matches_of circ_app ws)) a.limits.derives a.finds.derives
     go _ (regex u v p e i) = tt
     go _ (upgrade t p q e i) = tt
