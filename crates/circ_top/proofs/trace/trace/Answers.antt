@@ -45,7 +45,7 @@ pub returns-clause-refused : goal.returns-clause-refused
 returns-clause-refused g c = theory_fault status.Memory tt
 
 pub trace-requires : goal.trace-requires
-trace-requires g c = record { searchable = rw (c.as_slice.ensures.value, sym c.searchable.ensures.same) c.searchable.ensures.searchable; }
+trace-requires g c = record { searchable = rw (c.as_slice.ensures.value, sym c.searchable.ensures.same) c.searchable.ensures.searchable }
 
 pub searchable-requires-clause-plain : goal.searchable-requires-clause-plain
 searchable-requires-clause-plain g c = rw c.in-Ok-take_script.ensures.kept c.in-Ok.ensures.takes.plain
