@@ -1,8 +1,6 @@
 //! Lines on standard error that help with an answer: where a text is wrong, which goal is stuck, which
 //! word is no command.
-use circ_hints::{
-    Asked, Source, SourceKind, stuck_end, stuck_goal, trace_call, unreadable, usage,
-};
+use circ_hints::{Asked, Source, SourceKind, stuck_end, stuck_goal, trace_call, unreadable, usage};
 use circ_read::Cause;
 use circ_top::Status;
 use std::alloc::AllocError;

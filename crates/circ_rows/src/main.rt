@@ -16,7 +16,7 @@ use std::alloc::{AllocError, Global};
 use std::{fs, io};
 
 /// The tables, in the order in which they are run.
-const TABLES: [&str; 28] = [
+const TABLES: [&str; 29] = [
     "rows-words",
     "rows-faults",
     "rows-causes",
