@@ -83,6 +83,14 @@ nothing_left_out p e = go (some_given p.blocks) refl (list_any (λ ls. list_any 
           blocks = plain_blocks p.blocks i d.1 k;
         }
 
+-- nothing is left out, or a word is
+pub plain_or_word : {A : Type 0} (p : Proof) → (left_out p ≡ None → A) → ((word : List ℕ) → left_out p ≡ Some word → A) → A
+plain_or_word {A} p none some = go (left_out p) refl
+  where
+    go : (o : Option (List ℕ)) → left_out p ≡ o → A
+    go None e = none e
+    go (Some word) e = some word e
+
 -- ---- files
 
 -- what is taken so is what the file reads as

@@ -1,5 +1,5 @@
 -- What words ask for.
-use Rattle.std.proofs.Common.{◌≡◌, ◌<◌, ◌≤◌, ◌^◌, ◌+◌, ◌*◌, ◌==◌, ℕ, Bool, List, [], ◌∷◌, decimal, codes, refl, ap, ap₂, sym, ◌∙◌, subst, arith, Option, Some, None, if◌then◌else◌}
+use Rattle.std.proofs.Common.{◌≡◌, ◌<◌, ◌≤◌, ◌^◌, ◌+◌, ◌*◌, ◌==◌, ℕ, Bool, List, [], ◌∷◌, decimal, codes, refl, ap, ap₂, sym, ◌∙◌, subst, arith, Option, Some, None, map, if◌then◌else◌}
 use Rattle.std.specs.Prelude.{MatchOption}
 use Rattle.std.proofs.lemmas.Fmt.{decimal_injective}
 use Rattle.std.proofs.lemmas.Option.{same_Some}
@@ -7,9 +7,9 @@ use Rattle.clap.specs.Faults.{fault_of}
 use Rattle.clap.specs.Simple.{matches_of}
 use Rattle.clap.specs.Walk.{Row, first_of}
 use Rattle.circ_lib.specs.Library.{library_text}
-use Rattle.circ_top.specs.Command.{Command, Check, Prove, Show, Contexts, Reduce, Same, Differ, Regex, Upgrade, Library, Generate}
-use Rattle.circ_top.specs.Command.{IsCommand, check, prove, show, contexts, reduce, same, differ, regex, upgrade, library, generate, IsNoneOfTable}
-use Rattle.circ_top.specs.Command.{Asks, IsNoCommand, IsBounded, plain_request}
+use Rattle.circ_top.specs.Command.{Command, Check, Prove, Show, Contexts, Reduce, Same, Differ, Regex, Upgrade, Expand, Library, Generate}
+use Rattle.circ_top.specs.Command.{IsCommand, check, prove, show, contexts, reduce, same, differ, regex, upgrade, expand, library, generate, IsNoneOfTable}
+use Rattle.circ_top.specs.Command.{AreNumbersOf, AreNoNumbers, Asks, IsNoCommand, IsBounded, plain_request}
 use Rattle.circ_top.specs.Words.{circ_app, IsBudget, Finds, FindsNothing}
 use Rattle.circ_reports.specs.declared.report.Report.{Report}
 use Rattle.circ_reports.specs.declared.report.Report.TheVariants.{Goals, Relation}
@@ -23,12 +23,15 @@ data TableRow : Type 0 where
   Fixed : Command → TableRow
   Text_of : (text : Option (List ℕ)) → TableRow
   Chain_of : (word : List ℕ) → TableRow
+  Numbers_of : (theory proof goal : List ℕ) (entries : List (List ℕ)) → TableRow
   Nothing : TableRow
 
 abbrev IsRow : TableRow → Command → Type 0
 IsRow (Fixed c) d = d ≡ c
 IsRow (Text_of o) d = (text : List ℕ) × (o ≡ Some text) × (d ≡ Library text)
 IsRow (Chain_of word) d = (n : ℕ) × (2 ≤ n) × (n ≤ 1000) × (word ≡ decimal n) × (d ≡ Generate n)
+IsRow (Numbers_of t p g es) d =
+    (goal : ℕ) × (ks : List ℕ) × (goal ≤ 4294967295) × (g ≡ decimal goal) × AreNumbersOf ks es × (d ≡ Expand t p goal ks)
 IsRow Nothing d = ⊥
 
 -- the second and the third byte of a name, by which the names are told apart
@@ -56,18 +59,19 @@ row_of_two k n v w =
     else if has_key n (codes "differ") then Fixed (Differ k v w)
     else Nothing
 
-abbrev row_of_three : Limits → (name first second third : List ℕ) → TableRow
-row_of_three k n u v w =
+abbrev row_of_three : Limits → (name first second third : List ℕ) → (more : List (List ℕ)) → TableRow
+row_of_three k n u v w [] =
     if has_key n (codes "prove") then Fixed (Prove k u v w)
     else if has_key n (codes "regex") then Fixed (Regex k u v w)
     else if has_key n (codes "upgrade") then Fixed (Upgrade u v w)
     else Nothing
+row_of_three k n u v w (x ∷ xs) = Nothing
 
 abbrev row_of : Limits → (name : List ℕ) → (given : List (List ℕ)) → TableRow
 row_of k n (w ∷ []) = row_of_one k n w
 row_of k n (v ∷ w ∷ []) = row_of_two k n v w
-row_of k n (u ∷ v ∷ w ∷ []) = row_of_three k n u v w
-row_of k n _ = Nothing
+row_of k n (u ∷ v ∷ w ∷ ws) = if has_key n (codes "expand") then Numbers_of u v w ws else row_of_three k n u v w ws
+row_of k n [] = Nothing
 
 module _ (k : Limits) (name : List ℕ) (given : List (List ℕ)) where
   with_name : (n : List ℕ) (ws : List (List ℕ)) (c : Command) → name ≡ n → given ≡ ws → IsRow (row_of k n ws) c → IsRow (row_of k name given) c
@@ -88,8 +92,20 @@ module _ (k : Limits) (name : List ℕ) (given : List (List ℕ)) where
   in_row _ (differ t s e i) = with_name (codes "differ") (t ∷ s ∷ []) (Differ k t s) e i refl
   in_row _ (regex u v p e i) = with_name (codes "regex") (u ∷ v ∷ p ∷ []) (Regex k u v p) e i refl
   in_row _ (upgrade t p q e i) = with_name (codes "upgrade") (t ∷ p ∷ q ∷ []) (Upgrade t p q) e i refl
+  in_row _ (expand t p goal ks es small are e i) =
+      with_name (codes "expand") (t ∷ p ∷ decimal goal ∷ es) (Expand t p goal ks) e i (goal, ks, small, refl, are, refl)
   in_row _ (library w text e i m) = with_name (codes "library") (w ∷ []) (Library text) e i (text, m, refl)
   in_row _ (generate n few most e i) = with_name (codes "generate") (decimal n ∷ []) (Generate n) e i (n, few, most, refl, refl)
+
+-- words are these numbers and no other
+same_numbers : (ms ns : List ℕ) (words : List (List ℕ)) → AreNumbersOf ms words → AreNumbersOf ns words → ms ≡ ns
+same_numbers [] [] words a b = refl
+same_numbers [] (n ∷ ns) words a b = absurd (let never : [] ≡ decimal n ∷ map decimal ns = sym a.1 ∙ b.1 in cc)
+same_numbers (m ∷ ms) [] words a b = absurd (let never : decimal m ∷ map decimal ms ≡ [] = sym a.1 ∙ b.1 in cc)
+same_numbers (m ∷ ms) (n ∷ ns) words a b =
+    let both : decimal m ∷ map decimal ms ≡ decimal n ∷ map decimal ns = sym a.1 ∙ b.1 in
+    let first : m ≡ n = decimal_injective m n (omega (arith, a.0.0)) (omega (arith, b.0.0)) (cc) in
+    ap₂ (λ x xs. x ∷ xs) first (same_numbers ms ns (map decimal ms) (a.0.1, refl) (b.0.1, cc))
 
 -- a row has one command at most
 same_in_row : (r : TableRow) (c d : Command) → IsRow r c → IsRow r d → c ≡ d
@@ -97,6 +113,9 @@ same_in_row (Fixed x) c d a b = a ∙ sym b
 same_in_row (Text_of o) c d a b = a.2 ∙ ap Library (same_Some a.0 b.0 (sym a.1 ∙ b.1)) ∙ sym b.2
 same_in_row (Chain_of w) c d a b =
     a.4 ∙ ap Generate (decimal_injective a.0 b.0 (omega (arith, a.2)) (omega (arith, b.2)) (sym a.3 ∙ b.3)) ∙ sym b.4
+same_in_row (Numbers_of t p g es) c d a b =
+    let goal : a.0 ≡ b.0 = decimal_injective a.0 b.0 (omega (arith, a.2)) (omega (arith, b.2)) (sym a.3 ∙ b.3) in
+    a.5 ∙ ap₂ (Expand t p) goal (same_numbers a.1 b.1 es a.4 b.4) ∙ sym b.5
 same_in_row Nothing c d a b = absurd a
 
 -- a name and its words stand in the table once
@@ -177,6 +196,7 @@ asks_bounded ws c a = go c a.is
     go _ (differ t s e i) = budget_bounded (first_of (codes "derives") (matches_of circ_app ws)) a.limits.derives a.finds.derives
     go _ (regex u v p e i) = tt
     go _ (upgrade t p q e i) = tt
+    go _ (expand t p goal ks es small are e i) = tt
     go _ (library w text e i m) = tt
     go _ (generate n few most e i) = tt
 

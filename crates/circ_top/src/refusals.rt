@@ -51,6 +51,8 @@ fn push_refusal(out: &mut Vec<u8>, request: &Request<'_>, status: &Status) -> Re
         } => push_spent(out, *rewrites, *derives, *steps),
         Status::TooBig { nodes } => push_counted(out, b"too big: ", *nodes, b" nodes\n"),
         Status::TooDeep { depth } => push_counted(out, b"too deep: ", *depth, b" levels\n"),
+        Status::Expansion { .. } => out.extend_from_slice(b"expansion too long\n"),
+        Status::Misfit { entry } => push_counted(out, b"no fit at ", *entry, b"\n"),
         _ => Ok(()),
     }
 }
@@ -60,7 +62,11 @@ fn place_words(request: &Request<'_>, file: u8) -> &'static [u8]
     ensures { result.now ≡ place_text (plain_request request.now) file }
 {
     match request {
-        Request::Check { .. } | Request::Upgrade { .. } if file == CHECKED_FILE => b", line ",
+        Request::Check { .. } | Request::Upgrade { .. } | Request::Expand { .. }
+            if file == CHECKED_FILE =>
+        {
+            b", line "
+        }
         _ => b", statement ",
     }
 }
