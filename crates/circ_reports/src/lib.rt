@@ -8,21 +8,21 @@
 //! printed of this is circ_reports's.
 #![tactic(auto)]
 
-mod check;
-mod contexts;
+mod checking;
+mod comparing;
+mod giving;
 mod incoming;
-mod library;
-mod reduce;
+mod listing;
+mod normalising;
+mod renewing;
 mod report;
-mod same;
-mod show;
-mod upgrade;
+mod showing;
 
-pub use check::check;
-pub use contexts::contexts;
-pub use library::library;
-pub use reduce::reduce;
+pub use checking::check;
+pub use comparing::same;
+pub use giving::library;
+pub use listing::contexts;
+pub use normalising::reduce;
+pub use renewing::upgrade;
 pub use report::Report;
-pub use same::same;
-pub use show::show;
-pub use upgrade::upgrade;
+pub use showing::show;
