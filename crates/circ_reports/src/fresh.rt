@@ -7,7 +7,6 @@ ghost use Rattle.circ_entry.specs.Entries.{HaveParameters};
 ghost use Rattle.circ_entry.specs.Plain.{plain_entries};
 ghost use Rattle.circ_reports.specs.Expand.{numbers_in, free_numbers, variables_named, sorts_at};
 ghost use Rattle.circ_reports.specs.Expand.{entries_named, parameter_count, fresh_experiment};
-ghost use Rattle.circ_reports.specs.Expand.{numbers_below, is_free};
 
 use circ_entry::Entry;
 use circ_term::Term;
