@@ -1,6 +1,5 @@
 //! The experiment of derivatives on a goal, with fresh variables for their parameters.
-ghost use Rattle.std.specs.Prelude.{◌≡◌, ◌≤◌, ℕ, IfOk, OnOk, Unwrap, drop, length, map};
-ghost use Rattle.std.specs.Prelude.{nat_eq};
+ghost use Rattle.std.specs.Prelude.{◌≡◌, ◌+◌, ℕ, IfOk, drop, map, nat_eq};
 ghost use Rattle.std.specs.List.{list_any};
 ghost use Rattle.circ_theory.specs.Occurring.{variable_of};
 ghost use Rattle.circ_entry.specs.Entries.{HaveParameters};
@@ -161,10 +160,13 @@ fn variables_named(
     ensures { IfOk result (λ v. v.items ≡ variables_named numbers.now sorts.now) }
 {
     let mut made = Vec::new(alloc);
-    let mut place: usize = 0;
-    while place < numbers.len() && place < sorts.len() {
-        made.push(Term::var(numbers[place], sorts[place]))?;
-        place += 1;
+    let mut left = numbers;
+    for sort in sorts {
+        let [number, more @ ..] = left else {
+            return Ok(made);
+        };
+        made.push(Term::var(*number, *sort))?;
+        left = more;
     }
     Ok(made)
 }
