@@ -1,6 +1,6 @@
 -- What words ask for.
-use Rattle.std.proofs.Common.{◌≡◌, ◌<◌, ◌≤◌, ◌^◌, ◌+◌, ◌*◌, ◌==◌, ℕ, Bool, List, [], ◌∷◌, decimal, codes, refl, ap, ap₂, sym, ◌∙◌, subst, arith, Option, Some, None, map, if◌then◌else◌}
-use Rattle.std.specs.Prelude.{MatchOption}
+use Rattle.std.proofs.Common.{◌≡◌, ◌<◌, ◌≤◌, ◌^◌, ◌+◌, ◌*◌, ◌==◌, ℕ, Bool, List, [], ◌∷◌, ◌++◌, decimal, codes, refl, ap, ap₂, sym, ◌∙◌, subst, arith, Option, Some, None, map, if◌then◌else◌}
+use Rattle.std.specs.Prelude.{MatchOption, IfOk, Result, Ok, Err}
 use Rattle.std.proofs.lemmas.Fmt.{decimal_injective}
 use Rattle.std.proofs.lemmas.Option.{same_Some}
 use Rattle.clap.specs.Faults.{fault_of}
@@ -10,7 +10,7 @@ use Rattle.circ_lib.specs.Library.{library_text}
 use Rattle.circ_top.specs.Command.{Command, Check, Prove, Show, Contexts, Reduce, Same, Differ, Regex, Upgrade, Expand, Library, Generate}
 use Rattle.circ_top.specs.Command.{IsCommand, check, prove, show, contexts, reduce, same, differ, regex, upgrade, expand, library, generate, IsNoneOfTable}
 use Rattle.circ_top.specs.Command.{AreNumbersOf, AreNoNumbers, Asks, IsNoCommand, IsBounded, plain_request}
-use Rattle.circ_top.specs.Words.{circ_app, IsBudget, Finds, FindsNothing}
+use Rattle.circ_top.specs.Words.{circ_app, IsNoNumber, IsBudget, Finds, FindsNothing}
 use Rattle.circ_reports.specs.declared.report.Report.{Report}
 use Rattle.circ_reports.specs.declared.report.Report.TheVariants.{Goals, Relation}
 use Rattle.circ_top.specs.declared.request.Request.{Request}
@@ -107,6 +107,20 @@ same_numbers (m ∷ ms) (n ∷ ns) words a b =
     let first : m ≡ n = decimal_injective m n (omega (arith, a.0.0)) (omega (arith, b.0.0)) (cc) in
     ap₂ (λ x xs. x ∷ xs) first (same_numbers ms ns (map decimal ms) (a.0.1, refl) (b.0.1, cc))
 
+-- where a word is no number, the words are no numbers
+pub none_further : (ns xs : List ℕ) (word : List ℕ) (rest words : List (List ℕ)) → map decimal xs ++ word ∷ rest ≡ words → AreNumbersOf ns words
+    → IsNoNumber 4294967295 word → ⊥
+none_further [] [] word rest words e a h = let never : word ∷ rest ≡ [] = e ∙ a.1 in cc
+none_further (n ∷ ns) [] word rest words e a h =
+    let both : word ∷ rest ≡ decimal n ∷ map decimal ns = e ∙ a.1 in
+    let first : word ≡ decimal n = cc in
+    h n first a.0.0
+none_further [] (x ∷ xs) word rest words e a h = let never : decimal x ∷ (map decimal xs ++ word ∷ rest) ≡ [] = e ∙ a.1 in cc
+none_further (n ∷ ns) (x ∷ xs) word rest words e a h =
+    let both : decimal x ∷ (map decimal xs ++ word ∷ rest) ≡ decimal n ∷ map decimal ns = e ∙ a.1 in
+    let tail : map decimal xs ++ word ∷ rest ≡ map decimal ns = cc in
+    none_further ns xs word rest (map decimal ns) tail (a.0.1, refl) h
+
 -- a row has one command at most
 same_in_row : (r : TableRow) (c d : Command) → IsRow r c → IsRow r d → c ≡ d
 same_in_row (Fixed x) c d a b = a ∙ sym b
@@ -177,6 +191,13 @@ module _ (ws : List (List ℕ)) (rows : List Row) (e : rows ≡ matches_of circ_
         → MatchOption o (IsNoCommand ws) (λ r. Asks ws (plain_request r))
     asked_by_table None t n = none_asked n
     asked_by_table (Some r) t i = record { limits = limits; name = name; given = given; taken = t; finds = rw e at f; is = i }
+
+    -- the same where it takes memory to read them
+    pub asked_if : {E : Type 0} (r : Result (Option Request) E) → fault_of circ_app ws ≡ []
+        → IfOk r (λ o. MatchOption o (IsNoneOfTable limits name given) (λ r. IsCommand limits name given (plain_request r)))
+        → IfOk r (λ o. MatchOption o (IsNoCommand ws) (λ r. Asks ws (plain_request r)))
+    asked_if (Ok o) t i = asked_by_table o t i
+    asked_if (Err e) t i = tt
 
 -- a budget is at most what an option may say
 budget_bounded : (value : Option (List ℕ)) (n : ℕ) → IsBudget 256 10000 value n → n ≤ 10000
