@@ -3,7 +3,7 @@ ghost use Rattle.std.specs.Prelude.{◌≡◌, map};
 ghost use Rattle.std.specs.List.{list_any};
 ghost use Rattle.std.specs.Option.{option_map};
 ghost use Rattle.circ_proof.specs.Plain.{plain_link, plain_links, plain_chain, plain_why};
-ghost use Rattle.circ_proof.specs.Plain.{plain_whys};
+ghost use Rattle.circ_proof.specs.Plain.{plain_whys, plain_chains, chains_in};
 ghost use Rattle.circ_proof.specs.PlainProof.{plain_step, plain_steps, plain_names, plain_block};
 ghost use Rattle.circ_proof.specs.PlainProof.{plain_certificates, plain_proof};
 ghost use Rattle.circ_reports.specs.PlainProof.{has_given, has_if, chain_has_if, why_has_if};
@@ -59,17 +59,28 @@ fn if_among(links: &[Link]) -> bool
 fn has_if(link: &Link) -> bool
     ensures { result ≡ has_if (plain_link link.now) }
 {
+    chains(link).len() > 0
+}
+
+// The chains of a link's conditions.
+fn chains(link: &Link) -> &[Chain]
+    ensures { plain_chains result.now ≡ chains_in (plain_link link.now) }
+{
     match link {
-        Link::Equation { conds, .. } => conds.len() > 0,
-        Link::Hypothesis { conds, .. } => conds.len() > 0,
-        _ => false,
+        Link::Equation { conds, .. } => conds.as_slice(),
+        Link::Hypothesis { conds, .. } => conds.as_slice(),
+        Link::Assumption { .. } => &[],
+        Link::Content { .. } => &[],
     }
 }
 
 fn chain_has_if(chain: &Chain) -> bool
     ensures { result ≡ chain_has_if (plain_chain chain.now) }
 {
-    if_among(chain.left.as_slice()) || if_among(chain.right.as_slice())
+    if if_among(chain.left.as_slice()) {
+        return true;
+    }
+    if_among(chain.right.as_slice())
 }
 
 fn some_if(blocks: &[Block]) -> bool
@@ -100,7 +111,12 @@ fn why_has_if(why: &Why) -> bool
 {
     match why {
         Why::Same { chain } => chain_has_if(chain),
-        Why::Split { chain, whys, .. } => chain_has_if(chain) || whys_have_if(whys.as_slice()),
+        Why::Split { chain, whys, .. } => {
+            if chain_has_if(chain) {
+                return true;
+            }
+            whys_have_if(whys.as_slice())
+        }
     }
 }
 
