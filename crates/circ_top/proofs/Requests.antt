@@ -1,5 +1,5 @@
 -- What words ask for.
-use Rattle.std.proofs.Common.{◌≡◌, ◌<◌, ◌≤◌, ◌^◌, ◌+◌, ◌*◌, ◌==◌, ℕ, Bool, List, [], ◌∷◌, ◌++◌, decimal, codes, refl, ap, ap₂, sym, ◌∙◌, subst, arith, Option, Some, None, map, if◌then◌else◌}
+use Rattle.std.proofs.Common.{◌≡◌, ◌<◌, ◌≤◌, ◌^◌, ◌+◌, ◌*◌, ◌==◌, ℕ, Bool, List, [], ◌∷◌, ◌++◌, length, decimal, codes, refl, ap, ap₂, sym, ◌∙◌, subst, arith, Option, Some, None, map, if◌then◌else◌}
 use Rattle.std.specs.Prelude.{MatchOption, IfOk, Result, Ok, Err}
 use Rattle.std.proofs.lemmas.Fmt.{decimal_injective}
 use Rattle.std.proofs.lemmas.Option.{same_Some}
@@ -151,6 +151,23 @@ module _ (k : Limits) (name word : List ℕ) (named : name ≡ codes "generate")
   chain_in_table None h = no_chain h
   chain_in_table (Some r) (n, is, few, most, w) =
       let P : Command → Type 0 = IsCommand k name (word ∷ []) in subst P (sym is) (generate n few most named (ap (λ x. x ∷ []) w))
+
+-- what the table has for `expand`, by the words given to it
+module _ (k : Limits) (name : List ℕ) (named : name ≡ codes "expand") where
+  expand_row : (given : List (List ℕ)) (c : Command) → IsCommand k name given c → IsRow (row_of k (codes "expand") given) c
+  expand_row given c i = let P : List ℕ → Type 0 = λ x. IsRow (row_of k x given) c in subst P named (in_row k name given c i)
+
+  pub few_words : (given : List (List ℕ)) → length given ≤ 2 → IsNoneOfTable k name given
+  few_words [] l c i = expand_row [] c i
+  few_words (w ∷ []) l c i = expand_row (w ∷ []) c i
+  few_words (v ∷ w ∷ []) l c i = expand_row (v ∷ w ∷ []) c i
+  few_words (u ∷ v ∷ w ∷ ws) l c i = absurd (omega (arith, l))
+
+  pub no_goal : (t p g : List ℕ) (es : List (List ℕ)) → IsNoNumber 4294967295 g → IsNoneOfTable k name (t ∷ p ∷ g ∷ es)
+  no_goal t p g es none c i = let r = expand_row (t ∷ p ∷ g ∷ es) c i in none r.0 r.3 r.2
+
+  pub no_entries : (t p g : List ℕ) (es : List (List ℕ)) → AreNoNumbers es → IsNoneOfTable k name (t ∷ p ∷ g ∷ es)
+  no_entries t p g es none c i = let r = expand_row (t ∷ p ∷ g ∷ es) c i in none r.1 r.4
 
 -- `clap` finds one thing in the words
 same_budget : (usual most : ℕ) (value : Option (List ℕ)) (m n : ℕ) → most < 2 ^ 64 → IsBudget usual most value m → IsBudget usual most value n → m ≡ n
