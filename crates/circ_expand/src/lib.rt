@@ -8,8 +8,14 @@
 //! [`goal_misfit`] tells whether there is such a goal, and whether the experiment fits it.
 #![tactic(auto)]
 
+mod expanding;
+mod fault;
 mod goals;
 mod laws;
+mod rows;
 
+pub use expanding::expand;
+pub use fault::ExpandFault;
 pub use goals::{goal_misfit, goal_numbered};
 pub use laws::{expansion_is_worked_off, expansion_leads};
+pub use rows::{Given, Row};

@@ -6,3 +6,6 @@ pub mod SameTexts
 pub mod Ends
 pub mod Reducing
 pub mod Upgrading
+pub mod PlainProofs
+pub mod FreshNumbers
+pub mod ExpandEnds

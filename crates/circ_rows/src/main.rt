@@ -16,7 +16,7 @@ use std::alloc::{AllocError, Global};
 use std::{fs, io};
 
 /// The tables, in the order in which they are run.
-const TABLES: [&str; 27] = [
+const TABLES: [&str; 28] = [
     "rows-words",
     "rows-faults",
     "rows-causes",
@@ -44,6 +44,7 @@ const TABLES: [&str; 27] = [
     "rows-upgrade",
     "rows-differ",
     "rows-experiments",
+    "rows-expand",
 ];
 
 /// The table of which each call of the outside fails in turn.

@@ -5,10 +5,11 @@ use Rattle.circ_outer.specs.Sink.{SinkState}
 use Rattle.circ_reports.specs.Contexts.{IsListed}
 use Rattle.circ_generate.specs.Generating.{Generates}
 use Rattle.circ_reports.specs.Check.{IsAccepted, RefusesCheck}
-use Rattle.circ_top.specs.Command.{Command, Check, Prove, Show, Contexts, Reduce, Same, Differ, Regex, Upgrade, Library, Generate, Asks, IsNoCommand}
+use Rattle.circ_top.specs.Command.{Command, Check, Prove, Show, Contexts, Reduce, Same, Differ, Regex, Upgrade, Expand, Library, Generate, Asks, IsNoCommand}
 use Rattle.circ_top.specs.Delivery.{Prints}
 use Rattle.circ_top.specs.Differ.{IsDifferenceSought}
 use Rattle.circ_files.specs.Ending.{ending}
+use Rattle.circ_reports.specs.Expand.{IsExpanded, RefusesExpand}
 use Rattle.circ_reports.specs.Library.{RefusesLibrary}
 use Rattle.circ_top.specs.Prove.{IsSearched}
 use Rattle.circ_top.specs.Scripted.{RefusesScript}
@@ -36,6 +37,7 @@ Succeeds (Same first second) text stored before = IsCompared first second status
 Succeeds (Differ limits theory script) text stored before = IsDifferenceSought limits theory script (ending status.Ok text stored) before
 Succeeds (Regex limits left right proof) text stored before = IsEqualitySearched limits left right proof (ending status.Ok text stored)
 Succeeds (Upgrade theory proof new) text stored before = IsUpgraded theory proof new text stored before
+Succeeds (Expand theory proof goal derivatives) text stored before = IsExpanded theory proof goal derivatives text before × (stored ≡ None)
 Succeeds (Library given) text stored before = (text ≡ given) × (stored ≡ None)
 Succeeds (Generate n) text stored before = Generates n (ending status.Ok text stored)
 
@@ -59,6 +61,7 @@ RefusesCommand (Same first second) before after s = RefusesSame first second bef
 RefusesCommand (Differ limits theory script) before after s = RefusesScript theory script before after s
 RefusesCommand (Regex limits left right proof) before after s = RefusesRegex left right s
 RefusesCommand (Upgrade theory proof new) before after s = RefusesUpgrade theory proof before after s
+RefusesCommand (Expand theory proof goal derivatives) before after s = RefusesExpand theory proof goal derivatives before after s
 RefusesCommand (Library given) before after s = RefusesLibrary s
 RefusesCommand (Generate n) before after s = s ≡ status.Memory
 

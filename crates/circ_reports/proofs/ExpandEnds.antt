@@ -1,0 +1,76 @@
+-- How the work of `expand` on an accepted proof ends: in one way, and with statuses of its own.
+use Rattle.std.proofs.Common.{◌≡◌, ◌==◌, ◌-◌, ℕ, Bool, List, true, false, refl, sym, ◌∙◌, ap, subst, Option, Some, None, if◌then◌else◌}
+use Rattle.std.specs.List.{slice_get}
+use Rattle.circ_term.specs.Limits.{Big, Deep}
+use Rattle.circ_theory.specs.Theory.{Theory}
+use Rattle.circ_theory.specs.declared.parts.Goal.{Goal}
+use Rattle.circ_proof.specs.Proof.{Proof}
+use Rattle.circ_entry.specs.Entries.{Written}
+use Rattle.circ_expand.specs.Expand.{Spending, Yields, Long, Past, Stopped, expansion}
+use Rattle.circ_expand.specs.Goals.{all_goals, goal_misfit}
+use Rattle.circ_files.specs.declared.status.Status.{Status}
+use Rattle.circ_files.specs.declared.status.Status.TheVariants as status
+use Rattle.circ_reports.specs.Expand.{Expanded, Written_out, Not_written, by_units, by_misfit, by_goal, expanded, fresh_experiment, Writes, EndsAs}
+
+-- a status with which the work may end if there is no derivation
+abbrev pub IsNoneEnd : Status → Type 0
+IsNoneEnd (status.Expansion n) = Unit {0}
+IsNoneEnd (status.Misfit n) = Unit {0}
+IsNoneEnd (status.TooBig n) = Unit {0}
+IsNoneEnd (status.TooDeep n) = Unit {0}
+IsNoneEnd s = ⊥
+
+abbrev OnlyEnds : Expanded → Type 0
+OnlyEnds (Written_out ws g xs) = Unit {0}
+OnlyEnds (Not_written s) = IsNoneEnd s
+
+units_end : (ws : List Written) (g : Goal) (o : _) → OnlyEnds (by_units ws g o)
+units_end ws g (Yields xs left) = tt
+units_end ws g (Past (Big n)) = tt
+units_end ws g (Past (Deep n)) = tt
+units_end ws g Long = tt
+units_end ws g Stopped = tt
+
+misfit_end : (o : Option ℕ) (e : Expanded) → OnlyEnds e → OnlyEnds (by_misfit o e)
+misfit_end (Some n) e h = tt
+misfit_end None e h = h
+
+goal_end : (th : Theory) (p : Proof) (n : ℕ) (ks : List ℕ) (o : Option Goal) → OnlyEnds (by_goal th p n ks o)
+goal_end th p n ks None = tt
+goal_end th p n ks (Some g) =
+    let ws = fresh_experiment th g ks in
+    misfit_end (goal_misfit th p n ws) (by_units ws g (expansion 100000 th p n ws)) (units_end ws g (expansion 100000 th p n ws))
+
+expanded_end : (th : Theory) (p : Proof) (goal : ℕ) (ks : List ℕ) → OnlyEnds (expanded th p goal ks)
+expanded_end th p goal ks = go (goal == 0)
+  where
+    go : (b : Bool) → OnlyEnds (if b then Not_written (status.Misfit 0) else by_goal th p (goal - 1) ks (slice_get (all_goals p.blocks) (goal - 1)))
+    go true = tt
+    go false = goal_end th p (goal - 1) ks (slice_get (all_goals p.blocks) (goal - 1))
+
+none_is : (e : Expanded) (s : Status) → OnlyEnds e → EndsAs e s → IsNoneEnd s
+none_is (Written_out ws g xs) s h x = absurd x
+none_is (Not_written r) s h x = subst IsNoneEnd (sym x) h
+
+pub none_end : (th : Theory) (p : Proof) (goal : ℕ) (ks : List ℕ) (s : Status) → EndsAs (expanded th p goal ks) s → IsNoneEnd s
+none_end th p goal ks s x = none_is (expanded th p goal ks) s (expanded_end th p goal ks) x
+
+pub not_end : (th : Theory) (p : Proof) (goal : ℕ) (ks : List ℕ) (s r : Status) → EndsAs (expanded th p goal ks) s → s ≡ r → (IsNoneEnd r → ⊥) → ⊥
+not_end th p goal ks s r x e not = not (subst IsNoneEnd e (none_end th p goal ks s x))
+
+pub one_text : (th : Theory) (e : Expanded) (text other : List ℕ) → Writes th e text → Writes th e other → text ≡ other
+one_text th (Written_out ws g xs) text other a b = a ∙ sym b
+one_text th (Not_written s) text other a b = absurd a
+
+pub one_none : (e : Expanded) (s r : Status) → EndsAs e s → EndsAs e r → s ≡ r
+one_none (Written_out ws g xs) s r a b = absurd a
+one_none (Not_written x) s r a b = a ∙ sym b
+
+pub not_both : (th : Theory) (e : Expanded) (text : List ℕ) (s : Status) → Writes th e text → EndsAs e s → ⊥
+not_both th (Written_out ws g xs) text s a b = b
+not_both th (Not_written x) text s a b = a
+
+-- there is a derivation, or another answer
+pub text_or_none : {A : Type 0} (th : Theory) (e : Expanded) → ((text : List ℕ) → Writes th e text → A) → ((s : Status) → EndsAs e s → A) → A
+text_or_none th (Written_out ws g xs) written none = written _ refl
+text_or_none th (Not_written s) written none = none s refl
