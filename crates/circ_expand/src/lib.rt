@@ -8,13 +8,13 @@
 //! [`goal_misfit`] tells whether there is such a goal, and whether the experiment fits it.
 #![tactic(auto)]
 
-mod expanding;
+mod writing_out;
 mod fault;
 mod goals;
 mod laws;
 mod rows;
 
-pub use expanding::expand;
+pub use writing_out::expand;
 pub use fault::ExpandFault;
 pub use goals::{goal_misfit, goal_numbered};
 pub use laws::{expansion_is_worked_off, expansion_leads};
