@@ -1,16 +1,22 @@
 -- How the work of `expand` on an accepted proof ends: in one way, and with statuses of its own.
-use Rattle.std.proofs.Common.{◌≡◌, ◌==◌, ◌-◌, ℕ, Bool, List, true, false, refl, sym, ◌∙◌, ap, subst, Option, Some, None, if◌then◌else◌}
+use Rattle.std.proofs.Common.{◌≡◌, ◌==◌, ◌-◌, ℕ, Bool, List, true, false, refl, sym, ◌∙◌, ap, subst, Option, Some, None, Err, if◌then◌else◌}
 use Rattle.std.specs.List.{slice_get}
 use Rattle.circ_term.specs.Limits.{Big, Deep}
 use Rattle.circ_theory.specs.Theory.{Theory}
 use Rattle.circ_theory.specs.declared.parts.Goal.{Goal}
+use Rattle.circ_proof.specs.Accepted.{Accepted}
 use Rattle.circ_proof.specs.Proof.{Proof}
 use Rattle.circ_entry.specs.Entries.{Written}
 use Rattle.circ_expand.specs.Expand.{Spending, Yields, Long, Past, Stopped, expansion}
+use Rattle.circ_expand.specs.Pieces.{Pieces}
+use Rattle.circ_expand.specs.Rows.{IsWrittenOut}
+use Rattle.circ_expand.specs.declared.fault.ExpandFault.{ExpandFault}
+use Rattle.circ_expand.specs.declared.fault.ExpandFault.TheVariants as fault
 use Rattle.circ_expand.specs.Goals.{all_goals, goal_misfit}
 use Rattle.circ_files.specs.declared.status.Status.{Status}
 use Rattle.circ_files.specs.declared.status.Status.TheVariants as status
-use Rattle.circ_reports.specs.Expand.{Expanded, Written_out, Not_written, by_units, by_misfit, by_goal, expanded, fresh_experiment, Writes, EndsAs}
+use Rattle.circ_reports.specs.Expand.{Expanded, Written_out, Not_written, by_units, by_misfit, by_goal, expanded, fresh_experiment, Writes, EndsAs, WritesNone, fault_answer}
+use Rattle.circ_reports.specs.Expand.{GivesNone, none_written, no_memory}
 
 -- a status with which the work may end if there is no derivation
 abbrev pub IsNoneEnd : Status → Type 0
@@ -74,3 +80,25 @@ not_both th (Not_written x) text s a b = a
 pub text_or_none : {A : Type 0} (th : Theory) (e : Expanded) → ((text : List ℕ) → Writes th e text → A) → ((s : Status) → EndsAs e s → A) → A
 text_or_none th (Written_out ws g xs) written none = written _ refl
 text_or_none th (Not_written s) written none = none s refl
+
+-- ---- what the calls below answer
+
+pub fault_none : (ws : List Written) (g : Goal) (o : Spending Pieces) (f : ExpandFault) → IsWrittenOut o (Err f) → WritesNone (by_units ws g o) (fault_answer f)
+fault_none ws g o (fault.Long units) x =
+    let P : Spending Pieces → Type 0 = λ y. EndsAs (by_units ws g y) (status.Expansion units) in subst P (sym x.0) (ap status.Expansion x.1)
+fault_none ws g o (fault.TooBig nodes) x = let P : Spending Pieces → Type 0 = λ y. EndsAs (by_units ws g y) (status.TooBig nodes) in subst P (sym x) refl
+fault_none ws g o (fault.TooDeep depth) x = let P : Spending Pieces → Type 0 = λ y. EndsAs (by_units ws g y) (status.TooDeep depth) in subst P (sym x) refl
+fault_none ws g o fault.Memory x = tt
+
+none_by_memory : (e : Expanded) (s : Status) → s ≡ status.Memory → WritesNone e s
+none_by_memory e s m = let P : Status → Type 0 = WritesNone e in subst P (sym m) tt
+
+nothing_by_memory : (th : Theory) (p : Proof) (goal : ℕ) (ks : List ℕ) (s : Status) → s ≡ status.Memory → GivesNone th p goal ks s
+nothing_by_memory th p goal ks s m = let P : Status → Type 0 = GivesNone th p goal ks in subst P (sym m) no_memory
+
+pub ruleset refusing = (none_by_memory, nothing_by_memory)
+
+-- no derivation of an accepted proof
+pub gives_none : (th : Theory) (p : Proof) (goal : ℕ) (ks : List ℕ) (s : Status) → Accepted th p → WritesNone (expanded th p goal ks) s → GivesNone th p goal ks s
+gives_none th p goal ks status.Memory a x = no_memory
+gives_none th p goal ks s a x = none_written s a x

@@ -18,17 +18,22 @@ use Rattle.circ_reports.specs.Expand.{numbers_from, numbers_in, is_free, free_nu
 -- ---- numbers one after another
 
 numbers_more : (k c d : ℕ) → numbers_from k (c + d) ≡ numbers_from k c ++ numbers_from (k + c) d
-numbers_more k zero d = let e : k ≡ k + 0 = omega arith in ap (λ x. numbers_from x d) e
+numbers_more k zero d =
+    let z : 0 + d ≡ d = omega arith in
+    let e : k ≡ k + 0 = omega arith in
+    ap (numbers_from k) z ∙ ap (λ x. numbers_from x d) e
 numbers_more k (suc c) d =
-    let e : (k + 1) + c ≡ k + suc c = omega arith in ap (λ xs. k ∷ xs) (numbers_more (k + 1) c d ∙ ap (λ x. numbers_from (k + 1) c ++ numbers_from x d) e)
+    let z : suc c + d ≡ suc (c + d) = omega arith in
+    let e : (k + 1) + c ≡ k + suc c = omega arith in
+    ap (numbers_from k) z ∙ ap (λ xs. k ∷ xs) (numbers_more (k + 1) c d ∙ ap (λ x. numbers_from (k + 1) c ++ numbers_from x d) e)
 
 numbers_next : (n : ℕ) → numbers_from 0 (n + 1) ≡ numbers_from 0 n ++ n ∷ []
-numbers_next n = numbers_more 0 n 1
+numbers_next n = let e : 0 + n ≡ n = omega arith in numbers_more 0 n 1 ∙ ap (λ m. numbers_from 0 n ++ m ∷ []) e
 
 module _ (taken : List ℕ) where
   -- the free ones below n + 1
   free_next : (n : ℕ) → filter (is_free taken) (numbers_from 0 (n + 1)) ≡ filter (is_free taken) (numbers_from 0 n) ++ filter (is_free taken) (n ∷ [])
-  free_next n = ap (filter (is_free taken)) (numbers_next n) ∙ filter-append (numbers_from 0 n) (n ∷ [])
+  free_next n = ap (filter (is_free taken)) (numbers_next n) ∙ filter-append (is_free taken) (numbers_from 0 n) (n ∷ [])
 
   pub taken_next : (n : ℕ) → list_any (nat_eq n) taken ≡ true → filter (is_free taken) (numbers_from 0 (n + 1)) ≡ filter (is_free taken) (numbers_from 0 n)
   taken_next n e = free_next n ∙ rw e (append-nil (filter (is_free taken) (numbers_from 0 n)))
@@ -50,10 +55,10 @@ module _ (taken : List ℕ) where
     -- so many are free below this
     pub enough : (c : ℕ) → c ≤ length (filter (is_free taken) (numbers_from 0 (fresh + c)))
     enough c =
-        let parts = ap (filter (is_free taken)) (numbers_more 0 fresh c) ∙ filter-append (numbers_from 0 fresh) (numbers_from fresh c) in
-        let more = all_free fresh c (omega arith) in
-        let count = count_from fresh c in
-        let sum = length-append (filter (is_free taken) (numbers_from 0 fresh)) (filter (is_free taken) (numbers_from fresh c)) in
+        let parts = ap (filter (is_free taken)) (numbers_more 0 fresh c) ∙ filter-append (is_free taken) (numbers_from 0 fresh) (numbers_from (0 + fresh) c) in
+        let more = all_free (0 + fresh) c (omega arith) in
+        let count = count_from (0 + fresh) c in
+        let sum = length-append (filter (is_free taken) (numbers_from 0 fresh)) (filter (is_free taken) (numbers_from (0 + fresh) c)) in
         omega (arith, ap length parts, sum, ap length more, count)
 
 -- the first of them, where so many are found
@@ -62,8 +67,8 @@ pub first_free : (taken : List ℕ) (n most count : ℕ) → n ≤ most → leng
 first_free taken n most count l e =
     let rest : n + (most - n) ≡ most = omega (arith, l) in
     let parts = ap (λ m. filter (is_free taken) (numbers_from 0 m)) (sym rest) ∙ ap (filter (is_free taken)) (numbers_more 0 n (most - n))
-    ∙ filter-append (numbers_from 0 n) (numbers_from n (most - n)) in
-    ap (take count) parts ∙ front (filter (is_free taken) (numbers_from 0 n)) (filter (is_free taken) (numbers_from n (most - n))) count e
+    ∙ filter-append (is_free taken) (numbers_from 0 n) (numbers_from (0 + n) (most - n)) in
+    ap (take count) parts ∙ front (filter (is_free taken) (numbers_from 0 n)) (filter (is_free taken) (numbers_from (0 + n) (most - n))) count e
   where
     front : (xs ys : List ℕ) (c : ℕ) → length xs ≡ c → take c (xs ++ ys) ≡ xs
     front [] ys zero e = refl
@@ -73,7 +78,7 @@ first_free taken n most count l e =
 
 -- ---- the numbers of a goal's variables are below the fresh ones
 
-IsBelow : ℕ → Variable → Type 0
+abbrev IsBelow : ℕ → Variable → Type 0
 IsBelow b v = v.number < b
 
 all_seen : (b : ℕ) (v : Variable) (vs : List Variable) → v.number < b → AllByRecursion (IsBelow b) vs → AllByRecursion (IsBelow b) (seen v vs)
@@ -170,6 +175,12 @@ named_sorts : (ns ss : List ℕ) → length ss ≤ length ns → map sort_of (va
 named_sorts ns [] l = refl
 named_sorts [] (s ∷ ss) l = absurd (omega (arith, l))
 named_sorts (n ∷ ns) (s ∷ ss) l = ap (λ xs. s ∷ xs) (named_sorts ns ss (omega (arith, l)))
+
+no_numbers : (ss : List ℕ) → variables_named [] ss ≡ []
+no_numbers [] = refl
+no_numbers (s ∷ ss) = refl
+
+pub ruleset none_left = (no_numbers, append-nil)
 
 left_over : (ns : List ℕ) (c d : ℕ) → c + d ≤ length ns → d ≤ length (drop c ns)
 left_over ns zero d l = omega (arith, l)

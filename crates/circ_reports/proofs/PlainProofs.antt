@@ -1,10 +1,12 @@
 -- Proofs for a command that leaves conditions out: they are plain, and files read as them in one way.
-use Rattle.std.proofs.Common.{◌≡◌, ◌||◌, ℕ, List, [], ◌∷◌, length, nat_lt, Bool, true, false, refl, sym, ◌∙◌, subst, Option, Some, None, if◌then◌else◌}
+use Rattle.std.proofs.Common.{◌≡◌, ◌||◌, ℕ, List, [], ◌∷◌, length, nat_lt, Bool, true, false, refl, sym, ◌∙◌, subst, arith, Option, Some, None, if◌then◌else◌}
+use Rattle.std.proofs.lemmas.Bool.{ltb-false, ltb-true}
 use Rattle.std.specs.List.{list_any, AllByRecursion}
 use Rattle.circ_outer.specs.Shelf.{ShelfState}
 use Rattle.circ_theory.specs.Theory.{Theory}
 use Rattle.circ_files.specs.Files.{IsOnly}
-use Rattle.circ_proof.specs.Plain.{LinkOf, ChainsOf, ChainOf, WhyOf, WhysOf, no_chain, more_chains, chains_in, Same_why, Split_why, no_why, more_whys}
+use Rattle.circ_proof.specs.declared.links.Chain.{Chain}
+use Rattle.circ_proof.specs.Plain.{plain_chains, LinkOf, ChainsOf, ChainOf, WhyOf, WhysOf, no_chain, more_chains, chains_in, Same_why, Split_why, no_why, more_whys}
 use Rattle.circ_proof.specs.Proof.{GoalNames, Block, Proof, IsPlainLink, IsPlainChain, IsPlainWhy, ArePlainWhys, IsPlainStep, IsPlainBlock, IsPlain}
 use Rattle.circ_proof.specs.Rules.{ProofStep, Simplify, Reduce, Derive, Cases, Done}
 use Rattle.circ_reports.specs.PlainProof.{has_given, some_chain, has_if, chain_has_if, why_has_if, whys_have_if, step_has_if, is_cases}
@@ -22,7 +24,7 @@ none_has f P h (x ∷ xs) e = let b = either_false (f x) (list_any f xs) e in (h
 
 no_pair : (cs : List (ℕ × ℕ)) → nat_lt 0 (length cs) ≡ false → cs ≡ []
 no_pair [] e = refl
-no_pair (c ∷ cs) e = absurd (cc)
+no_pair (c ∷ cs) e = absurd (let l = ltb-false 0 (length (c ∷ cs)) e in omega (arith, l))
 
 no_chains : (cs : ChainsOf ℕ) → some_chain cs ≡ false → cs ≡ no_chain
 no_chains no_chain e = refl
@@ -82,6 +84,11 @@ nothing_left_out p e = go (some_given p.blocks) refl (list_any (λ ls. list_any 
           certificates = none_has (λ ls. list_any has_if ls) (λ ls. AllByRecursion IsPlainLink ls) plain_links p.certificates d.0;
           blocks = plain_blocks p.blocks i d.1 k;
         }
+
+-- the chains of a link, by how many there are
+pub chains_told : (cs : List (Chain ℕ)) → some_chain (plain_chains cs) ≡ nat_lt 0 (length cs)
+chains_told [] = refl
+chains_told (c ∷ cs) = let l = ltb-true 0 (length (c ∷ cs)) (omega arith) in sym l
 
 -- nothing is left out, or a word is
 pub plain_or_word : {A : Type 0} (p : Proof) → (left_out p ≡ None → A) → ((word : List ℕ) → left_out p ≡ Some word → A) → A

@@ -1,5 +1,5 @@
 //! The command `expand`: a derivation without hypotheses is written out from a proof file.
-ghost use Rattle.std.specs.Prelude.{◌≡◌, IfOk, IfErr, Some};
+ghost use Rattle.std.specs.Prelude.{◌≡◌, ◌+◌, IfOk, IfErr, Some};
 ghost use Rattle.std.specs.List.{slice_get};
 ghost use Rattle.circ_outer.specs.Shelf.{ShelfFrame};
 ghost use Rattle.circ_proof.specs.Accepted.{Accepted};
@@ -56,6 +56,7 @@ pub fn expand<S: Shelf>(
 }
 
 /// The same of a proof without conditions.
+#[tactic(auto, using(crate::proofs::ExpandEnds::refusing))]
 fn expand_proof(
     alloc: Global,
     theory: &Theory,
@@ -101,6 +102,7 @@ fn expand_accepted(
 }
 
 /// The same of the goal of this number, counted from 0.
+#[tactic(auto, using(crate::proofs::ExpandEnds::refusing))]
 fn expand_goal(
     alloc: Global,
     theory: &Theory,
@@ -133,6 +135,7 @@ fn expand_goal(
 }
 
 /// The same for an experiment on it that fits.
+#[tactic(auto, using(crate::proofs::ExpandEnds::refusing))]
 fn derivation(
     alloc: Global,
     theory: &Theory,

@@ -114,6 +114,7 @@ fn put_cases(
 }
 
 /// A rule, which way it is used, its number, and where.
+#[tactic(auto, using(crate::proofs::Rules::joins))]
 fn put_rule(
     out: &mut Vec<u8>,
     rule: &[u8],
@@ -125,14 +126,22 @@ fn put_rule(
         ++ rule_line rule.now way number path.now.items) }
 {
     out.extend_from_slice(rule)?;
-    match way {
-        Way::Forth => push_numbered(out, b"> ", number)?,
-        Way::Back => push_numbered(out, b"< ", number)?,
-    }
+    put_way(out, way)?;
+    push_numbered(out, b" ", number)?;
     put_path(out, path)
 }
 
+fn put_way(out: &mut Vec<u8>, way: Way) -> Result<(), AllocError>
+    ensures { OnOk result (out.new.items ≡ out.old.items ++ way_word way) }
+{
+    match way {
+        Way::Forth => out.extend_from_slice(b">"),
+        Way::Back => out.extend_from_slice(b"<"),
+    }
+}
+
 /// The entries of a path joined by dots, or a dash, after a space, and the end of the line.
+#[tactic(auto, using(crate::proofs::Rules::joins))]
 fn put_path(out: &mut Vec<u8>, path: &Path) -> Result<(), AllocError>
     ensures { OnOk result (out.new.items ≡ out.old.items
         ++ (codes " " ++ path_word path.now.items ++ codes "\n")) }
