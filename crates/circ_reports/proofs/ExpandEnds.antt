@@ -90,10 +90,10 @@ fault_none ws g o (fault.TooBig nodes) x = let P : Spending Pieces → Type 0 = 
 fault_none ws g o (fault.TooDeep depth) x = let P : Spending Pieces → Type 0 = λ y. EndsAs (by_units ws g y) (status.TooDeep depth) in subst P (sym x) refl
 fault_none ws g o fault.Memory x = tt
 
-none_by_memory : (e : Expanded) (s : Status) → s ≡ status.Memory → WritesNone e s
+pub none_by_memory : (e : Expanded) (s : Status) → s ≡ status.Memory → WritesNone e s
 none_by_memory e s m = let P : Status → Type 0 = WritesNone e in subst P (sym m) tt
 
-nothing_by_memory : (th : Theory) (p : Proof) (goal : ℕ) (ks : List ℕ) (s : Status) → s ≡ status.Memory → GivesNone th p goal ks s
+pub nothing_by_memory : (th : Theory) (p : Proof) (goal : ℕ) (ks : List ℕ) (s : Status) → s ≡ status.Memory → GivesNone th p goal ks s
 nothing_by_memory th p goal ks s m = let P : Status → Type 0 = GivesNone th p goal ks in subst P (sym m) no_memory
 
 pub ruleset refusing = (none_by_memory, nothing_by_memory)

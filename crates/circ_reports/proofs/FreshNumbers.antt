@@ -1,5 +1,5 @@
 -- The first numbers that are free, and the entries whose parameters have them.
-use Rattle.std.proofs.Common.{◌≡◌, ◌<◌, ◌≤◌, ◌+◌, ◌-◌, ◌||◌, ◌==◌, ℕ, zero, suc, max, List, [], ◌∷◌, ◌++◌, length, map, take, drop, nat_eq, Bool, not, true, false, refl, sym, ap, ◌∙◌, subst, arith, append_assoc, append-nil, length-append, if◌then◌else◌, Option, Some, None, unwrap_or}
+use Rattle.std.proofs.Common.{◌≡◌, ◌≢◌, ◌<◌, ◌≤◌, ◌+◌, ◌-◌, ◌||◌, ◌==◌, ℕ, zero, suc, max, List, [], ◌∷◌, ◌++◌, length, map, take, drop, nat_eq, Bool, not, true, false, refl, sym, ap, ◌∙◌, subst, arith, append_assoc, append-nil, length-append, if◌then◌else◌, Option, Some, None, unwrap_or}
 use Rattle.std.specs.List.{slice_get, filter, list_any, AllByRecursion}
 use Rattle.std.proofs.lemmas.Bool.{eqb-true, ne_eqb}
 use Rattle.std.proofs.lemmas.List.Elements.{filter-append}
@@ -111,6 +111,42 @@ fresh_free g n l =
     none_above b n (seen_in g.right (seen_in g.left [])) l
     (seen_below b g.right (seen_in g.left []) (omega arith) (seen_below b g.left [] (omega arith) tt))
 
+-- ---- one number more is looked at
+
+-- there is one more to be looked at where not enough are found
+pub room : (g : Goal) (n count : ℕ) (free : List ℕ) → free ≡ filter (is_free (numbers_in g)) (numbers_from 0 n) → length free < count
+    → n ≤ fresh_after g.left g.right + count → n < fresh_after g.left g.right + count
+room g n count free e l m =
+    let all = enough (numbers_in g) (fresh_after g.left g.right) (fresh_free g) count in
+    let apart : n ≢ fresh_after g.left g.right + count = λ same.
+        let same_count = ap length e ∙ ap (λ x. length (filter (is_free (numbers_in g)) (numbers_from 0 x))) same in omega (arith, all, l, same_count) in
+    omega (arith, m, apart)
+
+-- free among the keys of a set that has the goal's numbers
+same_free : (g : Goal) (keys : List ℕ) → ((n : ℕ) → list_any (nat_eq n) keys ≡ list_any (nat_eq n) (numbers_in g)) → (n : ℕ)
+    → filter (is_free keys) (n ∷ []) ≡ filter (is_free (numbers_in g)) (n ∷ [])
+same_free g keys same n = ap (λ b. if not b then n ∷ [] else []) (same n)
+
+pub more_free : (g : Goal) (keys : List ℕ) → ((n : ℕ) → list_any (nat_eq n) keys ≡ list_any (nat_eq n) (numbers_in g)) → (n next : ℕ) (free new : List ℕ)
+    → next ≡ n + 1 → free ≡ filter (is_free (numbers_in g)) (numbers_from 0 n) → new ≡ free ++ filter (is_free keys) (n ∷ [])
+    → new ≡ filter (is_free (numbers_in g)) (numbers_from 0 next)
+more_free g keys same n next free new e f h =
+    h ∙ ap (λ xs. xs ++ filter (is_free keys) (n ∷ [])) f ∙ ap (λ xs. filter (is_free (numbers_in g)) (numbers_from 0 n) ++ xs) (same_free g keys same n)
+    ∙ sym (free_next (numbers_in g) n) ∙ ap (λ x. filter (is_free (numbers_in g)) (numbers_from 0 x)) (sym e)
+
+-- at most one more
+one_more : (p : ℕ → Bool) (n : ℕ) → length (filter p (n ∷ [])) ≤ 1
+one_more p n = go (p n)
+  where
+    go : (b : Bool) → length (if b then n ∷ [] else []) ≤ 1
+    go true = omega arith
+    go false = omega arith
+
+pub few_more : (keys : List ℕ) (n count : ℕ) (free new : List ℕ) → length free < count → new ≡ free ++ filter (is_free keys) (n ∷ []) → length new ≤ count
+few_more keys n count free new l h =
+    let one = one_more (is_free keys) n in
+    omega (arith, l, one, ap length h, length-append free (filter (is_free keys) (n ∷ [])))
+
 -- there are as many as are asked for
 free_from_list : (taken : List ℕ) (most count : ℕ) → count ≤ length (filter (is_free taken) (numbers_from 0 most))
     → length (take count (filter (is_free taken) (numbers_from 0 most))) ≡ count
@@ -176,7 +212,7 @@ named_sorts ns [] l = refl
 named_sorts [] (s ∷ ss) l = absurd (omega (arith, l))
 named_sorts (n ∷ ns) (s ∷ ss) l = ap (λ xs. s ∷ xs) (named_sorts ns ss (omega (arith, l)))
 
-no_numbers : (ss : List ℕ) → variables_named [] ss ≡ []
+pub no_numbers : (ss : List ℕ) → variables_named [] ss ≡ []
 no_numbers [] = refl
 no_numbers (s ∷ ss) = refl
 

@@ -1,6 +1,6 @@
 -- Proofs for a command that leaves conditions out: they are plain, and files read as them in one way.
 use Rattle.std.proofs.Common.{◌≡◌, ◌||◌, ℕ, List, [], ◌∷◌, length, nat_lt, Bool, true, false, refl, sym, ◌∙◌, subst, arith, Option, Some, None, if◌then◌else◌}
-use Rattle.std.proofs.lemmas.Bool.{ltb-false, ltb-true}
+use Rattle.std.proofs.lemmas.Bool.{ltb-false}
 use Rattle.std.specs.List.{list_any, AllByRecursion}
 use Rattle.circ_outer.specs.Shelf.{ShelfState}
 use Rattle.circ_theory.specs.Theory.{Theory}
@@ -88,7 +88,7 @@ nothing_left_out p e = go (some_given p.blocks) refl (list_any (λ ls. list_any 
 -- the chains of a link, by how many there are
 pub chains_told : (cs : List (Chain ℕ)) → some_chain (plain_chains cs) ≡ nat_lt 0 (length cs)
 chains_told [] = refl
-chains_told (c ∷ cs) = let l = ltb-true 0 (length (c ∷ cs)) (omega arith) in sym l
+chains_told (c ∷ cs) = sym (lt→ltb 0 (length (c ∷ cs)) (omega arith))
 
 -- nothing is left out, or a word is
 pub plain_or_word : {A : Type 0} (p : Proof) → (left_out p ≡ None → A) → ((word : List ℕ) → left_out p ≡ Some word → A) → A

@@ -1,11 +1,12 @@
 //! The experiment of derivatives on a goal, with fresh variables for their parameters.
-ghost use Rattle.std.specs.Prelude.{◌≡◌, ◌+◌, ℕ, IfOk, drop, map, nat_eq};
-ghost use Rattle.std.specs.List.{list_any};
+ghost use Rattle.std.specs.Prelude.{◌≡◌, ◌+◌, ◌++◌, ◌∷◌, [], ℕ, IfOk, OnOk, drop, map, nat_eq};
+ghost use Rattle.std.specs.List.{filter, list_any};
 ghost use Rattle.circ_theory.specs.Occurring.{variable_of};
 ghost use Rattle.circ_entry.specs.Entries.{HaveParameters};
 ghost use Rattle.circ_entry.specs.Plain.{plain_entries};
 ghost use Rattle.circ_reports.specs.Expand.{numbers_in, free_numbers, variables_named, sorts_at};
 ghost use Rattle.circ_reports.specs.Expand.{entries_named, parameter_count, fresh_experiment};
+ghost use Rattle.circ_reports.specs.Expand.{is_free};
 
 use circ_entry::Entry;
 use circ_term::Term;
@@ -99,12 +100,22 @@ fn free_numbers(
     let mut free = Vec::new(alloc);
     let mut number: u32 = 0;
     while free.len() < count {
-        if !taken.contains(&number) {
-            free.push(number)?;
-        }
+        put_free(taken, number, &mut free)?;
         number = following(number)?;
     }
     Ok(free)
+}
+
+/// Appends the number, if it is not taken.
+fn put_free(taken: &IndexSet<u32>, number: u32, free: &mut Vec<u32>) -> Result<(), AllocError>
+    ensures { OnOk result (free.new.items ≡ free.old.items
+        ++ filter (is_free taken.now.keys) (number ∷ [])) }
+{
+    if taken.contains(&number) {
+        return Ok(());
+    }
+    free.push(number)?;
+    Ok(())
 }
 
 /// The next number. That there is none is want of memory.
@@ -163,7 +174,7 @@ fn variables_named(
     let mut made = Vec::new(alloc);
     let mut left = numbers;
     for sort in sorts {
-        let [number, more @ ..] = left else {
+        let Some((number, more)) = left.split_first() else {
             return Ok(made);
         };
         made.push(Term::var(*number, *sort))?;

@@ -86,10 +86,7 @@ fn put_row(
         Row::Equation {
             number, way, path, ..
         } => put_rule(out, b"equation ", *way, u64::from(*number), path),
-        Row::Content { op, path, .. } => {
-            push_numbered(out, b"content ", u64::from(*op))?;
-            put_path(out, path)
-        }
+        Row::Content { op, path, .. } => put_content(out, u64::from(*op), path),
         Row::Assumption { number, way, path } => {
             put_rule(out, b"assumption ", *way, *number, path)
         }
@@ -97,6 +94,16 @@ fn put_row(
         Row::Case => out.extend_from_slice(b"case\n"),
         Row::End => out.extend_from_slice(b"end\n"),
     }
+}
+
+#[tactic(auto, using(crate::proofs::Rules::joins))]
+fn put_content(out: &mut Vec<u8>, op: u64, path: &Path) -> Result<(), AllocError>
+    ensures { OnOk result (out.new.items ≡ out.old.items ++ (codes "content " ++ decimal op
+        ++ codes " " ++ path_word path.now.items ++ codes "\n")) }
+{
+    push_numbered(out, b"content ", op)?;
+    put_path(out, path)?;
+    out.extend_from_slice(b"\n")
 }
 
 fn put_cases(
@@ -128,7 +135,8 @@ fn put_rule(
     out.extend_from_slice(rule)?;
     put_way(out, way)?;
     push_numbered(out, b" ", number)?;
-    put_path(out, path)
+    put_path(out, path)?;
+    out.extend_from_slice(b"\n")
 }
 
 fn put_way(out: &mut Vec<u8>, way: Way) -> Result<(), AllocError>
@@ -140,18 +148,16 @@ fn put_way(out: &mut Vec<u8>, way: Way) -> Result<(), AllocError>
     }
 }
 
-/// The entries of a path joined by dots, or a dash, after a space, and the end of the line.
-#[tactic(auto, using(crate::proofs::Rules::joins))]
+/// The entries of a path joined by dots, or a dash, after a space.
 fn put_path(out: &mut Vec<u8>, path: &Path) -> Result<(), AllocError>
     ensures { OnOk result (out.new.items ≡ out.old.items
-        ++ (codes " " ++ path_word path.now.items ++ codes "\n")) }
+        ++ codes " " ++ path_word path.now.items) }
 {
     match path.as_slice() {
-        [] => out.extend_from_slice(b" -\n"),
+        [] => out.extend_from_slice(b" -"),
         [first, steps @ ..] => {
             push_numbered(out, b" ", u64::from(*first))?;
-            put_steps(out, steps)?;
-            out.extend_from_slice(b"\n")
+            put_steps(out, steps)
         }
     }
 }

@@ -1,4 +1,4 @@
-use Rattle.std.proofs.Common.{ap, ◌∙◌, sym, arith}
+use Rattle.std.proofs.Common.{◌||◌, ap, ◌∙◌, sym, arith}
 use Rattle.circ_proof.specs.Plain.{plain_why, plain_whys}
 use Rattle.circ_proof.proofs.Rows.{split_plain}
 use Rattle.circ_replay.proofs.Reasons.{why_depth, whys_depth, depth_at}
@@ -19,4 +19,7 @@ whys_have_if-why_has_if-requires t c =
     omega (arith, d)
 
 pub why_has_if-returns-else-chain_has_if : goal.why_has_if-returns-else-chain_has_if
-why_has_if-returns-else-chain_has_if t c = ?
+why_has_if-returns-else-chain_has_if t c =
+    let e = ap plain_why c.in-Split.is ∙ split_plain c.in-Split.chain c.in-Split.term c.in-Split.whys in
+    c.whys_have_if.ensures ∙ ap (λ ws. whys_have_if (plain_whys ws)) c.as_slice.ensures.value
+    ∙ ap (λ b. b || whys_have_if (plain_whys c.in-Split.whys.items)) c.if-chain_has_if.ensures ∙ sym (ap why_has_if e)

@@ -18,7 +18,7 @@ returns-in-Some-clause-fault g c =
     let th = c.args.theory.now in
     let p = plain_proof c.in-Ok.proof in
     let t = c.in-Ok.ensures.takes in
-    let some : left_out p ≡ Some c.in-Some.word.now = ? in
+    let some : left_out p ≡ Some c.in-Some.word.now = sym c.in-Some.ensures in
     let refused : (bytes : List ℕ) → ReadsAsProof th bytes p → PlainProofRefusal th 0 (cause.LeftOut c.in_ok-word.word) bytes =
     λ b r. let P : List ℕ → Type 0 = λ x. PlainProofRefusal th 0 (cause.LeftOut x) b in
     subst P (sym c.in_ok-word.ensures) (has_condition b p c.in-Some.word.now r some) in (
