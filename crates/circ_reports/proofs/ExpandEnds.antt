@@ -1,6 +1,7 @@
 -- How the work of `expand` on an accepted proof ends: in one way, and with statuses of its own.
-use Rattle.std.proofs.Common.{◌≡◌, ◌==◌, ◌-◌, ℕ, Bool, List, true, false, refl, sym, ◌∙◌, ap, subst, Option, Some, None, Err, if◌then◌else◌}
+use Rattle.std.proofs.Common.{◌≡◌, ◌≢◌, ◌==◌, ◌-◌, ℕ, Bool, List, true, false, refl, sym, ◌∙◌, ap, subst, Option, Some, None, Err, if◌then◌else◌}
 use Rattle.std.specs.List.{slice_get}
+use Rattle.std.proofs.lemmas.Bool.{eq-eqb, ne_eqb}
 use Rattle.circ_term.specs.Limits.{Big, Deep}
 use Rattle.circ_theory.specs.Theory.{Theory}
 use Rattle.circ_theory.specs.declared.parts.Goal.{Goal}
@@ -102,3 +103,11 @@ pub ruleset refusing = (none_by_memory, nothing_by_memory)
 pub gives_none : (th : Theory) (p : Proof) (goal : ℕ) (ks : List ℕ) (s : Status) → Accepted th p → WritesNone (expanded th p goal ks) s → GivesNone th p goal ks s
 gives_none th p goal ks status.Memory a x = no_memory
 gives_none th p goal ks s a x = none_written s a x
+
+-- a goal's number counted from 1, and from 0
+pub expanded_none : (th : Theory) (p : Proof) (goal : ℕ) (ks : List ℕ) → goal ≡ 0 → expanded th p goal ks ≡ Not_written (status.Misfit 0)
+expanded_none th p goal ks e = let z = eq-eqb goal 0 e in rw z refl
+
+pub expanded_goal : (th : Theory) (p : Proof) (goal : ℕ) (ks : List ℕ) → goal ≢ 0
+    → expanded th p goal ks ≡ by_goal th p (goal - 1) ks (slice_get (all_goals p.blocks) (goal - 1))
+expanded_goal th p goal ks n = let z = ne_eqb goal 0 n in rw z refl

@@ -1,5 +1,5 @@
 -- Proofs for a command that leaves conditions out: they are plain, and files read as them in one way.
-use Rattle.std.proofs.Common.{◌≡◌, ◌||◌, ℕ, List, [], ◌∷◌, length, nat_lt, Bool, true, false, refl, sym, ◌∙◌, subst, arith, Option, Some, None, if◌then◌else◌}
+use Rattle.std.proofs.Common.{◌≡◌, ◌||◌, ℕ, List, [], ◌∷◌, length, nat_lt, lt→ltb, Bool, true, false, refl, sym, ◌∙◌, subst, arith, Option, Some, None, if◌then◌else◌}
 use Rattle.std.proofs.lemmas.Bool.{ltb-false}
 use Rattle.std.specs.List.{list_any, AllByRecursion}
 use Rattle.circ_outer.specs.Shelf.{ShelfState}

@@ -1,11 +1,14 @@
 //! The command `expand`: a derivation without hypotheses is written out from a proof file.
-ghost use Rattle.std.specs.Prelude.{◌≡◌, ◌+◌, IfOk, IfErr, Some};
+ghost use Rattle.std.specs.Prelude.{◌≡◌, ◌+◌, IfOk, IfErr, Some, map};
 ghost use Rattle.std.specs.List.{slice_get};
 ghost use Rattle.circ_outer.specs.Shelf.{ShelfFrame};
+ghost use Rattle.circ_term.specs.Tree.{sort_of};
 ghost use Rattle.circ_proof.specs.Accepted.{Accepted};
 ghost use Rattle.circ_proof.specs.PlainProof.{plain_proof};
 ghost use Rattle.circ_proof.specs.Proof.{ProofFor, IsPlain};
+ghost use Rattle.circ_entry.specs.Entries.{FitsWritten};
 ghost use Rattle.circ_entry.specs.Plain.{plain_entries};
+ghost use Rattle.circ_expand.specs.Rows.{plain_row};
 ghost use Rattle.circ_expand.specs.Answers.{LeadsOnGoal};
 ghost use Rattle.circ_expand.specs.Expand.{expansion};
 ghost use Rattle.circ_expand.specs.Goals.{all_goals, FitGoal};
@@ -14,13 +17,14 @@ ghost use Rattle.circ_files.specs.Quiet.{IsQuietCall};
 ghost use Rattle.circ_reports.specs.Expand.{by_goal, by_units, expanded, Writes, WritesNone};
 ghost use Rattle.circ_reports.specs.Expand.{Expands, GivesNone, IsExpanded, RefusesExpand};
 ghost use Rattle.circ_reports.specs.Expand.{ShowsDerivation, expanded_text, fault_answer};
+ghost use Rattle.circ_reports.specs.Expand.{rows_text};
 
 use crate::fresh::fresh_experiment;
 use crate::proof_file::take_plain_proof;
 use crate::rows::rows_text;
 use circ_check::{Verdict, check};
 use circ_entry::Entry;
-use circ_expand::{ExpandFault, expand as write_out, goal_misfit, goal_numbered};
+use circ_expand::{ExpandFault, Row, expand as write_out, goal_misfit, goal_numbered};
 use circ_files::{Status, take_theory};
 use circ_outer::Shelf;
 use circ_proof::Proof;
@@ -124,7 +128,10 @@ fn expand_goal(
     let Some(goal) = goal_numbered(proof, number) else {
         return Err(Status::Misfit { entry: 0 });
     };
-    let entries = fresh_experiment(alloc, theory, goal, derivatives)?;
+    let entries = match fresh_experiment(alloc, theory, goal, derivatives) {
+        Ok(entries) => entries,
+        Err(_) => return Err(Status::Memory),
+    };
     let entries = entries.as_slice();
     if let Some(entry) = goal_misfit(theory, proof, number, entries) {
         return Err(Status::Misfit {
@@ -161,9 +168,26 @@ fn derivation(
         (plain_entries entries.now)))) }
 {
     match write_out(alloc, theory, proof, number, entries) {
-        Ok(rows) => Ok(rows_text(alloc, theory, entries, goal, rows.as_slice())?),
+        Ok(rows) => text_of(alloc, theory, entries, goal, rows.as_slice()),
         Err(fault) => Err(none_written(fault)),
     }
+}
+
+/// The text of a derivation, or want of memory.
+fn text_of(
+    alloc: Global,
+    theory: &Theory,
+    entries: &[Entry],
+    goal: &Goal,
+    rows: &[Row],
+) -> Result<Vec<u8>, Status>
+    requires left { FitsWritten theory.now (plain_entries entries.now) (sort_of goal.now.left) }
+    requires right { FitsWritten theory.now (plain_entries entries.now) (sort_of goal.now.right) }
+    ensures text { IfOk result (λ v. v.items ≡ rows_text theory.now (plain_entries entries.now)
+        goal.now (map plain_row rows.now)) }
+    ensures memory { IfErr result (λ s. s ≡ Status.Memory) }
+{
+    Ok(rows_text(alloc, theory, entries, goal, rows)?)
 }
 
 /// The answer to a fault.

@@ -5,16 +5,20 @@ use Rattle.circ_theory.specs.declared.parts.Goal.{Goal}
 use Rattle.circ_proof.specs.PlainProof.{plain_proof}
 use Rattle.circ_entry.specs.Entries.{FitsWritten}
 use Rattle.circ_entry.specs.Plain.{plain_entries}
-use Rattle.circ_expand.specs.Expand.{expansion}
+use Rattle.circ_expand.specs.Answers.{LeadsOnGoal}
+use Rattle.circ_expand.specs.Expand.{Spending, expansion}
+use Rattle.circ_expand.specs.Pieces.{Pieces}
 use Rattle.circ_expand.specs.Rows.{plain_row}
 use Rattle.circ_files.specs.declared.status.Status.{Status}
-use Rattle.circ_reports.specs.Expand.{by_units, WritesNone, rows_text}
+use Rattle.circ_files.specs.declared.status.Status.TheVariants as status
+use Rattle.circ_files.proofs.FileFaults.{if_ok, if_err}
+use Rattle.circ_reports.specs.Expand.{by_units, Writes, WritesNone, rows_text, expanded_text}
 use Rattle.circ_reports.proofs.GoalSorts.{goal_sorts}
 use Rattle.circ_reports.proofs.ExpandEnds.{fault_none, none_by_memory}
 use Rattle.circ_reports.proofs.expanding.derivation.Goals as goal
 
-pub rows_text-requires-clause-right : goal.rows_text-requires-clause-right
-rows_text-requires-clause-right c =
+pub text_of-requires-clause-right : goal.text_of-requires-clause-right
+text_of-requires-clause-right c =
     let th = c.args.theory.now in
     let ws = plain_entries c.args.entries.now in
     let g = c.args.goal.now in
@@ -23,11 +27,33 @@ rows_text-requires-clause-right c =
     let left = subst L (same_Some f.0 g (sym f.1 ∙ c.requires.goal)) f.2 in
     rw (goal_sorts th (plain_proof c.args.proof.now) c.requires.fits c.args.number g c.requires.goal) left
 
-pub returns-in_ok-rows_text-in-Ok-clause-shows : goal.returns-in_ok-rows_text-in-Ok-clause-shows
-returns-in_ok-rows_text-in-Ok-clause-shows c =
-    let text = rows_text c.args.theory.now (plain_entries c.args.entries.now) c.args.goal.now in
-    let l = c.in-Ok.ensures.leads c.args.goal.now c.requires.goal in
-    (l.0, l.2, c.in_ok-rows_text-in-Ok.ensures ∙ ap (λ rs. text (map plain_row rs)) c.as_slice.ensures.value ∙ ap text l.1)
+pub returns-in-Ok-clause-writes : goal.returns-in-Ok-clause-writes
+returns-in-Ok-clause-writes c =
+    let th = c.args.theory.now in
+    let ws = plain_entries c.args.entries.now in
+    let g = c.args.goal.now in
+    let o = expansion 100000 th (plain_proof c.args.proof.now) c.args.number ws in
+    let e = c.in-Ok.ensures.exact in
+    if_ok (λ v. v.items ≡ rows_text th ws g (map plain_row c.as_slice.result.now)) (λ v. Writes th (by_units ws g o) v.items) c.text_of.result c.text_of.ensures.text
+    (λ v t.
+        let P : Spending Pieces → Type 0 = λ y. Writes th (by_units ws g y) v.items in
+        subst P (sym e.2) (t ∙ ap (λ rs. rows_text th ws g (map plain_row rs)) c.as_slice.ensures.value ∙ ap (rows_text th ws g) e.3))
+
+pub returns-in-Ok-clause-shows : goal.returns-in-Ok-clause-shows
+returns-in-Ok-clause-shows c =
+    let th = c.args.theory.now in
+    let ws = plain_entries c.args.entries.now in
+    let g = c.args.goal.now in
+    let l = c.in-Ok.ensures.leads g c.requires.goal in
+    if_ok (λ v. v.items ≡ rows_text th ws g (map plain_row c.as_slice.result.now))
+    (λ v. (xs : Pieces) × LeadsOnGoal th xs ws g × (v.items ≡ expanded_text th ws g xs)) c.text_of.result c.text_of.ensures.text
+    (λ v t. (l.0, l.2, t ∙ ap (λ rs. rows_text th ws g (map plain_row rs)) c.as_slice.ensures.value ∙ ap (rows_text th ws g) l.1))
+
+pub returns-in-Ok-clause-none : goal.returns-in-Ok-clause-none
+returns-in-Ok-clause-none c =
+    let ws = plain_entries c.args.entries.now in
+    let e = by_units ws c.args.goal.now (expansion 100000 c.args.theory.now (plain_proof c.args.proof.now) c.args.number ws) in
+    if_err (λ s. s ≡ status.Memory) (WritesNone e) c.text_of.result c.text_of.ensures.memory (none_by_memory e)
 
 pub returns-in-Err-clause-none : goal.returns-in-Err-clause-none
 returns-in-Err-clause-none c =
