@@ -1,22 +1,24 @@
 -- How the work of `expand` on an accepted proof ends: in one way, and with statuses of its own.
-use Rattle.std.proofs.Common.{◌≡◌, ◌≢◌, ◌==◌, ◌-◌, ℕ, Bool, List, true, false, refl, sym, ◌∙◌, ap, subst, Option, Some, None, Err, if◌then◌else◌}
+use Rattle.std.proofs.Common.{◌≡◌, ◌≢◌, ◌==◌, ◌+◌, ◌-◌, ℕ, Bool, List, true, false, arith, refl, sym, ◌∙◌, ap, subst, Option, Some, None, Err, if◌then◌else◌}
+use Rattle.std.proofs.lemmas.Option.{same_Some}
 use Rattle.std.specs.List.{slice_get}
-use Rattle.std.proofs.lemmas.Bool.{eq-eqb, ne_eqb}
+use Rattle.std.proofs.lemmas.Bool.{eq-eqb}
 use Rattle.circ_term.specs.Limits.{Big, Deep}
+use Rattle.circ_term.specs.Tree.{sort_of}
 use Rattle.circ_theory.specs.Theory.{Theory}
 use Rattle.circ_theory.specs.declared.parts.Goal.{Goal}
 use Rattle.circ_proof.specs.Accepted.{Accepted}
 use Rattle.circ_proof.specs.Proof.{Proof}
-use Rattle.circ_entry.specs.Entries.{Written}
+use Rattle.circ_entry.specs.Entries.{Written, FitsWritten}
 use Rattle.circ_expand.specs.Expand.{Spending, Yields, Long, Past, Stopped, expansion}
 use Rattle.circ_expand.specs.Pieces.{Pieces}
 use Rattle.circ_expand.specs.Rows.{IsWrittenOut}
 use Rattle.circ_expand.specs.declared.fault.ExpandFault.{ExpandFault}
 use Rattle.circ_expand.specs.declared.fault.ExpandFault.TheVariants as fault
-use Rattle.circ_expand.specs.Goals.{all_goals, goal_misfit}
+use Rattle.circ_expand.specs.Goals.{all_goals, goal_misfit, FitGoal}
 use Rattle.circ_files.specs.declared.status.Status.{Status}
 use Rattle.circ_files.specs.declared.status.Status.TheVariants as status
-use Rattle.circ_reports.specs.Expand.{Expanded, Written_out, Not_written, by_units, by_misfit, by_goal, expanded, fresh_experiment, Writes, EndsAs, WritesNone, fault_answer}
+use Rattle.circ_reports.specs.Expand.{Expanded, Written_out, Not_written, by_units, by_misfit, by_goal, number_before, by_number, expanded, fresh_experiment, Writes, EndsAs, WritesNone, fault_answer}
 use Rattle.circ_reports.specs.Expand.{GivesNone, none_written, no_memory}
 
 -- a status with which the work may end if there is no derivation
@@ -48,12 +50,12 @@ goal_end th p n ks (Some g) =
     let ws = fresh_experiment th g ks in
     misfit_end (goal_misfit th p n ws) (by_units ws g (expansion 100000 th p n ws)) (units_end ws g (expansion 100000 th p n ws))
 
+number_end : (th : Theory) (p : Proof) (ks : List ℕ) (o : Option ℕ) → OnlyEnds (by_number th p ks o)
+number_end th p ks None = tt
+number_end th p ks (Some n) = goal_end th p n ks (slice_get (all_goals p.blocks) n)
+
 expanded_end : (th : Theory) (p : Proof) (goal : ℕ) (ks : List ℕ) → OnlyEnds (expanded th p goal ks)
-expanded_end th p goal ks = go (goal == 0)
-  where
-    go : (b : Bool) → OnlyEnds (if b then Not_written (status.Misfit 0) else by_goal th p (goal - 1) ks (slice_get (all_goals p.blocks) (goal - 1)))
-    go true = tt
-    go false = goal_end th p (goal - 1) ks (slice_get (all_goals p.blocks) (goal - 1))
+expanded_end th p goal ks = number_end th p ks (number_before goal)
 
 none_is : (e : Expanded) (s : Status) → OnlyEnds e → EndsAs e s → IsNoneEnd s
 none_is (Written_out ws g xs) s h x = absurd x
@@ -105,9 +107,24 @@ gives_none th p goal ks status.Memory a x = no_memory
 gives_none th p goal ks s a x = none_written s a x
 
 -- a goal's number counted from 1, and from 0
-pub expanded_none : (th : Theory) (p : Proof) (goal : ℕ) (ks : List ℕ) → goal ≡ 0 → expanded th p goal ks ≡ Not_written (status.Misfit 0)
-expanded_none th p goal ks e = let z = eq-eqb goal 0 e in rw z refl
+pub before_is : (goal n : ℕ) → Some n ≡ number_before goal → n + 1 ≡ goal
+before_is goal n e = go (goal == 0) refl e
+  where
+    go : (b : Bool) → (goal == 0) ≡ b → Some n ≡ (if b then None else Some (goal - 1)) → n + 1 ≡ goal
+    go true i f = absurd (cc)
+    go false i f =
+        let same = same_Some n (goal - 1) f in
+        let apart : goal ≢ 0 = λ z. let t = eq-eqb goal 0 z in let never : true ≡ false = sym t ∙ i in cc in
+        omega (arith, same, apart)
 
-pub expanded_goal : (th : Theory) (p : Proof) (goal : ℕ) (ks : List ℕ) → goal ≢ 0
-    → expanded th p goal ks ≡ by_goal th p (goal - 1) ks (slice_get (all_goals p.blocks) (goal - 1))
-expanded_goal th p goal ks n = let z = ne_eqb goal 0 n in rw z refl
+-- the goal is there, and the experiment fits
+pub goal_done : (th : Theory) (p : Proof) (n : ℕ) (ks : List ℕ) (g : Goal) (ws : List Written) (o : Option Goal) → o ≡ Some g
+    → ws ≡ fresh_experiment th g ks → goal_misfit th p n ws ≡ None → by_units ws g (expansion 100000 th p n ws) ≡ by_goal th p n ks o
+goal_done th p n ks g ws o is e m =
+    let all : Expanded = by_units (fresh_experiment th g ks) g (expansion 100000 th p n (fresh_experiment th g ks)) in
+    let Q : List Written → Type 0 = λ x. goal_misfit th p n x ≡ None → by_units x g (expansion 100000 th p n x) ≡ by_goal th p n ks (Some g) in
+    subst Q (sym e) (λ k. sym (ap (λ z. by_misfit z all) k)) m ∙ ap (by_goal th p n ks) (sym is)
+
+pub fits_there : (th : Theory) (p : Proof) (n : ℕ) (ws : List Written) (g : Goal) → FitGoal th p n ws → slice_get (all_goals p.blocks) n ≡ Some g
+    → FitsWritten th ws (sort_of g.left)
+fits_there th p n ws g f e = let L : Goal → Type 0 = λ x. FitsWritten th ws (sort_of x.left) in subst L (same_Some f.0 g (sym f.1 ∙ e)) f.2

@@ -216,7 +216,9 @@ pub no_numbers : (ss : List ℕ) → variables_named [] ss ≡ []
 no_numbers [] = refl
 no_numbers (s ∷ ss) = refl
 
-pub ruleset none_left = (no_numbers, append-nil)
+pub no_length : (xs : List ℕ) → length xs ≡ 0 → xs ≡ []
+no_length [] e = refl
+no_length (x ∷ xs) e = absurd (omega (arith, e))
 
 left_over : (ns : List ℕ) (c d : ℕ) → c + d ≤ length ns → d ≤ length (drop c ns)
 left_over ns zero d l = omega (arith, l)

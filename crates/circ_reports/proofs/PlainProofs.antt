@@ -1,5 +1,5 @@
 -- Proofs for a command that leaves conditions out: they are plain, and files read as them in one way.
-use Rattle.std.proofs.Common.{◌≡◌, ◌||◌, ℕ, List, [], ◌∷◌, length, nat_lt, lt→ltb, Bool, true, false, refl, sym, ◌∙◌, subst, arith, Option, Some, None, if◌then◌else◌}
+use Rattle.std.proofs.Common.{◌≡◌, ◌||◌, ℕ, List, [], ◌∷◌, length, nat_lt, Bool, true, false, refl, sym, ◌∙◌, subst, arith, Option, Some, None, if◌then◌else◌}
 use Rattle.std.proofs.lemmas.Bool.{ltb-false}
 use Rattle.std.specs.List.{list_any, AllByRecursion}
 use Rattle.circ_outer.specs.Shelf.{ShelfState}
@@ -88,7 +88,11 @@ nothing_left_out p e = go (some_given p.blocks) refl (list_any (λ ls. list_any 
 -- the chains of a link, by how many there are
 pub chains_told : (cs : List (Chain ℕ)) → some_chain (plain_chains cs) ≡ nat_lt 0 (length cs)
 chains_told [] = refl
-chains_told (c ∷ cs) = sym (lt→ltb 0 (length (c ∷ cs)) (omega arith))
+chains_told (c ∷ cs) = go (nat_lt 0 (length (c ∷ cs))) refl
+  where
+    go : (b : Bool) → nat_lt 0 (length (c ∷ cs)) ≡ b → true ≡ nat_lt 0 (length (c ∷ cs))
+    go true e = sym e
+    go false e = absurd (let l = ltb-false 0 (length (c ∷ cs)) e in omega (arith, l))
 
 -- nothing is left out, or a word is
 pub plain_or_word : {A : Type 0} (p : Proof) → (left_out p ≡ None → A) → ((word : List ℕ) → left_out p ≡ Some word → A) → A

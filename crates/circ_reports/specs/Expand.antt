@@ -134,10 +134,17 @@ by_goal th p n ks None = Not_written (status.Misfit 0)
 by_goal th p n ks (Some g) =
     let ws = fresh_experiment th g ks in by_misfit (goal_misfit th p n ws) (by_units ws g (expansion 100000 th p n ws))
 
+-- the number counted from 0, of one that counts from 1
+abbrev pub number_before : ℕ → Option ℕ
+number_before n = if n == 0 then None else Some (n - 1)
+
+abbrev pub by_number : Theory → Proof → (derivatives : List ℕ) → Option ℕ → Expanded
+by_number th p ks None = Not_written (status.Misfit 0)
+by_number th p ks (Some n) = by_goal th p n ks (slice_get (all_goals p.blocks) n)
+
 -- of the goal with this number, counted from 1
 abbrev pub expanded : Theory → Proof → (goal : ℕ) → (derivatives : List ℕ) → Expanded
-expanded th p goal ks =
-    if goal == 0 then Not_written (status.Misfit 0) else by_goal th p (goal - 1) ks (slice_get (all_goals p.blocks) (goal - 1))
+expanded th p goal ks = by_number th p ks (number_before goal)
 
 -- a derivation is written out, with this text
 abbrev pub Writes : Theory → Expanded → (text : List ℕ) → Type 0

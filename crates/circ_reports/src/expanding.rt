@@ -17,7 +17,7 @@ ghost use Rattle.circ_files.specs.Quiet.{IsQuietCall};
 ghost use Rattle.circ_reports.specs.Expand.{by_goal, by_units, expanded, Writes, WritesNone};
 ghost use Rattle.circ_reports.specs.Expand.{Expands, GivesNone, IsExpanded, RefusesExpand};
 ghost use Rattle.circ_reports.specs.Expand.{ShowsDerivation, expanded_text, fault_answer};
-ghost use Rattle.circ_reports.specs.Expand.{rows_text};
+ghost use Rattle.circ_reports.specs.Expand.{number_before, rows_text};
 
 use crate::fresh::fresh_experiment;
 use crate::proof_file::take_plain_proof;
@@ -99,10 +99,20 @@ fn expand_accepted(
     ensures none { IfErr result
         (WritesNone (expanded theory.now (plain_proof proof.now) goal derivatives.now)) }
 {
-    if goal == 0 {
+    let Some(number) = number_before(goal) else {
         return Err(Status::Misfit { entry: 0 });
+    };
+    expand_goal(alloc, theory, proof, number, derivatives)
+}
+
+/// The number counted from 0, of one that counts from 1.
+fn number_before(number: u32) -> Option<u32>
+    ensures { result ≡ number_before number }
+{
+    if number == 0 {
+        return None;
     }
-    expand_goal(alloc, theory, proof, goal - 1, derivatives)
+    Some(number - 1)
 }
 
 /// The same of the goal of this number, counted from 0.

@@ -163,7 +163,6 @@ fn behind(numbers: &[u32], count: usize) -> &[u32]
 }
 
 /// Variables of these sorts with these numbers.
-#[tactic(auto, using(crate::proofs::FreshNumbers::none_left))]
 fn variables_named(
     alloc: Global,
     numbers: &[u32],
