@@ -1,7 +1,8 @@
 -- What words ask for.
-use Rattle.std.proofs.Common.{◌≡◌, ◌<◌, ◌≤◌, ◌^◌, ◌+◌, ◌*◌, ◌==◌, ℕ, Bool, List, [], ◌∷◌, ◌++◌, length, decimal, codes, refl, ap, ap₂, sym, ◌∙◌, subst, arith, Option, Some, None, map, if◌then◌else◌}
+use Rattle.std.proofs.Common.{◌≡◌, ◌<◌, ◌≤◌, ◌^◌, ◌+◌, ◌*◌, ◌==◌, ℕ, Bool, Bor, List, [], ◌∷◌, ◌++◌, length, drop, slice_index_or, decimal, codes, refl, ap, ap₂, sym, ◌∙◌, subst, arith, Option, Some, None, map, if◌then◌else◌}
 use Rattle.std.specs.Prelude.{MatchOption, IfOk, Result, Ok, Err}
 use Rattle.std.proofs.lemmas.Fmt.{decimal_injective}
+use Rattle.std.proofs.lemmas.List.{drop_more}
 use Rattle.std.proofs.lemmas.Option.{same_Some}
 use Rattle.clap.specs.Faults.{fault_of}
 use Rattle.clap.specs.Simple.{matches_of}
@@ -108,7 +109,7 @@ same_numbers (m ∷ ms) (n ∷ ns) words a b =
     ap₂ (λ x xs. x ∷ xs) first (same_numbers ms ns (map decimal ms) (a.0.1, refl) (b.0.1, cc))
 
 -- where a word is no number, the words are no numbers
-pub none_further : (ns xs : List ℕ) (word : List ℕ) (rest words : List (List ℕ)) → map decimal xs ++ word ∷ rest ≡ words → AreNumbersOf ns words
+none_further : (ns xs : List ℕ) (word : List ℕ) (rest words : List (List ℕ)) → map decimal xs ++ word ∷ rest ≡ words → AreNumbersOf ns words
     → IsNoNumber 4294967295 word → ⊥
 none_further [] [] word rest words e a h = let never : word ∷ rest ≡ [] = e ∙ a.1 in cc
 none_further (n ∷ ns) [] word rest words e a h =
@@ -152,22 +153,24 @@ module _ (k : Limits) (name word : List ℕ) (named : name ≡ codes "generate")
   chain_in_table (Some r) (n, is, few, most, w) =
       let P : Command → Type 0 = IsCommand k name (word ∷ []) in subst P (sym is) (generate n few most named (ap (λ x. x ∷ []) w))
 
--- what the table has for `expand`, by the words given to it
-module _ (k : Limits) (name : List ℕ) (named : name ≡ codes "expand") where
-  expand_row : (given : List (List ℕ)) (c : Command) → IsCommand k name given c → IsRow (row_of k (codes "expand") given) c
-  expand_row given c i = let P : List ℕ → Type 0 = λ x. IsRow (row_of k x given) c in subst P named (in_row k name given c i)
+-- the word at which a loop stands is no number, so the words are none
+pub no_word : (ns xs : List ℕ) (words : List (Bor (List ℕ))) (i : ℕ) (d : Bor (List ℕ)) → i < length words
+    → map decimal xs ++ map (λ x. x.now) (drop i words) ≡ map (λ x. x.now) words → AreNumbersOf ns (map (λ x. x.now) words)
+    → IsNoNumber 4294967295 (slice_index_or words i d).now → ⊥
+no_word ns xs words i d l e a h =
+    let P : List (Bor (List ℕ)) → Type 0 = λ ws. map decimal xs ++ map (λ x. x.now) ws ≡ map (λ x. x.now) words in
+    let at : map decimal xs ++ (slice_index_or words i d).now ∷ map (λ x. x.now) (drop (i + 1) words) ≡ map (λ x. x.now) words = subst P (drop_more words i d l) e in
+    none_further ns xs (slice_index_or words i d).now (map (λ x. x.now) (drop (i + 1) words)) (map (λ x. x.now) words) at a h
 
-  pub few_words : (given : List (List ℕ)) → length given ≤ 2 → IsNoneOfTable k name given
-  few_words [] l c i = expand_row [] c i
-  few_words (w ∷ []) l c i = expand_row (w ∷ []) c i
-  few_words (v ∷ w ∷ []) l c i = expand_row (v ∷ w ∷ []) c i
-  few_words (u ∷ v ∷ w ∷ ws) l c i = absurd (omega (arith, l))
-
-  pub no_goal : (t p g : List ℕ) (es : List (List ℕ)) → IsNoNumber 4294967295 g → IsNoneOfTable k name (t ∷ p ∷ g ∷ es)
-  no_goal t p g es none c i = let r = expand_row (t ∷ p ∷ g ∷ es) c i in none r.0 r.3 r.2
-
-  pub no_entries : (t p g : List ℕ) (es : List (List ℕ)) → AreNoNumbers es → IsNoneOfTable k name (t ∷ p ∷ g ∷ es)
-  no_entries t p g es none c i = let r = expand_row (t ∷ p ∷ g ∷ es) c i in none r.1 r.4
+-- what the words of `expand` make
+pub expand_of : (k : Limits) (name : List ℕ) (words : List (Bor (List ℕ))) (d : Bor (List ℕ)) (goal : ℕ) (ks : List ℕ) → name ≡ codes "expand" → 3 ≤ length words
+    → goal ≤ 4294967295 → (slice_index_or words 2 d).now ≡ decimal goal → AreNumbersOf ks (map (λ x. x.now) (drop 3 words))
+    → IsCommand k name (map (λ x. x.now) words) (Expand (slice_index_or words 0 d).now (slice_index_or words 1 d).now goal ks)
+expand_of k name [] d goal ks e l small g are = absurd (omega (arith, l))
+expand_of k name (x ∷ []) d goal ks e l small g are = absurd (omega (arith, l))
+expand_of k name (x ∷ y ∷ []) d goal ks e l small g are = absurd (omega (arith, l))
+expand_of k name (x ∷ y ∷ z ∷ zs) d goal ks e l small g are =
+    expand x.now y.now goal ks (map (λ x. x.now) zs) small are e (ap (λ w. x.now ∷ y.now ∷ w ∷ map (λ x. x.now) zs) g)
 
 -- `clap` finds one thing in the words
 same_budget : (usual most : ℕ) (value : Option (List ℕ)) (m n : ℕ) → most < 2 ^ 64 → IsBudget usual most value m → IsBudget usual most value n → m ≡ n
