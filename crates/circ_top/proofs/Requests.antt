@@ -1,8 +1,8 @@
 -- What words ask for.
-use Rattle.std.proofs.Common.{◌≡◌, ◌<◌, ◌≤◌, ◌^◌, ◌+◌, ◌*◌, ◌==◌, ℕ, Bool, Bor, List, [], ◌∷◌, ◌++◌, length, drop, slice_index_or, decimal, codes, refl, ap, ap₂, sym, ◌∙◌, subst, arith, Option, Some, None, map, if◌then◌else◌}
+use Rattle.std.proofs.Common.{◌≡◌, ◌<◌, ◌≤◌, ◌^◌, ◌+◌, ◌-◌, ◌*◌, ◌==◌, ℕ, Bool, Bor, List, [], ◌∷◌, ◌++◌, length, take, drop, slice_index_or, decimal, codes, refl, ap, ap₂, sym, ◌∙◌, subst, arith, Option, Some, None, map, if◌then◌else◌}
 use Rattle.std.specs.Prelude.{MatchOption, IfOk, Result, Ok, Err}
 use Rattle.std.proofs.lemmas.Fmt.{decimal_injective}
-use Rattle.std.proofs.lemmas.List.{drop_more}
+use Rattle.std.proofs.lemmas.List.{drop_more, take_rest}
 use Rattle.std.proofs.lemmas.Option.{same_Some}
 use Rattle.clap.specs.Faults.{fault_of}
 use Rattle.clap.specs.Simple.{matches_of}
@@ -163,14 +163,22 @@ no_word ns xs words i d l e a h =
     none_further ns xs (slice_index_or words i d).now (map (λ x. x.now) (drop (i + 1) words)) (map (λ x. x.now) words) at a h
 
 -- what the words of `expand` make
-pub expand_of : (k : Limits) (name : List ℕ) (words : List (Bor (List ℕ))) (d : Bor (List ℕ)) (goal : ℕ) (ks : List ℕ) → name ≡ codes "expand" → 3 ≤ length words
-    → goal ≤ 4294967295 → (slice_index_or words 2 d).now ≡ decimal goal → AreNumbersOf ks (map (λ x. x.now) (drop 3 words))
-    → IsCommand k name (map (λ x. x.now) words) (Expand (slice_index_or words 0 d).now (slice_index_or words 1 d).now goal ks)
-expand_of k name [] d goal ks e l small g are = absurd (omega (arith, l))
-expand_of k name (x ∷ []) d goal ks e l small g are = absurd (omega (arith, l))
-expand_of k name (x ∷ y ∷ []) d goal ks e l small g are = absurd (omega (arith, l))
-expand_of k name (x ∷ y ∷ z ∷ zs) d goal ks e l small g are =
-    expand x.now y.now goal ks (map (λ x. x.now) zs) small are e (ap (λ w. x.now ∷ y.now ∷ w ∷ map (λ x. x.now) zs) g)
+module _ (k : Limits) (name : List ℕ) (d : Bor (List ℕ)) (goal : ℕ) (ks : List ℕ) (named : name ≡ codes "expand") (small : goal ≤ 4294967295) where
+  expand_at : (words : List (Bor (List ℕ))) → 3 ≤ length words
+      → (slice_index_or words 2 d).now ≡ decimal goal → AreNumbersOf ks (map (λ x. x.now) (drop 3 words))
+      → IsCommand k name (map (λ x. x.now) words) (Expand (slice_index_or words 0 d).now (slice_index_or words 1 d).now goal ks)
+  expand_at [] l g are = absurd (omega (arith, l))
+  expand_at (x ∷ []) l g are = absurd (omega (arith, l))
+  expand_at (x ∷ y ∷ []) l g are = absurd (omega (arith, l))
+  expand_at (x ∷ y ∷ z ∷ zs) l g are =
+      expand x.now y.now goal ks (map (λ x. x.now) zs) small are named (ap (λ w. x.now ∷ y.now ∷ w ∷ map (λ x. x.now) zs) g)
+
+  pub expand_of : (words : List (Bor (List ℕ))) → 3 ≤ length words
+      → (slice_index_or words 2 d).now ≡ decimal goal → AreNumbersOf ks (map (λ x. x.now) (take (length words - 3) (drop 3 words)))
+      → IsCommand k name (map (λ x. x.now) words) (Expand (slice_index_or words 0 d).now (slice_index_or words 1 d).now goal ks)
+  expand_of words l g are =
+      let P : List (Bor (List ℕ)) → Type 0 = λ ws. AreNumbersOf ks (map (λ x. x.now) ws) in
+      expand_at words l g (subst P (take_rest words 3) are)
 
 -- `clap` finds one thing in the words
 same_budget : (usual most : ℕ) (value : Option (List ℕ)) (m n : ℕ) → most < 2 ^ 64 → IsBudget usual most value m → IsBudget usual most value n → m ≡ n
