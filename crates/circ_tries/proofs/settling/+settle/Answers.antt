@@ -736,10 +736,9 @@ pub try_condition-settle_whole-requires-2 : goal.try_condition-settle_whole-requ
 try_condition-settle_whole-requires-2 t c =
     let p = plain_pair c.args.cond.now in
     let σ = substitution_of (bounds_in c.args.store.now.nodes c.args.given.now) in
-    let nodes = c.build_sides.new.nodes in
     let later = c.settle_whole.new.store.nodes in
     let right = c.in-Ok.ensures.builds.1 in
-    let here = named_later nodes later c.in-Ok.sides.1 (instance σ p.right) c.settle_whole.ensures.grows right.0 in
+    let here = named_later c.build_sides.new.nodes later c.in-Ok.sides.1 (instance σ p.right) c.settle_whole.ensures.grows right.0 in
     let deep = (within_limits (instance σ p.right) right.1).1 in
     let is = depth_is later c.in-Ok.sides.1 (instance σ p.right) here in (
       omega (arith, deep, is, c.settle_whole.ensures.less),
@@ -767,41 +766,34 @@ pub try_condition-returns-in-Err-settle_whole-2-clause-tests : goal.try_conditio
 try_condition-returns-in-Err-settle_whole-2-clause-tests t c = λ rest.
     let p = plain_pair c.args.cond.now in
     let σ = substitution_of (bounds_in c.args.store.now.nodes c.args.given.now) in
-    let nodes = c.build_sides.new.nodes in
     let sides = c.in-Ok.ensures.builds in
     let x = c.in-Ok-settle_whole.ensures.exact (instance σ p.left) sides.0.0 in
     second_hinders (norm_by c.args.means.now c.args.tries) σ p c.args.budget.now rest sides.0.1 sides.1.1 x.0 (plain_traces c.in-Ok-settle_whole.settled.1.items) c.settle_whole.new.budget x.2
     c.in-Err-settle_whole-2.fault c.settle_whole-2.new.budget
-    (c.in-Err-settle_whole-2.ensures.exact (instance σ p.right) (named_later nodes c.settle_whole.new.store.nodes c.in-Ok.sides.1 (instance σ p.right) c.settle_whole.ensures.grows sides.1.0))
+    (c.in-Err-settle_whole-2.ensures.exact (instance σ p.right) (named_later c.build_sides.new.nodes c.settle_whole.new.store.nodes c.in-Ok.sides.1 (instance σ p.right) c.settle_whole.ensures.grows sides.1.0))
 
 pub try_condition-returns-then-a-b-clause-tests : goal.try_condition-returns-then-a-b-clause-tests
 try_condition-returns-then-a-b-clause-tests t c = λ rest.
     let p = plain_pair c.args.cond.now in
     let σ = substitution_of (bounds_in c.args.store.now.nodes c.args.given.now) in
-    let nodes = c.build_sides.new.nodes in
     let one = c.settle_whole.new.store.nodes in
     let two = c.settle_whole-2.new.store.nodes in
     let sides = c.in-Ok.ensures.builds in
     let x = c.in-Ok-settle_whole.ensures.exact (instance σ p.left) sides.0.0 in
-    let y = c.in-Ok-settle_whole-2.ensures.exact (instance σ p.right) (named_later nodes one c.in-Ok.sides.1 (instance σ p.right) c.settle_whole.ensures.grows sides.1.0) in
-    let a = c.in-Ok-settle_whole.settled.0 in
-    let b = c.in-Ok-settle_whole-2.settled.0 in
+    let y = c.in-Ok-settle_whole-2.ensures.exact (instance σ p.right) (named_later c.build_sides.new.nodes one c.in-Ok.sides.1 (instance σ p.right) c.settle_whole.ensures.grows sides.1.0) in
     forms_differ (norm_by c.args.means.now c.args.tries) σ p c.args.budget.now rest sides.0.1 sides.1.1 x.0 (plain_traces c.in-Ok-settle_whole.settled.1.items) c.settle_whole.new.budget x.2
     y.0 (plain_traces c.in-Ok-settle_whole-2.settled.1.items) c.settle_whole-2.new.budget y.2
-    (other_numbers two a b x.0 y.0 c.known.ensures.once (named_later one two a x.0 c.settle_whole-2.ensures.grows x.1) y.1 c.if-a-b.true)
+    (other_numbers two c.in-Ok-settle_whole.settled.0 c.in-Ok-settle_whole-2.settled.0 x.0 y.0 c.known.ensures.once (named_later one two c.in-Ok-settle_whole.settled.0 x.0 c.settle_whole-2.ensures.grows x.1) y.1 c.if-a-b.true)
 
 pub try_condition-returns-clause-tests : goal.try_condition-returns-clause-tests
 try_condition-returns-clause-tests t c = λ rest.
     let p = plain_pair c.args.cond.now in
     let σ = substitution_of (bounds_in c.args.store.now.nodes c.args.given.now) in
-    let nodes = c.build_sides.new.nodes in
     let one = c.settle_whole.new.store.nodes in
     let two = c.settle_whole-2.new.store.nodes in
     let sides = c.in-Ok.ensures.builds in
     let x = c.in-Ok-settle_whole.ensures.exact (instance σ p.left) sides.0.0 in
-    let y = c.in-Ok-settle_whole-2.ensures.exact (instance σ p.right) (named_later nodes one c.in-Ok.sides.1 (instance σ p.right) c.settle_whole.ensures.grows sides.1.0) in
-    let a = c.in-Ok-settle_whole.settled.0 in
-    let b = c.in-Ok-settle_whole-2.settled.0 in
+    let y = c.in-Ok-settle_whole-2.ensures.exact (instance σ p.right) (named_later c.build_sides.new.nodes one c.in-Ok.sides.1 (instance σ p.right) c.settle_whole.ensures.grows sides.1.0) in
     forms_same (norm_by c.args.means.now c.args.tries) σ p c.args.budget.now rest sides.0.1 sides.1.1 x.0 (plain_traces c.in-Ok-settle_whole.settled.1.items) c.settle_whole.new.budget x.2
     y.0 (plain_traces c.in-Ok-settle_whole-2.settled.1.items) c.settle_whole-2.new.budget y.2
-    (same_numbers two a b x.0 y.0 (named_later one two a x.0 c.settle_whole-2.ensures.grows x.1) y.1 c.if-a-b.false)
+    (same_numbers two c.in-Ok-settle_whole.settled.0 c.in-Ok-settle_whole-2.settled.0 x.0 y.0 (named_later one two c.in-Ok-settle_whole.settled.0 x.0 c.settle_whole-2.ensures.grows x.1) y.1 c.if-a-b.false)
