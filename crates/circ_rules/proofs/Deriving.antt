@@ -1,121 +1,51 @@
--- The derivatives of a goal, one by one.
-use Rattle.std.specs.Prelude.{◌≡◌, ◌≤◌, ◌<◌, ◌↔◌, ◌+◌, ◌^◌, ℕ, true, false, ◌==◌, List, [], ◌∷◌, ◌++◌, map, length, Option, Some, None, Result, Ok, Err, IfOk, refl}
-use Rattle.std.specs.List.{AllByRecursion, filter, slice_get}
-use Rattle.std.specs.Option.{IfSome, option_map, option_map_or}
-use Rattle.std.proofs.Common.{ap, sym, ◌∙◌, subst, arith, append_assoc, get_or}
-use Rattle.std.proofs.lemmas.List.{length-map}
+-- What Derive makes of a goal, and the state after it.
+use Rattle.std.specs.Prelude.{◌≡◌, ◌<◌, List, [], ◌∷◌, ◌++◌, length, Option, Some, None, Result, Ok, Err, IfOk}
+use Rattle.std.proofs.Common.{Global, refl, ap, sym, ◌∙◌, subst, arith, get_or}
+use Rattle.std.specs.declared.collections.VecDeque.{VecDeque}
+use Rattle.std.specs.Option.{option_map}
 use Rattle.circ_term.specs.Tree.{Tree, sort_of}
-use Rattle.circ_term.specs.Limits.{IsWithinLimits}
-use Rattle.circ_theory.specs.Theory.{Theory, goal, Derivative, IsWellSortedGoal}
+use Rattle.circ_term.specs.Limits.{Limit, IsWithinLimits, Names}
+use Rattle.circ_term.specs.declared.fault.TermFault.{TermFault}
+use Rattle.circ_theory.specs.Theory.{Theory}
 use Rattle.circ_theory.specs.WellFormed.{IsWellFormed}
-use Rattle.circ_theory.specs.Variables.{Variable, occurrences}
-use Rattle.circ_theory.specs.Observing.{is_parameter}
-use Rattle.circ_theory.specs.Experiment.{derived}
-use Rattle.circ_theory.specs.Fresh.{fresh_in, numbered_from, given_parameters, parameter_sorts, variables_from, derivatives_of}
+use Rattle.circ_theory.specs.Fresh.{derivatives_of}
 use Rattle.circ_theory.specs.declared.parts.Goal.{Goal}
 use Rattle.circ_proof.specs.Goals.{AreSortedGoals}
-use Rattle.circ_proof.specs.Rules.{state, derived_goal, derivatives_on, IsDerivable, IsSortedState}
-use Rattle.circ_proof.proofs.Derivatives.{if_some_at, some_if_at, the_derivative, numbered, sorts_are, derivative_at, from_number, taken_next, passed_next}
+use Rattle.circ_proof.specs.Rules.{state, derivatives_on, IsSortedState}
+use Rattle.circ_rules.specs.Derivatives.{Cause, No_numbers, first_cause, limit_in, MakesDerivatives}
+use Rattle.circ_rules.specs.declared.fault.DeriveFault.TheVariants as fault
+use Rattle.circ_rules.proofs.Meaning.{all_derivable, no_first_cause}
 use Rattle.circ_rules.specs.Answers.{Gives}
-use Rattle.circ_rules.specs.Deriving.{IsBuilt, AreInstances, IsDerivativeOn, AreDerivativesOn, moved_on}
+use Rattle.circ_rules.specs.Deriving.{IsBuilt, AreDerivativesOn, moved_on}
 use Rattle.circ_proof.proofs.Sorted.{sorted_none, sorted_more, sorted_first, sorted_rest, sorted_append, derivatives_sorted}
 
 -- what passes no limit is there
 pub past : (t u : Tree) → t ≡ u → Gives (IsBuilt t) None → IsWithinLimits u → ⊥
 past t u e none w = none t (record { within = subst IsWithinLimits (sym e) w; same = refl })
 
--- a derivative of the theory on a goal, with variables numbered from k for its parameters
-module _ (th : Theory) (ok : IsWellFormed th) (n : ℕ) (g : Goal) (w : IsWellSortedGoal th g) (k : ℕ) (fresh : k ≡ fresh_in g)
-    (hole : option_map (λ d. d.hole) (slice_get th.derivatives n) ≡ Some (sort_of g.left)) (sorts : List ℕ)
-    (listed : Some sorts ≡ option_map parameter_sorts (slice_get th.derivatives n)) (params : List Tree) (made : params ≡ variables_from k sorts) where
-  abbrev d : Derivative
-  d = (the_derivative (slice_get th.derivatives n) (sort_of g.left) hole).0
+-- ---- the derivatives
 
-  there : slice_get th.derivatives n ≡ Some d
-  there = (the_derivative (slice_get th.derivatives n) (sort_of g.left) hole).1
+pub are_made : (th : Theory) (g : Goal) (q : VecDeque Goal Global) → MakesDerivatives th g (Ok q) → AreDerivativesOn th g q.items
+are_made th g q h = record { derivable = all_derivable g (derivatives_of th (sort_of g.left)) h.0; same = h.1 }
 
-  renumbered : (t : Tree) → derived d t (given_parameters params) ≡ derived d t (numbered_from (fresh_in g))
-  renumbered = numbered th ok n g w k fresh hole sorts listed params made
+pub no_numbers_left : (th : Theory) (g : Goal) → MakesDerivatives th g (Err fault.Numbers) → Gives (AreDerivativesOn th g) None
+no_numbers_left th g h = λ hs x. go (sym (no_first_cause g (derivatives_of th (sort_of g.left)) x.derivable) ∙ h)
+  where
+    go : None ≡ Some No_numbers → ⊥
+    go e = absurd (cc)
 
-  are_sorts : sorts ≡ parameter_sorts d
-  are_sorts = sorts_are th ok n g w k fresh hole sorts listed params made
+pub past_some_limit : (th : Theory) (g : Goal) (e : TermFault) → ((l : Option Limit) → Names e l → l ≡ None → ⊥) → MakesDerivatives th g (Err (fault.Term e))
+    → Gives (AreDerivativesOn th g) None
+past_some_limit th g e never h = λ hs x.
+    let c : Option Cause = first_cause g (derivatives_of th (sort_of g.left)) in
+    never (limit_in c) h (ap limit_in (no_first_cause g (derivatives_of th (sort_of g.left)) x.derivable))
 
-  -- the instances are the derivative on the goal
-  pub on_goal : {E : Type 0} (r : Result (Option Goal) E) → k + length sorts ≤ 2 ^ 32
-      → IfSome (slice_get th.derivatives n) (λ d. IfOk r (Gives (AreInstances d params g)))
-      → IfSome (slice_get th.derivatives n) (λ d. IfOk r (Gives (IsDerivativeOn g d)))
-  on_goal r few made =
-      if_some_at (λ d. IfOk r (Gives (IsDerivativeOn g d))) (slice_get th.derivatives n) d there
-      (go r (some_if_at (λ d. IfOk r (Gives (AreInstances d params g))) (slice_get th.derivatives n) d there made))
-    where
-      go : {E : Type 0} (r : Result (Option Goal) E) → IfOk r (Gives (AreInstances d params g)) → IfOk r (Gives (IsDerivativeOn g d))
-      go (Err e) x = tt
-      go (Ok None) x = λ h y. x h (record {
-        left = record { within = subst IsWithinLimits (sym (renumbered g.left)) y.derivable.left; same = ap (λ a. a.left) y.same ∙ sym (renumbered g.left) };
-        right = record { within = subst IsWithinLimits (sym (renumbered g.right)) y.derivable.right; same = ap (λ a. a.right) y.same ∙ sym (renumbered g.right) };
-        conds = ap (λ a. a.conds) y.same;
-      })
-      go (Ok (Some h)) x =
-          let vs : List Variable = filter is_parameter (occurrences d.body) in
-          record {
-            derivable = record {
-              numbers = omega (arith, few, fresh, ap length are_sorts, length-map vs (λ v. v.sort), length-map vs (λ v. v.number));
-              left = subst IsWithinLimits (renumbered g.left) x.left.within;
-              right = subst IsWithinLimits (renumbered g.right) x.right.within;
-            };
-            same = ap (λ t. goal h.conds t h.right) (x.left.same ∙ renumbered g.left)
-                ∙ ap (goal h.conds (derived d g.left (numbered_from (fresh_in g)))) (x.right.same ∙ renumbered g.right)
-                ∙ ap (λ E. goal E (derived d g.left (numbered_from (fresh_in g))) (derived d g.right (numbered_from (fresh_in g)))) x.conds;
-          }
-
--- What the loop keeps: the derivatives from a number on are what is left, and hs are those before.
-pub record Stands (th : Theory) (g : Goal) (i : ℕ) (hs : List Goal) : Type 0 where
-  pub derivable : AllByRecursion (IsDerivable g) (from_number th.derivatives (sort_of g.left) i) ↔ AllByRecursion (IsDerivable g) (derivatives_of th (sort_of g.left))
-  pub derived : hs ++ map (λ d. derived_goal d g (fresh_in g)) (from_number th.derivatives (sort_of g.left) i) ≡ derivatives_on th g
-
-pub stands_taken : (th : Theory) (g : Goal) (i : ℕ) (hs : List Goal) (h : Goal) → i < length th.derivatives
-    → option_map_or (λ d. d.hole == sort_of g.left) (slice_get th.derivatives i) false ≡ true → IfSome (slice_get th.derivatives i) (λ d. IsDerivativeOn g d h)
-    → Stands th g i hs → Stands th g (i + 1) (hs ++ h ∷ [])
-stands_taken th g i hs h within e made st =
-    let ds : List Derivative = th.derivatives in
-    let at = derivative_at ds i within in
-    let d : Derivative = at.0 in
-    let x : IsDerivativeOn g d h = some_if_at (λ d. IsDerivativeOn g d h) (slice_get ds i) d at.1.there made in
-    let next = taken_next ds (sort_of g.left) i d at.1 e in
-    let rest : List Derivative = from_number ds (sort_of g.left) (i + 1) in
-    let f : Derivative → Goal = λ d. derived_goal d g (fresh_in g) in
-    record {
-      derivable = (
-        (λ a. st.derivable.0 (subst (AllByRecursion (IsDerivable g)) (sym next) (x.derivable, a))),
-        (λ a. (subst (AllByRecursion (IsDerivable g)) next (st.derivable.1 a)).1),
-      );
-      derived = append_assoc hs (h ∷ []) (map f rest) ∙ ap (λ y. hs ++ y ∷ map f rest) x.same ∙ sym (ap (λ ds. hs ++ map f ds) next) ∙ st.derived;
-    }
-
-pub stands_passed : (th : Theory) (g : Goal) (i : ℕ) (hs : List Goal) → i < length th.derivatives
-    → option_map_or (λ d. d.hole == sort_of g.left) (slice_get th.derivatives i) false ≡ false → Stands th g i hs → Stands th g (i + 1) hs
-stands_passed th g i hs within e st =
-    let at = derivative_at th.derivatives i within in
-    let next = passed_next th.derivatives (sort_of g.left) i at.0 at.1 e in
-    let f : Derivative → Goal = λ d. derived_goal d g (fresh_in g) in
-    record {
-      derivable = (
-        (λ a. st.derivable.0 (subst (AllByRecursion (IsDerivable g)) (sym next) a)),
-        (λ a. subst (AllByRecursion (IsDerivable g)) next (st.derivable.1 a)),
-      );
-      derived = sym (ap (λ ds. hs ++ map f ds) next) ∙ st.derived;
-    }
-
--- a derivative that passes a limit
-pub stands_past : (th : Theory) (g : Goal) (i : ℕ) (hs : List Goal) → i < length th.derivatives
-    → option_map_or (λ d. d.hole == sort_of g.left) (slice_get th.derivatives i) false ≡ true
-    → IfSome (slice_get th.derivatives i) (λ d. Gives (IsDerivativeOn g d) None) → Stands th g i hs → Gives (AreDerivativesOn th g) None
-stands_past th g i hs within e none st = λ gs x.
-    let at = derivative_at th.derivatives i within in
-    let next = taken_next th.derivatives (sort_of g.left) i at.0 at.1 e in
-    let all = subst (AllByRecursion (IsDerivable g)) next (st.derivable.1 x.derivable) in
-    let past_limit = some_if_at (λ d. Gives (IsDerivativeOn g d) None) (slice_get th.derivatives i) at.0 at.1.there none in
-    past_limit (derived_goal at.0 g (fresh_in g)) (record { derivable = all.0; same = refl })
+pub none_made : {E : Type 0} (th : Theory) (g : Goal) (e : TermFault) (r : Result (Option (VecDeque Goal Global)) E)
+    → MakesDerivatives th g (Err (fault.Term e)) → IfOk r (λ o. (o ≡ None) × ((l : Option Limit) → Names e l → l ≡ None → ⊥))
+    → IfOk r (λ o. Gives (AreDerivativesOn th g) (option_map (λ q. q.items) o))
+none_made th g e (Err x) h w = tt
+none_made th g e (Ok None) h w = past_some_limit th g e w.1 h
+none_made th g e (Ok (Some q)) h w = absurd (cc)
 
 -- ---- the state
 

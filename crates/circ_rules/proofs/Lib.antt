@@ -4,3 +4,5 @@ pub mod Splitting
 pub mod Starting
 pub mod Counting
 pub mod Next
+pub mod Making
+pub mod Meaning

@@ -5,3 +5,4 @@ pub mod Deriving
 pub mod Splitting
 pub mod Admitting
 pub mod Simplifying
+pub mod Derivatives

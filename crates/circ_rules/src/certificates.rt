@@ -18,7 +18,7 @@ ghost use Rattle.circ_rules.specs.Deriving.{IsBuilt};
 ghost use Rattle.circ_rules.specs.Admitting.{IsStartOf, IsStart, AdmitsAt};
 
 use crate::basis::Basis;
-use crate::derivatives::instance;
+use crate::derive_step::instance;
 use circ_proof::Link;
 use circ_special::{Place, guarded};
 use circ_term::{Term, TermFault};

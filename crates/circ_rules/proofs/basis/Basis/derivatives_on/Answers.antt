@@ -1,34 +1,14 @@
-use Rattle.std.proofs.Common.{◌≡◌, ◌<◌, ◌==◌, true, false, length, arith, sym, ◌∙◌}
-use Rattle.std.specs.List.{slice_get}
-use Rattle.std.specs.Option.{option_map_or}
-use Rattle.circ_term.specs.Tree.{sort_of}
-use Rattle.circ_rules.proofs.Deriving.{stands_taken, stands_passed, stands_past}
+use Rattle.circ_rules.proofs.Deriving.{are_made, no_numbers_left, none_made}
 use Rattle.circ_rules.proofs.basis.Basis.derivatives_on.Goals as goal
-use Rattle.circ_rules.proofs.basis.Basis.derivatives_on.Goals.{then-takes+in_ok-goal+in-Some+in_ok-push_back-in-Some, else-takes}
 
-pub returns-in-None : goal.returns-in-None
-returns-in-None c =
-    let th = c.args.self.now.theory.now in
-    let i = c.loop-derivative.derivative in
-    let within : i < length th.derivatives = omega (arith, c.loop-derivative-test.true, c.derivative_count-derivative-end.ensures.count) in
-    let takes : option_map_or (λ d. d.hole == sort_of c.args.goal.now.left) (slice_get th.derivatives i) false ≡ true
-    = rw c.sort-sort.ensures at (sym c.takes.ensures ∙ c.if-takes.true) in
-    stands_past th c.args.goal.now i c.loop-derivative.derived.items within takes (rw c.in-None.is at c.in_ok-goal.ensures) c.loop-derivative.invariant
+pub returns-in-Ok : goal.returns-in-Ok
+returns-in-Ok c = are_made c.args.self.now.theory.now c.args.goal.now c.in-Ok.derived (rw c.in-Ok.is at c.derivatives_on.ensures)
 
-pub loop-derivative-preserved : goal.loop-derivative-preserved
-loop-derivative-preserved c =
-    let th = c.args.self.now.theory.now in
-    let i = c.loop-derivative.derivative in
-    let hs = c.loop-derivative.derived.items in
-    let within : i < length th.derivatives = omega (arith, c.loop-derivative-test.true, c.derivative_count-derivative-end.ensures.count) in
-    elim c.if-takes.branch [
-      | then-takes+in_ok-goal+in-Some+in_ok-push_back-in-Some w ↦
-          let takes : option_map_or (λ d. d.hole == sort_of c.args.goal.now.left) (slice_get th.derivatives i) false ≡ true
-          = rw c.sort-sort.ensures at (sym c.takes.ensures ∙ w.if-takes.true) in
-          rw (w.derived-is, w.in_ok-push_back-in-Some.ensures.items)
-          (stands_taken th c.args.goal.now i hs w.in-Some.goal within takes (rw w.in-Some.is at w.in_ok-goal.ensures) c.loop-derivative.invariant)
-      | else-takes w ↦
-          let takes : option_map_or (λ d. d.hole == sort_of c.args.goal.now.left) (slice_get th.derivatives i) false ≡ false
-          = rw c.sort-sort.ensures at (sym c.takes.ensures ∙ w.if-takes.false) in
-          rw w.derived-is (stands_passed th c.args.goal.now i hs within takes c.loop-derivative.invariant)
-    ]
+pub returns-in-Err-Numbers : goal.returns-in-Err-Numbers
+returns-in-Err-Numbers c =
+    no_numbers_left c.args.self.now.theory.now c.args.goal.now (rw (c.in-Err-Numbers.is, c.in-Err-Numbers.field-0-is) at c.derivatives_on.ensures)
+
+pub returns-in-Err-Term : goal.returns-in-Err-Term
+returns-in-Err-Term c =
+    none_made c.args.self.now.theory.now c.args.goal.now c.in-Err-Term.fault _
+    (rw (c.in-Err-Term.is, c.in-Err-Term.field-0-is) at c.derivatives_on.ensures) c.past_limit.ensures

@@ -1,5 +1,5 @@
-use Rattle.circ_block.proofs.Limited.{Stands}
-use Rattle.circ_block.proofs.derivatives.derivatives_on.Given as goal
+use Rattle.circ_rules.proofs.Making.{Stands}
+use Rattle.circ_rules.proofs.derivatives.derivatives_on.Given as goal
 
 abbrev pub invariant-loop-derivative : goal.invariant-loop-derivative
 invariant-loop-derivative l = Stands l.theory l.goal l.derivative l.derived.items
