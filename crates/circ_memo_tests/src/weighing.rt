@@ -1,0 +1,83 @@
+//! Contents by weights: a call that no command makes, with ample memory.
+use circ_nodes::{Nodes, Terms};
+use circ_read::read_theory;
+use circ_term::{Term, TermFault};
+use circ_theory::Theory;
+use circ_weigh::same_content;
+use std::alloc::Global;
+
+// Operators 0 to 3, in this order.
+const SUMS: &[u8] = b"theory T is
+  sort A .
+  ops a b : -> A .
+  op _+_ : A A -> A [assoc comm] .
+  op _|_ : A A -> A [assoc comm idem] .
+endtheory";
+
+fn constant(alloc: Global, op: u32) -> Result<Term, TermFault> {
+    Term::app(alloc, op, 0, Vec::new(alloc))
+}
+
+fn sum(alloc: Global, op: u32, first: Term, second: Term) -> Result<Term, TermFault> {
+    Term::app(alloc, op, 0, vec![in alloc; first, second]?)
+}
+
+// `a, (x, a)` by this operator, where `x` is a constant.
+fn to_the_right(alloc: Global, op: u32, x: u32) -> Result<Term, TermFault> {
+    let rest = sum(alloc, op, constant(alloc, x)?, constant(alloc, 0)?)?;
+    sum(alloc, op, constant(alloc, 0)?, rest)
+}
+
+// `(a, a), x`
+fn to_the_left(alloc: Global, op: u32, x: u32) -> Result<Term, TermFault> {
+    let front = sum(alloc, op, constant(alloc, 0)?, constant(alloc, 0)?)?;
+    sum(alloc, op, front, constant(alloc, x)?)
+}
+
+// Whether both have the same content under the operator.
+fn is_same(
+    alloc: Global,
+    theory: &Theory,
+    op: u32,
+    first: &Term,
+    second: &Term,
+) -> Result<bool, TermFault> {
+    let mut nodes = Nodes::new(alloc);
+    let mut terms = Terms::new(alloc);
+    let a = nodes.intern(first)?;
+    let b = nodes.intern(second)?;
+    Ok(same_content(alloc, theory, &nodes, &mut terms, op, a, b)?)
+}
+
+// Whether sums are the same in any order, and not with another summand; repeated ones count, unless
+// they do not.
+fn are_weighed(alloc: Global, theory: &Theory) -> Result<bool, TermFault> {
+    let sum_of_a_and_b = sum(alloc, 3, constant(alloc, 0)?, constant(alloc, 1)?)?;
+    Ok(
+        is_same(
+            alloc,
+            theory,
+            2,
+            &to_the_right(alloc, 2, 1)?,
+            &to_the_left(alloc, 2, 1)?,
+        )? && !is_same(
+            alloc,
+            theory,
+            2,
+            &to_the_right(alloc, 2, 1)?,
+            &to_the_left(alloc, 2, 0)?,
+        )? && is_same(
+            alloc,
+            theory,
+            3,
+            &to_the_right(alloc, 3, 1)?,
+            &sum_of_a_and_b,
+        )?,
+    )
+}
+
+#[test]
+fn contents_are_weighed(rt: HostRuntime) {
+    let theory = read_theory(rt.alloc(), SUMS);
+    assert!(rt; theory.is_ok_and(|theory| are_weighed(rt.alloc(), &theory) == Ok(true)));
+}
