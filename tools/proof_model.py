@@ -393,6 +393,10 @@ class Proof:
         return [step for block in self.blocks for step in block.steps]
 
 
+OF_ANOTHER = "is it a proof of another theory?"
+STEPS = ("simplify", "reduce", "derive", "cases", "done")
+
+
 class Reader:
     """Goes through the lines of a proof file."""
 
@@ -402,24 +406,27 @@ class Reader:
         self.special, self.earlier, self.hypotheses = [], [], []
 
     def next(self):
-        if self.place >= len(self.lines):
-            raise Unreadable(f"line {self.place + 1} is missing")
         self.place += 1
+        if self.place > len(self.lines):
+            raise self.fault("the text is cut here")
         return self.lines[self.place - 1].split(" ")
+
+    def fault(self, cause):
+        return Unreadable(f"line {self.place}: {cause}")
 
     def peek(self):
         return self.lines[self.place].split(" ")[0] if self.place < len(self.lines) else ""
 
     def read(self):
         head = self.next()
-        if head[0] != "circproof" or len(head) != 2:
-            raise Unreadable("line 1 is not circproof and a version")
+        if head not in (["circproof", "1"], ["circproof", "2"]):
+            raise self.fault("a proof begins with circproof 1 or circproof 2")
         while self.peek() in ("v", "a"):
             words = self.next()
             if words[0] == "v":
-                self.table.append(("v", int(words[1]), int(words[2])))
+                self.table.append(("v", int(words[1]), self.known(int(words[2]), self.theory.sorts, "sort")))
             else:
-                self.table.append(("a", int(words[1]), tuple(self.table[int(n)] for n in words[2:])))
+                self.table.append(self.application(int(words[1]), tuple(self.table[int(n)] for n in words[2:])))
         while self.peek() == "place":
             words = self.next()
             self.special.append((int(words[1]), int(words[2])))
@@ -428,7 +435,24 @@ class Reader:
         while self.peek() == "block":
             self.next()
             blocks.append(self.block(len(blocks) + 1))
+        if self.next() != ["end"]:
+            raise self.fault("a block is expected, or end")
+        if self.place < len(self.lines):
+            self.place += 1
+            raise self.fault("nothing stands behind end")
         return Proof(int(head[1]), certificates, blocks, self.hypotheses)
+
+    def known(self, number, parts, word):
+        if number >= len(parts):
+            raise self.fault(f"the theory has no {word} {number}; {OF_ANOTHER}")
+        return number
+
+    def application(self, number, terms):
+        """A term of the table, if its operator takes terms of these sorts."""
+        operator = self.theory.operators[self.known(number, self.theory.operators, "operator")]
+        if tuple(operator.args) != tuple(self.theory.sort(term) for term in terms):
+            raise self.fault(f"operator {number} of the theory, {operator.form}, does not take these arguments; {OF_ANOTHER}")
+        return "a", number, terms
 
     def certificates(self):
         found = []
@@ -471,12 +495,14 @@ class Reader:
         steps = []
         while True:
             kind = self.next()[0] if self.peek() != "cases" else "cases"
+            if kind not in STEPS:
+                raise self.fault(f"a step is expected: one of {', '.join(STEPS)}")
             self.number += 1
             if kind == "done":
                 steps.append(Step(self.number, kind))
                 break
             if not entries:
-                raise Unreadable(f"line {self.place}: no goal is left for {kind}")
+                raise self.fault(f"no goal is left for {kind}")
             steps.append(self.step(kind, entries))
         self.earlier += goals
         return Block(number, goals, steps)
@@ -505,8 +531,6 @@ class Reader:
                 condition = (step.term, self.constant(name, step.term))
                 step.made.append(Entry(Goal(*goal.sides(), (*goal.conditions, condition)), entry.origin))
             entries[:0] = step.made
-        else:
-            raise Unreadable(f"line {self.place}: {kind}")
         return step
 
     def constant(self, name, term):
@@ -522,7 +546,7 @@ class Reader:
         if words[0] == "same":
             return Why(links, sides)
         if words[0] != "split":
-            raise Unreadable(f"line {self.place}: {words[0]}")
+            raise self.fault("the chains go on, or end with same or split")
         term, cases = self.table[int(words[1])], []
         names = self.theory.cases.get(self.theory.sort(term), [])
         for number in range(int(words[2])):
@@ -548,7 +572,7 @@ class Reader:
         number = len(link.conditions)
         pairs = link.used.conditions if isinstance(link.used, Goal) else ()
         if number >= len(pairs):
-            raise Unreadable(f"line {self.place}: there is no such condition")
+            raise self.fault("there is no such condition")
         given = dict(link.given)
         sides = dict(zip(("left", "right"), (instance(side, given) for side in pairs[number])))
         return self.why(sides, assumptions)
@@ -610,6 +634,16 @@ def read_theory(program, name):
 def read_proof(theory, name):
     """The proof of a file over a theory."""
     try:
-        return Reader(theory, pathlib.Path(name).read_text().split("\n")).read()
+        lines = pathlib.Path(name).read_bytes().decode("ascii").removesuffix("\n").split("\n")
+    except OSError as fault:
+        raise Unreadable(f"{name}: {fault.strerror}") from fault
+    except UnicodeDecodeError as fault:
+        raise Unreadable(f"{name}: byte {fault.start + 1} is not ASCII") from fault
+    for number, line in enumerate(lines, 1):
+        if line.endswith("\r"):
+            raise Unreadable(f"line {number}: it ends with a carriage return, which no line of a proof has")
+    reader = Reader(theory, lines)
+    try:
+        return reader.read()
     except (IndexError, ValueError, KeyError, StopIteration) as fault:
-        raise Unreadable(f"the proof does not read: {fault}") from fault
+        raise reader.fault("it is not in its form, or names what is not there") from fault
