@@ -15,7 +15,9 @@ TOKEN = re.compile(r"[()\[\]{},]|[^\s()\[\]{},]+")
 
 
 class Unreadable(Exception):
-    """The text is not what was expected there."""
+    """The text is not what was expected there. What of a proof was read before that is `so_far`."""
+
+    so_far = None
 
 
 def default_program():
@@ -404,6 +406,7 @@ class Reader:
         self.theory, self.lines = theory, lines
         self.place, self.number, self.table = 0, 0, []
         self.special, self.earlier, self.hypotheses = [], [], []
+        self.certified, self.blocks = [], []
 
     def next(self):
         self.place += 1
@@ -430,17 +433,20 @@ class Reader:
         while self.peek() == "place":
             words = self.next()
             self.special.append((int(words[1]), int(words[2])))
-        certificates = self.certificates()
-        blocks = []
+        self.certificates()
         while self.peek() == "block":
             self.next()
-            blocks.append(self.block(len(blocks) + 1))
+            self.block(len(self.blocks) + 1)
         if self.next() != ["end"]:
             raise self.fault("a block is expected, or end")
         if self.place < len(self.lines):
             self.place += 1
             raise self.fault("nothing stands behind end")
-        return Proof(int(head[1]), certificates, blocks, self.hypotheses)
+        return self.so_far()
+
+    def so_far(self):
+        """What is read, as a proof."""
+        return Proof(int(self.lines[0].split(" ")[1]), self.certified, self.blocks, self.hypotheses)
 
     def known(self, number, parts, word):
         if number >= len(parts):
@@ -455,7 +461,6 @@ class Reader:
         return "a", number, terms
 
     def certificates(self):
-        found = []
         for operator, argument in self.special:
             for _, derivative in self.theory.derivatives_of(self.theory.operators[operator].result):
                 if self.peek() != "cert":
@@ -465,8 +470,7 @@ class Reader:
                 start = self.start(operator, argument, derivative)
                 sides = {"left": start}
                 links = self.chain(sides)
-                found.append(Certificate(self.number, operator, argument, derivative, start, Why(links, sides)))
-        return found
+                self.certified.append(Certificate(self.number, operator, argument, derivative, start, Why(links, sides)))
 
     def start(self, operator, argument, derivative):
         """Variable 0 at the place, the others numbered from 1, then the derivative's parameters."""
@@ -493,6 +497,7 @@ class Reader:
         self.hypotheses = list(self.earlier)
         entries = [Entry(goal, ("goal", n)) for n, goal in enumerate(goals)]
         steps = []
+        self.blocks.append(Block(number, goals, steps))
         while True:
             kind = self.next()[0] if self.peek() != "cases" else "cases"
             if kind not in STEPS:
@@ -505,7 +510,6 @@ class Reader:
                 raise self.fault(f"no goal is left for {kind}")
             steps.append(self.step(kind, entries))
         self.earlier += goals
-        return Block(number, goals, steps)
 
     def step(self, kind, entries):
         entry = entries.pop(0)
@@ -645,5 +649,9 @@ def read_proof(theory, name):
     reader = Reader(theory, lines)
     try:
         return reader.read()
-    except (IndexError, ValueError, KeyError, StopIteration) as fault:
-        raise reader.fault("it is not in its form, or names what is not there") from fault
+    except Unreadable as found:
+        fault = found
+    except (IndexError, ValueError, KeyError, StopIteration):
+        fault = reader.fault("it is not in its form, or names what is not there")
+    fault.so_far = reader.so_far() if reader.blocks else None
+    raise fault
