@@ -1,14 +1,16 @@
 -- Numbers that are kept under words.
-use Rattle.std.proofs.Common.{◌≡◌, ℕ, suc, ◌+◌, length, Bool, true, false, nat_eq, if◌then◌else◌, List, [], ◌∷◌, ◌++◌, Vec, Some, None, Result, Ok}
+use Rattle.std.proofs.Common.{◌≡◌, ℕ, suc, ◌+◌, length, Bool, true, false, ◌&&◌, nat_eq, if◌then◌else◌, List, [], ◌∷◌, ◌++◌, Vec, Option, Some, None, Result, Ok}
 use Rattle.std.proofs.Common.{Err, OnErr, refl, ap, sym, ◌∙◌, arith}
 use Rattle.std.specs.Cmp.Lexicographic.{pointwise, bytes_decides}
+use Rattle.std.proofs.lemmas.Bool.{eqb-true, eq-eqb}
 use Rattle.std.specs.Map.{lookup, set_value}
-use Rattle.std.specs.Option.{option_map_or}
+use Rattle.std.specs.Option.{option_map_or, option_eq}
 use Rattle.indexmap.specs.IndexMap.{insert_entry}
 use Rattle.circ_form.specs.Form.{first_word}
 use Rattle.circ_theory.specs.Signature.{Signature, Operator}
-use Rattle.circ_theory.specs.Operators.{places_from, ops_by_word}
-use Rattle.circ_theory.specs.Inside.{kept_under}
+use Rattle.circ_theory.specs.declared.overloads.Overloads.{Overloads}
+use Rattle.circ_theory.specs.Operators.{places_from, ops_by_word, ops_by_word_and_sort, first_sort}
+use Rattle.circ_theory.specs.Inside.{kept_at, kept_with, kept_under, kept_under_both, IsNoted, IsKeptSo}
 
 places_push : {X : Type 0} (p : X → Bool) (k : ℕ) (xs : List X) (x : X)
     → places_from p k (xs ++ x ∷ []) ≡ (if p x then places_from p k xs ++ (k + length xs) ∷ [] else places_from p k xs)
@@ -32,83 +34,153 @@ word_more sig o w first kept n a b e =
     let z : n ≡ 0 + length sig.ops = omega arith in
     rw (a, b, z) refl ∙ sym (places_push (λ o. pointwise nat_eq w (first_word o.form)) 0 sig.ops o)
 
--- under another word there is what there was
-passed : (v w k old new ns x : List ℕ) → pointwise nat_eq v k ≡ false → new ≡ (if pointwise nat_eq w v then x else old)
-    → (if pointwise nat_eq w k then ns else new) ≡ (if pointwise nat_eq w v then x else if pointwise nat_eq w k then ns else old)
-passed v w k old new ns x other is = go (pointwise nat_eq w k) refl (pointwise nat_eq w v) refl
-  where
-    go : (b : Bool) → pointwise nat_eq w k ≡ b → (e : Bool) → pointwise nat_eq w v ≡ e → (if b then ns else new) ≡ (if e then x else if b then ns else old)
-    go true h true f =
-        let same : pointwise nat_eq v k ≡ true = (bytes_decides v k).1 (sym ((bytes_decides w v).0 f) ∙ (bytes_decides w k).0 h) in
-        absurd (let z = sym same ∙ other in cc)
-    go true h false f = refl
-    go false h e f = is ∙ ap (λ b. if b then x else old) f
+-- the numbers under a word and a sort after one operator more
+pub both_more : (sig : Signature) (o : Operator) (w first kept : List ℕ) (s sort : Option ℕ) (n : ℕ) → first ≡ first_word o.form → sort ≡ first_sort o → kept ≡ ops_by_word_and_sort sig w s
+    → n ≡ length sig.ops
+    → (if pointwise nat_eq w first && option_eq nat_eq s sort then kept ++ n ∷ [] else kept)
+    ≡ places_from (λ o. pointwise nat_eq w (first_word o.form) && option_eq nat_eq s (first_sort o)) 0 (sig.ops ++ o ∷ [])
+both_more sig o w first kept s sort n a b c d =
+    let z : n ≡ 0 + length sig.ops = omega arith in
+    rw (a, b, c, z) refl ∙ sym (places_push (λ o. pointwise nat_eq w (first_word o.form) && option_eq nat_eq s (first_sort o)) 0 sig.ops o)
+
+-- sorts that are equal are the same
+pub sorts_decide : (a b : Option ℕ) → (option_eq nat_eq a b ≡ true → a ≡ b) × (a ≡ b → option_eq nat_eq a b ≡ true)
+sorts_decide None None = ((λ _. refl), (λ _. refl))
+sorts_decide None (Some t) = ((λ e. absurd (cc)), (λ e. absurd (cc)))
+sorts_decide (Some s) None = ((λ e. absurd (cc)), (λ e. absurd (cc)))
+sorts_decide (Some s) (Some t) = ((λ e. ap (λ n. Some n) (eqb-true s t e)), (λ e. eq-eqb s t (cc e)))
 
 pub on_err : {X E : Type 0} (r : Result X E) (P : Type 0) → P → OnErr r P
 on_err (Ok x) P p = tt
 on_err (Err e) P p = p
 
-module _ {A B : Type 0} where
-  kept_more : (k : Vec ℕ A) (v : Vec ℕ B) (es : List (Vec ℕ A × Vec ℕ B)) (w : List ℕ)
-      → kept_under ((k, v) ∷ es) w ≡ (if pointwise nat_eq w k.items then v.items else kept_under es w)
-  kept_more k v es w = go (pointwise nat_eq w k.items)
+-- What is kept under a key that has the view `q`, and `d` where there is none.
+module _ {K V Q A : Type 0} (of : K → Q) (E : Q → Q → Bool) (decides : (a b : Q) → (E a b ≡ true → a ≡ b) × (a ≡ b → E a b ≡ true)) (f : V → A) (d : A) where
+  abbrev pub kept : List (K × V) → Q → A
+  kept es q = option_map_or f (lookup (λ k. E q (of k)) es) d
+
+  -- under another key there is what there was
+  passed : (v w k : Q) (old new ns x : A) → E v k ≡ false → new ≡ (if E w v then x else old)
+      → (if E w k then ns else new) ≡ (if E w v then x else if E w k then ns else old)
+  passed v w k old new ns x other is = go (E w k) refl (E w v) refl
     where
-      go : (b : Bool)
-          → option_map_or (λ v. v.items) (if b then Some v else lookup (λ k. pointwise nat_eq w k.items) es) [] ≡ (if b then v.items else kept_under es w)
+      go : (b : Bool) → E w k ≡ b → (e : Bool) → E w v ≡ e → (if b then ns else new) ≡ (if e then x else if b then ns else old)
+      go true h true f =
+          let same : E v k ≡ true = (decides v k).1 (sym ((decides w v).0 f) ∙ (decides w k).0 h) in
+          absurd (let z = sym same ∙ other in cc)
+      go true h false f = refl
+      go false h e f = is ∙ ap (λ b. if b then x else old) f
+
+  kept_more : (k : K) (v : V) (es : List (K × V)) (w : Q) → kept ((k, v) ∷ es) w ≡ (if E w (of k) then f v else kept es w)
+  kept_more k v es w = go (E w (of k))
+    where
+      go : (b : Bool) → option_map_or f (if b then Some v else lookup (λ k. E w (of k)) es) d ≡ (if b then f v else kept es w)
       go true = refl
       go false = refl
 
-  pub kept-set : (v : List ℕ) (x old : Vec ℕ B) (w : List ℕ) (es : List (Vec ℕ A × Vec ℕ B)) → lookup (λ k. pointwise nat_eq v k.items) es ≡ Some old
-      → kept_under (set_value (λ k. pointwise nat_eq v k.items) es x) w ≡ (if pointwise nat_eq w v then x.items else kept_under es w)
+  pub kept-set : (v : Q) (x old : V) (w : Q) (es : List (K × V)) → lookup (λ k. E v (of k)) es ≡ Some old
+      → kept (set_value (λ k. E v (of k)) es x) w ≡ (if E w v then f x else kept es w)
   kept-set v x old w [] h = absurd (cc)
-  kept-set v x old w (e ∷ es) h = go (λ h. kept-set v x old w es h) (pointwise nat_eq v e.0.items) refl
+  kept-set v x old w (e ∷ es) h = go (λ h. kept-set v x old w es h) (E v (of e.0)) refl
     where
-      go : (lookup (λ k. pointwise nat_eq v k.items) es ≡ Some old → kept_under (set_value (λ k. pointwise nat_eq v k.items) es x) w ≡ (if pointwise nat_eq w v then x.items else kept_under es w))
-          → (b : Bool) → pointwise nat_eq v e.0.items ≡ b
-          → kept_under (if b then (e.0, x) ∷ es else e ∷ set_value (λ k. pointwise nat_eq v k.items) es x) w ≡ (if pointwise nat_eq w v then x.items else kept_under (e ∷ es) w)
-      go ih true f =
+      go : (lookup (λ k. E v (of k)) es ≡ Some old → kept (set_value (λ k. E v (of k)) es x) w ≡ (if E w v then f x else kept es w))
+          → (b : Bool) → E v (of e.0) ≡ b
+          → kept (if b then (e.0, x) ∷ es else e ∷ set_value (λ k. E v (of k)) es x) w ≡ (if E w v then f x else kept (e ∷ es) w)
+      go ih true g =
           let here = kept_more e.0 x es w in
           let there = kept_more e.0 e.1 es w in
-          here ∙ rw there (rw (sym ((bytes_decides v e.0.items).0 f)) (twice (pointwise nat_eq w v)))
+          here ∙ rw there (rw (sym ((decides v (of e.0)).0 g)) (twice (E w v)))
         where
-          twice : (b : Bool) → (if b then x.items else kept_under es w) ≡ (if b then x.items else if b then e.1.items else kept_under es w)
+          twice : (b : Bool) → (if b then f x else kept es w) ≡ (if b then f x else if b then f e.1 else kept es w)
           twice true = refl
           twice false = refl
-      go ih false f =
-          kept_more e.0 e.1 (set_value (λ k. pointwise nat_eq v k.items) es x) w
-          ∙ passed v w e.0.items (kept_under es w) _ e.1.items x.items f (ih (rw f at h))
-          ∙ ap (λ ns. if pointwise nat_eq w v then x.items else ns) (sym (kept_more e.0 e.1 es w))
+      go ih false g =
+          kept_more e.0 e.1 (set_value (λ k. E v (of k)) es x) w
+          ∙ passed v w (of e.0) (kept es w) _ (f e.1) (f x) g (ih (rw g at h))
+          ∙ ap (λ ns. if E w v then f x else ns) (sym (kept_more e.0 e.1 es w))
 
-  pub kept-insert : (k : Vec ℕ A) (v : Vec ℕ B) (w : List ℕ) (es : List (Vec ℕ A × Vec ℕ B)) → lookup (λ j. pointwise nat_eq k.items j.items) es ≡ None
-      → kept_under (insert_entry (λ a b. pointwise nat_eq a.items b.items) es k v) w ≡ (if pointwise nat_eq w k.items then v.items else kept_under es w)
+  pub kept-insert : (k : K) (v : V) (w : Q) (es : List (K × V)) → lookup (λ j. E (of k) (of j)) es ≡ None
+      → kept (insert_entry (λ a b. E (of a) (of b)) es k v) w ≡ (if E w (of k) then f v else kept es w)
   kept-insert k v w [] h = kept_more k v [] w
-  kept-insert k v w (e ∷ es) h = go (λ h. kept-insert k v w es h) (pointwise nat_eq k.items e.0.items) refl
+  kept-insert k v w (e ∷ es) h = go (λ h. kept-insert k v w es h) (E (of k) (of e.0)) refl
     where
-      go : (lookup (λ j. pointwise nat_eq k.items j.items) es ≡ None → kept_under (insert_entry (λ a b. pointwise nat_eq a.items b.items) es k v) w ≡ (if pointwise nat_eq w k.items then v.items else kept_under es w))
-          → (b : Bool) → pointwise nat_eq k.items e.0.items ≡ b
-          → kept_under (if b then (e.0, v) ∷ es else e ∷ insert_entry (λ a b. pointwise nat_eq a.items b.items) es k v) w ≡ (if pointwise nat_eq w k.items then v.items else kept_under (e ∷ es) w)
-      go ih true f = absurd (let z = rw f at h in cc)
-      go ih false f =
-          kept_more e.0 e.1 (insert_entry (λ a b. pointwise nat_eq a.items b.items) es k v) w
-          ∙ passed k.items w e.0.items (kept_under es w) _ e.1.items v.items f (ih (rw f at h))
-          ∙ ap (λ ns. if pointwise nat_eq w k.items then v.items else ns) (sym (kept_more e.0 e.1 es w))
+      go : (lookup (λ j. E (of k) (of j)) es ≡ None → kept (insert_entry (λ a b. E (of a) (of b)) es k v) w ≡ (if E w (of k) then f v else kept es w))
+          → (b : Bool) → E (of k) (of e.0) ≡ b
+          → kept (if b then (e.0, v) ∷ es else e ∷ insert_entry (λ a b. E (of a) (of b)) es k v) w ≡ (if E w (of k) then f v else kept (e ∷ es) w)
+      go ih true g = absurd (let z = rw g at h in cc)
+      go ih false g =
+          kept_more e.0 e.1 (insert_entry (λ a b. E (of a) (of b)) es k v) w
+          ∙ passed (of k) w (of e.0) (kept es w) _ (f e.1) (f v) g (ih (rw g at h))
+          ∙ ap (λ ns. if E w (of k) then f v else ns) (sym (kept_more e.0 e.1 es w))
 
-  -- a number more under one word
-  pub noted : (es new : List (Vec ℕ A × Vec ℕ B)) (v x : List ℕ) (n : ℕ)
-      → ((w : List ℕ) → kept_under new w ≡ (if pointwise nat_eq w v then x else kept_under es w)) → x ≡ kept_under es v ++ n ∷ []
-      → (w : List ℕ) → kept_under new w ≡ (if pointwise nat_eq w v then kept_under es w ++ n ∷ [] else kept_under es w)
-  noted es new v x n h is w = h w ∙ go (pointwise nat_eq w v) refl
+  -- what was there is changed under one key
+  pub changed : (es new : List (K × V)) (v : Q) (x : A) (change : A → A) → ((w : Q) → kept new w ≡ (if E w v then x else kept es w)) → x ≡ change (kept es v)
+      → (w : Q) → kept new w ≡ (if E w v then change (kept es w) else kept es w)
+  changed es new v x change h is w = h w ∙ go (E w v) refl
     where
-      go : (b : Bool) → pointwise nat_eq w v ≡ b → (if b then x else kept_under es w) ≡ (if b then kept_under es w ++ n ∷ [] else kept_under es w)
-      go true f = is ∙ ap (λ u. kept_under es u ++ n ∷ []) (sym ((bytes_decides w v).0 f))
-      go false f = refl
+      go : (b : Bool) → E w v ≡ b → (if b then x else kept es w) ≡ (if b then change (kept es w) else kept es w)
+      go true g = is ∙ ap (λ u. change (kept es u)) (sym ((decides w v).0 g))
+      go false g = refl
 
-  -- the same numbers under one word
-  pub unnoted : (es new : List (Vec ℕ A × Vec ℕ B)) (v x : List ℕ)
-      → ((w : List ℕ) → kept_under new w ≡ (if pointwise nat_eq w v then x else kept_under es w)) → x ≡ kept_under es v
-      → (w : List ℕ) → kept_under new w ≡ kept_under es w
-  unnoted es new v x h is w = h w ∙ go (pointwise nat_eq w v) refl
+  -- or not changed
+  pub unchanged : (es new : List (K × V)) (v : Q) (x : A) → ((w : Q) → kept new w ≡ (if E w v then x else kept es w)) → x ≡ kept es v → (w : Q) → kept new w ≡ kept es w
+  unchanged es new v x h is w = h w ∙ go (E w v) refl
     where
-      go : (b : Bool) → pointwise nat_eq w v ≡ b → (if b then x else kept_under es w) ≡ kept_under es w
-      go true f = is ∙ ap (kept_under es) (sym ((bytes_decides w v).0 f))
-      go false f = refl
+      go : (b : Bool) → E w v ≡ b → (if b then x else kept es w) ≡ kept es w
+      go true g = is ∙ ap (kept es) (sym ((decides w v).0 g))
+      go false g = refl
+
+-- a number more under a sort
+abbrev pub more_if : (b : Bool) → ℕ → List ℕ → List ℕ
+more_if b n ns = if b then ns ++ n ∷ [] else ns
+
+pub if_both : (a b : Bool) (n : ℕ) (ns : List ℕ) → (if a then more_if b n ns else ns) ≡ more_if (a && b) n ns
+if_both true b n ns = refl
+if_both false b n ns = refl
+
+-- the operators of one word have one more
+pub with_more : {A : Type 0} (es new : List (Vec ℕ A × Overloads)) (word : List ℕ) (x : Overloads) (sort : Option ℕ) (n : ℕ)
+    → ((w : List ℕ) → kept_under new w ≡ (if pointwise nat_eq w word then x.all.items else kept_under es w))
+    → ((s : Option ℕ) (w : List ℕ) → kept_under_both new w s ≡ (if pointwise nat_eq w word then kept_with x s else kept_under_both es w s))
+    → x.all.items ≡ kept_under es word ++ n ∷ []
+    → ((s : Option ℕ) → kept_with x s ≡ more_if (option_eq nat_eq s sort) n (kept_under_both es word s))
+    → IsNoted es new word sort n
+with_more es new word x sort n here both all by_sort = record {
+  words = changed (λ k. k.items) (pointwise nat_eq) bytes_decides (λ o. o.all.items) [] es new word x.all.items (λ ns. ns ++ n ∷ []) here all;
+  both = λ w s.
+      changed (λ k. k.items) (pointwise nat_eq) bytes_decides (λ o. kept_with o s) [] es new word (kept_with x s) (more_if (option_eq nat_eq s sort) n) (both s) (by_sort s) w
+      ∙ if_both (pointwise nat_eq w word) (option_eq nat_eq s sort) n (kept_under_both es w s);
+}
+
+-- or have the same
+pub with_same : {A : Type 0} (es new : List (Vec ℕ A × Overloads)) (word : List ℕ) (x : Overloads)
+    → ((w : List ℕ) → kept_under new w ≡ (if pointwise nat_eq w word then x.all.items else kept_under es w))
+    → ((s : Option ℕ) (w : List ℕ) → kept_under_both new w s ≡ (if pointwise nat_eq w word then kept_with x s else kept_under_both es w s))
+    → x.all.items ≡ kept_under es word → ((s : Option ℕ) → kept_with x s ≡ kept_under_both es word s) → IsKeptSo es new
+with_same es new word x here both all by_sort = record {
+  words = unchanged (λ k. k.items) (pointwise nat_eq) bytes_decides (λ o. o.all.items) [] es new word x.all.items here all;
+  both = λ w s. unchanged (λ k. k.items) (pointwise nat_eq) bytes_decides (λ o. kept_with o s) [] es new word (kept_with x s) (both s) (by_sort s) w;
+}
+
+-- one more of the first one's sort
+pub first_same : (s sort own : Option ℕ) (same new others : List ℕ) (n : ℕ) → option_eq nat_eq sort own ≡ true → new ≡ same ++ n ∷ []
+    → (if option_eq nat_eq s own then new else others)
+    ≡ more_if (option_eq nat_eq s sort) n (if option_eq nat_eq s own then same else others)
+first_same s sort own same new others n e is = rw (sym ((sorts_decide sort own).0 e), is) (go (option_eq nat_eq s sort))
+  where
+    go : (b : Bool) → (if b then same ++ n ∷ [] else others) ≡ more_if b n (if b then same else others)
+    go true = refl
+    go false = refl
+
+-- one more of another sort
+pub first_other : (s sort own : Option ℕ) (same old new : List ℕ) (n : ℕ) → option_eq nat_eq sort own ≡ false → new ≡ more_if (option_eq nat_eq s sort) n old
+    → (if option_eq nat_eq s own then same else new)
+    ≡ more_if (option_eq nat_eq s sort) n (if option_eq nat_eq s own then same else old)
+first_other s sort own same old new n other is = go (option_eq nat_eq s own) refl (option_eq nat_eq s sort) refl is
+  where
+    go : (b : Bool) → option_eq nat_eq s own ≡ b → (e : Bool) → option_eq nat_eq s sort ≡ e → new ≡ more_if e n old → (if b then same else new) ≡ more_if e n (if b then same else old)
+    go true f true g i =
+        let both : option_eq nat_eq sort own ≡ true = (sorts_decide sort own).1 (sym ((sorts_decide s sort).0 g) ∙ (sorts_decide s own).0 f) in
+        absurd (let z = sym both ∙ other in cc)
+    go true f false g i = refl
+    go false f e g i = i

@@ -1,9 +1,10 @@
 -- How a theory lies in memory.
-use Rattle.std.specs.Prelude.{◌≡◌, ◌≤◌, ℕ, List, [], Bool, true, ◌&&◌, nat_eq, length, map, Vec}
+use Rattle.std.specs.Prelude.{◌≡◌, ◌≤◌, ℕ, List, [], ◌∷◌, ◌++◌, Bool, true, ◌&&◌, if◌then◌else◌, nat_eq, length, map, Vec, Option}
 use Rattle.std.specs.List.{AllByRecursion, list_any}
 use Rattle.std.specs.Map.{lookup}
-use Rattle.std.specs.Option.{option_map_or}
+use Rattle.std.specs.Option.{option_map_or, option_eq}
 use Rattle.std.specs.Cmp.Lexicographic.{pointwise}
+use Rattle.circ_theory.specs.declared.overloads.Overloads.{Overloads}
 use Rattle.circ_theory.specs.declared.parts.OpDecl.{OpDecl}
 use Rattle.circ_theory.specs.declared.theories.OpKey.{OpKey}
 use Rattle.circ_theory.specs.declared.theories.Listed.{Listed}
@@ -13,7 +14,7 @@ use Rattle.circ_form.specs.Form.{text_of, IsForm}
 use Rattle.circ_theory.specs.Signature.{Operator}
 use Rattle.circ_theory.specs.Theory.{Theory, declared, goal_of}
 use Rattle.circ_theory.specs.Variables.{sorts_of}
-use Rattle.circ_theory.specs.Operators.{operator_of, ops_by_word}
+use Rattle.circ_theory.specs.Operators.{operator_of, ops_by_word, ops_by_word_and_sort}
 use Rattle.circ_theory.specs.Rule.{is_rule}
 use Rattle.circ_theory.specs.Observing.{parameter_sorts_in, derivative_with, is_hidden, case_list, is_condition_sort}
 use Rattle.circ_theory.specs.WellFormed.{IsWellFormed}
@@ -42,9 +43,32 @@ pub record IsListed (l : Listed) : Type 0 where
 abbrev pub IsObserver : Observer → Type 0
 IsObserver o = o.sorts.items ≡ parameter_sorts_in o.term
 
+-- the numbers kept under a sort
+abbrev pub kept_at : {B : Type 0} → List (Option ℕ × Vec ℕ B) → Option ℕ → List ℕ
+kept_at es s = option_map_or (λ v. v.items) (lookup (option_eq nat_eq s) es) []
+
+-- the numbers of the operators of one word whose first argument has this sort
+abbrev pub kept_with : Overloads → Option ℕ → List ℕ
+kept_with o s = if option_eq nat_eq s o.sort then o.same.items else kept_at o.others.entries s
+
 -- the numbers kept under a word
-abbrev pub kept_under : {A B : Type 0} → List (Vec ℕ A × Vec ℕ B) → List ℕ → List ℕ
-kept_under es w = option_map_or (λ v. v.items) (lookup (λ k. pointwise nat_eq w k.items) es) []
+abbrev pub kept_under : {A : Type 0} → List (Vec ℕ A × Overloads) → List ℕ → List ℕ
+kept_under es w = option_map_or (λ o. o.all.items) (lookup (λ k. pointwise nat_eq w k.items) es) []
+
+-- the numbers kept under a word and a sort
+abbrev pub kept_under_both : {A : Type 0} → List (Vec ℕ A × Overloads) → List ℕ → Option ℕ → List ℕ
+kept_under_both es w s = option_map_or (λ o. kept_with o s) (lookup (λ k. pointwise nat_eq w k.items) es) []
+
+-- a number more under a word and a sort, and all others as they were
+pub record IsNoted {A : Type 0} (old new : List (Vec ℕ A × Overloads)) (word : List ℕ) (sort : Option ℕ) (number : ℕ) : Type 0 where
+  pub words : (w : List ℕ) → kept_under new w ≡ (if pointwise nat_eq w word then kept_under old w ++ number ∷ [] else kept_under old w)
+  pub both : (w : List ℕ) (s : Option ℕ)
+      → kept_under_both new w s ≡ (if pointwise nat_eq w word && option_eq nat_eq s sort then kept_under_both old w s ++ number ∷ [] else kept_under_both old w s)
+
+-- the same numbers
+pub record IsKeptSo {A : Type 0} (old new : List (Vec ℕ A × Overloads)) : Type 0 where
+  pub words : (w : List ℕ) → kept_under new w ≡ kept_under old w
+  pub both : (w : List ℕ) (s : Option ℕ) → kept_under_both new w s ≡ kept_under_both old w s
 
 abbrev pub theory_of : Parts → Theory
 theory_of a = record {
@@ -64,3 +88,4 @@ pub record IsKept (a : Parts) : Type 0 where
   pub hidden : (s : ℕ) → list_any (nat_eq s) a.hidden.keys ≡ is_hidden (theory_of a) s
   pub conditions : (s : ℕ) → is_condition_sort (theory_of a) s ≡ true → list_any (nat_eq s) a.condition_sorts.keys ≡ true
   pub by_word : (w : List ℕ) → kept_under a.by_word.entries w ≡ ops_by_word (theory_of a).signature w
+  pub by_both : (w : List ℕ) (s : Option ℕ) → kept_under_both a.by_word.entries w s ≡ ops_by_word_and_sort (theory_of a).signature w s

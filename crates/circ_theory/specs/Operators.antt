@@ -1,6 +1,7 @@
 -- Declared operators, and when two of them are the same.
-use Rattle.std.specs.Prelude.{◌≡◌, ℕ, ◌+◌, ◌≤◌, if◌then◌else◌, List, [], ◌∷◌, Bool, true, ◌==◌, ◌&&◌, ◌||◌, not, nat_eq, length, Some}
+use Rattle.std.specs.Prelude.{◌≡◌, ℕ, ◌+◌, ◌≤◌, if◌then◌else◌, List, [], ◌∷◌, Bool, true, ◌==◌, ◌&&◌, ◌||◌, not, nat_eq, length, Option, Some}
 use Rattle.std.specs.List.{slice_get, Contains}
+use Rattle.std.specs.Option.{option_eq}
 use Rattle.std.specs.Cmp.Lexicographic.{pointwise}
 use Rattle.circ_theory.specs.declared.parts.OpDecl.{OpDecl}
 use Rattle.circ_theory.specs.Limits.{argument_limit}
@@ -59,3 +60,11 @@ places_from p k (x ∷ xs) = if p x then k ∷ places_from p (k + 1) xs else pla
 -- the numbers, increasing, of the operators whose form has this as its first word
 abbrev pub ops_by_word : Signature → List ℕ → List ℕ
 ops_by_word sig w = places_from (λ o. pointwise nat_eq w (first_word o.form)) 0 sig.ops
+
+-- the sort of the first argument; a constant has none
+abbrev pub first_sort : Operator → Option ℕ
+first_sort o = slice_get o.args 0
+
+-- the numbers, increasing, of those of them whose first argument has this sort; of the constants, where no sort is given
+abbrev pub ops_by_word_and_sort : Signature → List ℕ → (first : Option ℕ) → List ℕ
+ops_by_word_and_sort sig w s = places_from (λ o. pointwise nat_eq w (first_word o.form) && option_eq nat_eq s (first_sort o)) 0 sig.ops

@@ -7,35 +7,35 @@ ghost use Rattle.circ_form.specs.Form.{hole_count};
 ghost use Rattle.circ_theory.specs.Operators.{operator_of, is_ill_sorted};
 ghost use Rattle.circ_theory.specs.Adding.{count_fault};
 ghost use Rattle.circ_theory.specs.Observing.{first_or_zero, long_fault};
-ghost use Rattle.circ_theory.specs.Inside.{kept_under};
+ghost use Rattle.circ_theory.specs.Inside.{IsNoted, IsKeptSo};
 
 use crate::fault::TheoryFault;
+use crate::overloads::Overloads;
 use crate::parts::OpDecl;
 use circ_form::Piece;
 use circ_term::Term;
 use indexmap::IndexMap;
 use std::alloc::{AllocError, Global};
 
-// Adds a number to those kept under a word.
+// Adds an operator to those kept under a word. The first argument has this sort.
 pub(crate) fn note_word(
     alloc: Global,
-    by_word: &mut IndexMap<Vec<u8>, Vec<u32>>,
+    by_word: &mut IndexMap<Vec<u8>, Overloads>,
     word: &[u8],
+    sort: Option<u32>,
     number: u32,
 ) -> Result<(), AllocError>
-    ensures noted { OnOk result ((w : List ℕ) → kept_under by_word.new.entries w ≡
-        (if pointwise nat_eq w word.now then kept_under by_word.old.entries w ++ number ∷
-        [] else kept_under by_word.old.entries w)) }
-    ensures err { OnErr result ((w : List ℕ) → kept_under by_word.new.entries w ≡
-        kept_under by_word.old.entries w) }
+    ensures noted { OnOk result (IsNoted by_word.old.entries by_word.new.entries word.now sort
+        number) }
+    ensures err { OnErr result (IsKeptSo by_word.old.entries by_word.new.entries) }
 {
-    if let Some(numbers) = by_word.get_mut(word) {
-        numbers.push(number)?;
+    if let Some(overloads) = by_word.get_mut(word) {
+        overloads.note(alloc, sort, number)?;
         return Ok(());
     }
     let copy = Vec::from_slice(alloc, word)?;
-    let numbers = vec![in alloc; number]?;
-    by_word.insert(copy, numbers)?;
+    let overloads = Overloads::one(alloc, sort, number)?;
+    by_word.insert(copy, overloads)?;
     Ok(())
 }
 

@@ -12,6 +12,7 @@ mod fresh;
 pub mod laws;
 mod observing;
 mod order;
+mod overloads;
 mod pairs;
 mod parts;
 mod renumber;

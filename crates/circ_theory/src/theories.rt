@@ -10,6 +10,7 @@ mod faults;
 mod reading;
 mod terms;
 
+use crate::overloads::Overloads;
 use crate::parts::{Equation, OpDecl};
 use circ_form::Text;
 use circ_term::Term;
@@ -48,7 +49,7 @@ struct Parts {
     vars: IndexMap<Vec<u8>, u32>,
     ops: IndexMap<OpKey, OpDecl>,
     // The numbers of the operators by the first words of their forms.
-    by_word: IndexMap<Vec<u8>, Vec<u32>>,
+    by_word: IndexMap<Vec<u8>, Overloads>,
     equations: Vec<Listed>,
     derivatives: Vec<Observer>,
     // The sorts of the derivatives' holes.

@@ -17,7 +17,7 @@ ghost use Rattle.circ_theory.specs.Adding.{Numbers, sort_fault, op_fault, equati
 ghost use Rattle.circ_theory.specs.Adding.{var_number, var_fault, with_sort, with_var, with_op};
 ghost use Rattle.circ_theory.specs.Adding.{with_equation, IsFaultOf};
 ghost use Rattle.circ_theory.specs.Rule.{is_bound};
-ghost use Rattle.circ_theory.specs.Inside.{kept_under, is_same_key};
+ghost use Rattle.circ_theory.specs.Inside.{IsNoted, IsKeptSo, is_same_key};
 ghost use Rattle.circ_theory.specs.Observing.{AreParametersInOrder, derivative_fault};
 ghost use Rattle.circ_theory.specs.Observing.{with_derivative, cases_fault, with_cases};
 
@@ -27,6 +27,7 @@ use crate::adding::{count_fault, is_rule_with, note_word};
 use crate::fault::TheoryFault;
 use crate::observing::first_repeated;
 use crate::order::{EquationVariables, equation_variables};
+use crate::overloads::{Overloads, first_sort};
 use crate::pairs::{Pair, Pairs};
 use crate::parts::{Equation, OpDecl};
 use circ_term::Term;
@@ -90,7 +91,15 @@ impl Theory {
         let key = self.new_key(&decl)?;
         let parts = &mut *self.parts;
         let word = decl.form.first_word();
-        note_op(self.alloc, &mut parts.ops, &mut parts.by_word, word, number)?;
+        let sort = first_sort(decl.args.as_slice());
+        note_op(
+            self.alloc,
+            &mut parts.ops,
+            &mut parts.by_word,
+            word,
+            sort,
+            number,
+        )?;
         put_op(&mut parts.ops, key, decl);
         Ok(number)
     }
@@ -216,24 +225,24 @@ impl Theory {
     }
 }
 
-// Makes room for an operator, and keeps its number under the first word of its form.
+// Makes room for an operator, and keeps its number under the first word of its form and the sort of
+// its first argument.
 fn note_op(
     alloc: Global,
     ops: &mut IndexMap<OpKey, OpDecl>,
-    by_word: &mut IndexMap<Vec<u8>, Vec<u32>>,
+    by_word: &mut IndexMap<Vec<u8>, Overloads>,
     word: &[u8],
+    sort: Option<u32>,
     number: u32,
 ) -> Result<(), AllocError>
     ensures ops { ops.new.entries ≡ ops.old.entries }
     ensures room { OnOk result (0 < spare ops.new) }
-    ensures noted { OnOk result ((w : List ℕ) → kept_under by_word.new.entries w ≡
-        (if pointwise nat_eq w word.now then kept_under by_word.old.entries w ++ number ∷
-        [] else kept_under by_word.old.entries w)) }
-    ensures err { OnErr result ((w : List ℕ) → kept_under by_word.new.entries w ≡
-        kept_under by_word.old.entries w) }
+    ensures noted { OnOk result (IsNoted by_word.old.entries by_word.new.entries word.now sort
+        number) }
+    ensures err { OnErr result (IsKeptSo by_word.old.entries by_word.new.entries) }
 {
     ops.reserve(1)?;
-    note_word(alloc, by_word, word, number)
+    note_word(alloc, by_word, word, sort, number)
 }
 
 fn put_op(ops: &mut IndexMap<OpKey, OpDecl>, key: OpKey, decl: OpDecl)

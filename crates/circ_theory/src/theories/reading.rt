@@ -7,7 +7,8 @@ ghost use Rattle.circ_theory.specs.Limits.{sort_limit, variable_limit, operator_
 ghost use Rattle.circ_theory.specs.Limits.{equation_limit, derivative_limit};
 ghost use Rattle.circ_theory.specs.Theory.{goal_of, declared, IsHidden, HasNoConditions};
 ghost use Rattle.circ_theory.specs.Variables.{sorts_of};
-ghost use Rattle.circ_theory.specs.Operators.{operator_of, ops_by_word, AreDifferentOperators};
+ghost use Rattle.circ_theory.specs.Operators.{operator_of, ops_by_word, ops_by_word_and_sort};
+ghost use Rattle.circ_theory.specs.Operators.{AreDifferentOperators};
 ghost use Rattle.circ_theory.specs.Adding.{sort_number, var_number, op_of_form};
 ghost use Rattle.circ_theory.specs.Names.{AreDifferent, names_of};
 ghost use Rattle.circ_theory.specs.Rule.{is_rule, is_conditional};
@@ -252,7 +253,18 @@ impl Theory {
         ensures { result.now ≡ ops_by_word self.now.signature word.now }
     {
         match self.parts.by_word.get(word) {
-            Some(numbers) => numbers.as_slice(),
+            Some(overloads) => overloads.all(),
+            None => &[],
+        }
+    }
+
+    /// The numbers, increasing, of those of them whose first argument has this sort; with `None` of
+    /// the constants. Costs two look-ups.
+    pub fn ops_by_word_and_sort(&self, word: &[u8], first: Option<u32>) -> &[u32]
+        ensures { result.now ≡ ops_by_word_and_sort self.now.signature word.now first }
+    {
+        match self.parts.by_word.get(word) {
+            Some(overloads) => overloads.of_sort(first),
             None => &[],
         }
     }

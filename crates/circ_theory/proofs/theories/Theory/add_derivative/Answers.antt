@@ -41,6 +41,7 @@ invariant_of-self-2 c =
           ∙ ap (list_any (λ d. s == d.hole)) (sym more);
       conditions = kept.conditions;
       by_word = kept.by_word;
+      by_both = kept.by_both;
     }
 
 pub returns-clause-added : goal.returns-clause-added

@@ -38,4 +38,5 @@ invariant_of-self-2 c =
       conditions = λ s h. conditions_more th.equations e p.condition_sorts.keys c.note_sorts.new.kept.keys s (kept.conditions s) (c.in_ok-note_sorts.ensures.more s)
           (λ k. c.in_ok-note_sorts.ensures.noted s (rw (sym c.as_slice.ensures) at k)) (subst (λ es. list_any (λ d. has_condition_of s d.conds) es ≡ true) more h);
       by_word = kept.by_word;
+      by_both = kept.by_both;
     }

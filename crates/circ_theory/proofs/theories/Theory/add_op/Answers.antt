@@ -1,5 +1,6 @@
-use Rattle.std.proofs.Common.{◌≡◌, List, ◌∷◌, ◌++◌, [], nat_eq, map, None, ap, sym, subst, ◌∙◌}
+use Rattle.std.proofs.Common.{◌≡◌, ◌&&◌, List, ◌∷◌, ◌++◌, [], nat_eq, map, None, ap, sym, subst, ◌∙◌}
 use Rattle.std.specs.List.{AllByRecursion, position}
+use Rattle.std.specs.Option.{option_eq}
 use Rattle.std.specs.Cmp.Lexicographic.{pointwise}
 use Rattle.indexmap.specs.IndexMap.{insert_entry}
 use Rattle.circ_theory.specs.declared.parts.OpDecl.{OpDecl}
@@ -7,13 +8,13 @@ use Rattle.circ_theory.specs.declared.theories.OpKey.{OpKey}
 use Rattle.circ_form.specs.Form.{first_word}
 use Rattle.circ_theory.specs.Signature.{Operator}
 use Rattle.circ_theory.specs.Theory.{Theory}
-use Rattle.circ_theory.specs.Operators.{operator_of, is_same_operator, places_from}
+use Rattle.circ_theory.specs.Operators.{operator_of, is_same_operator, places_from, first_sort}
 use Rattle.circ_theory.specs.WellFormed.{IsWellFormed}
 use Rattle.circ_theory.specs.Inside.{theory_of, IsKeyOf, IsEntry, IsKept, is_same_key}
 use Rattle.circ_theory.proofs.Lists.{entry_last, map-push, all_push}
 use Rattle.circ_theory.proofs.Keys.{key_position}
 use Rattle.circ_theory.proofs.Growing.{op_grows}
-use Rattle.circ_theory.proofs.Noting.{word_more}
+use Rattle.circ_theory.proofs.Noting.{word_more, both_more}
 use Rattle.circ_theory.proofs.Faults.{IsNew, new_operator}
 use Rattle.circ_theory.proofs.theories.Theory.add_op.Goals as goal
 
@@ -47,9 +48,13 @@ invariant_of-self-2 c =
       observers = kept.observers;
       hidden = kept.hidden;
       conditions = kept.conditions;
-      by_word = λ w. c.in_ok-note_op.ensures.noted w
+      by_word = λ w. c.in_ok-note_op.ensures.noted.words w
           ∙ word_more th.signature (operator_of d) w c.first_word-word.result.now _ c.op_count-number.result c.first_word-word.ensures (kept.by_word w) number
           ∙ ap (places_from (λ o. pointwise nat_eq w (first_word o.form)) 0) (sym ops);
+      by_both = λ w s. c.in_ok-note_op.ensures.noted.both w s
+          ∙ both_more th.signature (operator_of d) w c.first_word-word.result.now _ s c.first_sort-sort.result c.op_count-number.result c.first_word-word.ensures
+          (rw c.as_slice.ensures.value at c.first_sort-sort.ensures) (kept.by_both w s) number
+          ∙ ap (places_from (λ o. pointwise nat_eq w (first_word o.form) && option_eq nat_eq s (first_sort o)) 0) (sym ops);
     }
 
 pub returns-clause-added : goal.returns-clause-added

@@ -35,6 +35,7 @@ invariant_of-self-2 c =
       hidden = (is_kept c).hidden;
       conditions = (is_kept c).conditions;
       by_word = (is_kept c).by_word;
+      by_both = (is_kept c).by_both;
     }
 
 pub returns-clause-added : goal.returns-clause-added

@@ -22,4 +22,5 @@ invariant_of-self c =
       hidden = kept.hidden;
       conditions = kept.conditions;
       by_word = kept.by_word;
+      by_both = kept.by_both;
     }
