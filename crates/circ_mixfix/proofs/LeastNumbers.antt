@@ -1,5 +1,5 @@
 -- Numbers of sorts: operators more, sorts more, and what the numbers say of symbols.
-use Rattle.std.proofs.Common.{◌≡◌, ◌⊎◌, ◌≤◌, ◌<◌, ◌+◌, ◌-◌, ◌++◌, ℕ, suc, zero, List, [], ◌∷◌, length, drop, get_or, Bool, true, false, ◌&&◌, nat_eq, if◌then◌else◌, Option, Some, None, inl, inr, sym, ◌∙◌, ap, subst, refl, arith}
+use Rattle.std.proofs.Common.{◌≡◌, ◌⊎◌, ◌≤◌, ◌<◌, ◌+◌, ◌++◌, ℕ, suc, List, [], ◌∷◌, length, drop, get_or, Bool, true, false, ◌&&◌, nat_eq, Option, Some, None, inl, inr, sym, ◌∙◌, ap, subst, refl, arith}
 use Rattle.std.specs.List.{slice_get, list_any, Contains}
 use Rattle.std.specs.Option.{option_eq}
 use Rattle.std.specs.Cmp.Lexicographic.{pointwise, bytes_decides}
@@ -14,13 +14,13 @@ use Rattle.circ_form.specs.declared.forms.Piece.TheVariants as piece
 use Rattle.circ_form.specs.Form.{first_word, is_hole_piece, hole_count}
 use Rattle.circ_theory.specs.declared.parts.Side.{Side}
 use Rattle.circ_theory.specs.Signature.{Signature, Operator}
-use Rattle.circ_theory.specs.Operators.{IsOperator, form_fits, places_from, ops_by_word, first_sort, ops_by_word_and_sort}
+use Rattle.circ_theory.specs.Operators.{IsOperator, form_fits, ops_by_word, first_sort, ops_by_word_and_sort}
 use Rattle.circ_theory.proofs.Lists.{slice_get-front}
 use Rattle.circ_theory.proofs.Noting.{sorts_decide}
 use Rattle.circ_theory.proofs.Rewriting.{contains_at}
 use Rattle.circ_mixfix.specs.Symbols.{Symbol, Word, Hole, inner_symbols, form_symbols, more_arguments, arguments, symbols_of}
 use Rattle.circ_mixfix.specs.Reached.{Reached}
-use Rattle.circ_mixfix.specs.Least.{StandsIn, least_of, least_for, own_words, IsLeastBy, IsBegun, AreLeast, AreCandidates, IsReached, AddsReached, AreReached, AreListed, AreSettled}
+use Rattle.circ_mixfix.specs.Least.{StandsIn, least_of, least_for, own_words, AreLeast, AreCandidates, IsReached, AddsReached, AreReached, AreListed, AreSettled}
 use Rattle.circ_mixfix.proofs.SymbolWords.{fits, some_hole, one_more, no_holes}
 use Rattle.circ_mixfix.proofs.RuleLists.{place_there}
 

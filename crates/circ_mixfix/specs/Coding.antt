@@ -13,7 +13,7 @@ use Rattle.circ_mixfix.specs.Named.{Named, NamedList, Variable, Applied, no_term
 use Rattle.circ_mixfix.specs.Symbols.{Symbol, Word, Hole, every, symbols_of, precedence_of}
 use Rattle.circ_mixfix.specs.Spells.{IsVariable}
 use Rattle.circ_theory.specs.Names.{AreDifferent}
-use Rattle.circ_mixfix.specs.Least.{StandsIn, least_of, least_for}
+use Rattle.circ_mixfix.specs.Least.{least_of, least_for}
 use Rattle.circ_mixfix.specs.WordLists.{BeginAlike}
 use Rattle.circ_mixfix.specs.declared.numbered.Numbered.{Numbered}
 
