@@ -32,11 +32,11 @@ below_rest g [] i within h = absurd (omega arith)
 below_rest g (x ∷ xs) zero within h = h.1
 below_rest g (x ∷ xs) (suc i) within h = let e : suc i + 1 ≡ suc (i + 1) = omega arith in rw e (below_rest g xs i (omega arith) h)
 
-pub next_rules : (sig : Signature) (ws : List (List ℕ)) (marks : List Bool) (fs : List ℕ) (i d : ℕ) (first old mid : List Rule) → i < length fs → AddsRule sig ws marks (get_or fs i d) old mid
-    → ((new : List Rule) → AddsRules sig ws marks (drop i fs) old new → AddsRules sig ws marks fs first new)
-    → (new : List Rule) → AddsRules sig ws marks (drop (i + 1) fs) mid new → AddsRules sig ws marks fs first new
-next_rules sig ws marks fs i d first old mid within one all new rest =
-    let P : List ℕ → Type 0 = λ gs. AddsRules sig ws marks gs old new in all new (subst P (sym (drop_more fs i d within)) (mid, one, rest))
+pub next_rules : (sig : Signature) (ws : List (List ℕ)) (most : ℕ) (least fs : List ℕ) (i d : ℕ) (first old mid : List Rule) → i < length fs → AddsRule sig ws most least (get_or fs i d) old mid
+    → ((new : List Rule) → AddsRules sig ws most least (drop i fs) old new → AddsRules sig ws most least fs first new)
+    → (new : List Rule) → AddsRules sig ws most least (drop (i + 1) fs) mid new → AddsRules sig ws most least fs first new
+next_rules sig ws most least fs i d first old mid within one all new rest =
+    let P : List ℕ → Type 0 = λ gs. AddsRules sig ws most least gs old new in all new (subst P (sym (drop_more fs i d within)) (mid, one, rest))
 
 named_split : (v : List ℕ × ℕ) (vs : List (List ℕ × ℕ)) (k : ℕ) (w : List ℕ)
     → variables_named (declared_by (v ∷ vs)) k w ≡ variables_named (declared_by (v ∷ [])) k w ++ variables_named (declared_by vs) k w

@@ -1,5 +1,5 @@
 -- What the chart finds is enough of the readings.
-use Rattle.std.proofs.Common.{◌≡◌, ℕ, List, [], ◌∷◌, map, Bool, false, sym, ◌∙◌, ap, subst, refl}
+use Rattle.std.proofs.Common.{◌≡◌, ◌≤◌, ℕ, length, List, [], ◌∷◌, map, Bool, false, sym, ◌∙◌, ap, subst, refl}
 use Rattle.circ_term.specs.Tree.{Tree, sort_of}
 use Rattle.circ_spelling.specs.declared.grammar.Grammar.{Grammar}
 use Rattle.circ_chart.specs.declared.TheConstants.{EVERY}
@@ -25,7 +25,7 @@ use Rattle.circ_mixfix.proofs.Images.{enough_image}
 use Rattle.circ_mixfix.proofs.NumberNames.{one_named}
 use Rattle.circ_mixfix.proofs.ReadingSets.{each_sort_named, reads_one}
 
-module _ (sig : Signature) (vars : List Declared) (hole : Bool) (ws : List (List ℕ)) (k : ℕ) (g : Grammar) (h : IsGrammarOf sig vars hole ws k g) (begin : BeginAlike ws) where
+module _ (sig : Signature) (vars : List Declared) (hole : Bool) (ws : List (List ℕ)) (k most : ℕ) (g : Grammar) (h : IsGrammarOf sig vars hole ws k most g) (begin : BeginAlike ws) where
   abbrev Each : List ℕ → List Tree → Type 0
   Each ns us = (s : ℕ) → Enough (OfSort us s) (generating.Generates g EVERY s ns)
 
@@ -33,11 +33,11 @@ module _ (sig : Signature) (vars : List Declared) (hole : Bool) (ws : List (List
   NamedOf us s = Image (named_by ws) (OfSort us s)
 
   known : (ns : List ℕ) (us : List Tree) → Each ns us → (t : Tree) → Among us t → AreKnown ws t
-  known ns us each t m = chart_known sig vars hole ws k g h EVERY (sort_of t) ns t ((each (sort_of t)).sound t (m, refl))
+  known ns us each t m = chart_known sig vars hole ws k most g h EVERY (sort_of t) ns t ((each (sort_of t)).sound t (m, refl))
 
-  pub one_kept : (ns : List ℕ) (tokens : List (List ℕ)) (us : List Tree) (found : Few) → AllBelow k ns → texts_at ws ns ≡ tokens → Each ns us → KeepsReadings found (OneRead hole us)
+  pub one_kept : (ns : List ℕ) (tokens : List (List ℕ)) (us : List Tree) (found : Few) → AllBelow k ns → length ns ≤ most → texts_at ws ns ≡ tokens → Each ns us → KeepsReadings found (OneRead hole us)
       → KeepsReadings found (ReadsOnly sig vars hole tokens)
-  one_kept ns tokens us found below e each kept =
+  one_kept ns tokens us found below few e each kept =
       let P : List (List ℕ) → Type 0 = λ x. KeepsReadings found (ReadsOnly sig vars hole x) in
       subst P e (record {
         enough = enough_chain (In found) (OneRead hole us) (ReadsOnly sig vars hole (texts_at ws ns)) kept.enough
@@ -45,7 +45,7 @@ module _ (sig : Signature) (vars : List Declared) (hole : Bool) (ws : List (List
             (enough_all (OneRead hole us) (Image list_of_one (Image (reading_of hole) (Some_of (NamedOf us)))) there back)
             (enough_chain (Image list_of_one (Image (reading_of hole) (Some_of (NamedOf us)))) (Image list_of_one (ReadsOne sig vars hole (texts_at ws ns))) (ReadsOnly sig vars hole (texts_at ws ns))
             (enough_image list_of_one (Image (reading_of hole) (Some_of (NamedOf us))) (ReadsOne sig vars hole (texts_at ws ns)) (λ x y a b q. cc q)
-            (reads_one sig vars hole (texts_at ws ns) (NamedOf us) (each_sort_named sig vars hole ws k g ns us h below each)))
+            (reads_one sig vars hole (texts_at ws ns) (NamedOf us) (each_sort_named sig vars hole ws k most g ns us h below few each)))
             (enough_all (Image list_of_one (ReadsOne sig vars hole (texts_at ws ns))) (ReadsOnly sig vars hole (texts_at ws ns)) (λ ts i. (i.from, i.is, i.has))
             (λ ts r. record { from = r.0; has = r.2; is = r.1 }))));
         ordered = kept.ordered;
@@ -74,7 +74,7 @@ module _ (sig : Signature) (vars : List Declared) (hole : Bool) (ws : List (List
             is = i.is ∙ ap list_of_one (i.has.is ∙ ap (reading_of hole) q.is ∙ sym (one_named ws h.different begin hole q.from (known ns us each q.from q.has.0)));
           }
 
-module _ (sig : Signature) (vars : List Declared) (ws : List (List ℕ)) (k : ℕ) (g : Grammar) (h : IsGrammarOf sig vars false ws k g) where
+module _ (sig : Signature) (vars : List Declared) (ws : List (List ℕ)) (k most : ℕ) (g : Grammar) (h : IsGrammarOf sig vars false ws k most g) where
   abbrev All : List ℕ → List Tree → Type 0
   All ns us = (s : ℕ) → Enough (OfSort us s) (generating.Generates g EVERY s ns)
 
@@ -87,11 +87,11 @@ module _ (sig : Signature) (vars : List Declared) (ws : List (List ℕ)) (k : �
   -- different terms of the chart have different names
   same_term : (ns : List ℕ) (us : List Tree) → All ns us → (t u : Tree) → Among us t → Among us u → named_by ws t ≡ named_by ws u → t ≡ u
   same_term ns us each t u a b e =
-      spelled_apart sig vars false ws k g h EVERY (sort_of t) EVERY (sort_of u) ns t u ((each (sort_of t)).sound t (a, refl)) ((each (sort_of u)).sound u (b, refl)) e
+      spelled_apart sig vars false ws k most g h EVERY (sort_of t) EVERY (sort_of u) ns t u ((each (sort_of t)).sound t (a, refl)) ((each (sort_of u)).sound u (b, refl)) e
 
-  pub both_kept : (ms ns : List ℕ) (left right : List (List ℕ)) (us vs : List Tree) (found : Few) → AllBelow k ms → AllBelow k ns → texts_at ws ms ≡ left → texts_at ws ns ≡ right → All ms us → All ns vs
+  pub both_kept : (ms ns : List ℕ) (left right : List (List ℕ)) (us vs : List Tree) (found : Few) → AllBelow k ms → AllBelow k ns → length ms ≤ most → length ns ≤ most → texts_at ws ms ≡ left → texts_at ws ns ≡ right → All ms us → All ns vs
       → KeepsReadings found (BothRead us vs) → KeepsSpelled sig vars left right ws found
-  both_kept ms ns left right us vs found bm bn el er am an kept =
+  both_kept ms ns left right us vs found bm bn fm fn el er am an kept =
       let P : List (List ℕ) → Type 0 = λ x. KeepsSpelled sig vars x right ws found in
       let Q : List (List ℕ) → Type 0 = λ x. KeepsSpelled sig vars (texts_at ws ms) x ws found in
       subst P el (subst Q er (record {
@@ -100,7 +100,7 @@ module _ (sig : Signature) (vars : List Declared) (ws : List (List ℕ)) (k : �
             (enough_chain Pairs Spelled Wanted
             (enough_some (λ s. Joined two (Names us s) (Names vs s)) (λ s. Joined two (SpellLeft s) (SpellRight s))
             (λ s. enough_joined two (Names us s) (SpellLeft s) (Names vs s) (SpellRight s) (λ a b c d e. cc e) (λ a b c d e. cc e)
-            (each_sort_named sig vars false ws k g ms us h bm am s) (each_sort_named sig vars false ws k g ns vs h bn an s)))
+            (each_sort_named sig vars false ws k most g ms us h bm fm am s) (each_sort_named sig vars false ws k most g ns vs h bn fn an s)))
             (enough_all Spelled Wanted out into)));
         apart = λ ts xs a b e. same ts xs (kept.enough.sound ts a) (kept.enough.sound xs b) e;
         ordered = kept.ordered;

@@ -5,7 +5,7 @@ pub mod ReadingSets
 pub mod WordLists
 pub mod Below
 pub mod RuleLists
-mod MarkedSorts
+mod LeastNumbers
 pub mod Written
 pub mod TokenNumbers
 pub mod SymbolWords

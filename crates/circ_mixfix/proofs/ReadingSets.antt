@@ -1,5 +1,5 @@
 -- What the chart keeps of the terms of a token list is enough of its readings.
-use Rattle.std.proofs.Common.{ℕ, List, [], Bool, sym, subst, refl, arith}
+use Rattle.std.proofs.Common.{◌≤◌, ℕ, length, List, [], Bool, sym, subst, refl, arith}
 use Rattle.circ_term.specs.Tree.{Tree}
 use Rattle.circ_spelling.specs.declared.grammar.Grammar.{Grammar}
 use Rattle.circ_chart.specs.declared.TheConstants.{EVERY}
@@ -20,18 +20,19 @@ use Rattle.circ_mixfix.specs.Found.{Image}
 use Rattle.circ_mixfix.proofs.Images.{enough_image}
 
 -- of the named terms of one sort
-pub each_sort_named : (sig : Signature) (vars : List Declared) (hole : Bool) (ws : List (List ℕ)) (k : ℕ) (g : Grammar) (ns : List ℕ) (us : List Tree) → IsGrammarOf sig vars hole ws k g → AllBelow k ns
+pub each_sort_named : (sig : Signature) (vars : List Declared) (hole : Bool) (ws : List (List ℕ)) (k most : ℕ) (g : Grammar) (ns : List ℕ) (us : List Tree) → IsGrammarOf sig vars hole ws k most g → AllBelow k ns
+    → length ns ≤ most
     → ((s : ℕ) → Enough (OfSort us s) (generating.Generates g EVERY s ns)) → (s : ℕ) → Enough (Image (named_by ws) (OfSort us s)) (Spells sig vars hole every s (texts_at ws ns))
-each_sort_named sig vars hole ws k g ns us h l each s =
+each_sort_named sig vars hole ws k most g ns us h l few each s =
     enough_chain (Image (named_by ws) (OfSort us s)) (Image (named_by ws) (generating.Generates g EVERY s ns)) (Spells sig vars hole every s (texts_at ws ns))
-    (enough_image (named_by ws) (OfSort us s) (generating.Generates g EVERY s ns) (λ t u a b e. spelled_apart sig vars hole ws k g h EVERY s EVERY s ns t u a b e) (each s))
+    (enough_image (named_by ws) (OfSort us s) (generating.Generates g EVERY s ns) (λ t u a b e. spelled_apart sig vars hole ws k most g h EVERY s EVERY s ns t u a b e) (each s))
     (enough_all (Image (named_by ws) (generating.Generates g EVERY s ns)) (Spells sig vars hole every s (texts_at ws ns)) out back)
   where
     out : (q : Named) → Image (named_by ws) (generating.Generates g EVERY s ns) q → Spells sig vars hole every s (texts_at ws ns) q
-    out q i = let P : Named → Type 0 = Spells sig vars hole every s (texts_at ws ns) in subst P (sym i.is) (from_chart sig vars hole ws k g h EVERY s ns i.from i.has)
+    out q i = let P : Named → Type 0 = Spells sig vars hole every s (texts_at ws ns) in subst P (sym i.is) (from_chart sig vars hole ws k most g h EVERY s ns i.from i.has)
 
     back : (q : Named) → Spells sig vars hole every s (texts_at ws ns) q → Image (named_by ws) (generating.Generates g EVERY s ns) q
-    back q d = let f = to_chart sig vars hole ws k g h every s (texts_at ws ns) q ns d refl l (omega arith) in record { from = f.term; has = f.spells; is = sym f.is }
+    back q d = let f = to_chart sig vars hole ws k most g h every s (texts_at ws ns) q ns d refl l few (omega arith) in record { from = f.term; has = f.spells; is = sym f.is }
 
 -- a named term that the tokens spell, of any sort
 abbrev AnySort : Signature → List Declared → Bool → List (List ℕ) → Named → Type 0

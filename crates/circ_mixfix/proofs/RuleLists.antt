@@ -1,8 +1,7 @@
 -- The rules of the operators, some operators more.
-use Rattle.std.proofs.Common.{◌≡◌, ◌⊎◌, ◌<◌, ◌+◌, ◌++◌, ℕ, zero, suc, List, [], ◌∷◌, length, Bool, true, false, nat_eq, Some, inl, inr, sym, ◌∙◌, ap, subst, refl, arith}
+use Rattle.std.proofs.Common.{◌≡◌, ◌⊎◌, ◌≤◌, ◌<◌, ◌+◌, ◌++◌, ℕ, zero, suc, List, [], ◌∷◌, length, Bool, true, false, Some, inl, inr, sym, ◌∙◌, ap, subst, refl, arith}
 use Rattle.std.specs.Prelude.{if◌then◌else◌}
 use Rattle.std.specs.List.{slice_get, list_any}
-use Rattle.std.specs.Cmp.Lexicographic.{pointwise, bytes_decides}
 use Rattle.std.proofs.lemmas.Bool.{cases_eq}
 use Rattle.std.proofs.lemmas.List.{length-append}
 use Rattle.std.proofs.lemmas.Option.{slice_get_within}
@@ -13,36 +12,36 @@ use Rattle.circ_theory.specs.declared.parts.Side.{Side}
 use Rattle.circ_form.specs.Form.{is_word, first_word}
 use Rattle.circ_theory.specs.Signature.{Signature, Operator}
 use Rattle.circ_form.specs.Form.{is_hole_piece, hole_count}
-use Rattle.circ_theory.specs.Operators.{IsOperator, places_from, ops_by_word}
+use Rattle.circ_theory.specs.Operators.{IsOperator, places_from}
 use Rattle.circ_mixfix.specs.Symbols.{Symbol, every, inner_symbols, form_symbols, arguments, symbols_of, precedence_of}
-use Rattle.circ_mixfix.specs.Coding.{HaveNumbers, IsRuleOf, HasRules, AddsRule, AddsRules, BeginsBefore}
-use Rattle.circ_mixfix.specs.Marking.{AllMarked}
+use Rattle.circ_mixfix.specs.Coding.{HaveNumbers, IsRuleOf, HasRules, AddsRule, AddsRules}
+use Rattle.circ_mixfix.specs.Least.{StandsIn, least_for}
 use Rattle.circ_mixfix.proofs.SymbolWords.{form_word, no_holes, some_hole, fits, one_more}
 use Rattle.circ_mixfix.proofs.WordLists.{get_last, get_front}
 
 abbrev Has : Signature → List (List ℕ) → List Rule → ℕ → Operator → Type 0
 Has sig ws rs f o = (n : ℕ) × (r : Rule) × (slice_get rs n ≡ Some r) × IsRuleOf ws f o r
 
-pub no_rules : (sig : Signature) (ws : List (List ℕ)) (marks : List Bool) (rs : List Rule) → rs ≡ [] → HasRules sig ws marks (BeginsBefore sig ws 0) rs
-no_rules sig ws marks rs e = record {
+pub no_rules : (sig : Signature) (ws : List (List ℕ)) (most : ℕ) (least : List ℕ) (rs : List Rule) → rs ≡ [] → HasRules sig ws most least (λ f. ⊥) rs
+no_rules sig ws most least rs e = record {
   rules = λ n r l. absurd (let w = slice_get_within rs n r l in let len = ap length e in omega arith);
-  all_rules = λ f o c l p h m. absurd (let z = c.3 in omega arith);
+  all_rules = λ f o c l p h m. absurd c;
 }
 
-pub rules_kept : (sig : Signature) (ws : List (List ℕ)) (marks : List Bool) (C D : ℕ → Type 0) (rs : List Rule) → ((f : ℕ) → D f → C f) → HasRules sig ws marks C rs → HasRules sig ws marks D rs
-rules_kept sig ws marks C D rs le h = record { rules = h.rules; all_rules = λ f o c l p k m. h.all_rules f o (le f c) l p k m }
+pub rules_kept : (sig : Signature) (ws : List (List ℕ)) (most : ℕ) (least : List ℕ) (C D : ℕ → Type 0) (rs : List Rule) → ((f : ℕ) → D f → C f) → HasRules sig ws most least C rs → HasRules sig ws most least D rs
+rules_kept sig ws most least C D rs le h = record { rules = h.rules; all_rules = λ f o c l p k m. h.all_rules f o (le f c) l p k m }
 
 -- one operator more
-rules_more : (sig : Signature) (ws : List (List ℕ)) (marks : List Bool) (C : ℕ → Type 0) (g : ℕ) (rs new : List Rule) → AddsRule sig ws marks g rs new → HasRules sig ws marks C rs → HasRules sig ws marks (λ f. C f ⊎ (f ≡ g)) new
-rules_more sig ws marks C g rs new (inl a) h =
-    let P : List Rule → Type 0 = HasRules sig ws marks (λ f. C f ⊎ (f ≡ g)) in
+rules_more : (sig : Signature) (ws : List (List ℕ)) (most : ℕ) (least : List ℕ) (C : ℕ → Type 0) (g : ℕ) (rs new : List Rule) → AddsRule sig ws most least g rs new → HasRules sig ws most least C rs → HasRules sig ws most least (λ f. C f ⊎ (f ≡ g)) new
+rules_more sig ws most least C g rs new (inl a) h =
+    let P : List Rule → Type 0 = HasRules sig ws most least (λ f. C f ⊎ (f ≡ g)) in
     subst P (sym a.0) (record { rules = h.rules; all_rules = all })
   where
-    all : (f : ℕ) (o : Operator) → (C f ⊎ (f ≡ g)) → slice_get sig.ops f ≡ Some o → precedence_of o < every → HaveNumbers ws (symbols_of o) → AllMarked marks o.args → Has sig ws rs f o
+    all : (f : ℕ) (o : Operator) → (C f ⊎ (f ≡ g)) → slice_get sig.ops f ≡ Some o → precedence_of o < every → HaveNumbers ws (symbols_of o) → least_for least (symbols_of o) ≤ most → Has sig ws rs f o
     all f o (inl c) l p k m = h.all_rules f o c l p k m
     all f o (inr e) l p k m = absurd (a.1 o (ap (slice_get sig.ops) (sym e) ∙ l) p k m)
-rules_more sig ws marks C g rs new (inr a) h =
-    let P : List Rule → Type 0 = HasRules sig ws marks (λ f. C f ⊎ (f ≡ g)) in
+rules_more sig ws most least C g rs new (inr a) h =
+    let P : List Rule → Type 0 = HasRules sig ws most least (λ f. C f ⊎ (f ≡ g)) in
     subst P (sym a.4) (record { rules = λ n x l. sound n x l (cases_eq n (length rs)); all_rules = all })
   where
     sound : (n : ℕ) (x : Rule) → slice_get (rs ++ a.1 ∷ []) n ≡ Some x → ((n ≡ length rs) ⊎ (n ≡ length rs → ⊥)) → (f : ℕ) × (o : Operator) × (slice_get sig.ops f ≡ Some o) × IsRuleOf ws f o x
@@ -52,7 +51,7 @@ rules_more sig ws marks C g rs new (inr a) h =
         (g, a.0, a.2, subst Q (cc z) a.3)
     sound n x l (inr w) = let i = slice_get_within (rs ++ a.1 ∷ []) n x l in let len = length-append rs (a.1 ∷ []) in h.rules n x (sym (get_front rs a.1 n (omega arith)) ∙ l)
 
-    all : (f : ℕ) (o : Operator) → (C f ⊎ (f ≡ g)) → slice_get sig.ops f ≡ Some o → precedence_of o < every → HaveNumbers ws (symbols_of o) → AllMarked marks o.args → Has sig ws (rs ++ a.1 ∷ []) f o
+    all : (f : ℕ) (o : Operator) → (C f ⊎ (f ≡ g)) → slice_get sig.ops f ≡ Some o → precedence_of o < every → HaveNumbers ws (symbols_of o) → least_for least (symbols_of o) ≤ most → Has sig ws (rs ++ a.1 ∷ []) f o
     all f o (inl c) l p k m = let r = h.all_rules f o c l p k m in (r.0, r.1, get_front rs a.1 r.0 (slice_get_within rs r.0 r.1 r.2) ∙ r.2, r.3)
     all f o (inr e) l p k m =
         let z : Some a.0 ≡ Some o = sym a.2 ∙ ap (slice_get sig.ops) (sym e) ∙ l in
@@ -61,18 +60,18 @@ rules_more sig ws marks C g rs new (inr a) h =
         (length rs, a.1, get_last rs a.1, subst Q (cc z) (subst R (sym e) a.3))
 
 -- several operators more
-rules_all : (sig : Signature) (ws : List (List ℕ)) (marks : List Bool) (C : ℕ → Type 0) (fs : List ℕ) (rs new : List Rule) → AddsRules sig ws marks fs rs new → HasRules sig ws marks C rs
-    → HasRules sig ws marks (λ f. C f ⊎ ((k : ℕ) × (slice_get fs k ≡ Some f))) new
-rules_all sig ws marks C [] rs new a h =
-    let P : List Rule → Type 0 = HasRules sig ws marks (λ f. C f ⊎ ((k : ℕ) × (slice_get [] k ≡ Some f))) in
-    subst P (sym a) (rules_kept sig ws marks C (λ f. C f ⊎ ((k : ℕ) × (slice_get [] k ≡ Some f))) rs same h)
+rules_all : (sig : Signature) (ws : List (List ℕ)) (most : ℕ) (least : List ℕ) (C : ℕ → Type 0) (fs : List ℕ) (rs new : List Rule) → AddsRules sig ws most least fs rs new → HasRules sig ws most least C rs
+    → HasRules sig ws most least (λ f. C f ⊎ ((k : ℕ) × (slice_get fs k ≡ Some f))) new
+rules_all sig ws most least C [] rs new a h =
+    let P : List Rule → Type 0 = HasRules sig ws most least (λ f. C f ⊎ ((k : ℕ) × (slice_get [] k ≡ Some f))) in
+    subst P (sym a) (rules_kept sig ws most least C (λ f. C f ⊎ ((k : ℕ) × (slice_get [] k ≡ Some f))) rs same h)
   where
     same : (f : ℕ) → (C f ⊎ ((k : ℕ) × (slice_get [] k ≡ Some f))) → C f
     same f (inl c) = c
     same f (inr k) = absurd (let z = k.1 in cc z)
-rules_all sig ws marks C (g ∷ fs) rs new a h =
-    rules_kept sig ws marks (λ f. (C f ⊎ (f ≡ g)) ⊎ ((k : ℕ) × (slice_get fs k ≡ Some f))) (λ f. C f ⊎ ((k : ℕ) × (slice_get (g ∷ fs) k ≡ Some f))) new there
-    (rules_all sig ws marks (λ f. C f ⊎ (f ≡ g)) fs a.0 new a.2 (rules_more sig ws marks C g rs a.0 a.1 h))
+rules_all sig ws most least C (g ∷ fs) rs new a h =
+    rules_kept sig ws most least (λ f. (C f ⊎ (f ≡ g)) ⊎ ((k : ℕ) × (slice_get fs k ≡ Some f))) (λ f. C f ⊎ ((k : ℕ) × (slice_get (g ∷ fs) k ≡ Some f))) new there
+    (rules_all sig ws most least (λ f. C f ⊎ (f ≡ g)) fs a.0 new a.2 (rules_more sig ws most least C g rs a.0 a.1 h))
   where
     later : (f k : ℕ) → slice_get (g ∷ fs) k ≡ Some f → (C f ⊎ (f ≡ g)) ⊎ ((j : ℕ) × (slice_get fs j ≡ Some f))
     later f zero e = inl (inr (let z : g ≡ f = cc e in sym z))
@@ -100,21 +99,11 @@ place_there p b (y ∷ xs) (suc g) x e t = go (place_there p (b + 1) xs g x e t)
     go r true = (suc r.0, r.1 ∙ ap (λ n. Some n) z)
     go r false = (r.0, r.1 ∙ ap (λ n. Some n) z)
 
--- the operators with one first word more
-pub rules_step : (sig : Signature) (ws : List (List ℕ)) (marks : List Bool) (m : ℕ) (w : List ℕ) (rs new : List Rule) → slice_get ws m ≡ Some w → AddsRules sig ws marks (ops_by_word sig w) rs new
-    → HasRules sig ws marks (BeginsBefore sig ws m) rs → HasRules sig ws marks (BeginsBefore sig ws (m + 1)) new
-rules_step sig ws marks m w rs new at a h =
-    rules_kept sig ws marks (λ f. BeginsBefore sig ws m f ⊎ ((k : ℕ) × (slice_get (ops_by_word sig w) k ≡ Some f))) (BeginsBefore sig ws (m + 1)) new (λ f c. go f c (cases_eq c.1 m))
-    (rules_all sig ws marks (BeginsBefore sig ws m) (ops_by_word sig w) rs new a h)
-  where
-    go : (f : ℕ) (c : BeginsBefore sig ws (m + 1) f) → ((c.1 ≡ m) ⊎ (c.1 ≡ m → ⊥)) → BeginsBefore sig ws m f ⊎ ((k : ℕ) × (slice_get (ops_by_word sig w) k ≡ Some f))
-    go f c (inl e) =
-        let z : Some w ≡ Some (first_word c.0.form) = sym at ∙ ap (slice_get ws) (sym e) ∙ c.4 in
-        let q : w ≡ first_word c.0.form = cc z in
-        let zero_more : 0 + f ≡ f = omega arith in
-        let r = place_there (λ o. pointwise nat_eq w (first_word o.form)) 0 sig.ops f c.0 c.2 ((bytes_decides w (first_word c.0.form)).1 q) in
-        inr (r.0, r.1 ∙ ap (λ n. Some n) zero_more)
-    go f c (inr e) = let l = c.3 in inl (c.0, c.1, c.2, omega arith, c.4)
+-- the rules of the listed operators
+pub rules_listed : (sig : Signature) (ws : List (List ℕ)) (most : ℕ) (least fs : List ℕ) (rs new : List Rule) → rs ≡ [] → AddsRules sig ws most least fs rs new
+    → HasRules sig ws most least (StandsIn fs) new
+rules_listed sig ws most least fs rs new none a =
+    rules_kept sig ws most least (λ f. ⊥ ⊎ StandsIn fs f) (StandsIn fs) new (λ f h. inr h) (rules_all sig ws most least (λ f. ⊥) fs rs new a (no_rules sig ws most least rs none))
 
 -- an operator whose words have numbers begins with one of them
 inner_first : (ws : List (List ℕ)) (p : ℕ) (side : Side) (ps : List Piece) (ss : List ℕ) (qs : List Symbol) → list_any is_word ps ≡ true → hole_count ps < length ss + 1

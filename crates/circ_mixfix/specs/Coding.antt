@@ -7,15 +7,13 @@ use Rattle.circ_spelling.specs.declared.grammar.Rule.{Rule}
 use Rattle.circ_spelling.specs.declared.grammar.Variable as chart_variable
 use Rattle.circ_spelling.specs.declared.grammar.Symbol as chart_symbol
 use Rattle.circ_spelling.specs.declared.grammar.Symbol.TheVariants as chart
-use Rattle.circ_form.specs.Form.{first_word}
 use Rattle.circ_theory.specs.Signature.{Signature, Operator}
 use Rattle.circ_theory.specs.Theory.{Declared}
 use Rattle.circ_mixfix.specs.Named.{Named, NamedList, Variable, Applied, no_terms, terms}
 use Rattle.circ_mixfix.specs.Symbols.{Symbol, Word, Hole, every, symbols_of, precedence_of}
 use Rattle.circ_mixfix.specs.Spells.{IsVariable}
 use Rattle.circ_theory.specs.Names.{AreDifferent}
-use Rattle.circ_spelling.specs.Usable.{IsMarked, VariablesMarked}
-use Rattle.circ_mixfix.specs.Marking.{AllMarked, HolesMarked}
+use Rattle.circ_mixfix.specs.Least.{least_of, least_for}
 use Rattle.circ_mixfix.specs.WordLists.{BeginAlike}
 use Rattle.circ_mixfix.specs.declared.numbered.Numbered.{Numbered}
 
@@ -97,26 +95,24 @@ abbrev pub GivesRule : List (List ℕ) → ℕ → Operator → Option Rule → 
 GivesRule ws f o (Some r) = IsRuleOf ws f o r
 GivesRule ws f o None = precedence_of o < every → HaveNumbers ws (symbols_of o) → ⊥
 
--- the rules are those of operators, and all those in C whose argument sorts are marked and whose words have numbers have one
-pub record HasRules (sig : Signature) (ws : List (List ℕ)) (marks : List Bool) (C : ℕ → Type 0) (rs : List Rule) : Type 0 where
+-- the rules are those of operators, and all those in C whose symbols may be `most` tokens and whose words have numbers have one
+pub record HasRules (sig : Signature) (ws : List (List ℕ)) (most : ℕ) (least : List ℕ) (C : ℕ → Type 0) (rs : List Rule) : Type 0 where
   pub rules : (n : ℕ) (r : Rule) → slice_get rs n ≡ Some r → (f : ℕ) × (o : Operator) × (slice_get sig.ops f ≡ Some o) × IsRuleOf ws f o r
-  pub all_rules : (f : ℕ) (o : Operator) → C f → slice_get sig.ops f ≡ Some o → precedence_of o < every → HaveNumbers ws (symbols_of o) → AllMarked marks o.args
+  pub all_rules : (f : ℕ) (o : Operator) → C f → slice_get sig.ops f ≡ Some o → precedence_of o < every → HaveNumbers ws (symbols_of o)
+      → least_for least (symbols_of o) ≤ most
       → (n : ℕ) × (r : Rule) × (slice_get rs n ≡ Some r) × IsRuleOf ws f o r
 
--- the list with the rule of one operator more, where its argument sorts are marked and its words have numbers
-abbrev pub AddsRule : Signature → List (List ℕ) → (marks : List Bool) → ℕ → (old new : List Rule) → Type 0
-AddsRule sig ws marks f old new =
-    ((new ≡ old) × ((o : Operator) → slice_get sig.ops f ≡ Some o → precedence_of o < every → HaveNumbers ws (symbols_of o) → AllMarked marks o.args → ⊥))
+-- the list with the rule of one operator more, where its symbols may be `most` tokens and its words have numbers
+abbrev pub AddsRule : Signature → List (List ℕ) → (most : ℕ) → (least : List ℕ) → ℕ → (old new : List Rule) → Type 0
+AddsRule sig ws most least f old new =
+    ((new ≡ old)
+    × ((o : Operator) → slice_get sig.ops f ≡ Some o → precedence_of o < every → HaveNumbers ws (symbols_of o) → least_for least (symbols_of o) ≤ most → ⊥))
     ⊎ ((o : Operator) × (r : Rule) × (slice_get sig.ops f ≡ Some o) × IsRuleOf ws f o r × (new ≡ old ++ r ∷ []))
 
 -- of several operators, one after another
-abbrev pub AddsRules : Signature → List (List ℕ) → (marks : List Bool) → List ℕ → (old new : List Rule) → Type 0
-AddsRules sig ws marks [] old new = new ≡ old
-AddsRules sig ws marks (f ∷ fs) old new = (between : List Rule) × AddsRule sig ws marks f old between × AddsRules sig ws marks fs between new
-
--- the operators whose first words are among the first m texts
-abbrev pub BeginsBefore : Signature → List (List ℕ) → ℕ → ℕ → Type 0
-BeginsBefore sig ws m f = (o : Operator) × (n : ℕ) × (slice_get sig.ops f ≡ Some o) × (n < m) × (slice_get ws n ≡ Some (first_word o.form))
+abbrev pub AddsRules : Signature → List (List ℕ) → (most : ℕ) → (least : List ℕ) → List ℕ → (old new : List Rule) → Type 0
+AddsRules sig ws most least [] old new = new ≡ old
+AddsRules sig ws most least (f ∷ fs) old new = (between : List Rule) × AddsRule sig ws most least f old between × AddsRules sig ws most least fs between new
 
 pub record IsVariableOf (ws : List (List ℕ)) (name : List ℕ) (k s : ℕ) (v : chart_variable.Variable) : Type 0 where
   pub word : v.word ≡ k
@@ -124,32 +120,34 @@ pub record IsVariableOf (ws : List (List ℕ)) (name : List ℕ) (k s : ℕ) (v 
   pub sort : v.sort ≡ s
 
 -- The texts are different, the parentheses first. The grammar has a variable for each way in which one of the first k texts is one. It has rules of operators
--- alone, and one for each whose words have numbers and whose holes have marked sorts. With those of its holes the operator's own sort is marked, and so are
--- those of the variables.
-pub record IsGrammarOf (sig : Signature) (vars : List Declared) (hole : Bool) (ws : List (List ℕ)) (k : ℕ) (g : Grammar) : Type 0 where
+-- alone, and one for each whose words have numbers and whose symbols may be `most` tokens. The numbers of sorts hold for the grammar.
+pub record IsGrammarOf (sig : Signature) (vars : List Declared) (hole : Bool) (ws : List (List ℕ)) (k most : ℕ) (g : Grammar) : Type 0 where
   pub different : AreDifferent ws
   pub count : k ≤ length ws
   pub opening : slice_get ws 0 ≡ Some (codes "(")
   pub closing : slice_get ws 1 ≡ Some (codes ")")
   pub rules : (n : ℕ) (r : Rule) → slice_get g.rules.items n ≡ Some r → (f : ℕ) × (o : Operator) × (slice_get sig.ops f ≡ Some o) × IsRuleOf ws f o r
-  pub marks : List Bool
+  pub least : List ℕ
   pub all_rules : (f : ℕ) (o : Operator) → slice_get sig.ops f ≡ Some o → precedence_of o < every → HaveNumbers ws (symbols_of o)
-      → HolesMarked marks (symbols_of o)
+      → least_for least (symbols_of o) ≤ most
       → (n : ℕ) × (r : Rule) × (slice_get g.rules.items n ≡ Some r) × IsRuleOf ws f o r
-  pub marked_operators : (f : ℕ) (o : Operator) → slice_get sig.ops f ≡ Some o → HaveNumbers ws (symbols_of o) → HolesMarked marks (symbols_of o)
-      → IsMarked marks o.result
-  pub marked_variables : VariablesMarked g.variables.items (length g.variables.items) marks
+  pub least_operators : (f : ℕ) (o : Operator) → slice_get sig.ops f ≡ Some o → HaveNumbers ws (symbols_of o) → least_for least (symbols_of o) ≤ most
+      → least_of least o.result ≤ least_for least (symbols_of o)
+  pub least_variables : (n : ℕ) (v : chart_variable.Variable) → slice_get g.variables.items n ≡ Some v → least_of least v.sort ≤ 1
   pub variables : (n : ℕ) (v : chart_variable.Variable) → slice_get g.variables.items n ≡ Some v
       → (w name : List ℕ) × (slice_get ws v.word ≡ Some w) × (slice_get ws v.number ≡ Some name) × IsVariable sig vars hole w name v.sort
   pub all_variables : (i : ℕ) (w name : List ℕ) (s : ℕ) → i < k → slice_get ws i ≡ Some w → IsVariable sig vars hole w name s
       → (n : ℕ) × (v : chart_variable.Variable) × (slice_get g.variables.items n ≡ Some v) × IsVariableOf ws name i s v
 
--- The texts of two token lists have numbers in the list, and the grammar is that of the signature and the variables over these numbers.
+-- The texts of two token lists have numbers in the list, and the grammar is that of the signature and the variables over these numbers, for so many tokens.
 pub record AreNumbered (sig : Signature) (vars : List Declared) (hole : Bool) (first second texts : List (List ℕ)) (both : Numbered) : Type 0 where
   pub count : ℕ
+  pub most : ℕ
   pub begin : BeginAlike texts
-  pub grammar : IsGrammarOf sig vars hole texts count both.grammar
+  pub grammar : IsGrammarOf sig vars hole texts count most both.grammar
   pub left : texts_at texts both.left.items ≡ first
   pub left_below : AllBelow count both.left.items
+  pub left_few : length both.left.items ≤ most
   pub right : texts_at texts both.right.items ≡ second
   pub right_below : AllBelow count both.right.items
+  pub right_few : length both.right.items ≤ most

@@ -4,7 +4,8 @@ pub mod SymbolLists
 pub mod Spells
 pub mod Readings
 pub mod WordLists
-pub mod Marking
+pub mod Least
+pub mod Reached
 pub mod Coding
 pub mod Variables
 pub mod Numbering

@@ -6,15 +6,17 @@
 //! occurrence.
 #![tactic(auto)]
 
+mod candidates;
 mod choices;
 mod few;
 mod grammars;
-mod marking;
+mod least;
 mod numbered;
 mod numbering;
 mod parse;
 pub mod print_laws;
 mod printing;
+mod reach;
 mod rules;
 mod spelling;
 mod tokens;

@@ -1,5 +1,5 @@
 //! The tokens of two spans as numbers, with the chart's grammar over them.
-ghost use Rattle.std.specs.Prelude.{◌≡◌, ◌≤◌, [], length, IfOk, OnOk};
+ghost use Rattle.std.specs.Prelude.{◌≡◌, ◌≤◌, ◌<◌, [], length, IfOk, OnOk};
 ghost use Rattle.circ_spelling.specs.Words.{HaveWords};
 ghost use Rattle.circ_chart.specs.declared.TheConstants.{MOST_TOKENS};
 ghost use Rattle.circ_lexer.specs.TokenList.{tokens_in, IsWithin};
@@ -47,7 +47,8 @@ pub fn number_tokens<'a>(
     let left = numbers(alloc, words, tokens, left)?;
     let right = numbers(alloc, words, tokens, right)?;
     let count = words.count() as u32;
-    let grammar = grammar(alloc, words, scope, count)?;
+    let most = greater_count(&left, &right);
+    let grammar = grammar(alloc, words, scope, count, most)?;
     let both = Numbered {
         left,
         right,
@@ -66,4 +67,13 @@ fn add_first(words: &mut Words<'_>) -> Result<(), AllocError>
     words.add(b")")?;
     words.add(b"")?;
     Ok(())
+}
+
+// How many tokens the longer list has.
+fn greater_count(left: &[u32], right: &[u32]) -> u32
+    ensures left { length left.now < 65536 → length left.now ≤ result }
+    ensures right { length right.now < 65536 → length right.now ≤ result }
+    ensures small { result < 65536 }
+{
+    left.len().max(right.len()).min(65535) as u32
 }

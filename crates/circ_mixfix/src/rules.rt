@@ -5,11 +5,13 @@ ghost use Rattle.circ_theory.specs.Operators.{operator_of};
 ghost use Rattle.circ_mixfix.specs.Symbols.{symbols_of, precedence_of};
 ghost use Rattle.circ_mixfix.specs.SymbolLists.{symbol_of};
 ghost use Rattle.circ_mixfix.specs.Coding.{GivesSymbol, GivesSymbols, GivesRule, HasRules};
-ghost use Rattle.circ_mixfix.specs.Coding.{AddsRule, AddsRules, BeginsBefore, IsBelow, AreBelow};
+ghost use Rattle.circ_mixfix.specs.Coding.{AddsRule, AddsRules, IsBelow, AreBelow};
+ghost use Rattle.circ_mixfix.specs.Least.{StandsIn};
 ghost use Rattle.circ_chart.specs.declared.TheConstants.{EVERY};
 
 use crate::EVERY;
-use crate::marking::are_marked;
+use crate::candidates::Candidates;
+use crate::least::at_least;
 use crate::spelling::{Symbol, precedence, symbols};
 use crate::words::Words;
 use circ_spelling::{Rule, Symbol as ChartSymbol};
@@ -81,24 +83,26 @@ fn rule(
     }
 }
 
-// Adds the rule of an operator, if its argument sorts are marked and each of its words has a
-// number.
+// Adds the rule of an operator, if its symbols may be at most `most` tokens and each of its words has
+// a number.
 fn push_rule(
     alloc: Global,
     out: &mut Vec<Rule>,
     words: &Words<'_>,
     theory: &Theory,
-    marks: &[bool],
+    least: &[u32],
+    most: u32,
     number: u32,
 ) -> Result<(), AllocError>
     requires few { length words.now ≤ 2 ^ 32 }
-    ensures { OnOk result (AddsRule theory.now.signature words.now marks.now number out.old.items
-        out.new.items) }
+    ensures { OnOk result (AddsRule theory.now.signature words.now most least.now number
+        out.old.items out.new.items) }
 {
+    theory.known();
     let Some(decl) = theory.op(number) else {
         return Ok(());
     };
-    if !are_marked(marks, decl.args.as_slice()) {
+    if at_least(least, decl) > most as u64 {
         return Ok(());
     }
     let Some(rule) = rule(alloc, words, number, decl)? else {
@@ -108,50 +112,49 @@ fn push_rule(
     Ok(())
 }
 
-// Adds the rules of operators, as far as their argument sorts are marked and their words have
-// numbers.
+// Adds the rules of operators, as far as their symbols may be at most `most` tokens and their words
+// have numbers.
 fn push_rules(
     alloc: Global,
     out: &mut Vec<Rule>,
     words: &Words<'_>,
     theory: &Theory,
-    marks: &[bool],
+    least: &[u32],
+    most: u32,
     numbers: &[u32],
 ) -> Result<(), AllocError>
     requires few { length words.now ≤ 2 ^ 32 }
-    ensures { OnOk result (AddsRules theory.now.signature words.now marks.now numbers.now
+    ensures { OnOk result (AddsRules theory.now.signature words.now most least.now numbers.now
         out.old.items out.new.items) }
 {
     for number in numbers {
-        push_rule(alloc, out, words, theory, marks, *number)?;
+        push_rule(alloc, out, words, theory, least, most, *number)?;
     }
     Ok(())
 }
 
-// The rules of the operators whose argument sorts are marked and whose words have numbers. No other
-// operator is looked at than those whose first word has one.
+// The rules of those of the operators whose symbols may be at most `most` tokens and whose words have
+// numbers.
 pub fn rules(
     alloc: Global,
     words: &Words<'_>,
     theory: &Theory,
-    marks: &[bool],
+    candidates: &Candidates,
+    most: u32,
 ) -> Result<Vec<Rule>, AllocError>
     requires few { length words.now ≤ 2 ^ 32 }
-    ensures { IfOk result (λ v. HasRules theory.now.signature words.now marks.now
-        (BeginsBefore theory.now.signature words.now (length words.now)) v.items) }
+    ensures { IfOk result (λ v. HasRules theory.now.signature words.now most
+        candidates.now.least.items (StandsIn candidates.now.ops.items) v.items) }
 {
     let mut out = Vec::new(alloc);
-    for number in 0..words.count() {
-        if let Some(word) = words.text(number) {
-            push_rules(
-                alloc,
-                &mut out,
-                words,
-                theory,
-                marks,
-                theory.ops_by_word(word),
-            )?;
-        }
-    }
+    push_rules(
+        alloc,
+        &mut out,
+        words,
+        theory,
+        &candidates.least,
+        most,
+        &candidates.ops,
+    )?;
     Ok(out)
 }

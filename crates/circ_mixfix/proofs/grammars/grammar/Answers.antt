@@ -9,9 +9,11 @@ rules-requires c = let g = c.in_ok-variables.ensures.grows.few in let r = c.requ
 pub returns-clause-grammar : goal.returns-clause-grammar
 returns-clause-grammar c =
     let w = c.known-2.ensures in
-    grammar_of c.args.scope.now.theory.now.signature (vars_in c.args.scope.now) c.args.scope.now.hole c.args.words.now c.variables.new.words c.in_ok-marks.marks.items c.args.count
-    (record { rules = c.in_ok-rules.rules; variables = c.in_ok-variables.variables }) c.requires.begin c.requires.count c.in_ok-variables.ensures.grows c.known.ensures w.operators (rw (c.deref-2.ensures.value) at c.in_ok-rules.ensures)
-    (rw (c.deref.ensures.value) at c.in_ok-marks.ensures) c.in_ok-variables.ensures.variables
+    grammar_of c.args.scope.now.theory.now.signature (vars_in c.args.scope.now) c.args.scope.now.hole c.args.words.now c.variables.new.words c.args.most c.in_ok-candidates.candidates.least.items
+    c.in_ok-candidates.candidates.ops.items c.args.count (record { rules = c.in_ok-rules.rules; variables = c.in_ok-variables.variables }) c.requires.begin c.requires.count c.in_ok-variables.ensures.grows
+    c.known.ensures w.operators c.in_ok-rules.ensures (rw (c.deref.ensures.value) at c.in_ok-candidates.ensures.least) c.in_ok-candidates.ensures.ops c.in_ok-variables.ensures.variables
 
 pub returns-clause-words : goal.returns-clause-words
-returns-clause-words c = have_words c.args.scope.now.theory.now c.variables.new.words c.in_ok-marks.marks.items (record { rules = c.in_ok-rules.rules; variables = c.in_ok-variables.variables }) c.known-2.ensures (rw (c.deref-2.ensures.value) at c.in_ok-rules.ensures)
+returns-clause-words c =
+    have_words c.args.scope.now.theory.now c.variables.new.words c.args.most c.in_ok-candidates.candidates.least.items c.in_ok-candidates.candidates.ops.items
+    (record { rules = c.in_ok-rules.rules; variables = c.in_ok-variables.variables }) c.known-2.ensures c.in_ok-rules.ensures

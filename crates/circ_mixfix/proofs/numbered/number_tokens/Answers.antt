@@ -1,7 +1,7 @@
-use Rattle.std.proofs.Common.{ℕ, sym, subst}
+use Rattle.std.proofs.Common.{ℕ, ◌≤◌, length, sym, subst, arith}
 use Rattle.circ_lexer.specs.TokenList.{tokens_in}
 use Rattle.circ_mixfix.specs.Coding.{AllBelow}
-use Rattle.circ_mixfix.proofs.TokenNumbers.{numbers_kept}
+use Rattle.circ_mixfix.proofs.TokenNumbers.{numbers_kept, few_numbers}
 use Rattle.circ_mixfix.proofs.WordLists.{begin_kept}
 use Rattle.circ_mixfix.proofs.numbered.number_tokens.Goals as goal
 
@@ -25,14 +25,21 @@ returns-clause-numbered c =
     let P : ℕ → Type 0 = λ k. AllBelow k ms in
     let Q : ℕ → Type 0 = λ k. AllBelow k ns in
     let a = numbers_kept ws old _ ms left n.grows m.numbers in
+    let left_texts = (numbers_kept old new count ms left g.grows a).texts in
+    let right_texts = (numbers_kept old new count ns right g.grows n.numbers).texts in
+    let few_left : length ms ≤ 256 = few_numbers new ms left left_texts 256 c.requires.few_left in
+    let few_right : length ns ≤ 256 = few_numbers new ns right right_texts 256 c.requires.few_right in
     rw c.in_ok-new.ensures.ok (record {
       count = count;
+      most = c.greater_count-most.result;
       begin = begin_kept old new count g.grows (begin_kept ws old _ n.grows (begin_kept c.add_first.new.words ws _ m.grows c.in_ok-add_first.ensures.begin));
       grammar = g.grammar;
-      left = (numbers_kept old new count ms left g.grows a).texts;
+      left = left_texts;
       left_below = subst P (sym c.count-count.ensures.count) a.below;
-      right = (numbers_kept old new count ns right g.grows n.numbers).texts;
+      right = right_texts;
       right_below = subst Q (sym c.count-count.ensures.count) n.numbers.below;
+      left_few = (rw c.deref.ensures.value at c.greater_count-most.ensures.left) (omega (arith, few_left));
+      right_few = (rw c.deref-2.ensures.value at c.greater_count-most.ensures.right) (omega (arith, few_right));
     })
 
 pub returns-clause-words : goal.returns-clause-words

@@ -22,9 +22,9 @@ returns c =
     let vars = vars_in c.args.scope.now in
     let n = c.in_ok-both.ensures.numbered in
     let both = c.in_ok-both.both.value in
-    let G : Bool → Type 0 = λ hole. IsGrammarOf sig vars hole c.number_tokens.new.words n.count both.grammar in
-    both_kept sig vars c.number_tokens.new.words n.count both.grammar (subst G c.requires.hole n.grammar) both.left.items both.right.items
+    let G : Bool → Type 0 = λ hole. IsGrammarOf sig vars hole c.number_tokens.new.words n.count n.most both.grammar in
+    both_kept sig vars c.number_tokens.new.words n.count n.most both.grammar (subst G c.requires.hole n.grammar) both.left.items both.right.items
     (tokens_in c.args.tokens.now c.args.left) (tokens_in c.args.tokens.now c.args.right)
-    c.in_ok-lefts.lefts.items c.in_ok-rights.rights.items c.in_ok-readings_of_both.field-0 n.left_below n.right_below n.left n.right
+    c.in_ok-lefts.lefts.items c.in_ok-rights.rights.items c.in_ok-readings_of_both.field-0 n.left_below n.right_below n.left_few n.right_few n.left n.right
     (rw (c.deref.ensures, c.deref-3.ensures.value, c.deref-2.ensures) at c.in_ok-lefts.ensures) (rw (c.deref-4.ensures, c.deref-6.ensures.value, c.deref-5.ensures) at c.in_ok-rights.ensures)
     (rw (c.deref-7.ensures.value, c.deref-8.ensures.value) at c.in_ok-readings_of_both.ensures)

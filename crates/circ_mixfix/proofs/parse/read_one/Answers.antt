@@ -20,8 +20,8 @@ pub returns-clause-reading : goal.returns-clause-reading
 returns-clause-reading c =
     let n = c.in_ok-both.ensures.numbered in
     let both = c.in_ok-both.both.value in
-    one_kept c.args.scope.now.theory.now.signature (vars_in c.args.scope.now) c.args.scope.now.hole c.number_tokens.new.words n.count both.grammar n.grammar n.begin both.left.items
-    (tokens_in c.args.tokens.now c.args.span) c.in_ok-terms.terms.items c.in_ok-readings_of_one.field-0 n.left_below n.left
+    one_kept c.args.scope.now.theory.now.signature (vars_in c.args.scope.now) c.args.scope.now.hole c.number_tokens.new.words n.count n.most both.grammar n.grammar n.begin both.left.items
+    (tokens_in c.args.tokens.now c.args.span) c.in_ok-terms.terms.items c.in_ok-readings_of_one.field-0 n.left_below n.left_few n.left
     (rw (c.deref.ensures, c.deref-3.ensures.value, c.deref-2.ensures) at c.in_ok-terms.ensures) (rw c.deref-4.ensures.value at c.in_ok-readings_of_one.ensures)
 
 pub returns-clause-parameters : goal.returns-clause-parameters

@@ -5,4 +5,4 @@ use Rattle.circ_mixfix.proofs.rules.push_rules.Given as goal
 
 abbrev pub invariant-loop-number : goal.invariant-loop-number
 invariant-loop-number l =
-    (new : List Rule) → AddsRules l.theory.signature l.words l.marks (drop l.number-index l.numbers) l.out.items new → AddsRules l.theory.signature l.words l.marks l.numbers l.initial.out.items new
+    (new : List Rule) → AddsRules l.theory.signature l.words l.most l.least (drop l.number-index l.numbers) l.out.items new → AddsRules l.theory.signature l.words l.most l.least l.numbers l.initial.out.items new
