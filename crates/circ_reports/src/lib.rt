@@ -5,7 +5,7 @@
 //! [`reduce`] brings the terms of a script to their normal forms, [`same`] compares two automata,
 //! [`upgrade`] gives a proof in version 2, and [`library`] a text of the library. Each takes its
 //! files from a shelf and gives a text or an ending, or the answer in its place. What is stored and
-//! printed of this is circ_reports's.
+//! printed of this is circ_top's.
 #![tactic(auto)]
 
 mod checking;
