@@ -35,3 +35,5 @@ pub mod Telling
 pub mod Expanding
 pub mod Numbers
 pub mod Ropes
+pub mod Opened
+pub mod Stacked
