@@ -37,3 +37,5 @@ pub mod Numbers
 pub mod Ropes
 pub mod Opened
 pub mod Stacked
+pub mod Staging
+pub mod Beginning

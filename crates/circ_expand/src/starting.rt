@@ -108,12 +108,17 @@ fn start_of(
 {
     let inner = start_application(alloc, place, decl)?;
     let params = start_parameters(alloc, theory, derivative, decl.args.len() as u64)?;
-    let held = Held {
-        number: derivative,
-        params: Rc::new(alloc, params).map_err(AllocError::from)?,
-    };
-    let held = Rc::new(alloc, held).map_err(AllocError::from)?;
+    let held = held(alloc, derivative, params)?;
     on_one(alloc, theory, &held, &inner)
+}
+
+// An entry of the derivative of this number.
+fn held(alloc: Global, number: u32, params: Valuation) -> Result<Rc<Held>, AllocError>
+    ensures number { IfOk result (λ h. h.value.number ≡ number) }
+    ensures params { IfOk result (λ h. h.value.params.value ≡ params) }
+{
+    let params = Rc::new(alloc, params).map_err(AllocError::from)?;
+    Rc::new(alloc, Held { number, params }).map_err(AllocError::from)
 }
 
 // Variables numbered from `first` for the parameters of a derivative.
