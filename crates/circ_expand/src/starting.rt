@@ -61,12 +61,7 @@ pub(crate) fn experiment(
 }
 
 // One entry on a term.
-fn on_one(
-    alloc: Global,
-    theory: &Theory,
-    entry: &Rc<Held>,
-    term: &Term,
-) -> Result<Term, TermFault>
+fn on_one(alloc: Global, theory: &Theory, entry: &Rc<Held>, term: &Term) -> Result<Term, TermFault>
     ensures { Builds result (on (bare_entries (entries_of theory.now (entry.now ∷ []))) term.now) }
 {
     term.known();

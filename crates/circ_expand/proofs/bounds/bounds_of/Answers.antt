@@ -27,4 +27,4 @@ pub returns : goal.returns
 returns c =
     let σ = by_of c.args.by.now in
     let made : List Bound = map given_bound c.loop-variable.bounds.items in
-    sym (append-nil made) ∙ ap (λ vs. made ++ bounds_by σ (map variable_of vs)) (sym c.in-None.ensures.steps) ∙ c.loop-variable.invariant
+    sym (append-nil made) ∙ ap (λ vs. made ++ bounds_by σ (map variable_of vs)) (sym c.in_default.ensures.steps.0) ∙ c.loop-variable.invariant
