@@ -34,3 +34,8 @@ pub mod Using
 pub mod Telling
 pub mod Expanding
 pub mod Numbers
+pub mod Ropes
+pub mod Opened
+pub mod Stacked
+pub mod Staging
+pub mod Beginning

@@ -53,3 +53,7 @@ plugged_by (Some p) σ = plug p.hole p.term σ
 
 abbrev pub by_of : By → Substitution
 by_of b = plugged_by b.plugged (kept_by b)
+
+-- a variable with what a substitution gives it
+abbrev pub bound_by : Substitution → TheVariable → Bound
+bound_by σ v = record { number = v.number; sort = v.sort; term = σ v.number v.sort }

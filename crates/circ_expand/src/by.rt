@@ -105,7 +105,7 @@ impl<'a> By<'a> {
     }
 
     // What a variable becomes.
-    fn value(&self, number: u32, sort: u32) -> Result<Term, AllocError>
+    pub(crate) fn value(&self, number: u32, sort: u32) -> Result<Term, AllocError>
         ensures { IfOk result (λ t. t ≡ by_of self.now number sort) }
     {
         match &self.plugged {

@@ -9,6 +9,7 @@
 #![tactic(auto)]
 
 mod book;
+mod bounds;
 mod by;
 mod certified;
 mod fault;
@@ -21,11 +22,15 @@ mod leading;
 mod links;
 mod matching;
 mod meetings;
+mod nodes;
 mod paths;
 mod rows;
+mod starting;
 mod uses;
 mod valuation;
+mod values;
 mod variables;
+mod writing;
 
 pub use fault::ExpandFault;
 pub use goals::{goal_misfit, goal_numbered};
