@@ -2,9 +2,10 @@
 #![tactic(auto)]
 
 mod hints;
+mod read_faults;
 
 use crate::hints::print_hint;
-use circ_hints::CaseCount;
+use circ_hints::SeenLines;
 use circ_outer::{HostShelf, HostSink};
 use circ_top::{Status, circ};
 use std::io::ErrorKind;
@@ -49,10 +50,16 @@ fn run(rt: &HostRuntime) -> u8 {
         Err(number) => return number,
     };
     let mut shelf = HostShelf::new(*rt);
-    let mut sink = CaseCount::new(HostSink::new(*rt));
+    let mut sink = SeenLines::new(HostSink::new(*rt));
     let status = circ(rt.alloc(), &words, &mut shelf, &mut sink);
     complain(rt, &status, shelf.failed_name());
-    print_hint(rt, words.as_slice(), &status, sink.cases());
+    print_hint(
+        rt,
+        words.as_slice(),
+        &status,
+        shelf.failed_name(),
+        sink.seen(),
+    );
     status.number()
 }
 
