@@ -21,8 +21,9 @@ class Unreadable(Exception):
 
 
 def default_program():
-    """The program that the tools run, if no other is named."""
-    return os.environ.get("CIRC") or str(TOP / "bin" / "circ")
+    """The program that the tools run, if no other is named: what CIRC names, or bin/circ, where the tools are installed that beside them."""
+    beside = [TOP / "bin" / "circ", TOP.parent.parent / "bin" / "circ"]
+    return os.environ.get("CIRC") or str(next((path for path in beside if path.exists()), beside[0]))
 
 
 # A term is ("v", number, sort) or ("a", operator, (argument, ..)), with sorts and operators by their numbers.

@@ -95,6 +95,6 @@ pub(crate) fn bytes_at(bytes: &[u8], place: Place) -> &[u8] {
 }
 
 /// The bytes from a place on.
-fn rest_from(bytes: &[u8], at: usize) -> &[u8] {
+pub(crate) fn rest_from(bytes: &[u8], at: usize) -> &[u8] {
     if at < bytes.len() { &bytes[at..] } else { &[] }
 }

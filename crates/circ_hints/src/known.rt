@@ -1,5 +1,6 @@
 //! What the statements before a place declare, by their words alone.
 use crate::parts::{Part, first, is, next};
+use crate::unreadable_hint::Source;
 use circ_lexer::Tokens;
 use circ_lib::lookup;
 use indexmap::IndexSet;
@@ -23,8 +24,24 @@ pub(crate) struct Known<'a> {
 }
 
 impl<'a> Known<'a> {
+    /// What is declared before a token of a text, in a script also by the theory.
+    pub fn before(
+        alloc: Global,
+        wanted: Wanted,
+        source: &Source<'a>,
+        tokens: &Tokens<'a>,
+        end: usize,
+    ) -> Result<Known<'a>, AllocError> {
+        let mut known = Known::new(alloc, wanted);
+        if let Ok(theory) = Tokens::of(alloc, source.theory) {
+            known.add_before(alloc, &theory, theory.count())?;
+        }
+        known.add_before(alloc, tokens, end)?;
+        Ok(known)
+    }
+
     /// Nothing.
-    pub fn new(alloc: Global, wanted: Wanted) -> Known<'a> {
+    fn new(alloc: Global, wanted: Wanted) -> Known<'a> {
         Known {
             wanted,
             names: IndexSet::new(alloc),
@@ -36,8 +53,13 @@ impl<'a> Known<'a> {
         self.names.contains(name)
     }
 
+    /// The name that so many were declared before.
+    pub fn name(&self, number: u32) -> Option<&'a [u8]> {
+        self.names.get_index(number as usize).copied()
+    }
+
     /// Adds what the statements declare that end before a token, and the texts that they include.
-    pub fn add_before(
+    fn add_before(
         &mut self,
         alloc: Global,
         tokens: &Tokens<'a>,

@@ -1,23 +1,30 @@
 //! Hints for standard error: where an answer points to, and what was expected there.
 //!
 //! Nothing is promised of a hint but that it is made safely and in finite time. [`Asked`] takes the words
-//! of a run apart; [`unreadable`], [`stuck_goal`], [`stuck_end`], [`trace_call`] and [`usage`] give
-//! the hint of an answer, from the same words and the same files. [`CaseCount`] sees how many cases an answer has printed,
-//! and [`Progress`] how much of a file was taken.
+//! of a run apart; [`unreadable`], [`unread_expression`], [`stuck_goal`], [`stuck_end`], [`trace_call`],
+//! [`explain_call`] and [`usage`] give the hint of an answer, from the same words and the same files.
+//! [`SeenLines`] sees the cases and the sides that an answer has printed, and [`Progress`] how much of a
+//! file was taken.
 #![tactic(auto)]
 
 mod automata;
-mod case_count;
 mod causes;
 mod commands;
+mod conditions;
+mod declared;
 mod drawing;
+mod expressions;
 mod known;
+mod left_out;
 mod marks;
+mod openings;
 mod parts;
 mod prefixes;
 mod progress;
+mod proof_lines;
 mod run_words;
 mod scripts;
+mod seen_lines;
 mod shapes;
 mod signatures;
 mod stuck_hint;
@@ -26,9 +33,10 @@ mod texts;
 mod unreadable_hint;
 mod usage_hint;
 
-pub use case_count::CaseCount;
+pub use expressions::unread_expression;
 pub use progress::Progress;
 pub use run_words::Asked;
-pub use stuck_hint::{stuck_end, stuck_goal, trace_call};
+pub use seen_lines::{Seen, SeenLines};
+pub use stuck_hint::{explain_call, stuck_end, stuck_goal, trace_call};
 pub use unreadable_hint::{Source, SourceKind, unreadable};
 pub use usage_hint::usage;

@@ -1,4 +1,5 @@
 //! The statements of a text, or the items of a script, as ranges of its tokens.
+use crate::drawing::Place;
 use circ_lexer::Tokens;
 
 /// The tokens of a statement, of an item, or of what stands behind the last one.
@@ -16,6 +17,16 @@ impl Part {
     /// The number of the token that comes so many behind the first.
     pub fn nth(&self, count: usize) -> usize {
         self.from.saturating_add(count)
+    }
+
+    /// The place of the tokens, if there are such.
+    pub fn place(&self, tokens: &Tokens<'_>) -> Option<Place> {
+        let begin = tokens.span(self.from)?;
+        let end = tokens.span(self.to.saturating_sub(1))?;
+        Some(Place {
+            at: begin.from,
+            width: end.to.saturating_sub(begin.from),
+        })
     }
 }
 
@@ -37,6 +48,23 @@ pub(crate) fn first(tokens: &Tokens<'_>, from: usize, to: usize, word: &[u8]) ->
     for number in from..to {
         if is(tokens, number, word) {
             return Some(number);
+        }
+    }
+    None
+}
+
+/// The first token of this word in a range that stands in no parentheses there.
+pub(crate) fn outside(tokens: &Tokens<'_>, from: usize, to: usize, word: &[u8]) -> Option<usize> {
+    let mut depth: u64 = 0;
+    for number in from..to {
+        if depth == 0 && is(tokens, number, word) {
+            return Some(number);
+        }
+        if is(tokens, number, b"(") {
+            depth = depth.saturating_add(1);
+        }
+        if is(tokens, number, b")") {
+            depth = depth.saturating_sub(1);
         }
     }
     None
@@ -102,7 +130,7 @@ pub(crate) fn item_at(tokens: &Tokens<'_>, number: u64) -> Part {
 }
 
 /// The number behind a parenthesis that opens there.
-fn without_open(tokens: &Tokens<'_>, from: usize) -> usize {
+pub(crate) fn without_open(tokens: &Tokens<'_>, from: usize) -> usize {
     if is(tokens, from, b"(") {
         next(from)
     } else {

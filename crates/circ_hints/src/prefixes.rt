@@ -1,10 +1,12 @@
 //! How far a term reads.
+use crate::conditions::{MOST_CONDITIONS, behind_terms};
+use crate::declared::{declared_before, read_ended};
 use crate::marks::Mark;
-use crate::parts::{Part, behind_item, first, is, item_from, next};
-use crate::unreadable_hint::{Source, SourceKind};
+use crate::parts::{Part, first, is, next, outside};
+use crate::terms::NO_TERM;
+use crate::unreadable_hint::Source;
 use circ_lexer::{Span, Tokens};
-use circ_mixfix::{MOST_TOKENS, ParseFault, parse_one_declared};
-use circ_read::read_theory;
+use circ_mixfix::{MOST_TOKENS, ParseFault, Reading, parse_one_declared, parse_pair_declared};
 use circ_theory::Theory;
 use std::alloc::{AllocError, Global};
 
@@ -22,7 +24,7 @@ struct Reader<'a> {
 }
 
 /// The mark behind the longest part of a term that reads, where the terms of a statement or an item
-/// begin with a token. None where what is declared before it does not read, or nothing of a term does.
+/// begin with a token. None where what is declared before it does not read, or each term does.
 pub(crate) fn unread_behind(
     alloc: Global,
     source: &Source<'_>,
@@ -31,7 +33,7 @@ pub(crate) fn unread_behind(
     from: usize,
 ) -> Result<Option<Mark>, AllocError> {
     let text = declared_before(alloc, source, tokens, part)?;
-    let Ok(theory) = read_theory(alloc, text.as_slice()) else {
+    let Ok(theory) = read_ended(alloc, text) else {
         return Ok(None);
     };
     let reader = Reader {
@@ -40,50 +42,73 @@ pub(crate) fn unread_behind(
         tokens,
         hole: is(tokens, part.from, b"derivative"),
     };
-    let end = terms_end(tokens, from, part.to);
-    match first(tokens, from, end, b"=") {
-        Some(equals) => reader.unread_side(from, equals, end),
-        None => reader.unread_term(from, end),
-    }
-}
-
-/// Where the terms end: at a condition or a mark behind them.
-fn terms_end(tokens: &Tokens<'_>, from: usize, to: usize) -> usize {
-    let end = first(tokens, from, to, b"if").unwrap_or(to);
-    let mark = end.saturating_sub(3);
-    if is(tokens, mark, b"[") && is(tokens, next(mark), b"nonexec") {
-        mark
+    let end = behind_terms(tokens, part);
+    if is(tokens, part.from, b"ceq") {
+        reader.unread_conditional(from, end)
     } else {
-        end
+        reader.unread_pair(from, end)
     }
 }
 
 impl Reader<'_> {
-    /// The mark of the first side that does not read.
-    fn unread_side(
-        &self,
-        from: usize,
-        equals: usize,
-        to: usize,
-    ) -> Result<Option<Mark>, AllocError> {
-        if !self.reads(from, equals)? {
-            return self.unread_term(from, equals);
+    /// The mark of the equation or the first of its conditions that does not read.
+    fn unread_conditional(&self, from: usize, end: usize) -> Result<Option<Mark>, AllocError> {
+        let mut begin = from;
+        let mut to = outside(self.tokens, from, end, b"if").unwrap_or(end);
+        for _ in 0..=MOST_CONDITIONS {
+            if let Some(mark) = self.unread_pair(begin, to)? {
+                return Ok(Some(mark));
+            }
+            if to >= end {
+                break;
+            }
+            begin = next(to);
+            to = outside(self.tokens, begin, end, b"/\\").unwrap_or(end);
         }
-        if !self.reads(next(equals), to)? {
-            return self.unread_term(next(equals), to);
+        Ok(None)
+    }
+
+    /// The mark of the first of two sides that does not read, or of one term.
+    fn unread_pair(&self, from: usize, to: usize) -> Result<Option<Mark>, AllocError> {
+        let Some(equals) = first(self.tokens, from, to, b"=") else {
+            return self.unread_term(from, to);
+        };
+        if let Some(mark) = self.unread_term(from, equals)? {
+            return Ok(Some(mark));
+        }
+        if let Some(mark) = self.unread_term(next(equals), to)? {
+            return Ok(Some(mark));
+        }
+        if self.reads_pair(from, equals, to)? {
+            return Ok(None);
         }
         Ok(Some(Mark::at(from, "each side spells a term, but not both of one sort")))
     }
 
-    /// The mark behind the longest part of a term that reads.
+    /// The mark of a term that does not read: behind the longest part of it that does, or where it
+    /// begins.
     fn unread_term(&self, from: usize, to: usize) -> Result<Option<Mark>, AllocError> {
+        if to <= from {
+            return Ok(Some(Mark::behind(from.saturating_sub(1), "a term is expected here")));
+        }
+        if self.reads(from, to)? {
+            return Ok(None);
+        }
+        match self.longest(from, to)? {
+            Some(end) => Ok(Some(mark_behind(end, to))),
+            None => Ok(Some(Mark::at(from, NO_TERM))),
+        }
+    }
+
+    /// Where the longest part of a term ends that reads.
+    fn longest(&self, from: usize, to: usize) -> Result<Option<usize>, AllocError> {
         let mut end = to.min(from.saturating_add(MOST_TOKENS));
         for _ in 0..MOST_TRIES {
             if end <= from {
                 return Ok(None);
             }
             if self.reads(from, end)? {
-                return Ok(Some(mark_behind(end, to)));
+                return Ok(Some(end));
             }
             end = end.saturating_sub(1);
         }
@@ -96,12 +121,28 @@ impl Reader<'_> {
             return Ok(false);
         }
         let span = Span { from, to };
-        match parse_one_declared(self.alloc, self.theory, self.tokens, span, self.hole) {
-            Ok(_) => Ok(true),
-            Err(ParseFault::Ambiguous { .. }) => Ok(true),
-            Err(ParseFault::Memory) => Err(AllocError),
-            Err(_) => Ok(false),
+        is_read(parse_one_declared(self.alloc, self.theory, self.tokens, span, self.hole))
+    }
+
+    /// Whether the tokens of two ranges round a sign spell two terms of one sort.
+    fn reads_pair(&self, from: usize, sign: usize, to: usize) -> Result<bool, AllocError> {
+        let begin = next(sign);
+        if sign < from || to <= sign || to < begin || self.tokens.count() < to {
+            return Ok(false);
         }
+        let left = Span { from, to: sign };
+        let right = Span { from: begin, to };
+        is_read(parse_pair_declared(self.alloc, self.theory, self.tokens, left, right))
+    }
+}
+
+/// Whether there is a reading, or several.
+fn is_read(answer: Result<Reading, ParseFault>) -> Result<bool, AllocError> {
+    match answer {
+        Ok(_) => Ok(true),
+        Err(ParseFault::Ambiguous { .. }) => Ok(true),
+        Err(ParseFault::Memory) => Err(AllocError),
+        Err(_) => Ok(false),
     }
 }
 
@@ -114,78 +155,5 @@ fn mark_behind(end: usize, to: usize) -> Mark {
         )
     } else {
         Mark::behind(end.saturating_sub(1), "more is expected behind this term")
-    }
-}
-
-/// A theory with what is declared before a part: the statements of its text, or a script's theory with
-/// the variables of the items.
-fn declared_before(
-    alloc: Global,
-    source: &Source<'_>,
-    tokens: &Tokens<'_>,
-    part: Part,
-) -> Result<Vec<u8>, AllocError> {
-    let mut text = Vec::new(alloc);
-    if source.kind == SourceKind::Script {
-        push_body(alloc, &mut text, source.theory)?;
-        push_variables(&mut text, source.bytes, tokens, part.from)?;
-    } else {
-        push_range(&mut text, source.bytes, tokens, 0, part.from)?;
-    }
-    text.extend_from_slice(b" endtheory")?;
-    Ok(text)
-}
-
-/// Appends a theory's text without its last token, which ends it.
-fn push_body(alloc: Global, text: &mut Vec<u8>, theory: &[u8]) -> Result<(), AllocError> {
-    match Tokens::of(alloc, theory) {
-        Ok(tokens) => push_range(text, theory, &tokens, 0, tokens.count().saturating_sub(1)),
-        Err(_) => Ok(()),
-    }
-}
-
-/// Appends the items before a token that declare variables.
-fn push_variables(
-    text: &mut Vec<u8>,
-    bytes: &[u8],
-    tokens: &Tokens<'_>,
-    end: usize,
-) -> Result<(), AllocError> {
-    let mut from = 0;
-    for _ in 0..tokens.count() {
-        let item = item_from(tokens, from);
-        if !item.is_ended || end <= item.from {
-            break;
-        }
-        if is(tokens, item.from, b"var") || is(tokens, item.from, b"vars") {
-            push_range(text, bytes, tokens, item.from, next(item.to))?;
-        }
-        from = behind_item(tokens, from, item);
-    }
-    Ok(())
-}
-
-/// Appends the bytes from a token on up to another one, and a blank.
-fn push_range(
-    text: &mut Vec<u8>,
-    bytes: &[u8],
-    tokens: &Tokens<'_>,
-    from: usize,
-    to: usize,
-) -> Result<(), AllocError> {
-    let begin = begin_of(tokens, from, bytes.len());
-    let end = begin_of(tokens, to, bytes.len());
-    if begin <= end && end <= bytes.len() {
-        text.extend_from_slice(&bytes[begin..end])?;
-    }
-    text.push(b' ')?;
-    Ok(())
-}
-
-/// Where a token begins among so many bytes; behind them if there is none.
-fn begin_of(tokens: &Tokens<'_>, number: usize, count: usize) -> usize {
-    match tokens.span(number) {
-        Some(span) => span.from,
-        None => count,
     }
 }

@@ -30,6 +30,15 @@ impl<'a> Asked<'a> {
         self.plain(usize::from(number))
     }
 
+    /// A word of `regex`, by its number, 1 or 2.
+    pub(crate) fn expression(&self, number: u8) -> Option<&'a str> {
+        if self.command() == "regex" {
+            self.plain(usize::from(number))
+        } else {
+            None
+        }
+    }
+
     /// Whether the command has just so many words.
     pub(crate) fn has_words(&self, count: usize) -> bool {
         self.plain(count).is_some() && self.plain(count.saturating_add(1)).is_none()
@@ -40,7 +49,8 @@ impl<'a> Asked<'a> {
         match self.command() {
             "same" => SourceKind::Automaton,
             _ if number <= 1 => SourceKind::Theory,
-            "prove" | "reduce" | "differ" | "trace" => SourceKind::Script,
+            "reduce" => SourceKind::Terms,
+            "prove" | "differ" | "trace" => SourceKind::Script,
             _ => SourceKind::Proof,
         }
     }
@@ -66,9 +76,9 @@ impl<'a> Asked<'a> {
         None
     }
 
-    /// Appends the words of the `trace` that makes the search of these words, of a `prove`: with the
-    /// same options, and without the name of the proof.
-    pub(crate) fn push_traced(&self, out: &mut String) -> Result<(), AllocError> {
+    /// Appends the words of a command that takes those of this one, a `prove`: with the same options, and
+    /// without the name of the proof.
+    pub(crate) fn push_as(&self, out: &mut String, command: &str) -> Result<(), AllocError> {
         let mut count: u64 = 0;
         let mut is_value = false;
         let mut all_plain = false;
@@ -82,9 +92,17 @@ impl<'a> Asked<'a> {
                 is_value = takes_value(word);
                 push_word(out, word)?;
             } else {
-                push_traced_word(out, word, count)?;
+                push_one_as(out, word, count, command)?;
                 count = count.saturating_add(1);
             }
+        }
+        Ok(())
+    }
+
+    /// Appends all words as they are.
+    pub(crate) fn push_all(&self, out: &mut String) -> Result<(), AllocError> {
+        for word in self.words.iter().skip(1) {
+            push_word(out, word.as_str())?;
         }
         Ok(())
     }
@@ -111,17 +129,17 @@ impl<'a> Asked<'a> {
     }
 }
 
-/// Appends a word of a `prove` before which so many stand, as `trace` takes it.
-fn push_traced_word(out: &mut String, word: &str, count: u64) -> Result<(), AllocError> {
+/// Appends a word of a `prove` before which so many stand, as a command takes it that makes no proof.
+fn push_one_as(out: &mut String, word: &str, count: u64, command: &str) -> Result<(), AllocError> {
     match count {
-        0 => push_word(out, "trace"),
+        0 => push_word(out, command),
         1 | 2 => push_word(out, word),
         _ => Ok(()),
     }
 }
 
 /// Appends a word behind a blank, between quotes where a shell would take it apart.
-fn push_word(out: &mut String, word: &str) -> Result<(), AllocError> {
+pub(crate) fn push_word(out: &mut String, word: &str) -> Result<(), AllocError> {
     out.push(' ')?;
     if !word.is_empty() && word.as_bytes().iter().all(|byte| is_of_a_word(*byte)) {
         return out.push_str(word);

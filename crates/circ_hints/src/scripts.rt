@@ -3,10 +3,11 @@ use crate::marks::Mark;
 use crate::parts::{Part, first, is, next};
 use crate::shapes::{equation, glued_stop};
 use crate::signatures::variables;
+use crate::unreadable_hint::SourceKind;
 use circ_lexer::Tokens;
 
 /// The mark of an item whose form is wrong.
-pub(crate) fn item_shape(tokens: &Tokens<'_>, part: Part) -> Mark {
+pub(crate) fn item_shape(tokens: &Tokens<'_>, part: Part, kind: SourceKind) -> Mark {
     if let Some(mark) = glued_stop(tokens, part) {
         return mark;
     }
@@ -19,6 +20,15 @@ pub(crate) fn item_shape(tokens: &Tokens<'_>, part: Part) -> Mark {
     if is(tokens, part.from, b"var") || is(tokens, part.from, b"vars") {
         return variables(tokens, part);
     }
+    if kind == SourceKind::Terms {
+        term_item(tokens, part)
+    } else {
+        goal_item(tokens, part)
+    }
+}
+
+/// The mark of an item of a script of goals that declares nothing.
+fn goal_item(tokens: &Tokens<'_>, part: Part) -> Mark {
     if is(tokens, part.from, b"add") {
         return goal(tokens, part);
     }
@@ -33,12 +43,37 @@ pub(crate) fn item_shape(tokens: &Tokens<'_>, part: Part) -> Mark {
     }
     Mark::at(
         part.from,
-        "an item is `var NAME : SORT .`, `add goal TERM = TERM .`, `coinduction .` or `reduce TERM .`",
+        "an item is `var NAME : SORT .`, `add goal TERM = TERM .` or `coinduction .`",
     )
+}
+
+/// The mark of an item of a script of `reduce` that declares nothing.
+fn term_item(tokens: &Tokens<'_>, part: Part) -> Mark {
+    if is(tokens, part.from, b"reduce") || is(tokens, part.from, b"red") {
+        return unpaired(part);
+    }
+    if is(tokens, part.from, b"add") || is(tokens, part.from, b"coinduction") {
+        return Mark::at(
+            part.from,
+            "this is an item of `circ prove`, not of `circ reduce`",
+        );
+    }
+    Mark::at(
+        part.from,
+        "an item is `var NAME : SORT .` or `reduce TERM .`",
+    )
+}
+
+/// The mark of an item with one parenthesis of the two round it.
+fn unpaired(part: Part) -> Mark {
+    Mark::at(part.from, "parentheses round an item come in pairs")
 }
 
 /// The mark of a goal.
 fn goal(tokens: &Tokens<'_>, part: Part) -> Mark {
+    if is(tokens, part.nth(1), b"cgoal") {
+        return Mark::at(part.nth(1), "a goal of a script has no conditions");
+    }
     if !is(tokens, part.nth(1), b"goal") {
         return Mark::at(part.nth(1), "`goal` is expected here");
     }
@@ -46,10 +81,7 @@ fn goal(tokens: &Tokens<'_>, part: Part) -> Mark {
         return Mark::behind(number.saturating_sub(1), "` .` is expected here");
     }
     if has_one_sign(tokens, part) {
-        return Mark::at(
-            part.from,
-            "parentheses round an item come in pairs; and goals are for `circ prove`, not for `circ reduce`",
-        );
+        return unpaired(part);
     }
     equation(tokens, part)
 }

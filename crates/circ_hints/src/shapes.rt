@@ -1,40 +1,27 @@
 //! Where a statement of a theory leaves its form, and what was expected there.
 use crate::marks::Mark;
-use crate::parts::{Part, first, is, next};
+use crate::openings::{begins_statement, begins_work, says_of_conditions};
+use crate::parts::{Part, first, is, next, outside, without_open};
 use crate::signatures::{operator, variables};
 use circ_lexer::Tokens;
 use circ_statement::is_name;
-
-/// The first words of statements.
-const STATEMENT_WORDS: [&[u8]; 13] = [
-    b"inc",
-    b"including",
-    b"pr",
-    b"protecting",
-    b"sort",
-    b"sorts",
-    b"op",
-    b"ops",
-    b"var",
-    b"vars",
-    b"eq",
-    b"ceq",
-    b"derivative",
-];
 
 /// The mark of a statement of a theory whose form is wrong, by its number from 1.
 pub(crate) fn statement_shape(tokens: &Tokens<'_>, source: &[u8], number: u64, part: Part) -> Mark {
     if number == 1 {
         return head(tokens, b"theory");
     }
+    if is(tokens, part.from, b"endtheory") {
+        return text_end(tokens, part.from);
+    }
     if let Some(mark) = glued_stop(tokens, part) {
         return mark;
     }
     if !part.is_ended {
-        return end(tokens, part);
+        return cut(tokens, part);
     }
     if !begins_statement(tokens, part.from) {
-        return Mark::at(part.from, "no statement begins with this word");
+        return no_statement(tokens, part.from);
     }
     if let Some(mark) = missing_stop(tokens, source, part) {
         return mark;
@@ -42,22 +29,20 @@ pub(crate) fn statement_shape(tokens: &Tokens<'_>, source: &[u8], number: u64, p
     by_word(tokens, part)
 }
 
-/// Whether a token begins a statement.
-fn begins_statement(tokens: &Tokens<'_>, number: usize) -> bool {
-    if is(tokens, number, b"cases") {
-        return true;
+/// The mark of a word that begins no statement.
+fn no_statement(tokens: &Tokens<'_>, number: usize) -> Mark {
+    if begins_work(tokens, number) {
+        return Mark::at(
+            number,
+            "this is an item of a script, which is a text of its own",
+        );
     }
-    for word in STATEMENT_WORDS {
-        if is(tokens, number, word) {
-            return true;
-        }
-    }
-    false
+    Mark::at(number, "no statement begins with this word")
 }
 
 /// The mark of a head, which is `WORD NAME is`, perhaps in a parenthesis.
 pub(crate) fn head(tokens: &Tokens<'_>, word: &[u8]) -> Mark {
-    let from = if is(tokens, 0, b"(") { 1 } else { 0 };
+    let from = without_open(tokens, 0);
     if !is(tokens, from, word) {
         return Mark::at(
             from,
@@ -98,14 +83,25 @@ pub(crate) fn glued_stop(tokens: &Tokens<'_>, part: Part) -> Option<Mark> {
     None
 }
 
-/// The mark of what stands behind the last stop of a theory and is no end.
-fn end(tokens: &Tokens<'_>, part: Part) -> Mark {
-    if is(tokens, part.from, b"endtheory") {
-        return Mark::at(
-            part.nth(1),
-            "the text ends with `endtheory`, and with `)` if it begins with `(`",
+/// The mark of an `endtheory` behind which something stands, or not its parenthesis.
+fn text_end(tokens: &Tokens<'_>, number: usize) -> Mark {
+    let is_open = is(tokens, 0, b"(");
+    let is_closed = is(tokens, next(number), b")");
+    if is_closed && !is_open {
+        return Mark::at(next(number), "nothing opens this parenthesis");
+    }
+    let last = if is_closed { next(number) } else { number };
+    if next(last) < tokens.count() {
+        return Mark::behind(
+            last,
+            "the text ends here: one theory a file; goals are a script",
         );
     }
+    Mark::behind(last, "`)` is expected here, since the text begins with `(`")
+}
+
+/// The mark of what stands behind the last stop of a theory and is no end.
+fn cut(tokens: &Tokens<'_>, part: Part) -> Mark {
     match first(tokens, part.from, part.to, b"endtheory") {
         Some(number) => Mark::behind(number.saturating_sub(1), "` .` is expected here"),
         None => Mark::behind(
@@ -177,22 +173,66 @@ fn one_name(tokens: &Tokens<'_>, part: Part) -> Mark {
 /// The mark of an equation: one `=` stands in it.
 pub(crate) fn equation(tokens: &Tokens<'_>, part: Part) -> Mark {
     let Some(sign) = first(tokens, part.from, part.to, b"=") else {
-        return Mark::behind(part.to.saturating_sub(1), "`=` and a term are expected");
+        return no_sign(tokens, part);
     };
     match first(tokens, next(sign), part.to, b"=") {
-        Some(second) => Mark::at(second, "a second `=`: is a ` .` missing before?"),
+        Some(second) => second_sign(tokens, part, sign, second),
         None => Mark::at(part.from, "an equation is `eq TERM = TERM .`"),
+    }
+}
+
+/// The mark of an equation without `=`.
+fn no_sign(tokens: &Tokens<'_>, part: Part) -> Mark {
+    match glued_sign(tokens, part) {
+        Some(mark) => mark,
+        None => Mark::behind(part.to.saturating_sub(1), "`=` and a term are expected"),
+    }
+}
+
+/// The mark of an equation with a second `=`: of the `if` between the two, or of the second.
+fn second_sign(tokens: &Tokens<'_>, part: Part, sign: usize, second: usize) -> Mark {
+    if let Some(number) = outside(tokens, sign, second, b"if") {
+        if let Some(says) = says_of_conditions(tokens, part, number) {
+            return Mark::at(number, says);
+        }
+    }
+    Mark::at(second, "a second `=`: is a ` .` missing before?")
+}
+
+/// The first token with a `=` in it that should stand by itself.
+fn glued_sign(tokens: &Tokens<'_>, part: Part) -> Option<Mark> {
+    for number in part.from..part.to {
+        if let Some(token) = tokens.token(number) {
+            if token.len() > 1 && token.contains(&b'=') && !is_order(token) {
+                return Some(Mark::naming(
+                    number,
+                    "`=` stands by itself, with a blank on each side",
+                ));
+            }
+        }
+    }
+    None
+}
+
+/// Whether a token with a `=` in it is a common word of an operator.
+fn is_order(token: &[u8]) -> bool {
+    match token {
+        b"<=" | b"=<" | b">=" | b"=>" => true,
+        _ => false,
     }
 }
 
 /// The mark of an equation with conditions.
 fn conditional(tokens: &Tokens<'_>, part: Part) -> Mark {
-    match first(tokens, part.from, part.to, b"if") {
-        None => Mark::behind(
+    let Some(number) = outside(tokens, part.from, part.to, b"if") else {
+        return Mark::behind(
             part.to.saturating_sub(1),
             "`if` and conditions are expected",
-        ),
-        Some(number) => Mark::at(
+        );
+    };
+    match glued_sign(tokens, part) {
+        Some(mark) => mark,
+        None => Mark::at(
             number,
             "a conditional equation is `ceq TERM = TERM if TERM = TERM /\\ .. .`",
         ),

@@ -1,7 +1,8 @@
-//! The hints for a search that is stuck or goes on too long.
+//! The hints for a search that is stuck or goes on too long, and for a proof that is refused.
 use crate::drawing::{Place, push_picture, push_position};
 use crate::parts::{Part, behind_item, is, item_from};
-use crate::run_words::Asked;
+use crate::run_words::{Asked, push_word};
+use crate::seen_lines::Seen;
 use circ_lexer::Tokens;
 use std::alloc::{AllocError, Global};
 use std::fmt::Write;
@@ -9,13 +10,36 @@ use std::fmt::Write;
 /// As many splits as stand inside one another at most.
 const MOST_CASES: u64 = 8;
 
-/// What a search lacks that is stuck where so many cases stand.
-pub fn stuck_end(cases: u64) -> &'static str {
-    if cases >= MOST_CASES {
+/// What a search lacks that is stuck, and, where both sides are constants, the call that may show that the
+/// goal is false.
+pub fn stuck_end(alloc: Global, asked: Asked<'_>, seen: Seen) -> Result<String, AllocError> {
+    let mut out = String::new(alloc);
+    out.push_str(if seen.cases >= MOST_CASES {
         "circ: 8 cases stand inside one another, as many as there may be\n"
     } else {
         "circ: no rule, hypothesis or lemma leads on, and nothing is left to split on\n"
+    })?;
+    if seen.are_constants {
+        push_difference(&mut out, asked)?;
     }
+    Ok(out)
+}
+
+/// Appends the call that may show that a goal of these words is false.
+fn push_difference(out: &mut String, asked: Asked<'_>) -> Result<(), AllocError> {
+    out.push_str("circ: is it false? ")?;
+    if asked.command() == "regex" {
+        out.push_str("tools/regex-word")?;
+        for number in 1..=2 {
+            if let Some(word) = asked.expression(number) {
+                push_word(out, word)?;
+            }
+        }
+    } else {
+        out.push_str("circ")?;
+        asked.push_as(out, "differ")?;
+    }
+    out.push('\n')
 }
 
 /// The call that shows the turns of the search of these words; empty if they are of no `prove`.
@@ -23,9 +47,18 @@ pub fn trace_call(alloc: Global, asked: Asked<'_>) -> Result<String, AllocError>
     let mut out = String::new(alloc);
     if asked.command() == "prove" {
         out.push_str("circ: each turn of the search: circ")?;
-        asked.push_traced(&mut out)?;
+        asked.push_as(&mut out, "trace")?;
         out.push('\n')?;
     }
+    Ok(out)
+}
+
+/// The call that shows the step that is refused.
+pub fn explain_call(alloc: Global, asked: Asked<'_>) -> Result<String, AllocError> {
+    let mut out = String::new(alloc);
+    out.push_str("circ: what stands there: tools/explain")?;
+    asked.push_all(&mut out)?;
+    out.push('\n')?;
     Ok(out)
 }
 
@@ -43,7 +76,8 @@ pub fn stuck_goal(
     Ok(out)
 }
 
-/// Appends the place of the goal in the script, if the script's bytes are cut into tokens.
+/// Appends the place of the goal in the script, or else that of its block's first goal, if the script's
+/// bytes are cut into tokens.
 fn push_goal(
     alloc: Global,
     out: &mut String,
@@ -52,52 +86,28 @@ fn push_goal(
     block: u64,
     goal: u64,
 ) -> Result<(), AllocError> {
-    match Tokens::of(alloc, script) {
-        Ok(tokens) => match place_of(&tokens, block, goal) {
-            Some(place) => push_place(out, name, script, place, block, goal),
-            None => push_made(out, block, goal),
-        },
-        Err(_) => Ok(()),
+    let Ok(tokens) = Tokens::of(alloc, script) else {
+        return Ok(());
+    };
+    if let Some(place) = place_of(&tokens, block, goal) {
+        push_position(out, name, script, place.at)?;
+        writeln!(out, "stuck: goal {goal} of block {block}")?;
+        return push_picture(out, script, place);
     }
-}
-
-/// Appends that `derive` made the goal.
-fn push_made(out: &mut String, block: u64, goal: u64) -> Result<(), AllocError> {
+    let Some(place) = place_of(&tokens, block, 1) else {
+        return Ok(());
+    };
+    push_position(out, name, script, place.at)?;
     writeln!(
         out,
-        "circ: goal {goal} of block {block} is none of the script's: `derive` made it of those before it"
-    )
-}
-
-fn push_place(
-    out: &mut String,
-    name: &str,
-    script: &[u8],
-    place: Place,
-    block: u64,
-    goal: u64,
-) -> Result<(), AllocError> {
-    push_position(out, name, script, place.at)?;
-    writeln!(out, "stuck: goal {goal} of block {block}")?;
+        "stuck: goal {goal} of block {block} is none of the script's: `derive` made it of those from here on"
+    )?;
     push_picture(out, script, place)
 }
 
 /// The place of a goal, if it stands in the script.
 fn place_of(tokens: &Tokens<'_>, block: u64, goal: u64) -> Option<Place> {
-    let part = goal_at(tokens, block, goal)?;
-    let begin = tokens.span(part.from)?;
-    Some(Place {
-        at: begin.from,
-        width: width(tokens, part, begin.from),
-    })
-}
-
-/// How many bytes an item takes from a place on.
-fn width(tokens: &Tokens<'_>, part: Part, from: usize) -> usize {
-    match tokens.span(part.to.saturating_sub(1)) {
-        Some(span) => span.to.saturating_sub(from),
-        None => 1,
-    }
+    goal_at(tokens, block, goal)?.place(tokens)
 }
 
 /// The item of a goal by the numbers of its block and of it in the block, from 1.

@@ -1,28 +1,45 @@
 //! Which token of a term that does not read is the likely cause.
-use crate::known::Known;
+use crate::drawing::rest_from;
+use crate::known::{Known, Wanted};
 use crate::marks::Mark;
-use crate::parts::{Part, is};
+use crate::openings::{begins_statement, begins_work, says_of_conditions};
+use crate::parts::{Part, is, next};
 use crate::prefixes::unread_behind;
 use crate::unreadable_hint::Source;
 use circ_lexer::Tokens;
 use std::alloc::{AllocError, Global};
 
+/// What is said of a term without a reading where nothing more is known.
+pub(crate) const NO_TERM: &str =
+    "each word is declared, but this spells no term: see sorts, parentheses and blanks";
+
+/// The names that the terms of a part may have.
+#[derive(Drop)]
+struct Names<'a> {
+    words: Known<'a>,
+    sorts: Known<'a>,
+    /// Whether the part is an equation with conditions.
+    has_conditions: bool,
+}
+
 /// The mark of a statement or an item with a term that has no reading: a word that nothing declares,
 /// or else a parenthesis without its other one, or else what stands behind the longest part that
 /// reads, or else the whole.
-pub(crate) fn unread_word(
+pub(crate) fn unread_word<'a>(
     alloc: Global,
-    source: &Source<'_>,
-    tokens: &Tokens<'_>,
+    source: &Source<'a>,
+    tokens: &Tokens<'a>,
     part: Part,
-    known: &Known<'_>,
 ) -> Result<Mark, AllocError> {
     let from = terms_begin(tokens, part);
-    if let Some(number) = undeclared(tokens, from, part.to, known) {
-        return Ok(Mark::naming(
-            number,
-            "nothing that is declared before has this word (an inclusion brings no variables)",
-        ));
+    let names = Names {
+        words: Known::before(alloc, Wanted::Words, source, tokens, part.from)?,
+        sorts: Known::before(alloc, Wanted::Sorts, source, tokens, part.from)?,
+        has_conditions: is(tokens, part.from, b"ceq"),
+    };
+    if let Some(number) = names.undeclared(tokens, from, part.to) {
+        let says = says_of_word(tokens, part, number, &names);
+        return Ok(Mark::naming(number, says));
     }
     if let Some(mark) = unbalanced(tokens, from, part.to) {
         return Ok(mark);
@@ -32,10 +49,7 @@ pub(crate) fn unread_word(
             return Ok(mark);
         }
     }
-    Ok(Mark::at(
-        from,
-        "each word is declared, but this spells no term: see sorts, parentheses and blanks",
-    ))
+    Ok(Mark::at(from, NO_TERM))
 }
 
 /// Where the terms of a statement or an item begin.
@@ -49,24 +63,35 @@ fn terms_begin(tokens: &Tokens<'_>, part: Part) -> usize {
     part.nth(1)
 }
 
-/// The first token of a range that no declaration has.
-fn undeclared(tokens: &Tokens<'_>, from: usize, to: usize, known: &Known<'_>) -> Option<usize> {
-    for number in from..to {
-        match tokens.token(number) {
-            Some(word) if is_of_any_term(word) || known.has(word) => {}
-            _ => return Some(number),
+impl Names<'_> {
+    /// The first token of a range that no declaration has.
+    fn undeclared(&self, tokens: &Tokens<'_>, from: usize, to: usize) -> Option<usize> {
+        for number in from..to {
+            match tokens.token(number) {
+                Some(word) if self.has(word) => {}
+                _ => return Some(number),
+            }
         }
+        None
     }
-    None
+
+    /// Whether a token may stand in a term, or between terms.
+    fn has(&self, word: &[u8]) -> bool {
+        self.words.has(word)
+            || is_of_any_term(word)
+            || (self.has_conditions && is_of_conditions(word))
+            || self.sorts.has(behind_colon(word))
+    }
 }
 
 /// Whether a token may stand in a term, or between terms, without a declaration.
 fn is_of_any_term(word: &[u8]) -> bool {
-    word.iter().any(|byte| *byte == b':')
-        || is_one_of(word, b"()[]{},=")
-        || is_same(word, b"if")
-        || is_same(word, b"/\\")
-        || is_same(word, b"nonexec")
+    is_one_of(word, b"()[]{},=") || is_same(word, b"nonexec")
+}
+
+/// Whether a token may stand between conditions.
+fn is_of_conditions(word: &[u8]) -> bool {
+    is_same(word, b"if") || is_same(word, b"/\\")
 }
 
 fn is_same(word: &[u8], text: &[u8]) -> bool {
@@ -78,6 +103,74 @@ fn is_one_of(word: &[u8], signs: &[u8]) -> bool {
         [byte] => signs.contains(byte),
         _ => false,
     }
+}
+
+/// What stands behind the first colon of a word: the sort of a variable that is written with it.
+fn behind_colon(word: &[u8]) -> &[u8] {
+    for (n, byte) in word.iter().enumerate() {
+        if *byte == b':' {
+            return rest_from(word, next(n));
+        }
+    }
+    &[]
+}
+
+/// What is said of a word that no declaration has.
+fn says_of_word(tokens: &Tokens<'_>, part: Part, number: usize, names: &Names<'_>) -> &'static str {
+    if begins_statement(tokens, number) || begins_work(tokens, number) {
+        return "is a ` .` missing before?";
+    }
+    if let Some(says) = says_of_mark(tokens, part, number, names) {
+        return says;
+    }
+    if let Some(word) = tokens.token(number) {
+        if !behind_colon(word).is_empty() {
+            return "no sort of this name is declared";
+        }
+        if is_same(word, b"if") {
+            return says_of_conditions(tokens, part, number).unwrap_or(UNDECLARED);
+        }
+    }
+    UNDECLARED
+}
+
+/// What is said of a word that nothing declares.
+const UNDECLARED: &str =
+    "nothing that is declared before has this word (an inclusion brings no variables)";
+
+/// What is said of a word between the brackets of a label before an equation, or of marks behind it.
+/// None where it stands there in neither, or may be of a term.
+fn says_of_mark(
+    tokens: &Tokens<'_>,
+    part: Part,
+    number: usize,
+    names: &Names<'_>,
+) -> Option<&'static str> {
+    let is_equation = is(tokens, part.from, b"eq") || is(tokens, part.from, b"ceq");
+    if !is_equation || names.words.has(b"[") {
+        return None;
+    }
+    if is(tokens, part.nth(1), b"[") && number == part.nth(2) {
+        return Some("circ has no labels: leave it away");
+    }
+    if is(tokens, part.to.saturating_sub(1), b"]") && bracket_before(tokens, part, number) {
+        return Some("only [nonexec] may stand here");
+    }
+    None
+}
+
+/// Whether a bracket opens before a token of a part, and none closes between.
+fn bracket_before(tokens: &Tokens<'_>, part: Part, number: usize) -> bool {
+    let mut is_open = false;
+    for before in part.from..number {
+        if is(tokens, before, b"[") {
+            is_open = true;
+        }
+        if is(tokens, before, b"]") {
+            is_open = false;
+        }
+    }
+    is_open
 }
 
 /// The first closing parenthesis without an open one, or the end of the first term with an open one

@@ -1,10 +1,13 @@
 //! The hint for a text that was not read.
 use crate::automata::automaton_shape;
 use crate::causes::{name_of, says_of};
+use crate::conditions::hidden_condition;
 use crate::drawing::{Place, bytes_at, push_picture, push_position};
 use crate::known::{Known, Wanted};
+use crate::left_out::left_out;
 use crate::marks::Mark;
 use crate::parts::{Part, first, is, item_at, next, statement_at};
+use crate::proof_lines::{line_at, says_of_line};
 use crate::scripts::item_shape;
 use crate::shapes::statement_shape;
 use crate::terms::unread_word;
@@ -21,9 +24,19 @@ const MOST_NAMES: usize = 100;
 #[derive(Clone, Copy, PartialEq, Eq)]
 pub enum SourceKind {
     Theory,
+    /// A script of goals.
     Script,
+    /// A script of terms, for `reduce`.
+    Terms,
     Automaton,
     Proof,
+}
+
+impl SourceKind {
+    /// Whether it is read in a theory, item by item.
+    pub fn is_script(self) -> bool {
+        self == SourceKind::Script || self == SourceKind::Terms
+    }
 }
 
 /// A text that was not read.
@@ -39,10 +52,24 @@ pub struct Source<'a> {
 
 /// Where the hint of a cause points to, and what it says.
 #[derive(Clone, Copy)]
-struct Finding {
+struct Finding<'a> {
     place: Place,
     names: bool,
+    /// The name with which it begins to say something, or nothing.
+    subject: &'a [u8],
     says: &'static str,
+}
+
+impl Finding<'_> {
+    /// What is said of a place.
+    fn at(place: Place, says: &'static str) -> Finding<'static> {
+        Finding {
+            place,
+            names: false,
+            subject: &[],
+            says,
+        }
+    }
 }
 
 /// The hint for a text that was not read, by the number of the statement, item or line and the cause
@@ -63,14 +90,19 @@ fn push_finding(
     out: &mut String,
     source: &Source<'_>,
     cause: &str,
-    finding: Finding,
+    finding: Finding<'_>,
 ) -> Result<(), AllocError> {
     push_position(out, source.name, source.bytes, finding.place.at)?;
     out.push_str(cause)?;
     if finding.names {
         push_name(out, bytes_at(source.bytes, finding.place))?;
     }
-    push_line(out, ": ", finding.says)?;
+    out.push_str(": ")?;
+    push_line(
+        out,
+        str::from_utf8(finding.subject).unwrap_or(""),
+        finding.says,
+    )?;
     push_picture(out, source.bytes, finding.place)
 }
 
@@ -81,97 +113,116 @@ fn push_name(out: &mut String, name: &[u8]) -> Result<(), AllocError> {
     out.push('`')
 }
 
-fn find(
+fn find<'a>(
     alloc: Global,
-    source: &Source<'_>,
+    source: &Source<'a>,
     number: u64,
     cause: &Cause,
-) -> Result<Finding, AllocError> {
+) -> Result<Finding<'a>, AllocError> {
     if let Cause::NotAscii { place } | Cause::Control { place } = cause {
-        return Ok(Finding {
-            place: Place {
-                at: *place as usize,
-                width: 1,
-            },
-            names: false,
-            says: says_of(cause),
-        });
+        let place = Place {
+            at: *place as usize,
+            width: 1,
+        };
+        return Ok(Finding::at(place, says_of(cause)));
     }
     if source.kind == SourceKind::Proof {
-        return Ok(Finding {
-            place: line_at(source.bytes, number),
-            names: false,
-            says: says_of(cause),
-        });
+        return Ok(line_finding(source.bytes, number, cause));
     }
-    token_finding(alloc, source, number, cause)
+    match Tokens::of(alloc, source.bytes) {
+        Ok(tokens) => token_finding(alloc, source, &tokens, number, cause),
+        Err(_) => Ok(Finding::at(Place { at: 0, width: 1 }, says_of(cause))),
+    }
 }
 
-/// The line of a number from 1.
-fn line_at(bytes: &[u8], number: u64) -> Place {
-    let mut line: u64 = 1;
-    let mut place = Place { at: 0, width: 0 };
-    for (n, byte) in bytes.iter().enumerate() {
-        if line == number {
-            place.width = place.width.saturating_add(1);
-        }
-        if *byte == b'\n' {
-            line = line.saturating_add(1);
-            if line == number {
-                place = Place {
-                    at: next(n),
-                    width: 0,
-                };
-            }
-        }
-    }
-    place
+/// What is found of a line of a proof.
+fn line_finding(bytes: &[u8], number: u64, cause: &Cause) -> Finding<'static> {
+    let place = line_at(bytes, number);
+    let says = match cause {
+        Cause::Line => says_of_line(bytes, place, number),
+        _ => says_of(cause),
+    };
+    Finding::at(place, says)
 }
 
-fn token_finding(
+fn token_finding<'a>(
     alloc: Global,
-    source: &Source<'_>,
+    source: &Source<'a>,
+    tokens: &Tokens<'a>,
     number: u64,
     cause: &Cause,
-) -> Result<Finding, AllocError> {
-    let Ok(tokens) = Tokens::of(alloc, source.bytes) else {
-        return Ok(Finding {
-            place: Place { at: 0, width: 1 },
-            names: false,
-            says: says_of(cause),
-        });
-    };
-    let mark = mark_of(alloc, source, &tokens, number, cause)?;
+) -> Result<Finding<'a>, AllocError> {
+    if let Cause::NotVisible { sort } = cause {
+        return hidden_sort(alloc, source, tokens, number, *sort);
+    }
+    let mark = mark_of(alloc, source, tokens, number, cause)?;
     Ok(Finding {
-        place: mark.place(&tokens, source.bytes.len()),
+        place: mark.place(tokens, source.bytes.len()),
         names: mark.names,
+        subject: &[],
         says: mark.says,
+    })
+}
+
+/// What is found of a condition or a case list of a hidden sort.
+fn hidden_sort<'a>(
+    alloc: Global,
+    source: &Source<'a>,
+    tokens: &Tokens<'a>,
+    number: u64,
+    sort: u32,
+) -> Result<Finding<'a>, AllocError> {
+    let part = part_of(source, tokens, number);
+    let sorts = Known::before(alloc, Wanted::Sorts, source, tokens, part.from)?;
+    let (place, says) = if is(tokens, part.from, b"cases") {
+        let mark = Mark::at(part.nth(1), " is hidden; a case list is of a visible sort");
+        (mark.place(tokens, source.bytes.len()), mark.says)
+    } else {
+        let condition = hidden_condition(alloc, source, tokens, part)?;
+        let nowhere = Place {
+            at: source.bytes.len(),
+            width: 1,
+        };
+        (
+            condition.place(tokens).unwrap_or(nowhere),
+            " is hidden; a condition is of a visible sort",
+        )
+    };
+    Ok(Finding {
+        place,
+        names: false,
+        subject: sorts.name(sort).unwrap_or(b"this sort"),
+        says,
     })
 }
 
 /// The part of a number.
 fn part_of(source: &Source<'_>, tokens: &Tokens<'_>, number: u64) -> Part {
-    if source.kind == SourceKind::Script {
+    if source.kind.is_script() {
         item_at(tokens, number)
     } else {
         statement_at(tokens, number)
     }
 }
 
-fn mark_of(
+fn mark_of<'a>(
     alloc: Global,
-    source: &Source<'_>,
-    tokens: &Tokens<'_>,
+    source: &Source<'a>,
+    tokens: &Tokens<'a>,
     number: u64,
     cause: &Cause,
 ) -> Result<Mark, AllocError> {
     let part = part_of(source, tokens, number);
     match cause {
-        Cause::UnknownSort => by_names(alloc, source, tokens, part, Wanted::Sorts, cause),
-        Cause::NoParse => by_names(alloc, source, tokens, part, Wanted::Words, cause),
+        Cause::UnknownSort => {
+            let known = Known::before(alloc, Wanted::Sorts, source, tokens, part.from)?;
+            Ok(unknown_sort(tokens, part, &known))
+        }
+        Cause::NoParse => unread_word(alloc, source, tokens, part),
         Cause::Twice { .. } => {
             let wanted = wanted_twice(tokens, part);
-            by_names(alloc, source, tokens, part, wanted, cause)
+            let known = Known::before(alloc, wanted, source, tokens, part.from)?;
+            Ok(declared_twice(tokens, part, &known))
         }
         _ => Ok(by_form(source, tokens, part, number, cause)),
     }
@@ -189,6 +240,9 @@ fn by_form(
     match cause {
         Cause::LeftOut { word } => left_out(tokens, part, number, word.bytes()),
         Cause::Shape => shape(source, tokens, part, number),
+        Cause::NoGoal if source.kind == SourceKind::Terms => {
+            Mark::at(part.from, "no `red TERM .` stands here")
+        }
         Cause::NoGoal | Cause::Limit { .. } => Mark::at(part.from, says),
         Cause::UnknownTheory => Mark::naming(part.nth(1), says),
         Cause::Unclosed => Mark::behind(tokens.count().saturating_sub(1), says),
@@ -198,59 +252,10 @@ fn by_form(
 
 fn shape(source: &Source<'_>, tokens: &Tokens<'_>, part: Part, number: u64) -> Mark {
     match source.kind {
-        SourceKind::Script => item_shape(tokens, part),
+        SourceKind::Script | SourceKind::Terms => item_shape(tokens, part, source.kind),
         SourceKind::Automaton => automaton_shape(tokens, number, part),
         _ => statement_shape(tokens, source.bytes, number, part),
     }
-}
-
-/// The mark of a word that is left out: in the statement, or in the whole text if it has no number.
-fn left_out(tokens: &Tokens<'_>, part: Part, number: u64, word: &[u8]) -> Mark {
-    if number == 0 {
-        return match first(tokens, 0, tokens.count(), word) {
-            Some(found) => Mark::at(
-                found,
-                "this command leaves conditions out; `check` and `relation` take them",
-            ),
-            None => Mark::at(0, "this command leaves conditions out"),
-        };
-    }
-    match first(tokens, part.from, part.to, word) {
-        Some(found) => Mark::naming(found, "circ does not have this"),
-        None => Mark::at(part.from, "circ does not have this"),
-    }
-}
-
-/// The mark of a cause that depends on which names are declared before a part.
-fn by_names(
-    alloc: Global,
-    source: &Source<'_>,
-    tokens: &Tokens<'_>,
-    part: Part,
-    wanted: Wanted,
-    cause: &Cause,
-) -> Result<Mark, AllocError> {
-    let mut known = Known::new(alloc, wanted);
-    add_known(alloc, &mut known, source, tokens, part)?;
-    match cause {
-        Cause::UnknownSort => Ok(unknown_sort(tokens, part, &known)),
-        Cause::Twice { .. } => Ok(declared_twice(tokens, part, &known)),
-        _ => unread_word(alloc, source, tokens, part, &known),
-    }
-}
-
-/// Adds what is declared before a part, in a script also by the theory.
-fn add_known<'a>(
-    alloc: Global,
-    known: &mut Known<'a>,
-    source: &Source<'a>,
-    tokens: &Tokens<'a>,
-    part: Part,
-) -> Result<(), AllocError> {
-    if let Ok(theory) = Tokens::of(alloc, source.theory) {
-        known.add_before(alloc, &theory, theory.count())?;
-    }
-    known.add_before(alloc, tokens, part.from)
 }
 
 /// What names a statement declares.

@@ -1,11 +1,15 @@
 //! Lines on standard error that help with an answer: where a text is wrong, which goal is stuck, which
-//! word is no command.
-use circ_hints::{Asked, Source, SourceKind, stuck_end, stuck_goal, trace_call, unreadable, usage};
+//! word is no command, why a file was not read.
+use crate::read_faults::why_unread;
+use circ_hints::{
+    Asked, Seen, Source, explain_call, stuck_end, stuck_goal, trace_call, unread_expression,
+    unreadable, usage,
+};
 use circ_read::Cause;
 use circ_top::Status;
 use std::alloc::AllocError;
-use std::fs;
 use std::rt::Files;
+use std::{fs, str};
 
 /// The number of the theory among the files of a command.
 const THEORY_FILE: u8 = 1;
@@ -13,14 +17,16 @@ const THEORY_FILE: u8 = 1;
 /// The number of the script.
 const SCRIPT_FILE: u8 = 2;
 
-/// Prints the hint for an answer, if there is one. So many cases were printed with the answer.
+/// Prints the hint for an answer, if there is one. The name is that of the file of the last fault, and
+/// this was seen of the text that was printed.
 pub fn print_hint<R: Files + AllocGlobal + Eprint>(
     rt: &R,
     words: &[String],
     status: &Status,
-    cases: u64,
+    name: Option<&[u8]>,
+    seen: Seen,
 ) {
-    if let Ok(Some(text)) = hint(rt, words, status, cases) {
+    if let Ok(Some(text)) = hint(rt, words, status, name, seen) {
         let _ = eprint!(rt; "{text}");
     }
 }
@@ -29,18 +35,36 @@ fn hint<R: Files + AllocGlobal>(
     rt: &R,
     words: &[String],
     status: &Status,
-    cases: u64,
+    name: Option<&[u8]>,
+    seen: Seen,
 ) -> Result<Option<String>, AllocError> {
+    let asked = Asked::new(words);
     match status {
         Status::Usage => Ok(Some(usage(rt.alloc(), words)?)),
         Status::Unreadable { file, place, cause } => {
-            unreadable_hint(rt, Asked::new(words), *file, *place, cause)
+            unreadable_hint(rt, asked, *file, *place, cause)
         }
-        Status::Stuck { block, goal } => { stuck_hint(rt, Asked::new(words), *block, *goal, cases) }
+        Status::Stuck { block, goal } => stuck_hint(rt, asked, *block, *goal, seen),
         Status::Spent { .. } | Status::TooBig { .. } | Status::TooDeep { .. } => {
-            Ok(Some(trace_call(rt.alloc(), Asked::new(words))?))
+            Ok(Some(trace_call(rt.alloc(), asked)?))
         }
+        Status::Refused { .. } => Ok(Some(explain_call(rt.alloc(), asked)?)),
+        Status::ReadFault { .. } => read_fault_hint(rt, name),
         _ => Ok(None),
+    }
+}
+
+/// Why the file of a name was not read, if that is seen.
+fn read_fault_hint<R: Files + AllocGlobal>(
+    rt: &R,
+    name: Option<&[u8]>,
+) -> Result<Option<String>, AllocError> {
+    let Ok(name) = str::from_utf8(name.unwrap_or(b"")) else {
+        return Ok(None);
+    };
+    match why_unread(rt, name) {
+        Some(says) => Ok(Some(format!(in rt.alloc(); "circ: {says}\n")?)),
+        None => Ok(None),
     }
 }
 
@@ -67,13 +91,17 @@ fn unreadable_hint<R: Files + AllocGlobal>(
     place: u64,
     cause: &Cause,
 ) -> Result<Option<String>, AllocError> {
+    if asked.command() == "regex" {
+        return Ok(Some(unread_expression(rt.alloc(), asked, number, cause)?));
+    }
     let Some((name, bytes)) = file_of(rt, asked, number) else {
         return Ok(None);
     };
     let kind = asked.kind(number);
-    let theory = match kind {
-        SourceKind::Script => file_of(rt, asked, THEORY_FILE),
-        _ => None,
+    let theory = if kind.is_script() {
+        file_of(rt, asked, THEORY_FILE)
+    } else {
+        None
     };
     let source = Source {
         name,
@@ -92,7 +120,7 @@ fn stuck_hint<R: Files + AllocGlobal>(
     asked: Asked<'_>,
     block: u32,
     goal: u64,
-    cases: u64,
+    seen: Seen,
 ) -> Result<Option<String>, AllocError> {
     let mut text = String::new(rt.alloc());
     if !asked.splits() {
@@ -100,7 +128,7 @@ fn stuck_hint<R: Files + AllocGlobal>(
             text = stuck_goal(rt.alloc(), name, bytes.as_slice(), block, goal)?;
         }
     }
-    text.push_str(stuck_end(cases))?;
+    text.push_str(stuck_end(rt.alloc(), asked, seen)?.as_str())?;
     text.push_str(trace_call(rt.alloc(), asked)?.as_str())?;
     Ok(Some(text))
 }

@@ -2,9 +2,10 @@
 #![tactic(auto)]
 
 mod hints;
+mod read_faults;
 
 use crate::hints::print_hint;
-use circ_hints::{CaseCount, Progress};
+use circ_hints::{Progress, SeenLines};
 use circ_outer::{HostShelf, HostSink};
 use circ_top::{Status, circ};
 use std::io::ErrorKind;
@@ -49,11 +50,17 @@ fn run(rt: &HostRuntime) -> u8 {
         Err(number) => return number,
     };
     let mut shelf = Progress::new(HostShelf::new(*rt), *rt);
-    let mut sink = CaseCount::new(HostSink::new(*rt));
+    let mut sink = SeenLines::new(HostSink::new(*rt));
     let status = circ(rt.alloc(), &words, &mut shelf, &mut sink);
     shelf.clear();
     complain(rt, &status, shelf.inner().failed_name());
-    print_hint(rt, words.as_slice(), &status, sink.cases());
+    print_hint(
+        rt,
+        words.as_slice(),
+        &status,
+        shelf.inner().failed_name(),
+        sink.seen(),
+    );
     status.number()
 }
 
