@@ -2,8 +2,8 @@
 ghost use Rattle.circ_plain_search.specs.Coming.{IsReady};
 ghost use Rattle.circ_block.specs.Derived.{GivesDerivatives};
 
-use circ_rules::DeriveFault;
 use circ_join::Stop;
+use circ_rules::DeriveFault;
 use circ_theory::{Goal, Theory};
 use std::alloc::Global;
 use std::collections::VecDeque;
