@@ -1,7 +1,8 @@
 -- The derivatives of a goal of a search: there are numbers for all parameters, so a limit is all that can stand in their way.
-use Rattle.std.proofs.Common.{◌≡◌, ℕ, ◌+◌, ◌≤◌, ◌^◌, Bool, true, false, ◌==◌, if◌then◌else◌, List, [], ◌∷◌, map, length, Option, Some, None, Result, Ok, Err, refl, ap, sym, subst, ◌∙◌, arith, Global}
+use Rattle.std.proofs.Common.{◌≡◌, ◌+◌, ◌≤◌, ◌^◌, ◌==◌, if◌then◌else◌, List, [], ◌∷◌, map, length, Option, Some, None, Ok, Err, refl, ap, sym, subst, ◌∙◌, arith, Global}
 use Rattle.std.specs.declared.collections.VecDeque.{VecDeque}
 use Rattle.std.proofs.lemmas.Bool.{le-ltb}
+use Rattle.std.proofs.lemmas.Option.{same_Some}
 use Rattle.std.specs.List.{Contains}
 use Rattle.std.specs.Option.{option_map, option_or}
 use Rattle.circ_term.specs.Tree.{sort_of}
@@ -19,6 +20,7 @@ use Rattle.circ_proof.specs.Rules.{derived_goal, derivatives_on}
 use Rattle.circ_proof.proofs.Members.{from_filter}
 use Rattle.circ_rules.specs.Derivatives.{Cause, No_numbers, Past, sides_limit, cause_on, first_cause, limit_in, MakesDerivatives}
 use Rattle.circ_rules.specs.declared.fault.DeriveFault.TheVariants as fault
+use Rattle.circ_plain_search.specs.Joining.{Past_limit}
 use Rattle.circ_plain_search.specs.Search.{goals_limit, unless_past}
 use Rattle.circ_plain_search.specs.Coming.{IsReady}
 use Rattle.circ_join.specs.Stopping.{Stops, term_stop}
@@ -73,9 +75,9 @@ module _ (th : Theory) (ok : IsWellFormed th) (g : Goal) (ready : IsReady th g) 
     where
       go : (e : TermFault) (o : Option Limit) → Names e (limit_in (option_map Past o)) → Stops (unless_past o (derivatives_on th g)) (term_stop e)
       go (term.TooBig n) None h = absurd (cc)
-      go (term.TooBig n) (Some l) h = rw h refl
+      go (term.TooBig n) (Some l) h = ap (λ x. Err (Past_limit x)) (same_Some l (Big n) h)
       go (term.TooDeep n) None h = absurd (cc)
-      go (term.TooDeep n) (Some l) h = rw h refl
+      go (term.TooDeep n) (Some l) h = ap (λ x. Err (Past_limit x)) (same_Some l (Deep n) h)
       go term.Memory o h = tt
 
   pub numbers_suffice : MakesDerivatives th g (Err fault.Numbers) → ⊥
