@@ -5,3 +5,4 @@
 #![tactic(auto)]
 
 pub mod examples;
+pub mod laws;
