@@ -3,7 +3,7 @@ use Rattle.circ_plain_search.proofs.Ends.{same_Err}
 use Rattle.circ_plain_search.proofs.Turns.{if_ended, if_false}
 use Rattle.std.proofs.Common.{◌≡◌, ℕ, zero, suc, ◌+◌, ◌-◌, ◌≤◌, ◌<◌, Bool, true, false, if◌then◌else◌, List, [], ◌∷◌, ◌++◌, map, length, Option, Some, None, Result, Ok, Err, refl, ap, sym, subst, ◌∙◌, arith, length-append}
 use Rattle.std.specs.Prelude.{nat_le, not}
-use Rattle.std.specs.Option.{option_or, option_map_or}
+use Rattle.std.specs.Option.{option_map_or}
 use Rattle.std.proofs.lemmas.List.{length-map}
 use Rattle.circ_term.specs.Tree.{Tree, sort_of}
 use Rattle.circ_term.specs.Order.{is_same}
@@ -13,18 +13,16 @@ use Rattle.circ_theory.specs.declared.parts.Goal.{Goal}
 use Rattle.circ_proof.specs.Goals.{with_cond}
 use Rattle.circ_special.specs.declared.place.Place.{Place}
 use Rattle.circ_proof.specs.Plain.{ChainOf, WhyOf, Same_why, Split_why, more_whys}
-use Rattle.circ_conditional_norm.specs.Tries.{due_trying, Normaliser}
-use Rattle.circ_rewrite.specs.Norm.{Normalised, Normal_form, Budget_spent, Limit_passed}
+use Rattle.circ_conditional_norm.specs.Tries.{Normaliser}
 use Rattle.circ_conditional_norm.specs.Work.{Work, Made, Out, Past, LeavesAtMost}
-use Rattle.circ_conditional_norm.specs.Norm.{conditional_norm, try_limit}
-use Rattle.circ_rewrite.specs.Links.{link_of}
+use Rattle.circ_conditional_norm.specs.Norm.{try_limit}
 use Rattle.circ_rewrite.specs.declared.parts.Rule.{Rule}
 use Rattle.circ_proof.specs.Rules.{ProofStep, Simplify, Reduce, Derive, Done, derivatives_on, Cases}
 use Rattle.circ_proof.specs.Proof.{step_limit, split_limit}
 use Rattle.circ_plain_search.specs.BlockRules.{block_rules, hidden_lemmas}
-use Rattle.circ_plain_search.specs.Joining.{HypothesisUse, use_link, put_all, first_open, and_then}
-use Rattle.circ_conditional_search.specs.Joining.{work_then, joined_trying, put_swept, Swept, swept_with, swept_trying}
-use Rattle.circ_plain_search.specs.Search.{Limits, Standing, Ending, NormalSide, normal_side, side_of, Sides, sides_with, Reason, reason_with, SplitReason, split_with, case_of, Splitter, case_reason, constants_of, chain_with, chained, spent, or_end, is_nil, has_links, next_goal, goals_limit, unless_past, derive_turn, next_block}
+use Rattle.circ_plain_search.specs.Joining.{HypothesisUse, use_link, put_all, and_then}
+use Rattle.circ_conditional_search.specs.Joining.{work_then, joined_trying, Swept, swept_with, swept_trying}
+use Rattle.circ_plain_search.specs.Search.{Standing, Ending, Sides, sides_with, Reason, reason_with, SplitReason, split_with, case_of, Splitter, case_reason, constants_of, chain_with, chained, spent, or_end, is_nil, has_links, next_goal, goals_limit, unless_past, derive_turn, next_block}
 use Rattle.circ_conditional_search.specs.Search.{Manner, normalised_trying, each_case_trying, open_cases_trying, normal_sides_trying, split_cases_trying, step_recorded, with_sides_of, goal_reduced, goal_simplified, hidden_turn_trying, visible_turn_trying, open_turn_trying, swept_sides_trying, pass_turn_trying, join_turn_trying, sides_turn_trying, goal_turn_trying, turn_trying_at, turn_trying, Finishes, stops, goes_on, cases_turn, derives_turn, case_term, pass_chain, condition_normaliser, first_open_of}
 use Rattle.circ_plain_search.proofs.Uses.{Through, through, same_Ok}
 use Rattle.circ_conditional_search.proofs.Runs.{recorded, recorded_room}

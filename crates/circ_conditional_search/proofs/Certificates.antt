@@ -1,7 +1,7 @@
 -- The certificates of the greatest special set: their terms are fine, and their numbers and paths are small.
 use Rattle.circ_plain_search.proofs.Led.{link_by_terms}
 use Rattle.circ_plain_search.proofs.Runs.{most}
-use Rattle.std.proofs.Common.{◌≡◌, ℕ, zero, suc, ◌+◌, ◌≤◌, length, List, [], ◌∷◌, map, Some, refl, ap, arith}
+use Rattle.std.proofs.Common.{◌≡◌, ℕ, zero, suc, ◌+◌, ◌≤◌, length, List, [], ◌∷◌, map, Some, arith}
 use Rattle.std.specs.List.{slice_get, AllByRecursion, Contains}
 use Rattle.circ_term.specs.Tree.{Tree, App, trees_of}
 use Rattle.circ_theory.specs.Signature.{Operator, IsWellSorted}
@@ -14,7 +14,7 @@ use Rattle.circ_theory.proofs.Weakening.{in_rest}
 use Rattle.circ_special.specs.declared.place.Place.{Place}
 use Rattle.circ_special.specs.Special.{IsSet}
 use Rattle.circ_proof.specs.Plain.{LinkOf}
-use Rattle.circ_proof.specs.Link.{setting, AllOfLink, AllOfLinks, terms_of}
+use Rattle.circ_proof.specs.Link.{setting, AllOfLink, AllOfLinks}
 use Rattle.circ_rewrite.specs.Links.{link_of}
 use Rattle.circ_rewrite.specs.Replacement.{Traced}
 use Rattle.circ_rewrite.specs.TheoryRules.{theory_rules}

@@ -1,5 +1,5 @@
 -- Steps without a hidden hypothesis at a path that is not empty hold under no special set.
-use Rattle.std.proofs.Common.{◌≡◌, ℕ, Bool, true, false, ◌||◌, List, [], ◌∷◌, ◌++◌, Option, Some, None, refl, ap, sym, ◌∙◌}
+use Rattle.std.proofs.Common.{◌≡◌, ℕ, true, false, ◌||◌, List, [], ◌∷◌, ◌++◌, Some, ap, sym, ◌∙◌}
 use Rattle.std.specs.List.{list_any, slice_get}
 use Rattle.std.specs.Option.{option_map_or}
 use Rattle.circ_term.specs.Tree.{Tree, sort_of}
@@ -14,7 +14,7 @@ use Rattle.circ_proof.specs.Runs.{Runs}
 use Rattle.circ_plain_search.proofs.Deep.{or_false}
 use Rattle.circ_proof.specs.Plain.{LinkOf, LinksOf, ChainsOf, Equation_link, Hypothesis_link, Assumption_link, Content_link, no_link, more_links, no_chain, more_chains, ChainOf, WhyOf, WhysOf, Same_why, Split_why, no_why, more_whys}
 use Rattle.circ_theory.specs.declared.parts.Goal.{Goal}
-use Rattle.circ_proof.specs.Link.{setting, HypothesisLeads, Leads, RowLeads, ConditionsLead}
+use Rattle.circ_proof.specs.Link.{setting, Leads, RowLeads, ConditionsLead}
 use Rattle.circ_theory.specs.Rewriting.{by_terms}
 use Rattle.circ_proof.specs.Justified.{ChainLeads, Justified, EachJustified}
 use Rattle.circ_proof.specs.Rules.{State, ProofStep, Simplify, Reduce, Derive, Cases, Done, StepOn, StepOf}

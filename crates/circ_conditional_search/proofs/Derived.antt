@@ -1,14 +1,14 @@
 -- The derivatives of a fine goal are fine, with variables of numbers a little greater; so is a goal in each case.
-use Rattle.std.proofs.Common.{◌≡◌, ◌⊎◌, inl, inr, subst, ℕ, ◌+◌, ◌≤◌, ◌^◌, Bool, true, false, ◌==◌, if◌then◌else◌, List, [], ◌∷◌, ◌++◌, map, Option, Some, None, refl, sym, ◌∙◌, arith}
-use Rattle.std.specs.Prelude.{max, length}
+use Rattle.std.proofs.Common.{◌≡◌, ◌⊎◌, inl, inr, subst, ℕ, ◌+◌, ◌≤◌, ◌^◌, Bool, true, false, ◌==◌, if◌then◌else◌, List, [], ◌∷◌, map, None, refl, arith}
+use Rattle.std.specs.Prelude.{length}
 use Rattle.std.specs.List.{AllByRecursion, Contains, filter}
 use Rattle.std.proofs.lemmas.Bool.{eqb-true}
-use Rattle.circ_term.specs.Tree.{Tree, sort_of}
+use Rattle.circ_term.specs.Tree.{sort_of}
 use Rattle.circ_term.specs.Limits.{first_limit, IsWithinLimits}
 use Rattle.circ_term.proofs.Limits.{or_else_parts}
 use Rattle.circ_theory.specs.Theory.{Theory, Pair, Derivative, IsVisible, IsCondition, AreConditions, IsWellSortedGoal}
 use Rattle.circ_theory.specs.WellFormed.{IsWellFormed}
-use Rattle.circ_theory.specs.Fresh.{above, fresh_after, derivatives_of, fresh_in, above_pairs}
+use Rattle.circ_theory.specs.Fresh.{derivatives_of, fresh_in, above_pairs}
 use Rattle.circ_theory.proofs.Casing.{contains_first}
 use Rattle.circ_theory.proofs.Weakening.{in_rest, first_or_rest}
 use Rattle.circ_theory.proofs.Lists.{all_by}

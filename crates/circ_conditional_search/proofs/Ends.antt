@@ -15,11 +15,10 @@ use Rattle.circ_special.specs.declared.place.Place.{Place}
 use Rattle.circ_proof.specs.Plain.{WhyOf, Same_why, Split_why}
 use Rattle.circ_proof.specs.Rules.{ProofStep, Simplify, Reduce, Derive, Done, derivatives_on, Cases}
 use Rattle.circ_proof.specs.Proof.{step_limit, split_limit}
-use Rattle.circ_proof.proofs.Sorted.{sorted_none}
 use Rattle.circ_plain_search.specs.BlockRules.{block_rules}
 use Rattle.circ_plain_search.specs.Joining.{Stop, No_budget, Past_limit, Not_split, HypothesisUse, use_link, put_all, and_then}
 use Rattle.circ_conditional_search.specs.Joining.{joined_trying, Swept}
-use Rattle.circ_plain_search.specs.Search.{Limits, ProvedBlock, Standing, Ending, All_done, Sides, chain_with, chained, spent, past, or_end, has_links, next_goal, goals_limit, unless_past, derive_turn, with_this, next_block, start, case_of, constants_of, sides_with}
+use Rattle.circ_plain_search.specs.Search.{Limits, ProvedBlock, Standing, Ending, All_done, chain_with, chained, spent, past, or_end, has_links, next_goal, goals_limit, unless_past, derive_turn, with_this, next_block, start, case_of, constants_of, sides_with}
 use Rattle.circ_conditional_search.specs.Search.{Manner, normal_sides_trying, split_cases_trying, step_recorded, with_sides_of, goal_reduced, hidden_turn_trying, visible_turn_trying, open_turn_trying, swept_sides_trying, join_turn_trying, sides_turn_trying, goal_turn_trying, turn_trying_at, turn_trying, Finishes, stops, goes_on, goal_simplified, derives_turn, cases_turn, case_term, worked, pass_turn_trying, pass_chain, condition_normaliser}
 use Rattle.circ_conditional_search.proofs.Derived.{FineGoals}
 use Rattle.circ_conditional_search.proofs.Runs.{after_step, Opened, fresh_queue, Whole}

@@ -1,5 +1,5 @@
 -- Join and a lemma pass leave no more of the budget than there was, and a pass pays for each use.
-use Rattle.std.proofs.Common.{◌≡◌, ℕ, zero, suc, ◌+◌, ◌≤◌, length, Bool, true, false, ◌==◌, ◌&&◌, if◌then◌else◌, List, [], ◌∷◌, ◌++◌, Option, Some, None, refl, ap, arith, length-append}
+use Rattle.std.proofs.Common.{ℕ, zero, suc, ◌+◌, ◌≤◌, length, Bool, true, false, ◌==◌, ◌&&◌, if◌then◌else◌, List, [], ◌∷◌, ◌++◌, Option, Some, None, arith, length-append}
 use Rattle.circ_term.specs.Tree.{Tree, Trees, Var, App, none, more}
 use Rattle.circ_term.specs.Limits.{Limit}
 use Rattle.circ_term.specs.Order.{is_same}
@@ -15,7 +15,7 @@ use Rattle.circ_theory.specs.declared.parts.Goal.{Goal}
 use Rattle.circ_theory.specs.Theory.{sides}
 use Rattle.circ_rewrite.specs.declared.parts.Rule.{Rule}
 use Rattle.circ_rewrite.specs.Replacement.{Passes}
-use Rattle.circ_conditional_norm.specs.Work.{Work, Made, Out, Past, or_next, map_found, unless_limit, LeavesAtMost}
+use Rattle.circ_conditional_norm.specs.Work.{Work, Made, Out, Past, map_found, unless_limit, LeavesAtMost}
 use Rattle.circ_conditional_norm.specs.Tries.{Normaliser, tried}
 use Rattle.circ_conditional_norm.proofs.Working.{leaves_more, map_leaves, next_leaves, if_leaves}
 use Rattle.circ_conditional_norm.proofs.Falling.{IsFalling, holds_leave}

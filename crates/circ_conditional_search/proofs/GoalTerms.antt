@@ -1,5 +1,5 @@
 -- The terms that a substitution gives the variables of a goal and of its conditions, in order.
-use Rattle.std.proofs.Common.{◌≡◌, ℕ, Bool, true, false, ◌||◌, List, [], ◌∷◌, refl, ap, sym, ◌∙◌}
+use Rattle.std.proofs.Common.{◌≡◌, ℕ, true, List, [], ◌∷◌, refl, sym, ◌∙◌}
 use Rattle.std.specs.List.{list_any, AllByRecursion}
 use Rattle.circ_term.specs.Tree.{Tree}
 use Rattle.circ_term.specs.Substitution.{Substitution}

@@ -1,5 +1,5 @@
 -- Join's uses lead from a term to the one in which the other side stands.
-use Rattle.std.proofs.Common.{◌≡◌, ◌⊎◌, inl, inr, ℕ, zero, suc, ◌+◌, ◌≤◌, length, Bool, true, false, ◌==◌, ◌&&◌, ◌||◌, if◌then◌else◌, List, [], ◌∷◌, ◌++◌, Option, Some, None, Ok, refl, ap, sym, subst, ◌∙◌, arith}
+use Rattle.std.proofs.Common.{◌≡◌, ◌⊎◌, inl, inr, ℕ, zero, suc, ◌+◌, ◌≤◌, length, Bool, true, false, ◌==◌, ◌&&◌, if◌then◌else◌, List, [], ◌∷◌, ◌++◌, Option, Some, None, Ok, refl, ap, sym, subst, ◌∙◌, arith}
 use Rattle.std.specs.List.{slice_get, AllByRecursion}
 use Rattle.std.specs.Option.{option_or, unwrap_or}
 use Rattle.std.proofs.lemmas.Bool.{eqb-true, and_parts}
@@ -16,7 +16,6 @@ use Rattle.circ_theory.specs.Fresh.{above, all_above}
 use Rattle.circ_theory.specs.declared.way.Way.{Way}
 use Rattle.circ_theory.specs.declared.way.Way.TheVariants.{Forth, Back}
 use Rattle.circ_theory.proofs.Lists.{all_at}
-use Rattle.circ_special.specs.declared.place.Place.{Place}
 use Rattle.circ_special.specs.Special.{IsSpecial}
 use Rattle.circ_match.specs.Matcher.{has_variable, have_variable}
 use Rattle.circ_rewrite.specs.Matching.{image, images, matching}
@@ -30,7 +29,7 @@ use Rattle.circ_plain_search.proofs.Uses.{row, row_arg, row_next, longer}
 use Rattle.circ_theory.specs.declared.parts.Goal.{Goal}
 use Rattle.circ_proof.specs.Link.{Setting}
 use Rattle.circ_rewrite.specs.Replacement.{Passes}
-use Rattle.circ_conditional_norm.specs.Work.{Work, Made, Out, Past, or_next, map_found}
+use Rattle.circ_conditional_norm.specs.Work.{Work, Made, Out, Past, map_found}
 use Rattle.circ_conditional_norm.specs.Tries.{Normaliser, tried}
 use Rattle.circ_conditional_norm.proofs.Working.{found_map, found_next, same_found}
 use Rattle.circ_conditional_norm.proofs.Given.{gives_back}
@@ -40,7 +39,7 @@ use Rattle.circ_conditional_search.proofs.GoalTerms.{OfTerm, OfPairs, all_terms}
 use Rattle.circ_conditional_search.proofs.Nesting.{IsNesting, holds_nest}
 use Rattle.circ_conditional_search.proofs.Normals.{IsFining, low_pairs, holds_fine}
 use Rattle.circ_conditional_search.proofs.Derived.{FineCond, FineGoal, FineGoals, are_conditions, goals_sorted}
-use Rattle.circ_conditional_search.proofs.Uses.{IsUse, UsesLead, nothing_leads, one_leads, Beyond, beyond, both_lead, InParts, in_parts}
+use Rattle.circ_conditional_search.proofs.Uses.{IsUse, UsesLead, nothing_leads, one_leads, beyond, both_lead, InParts, in_parts}
 
 pair_matching_sorts : (p : Pair) (a b : Tree) → KeepsSorts (pair_matching p a b)
 pair_matching_sorts p a b n s = go (image p.left a n s) (matching-sorts p.left a n s) (matching-sorts p.right b n s)

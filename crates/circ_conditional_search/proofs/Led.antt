@@ -1,15 +1,12 @@
 -- Links that lead from term to term, with what is kept of each on the way.
-use Rattle.std.proofs.Common.{◌≡◌, ◌≤◌, ℕ, List, [], ◌∷◌, ◌++◌, map, refl, subst, sym, ◌∙◌}
-use Rattle.std.specs.List.{AllByRecursion}
+use Rattle.std.proofs.Common.{◌≡◌, ℕ, List, [], ◌++◌, refl, ◌∙◌}
 use Rattle.circ_term.specs.Tree.{Tree, sort_of}
-use Rattle.circ_theory.specs.Theory.{Theory}
-use Rattle.circ_theory.proofs.Lists.{all_by}
 use Rattle.circ_proof.specs.Runs.{Runs}
-use Rattle.circ_plain_search.proofs.Terms.{Fine, fine_more}
-use Rattle.circ_plain_search.proofs.Led.{all_append, all_parts, runs_append}
+use Rattle.circ_plain_search.proofs.Terms.{Fine}
+use Rattle.circ_plain_search.proofs.Led.{all_append, runs_append}
 use Rattle.circ_conditional_search.proofs.Nesting.{NestsIn, AllNestIn}
-use Rattle.circ_proof.specs.Plain.{LinkOf, LinksOf, ChainsOf, Equation_link, Hypothesis_link, Assumption_link, Content_link, no_link, more_links, no_chain, more_chains, row_of}
-use Rattle.circ_proof.specs.Link.{Setting, Leads, RowLeads, AllOfLink, AllOfRow, AllOfChains, AllOfLinks}
+use Rattle.circ_proof.specs.Plain.{LinkOf}
+use Rattle.circ_proof.specs.Link.{Setting, Leads, AllOfLink, AllOfLinks}
 
 -- The links lead from t to u, which is fine and of t's sort, and their terms are fine.
 pub record Led (c : Setting) (m : ℕ) (ls : List (LinkOf Tree)) (t u : Tree) : Type 0 where

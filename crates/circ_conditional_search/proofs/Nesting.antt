@@ -1,5 +1,5 @@
 -- At most eight conditions of links stand inside one another.
-use Rattle.std.proofs.Common.{◌≡◌, ◌⊎◌, inl, inr, ℕ, zero, suc, ◌+◌, Bool, true, false, if◌then◌else◌, List, [], ◌∷◌, ◌++◌, map, Option, Some, None, refl, ap, sym, subst, ◌∙◌, append_assoc, append-nil}
+use Rattle.std.proofs.Common.{◌≡◌, ◌⊎◌, inl, inr, ℕ, zero, suc, Bool, true, false, if◌then◌else◌, List, [], ◌∷◌, ◌++◌, map, Option, Some, None, refl, ap, sym, subst, ◌∙◌}
 use Rattle.std.specs.List.{AllByRecursion}
 use Rattle.std.specs.Option.{option_or, option_map_or}
 use Rattle.std.proofs.lemmas.Option.{same_Some}
@@ -13,18 +13,17 @@ use Rattle.circ_aci.specs.Canonical.{canonical_under}
 use Rattle.circ_rewrite.specs.Matching.{matching, matches}
 use Rattle.circ_rewrite.specs.Due.{terms_by, assumed, content_due, rule_variables}
 use Rattle.circ_rewrite.specs.declared.parts.RuleName.{RuleName}
-use Rattle.circ_plain_search.proofs.Led.{all_append}
 use Rattle.circ_proof.specs.Plain.{LinkOf, LinksOf, ChainsOf, Equation_link, Hypothesis_link, Assumption_link, Content_link, no_link, more_links, no_chain, more_chains, ChainOf}
 use Rattle.circ_rewrite.specs.declared.parts.Rule.{Rule}
-use Rattle.circ_rewrite.specs.Replacement.{Passes, no_pass, more_passes, Replacement, Placed, Traced, traced, By_rule, By_assumption, By_content, trace_row}
+use Rattle.circ_rewrite.specs.Replacement.{Passes, no_pass, Replacement, Placed, Traced, traced, By_rule, By_content, trace_row}
 use Rattle.circ_conditional_norm.specs.Work.{Work, Made, Out, Past, map_found}
-use Rattle.circ_rewrite.specs.Norm.{Normalised, Normal_form, Budget_spent, Limit_passed}
+use Rattle.circ_rewrite.specs.Norm.{Normal_form, Budget_spent, Limit_passed}
 use Rattle.circ_conditional_norm.specs.Tries.{rule_replaces, Normaliser, same_forms, conditions_hold, tried, rule_tried, rules_tried, due_trying}
 use Rattle.circ_conditional_norm.specs.Norm.{look_from, remade, looked, make, run_from, inner_norm, norm_with_room}
 use Rattle.circ_rewrite.specs.Links.{link_by, link_of, row_by, chains_by}
 use Rattle.circ_conditional_norm.proofs.Working.{found_map, found_next, found_limit, same_found}
 use Rattle.circ_conditional_norm.proofs.Looking.{IsDueAt, look_from_there}
-use Rattle.circ_conditional_norm.proofs.Linked.{HeldBy, held_by}
+use Rattle.circ_conditional_norm.proofs.Linked.{held_by}
 use Rattle.circ_rewrite.proofs.Linked.{assumed_is}
 use Rattle.circ_rewrite.specs.declared.parts.RuleName.TheVariants as name
 

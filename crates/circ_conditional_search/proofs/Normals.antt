@@ -1,10 +1,10 @@
 -- The traces of a normal form lead to it, and its terms, those of its tries too, are fine.
-use Rattle.std.proofs.Common.{◌≡◌, ◌⊎◌, inl, inr, ℕ, zero, suc, ◌+◌, ◌≤◌, ◌-◌, length, Bool, true, false, ◌&&◌, ◌||◌, ◌==◌, if◌then◌else◌, List, [], ◌∷◌, ◌++◌, map, Option, Some, None, Result, Ok, refl, ap, sym, subst, ◌∙◌, arith, append_assoc, append-nil}
+use Rattle.std.proofs.Common.{◌≡◌, ◌⊎◌, inl, inr, ℕ, zero, suc, ◌≤◌, ◌-◌, Bool, true, false, ◌||◌, ◌==◌, if◌then◌else◌, List, [], ◌∷◌, ◌++◌, map, Option, Some, None, Result, Ok, refl, ap, sym, subst, ◌∙◌, append_assoc, append-nil}
 use Rattle.std.specs.List.{AllByRecursion, list_any, list_all}
 use Rattle.std.specs.Option.{option_or, option_map_or}
 use Rattle.std.proofs.lemmas.Bool.{and_parts, eqb-true}
 use Rattle.std.proofs.lemmas.Option.{same_Some}
-use Rattle.circ_term.specs.Tree.{Tree, Var, App, at, replaced}
+use Rattle.circ_term.specs.Tree.{Tree, Var, App, replaced}
 use Rattle.circ_term.specs.Limits.{Limit, first_limit, or_else, IsWithinLimits}
 use Rattle.circ_term.specs.Order.{is_same}
 use Rattle.circ_term.specs.Substitution.{Substitution, instance}
@@ -12,13 +12,13 @@ use Rattle.circ_term.proofs.Order.{same_here}
 use Rattle.circ_term.proofs.Limits.{replaced_within}
 use Rattle.circ_term.proofs.Paths.{replaced_there}
 use Rattle.circ_theory.specs.Signature.{Signature, IsWellSorted, IsSubstitution}
-use Rattle.circ_theory.specs.Theory.{Theory, Pair, pair_with, IsWellSortedPair, goal, AreConditions}
+use Rattle.circ_theory.specs.Theory.{Theory, Pair, IsWellSortedPair}
 use Rattle.circ_theory.specs.Variables.{pair_occurrences, Variable, is_variable, occurrences}
 use Rattle.circ_theory.specs.WellFormed.{IsWellFormed}
 use Rattle.circ_theory.specs.Fresh.{above}
 use Rattle.circ_theory.proofs.Instances.{instance_well_sorted}
 use Rattle.circ_theory.proofs.Lists.{all_at}
-use Rattle.circ_theory.proofs.Sorting.{at_sorted, replaced_sorted}
+use Rattle.circ_theory.proofs.Sorting.{replaced_sorted}
 use Rattle.circ_special.specs.declared.place.Place.{Place}
 use Rattle.circ_match.specs.Matcher.{has_variable}
 use Rattle.circ_aci.specs.Canonical.{canonical_under}
@@ -28,21 +28,20 @@ use Rattle.circ_rewrite.specs.Due.{terms_by, IsRewriteRule, assumed, content_due
 use Rattle.circ_rewrite.specs.declared.parts.Rule.{Rule}
 use Rattle.circ_rewrite.specs.declared.parts.RuleName.{RuleName}
 use Rattle.circ_rewrite.proofs.RuleTerms.{bound_in_left, has_variable-occurrences}
-use Rattle.circ_plain_search.proofs.Terms.{Fine, FineTerms, replaced_low, instance_low, at_fine, canonical_low}
+use Rattle.circ_plain_search.proofs.Terms.{Fine, replaced_low, instance_low, at_fine, canonical_low}
 use Rattle.circ_plain_search.proofs.PairTerms.{given_fine}
-use Rattle.circ_proof.specs.Plain.{LinkOf}
 use Rattle.circ_theory.specs.declared.parts.Goal.{Goal}
 use Rattle.circ_proof.specs.Link.{Setting, setting, AllOfLink, AllOfRow, AllOfChains, AllOfLinks}
-use Rattle.circ_rewrite.specs.Replacement.{Passes, no_pass, more_passes, Replacement, Placed, Traced, traced, By_rule, By_assumption, By_content, trace_row}
+use Rattle.circ_rewrite.specs.Replacement.{Passes, no_pass, Replacement, Placed, Traced, traced, By_rule, By_content, trace_row}
 use Rattle.circ_conditional_norm.specs.Work.{Work, Made, Out, Past, map_found}
 use Rattle.circ_rewrite.specs.Norm.{Normalised, Normal_form, Budget_spent, Limit_passed}
-use Rattle.circ_conditional_norm.specs.Tries.{rule_replaces, Normaliser, same_forms, conditions_hold, tried, rule_tried, rules_tried, before_rules, due_trying}
+use Rattle.circ_conditional_norm.specs.Tries.{rule_replaces, Normaliser, same_forms, conditions_hold, tried, rule_tried, rules_tried, due_trying}
 use Rattle.circ_conditional_norm.specs.Norm.{look_from, looked, make, run_from, inner_norm, norm_with_room, conditional_norm, try_limit}
 use Rattle.circ_rewrite.specs.Links.{link_by, link_of, row_by, chains_by, IsRuleOf}
 use Rattle.circ_conditional_norm.proofs.Working.{found_map, found_next, found_limit, both_none, same_found}
 use Rattle.circ_conditional_norm.proofs.Looking.{IsDueAt, look_from_there}
 use Rattle.circ_rewrite.proofs.Linked.{matching_substitution, assumed_is}
-use Rattle.circ_conditional_norm.proofs.Linked.{HeldBy, held_by, IsLinking, all_sorted, IsSound, sound, inner_links, norm_links}
+use Rattle.circ_conditional_norm.proofs.Linked.{held_by, all_sorted, IsSound, sound, inner_links, norm_links}
 use Rattle.circ_plain_search.specs.Joining.{Stop}
 use Rattle.circ_plain_search.specs.Search.{NormalSide, normal_side, side_of}
 use Rattle.circ_conditional_search.specs.Search.{normalised_trying}

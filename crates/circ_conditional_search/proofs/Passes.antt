@@ -1,22 +1,21 @@
 -- The uses of a lemma pass lead from a term to a term.
-use Rattle.std.proofs.Common.{◌≡◌, ◌⊎◌, inl, inr, ℕ, zero, suc, ◌+◌, ◌≤◌, length, Bool, true, false, if◌then◌else◌, List, [], ◌∷◌, ◌++◌, Option, Some, None, Result, Ok, Err, refl, ap, sym, subst, ◌∙◌, arith, append_assoc, append-nil, length-append}
+use Rattle.std.proofs.Common.{◌≡◌, ◌⊎◌, inl, inr, ℕ, zero, suc, ◌+◌, length, Bool, true, false, if◌then◌else◌, List, [], ◌∷◌, ◌++◌, Option, Some, None, Ok, refl, ap, sym, subst, ◌∙◌, arith, append_assoc, append-nil}
 use Rattle.std.specs.List.{slice_get, AllByRecursion}
 use Rattle.circ_term.specs.Tree.{Tree, Trees, Var, App, none, more, list_of, at}
 use Rattle.circ_term.proofs.Trees.{trees_of-list_of}
 use Rattle.circ_term.specs.Substitution.{Substitution, instance}
 use Rattle.circ_term.proofs.Order.{same_here}
-use Rattle.circ_theory.specs.Theory.{Theory, Pair, sides}
+use Rattle.circ_theory.specs.Theory.{Theory}
 use Rattle.circ_theory.specs.Variables.{sorted, variables_of}
 use Rattle.circ_theory.specs.declared.way.Way.TheVariants.{Forth}
 use Rattle.circ_theory.proofs.Lists.{all_at}
-use Rattle.circ_special.specs.declared.place.Place.{Place}
 use Rattle.circ_special.specs.Special.{IsSpecial}
 use Rattle.circ_rewrite.specs.Matching.{matching, matches}
-use Rattle.circ_rewrite.specs.Due.{terms_by, rule_variables, IsRewriteRule}
+use Rattle.circ_rewrite.specs.Due.{terms_by, IsRewriteRule}
 use Rattle.circ_rewrite.proofs.Linked.{fit_given, matching_substitution}
 use Rattle.circ_rewrite.proofs.RuleTerms.{bound_in_left}
 use Rattle.circ_rewrite.proofs.MatchingFacts.{matching-sorts}
-use Rattle.circ_plain_search.specs.Joining.{is_place, rule_number, Stop, HypothesisUse, put_in, within_or}
+use Rattle.circ_plain_search.specs.Joining.{is_place, HypothesisUse, put_in, within_or}
 use Rattle.circ_plain_search.proofs.Terms.{Fine, FineTerms, instance_low, args_fine}
 use Rattle.circ_plain_search.proofs.PairTerms.{given_fine}
 use Rattle.circ_plain_search.proofs.Special.{place_there, special_deeper, at_deeper}
@@ -25,7 +24,7 @@ use Rattle.circ_theory.specs.declared.parts.Goal.{Goal}
 use Rattle.circ_proof.specs.Link.{Setting}
 use Rattle.circ_rewrite.specs.declared.parts.Rule.{Rule}
 use Rattle.circ_rewrite.specs.Replacement.{Passes}
-use Rattle.circ_conditional_norm.specs.Work.{Work, Made, Out, Past, or_next, map_found, unless_limit, LeavesAtMost}
+use Rattle.circ_conditional_norm.specs.Work.{Work, Made, Out, Past, map_found}
 use Rattle.circ_conditional_norm.specs.Tries.{Normaliser, tried}
 use Rattle.circ_conditional_norm.proofs.Working.{found_map, found_next, found_limit}
 use Rattle.circ_conditional_norm.proofs.Given.{gives_back}
@@ -37,7 +36,7 @@ use Rattle.circ_plain_search.proofs.Rules.{IsLemma}
 use Rattle.circ_conditional_search.proofs.Nesting.{IsNesting, holds_nest}
 use Rattle.circ_conditional_search.proofs.Normals.{IsFining, low_pairs, holds_fine, conds_bound}
 use Rattle.circ_conditional_search.proofs.Derived.{FineGoal, FineGoals, are_conditions, goals_sorted}
-use Rattle.circ_conditional_search.proofs.Uses.{IsUse, UsesLead, use_leads, no_use, Beyond, beyond, both_lead}
+use Rattle.circ_conditional_search.proofs.Uses.{IsUse, UsesLead, use_leads, no_use, beyond, both_lead}
 
 -- what a use that is put into the whole term does
 pub record IsPut (w : Swept) (u : HypothesisUse) (k : ℕ) (v : Swept) (l : ℕ) : Type 0 where

@@ -1,5 +1,5 @@
 -- A split justifies its sides, by a reason for each constant.
-use Rattle.std.proofs.Common.{◌≡◌, ℕ, zero, suc, ◌+◌, ◌-◌, ◌≤◌, length, Bool, true, false, if◌then◌else◌, List, [], ◌∷◌, ◌++◌, map, Option, Some, None, Ok, refl, ap, sym, subst, ◌∙◌, arith}
+use Rattle.std.proofs.Common.{◌≡◌, ℕ, zero, suc, ◌-◌, ◌≤◌, Bool, true, false, if◌then◌else◌, List, [], ◌∷◌, ◌++◌, map, Option, Some, None, Ok, refl, ap, sym, subst, ◌∙◌, arith}
 use Rattle.std.specs.Prelude.{not, nat_eq}
 use Rattle.std.specs.List.{list_any, AllByRecursion, Contains}
 use Rattle.std.specs.Option.{option_or, option_map_or}
@@ -8,7 +8,7 @@ use Rattle.circ_term.specs.Tree.{Tree, Trees, Var, App, none, more, sort_of, lis
 use Rattle.circ_term.specs.Order.{is_same}
 use Rattle.circ_term.proofs.Order.{same_here}
 use Rattle.circ_theory.specs.Signature.{IsWellSorted, HaveSorts}
-use Rattle.circ_theory.specs.Theory.{Theory, Pair, pair_with, CaseList, sides}
+use Rattle.circ_theory.specs.Theory.{Theory, Pair, pair_with, CaseList}
 use Rattle.circ_theory.specs.WellFormed.{IsWellFormed}
 use Rattle.circ_conditional_norm.specs.Norm.{conditional_norm, try_limit}
 use Rattle.circ_rewrite.specs.Norm.{Normalised, Normal_form, Budget_spent, Limit_passed}

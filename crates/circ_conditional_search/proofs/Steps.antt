@@ -1,10 +1,10 @@
 -- The numbers and the paths of steps that run are small; there are never more hypotheses than steps were made.
-use Rattle.std.proofs.Common.{◌+◌, ◌≤◌, ◌<◌, ◌^◌, ℕ, length, List, [], ◌∷◌, ◌++◌, map, sym, subst, arith, length-append}
+use Rattle.std.proofs.Common.{◌+◌, ◌≤◌, ◌<◌, ◌^◌, ℕ, length, List, [], ◌∷◌, map, sym, subst, arith, length-append}
 use Rattle.std.specs.List.{AllByRecursion, Contains}
 use Rattle.circ_term.specs.Tree.{Tree, sort_of}
 use Rattle.circ_term.specs.Limits.{IsWithinLimits}
 use Rattle.circ_theory.specs.Signature.{IsWellSorted}
-use Rattle.circ_theory.specs.Theory.{Theory, Pair, Derivative, CaseList, IsWellSortedPair, sides, IsWellSortedGoal}
+use Rattle.circ_theory.specs.Theory.{Theory, Pair, Derivative, CaseList, IsWellSortedPair, sides}
 use Rattle.circ_theory.specs.Derivable.{is_case}
 use Rattle.circ_theory.specs.Observing.{case_list}
 use Rattle.circ_theory.specs.Fresh.{derivatives_of, fresh_in}
@@ -20,7 +20,7 @@ use Rattle.circ_proof.proofs.Sorted.{sorted_first}
 use Rattle.circ_proof.proofs.Stepping.{step_sorted}
 use Rattle.circ_conditional_search.proofs.Nesting.{ChainNests}
 use Rattle.circ_conditional_search.proofs.Splits.{FitsIn}
-use Rattle.circ_conditional_search.proofs.Ranges.{IsRangedChain, IsRangedWhy, IsSmallSetting, IsGivenPair, chain_ranged, why_ranged, small}
+use Rattle.circ_conditional_search.proofs.Ranges.{IsRangedChain, IsRangedWhy, IsGivenPair, chain_ranged, why_ranged, small}
 
 abbrev pub IsRangedStep : ProofStep Tree → Type 0
 IsRangedStep (Simplify c) = IsRangedChain c

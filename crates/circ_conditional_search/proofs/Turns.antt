@@ -1,38 +1,34 @@
 -- A turn keeps what is known of the search, and the search ends with every goal done only where each block is whole.
 use Rattle.circ_plain_search.proofs.Runs.{most, half, bound, goals_of, goals_of_more}
-use Rattle.circ_plain_search.proofs.Turns.{chain_fine, why_fine, whys_fine, if_ended, if_false, unless_passed}
-use Rattle.std.proofs.Common.{◌≡◌, ℕ, zero, suc, ◌+◌, ◌*◌, ◌≤◌, Bool, true, false, if◌then◌else◌, List, [], ◌∷◌, ◌++◌, map, Option, Some, None, Result, Ok, Err, refl, ap, sym, subst, ◌∙◌, arith, ◌==◌, ◌&&◌, ◌<◌, ◌-◌, length, length-append}
+use Rattle.circ_plain_search.proofs.Turns.{chain_fine, whys_fine, if_ended, if_false, unless_passed}
+use Rattle.std.proofs.Common.{◌≡◌, ℕ, zero, suc, ◌+◌, ◌*◌, ◌≤◌, Bool, true, false, if◌then◌else◌, List, [], ◌∷◌, ◌++◌, map, Option, Some, None, Result, Ok, refl, ap, sym, subst, ◌∙◌, arith, ◌&&◌, ◌<◌, ◌-◌, length, length-append}
 use Rattle.std.specs.Prelude.{nat_le, not, nat_lt}
 use Rattle.std.specs.List.{slice_get, AllByRecursion, Contains}
-use Rattle.std.proofs.lemmas.List.{length-map}
 use Rattle.std.proofs.lemmas.Option.{same_Some}
-use Rattle.circ_term.specs.Tree.{Tree, sort_of, App, none}
-use Rattle.circ_term.specs.Limits.{Limit}
-use Rattle.circ_theory.specs.Theory.{Theory, IsHidden, Pair, pair_with, CaseList, goal, sides, IsWellSortedGoal}
+use Rattle.circ_term.specs.Tree.{Tree, sort_of}
+use Rattle.circ_theory.specs.Theory.{Theory, IsHidden, Pair, goal, sides}
 use Rattle.circ_theory.specs.WellFormed.{IsWellFormed}
 use Rattle.circ_theory.specs.Observing.{is_hidden, case_list, cases_of}
 use Rattle.circ_theory.specs.declared.parts.Goal.{Goal}
 use Rattle.circ_proof.specs.Goals.{AreSortedGoals, with_cond}
 use Rattle.circ_theory.specs.Limits.{condition_limit}
 use Rattle.circ_theory.proofs.Casing.{hidden_tells, contains_first, contains_next}
-use Rattle.circ_theory.proofs.Lists.{all_by, slice_get-front, all_push, all_at}
-use Rattle.circ_theory.proofs.Rewriting.{contains_at}
+use Rattle.circ_theory.proofs.Lists.{slice_get-front, all_push, all_at}
 use Rattle.circ_special.specs.declared.place.Place.{Place}
-use Rattle.circ_proof.specs.Plain.{LinkOf, ChainOf, WhyOf, WhysOf, Same_why, Split_why, no_why, more_whys, LinksOf, ChainsOf, Equation_link, Hypothesis_link, Assumption_link, Content_link, no_link, more_links, no_chain, more_chains}
+use Rattle.circ_proof.specs.Plain.{LinkOf, ChainOf, WhyOf, WhysOf, Same_why, Split_why}
 use Rattle.circ_proof.specs.Runs.{Runs}
-use Rattle.circ_proof.specs.Link.{Setting, setting, Leads, AllOfLinks, AllOfLink, AllOfRow, AllOfChains, terms_of, row_terms, chains_terms}
-use Rattle.circ_proof.specs.Justified.{Justified, AllOfChain, AllOfWhy, AllOfWhys}
+use Rattle.circ_proof.specs.Link.{Setting, setting, Leads}
+use Rattle.circ_proof.specs.Justified.{Justified, AllOfChain}
 use Rattle.circ_proof.proofs.Cases.{cases_listed}
 use Rattle.circ_proof.specs.Rules.{ProofStep, Simplify, Reduce, Derive, Done, derivatives_on, Cases, cases_on, state}
 use Rattle.circ_proof.specs.Proof.{step_limit, split_limit}
-use Rattle.circ_proof.proofs.Sorted.{sorted_append, sorted_more, sorted_none}
 use Rattle.circ_rewrite.specs.Links.{IsRuleOf}
 use Rattle.circ_plain_search.specs.BlockRules.{block_rules, hidden_lemmas}
-use Rattle.circ_plain_search.specs.Joining.{Stop, HypothesisUse, use_link, put_all, and_then, first_open, is_open}
-use Rattle.circ_conditional_search.specs.Joining.{work_then, joined_trying, put_swept, Swept, swept_with, swept_trying}
+use Rattle.circ_plain_search.specs.Joining.{HypothesisUse, use_link, put_all, and_then, first_open, is_open}
+use Rattle.circ_conditional_search.specs.Joining.{work_then, joined_trying, Swept, swept_with, swept_trying}
 use Rattle.circ_plain_search.specs.Search.{Limits, proved_block, Standing, Ending, Sides, sides_with, chain_with, chained, no_links, spent, or_end, is_nil, has_links, next_goal, goals_limit, unless_past, derive_turn, begun, with_this, next_block, case_of, constants_of}
 use Rattle.circ_conditional_search.specs.Search.{Manner, normal_sides_trying, split_cases_trying, step_recorded, with_sides_of, goal_reduced, goal_simplified, hidden_turn_trying, visible_turn_trying, open_turn_trying, swept_sides_trying, pass_turn_trying, join_turn_trying, sides_turn_trying, goal_turn_trying, turn_trying_at, turn_trying, worked, cases_turn, case_term, derives_turn, first_open_of, pass_chain, condition_normaliser}
-use Rattle.circ_plain_search.specs.Numbering.{links_terms, chain_terms, why_terms, whys_terms}
+use Rattle.circ_plain_search.specs.Numbering.{chain_terms, why_terms, whys_terms}
 use Rattle.circ_plain_search.proofs.Terms.{Fine, FineTerms, fine_more}
 use Rattle.circ_plain_search.proofs.Led.{all_append, runs_append, links_more}
 use Rattle.circ_conditional_search.proofs.Nesting.{NestsIn, ChainNests, IsNesting, norm_nests}
@@ -41,11 +37,11 @@ use Rattle.circ_plain_search.proofs.Rules.{BeginsWith, block_rules_are, hidden_l
 use Rattle.circ_plain_search.proofs.Uses.{Through, through, same_Ok}
 use Rattle.circ_conditional_search.proofs.Joins.{joined_leads}
 use Rattle.circ_conditional_search.proofs.Passes.{swept_leads}
-use Rattle.circ_conditional_search.proofs.Splits.{SidesLed, FitsIn, AllFitIn, normal_sides_led, split_is, open_has_cases, either_open, first_open_is, IsFineOpen, constant_sorted}
-use Rattle.circ_conditional_search.proofs.Derived.{FineGoal, FineGoals, goal_more, goal_sorted, goals_sorted, IsFineDerived, derivatives_fine, FineCond, goals_more}
+use Rattle.circ_conditional_search.proofs.Splits.{FitsIn, AllFitIn, normal_sides_led, split_is, open_has_cases, either_open, first_open_is, IsFineOpen, constant_sorted}
+use Rattle.circ_conditional_search.proofs.Derived.{FineGoal, FineGoals, goal_more, goals_sorted, IsFineDerived, derivatives_fine, FineCond, goals_more}
 use Rattle.circ_conditional_search.proofs.Runs.{Ran, after_step, recorded, recorded_room, ran_more, ran_same, Held, Opened, fresh_queue, Whole, done_whole, original}
 use Rattle.std.specs.Option.{option_map_or}
-use Rattle.std.proofs.lemmas.Bool.{eqb-true, and_parts}
+use Rattle.std.proofs.lemmas.Bool.{and_parts}
 use Rattle.circ_conditional_norm.specs.Work.{Work, Made, Out, Past}
 use Rattle.circ_conditional_norm.specs.Tries.{Normaliser}
 use Rattle.circ_conditional_norm.specs.Norm.{try_limit}

@@ -1,5 +1,5 @@
 -- A proof that is stored with version 1 has no condition and no Cases.
-use Rattle.std.proofs.Common.{◌≡◌, ◌⊎◌, inl, inr, ℕ, suc, Bool, true, false, ◌&&◌, if◌then◌else◌, List, [], ◌∷◌, map, length, refl, ap, ◌∙◌, arith}
+use Rattle.std.proofs.Common.{◌≡◌, ◌⊎◌, inl, inr, ℕ, suc, Bool, true, false, ◌&&◌, if◌then◌else◌, List, [], ◌∷◌, map, length, refl, arith}
 use Rattle.std.specs.Prelude.{nat_lt}
 use Rattle.std.specs.List.{AllByRecursion, list_all}
 use Rattle.std.proofs.lemmas.Bool.{and_parts}
@@ -8,12 +8,11 @@ use Rattle.circ_theory.specs.Theory.{Pair}
 use Rattle.circ_special.specs.declared.place.Place.{Place}
 use Rattle.circ_proof.specs.Table.{number_in}
 use Rattle.circ_proof.specs.Plain.{LinkOf, Equation_link, Hypothesis_link, Assumption_link, Content_link, no_chain, more_chains, ChainOf, WhyOf, WhysOf, Same_why, Split_why, no_why, more_whys, map_link, map_chain, map_why, map_whys}
-use Rattle.circ_theory.specs.declared.parts.Goal.{Goal}
 use Rattle.circ_proof.specs.Rules.{ProofStep, Simplify, Reduce, Derive, Cases, Done, map_step}
 use Rattle.circ_proof.specs.Proof.{IsPlainLink, IsPlainChain, IsPlainWhy, ArePlainWhys, IsPlainStep, IsPlainBlock, IsPlain}
 use Rattle.circ_plain_search.specs.Search.{ProvedBlock}
 use Rattle.circ_plain_search.specs.Numbering.{pair_name, goal_name, numbered_links, numbered_block, table_for}
-use Rattle.circ_conditional_search.specs.Versions.{is_plain_link, is_plain_chain, is_plain_why, are_plain_whys, is_plain_step, has_no_conds, is_plain_block, version_of, versioned_proof}
+use Rattle.circ_conditional_search.specs.Versions.{is_plain_link, is_plain_chain, is_plain_why, are_plain_whys, is_plain_step, has_no_conds, is_plain_block, versioned_proof}
 
 -- what holds of each that passes a test
 each_all : {X Y : Type 0} (p : X → Bool) (P : Y → Type 0) (f : X → Y) → ((x : X) → p x ≡ true → P (f x)) → (xs : List X) → list_all p xs ≡ true

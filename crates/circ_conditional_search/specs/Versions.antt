@@ -1,5 +1,5 @@
 -- What is found where a search with conditions ends: a proof has version 1 where it has no conditions and no case steps, and else version 2.
-use Rattle.std.specs.Prelude.{ℕ, ◌+◌, Bool, true, false, ◌&&◌, if◌then◌else◌, nat_lt, List, length}
+use Rattle.std.specs.Prelude.{ℕ, Bool, true, false, ◌&&◌, if◌then◌else◌, nat_lt, List, length}
 use Rattle.std.specs.List.{list_all}
 use Rattle.circ_term.specs.Tree.{Tree}
 use Rattle.circ_theory.specs.declared.parts.Goal.{Goal}

@@ -1,14 +1,14 @@
 //! What is proved of the search with conditions. The functions do nothing: a law is a contract. What
 //! is proved of the greatest special set, by which it goes, is among the laws of circ_plain_search.
-ghost use Rattle.std.specs.Prelude.{◌≡◌, ◌<◌, ◌+◌, ◌-◌, List, Ok};
+ghost use Rattle.std.specs.Prelude.{◌≡◌, ◌↔◌, ◌<◌, ◌+◌, ◌-◌, List, Ok, false};
 ghost use Rattle.circ_theory.specs.Theory.{Theory};
 ghost use Rattle.circ_theory.specs.WellFormed.{IsWellFormed};
 ghost use Rattle.circ_theory.specs.declared.parts.Goal.{Goal};
 ghost use Rattle.circ_special.specs.declared.place.Place.{Place};
 ghost use Rattle.circ_proof.specs.Proof.{Proof, step_limit};
 ghost use Rattle.circ_plain_search.specs.Numbering.{Found, Proved};
-ghost use Rattle.circ_plain_search.specs.PlainSearch.{IsProofOf};
-ghost use Rattle.circ_plain_search.specs.Search.{Standing};
+ghost use Rattle.circ_plain_search.specs.PlainSearch.{PlainSearch, AreSearchable, IsProofOf};
+ghost use Rattle.circ_plain_search.specs.Search.{Limits, Standing};
 ghost use Rattle.circ_conditional_search.specs.ConditionalSearch.{ConditionalSearch};
 ghost use Rattle.circ_conditional_search.specs.ConditionalSearch.{CanAllBeSearched};
 ghost use Rattle.circ_conditional_search.specs.Search.{Manner, turn_trying};
@@ -39,4 +39,13 @@ pub fn turns_end()
     ensures { (th : Theory) (G : List Place) (manner : Manner) (st next : Standing) →
         turn_trying th G manner st ≡ Ok next →
         next.budget + (step_limit - next.made) < st.budget + (step_limit - st.made) }
+{}
+
+/// Without conditions, and without a split of hidden goals, a search finds what the plain search
+/// finds: in a well-formed theory without conditions, for goals without conditions.
+pub fn without_conditions_as_the_plain_search()
+    ensures { (th : Theory) → IsWellFormed th →
+        (blocks : List (List Goal)) → AreSearchable th blocks → (limits : Limits) (f : Found) →
+        ConditionalSearch th blocks (record { limits = limits; split = false }) f
+        ↔ PlainSearch th blocks limits f }
 {}
