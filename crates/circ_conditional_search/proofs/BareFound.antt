@@ -1,5 +1,5 @@
 -- Without conditions, and without splits of hidden goals, a search finds what the plain search finds.
-use Rattle.std.proofs.Common.{◌≡◌, ◌⊎◌, inl, inr, ℕ, ◌+◌, Bool, true, false, ◌&&◌, if◌then◌else◌, List, [], ◌∷◌, map, length, refl, ap, sym, ◌∙◌, arith}
+use Rattle.std.proofs.Common.{◌≡◌, ◌⊎◌, inl, inr, ℕ, ◌+◌, Bool, true, false, if◌then◌else◌, List, [], ◌∷◌, map, length, refl, ap, sym, ◌∙◌, arith}
 use Rattle.std.specs.Prelude.{nat_lt}
 use Rattle.std.specs.List.{AllByRecursion, list_all}
 use Rattle.circ_term.specs.Tree.{Tree}
@@ -15,7 +15,7 @@ use Rattle.circ_rewrite.specs.Links.{link_of}
 use Rattle.circ_rewrite.specs.Replacement.{Traced}
 use Rattle.circ_plain_search.specs.Greatest.{GreatestSpecialSet}
 use Rattle.circ_plain_search.specs.Numbering.{pair_name, goal_name, numbered_links, numbered_block, table_for, proof_with, Special, special, needed, Found, LongTable, Proved, proved_or_long, found_of}
-use Rattle.circ_plain_search.specs.PlainSearch.{PlainSearch, AreSearchable, IsProofOf}
+use Rattle.circ_plain_search.specs.PlainSearch.{PlainSearch, AreSearchable}
 use Rattle.circ_plain_search.specs.Search.{Limits, Standing, Ending, All_done, Is_stuck, Is_spent, Is_too_big, Is_too_deep, ProvedBlock, Reaches, ends, goes, start}
 use Rattle.circ_plain_search.proofs.Accepting.{blocks_given, fine_blocks, proved_accepted}
 use Rattle.circ_plain_search.proofs.Ends.{start_opened}
@@ -79,7 +79,7 @@ version_one : (G : List Place) (cs : List (List (LinkOf Tree))) (bs : List Prove
 version_one G cs bs p =
     let blocks = all_true is_plain_block IsPlainBlock (numbered_block (table_for cs bs)) (block_true (table_for cs bs)) bs p.blocks in
     let certificates = all_true (list_all is_plain_link) (λ ls. AllByRecursion IsPlainLink ls) (numbered_links (table_for cs bs))
-        (λ ls h. links_true (number_in (table_for cs bs)) ls h) cs p.certificates in
+    (λ ls h. links_true (number_in (table_for cs bs)) ls h) cs p.certificates in
     rw (blocks, certificates) refl
 
 -- ---- what is found

@@ -4,7 +4,7 @@ use Rattle.std.specs.Option.{option_or}
 use Rattle.circ_term.specs.Tree.{Tree, Trees, Var, App, none, more, sort_of}
 use Rattle.circ_term.specs.Limits.{Limit}
 use Rattle.circ_term.specs.Order.{is_same}
-use Rattle.circ_term.specs.Substitution.{Substitution, instance}
+use Rattle.circ_term.specs.Substitution.{instance}
 use Rattle.circ_theory.specs.Theory.{Theory, Pair, sides}
 use Rattle.circ_theory.specs.declared.parts.Goal.{Goal}
 use Rattle.circ_theory.specs.declared.way.Way.{Way}
@@ -209,7 +209,7 @@ module _ (f : Normaliser) where
         (put_counted k w.whole (or_inside (first_lemma L q t) us))
     at_term q t w k inside us h =
         let P : Work (Option HypothesisUse) → Type 0 = λ o. AsPut w (or_inside (first_lemma L q t) us) (swept_or_inside w o inside)
-            (put_counted k w.whole (or_inside (first_lemma L q t) us)) in
+        (put_counted k w.whole (or_inside (first_lemma L q t) us)) in
         subst P (sym (lemmas_same L q t k bare)) (go (first_lemma L q t))
       where
         go : (o : Option HypothesisUse) → AsPut w (or_inside o us) (swept_or_inside w (Made o k) inside) (put_counted k w.whole (or_inside o us))

@@ -1,7 +1,6 @@
 -- Where nothing has conditions and hidden goals are not split, each turn is the plain search's.
-use Rattle.std.proofs.Common.{◌≡◌, ℕ, ◌+◌, ◌≤◌, Bool, true, false, ◌||◌, if◌then◌else◌, List, [], ◌∷◌, ◌++◌, map, length, Option, Some, None, Result, Ok, Err, refl, ap, sym, subst, ◌∙◌, arith}
+use Rattle.std.proofs.Common.{◌≡◌, ℕ, ◌+◌, Bool, true, false, ◌||◌, if◌then◌else◌, List, [], ◌∷◌, ◌++◌, map, length, Option, Some, None, Result, Ok, Err, refl, ap, sym, subst, ◌∙◌, arith}
 use Rattle.std.specs.Prelude.{nat_le, not}
-use Rattle.std.specs.List.{AllByRecursion}
 use Rattle.circ_term.specs.Tree.{Tree, sort_of}
 use Rattle.circ_theory.specs.Theory.{Theory, HasNoConditions, goal}
 use Rattle.circ_theory.specs.WellFormed.{IsWellFormed}
@@ -17,14 +16,14 @@ use Rattle.circ_rewrite.specs.declared.parts.Rule.{Rule}
 use Rattle.circ_conditional_norm.specs.Tries.{Normaliser}
 use Rattle.circ_conditional_norm.specs.Work.{Work, Made, Out, Past}
 use Rattle.circ_plain_search.specs.BlockRules.{HaveNoConditions, lemma_rule, passing, is_hidden_lemma, hidden_lemmas, block_rules}
-use Rattle.circ_plain_search.specs.Joining.{Stop, No_budget, Past_limit, and_then, HypothesisUse, use_link, joined, swept, put_all, put_counted}
+use Rattle.circ_plain_search.specs.Joining.{Stop, and_then, HypothesisUse, use_link, joined, swept, put_all, put_counted}
 use Rattle.circ_plain_search.specs.Search.{Limits, Standing, Ending, Sides, SplitReason, sides_with, chain_with, chained, spent, or_end, is_nil, has_links, next_goal, with_sides, reduced, simplified, derive_turn, hidden_turn, visible_turn, open_turn, pass_turn, join_turn, sides_turn, goal_turn, turn_at, turn, normal_sides, split_cases, is_deep_chain, is_deep_why}
 use Rattle.circ_plain_search.proofs.Passes.{counted}
 use Rattle.circ_plain_search.proofs.Runs.{Ran, Held, Opened, bound}
 use Rattle.circ_plain_search.proofs.Splits.{normal_sides_led}
 use Rattle.circ_plain_search.proofs.Turns.{rules_here, bare_here, unconditional_here, sides_held, turn_good}
-use Rattle.circ_conditional_search.specs.Joining.{joined_trying, Swept, swept_with, swept_trying, work_then}
-use Rattle.circ_conditional_search.specs.Search.{Manner, chain_is_deep, why_is_deep, goal_reduced, goal_simplified, derives_turn, hidden_turn_trying, visible_turn_trying, open_turn_trying, worked, swept_sides_trying, pass_chain, passed_sides, with_sides_of, pass_turn_trying, join_turn_trying, sides_turn_trying, goal_turn_trying, turn_trying_at, turn_trying, condition_normaliser, normal_sides_trying, split_cases_trying}
+use Rattle.circ_conditional_search.specs.Joining.{Swept, swept_with, swept_trying, work_then}
+use Rattle.circ_conditional_search.specs.Search.{Manner, chain_is_deep, why_is_deep, goal_reduced, goal_simplified, derives_turn, hidden_turn_trying, visible_turn_trying, open_turn_trying, worked, pass_chain, passed_sides, with_sides_of, pass_turn_trying, join_turn_trying, sides_turn_trying, goal_turn_trying, turn_trying_at, turn_trying, condition_normaliser}
 use Rattle.circ_conditional_search.proofs.BareDeep.{deep_links, last_deep}
 use Rattle.circ_conditional_search.proofs.BareParts.{sides_same, split_same, joined_same, AsPut, swept_as}
 
@@ -90,7 +89,7 @@ module _ (th : Theory) (wf : IsWellFormed th) (none : HasNoConditions th) (G : L
     simplified_same =
         λ i. if has_links x.chain
         then (if nat_le step_limit x.made then Err (spent l x)
-            else Ok (record x { steps = x.steps ++ Simplify x.chain ∷ []; made = x.made + 1; deep = x.deep || deep i }))
+        else Ok (record x { steps = x.steps ++ Simplify x.chain ∷ []; made = x.made + 1; deep = x.deep || deep i }))
         else Ok x
 
     derives_same : derives_turn th l x g rest ≡ hidden_turn th l x g rest
@@ -146,7 +145,7 @@ module _ (th : Theory) (wf : IsWellFormed th) (none : HasNoConditions th) (G : L
       both_same a b n ua ub left e =
           let c : pass_chain (a, b) ≡ chain = λ i. chain_with (map use_link (ua i)) (map use_link (ub i)) in
           (λ i. if has_links (c i) then Ok (with_sides_of (record x { budget = n }) g rest (sides_with a.whole b.whole (c i) n))
-              else open_turn_trying th (unsplit l) (record x { budget = n }) g rest)
+          else open_turn_trying th (unsplit l) (record x { budget = n }) g rest)
           ∙ go (has_links chain) refl e
         where
           go : (d : Bool) → has_links chain ≡ d
@@ -163,8 +162,8 @@ module _ (th : Theory) (wf : IsWellFormed th) (none : HasNoConditions th) (G : L
           ≡ and_then (or_end l x (and_then (put_counted m t vs) (λ b. Ok (sides_with a.whole b.0 chain b.1)))) after
       second_same a m ua few (Made b n) p e =
           let is : and_then (or_end l x (and_then (put_counted m t vs) (λ b. Ok (sides_with a.whole b.0 chain b.1)))) after
-              ≡ after (sides_with a.whole b.whole chain n)
-              = ap (λ r. and_then (or_end l x (and_then r (λ b. Ok (sides_with a.whole b.0 chain b.1)))) after) p.0 in
+          ≡ after (sides_with a.whole b.whole chain n)
+          = ap (λ r. and_then (or_end l x (and_then r (λ b. Ok (sides_with a.whole b.0 chain b.1)))) after) p.0 in
           let fewer = (counted m t vs (b.whole, n) p.0).falls in
           both_same a b n ua p.1 (λ k. let z = no_uses us vs k in let z0 = z.0 in let z1 = z.1 in omega (arith, few, fewer, z0, z1)) (e ∙ is) ∙ sym is
       second_same a m ua few Out p e = sym (ap (λ r. and_then (or_end l x (and_then r (λ b. Ok (sides_with a.whole b.0 chain b.1)))) after) p)
@@ -177,8 +176,8 @@ module _ (th : Theory) (wf : IsWellFormed th) (none : HasNoConditions th) (G : L
           ≡ and_then (or_end l x (and_then (put_counted x.budget s us) (λ a. and_then (put_counted a.1 t vs) (λ b. Ok (sides_with a.0 b.0 chain b.1))))) after
       first_same (Made a m) p e =
           let is : and_then (or_end l x (and_then (put_counted x.budget s us) (λ a. and_then (put_counted a.1 t vs) (λ b. Ok (sides_with a.0 b.0 chain b.1))))) after
-              ≡ and_then (or_end l x (and_then (put_counted m t vs) (λ b. Ok (sides_with a.whole b.0 chain b.1)))) after
-              = ap (λ r. and_then (or_end l x (and_then r (λ a. and_then (put_counted a.1 t vs) (λ b. Ok (sides_with a.0 b.0 chain b.1))))) after) p.0 in
+          ≡ and_then (or_end l x (and_then (put_counted m t vs) (λ b. Ok (sides_with a.whole b.0 chain b.1)))) after
+          = ap (λ r. and_then (or_end l x (and_then r (λ a. and_then (put_counted a.1 t vs) (λ b. Ok (sides_with a.0 b.0 chain b.1))))) after) p.0 in
           second_same a m p.1 (counted x.budget s us (a.whole, m) p.0).falls (swept_trying f G L [] t (swept_with t []) m)
           (swept_as f G L (lemmas_bare (is_hidden_lemma th) 0 x.earlier bare) [] t (swept_with t []) m) (e ∙ is)
           ∙ sym is
@@ -239,12 +238,12 @@ module _ (th : Theory) (wf : IsWellFormed th) (none : HasNoConditions th) (G : L
       go (Err y) k z = refl
       go (Ok n) k z =
           let led = normal_sides_led th wf (bound st) (omega arith) G st.hypotheses R (rules_here th wf none G l blocks st (o ∷ rest) h.ran) un [] tt g.left g.right
-              st.budget n h.fine.left h.fine.right k in
+          st.budget n h.fine.left h.fine.right k in
           let held = sides_held th wf none G l blocks st o g rest st.budget n h led in
           let x : Standing = with_sides st rest n in
           let deep : chain_is_deep th st.hypotheses x.chain ≡ is_deep_chain th st.hypotheses x.chain
-              = λ i. deep_links th none G st.hypotheses h.ran.bare [] x.chain.left o.left n.left held.left i
-              || deep_links th none G st.hypotheses h.ran.bare [] x.chain.right o.right n.right held.right i in
+          = λ i. deep_links th none G st.hypotheses h.ran.bare [] x.chain.left o.left n.left held.left i
+          || deep_links th none G st.hypotheses h.ran.bare [] x.chain.right o.right n.right held.right i in
           joins_same x un deep n.left n.right rest (bare_here th wf none G l blocks st (o ∷ rest) h.ran) h.ran.bare z
 
   pub turn_same : turn_trying th G (unsplit l) st ≡ turn th G l st

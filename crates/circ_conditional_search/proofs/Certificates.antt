@@ -90,8 +90,7 @@ module _ (th : Theory) (wf : IsWellFormed th) where
   traces_fine budget G [] (ts ∷ tss) h a = absurd a
   traces_fine budget G (x ∷ xs) [] h a = absurd a
   traces_fine budget G (x ∷ xs) (ts ∷ tss) h a =
-      let f : HasNormalForm th budget x.0 x.1 a.0.0 ts = a.0.1 in
-      (
+      let f : HasNormalForm th budget x.0 x.1 a.0.0 ts = a.0.1 in (
         (led_by budget x.0 x.1 a.0.0 ts (h x (contains_first x xs)).1 f).terms,
         traces_fine budget G xs tss (λ y d. h y (in_rest x y xs d)) a.1,
       )

@@ -72,9 +72,11 @@ all_hold_nest n f h σ (p ∷ ps) k cs l e =
     let b : Tree = instance σ p.right in
     let lim = found_limit (or_else (first_limit a) (first_limit b)) k (same_forms f a b k (conditions_hold f σ ps)) (Some cs) l e in
     let r = held_by f a b k (conditions_hold f σ ps) cs l lim.1 in
-    subst (λ y. ChainsNestIn (suc n) (chains_by y)) r.is
-    (row_nests n r.left_traces (h k a r.same r.left_traces r.between r.left), row_nests n r.right_traces (h r.between b r.same r.right_traces r.after r.right),
-    all_hold_nest n f h σ ps r.after r.passes l r.later)
+    subst (λ y. ChainsNestIn (suc n) (chains_by y)) r.is (
+      row_nests n r.left_traces (h k a r.same r.left_traces r.between r.left),
+      row_nests n r.right_traces (h r.between b r.same r.right_traces r.after r.right),
+      all_hold_nest n f h σ ps r.after r.passes l r.later,
+    )
 
 pub holds_nest : (n : ℕ) (f : Normaliser) → IsNesting n f → (σ : Substitution) (ps : List Pair) (k : ℕ) (cs : Passes) (l : ℕ)
     → tried (Some f) σ ps k ≡ Made (Some cs) l → ChainsNestIn (suc n) (chains_by cs)
@@ -196,4 +198,3 @@ inner_nests (suc n) sig rs A =
 pub norm_nests : (n : ℕ) (sig : Signature) (rs : List Rule) (A : List Pair) → IsNesting n (norm_with_room n sig rs A)
 norm_nests n sig rs A k t u ts l e =
     run_nests n (due_trying (inner_norm n sig rs A) sig rs A) (due_nests n (inner_norm n sig rs A) (inner_nests n sig rs A) sig rs A) k [] t u [] ts k l tt e
-

@@ -199,7 +199,7 @@ module _ (th : Theory) (wf : IsWellFormed th) (m : ℕ) (one : 1 ≤ m) (o : Opt
           let conds = conds_bound q rule.rewrites (λ n s. Fine base m (σ n s)) left in
           let right : OfTerm (λ n s. Fine base m (σ n s)) q.right = λ n s y. left n s (bound_in_left q rule.rewrites n s y) in
           let chains = holds_fine base m o fining σ q.conds
-              (low_pairs base m σ (matching_substitution base.signature q.left a f.sorted) q.conds (all_sorted base q.conds rule.sorted.conds) conds) k h.0 l h.1 in
+          (low_pairs base m σ (matching_substitution base.signature q.left a f.sorted) q.conds (all_sorted base q.conds rule.sorted.conds) conds) k h.0 l h.1 in
           subst (IsFineDue base m path) h.2
           (record {
             terms = rule_terms (Fine base m) path q.name (terms_by σ (rule_variables q)) h.0 (all_terms (Fine base m) (rule_goal q) σ left right conds) chains;

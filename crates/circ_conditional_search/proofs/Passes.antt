@@ -196,8 +196,8 @@ module _ (c : Setting) (m : ℕ) (fine : FineGoals c.theory m c.hypotheses) (f :
               inner (Made x j) e y =
                   let at_place = place_there c.places g (length front) (ap (is_place c.places g) (sym n) ∙ d) in
                   let first = one x j (at_deeper q w.whole g s _ (length front) a there (row_arg front a ts))
-                      (special_deeper c.places q w.whole g s _ (length front) a special there at_place (row_arg front a ts))
-                      (ap (λ h. sweep (q ++ h ∷ []) a w k) (sym n) ∙ e) in
+                  (special_deeper c.places q w.whole g s _ (length front) a special there at_place (row_arg front a ts))
+                  (ap (λ h. sweep (q ++ h ∷ []) a w k) (sym n) ∙ e) in
                   let b : Tree = first.new in
                   let step = beyond c m (goals_sorted th m c.hypotheses fine) first.made q g s front a b ts w.whole x.whole there special first.lead in
                   let rest = later x b j first.lead.led.fine step.there step.special y in

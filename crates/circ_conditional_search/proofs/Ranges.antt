@@ -138,10 +138,11 @@ mutual
   chains_ranged c s (more_chains l m cs) a σ w [] f r = absurd r
   chains_ranged c s (more_chains l m cs) a σ w (p ∷ ps) f r =
       let here = (f p (contains_first p ps)).sorted in
-      let sig = c.theory.signature in
-      (row_ranged c s l a.0 (instance σ p.left) r.2.0 (record { sorted = instance_well_sorted sig σ p.left w here.left; within = r.0 }) r.2.1,
-      row_ranged c s m a.1 (instance σ p.right) r.2.0 (record { sorted = instance_well_sorted sig σ p.right w here.right; within = r.1 }) r.2.2,
-      chains_ranged c s cs a.2 σ w ps (λ q i. f q (contains_next p q ps i)) r.3)
+      let sig = c.theory.signature in (
+        row_ranged c s l a.0 (instance σ p.left) r.2.0 (record { sorted = instance_well_sorted sig σ p.left w here.left; within = r.0 }) r.2.1,
+        row_ranged c s m a.1 (instance σ p.right) r.2.0 (record { sorted = instance_well_sorted sig σ p.right w here.right; within = r.1 }) r.2.2,
+        chains_ranged c s cs a.2 σ w ps (λ q i. f q (contains_next p q ps i)) r.3,
+      )
 
 pub record LinksRanged (c : Setting) (ls : List (LinkOf Tree)) (t u : Tree) : Type 0 where
   pub ranged : AreRanged ls

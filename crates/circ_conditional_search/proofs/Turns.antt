@@ -173,8 +173,8 @@ module _ (th : Theory) (wf : IsWellFormed th) (G : List Place) (l : Manner) (blo
       let L : List Goal = st.hypotheses ++ g ∷ [] in
       let up : bound st + 8 ≡ bound b = omega arith in
       let fine : FineGoals th (bound b) L =
-          all_append (FineGoal th (bound b)) st.hypotheses (g ∷ []) (goals_more th (bound st) (bound b) st.hypotheses (omega arith) h.fine)
-          (goal_more th (bound st) (bound b) g (omega arith) fg, tt) in
+      all_append (FineGoal th (bound b)) st.hypotheses (g ∷ []) (goals_more th (bound st) (bound b) st.hypotheses (omega arith) h.fine)
+      (goal_more th (bound st) (bound b) g (omega arith) fg, tt) in
       let ran : Ran th G blocks b (rest ++ gs)
       = ran_more th G blocks st (g ∷ rest) Derive L (rest ++ gs) (rest ++ gs) no_links (st.taken + 1) st.budget (st.derives + 1) h
       (hidden, d.derivable, refl) tt tt room (begins_more st.hypotheses st.earlier g h.begins) fine (omega (arith, few)) (omega (arith, taken)) in
@@ -275,8 +275,8 @@ module _ (th : Theory) (wf : IsWellFormed th) (G : List Place) (l : Manner) (blo
       let R : ℕ → Type 0 = λ m. FineGoals th m rest in
       let small = bound_small x.value (g ∷ rest) s.ran in
       let cases : FineGoals th (bound x.value) gs =
-          subst (λ ks. FineGoals th (bound x.value) (map (λ c. with_cond g (case_of u c)) ks)) (sym is)
-          (each_case_fine (bound x.value) g u (subst D same h.fine) few has.0 (case_fine (bound x.value) u (subst F same fu) has.0 has.1)) in
+      subst (λ ks. FineGoals th (bound x.value) (map (λ c. with_cond g (case_of u c)) ks)) (sym is)
+      (each_case_fine (bound x.value) g u (subst D same h.fine) few has.0 (case_fine (bound x.value) u (subst F same fu) has.0 has.1)) in
       let made : cases_on g u (case_list (sort_of u) has.0) ≡ gs = ap (map (λ c. with_cond g (case_of u c))) (sym is) in
       let ran : Ran th G blocks (next_goal a.hypotheses (gs ++ rest) a) (gs ++ rest)
       = ran_more th G blocks x.value (g ∷ rest) (Cases u) x.value.hypotheses (gs ++ rest) (gs ++ rest) no_links (x.value.taken + 1) x.value.budget x.value.derives s.ran

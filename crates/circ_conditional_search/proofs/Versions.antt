@@ -79,9 +79,12 @@ fits_version G cs bs = go (list_all is_plain_block bs && list_all (list_all is_p
         → ((version_by b ≡ 1) × IsPlain (versioned_proof G cs bs)) ⊎ (version_by b ≡ 2)
     go true e =
         let x = and_parts (list_all is_plain_block bs) (list_all (list_all is_plain_link) cs) e in
-        inl (refl, record {
-          certificates = each_all (list_all is_plain_link) (λ ls. AllByRecursion IsPlainLink ls) (numbered_links (table_for cs bs))
-              (λ ls h. links_plain (number_in (table_for cs bs)) ls h) cs x.1;
-          blocks = each_all is_plain_block IsPlainBlock (numbered_block (table_for cs bs)) (block_plain (table_for cs bs)) bs x.0;
-        })
+        inl (
+          refl,
+          record {
+            certificates = each_all (list_all is_plain_link) (λ ls. AllByRecursion IsPlainLink ls) (numbered_links (table_for cs bs))
+                (λ ls h. links_plain (number_in (table_for cs bs)) ls h) cs x.1;
+            blocks = each_all is_plain_block IsPlainBlock (numbered_block (table_for cs bs)) (block_plain (table_for cs bs)) bs x.0;
+          },
+        )
     go false e = inr refl

@@ -44,7 +44,7 @@ module _ (normal : Normaliser) where
   pair_use_trying n way h q new a b k =
       if pair_matches (sides h) a b
       then map_found (λ passes. use_passing n way q (terms_by (pair_matching (sides h) a b) (hypothesis_variables h)) passes new)
-          (tried (Some normal) (pair_matching (sides h) a b) h.conds k)
+      (tried (Some normal) (pair_matching (sides h) a b) h.conds k)
       else Made None k
 
   -- one hypothesis on a and b, and else the other way about
@@ -122,8 +122,8 @@ module _ (normal : Normaliser) where
   lemma_use_trying r q t k =
       if matches r.left t
       then map_found
-          (λ passes. use_passing (rule_number r.name) Forth q (terms_by (matching r.left t) (rule_variables r)) passes (instance (matching r.left t) r.right))
-          (tried (Some normal) (matching r.left t) r.conds k)
+      (λ passes. use_passing (rule_number r.name) Forth q (terms_by (matching r.left t) (rule_variables r)) passes (instance (matching r.left t) r.right))
+      (tried (Some normal) (matching r.left t) r.conds k)
       else Made None k
 
   -- the first hidden lemma that applies

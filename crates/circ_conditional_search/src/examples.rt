@@ -24,9 +24,9 @@ pub fn a_gate_lets_through()
             goals = goal (pair_with x one_bit ∷ []) (gate x s) s ∷ [];
             names = record { conds = (0, 3) ∷ []; left = 2; right = 1 } ∷ [];
             steps = Simplify (record {
-                  left = Assumption_link 0 Forth (0 ∷ []) ∷ [];
-                  right = [];
-                })
+              left = Assumption_link 0 Forth (0 ∷ []) ∷ [];
+              right = [];
+            })
                 ∷ Derive
                 ∷ Reduce (Same_why (record {
                   left = Equation_link 13 Forth [] (3 ∷ 1 ∷ [])
@@ -59,4 +59,25 @@ pub fn a_gate_of_zeros()
         ((goal [] (gate x zeros) zeros ∷ []) ∷ [])) ≡ Some (4, 1) }
     ensures split { step_counts (search_trying gates no_places (manner 1000000 10000 true)
         ((goal [] (gate x zeros) zeros ∷ []) ∷ [])) ≡ Some (10, 2) }
+{}
+
+/// A lemma with a condition: a pass uses it where its condition holds, and then Join uses it once
+/// more. Where its condition fails it is not used, and the goal is stuck.
+pub fn a_lemma_with_a_condition()
+    ensures used { step_counts (search_trying gates no_places (manner 1000000 10000 false)
+        ((goal (pair_with x one_bit ∷ []) (gate x s) s ∷ [])
+        ∷ (goal [] (gate one_bit (gate one_bit s)) s ∷ []) ∷ [])) ≡ Some (7, 1) }
+    ensures unused { search_trying gates no_places (manner 1000000 10000 false)
+        ((goal (pair_with x one_bit ∷ []) (gate x s) s ∷ [])
+        ∷ (goal [] (gate zero_bit s) s ∷ []) ∷ [])
+        ≡ Some (Stuck 2 2 zero_bit one_bit (pair_with (hd s) one_bit ∷ [])) }
+{}
+
+/// Stuck behind a split of a hidden goal: the split is the first goal that was taken, its two cases
+/// the next, and the head of the first case is stuck.
+pub fn a_stuck_case_of_a_hidden_goal()
+    ensures { search_trying gates no_places (manner 1000000 10000 true)
+        ((goal [] (gate x s) s ∷ []) ∷ [])
+        ≡ Some (Stuck 1 4 zero_bit one_bit
+        (pair_with x zero_bit ∷ pair_with (hd s) one_bit ∷ [])) }
 {}
