@@ -1,0 +1,31 @@
+-- A search finds one thing, and it cannot find nothing.
+use Rattle.std.proofs.Common.{◌≡◌, List, map, refl, ap, sym, subst, ◌∙◌}
+use Rattle.circ_theory.specs.Theory.{Theory}
+use Rattle.circ_theory.specs.declared.parts.Goal.{Goal}
+use Rattle.circ_special.specs.declared.place.Place.{Place}
+use Rattle.circ_rewrite.specs.Links.{link_of}
+use Rattle.circ_plain_search.proofs.Unique.{one_set}
+use Rattle.circ_plain_search.proofs.Existing.{some_set}
+use Rattle.circ_plain_search.specs.Search.{start}
+use Rattle.circ_conditional_search.specs.Search.{Manner, Finishes}
+use Rattle.circ_plain_search.specs.Numbering.{Found, special}
+use Rattle.circ_conditional_search.specs.Versions.{versioned_found}
+use Rattle.circ_conditional_search.specs.ConditionalSearch.{ConditionalSearch}
+use Rattle.circ_conditional_search.proofs.Answers.{one_ending, some_ending}
+
+pub one_found : (th : Theory) (blocks : List (List Goal)) (l : Manner) (f g : Found) → ConditionalSearch th blocks l f → ConditionalSearch th blocks l g → f ≡ g
+one_found th blocks l f g s t =
+    let same = one_set th l.limits.steps s.places t.places s.traces t.traces s.greatest t.greatest in
+    let P : List Place → Type 0 = λ G. Finishes th G l (start l.limits blocks) s.ending in
+    let ending = one_ending th t.places l (start l.limits blocks) s.ending t.ending (subst P same.0 s.run) t.run in
+    s.is ∙ ap (λ G. versioned_found (special G (map (map link_of) s.traces)) s.ending) same.0
+    ∙ ap (λ ts. versioned_found (special t.places (map (map link_of) ts)) s.ending) same.1
+    ∙ ap (versioned_found (special t.places (map (map link_of) t.traces))) ending ∙ sym t.is
+
+pub some_found : (th : Theory) (blocks : List (List Goal)) (l : Manner) → ((f : Found) → ConditionalSearch th blocks l f → ⊥) → ⊥
+some_found th blocks l none =
+    some_set th l.limits.steps
+    (λ G tss g.
+    let e = some_ending th G l (start l.limits blocks) in
+    none (versioned_found (special G (map (map link_of) tss)) e.0)
+    (record { places = G; traces = tss; greatest = g; ending = e.0; run = e.1; is = refl }))

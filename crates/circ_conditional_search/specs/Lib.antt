@@ -1,0 +1,5 @@
+pub mod Joining
+pub mod Search
+pub mod Versions
+pub mod ConditionalSearch
+pub mod Examples
