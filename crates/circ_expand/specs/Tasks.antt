@@ -1,0 +1,174 @@
+-- What contracts see of uses and tasks, and what a step of the work answers.
+use Rattle.std.specs.Prelude.{◌≡◌, ◌<◌, ◌⊎◌, ℕ, ◌+◌, List, [], ◌∷◌, ◌++◌, map, take, drop, repeat, Option, Some, None, Result, Ok, Err}
+use Rattle.std.specs.Option.{option_map, option_map_or}
+use Rattle.std.specs.declared.rc.Rc.{Rc}
+use Rattle.std.proofs.Common.{Global}
+use Rattle.circ_term.specs.Tree.{Tree, sort_of}
+use Rattle.circ_term.specs.Limits.{Limit, Names}
+use Rattle.circ_term.specs.Substitution.{instance}
+use Rattle.circ_theory.specs.Theory.{CaseList}
+use Rattle.circ_theory.specs.Observing.{case_list}
+use Rattle.circ_theory.specs.Pairs.{plain_pair}
+use Rattle.circ_theory.specs.Rewriting.{named}
+use Rattle.circ_proof.specs.Plain.{LinkOf, WhyOf, WhysOf, plain_links, plain_why, plain_whys, map_whys}
+use Rattle.circ_proof.specs.Link.{resolved_links, resolved_why}
+use Rattle.circ_proof.specs.declared.links.Link.{Link}
+use Rattle.circ_proof.specs.declared.links.Why.{Why}
+use Rattle.circ_expand.specs.Followed.{Followed, Open, no_pair}
+use Rattle.circ_expand.specs.Pieces.{Pieces}
+use Rattle.circ_expand.specs.Expand.{Spending, Yields, Long, Past, Stopped, Background, certificate_of, simplified_call, basis, Basis as SideBasis, Call as Use}
+use Rattle.circ_expand.specs.Histories.{history_at}
+use Rattle.circ_expand.specs.Book.{followed_by, hypotheses_in, kept_at}
+use Rattle.circ_expand.specs.Certificates.{lists_in}
+use Rattle.circ_expand.specs.Paths.{plain_paths}
+use Rattle.circ_expand.specs.Uses.{entries_of, layers_of}
+use Rattle.circ_expand.specs.Valuations.{by_of}
+use Rattle.circ_expand.specs.Machine.{Value, Pending, pending, Task as Job, Links as Links_job, Give_reason, Give_reasons, Begin_use, Enter_use, Occurrences}
+use Rattle.circ_expand.specs.Machine.{Empty_row, Put_behind, Put_between, Add_part, Begin_split, End_split, task_step, all_uses}
+use Rattle.circ_expand.specs.Values.{values_of}
+use Rattle.circ_expand.specs.declared.fronts.Front.{Front}
+use Rattle.circ_expand.specs.declared.fronts.Cut.{Cut}
+use Rattle.circ_expand.specs.declared.calls.Frame.{Frame}
+use Rattle.circ_expand.specs.declared.calls.Target.{Target}
+use Rattle.circ_expand.specs.declared.calls.Call.{Call}
+use Rattle.circ_expand.specs.declared.calls.Basis.{Basis}
+use Rattle.circ_expand.specs.declared.tasks.Halt.{Halt}
+use Rattle.circ_expand.specs.declared.tasks.Halt.TheVariants as halt
+use Rattle.circ_expand.specs.declared.tasks.Links.{Links}
+use Rattle.circ_expand.specs.declared.tasks.Reason.{Reason}
+use Rattle.circ_expand.specs.declared.tasks.Reasons.{Reasons}
+use Rattle.circ_expand.specs.declared.tasks.Simpler.{Simpler}
+use Rattle.circ_expand.specs.declared.tasks.Changes.{Changes}
+use Rattle.circ_expand.specs.declared.tasks.Task.{Task}
+use Rattle.circ_expand.specs.declared.tasks.Task.TheVariants as task
+use Rattle.circ_expand.specs.declared.tasks.Work.{Work}
+
+-- ---- shared lists
+
+abbrev pub front : {T : Type 0} → Front T → List (Rc T Global)
+front f = take f.count f.items.value.items
+
+-- the last item, and those before it
+abbrev pub IsCut : {T : Type 0} → List (Rc T Global) → Option (Cut T) → Type 0
+IsCut xs None = xs ≡ []
+IsCut xs (Some c) = xs ≡ front c.rest ++ c.last ∷ []
+
+-- ---- uses
+
+abbrev pub target_of : Frame → Target → Followed
+target_of fr t = record { block = t.block; history = option_map_or (history_at fr.table.now fr.book.now.nodes.items) t.node Open }
+
+-- Of the assumptions there are only so many.
+abbrev pub call_of : Frame → Call → Use
+call_of fr c = record {
+  whole = c.whole;
+  path = c.path.value.items;
+  entries = entries_of fr.theory.now (front c.entries);
+  along = option_map (λ xs. layers_of fr.theory.now (front xs)) c.along;
+  goal = target_of fr c.goal;
+  by = by_of c.by.value;
+  assumptions = repeat c.assumptions no_pair;
+}
+
+-- the hypotheses at the end of a block, each as it is followed
+abbrev pub followed_at_end : Frame → Option ℕ → List Followed
+followed_at_end fr None = []
+followed_at_end fr (Some n) = map (followed_by fr.table.now fr.book.now.nodes.items) (kept_at fr.book.now n)
+
+abbrev pub basis_of : Frame → Basis → SideBasis
+basis_of fr b = basis (followed_at_end fr b.block) b.raised (map plain_pair b.assumptions.items)
+
+abbrev pub background_in : Frame → Background
+background_in fr = record {
+  theory = fr.theory.now;
+  places = fr.gamma.now;
+  hypotheses = hypotheses_in fr.table.now fr.book.now.nodes.items fr.book.now.goals.items 0 fr.book.now.blocks.items;
+  certificate = certificate_of fr.theory.now fr.gamma.now (lists_in fr.table.now fr.lists.now);
+}
+
+-- ---- tasks
+
+abbrev pub links_at : Frame → List (Link ℕ) → List (LinkOf Tree)
+links_at fr ls = resolved_links fr.table.now (plain_links ls)
+
+abbrev pub why_at : Frame → Why ℕ → WhyOf Tree
+why_at fr w = resolved_why fr.table.now (plain_why w)
+
+abbrev pub whys_at : Frame → List (Why ℕ) → WhysOf Tree
+whys_at fr ws = map_whys (named fr.table.now) (plain_whys ws)
+
+abbrev pub links_job : Frame → Links → Job
+links_job fr l = Links_job (call_of fr l.call.value) (basis_of fr l.basis.value) (links_at fr l.links.now) l.term
+
+abbrev pub reason_job : Frame → Reason → Job
+reason_job fr r = Give_reason (call_of fr r.call.value) (basis_of fr r.basis.value) (why_at fr r.why.now) r.left r.right
+
+abbrev pub case_list_of : Reasons → CaseList
+case_list_of r = case_list (sort_of r.term) r.all.now
+
+abbrev pub reasons_job : Frame → Reasons → Job
+reasons_job fr r =
+    Give_reasons (call_of fr r.call.value) (basis_of fr r.basis.value) (whys_at fr r.whys.now) r.term (case_list_of r) r.constants.now r.left r.right
+
+-- the term under the substitution
+abbrev pub split_term : Reasons → Tree
+split_term r = instance (by_of r.call.value.by.value) r.term
+
+abbrev pub simpler_use : Frame → Simpler → Use
+simpler_use fr s =
+    simplified_call (all_uses (background_in fr)) (background_in fr) (call_of fr s.call.value) s.left (history_at fr.table.now fr.book.now.nodes.items s.next)
+
+abbrev pub changes_job : Frame → Changes → (here : Tree) → Job
+changes_job fr x here =
+    Occurrences (call_of fr x.call.value) (layers_of fr.theory.now (front x.layers)) x.new x.last (drop x.done (plain_paths x.paths.value.items)) here
+
+-- a task before others
+abbrev pub with_task : Frame → Task → List Job → List Job
+with_task fr (task.Links links) js = links_job fr links ∷ js
+with_task fr (task.GiveReason reason) js = reason_job fr reason ∷ js
+with_task fr (task.GiveReasons reasons) js = reasons_job fr reasons ∷ js
+with_task fr (task.BeginUse call) js = Begin_use (call_of fr call.value) ∷ js
+with_task fr (task.EnterUse call) js = Enter_use (call_of fr call.value) ∷ js
+with_task fr (task.BeginSimpler simpler) js = Begin_use (simpler_use fr simpler) ∷ js
+with_task fr (task.EnterSimpler simpler) js = Enter_use (simpler_use fr simpler) ∷ js
+with_task fr (task.FirstChange changes by) js = changes_job fr changes (instance (by_of by.value) changes.last) ∷ js
+with_task fr (task.Changes changes here) js = changes_job fr changes here ∷ js
+with_task fr task.EmptyRow js = Empty_row ∷ js
+with_task fr (task.PutBehind way) js = Put_behind way ∷ js
+with_task fr task.PutBetween js = Put_between ∷ js
+with_task fr task.AddPart js = Add_part ∷ js
+with_task fr (task.Split reasons) js = Begin_split (split_term reasons) ∷ reasons_job fr reasons ∷ End_split (split_term reasons) ∷ js
+with_task fr (task.EndSplit term) js = End_split term ∷ js
+
+-- the last one is the next one
+abbrev pub with_tasks : Frame → List Task → List Job → List Job
+with_tasks fr [] js = js
+with_tasks fr (t ∷ ts) js = with_tasks fr ts (with_task fr t js)
+
+abbrev pub jobs_of : Frame → Work → List Job
+jobs_of fr w = with_tasks fr w.tasks.items []
+
+abbrev pub pending_of : Frame → Work → Pending
+pending_of fr w = pending (jobs_of fr w) (values_of w.values)
+
+-- ---- what a step answers
+
+abbrev pub past_of : {A : Type 0} → Spending A → Option Limit
+past_of (Yields a n) = None
+past_of Long = None
+past_of (Past l) = Some l
+past_of Stopped = None
+
+abbrev pub Halts : {A : Type 0} → Spending A → Halt → Type 0
+Halts o halt.Long = o ≡ Long
+Halts o (halt.Past fault) = Names fault (past_of o)
+Halts o halt.Stopped = o ≡ Stopped
+
+-- the tasks, the values and the units afterwards are those that it yields
+abbrev pub Steps : Frame → Spending Pending → Work → Result (Unit {0}) Halt → Type 0
+Steps fr o w (Ok u) = o ≡ Yields (pending_of fr w) w.left
+Steps fr o w (Err h) = Halts o h
+
+-- what a step of this task comes to, before the others
+abbrev pub stepped : Frame → Job → Work → Spending Pending
+stepped fr j w = task_step (all_uses (background_in fr)) (background_in fr) j (jobs_of fr w) (values_of w.values) w.left
