@@ -34,3 +34,4 @@ pub mod Using
 pub mod Telling
 pub mod Expanding
 pub mod Numbers
+pub mod Assuming

@@ -1,33 +1,33 @@
 -- What contracts see of uses and tasks, and what a step of the work answers.
-use Rattle.std.specs.Prelude.{◌≡◌, ◌<◌, ◌⊎◌, ℕ, ◌+◌, List, [], ◌∷◌, ◌++◌, map, take, drop, repeat, Option, Some, None, Result, Ok, Err}
+use Rattle.std.specs.Prelude.{◌≡◌, ◌==◌, ℕ, ◌+◌, List, [], ◌∷◌, ◌++◌, map, drop, repeat, if◌then◌else◌, unwrap_or, Option, Some, None, Result, Ok, Err}
 use Rattle.std.specs.Option.{option_map, option_map_or}
-use Rattle.std.specs.declared.rc.Rc.{Rc}
-use Rattle.std.proofs.Common.{Global}
-use Rattle.circ_term.specs.Tree.{Tree, sort_of}
+use Rattle.circ_term.specs.Tree.{Tree, sort_of, at}
 use Rattle.circ_term.specs.Limits.{Limit, Names}
-use Rattle.circ_term.specs.Substitution.{instance}
-use Rattle.circ_theory.specs.Theory.{CaseList}
-use Rattle.circ_theory.specs.Observing.{case_list}
+use Rattle.circ_term.specs.Substitution.{Substitution, instance}
+use Rattle.circ_theory.specs.Theory.{CaseList, Derivative}
+use Rattle.circ_theory.specs.Observing.{case_list, is_hidden}
 use Rattle.circ_theory.specs.Pairs.{plain_pair}
-use Rattle.circ_theory.specs.Rewriting.{named}
-use Rattle.circ_proof.specs.Plain.{LinkOf, WhyOf, WhysOf, plain_links, plain_why, plain_whys, map_whys}
+use Rattle.circ_theory.specs.Rewriting.{named, by_terms}
+use Rattle.circ_theory.specs.declared.way.Way.{Way}
+use Rattle.circ_proof.specs.Plain.{LinkOf, Equation_link, Hypothesis_link, Assumption_link, Content_link, WhyOf, WhysOf, plain_links, plain_why, plain_whys, map_whys}
 use Rattle.circ_proof.specs.Link.{resolved_links, resolved_why}
+use Rattle.circ_proof.specs.declared.links.Chain.{Chain}
 use Rattle.circ_proof.specs.declared.links.Link.{Link}
 use Rattle.circ_proof.specs.declared.links.Why.{Why}
-use Rattle.circ_expand.specs.Followed.{Followed, Open, no_pair}
-use Rattle.circ_expand.specs.Pieces.{Pieces}
-use Rattle.circ_expand.specs.Expand.{Spending, Yields, Long, Past, Stopped, Background, certificate_of, simplified_call, basis, Basis as SideBasis, Call as Use}
-use Rattle.circ_expand.specs.Histories.{history_at}
+use Rattle.circ_expand.specs.Followed.{Followed, History, Open, no_pair, goal_in}
+use Rattle.circ_expand.specs.Pieces.{Piece, Pieces, Equation_piece, Content_piece, Assumption_piece, no_piece, more_pieces, pieces_joined}
+use Rattle.circ_expand.specs.Expand.{Spending, Yields, Long, Past, Stopped, counted, tested, all_tested, Background, certificate_of, simplified_call, basis}
+use Rattle.circ_expand.specs.Expand.{Basis as SideBasis, Call as Use, base, around, followed_at, start_of, stood, bounds_of}
+use Rattle.circ_expand.specs.Histories.{history_at, history_below, history_with}
 use Rattle.circ_expand.specs.Book.{followed_by, hypotheses_in, kept_at}
 use Rattle.circ_expand.specs.Certificates.{lists_in}
 use Rattle.circ_expand.specs.Paths.{plain_paths}
 use Rattle.circ_expand.specs.Uses.{entries_of, layers_of}
 use Rattle.circ_expand.specs.Valuations.{by_of}
-use Rattle.circ_expand.specs.Machine.{Value, Pending, pending, Task as Job, Links as Links_job, Give_reason, Give_reasons, Begin_use, Enter_use, Occurrences}
-use Rattle.circ_expand.specs.Machine.{Empty_row, Put_behind, Put_between, Add_part, Begin_split, End_split, task_step, all_uses}
-use Rattle.circ_expand.specs.Values.{values_of}
-use Rattle.circ_expand.specs.declared.fronts.Front.{Front}
-use Rattle.circ_expand.specs.declared.fronts.Cut.{Cut}
+use Rattle.circ_expand.specs.Machine.{Value, In_row, Pending, pending, Task as Job, Links as Links_job, Give_reason, Give_reasons, Begin_use, Enter_use, Occurrences}
+use Rattle.circ_expand.specs.Machine.{Empty_row, Put_behind, Put_between, Add_part, Begin_split, End_split, task_step, goal_step, all_uses, rest_done, tasks_weight}
+use Rattle.circ_expand.specs.Fronts.{front}
+use Rattle.circ_expand.specs.declared.histories.Node.{Node}
 use Rattle.circ_expand.specs.declared.calls.Frame.{Frame}
 use Rattle.circ_expand.specs.declared.calls.Target.{Target}
 use Rattle.circ_expand.specs.declared.calls.Call.{Call}
@@ -42,16 +42,6 @@ use Rattle.circ_expand.specs.declared.tasks.Changes.{Changes}
 use Rattle.circ_expand.specs.declared.tasks.Task.{Task}
 use Rattle.circ_expand.specs.declared.tasks.Task.TheVariants as task
 use Rattle.circ_expand.specs.declared.tasks.Work.{Work}
-
--- ---- shared lists
-
-abbrev pub front : {T : Type 0} → Front T → List (Rc T Global)
-front f = take f.count f.items.value.items
-
--- the last item, and those before it
-abbrev pub IsCut : {T : Type 0} → List (Rc T Global) → Option (Cut T) → Type 0
-IsCut xs None = xs ≡ []
-IsCut xs (Some c) = xs ≡ front c.rest ++ c.last ∷ []
 
 -- ---- uses
 
@@ -116,7 +106,8 @@ split_term r = instance (by_of r.call.value.by.value) r.term
 
 abbrev pub simpler_use : Frame → Simpler → Use
 simpler_use fr s =
-    simplified_call (all_uses (background_in fr)) (background_in fr) (call_of fr s.call.value) s.left (history_at fr.table.now fr.book.now.nodes.items s.next)
+    simplified_call (all_uses (background_in fr)) (background_in fr) (call_of fr s.call.value) s.left
+    (option_map_or (history_at fr.table.now fr.book.now.nodes.items) s.next Open)
 
 abbrev pub changes_job : Frame → Changes → (here : Tree) → Job
 changes_job fr x here =
@@ -132,7 +123,7 @@ with_task fr (task.EnterUse call) js = Enter_use (call_of fr call.value) ∷ js
 with_task fr (task.BeginSimpler simpler) js = Begin_use (simpler_use fr simpler) ∷ js
 with_task fr (task.EnterSimpler simpler) js = Enter_use (simpler_use fr simpler) ∷ js
 with_task fr (task.FirstChange changes by) js = changes_job fr changes (instance (by_of by.value) changes.last) ∷ js
-with_task fr (task.Changes changes here) js = changes_job fr changes here ∷ js
+with_task fr (task.NextChange changes here) js = changes_job fr changes here ∷ js
 with_task fr task.EmptyRow js = Empty_row ∷ js
 with_task fr (task.PutBehind way) js = Put_behind way ∷ js
 with_task fr task.PutBetween js = Put_between ∷ js
@@ -149,7 +140,7 @@ abbrev pub jobs_of : Frame → Work → List Job
 jobs_of fr w = with_tasks fr w.tasks.items []
 
 abbrev pub pending_of : Frame → Work → Pending
-pending_of fr w = pending (jobs_of fr w) (values_of w.values)
+pending_of fr w = pending (jobs_of fr w) w.values
 
 -- ---- what a step answers
 
@@ -171,4 +162,79 @@ Steps fr o w (Err h) = Halts o h
 
 -- what a step of this task comes to, before the others
 abbrev pub stepped : Frame → Job → Work → Spending Pending
-stepped fr j w = task_step (all_uses (background_in fr)) (background_in fr) j (jobs_of fr w) (values_of w.values) w.left
+stepped fr j w = task_step (all_uses (background_in fr)) (background_in fr) j (jobs_of fr w) w.values w.left
+
+-- a link: terms and a whole term are tested, and there is one piece more
+abbrev pub linked : Frame → Work → Links → (tests : List Tree) → Piece → Pieces → List Value → ℕ → Spending Pending
+linked fr w more ts x v us n =
+    all_tested ts (tested (around (call_of fr more.call.value) more.term)
+    (Yields (pending (links_job fr more ∷ jobs_of fr w) (In_row (pieces_joined v (more_pieces x no_piece)) ∷ us)) n))
+
+-- the use of a hypothesis in this whole term
+abbrev pub used : Background → Use → Followed → (whole standing : Tree) → (path : List ℕ) → Substitution → Use
+used f c h w t path σ =
+    if is_hidden f.theory (sort_of (goal_in h.history).left)
+    then record c { whole = w; along = Some (places_on t path); goal = h; by = σ }
+    else record c { whole = w; path = base c ++ path; entries = []; along = None; goal = h; by = σ }
+
+-- a unit is counted before, and then a hypothesis is used for what stands there
+abbrev pub hypothesised : Frame → Work → Links → (number : ℕ) → Way → (path : List ℕ) → (terms : List Tree) → (standing before : Tree) → ℕ
+    → Spending Pending
+hypothesised fr w more number way path terms standing before n =
+    let c = call_of fr more.call.value in
+    let ts = map (instance c.by) terms in
+    let h = followed_at (basis_of fr more.basis.value).hypotheses number in
+    let d = used (background_in fr) c h (start_of way before (around c more.term)) standing path (by_terms (goal_in h.history) ts) in
+    all_tested ts (tested (around c more.term) (Yields (pending (Enter_use d ∷ Put_behind way ∷ links_job fr more ∷ jobs_of fr w) w.values) n))
+
+-- a link from a term, after which these are left
+abbrev pub link_goes : Frame → Work → Tree → Links → LinkOf Tree → Pieces → List Value → Spending Pending
+link_goes fr w t more (Equation_link number way path terms conds) v us =
+    let c = call_of fr more.call.value in
+    let ts = map (instance c.by) terms in
+    counted w.left (linked fr w more ts (Equation_piece number way (base c ++ path) ts) v us)
+link_goes fr w t more (Content_link op path term) v us =
+    let c = call_of fr more.call.value in
+    let old = unwrap_or (at t path) t in
+    counted w.left (linked fr w more (instance c.by term ∷ []) (Content_piece op (base c ++ path) old term (bounds_of c.by old term)) v us)
+link_goes fr w t more (Assumption_link number way path) v us =
+    let c = call_of fr more.call.value in
+    counted w.left (linked fr w more [] (Assumption_piece (more.basis.value.raised + number) way (base c ++ path)) v us)
+link_goes fr w t more (Hypothesis_link number way path terms conds) v us =
+    let c = call_of fr more.call.value in
+    all_tested (stood c t) (counted w.left (hypothesised fr w more number way path terms (instance c.by t) (around c t)))
+
+-- the links on both sides of a chain, each in a row of its own, before others
+abbrev pub begun_sides : Frame → Call → Basis → Chain ℕ → (left right : Tree) → List Job → List Job
+begun_sides fr c b chain s t js =
+    Links_job (call_of fr c) (basis_of fr b) (links_at fr chain.left.items) s ∷ Empty_row
+    ∷ Links_job (call_of fr c) (basis_of fr b) (links_at fr chain.right.items) t ∷ js
+
+-- What is left is as it would be, and the tasks weigh as much.
+abbrev pub IsAlike : Frame → Spending Pending → Work → Type 0
+IsAlike fr o w =
+    (u : Pending) × (o ≡ Yields u w.left) × (rest_done (background_in fr) u w.left ≡ rest_done (background_in fr) (pending_of fr w) w.left)
+    × (tasks_weight u.tasks ≡ tasks_weight (jobs_of fr w))
+
+abbrev pub StepsAlike : Frame → Spending Pending → Work → Result (Unit {0}) Halt → Type 0
+StepsAlike fr o w (Ok u) = IsAlike fr o w
+StepsAlike fr o w (Err h) = Halts o h
+
+-- ---- what becomes of goals
+
+-- what becomes of a node that is before the one of this number
+abbrev pub earlier_history : Frame → (number node : ℕ) → History
+earlier_history fr k j = history_below fr.table.now k fr.book.now.nodes.items j
+
+abbrev pub node_history : Frame → (number : ℕ) → Node → History
+node_history fr k n = history_with fr.table.now (earlier_history fr k) n.goal n.what
+
+-- the step of a use of a goal that becomes this
+abbrev pub goal_stepped : Frame → Call → History → Work → Spending Pending
+goal_stepped fr c h w =
+    goal_step (all_uses (background_in fr)) (background_in fr) (call_of fr c) h (call_of fr c).entries (jobs_of fr w) w.values w.left
+
+-- how many derivatives have a hole of the sort
+abbrev pub holes_before : (sort : ℕ) → List Derivative → ℕ
+holes_before s [] = 0
+holes_before s (d ∷ ds) = (if d.hole == s then 1 else 0) + holes_before s ds

@@ -16,7 +16,7 @@ impl<'a> Frame<'a> {
     pub(crate) fn changes_step(
         &self,
         work: &mut Work<'a>,
-        changes: Changes<'a>,
+        changes: Changes,
         here: Term,
     ) -> Result<(), Halt> {
         if !work.values.ends_in_row() {
@@ -32,8 +32,8 @@ impl<'a> Frame<'a> {
     pub(crate) fn first_step(
         &self,
         work: &mut Work<'a>,
-        changes: Changes<'a>,
-        by: &By<'a>,
+        changes: Changes,
+        by: &By,
     ) -> Result<(), Halt> {
         if !work.values.ends_in_row() {
             return Err(Halt::Stopped);
@@ -51,7 +51,7 @@ impl<'a> Frame<'a> {
     fn change(
         &self,
         work: &mut Work<'a>,
-        changes: &Changes<'a>,
+        changes: &Changes,
         path: &[u16],
         here: Term,
     ) -> Result<(), Halt> {
@@ -60,7 +60,10 @@ impl<'a> Frame<'a> {
             Ok(whole) => whole,
             Err(fault) => return Err(Halt::Past(fault)),
         };
-        work.count()?;
+        if work.left == 0 {
+            return Err(Halt::Long);
+        }
+        work.left -= 1;
         let next = match put(self.alloc, &here, path, &changes.new) {
             Ok(next) => next,
             Err(fault) => return Err(Halt::Past(fault)),
@@ -71,12 +74,13 @@ impl<'a> Frame<'a> {
         }
         let guard = self.guard(&changes.last, path)?;
         let call = self.occurrence_call(changes, whole, path, &here, guard)?;
-        work.push(Task::Changes {
+        work.tasks.push(Task::NextChange {
             changes: changes.after()?,
             here: next,
         })?;
-        work.push(Task::PutBehind(Way::Forth))?;
-        work.push(Task::EnterUse(call))
+        work.tasks.push(Task::PutBehind(Way::Forth))?;
+        work.tasks.push(Task::EnterUse(call))?;
+        Ok(())
     }
 
     fn guard(&self, last: &Term, path: &[u16]) -> Result<Guard, Halt> {
@@ -93,12 +97,12 @@ impl<'a> Frame<'a> {
     // The use for the occurrence at the path.
     fn occurrence_call(
         &self,
-        changes: &Changes<'a>,
+        changes: &Changes,
         whole: Term,
         path: &[u16],
         here: &Term,
         guard: Guard,
-    ) -> Result<Rc<Call<'a>>, Halt> {
+    ) -> Result<Rc<Call>, Halt> {
         let mut next = changes.call.share()?;
         next.whole = whole;
         match guard {
@@ -164,9 +168,9 @@ impl<'a> Frame<'a> {
     }
 }
 
-impl<'a> Changes<'a> {
+impl Changes {
     // Those after the next one.
-    fn after(&self) -> Result<Changes<'a>, Halt> {
+    fn after(&self) -> Result<Changes, Halt> {
         Ok(Changes {
             call: self.call.clone()?,
             layers: self.layers.share()?,

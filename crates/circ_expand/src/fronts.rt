@@ -1,20 +1,20 @@
 //! Lists of which several uses share the first items.
-ghost use Rattle.std.specs.Prelude.{◌≡◌, ◌∷◌, [], ◌++◌, IfOk};
-ghost use Rattle.circ_expand.specs.Tasks.{front, IsCut};
+ghost use Rattle.std.specs.Prelude.{◌≡◌, ◌∷◌, [], ◌++◌, take, IfOk};
+ghost use Rattle.circ_expand.specs.Fronts.{front, IsCut};
 
 use std::alloc::{AllocError, Global};
 use std::rc::Rc;
 
 // The first so many items of a list that is shared.
 #[derive(Drop)]
-pub(crate) struct Front<T: Drop> {
-    items: Rc<Vec<Rc<T>>>,
-    count: usize,
+pub(crate) struct Front<T> {
+    pub(crate) items: Rc<Vec<Rc<T>>>,
+    pub(crate) count: usize,
 }
 
 // A list without its last item, and that item.
 #[derive(Drop)]
-pub(crate) struct Cut<T: Drop> {
+pub(crate) struct Cut<T> {
     pub(crate) last: Rc<T>,
     pub(crate) rest: Front<T>,
 }
@@ -44,21 +44,19 @@ impl<T: Drop> Front<T> {
     pub(crate) fn as_slice(&self) -> &[Rc<T>]
         ensures { result.now ≡ front self.now }
     {
-        let count = self.count.min(self.items.len());
-        &self.items[..count]
+        first(self.items.as_slice(), self.count)
     }
 
     // The last item, and those before it.
     pub(crate) fn cut(&self) -> Result<Option<Cut<T>>, AllocError>
         ensures { IfOk result (IsCut (front self.now)) }
     {
-        let items = self.as_slice();
-        match items.last() {
-            Some(last) => Ok(Some(Cut {
+        match self.as_slice().split_last() {
+            Some((last, rest)) => Ok(Some(Cut {
                 last: last.clone()?,
                 rest: Front {
                     items: self.items.clone()?,
-                    count: items.len() - 1,
+                    count: rest.len(),
                 },
             })),
             None => Ok(None),
@@ -85,4 +83,14 @@ impl<T: Drop> Front<T> {
         items.push(item)?;
         Front::of(alloc, items)
     }
+}
+
+// The first so many items.
+fn first<T>(items: &[T], count: usize) -> &[T]
+    ensures { result.now ≡ take count items.now }
+{
+    if count < items.len() {
+        return &items[..count];
+    }
+    items
 }

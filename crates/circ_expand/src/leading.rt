@@ -88,7 +88,7 @@ impl Side<'_> {
             } => {
                 let terms = all_named(self.alloc, self.table, terms.as_slice())?;
                 let goal = self.hypothesis(*number);
-                by_hypothesis(self.alloc, self.theory, goal, *way, terms.as_slice())
+                by_hypothesis(self.alloc, goal, *way, terms.as_slice())
             }
             Link::Assumption { number, way, .. } => {
                 let new = by_assumption(self.assumptions, *number, *way)?;

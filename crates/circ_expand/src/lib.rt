@@ -10,23 +10,35 @@
 
 mod book;
 mod by;
+mod calls;
 mod certified;
+mod change_steps;
+mod expanding;
 mod fault;
 mod fitting;
+mod fronts;
+mod goal_steps;
 mod goals;
 mod guards;
 mod histories;
 mod laws;
 mod leading;
+mod link_steps;
 mod links;
 mod matching;
 mod meetings;
+mod opening;
 mod paths;
+mod place_steps;
+mod reason_steps;
 mod rows;
+mod running;
+mod tasks;
 mod uses;
 mod valuation;
 mod variables;
 
+pub use expanding::expand;
 pub use fault::ExpandFault;
 pub use goals::{goal_misfit, goal_numbered};
 pub use laws::{expansion_is_worked_off, expansion_leads};

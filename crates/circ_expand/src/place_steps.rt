@@ -25,9 +25,9 @@ struct Certificate<'a> {
 // The two sides of a goal at a place, each as the substitution of the certificate, and what stands
 // at the place with the right one in it.
 #[derive(Drop)]
-struct Ends<'a> {
-    left: Rc<By<'a>>,
-    right: Rc<By<'a>>,
+struct Ends {
+    left: Rc<By>,
+    right: Rc<By>,
     new: Term,
 }
 
@@ -36,7 +36,7 @@ impl<'a> Frame<'a> {
     pub(crate) fn place_step(
         &self,
         work: &mut Work<'a>,
-        call: Rc<Call<'a>>,
+        call: Rc<Call>,
         term: &Term,
         arg: u16,
         layers: &Front<Layer>,
@@ -48,19 +48,19 @@ impl<'a> Frame<'a> {
             op: term.op_number().unwrap_or(0),
             arg,
         };
-        let certificate = self.certificate(place, &entry.last)?;
+        let certificate = self.certificate_for(place, &entry.last)?;
         let through = self.through(layers, term, arg, &entry.last)?;
-        let ends = self.ends(&call, &certificate.start, layers, &through)?;
+        let ends = self.ends(&call, &certificate.start, layers, through.as_slice())?;
         self.begin_place(work, call, place, layers, entry, certificate, ends)
     }
 
     // The certificate of a place for an entry's derivative.
-    fn certificate(&self, place: Place, entry: &Held) -> Result<Certificate<'a>, Halt> {
+    fn certificate_for(&self, place: Place, entry: &Held) -> Result<Certificate<'a>, Halt> {
         let start = match start_at(self.alloc, self.theory, place, entry.number) {
             Ok(start) => start,
             Err(fault) => return Err(Halt::Past(fault)),
         };
-        let links = self.certificates().links(place, entry.number);
+        let links = self.certificate(place, entry.number);
         let basis = Basis {
             block: None,
             raised: 0,
@@ -100,11 +100,11 @@ impl<'a> Frame<'a> {
     // Both sides of the goal within the layers, first the left one.
     fn ends(
         &self,
-        call: &Call<'a>,
+        call: &Call,
         start: &Term,
         layers: &Front<Layer>,
         through: &[Rc<Layer>],
-    ) -> Result<Ends<'a>, Halt> {
+    ) -> Result<Ends, Halt> {
         let nothing = Term::var(0, 0);
         let (left, right) = match self.goal(call.goal) {
             Some(goal) => (&goal.left, &goal.right),
@@ -121,7 +121,7 @@ impl<'a> Frame<'a> {
         })
     }
 
-    fn instance(&self, call: &Call<'a>, term: &Term) -> Result<Term, Halt> {
+    fn instance(&self, call: &Call, term: &Term) -> Result<Term, Halt> {
         match call.by.apply(self.alloc, term) {
             Ok(made) => Ok(made),
             Err(fault) => Err(Halt::Past(fault)),
@@ -136,9 +136,9 @@ impl<'a> Frame<'a> {
     }
 
     // The substitution by which the start term becomes this one.
-    fn matched(&self, start: &Term, term: &Term) -> Result<Rc<By<'a>>, Halt> {
+    fn matched(&self, start: &Term, term: &Term) -> Result<Rc<By>, Halt> {
         let values = matching(self.alloc, start, term)?;
-        let by = By::of(self.alloc, self.theory, values)?;
+        let by = By::of(self.alloc, values)?;
         Ok(Rc::new(self.alloc, by)?)
     }
 
@@ -146,20 +146,20 @@ impl<'a> Frame<'a> {
     fn begin_place(
         &self,
         work: &mut Work<'a>,
-        call: Rc<Call<'a>>,
+        call: Rc<Call>,
         place: Place,
         layers: &Front<Layer>,
         entry: Cut<Held>,
         certificate: Certificate<'a>,
-        ends: Ends<'a>,
+        ends: Ends,
     ) -> Result<(), Halt> {
         let sort = self.arg_sort(place);
         let paths = paths_of(self.alloc, &certificate.last, 0, sort)?;
         let mut middle = call.share()?;
         middle.entries = entry.rest.share()?;
         work.values.add_empty()?;
-        work.push(Task::PutBetween)?;
-        work.push(Task::FirstChange {
+        work.tasks.push(Task::PutBetween)?;
+        work.tasks.push(Task::FirstChange {
             changes: Changes {
                 call: Rc::new(self.alloc, middle)?,
                 layers: layers.share()?,
@@ -170,9 +170,9 @@ impl<'a> Frame<'a> {
             },
             by: ends.left.clone()?,
         })?;
-        work.push(Task::EmptyRow)?;
+        work.tasks.push(Task::EmptyRow)?;
         self.begin_side(work, &call, &entry.rest, &certificate, ends.right)?;
-        work.push(Task::EmptyRow)?;
+        work.tasks.push(Task::EmptyRow)?;
         self.begin_side(work, &call, &entry.rest, &certificate, ends.left)
     }
 
@@ -180,20 +180,21 @@ impl<'a> Frame<'a> {
     fn begin_side(
         &self,
         work: &mut Work<'a>,
-        call: &Call<'a>,
+        call: &Call,
         entries: &Front<Held>,
         certificate: &Certificate<'a>,
-        by: Rc<By<'a>>,
+        by: Rc<By>,
     ) -> Result<(), Halt> {
         let mut side = call.share()?;
         side.entries = entries.share()?;
         side.by = by;
-        work.push(Task::Links(Links {
+        work.tasks.push(Task::Links(Links {
             call: Rc::new(self.alloc, side)?,
             basis: certificate.basis.clone()?,
             links: certificate.links,
             term: certificate.start.share()?,
-        }))
+        }))?;
+        Ok(())
     }
 
     // The sort of the argument at a place.

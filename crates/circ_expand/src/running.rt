@@ -1,7 +1,10 @@
 //! Tasks are worked off.
 
-use crate::calls::Frame;
-use crate::tasks::{Halt, Task, Work};
+use crate::calls::{Call, Frame};
+use crate::tasks::{Halt, Simpler, Task, Work};
+use circ_term::Term;
+use circ_theory::Way;
+use std::rc::Rc;
 
 impl<'a> Frame<'a> {
     // One task is done, or other tasks are put in its place.
@@ -10,24 +13,18 @@ impl<'a> Frame<'a> {
             Task::Links(links) => self.links_step(work, links),
             Task::GiveReason(reason) => self.reason_step(work, reason),
             Task::GiveReasons(reasons) => self.reasons_step(work, reasons),
-            Task::BeginUse(call) => {
-                work.count()?;
-                work.push(Task::EnterUse(call))
-            }
+            Task::BeginUse(call) => begin_use(work, call),
             Task::EnterUse(call) => self.use_step(work, call),
-            Task::BeginSimpler(simpler) => {
-                work.count()?;
-                work.push(Task::EnterSimpler(simpler))
-            }
+            Task::BeginSimpler(simpler) => begin_simpler(work, simpler),
             Task::EnterSimpler(simpler) => self.enter_simpler(work, simpler),
             Task::FirstChange { changes, by } => self.first_step(work, changes, &by),
-            Task::Changes { changes, here } => self.changes_step(work, changes, here),
-            Task::EmptyRow => Ok(work.values.add_empty()?),
-            Task::PutBehind(way) => fits(work.values.put_behind(way)?),
-            Task::PutBetween => fits(work.values.put_between()?),
-            Task::AddPart => fits(work.values.add_part()?),
+            Task::NextChange { changes, here } => self.changes_step(work, changes, here),
+            Task::EmptyRow => add_empty(work),
+            Task::PutBehind(way) => put_behind(work, way),
+            Task::PutBetween => put_between(work),
+            Task::AddPart => add_part(work),
             Task::Split(reasons) => self.begin_split(work, reasons),
-            Task::EndSplit(term) => fits(work.values.end_split(term)?),
+            Task::EndSplit(term) => end_split(work, term),
         }
     }
 
@@ -52,9 +49,54 @@ impl<'a> Frame<'a> {
     }
 }
 
-// Values are there to be put together, or nothing fits.
-fn fits(there: bool) -> Result<(), Halt> {
-    if there {
+// A unit is begun, and the use is next.
+fn begin_use(work: &mut Work<'_>, call: Rc<Call>) -> Result<(), Halt> {
+    if work.left == 0 {
+        return Err(Halt::Long);
+    }
+    work.left -= 1;
+    work.tasks.push(Task::EnterUse(call))?;
+    Ok(())
+}
+
+// The same of the goal that another is simplified to.
+fn begin_simpler(work: &mut Work<'_>, simpler: Simpler) -> Result<(), Halt> {
+    if work.left == 0 {
+        return Err(Halt::Long);
+    }
+    work.left -= 1;
+    work.tasks.push(Task::EnterSimpler(simpler))?;
+    Ok(())
+}
+
+fn add_empty(work: &mut Work<'_>) -> Result<(), Halt> {
+    work.values.add_empty()?;
+    Ok(())
+}
+
+fn put_behind(work: &mut Work<'_>, way: Way) -> Result<(), Halt> {
+    if work.values.put_behind(way)? {
+        return Ok(());
+    }
+    Err(Halt::Stopped)
+}
+
+fn put_between(work: &mut Work<'_>) -> Result<(), Halt> {
+    if work.values.put_between()? {
+        return Ok(());
+    }
+    Err(Halt::Stopped)
+}
+
+fn add_part(work: &mut Work<'_>) -> Result<(), Halt> {
+    if work.values.add_part()? {
+        return Ok(());
+    }
+    Err(Halt::Stopped)
+}
+
+fn end_split(work: &mut Work<'_>, term: Term) -> Result<(), Halt> {
+    if work.values.end_split(term)? {
         return Ok(());
     }
     Err(Halt::Stopped)

@@ -1,15 +1,13 @@
 //! What is left to do, and what is written so far.
-
 use crate::by::By;
 use crate::calls::{Basis, Call};
 use crate::fronts::Front;
-use crate::rows::Row;
 use crate::uses::Layer;
 use crate::values::Values;
 use circ_proof::{Link, Why};
 use circ_term::{Term, TermFault};
 use circ_theory::Way;
-use std::alloc::{AllocError, AllocFailed, Global};
+use std::alloc::{AllocError, AllocFailed};
 use std::rc::Rc;
 
 // Why the work ends before its end: no unit is left, a term is past a limit or memory ran out, or
@@ -22,12 +20,24 @@ pub(crate) enum Halt {
 }
 
 impl From<AllocError> for Halt {
+    ghost use Rattle.std.specs.Prelude.{◌≡◌};
+    ghost use Rattle.circ_term.specs.declared.fault.TermFault.TheVariants.{Memory};
+    ghost use Rattle.circ_expand.specs.declared.tasks.Halt.TheVariants.{Past};
+
+    ghost from_gives = { λ _ e. e ≡ Past Memory };
+
     fn from(_: AllocError) -> Halt {
         Halt::Past(TermFault::Memory)
     }
 }
 
 impl<T: Drop> From<AllocFailed<T>> for Halt {
+    ghost use Rattle.std.specs.Prelude.{◌≡◌};
+    ghost use Rattle.circ_term.specs.declared.fault.TermFault.TheVariants.{Memory};
+    ghost use Rattle.circ_expand.specs.declared.tasks.Halt.TheVariants.{Past};
+
+    ghost from_gives = { λ _ e. e ≡ Past Memory };
+
     fn from(_: AllocFailed<T>) -> Halt {
         Halt::Past(TermFault::Memory)
     }
@@ -36,7 +46,7 @@ impl<T: Drop> From<AllocFailed<T>> for Halt {
 // The links of a side from some link on, and the term from which they lead.
 #[derive(Drop)]
 pub(crate) struct Links<'a> {
-    pub(crate) call: Rc<Call<'a>>,
+    pub(crate) call: Rc<Call>,
     pub(crate) basis: Rc<Basis>,
     pub(crate) links: &'a [Link],
     pub(crate) term: Term,
@@ -45,17 +55,18 @@ pub(crate) struct Links<'a> {
 // Why two terms are the same.
 #[derive(Drop)]
 pub(crate) struct Reason<'a> {
-    pub(crate) call: Rc<Call<'a>>,
+    pub(crate) call: Rc<Call>,
     pub(crate) basis: Rc<Basis>,
     pub(crate) why: &'a Why,
     pub(crate) left: Term,
     pub(crate) right: Term,
 }
 
-// Why two terms are the same in the cases of a term from some case on.
+// Why two terms are the same in the cases of a term from some case on, with all constants of its
+// sort's case list and those that are left.
 #[derive(Drop)]
 pub(crate) struct Reasons<'a> {
-    pub(crate) call: Rc<Call<'a>>,
+    pub(crate) call: Rc<Call>,
     pub(crate) basis: Rc<Basis>,
     pub(crate) whys: &'a [Why],
     pub(crate) term: Term,
@@ -67,17 +78,17 @@ pub(crate) struct Reasons<'a> {
 
 // The use of the goal to which another is simplified, whose left side is this one.
 #[derive(Drop)]
-pub(crate) struct Simpler<'a> {
-    pub(crate) call: Rc<Call<'a>>,
+pub(crate) struct Simpler {
+    pub(crate) call: Rc<Call>,
     pub(crate) left: Term,
-    pub(crate) next: u32,
+    pub(crate) next: Option<u32>,
 }
 
 // The occurrences in the last term of a certificate from some one on, with the layers below the
 // place and the term to which each is changed.
 #[derive(Drop)]
-pub(crate) struct Changes<'a> {
-    pub(crate) call: Rc<Call<'a>>,
+pub(crate) struct Changes {
+    pub(crate) call: Rc<Call>,
     pub(crate) layers: Front<Layer>,
     pub(crate) new: Term,
     pub(crate) last: Term,
@@ -85,18 +96,27 @@ pub(crate) struct Changes<'a> {
     pub(crate) done: usize,
 }
 
+// The tasks of specs/Machine.antt. Where a term may be past a limit that is not tested yet, what it
+// is made of is kept in its place.
 #[derive(Drop)]
 pub(crate) enum Task<'a> {
     Links(Links<'a>),
     GiveReason(Reason<'a>),
     GiveReasons(Reasons<'a>),
-    BeginUse(Rc<Call<'a>>),
-    EnterUse(Rc<Call<'a>>),
-    BeginSimpler(Simpler<'a>),
-    EnterSimpler(Simpler<'a>),
-    // The first occurrence stands in the instance of the last term.
-    FirstChange { changes: Changes<'a>, by: Rc<By<'a>> },
-    Changes { changes: Changes<'a>, here: Term },
+    BeginUse(Rc<Call>),
+    EnterUse(Rc<Call>),
+    BeginSimpler(Simpler),
+    EnterSimpler(Simpler),
+    // The occurrences, in the instance of the last term.
+    FirstChange {
+        changes: Changes,
+        by: Rc<By>,
+    },
+    // The occurrences, in this term.
+    NextChange {
+        changes: Changes,
+        here: Term,
+    },
     EmptyRow,
     PutBehind(Way),
     PutBetween,
@@ -112,28 +132,4 @@ pub(crate) struct Work<'a> {
     pub(crate) tasks: Vec<Task<'a>>,
     pub(crate) values: Values,
     pub(crate) left: u32,
-}
-
-impl<'a> Work<'a> {
-    // One unit is begun.
-    pub(crate) fn count(&mut self) -> Result<(), Halt> {
-        if self.left == 0 {
-            return Err(Halt::Long);
-        }
-        self.left -= 1;
-        Ok(())
-    }
-
-    pub(crate) fn push(&mut self, task: Task<'a>) -> Result<(), Halt> {
-        self.tasks.push(task)?;
-        Ok(())
-    }
-
-    // A row goes behind the last row.
-    pub(crate) fn write(&mut self, row: Row) -> Result<(), Halt> {
-        if self.values.add_row(row)? {
-            return Ok(());
-        }
-        Err(Halt::Stopped)
-    }
 }
