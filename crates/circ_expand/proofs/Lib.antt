@@ -35,3 +35,8 @@ pub mod Telling
 pub mod Expanding
 pub mod Numbers
 pub mod Assuming
+pub mod Ropes
+pub mod Stepping
+pub mod Background
+pub mod Fronting
+pub mod Leaving

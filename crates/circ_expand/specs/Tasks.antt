@@ -1,11 +1,16 @@
 -- What contracts see of uses and tasks, and what a step of the work answers.
-use Rattle.std.specs.Prelude.{◌≡◌, ◌==◌, ℕ, ◌+◌, List, [], ◌∷◌, ◌++◌, map, drop, repeat, if◌then◌else◌, unwrap_or, Option, Some, None, Result, Ok, Err}
+use Rattle.std.specs.Prelude.{◌≡◌, ◌≤◌, ◌==◌, ℕ, length, ◌+◌, List, [], ◌∷◌, ◌++◌, map, drop, zero, suc, if◌then◌else◌, unwrap_or, Option, Some, None, Result, Ok, Err}
+use Rattle.std.specs.Global.{Vec}
+use Rattle.std.specs.List.{slice_get, AllByRecursion}
 use Rattle.std.specs.Option.{option_map, option_map_or}
-use Rattle.circ_term.specs.Tree.{Tree, sort_of, at}
+use Rattle.circ_term.specs.Tree.{Tree, Var, sort_of, at}
 use Rattle.circ_term.specs.Limits.{Limit, Names}
 use Rattle.circ_term.specs.Substitution.{Substitution, instance}
-use Rattle.circ_theory.specs.Theory.{CaseList, Derivative}
+use Rattle.circ_theory.specs.Theory.{Pair, CaseList, Derivative}
 use Rattle.circ_theory.specs.Observing.{case_list, is_hidden}
+use Rattle.circ_theory.specs.Experiment.{on}
+use Rattle.circ_theory.specs.Limits.{argument_limit}
+use Rattle.circ_entry.specs.declared.entries.Entry.{Entry}
 use Rattle.circ_theory.specs.Pairs.{plain_pair}
 use Rattle.circ_theory.specs.Rewriting.{named, by_terms}
 use Rattle.circ_theory.specs.declared.way.Way.{Way}
@@ -16,8 +21,11 @@ use Rattle.circ_proof.specs.declared.links.Link.{Link}
 use Rattle.circ_proof.specs.declared.links.Why.{Why}
 use Rattle.circ_expand.specs.Followed.{Followed, History, Open, no_pair, goal_in}
 use Rattle.circ_expand.specs.Pieces.{Piece, Pieces, Equation_piece, Content_piece, Assumption_piece, no_piece, more_pieces, pieces_joined}
-use Rattle.circ_expand.specs.Expand.{Spending, Yields, Long, Past, Stopped, counted, tested, all_tested, Background, certificate_of, simplified_call, basis}
-use Rattle.circ_expand.specs.Expand.{Basis as SideBasis, Call as Use, base, around, followed_at, start_of, stood, bounds_of}
+use Rattle.circ_expand.specs.Expand.{Spending, Yields, Long, Past, Stopped, continued, counted, tested, all_tested, Background, certificate_of, simplified_call, basis}
+use Rattle.circ_expand.specs.Expand.{Basis as SideBasis, Call as Use, base, around, followed_at, start_of, stood, bounds_of, stages, no_followed}
+use Rattle.circ_entry.specs.Entries.{Numbered, bare_entries}
+use Rattle.circ_expand.specs.Rows.{plain_row, rows_of}
+use Rattle.circ_expand.specs.declared.rows.Row.{Row}
 use Rattle.circ_expand.specs.Histories.{history_at, history_below, history_with}
 use Rattle.circ_expand.specs.Book.{followed_by, hypotheses_in, kept_at}
 use Rattle.circ_expand.specs.Certificates.{lists_in}
@@ -25,8 +33,9 @@ use Rattle.circ_expand.specs.Paths.{plain_paths}
 use Rattle.circ_expand.specs.Uses.{entries_of, layers_of}
 use Rattle.circ_expand.specs.Valuations.{by_of}
 use Rattle.circ_expand.specs.Machine.{Value, In_row, Pending, pending, Task as Job, Links as Links_job, Give_reason, Give_reasons, Begin_use, Enter_use, Occurrences}
-use Rattle.circ_expand.specs.Machine.{Empty_row, Put_behind, Put_between, Add_part, Begin_split, End_split, task_step, goal_step, all_uses, rest_done, tasks_weight}
+use Rattle.circ_expand.specs.Machine.{Empty_row, Put_behind, Put_between, Add_part, Begin_split, End_split, task_step, goal_step, all_uses, rest_done, tasks_weight, last_row}
 use Rattle.circ_expand.specs.Fronts.{front}
+use Rattle.circ_expand.specs.Values.{values_of}
 use Rattle.circ_expand.specs.declared.histories.Node.{Node}
 use Rattle.circ_expand.specs.declared.calls.Frame.{Frame}
 use Rattle.circ_expand.specs.declared.calls.Target.{Target}
@@ -48,6 +57,11 @@ use Rattle.circ_expand.specs.declared.tasks.Work.{Work}
 abbrev pub target_of : Frame → Target → Followed
 target_of fr t = record { block = t.block; history = option_map_or (history_at fr.table.now fr.book.now.nodes.items) t.node Open }
 
+-- so many assumptions, of which nothing else is known
+abbrev pub assumed : ℕ → List Pair
+assumed zero = []
+assumed (suc n) = no_pair ∷ assumed n
+
 -- Of the assumptions there are only so many.
 abbrev pub call_of : Frame → Call → Use
 call_of fr c = record {
@@ -57,7 +71,7 @@ call_of fr c = record {
   along = option_map (λ xs. layers_of fr.theory.now (front xs)) c.along;
   goal = target_of fr c.goal;
   by = by_of c.by.value;
-  assumptions = repeat c.assumptions no_pair;
+  assumptions = assumed c.assumptions;
 }
 
 -- the hypotheses at the end of a block, each as it is followed
@@ -140,7 +154,7 @@ abbrev pub jobs_of : Frame → Work → List Job
 jobs_of fr w = with_tasks fr w.tasks.items []
 
 abbrev pub pending_of : Frame → Work → Pending
-pending_of fr w = pending (jobs_of fr w) w.values
+pending_of fr w = pending (jobs_of fr w) (values_of w.values)
 
 -- ---- what a step answers
 
@@ -162,7 +176,7 @@ Steps fr o w (Err h) = Halts o h
 
 -- what a step of this task comes to, before the others
 abbrev pub stepped : Frame → Job → Work → Spending Pending
-stepped fr j w = task_step (all_uses (background_in fr)) (background_in fr) j (jobs_of fr w) w.values w.left
+stepped fr j w = task_step (all_uses (background_in fr)) (background_in fr) j (jobs_of fr w) (values_of w.values) w.left
 
 -- a link: terms and a whole term are tested, and there is one piece more
 abbrev pub linked : Frame → Work → Links → (tests : List Tree) → Piece → Pieces → List Value → ℕ → Spending Pending
@@ -185,7 +199,7 @@ hypothesised fr w more number way path terms standing before n =
     let ts = map (instance c.by) terms in
     let h = followed_at (basis_of fr more.basis.value).hypotheses number in
     let d = used (background_in fr) c h (start_of way before (around c more.term)) standing path (by_terms (goal_in h.history) ts) in
-    all_tested ts (tested (around c more.term) (Yields (pending (Enter_use d ∷ Put_behind way ∷ links_job fr more ∷ jobs_of fr w) w.values) n))
+    all_tested ts (tested (around c more.term) (Yields (pending (Enter_use d ∷ Put_behind way ∷ links_job fr more ∷ jobs_of fr w) (values_of w.values)) n))
 
 -- a link from a term, after which these are left
 abbrev pub link_goes : Frame → Work → Tree → Links → LinkOf Tree → Pieces → List Value → Spending Pending
@@ -232,9 +246,55 @@ node_history fr k n = history_with fr.table.now (earlier_history fr k) n.goal n.
 -- the step of a use of a goal that becomes this
 abbrev pub goal_stepped : Frame → Call → History → Work → Spending Pending
 goal_stepped fr c h w =
-    goal_step (all_uses (background_in fr)) (background_in fr) (call_of fr c) h (call_of fr c).entries (jobs_of fr w) w.values w.left
+    goal_step (all_uses (background_in fr)) (background_in fr) (call_of fr c) h (call_of fr c).entries (jobs_of fr w) (values_of w.values) w.left
 
 -- how many derivatives have a hole of the sort
 abbrev pub holes_before : (sort : ℕ) → List Derivative → ℕ
 holes_before s [] = 0
 holes_before s (d ∷ ds) = (if d.hole == s then 1 else 0) + holes_before s ds
+
+-- ---- the work
+
+-- what a step of the first of these tasks comes to
+abbrev pub first_stepped : Background → List Job → List Value → ℕ → Spending Pending
+first_stepped f [] vs n = Stopped
+first_stepped f (j ∷ js) vs n = task_step (all_uses f) f j js vs n
+
+abbrev pub next_stepped : Frame → Task → Work → Spending Pending
+next_stepped fr t w = first_stepped (background_in fr) (with_task fr t (jobs_of fr w)) (values_of w.values) w.left
+
+-- what is left comes to this
+abbrev pub left_of : Frame → Work → Spending (List Value)
+left_of fr w = rest_done (background_in fr) (pending_of fr w) w.left
+
+-- the goal of this number, as it is followed
+abbrev pub followed_of : Frame → (goal : ℕ) → Followed
+followed_of fr n = option_map_or (followed_by fr.table.now fr.book.now.nodes.items) (slice_get fr.book.now.goals.items n) no_followed
+
+abbrev pub opening_of : Frame → (goal : ℕ) → List Numbered → Use
+opening_of fr n cs = record {
+  whole = on (bare_entries cs) (goal_in (followed_of fr n).history).left;
+  path = [];
+  entries = cs;
+  along = None;
+  goal = followed_of fr n;
+  by = Var;
+  assumptions = [];
+}
+
+-- what the expansion comes to
+abbrev pub worked_in : Frame → (goal : ℕ) → List Numbered → (units : ℕ) → Spending Pieces
+worked_in fr n cs k =
+    let g = followed_of fr n in
+    all_tested (stages (bare_entries cs) (goal_in g.history).left ++ stages (bare_entries cs) (goal_in g.history).right)
+    (tested (on (bare_entries cs) (goal_in g.history).left) (tested (on (bare_entries cs) (goal_in g.history).right)
+    (continued (rest_done (background_in fr) (pending (Begin_use (opening_of fr n cs) ∷ []) []) k) last_row)))
+
+-- its rows, or why there are none
+abbrev pub WritesOut : Spending Pieces → Result (Vec Row) Halt → Type 0
+WritesOut o (Ok rows) = (xs : Pieces) × (left : ℕ) × (o ≡ Yields xs left) × (map plain_row rows.items ≡ rows_of xs)
+WritesOut o (Err h) = Halts o h
+
+-- no entry has more terms than an operator has arguments
+abbrev pub AreFew : List Entry → Type 0
+AreFew es = AllByRecursion (λ (e : Entry). length e.params.items ≤ argument_limit) es

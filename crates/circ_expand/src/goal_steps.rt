@@ -17,6 +17,7 @@ ghost use Rattle.circ_expand.specs.Valuations.{by_of, valued_by};
 ghost use Rattle.circ_expand.specs.Fronts.{IsCut};
 ghost use Rattle.circ_expand.specs.Uses.{layers_of};
 ghost use Rattle.circ_expand.specs.Tasks.{call_of, basis_of, target_of, background_in, jobs_of};
+ghost use Rattle.circ_expand.specs.Values.{values_of};
 ghost use Rattle.circ_expand.specs.Tasks.{Steps, stepped, why_at, simpler_use, node_history};
 ghost use Rattle.circ_expand.specs.Tasks.{earlier_history, goal_stepped, holes_before};
 
@@ -241,7 +242,7 @@ impl<'a> Frame<'a> {
         ensures { (xs : List (Rc Layer Global)) → IsCut xs cut → Steps self.now (along_step
             (all_uses (background_in self.now)) (background_in self.now)
             (call_of self.now call.value) (layers_of self.now.theory.now xs)
-            (jobs_of self.now work.old) work.old.values work.old.left) work.new result }
+            (jobs_of self.now work.old) (values_of work.old.values) work.old.left) work.new result }
     {
         let Some(cut) = cut else {
             let mut next = call.share()?;

@@ -9,11 +9,11 @@
 #![tactic(auto)]
 
 mod book;
+mod bounds;
 mod by;
 mod calls;
 mod certified;
 mod change_steps;
-mod expanding;
 mod fault;
 mod fitting;
 mod fronts;
@@ -27,19 +27,24 @@ mod link_steps;
 mod links;
 mod matching;
 mod meetings;
+mod nodes;
 mod opening;
 mod paths;
 mod place_steps;
 mod reason_steps;
 mod rows;
 mod running;
+mod starting;
 mod tasks;
 mod uses;
 mod valuation;
+mod values;
 mod variables;
+mod writing;
+mod writing_out;
 
-pub use expanding::expand;
 pub use fault::ExpandFault;
 pub use goals::{goal_misfit, goal_numbered};
 pub use laws::{expansion_is_worked_off, expansion_leads};
 pub use rows::{Given, Row};
+pub use writing_out::expand;

@@ -11,9 +11,10 @@ ghost use Rattle.circ_proof.specs.Link.{resolved_link};
 ghost use Rattle.circ_expand.specs.Expand.{base, bounds_of, counted, all_tested, around, start_of};
 ghost use Rattle.circ_expand.specs.Expand.{stood};
 ghost use Rattle.circ_expand.specs.Machine.{Value, In_row};
-ghost use Rattle.circ_expand.specs.Values.{IsLink, piece_of};
+ghost use Rattle.circ_expand.specs.Nodes.{IsLink, piece_of};
 ghost use Rattle.circ_expand.specs.Valuations.{by_of};
 ghost use Rattle.circ_expand.specs.Tasks.{call_of, basis_of, target_of, background_in, links_job};
+ghost use Rattle.circ_expand.specs.Values.{values_of};
 ghost use Rattle.circ_expand.specs.Tasks.{Steps, stepped, linked, used, hypothesised, link_goes};
 
 use crate::bounds::bounds_of;
@@ -74,7 +75,7 @@ impl<'a> Frame<'a> {
         term: &Term,
         more: Links<'a>,
     ) -> Result<(), Halt>
-        ensures { (v : Pieces) (us : List Value) → work.old.values ≡ In_row v ∷ us →
+        ensures { (v : Pieces) (us : List Value) → (values_of work.old.values) ≡ In_row v ∷ us →
             Steps self.now (link_goes self.now work.old term.now more
             (resolved_link self.now.table.now (plain_link link.now)) v us) work.new result }
     {
@@ -120,7 +121,7 @@ impl<'a> Frame<'a> {
         path: &[u16],
         terms: &[u32],
     ) -> Result<(), Halt>
-        ensures { (v : Pieces) (us : List Value) → work.old.values ≡ In_row v ∷ us →
+        ensures { (v : Pieces) (us : List Value) → (values_of work.old.values) ≡ In_row v ∷ us →
             Steps self.now (counted work.old.left (linked self.now work.old more
             (map (instance (by_of more.call.value.by.value))
             (map (named self.now.table.now) terms.now))
@@ -156,7 +157,7 @@ impl<'a> Frame<'a> {
         way: Way,
         path: &[u16],
     ) -> Result<(), Halt>
-        ensures { (v : Pieces) (us : List Value) → work.old.values ≡ In_row v ∷ us →
+        ensures { (v : Pieces) (us : List Value) → (values_of work.old.values) ≡ In_row v ∷ us →
             Steps self.now (counted work.old.left (linked self.now work.old more []
             (Assumption_piece (more.basis.value.raised + number) way
             (base (call_of self.now more.call.value) ++ path.now)) v us)) work.new result }
@@ -180,7 +181,7 @@ impl<'a> Frame<'a> {
         path: &[u16],
         new: u32,
     ) -> Result<(), Halt>
-        ensures { (v : Pieces) (us : List Value) → work.old.values ≡ In_row v ∷ us →
+        ensures { (v : Pieces) (us : List Value) → (values_of work.old.values) ≡ In_row v ∷ us →
             Steps self.now (counted work.old.left (linked self.now work.old more
             (instance (by_of more.call.value.by.value) (named self.now.table.now new) ∷ [])
             (Content_piece op (base (call_of self.now more.call.value) ++ path.now)
@@ -216,15 +217,17 @@ impl<'a> Frame<'a> {
     // come next.
     fn write(&self, work: &mut Work<'a>, more: Links<'a>, row: Row) -> Result<(), Halt>
         requires { IsLink row }
-        ensures { (v : Pieces) (us : List Value) → work.old.values ≡ In_row v ∷ us →
+        ensures { (v : Pieces) (us : List Value) → (values_of work.old.values) ≡ In_row v ∷ us →
             Steps self.now (linked self.now work.old more [] (piece_of row) v us work.old.left)
             work.new result }
     {
         match self.around(&more.call, &more.term) {
             Ok(_) => {
-                work.values.add_row(row)?;
-                work.tasks.push(Task::Links(more))?;
-                Ok(())
+                if work.values.add_row(row)? {
+                    work.tasks.push(Task::Links(more))?;
+                    return Ok(());
+                }
+                Err(Halt::Stopped)
             }
             Err(fault) => Err(Halt::Past(fault)),
         }

@@ -1,5 +1,5 @@
 //! The steps of reasons: two sides, and the cases of a term.
-ghost use Rattle.std.specs.Prelude.{◌≡◌, ◌∷◌, ℕ, List, IfOk, OnOk, suc, repeat};
+ghost use Rattle.std.specs.Prelude.{◌≡◌, ◌∷◌, ℕ, List, IfOk, OnOk, suc};
 ghost use Rattle.circ_term.specs.Tree.{sort_of};
 ghost use Rattle.circ_term.specs.Substitution.{instance};
 ghost use Rattle.circ_theory.specs.Derivable.{is_case};
@@ -7,7 +7,6 @@ ghost use Rattle.circ_theory.specs.Observing.{case_list};
 ghost use Rattle.circ_theory.specs.Rewriting.{named};
 ghost use Rattle.circ_proof.specs.Plain.{Split_why, plain_chain};
 ghost use Rattle.circ_proof.specs.Link.{resolved_chain};
-ghost use Rattle.circ_expand.specs.Followed.{no_pair};
 ghost use Rattle.circ_expand.specs.Pieces.{no_piece};
 ghost use Rattle.circ_expand.specs.Expand.{around, cases_at, case_basis, stood};
 ghost use Rattle.circ_expand.specs.Machine.{In_row, Begin_split, End_split, Give_reason};
@@ -15,8 +14,9 @@ ghost use Rattle.circ_expand.specs.Machine.{reason_step, task_step, all_uses};
 ghost use Rattle.circ_expand.specs.Uses.{BuildsLast};
 ghost use Rattle.circ_expand.specs.Valuations.{by_of};
 ghost use Rattle.circ_expand.specs.Tasks.{call_of, basis_of, background_in, reason_job, reasons_job};
+ghost use Rattle.circ_expand.specs.Values.{values_of};
 ghost use Rattle.circ_expand.specs.Tasks.{Steps, StepsAlike, stepped, split_term, why_at, whys_at};
-ghost use Rattle.circ_expand.specs.Tasks.{jobs_of, begun_sides, case_list_of};
+ghost use Rattle.circ_expand.specs.Tasks.{jobs_of, begun_sides, assumed, case_list_of};
 
 use crate::calls::{Basis, Call, Frame};
 use crate::links::named;
@@ -65,7 +65,7 @@ impl<'a> Frame<'a> {
         ensures tasks { OnOk result (jobs_of self.now work.new ≡
             begun_sides self.now call.value basis.value chain.now left right
             (jobs_of self.now work.old)) }
-        ensures values { OnOk result (work.new.values ≡ In_row no_piece ∷ work.old.values) }
+        ensures values { OnOk result ((values_of work.new.values) ≡ In_row no_piece ∷ (values_of work.old.values)) }
         ensures left { work.new.left ≡ work.old.left }
     {
         work.values.add_empty()?;
@@ -99,7 +99,7 @@ impl<'a> Frame<'a> {
             (basis_of self.now reason.basis.value)
             (Split_why (resolved_chain self.now.table.now (plain_chain chain.now))
             (named self.now.table.now term) (whys_at self.now whys.now))
-            reason.left reason.right (jobs_of self.now work.old) work.old.values work.old.left)
+            reason.left reason.right (jobs_of self.now work.old) (values_of work.old.values) work.old.left)
             work.new result }
     {
         let left = match self.side(&reason.basis).led_all(chain.left.as_slice(), &reason.left) {
@@ -150,7 +150,7 @@ impl<'a> Frame<'a> {
         ensures { Steps self.now (task_step (all_uses (background_in self.now))
             (background_in self.now) (Begin_split (split_term split))
             (reasons_job self.now split ∷ End_split (split_term split) ∷ jobs_of self.now work.old)
-            work.old.values work.old.left) work.new result }
+            (values_of work.old.values) work.old.left) work.new result }
     {
         if work.left == 0 {
             return Err(Halt::Long);
@@ -224,7 +224,7 @@ impl<'a> Frame<'a> {
     ) -> Result<Reason<'a>, AllocError>
         ensures { IfOk result (λ r. reason_job self.now r ≡ Give_reason
             (record (call_of self.now reasons.now.call.value) {
-            whole = whole; assumptions = repeat (suc reasons.now.call.value.assumptions) no_pair })
+            whole = whole; assumptions = assumed (suc reasons.now.call.value.assumptions) })
             (case_basis (all_uses (background_in self.now)) (background_in self.now)
             (basis_of self.now reasons.now.basis.value)
             (is_case reasons.now.term (case_list_of reasons.now) constant))
@@ -242,7 +242,7 @@ impl<'a> Frame<'a> {
     // One assumption more. No memory holds so many that their number does not fit.
     fn case_call(&self, call: &Call, whole: Term) -> Result<Rc<Call>, AllocError>
         ensures { IfOk result (λ d. call_of self.now d.value ≡ record (call_of self.now call.now) {
-            whole = whole; assumptions = repeat (suc call.now.assumptions) no_pair }) }
+            whole = whole; assumptions = assumed (suc call.now.assumptions) }) }
     {
         let Some(assumptions) = call.assumptions.checked_add(1) else {
             return Err(AllocError);
