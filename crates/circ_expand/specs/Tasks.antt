@@ -3,8 +3,9 @@ use Rattle.std.specs.Prelude.{◌≡◌, ◌≤◌, ◌==◌, ℕ, length, ◌+�
 use Rattle.std.specs.Global.{Vec}
 use Rattle.std.specs.List.{slice_get, AllByRecursion}
 use Rattle.std.specs.Option.{option_map, option_map_or}
-use Rattle.circ_term.specs.Tree.{Tree, Var, sort_of, at}
+use Rattle.circ_term.specs.Tree.{Tree, Var, sort_of, at, args_of, trees_of, operator_number}
 use Rattle.circ_term.specs.Limits.{Limit, Names}
+use Rattle.circ_term.specs.declared.fault.TermFault.{TermFault}
 use Rattle.circ_term.specs.Substitution.{Substitution, instance}
 use Rattle.circ_theory.specs.Theory.{Pair, CaseList, Derivative}
 use Rattle.circ_theory.specs.Observing.{case_list, is_hidden}
@@ -14,33 +15,40 @@ use Rattle.circ_entry.specs.declared.entries.Entry.{Entry}
 use Rattle.circ_theory.specs.Pairs.{plain_pair}
 use Rattle.circ_theory.specs.Rewriting.{named, by_terms}
 use Rattle.circ_theory.specs.declared.way.Way.{Way}
+use Rattle.circ_rewrite.specs.Matching.{matching}
+use Rattle.circ_special.specs.declared.place.Place.{Place}
+use Rattle.circ_special.specs.Special.{place}
 use Rattle.circ_proof.specs.Plain.{LinkOf, Equation_link, Hypothesis_link, Assumption_link, Content_link, WhyOf, WhysOf, plain_links, plain_why, plain_whys, map_whys}
-use Rattle.circ_proof.specs.Link.{resolved_links, resolved_why}
+use Rattle.circ_proof.specs.Link.{Setting, resolved_links, resolved_why}
 use Rattle.circ_proof.specs.declared.links.Chain.{Chain}
 use Rattle.circ_proof.specs.declared.links.Link.{Link}
 use Rattle.circ_proof.specs.declared.links.Why.{Why}
-use Rattle.circ_expand.specs.Followed.{Followed, History, Open, no_pair, goal_in}
+use Rattle.circ_expand.specs.Followed.{Followed, History, Open, no_pair, goal_in, led_all}
 use Rattle.circ_expand.specs.Pieces.{Piece, Pieces, Equation_piece, Content_piece, Assumption_piece, no_piece, more_pieces, pieces_joined}
 use Rattle.circ_expand.specs.Expand.{Spending, Yields, Long, Past, Stopped, continued, counted, tested, all_tested, Background, certificate_of, simplified_call, basis}
 use Rattle.circ_expand.specs.Expand.{Basis as SideBasis, Call as Use, base, around, followed_at, start_of, stood, bounds_of, stages, no_followed}
-use Rattle.circ_entry.specs.Entries.{Numbered, bare_entries}
+use Rattle.circ_expand.specs.Expand.{Layer, places_on, layered, risen, start_at, trail, link_setting, no_basis, certified_call, paths_of, arg_sort}
+use Rattle.circ_entry.specs.Entries.{Numbered, bare_entries, derivative_at}
 use Rattle.circ_expand.specs.Rows.{plain_row, rows_of}
 use Rattle.circ_expand.specs.declared.rows.Row.{Row}
 use Rattle.circ_expand.specs.Histories.{history_at, history_below, history_with}
 use Rattle.circ_expand.specs.Book.{followed_by, hypotheses_in, kept_at}
 use Rattle.circ_expand.specs.Certificates.{lists_in}
 use Rattle.circ_expand.specs.Paths.{plain_paths}
-use Rattle.circ_expand.specs.Uses.{entries_of, layers_of}
+use Rattle.circ_expand.specs.Uses.{entries_of, layers_of, first_of}
 use Rattle.circ_expand.specs.Valuations.{by_of}
 use Rattle.circ_expand.specs.Machine.{Value, In_row, Pending, pending, Task as Job, Links as Links_job, Give_reason, Give_reasons, Begin_use, Enter_use, Occurrences}
-use Rattle.circ_expand.specs.Machine.{Empty_row, Put_behind, Put_between, Add_part, Begin_split, End_split, task_step, goal_step, all_uses, rest_done, tasks_weight, last_row}
+use Rattle.circ_expand.specs.Machine.{Empty_row, Put_behind, Put_between, Add_part, Begin_split, End_split, task_step, goal_step, place_step, all_uses, rest_done, tasks_weight, last_row}
 use Rattle.circ_expand.specs.Fronts.{front}
 use Rattle.circ_expand.specs.Values.{values_of}
 use Rattle.circ_expand.specs.declared.histories.Node.{Node}
+use Rattle.circ_expand.specs.declared.by.By.{By}
 use Rattle.circ_expand.specs.declared.calls.Frame.{Frame}
 use Rattle.circ_expand.specs.declared.calls.Target.{Target}
 use Rattle.circ_expand.specs.declared.calls.Call.{Call}
 use Rattle.circ_expand.specs.declared.calls.Basis.{Basis}
+use Rattle.circ_expand.specs.declared.place_steps.Certificate.{Certificate}
+use Rattle.circ_expand.specs.declared.place_steps.Ends.{Ends}
 use Rattle.circ_expand.specs.declared.tasks.Halt.{Halt}
 use Rattle.circ_expand.specs.declared.tasks.Halt.TheVariants as halt
 use Rattle.circ_expand.specs.declared.tasks.Links.{Links}
@@ -298,3 +306,67 @@ WritesOut o (Err h) = Halts o h
 -- no entry has more terms than an operator has arguments
 abbrev pub AreFew : List Entry → Type 0
 AreFew es = AllByRecursion (λ (e : Entry). length e.params.items ≤ argument_limit) es
+
+-- ---- places
+
+abbrev pub place_of : Tree → (arg : ℕ) → Place
+place_of t i = place (unwrap_or (operator_number t) 0) i
+
+-- the step of a use at the place of this term's argument, with the layers below it
+abbrev pub place_stepped : Frame → Call → Tree → (arg : ℕ) → List Layer → Work → Spending Pending
+place_stepped fr c t i xs w =
+    place_step (all_uses (background_in fr)) (background_in fr) (call_of fr c) (place_of t i) (sort_of t) (trees_of (args_of t)) xs (call_of fr c).entries
+    (jobs_of fr w) (values_of w.values) w.left
+
+abbrev pub certificate_setting : Frame → Setting
+certificate_setting fr = link_setting (background_in fr) (no_basis (all_uses (background_in fr)) (background_in fr))
+
+-- its start term, then the terms to which its links lead
+abbrev pub certificate_terms : Frame → Place → (derivative : ℕ) → List Tree
+certificate_terms fr g n =
+    let start = start_at fr.theory.now g (derivative_at fr.theory.now n) in
+    start ∷ trail (certificate_setting fr) ((background_in fr).certificate g n) start
+
+pub record IsCertificate (fr : Frame) (g : Place) (n : ℕ) (x : Certificate) : Type 0 where
+  pub start : x.start ≡ start_at fr.theory.now g (derivative_at fr.theory.now n)
+  pub links : links_at fr x.links.now ≡ (background_in fr).certificate g n
+  pub last : x.last ≡ led_all (certificate_setting fr) ((background_in fr).certificate g n) x.start
+  pub basis : basis_of fr x.basis.value ≡ no_basis (all_uses (background_in fr)) (background_in fr)
+  pub within : first_of (certificate_terms fr g n) ≡ None
+
+abbrev pub TakesCertificate : Frame → Place → (derivative : ℕ) → Result Certificate TermFault → Type 0
+TakesCertificate fr g n (Ok x) = IsCertificate fr g n x
+TakesCertificate fr g n (Err e) = Names e (first_of (certificate_terms fr g n))
+
+-- a side of a goal within layers
+abbrev pub left_side : Frame → Call → Tree
+left_side fr c = instance (by_of c.by.value) (goal_in (target_of fr c.goal).history).left
+
+abbrev pub right_side : Frame → Call → Tree
+right_side fr c = instance (by_of c.by.value) (goal_in (target_of fr c.goal).history).right
+
+pub record AreEnds (fr : Frame) (c : Call) (start : Tree) (xs ys : List Layer) (e : Ends) : Type 0 where
+  pub left : by_of e.left.value ≡ matching start (layered ys (left_side fr c))
+  pub right : by_of e.right.value ≡ matching start (layered ys (right_side fr c))
+  pub new : e.new ≡ layered xs (right_side fr c)
+  pub within : first_of (risen ys (left_side fr c) ++ risen ys (right_side fr c)) ≡ None
+
+abbrev pub HasEnds : Frame → Call → (start : Tree) → (xs ys : List Layer) → Result Ends TermFault → Type 0
+HasEnds fr c start xs ys (Ok e) = AreEnds fr c start xs ys e
+HasEnds fr c start xs ys (Err e) = Names e (first_of (risen ys (left_side fr c) ++ risen ys (right_side fr c)))
+
+-- the links of a certificate under a substitution
+abbrev pub certificate_job : Frame → Call → List Numbered → Certificate → By → Job
+certificate_job fr c cs x by =
+    Links_job (certified_call (all_uses (background_in fr)) (background_in fr) (call_of fr c) cs (by_of by)) (basis_of fr x.basis.value) (links_at fr x.links.now)
+    x.start
+
+abbrev pub occurrences_job : Frame → Call → Place → List Layer → List Numbered → Certificate → Ends → Job
+occurrences_job fr c g xs es x e =
+    Occurrences (record (call_of fr c) { entries = es }) xs e.new x.last (paths_of 0 (arg_sort fr.theory.now g) x.last) (instance (by_of e.left.value) x.last)
+
+-- both sides of a place, before others
+abbrev pub begun_place : Frame → Call → Place → List Layer → List Numbered → Certificate → Ends → List Job → List Job
+begun_place fr c g xs es x e js =
+    certificate_job fr c es x e.left.value ∷ Empty_row ∷ certificate_job fr c es x e.right.value ∷ Empty_row ∷ occurrences_job fr c g xs es x e ∷ Put_between
+    ∷ js

@@ -44,7 +44,7 @@ struct Used<'b> {
 impl<'a> Frame<'a> {
     // The next link of a side. They end where the last row ends.
     pub(crate) fn links_step(&self, work: &mut Work<'a>, links: Links<'a>) -> Result<(), Halt>
-        ensures { Steps self.now (stepped self.now (links_job self.now links) work.old)
+        ensures { Steps self.now (stepped self.now (links_job self.now links.entry) work.old)
             work.new result }
     {
         if !work.values.ends_in_row() {
@@ -53,18 +53,17 @@ impl<'a> Frame<'a> {
         let Some((link, rest)) = links.links.split_first() else {
             return Ok(());
         };
-        match self.side(&links.basis).led(link, &links.term) {
-            Ok(next) => {
-                let more = Links {
-                    call: links.call,
-                    basis: links.basis,
-                    links: rest,
-                    term: next,
-                };
-                self.link_step(work, link, &links.term, more)
-            }
-            Err(fault) => Err(Halt::Past(fault)),
-        }
+        let next = match self.side(&links.basis).led(link, &links.term) {
+            Ok(next) => next,
+            Err(fault) => return Err(Halt::Past(fault)),
+        };
+        let more = Links {
+            call: links.call,
+            basis: links.basis,
+            links: rest,
+            term: next,
+        };
+        self.link_step(work, link, &links.term, more)
     }
 
     // A link, after which these are left.
@@ -76,7 +75,7 @@ impl<'a> Frame<'a> {
         more: Links<'a>,
     ) -> Result<(), Halt>
         ensures { (v : Pieces) (us : List Value) → (values_of work.old.values) ≡ In_row v ∷ us →
-            Steps self.now (link_goes self.now work.old term.now more
+            Steps self.now (link_goes self.now work.old term.now more.entry
             (resolved_link self.now.table.now (plain_link link.now)) v us) work.new result }
     {
         match link {
@@ -122,11 +121,11 @@ impl<'a> Frame<'a> {
         terms: &[u32],
     ) -> Result<(), Halt>
         ensures { (v : Pieces) (us : List Value) → (values_of work.old.values) ≡ In_row v ∷ us →
-            Steps self.now (counted work.old.left (linked self.now work.old more
-            (map (instance (by_of more.call.value.by.value))
+            Steps self.now (counted work.old.left (linked self.now work.old more.entry
+            (map (instance (by_of more.entry.call.value.by.value))
             (map (named self.now.table.now) terms.now))
-            (Equation_piece number way (base (call_of self.now more.call.value) ++ path.now)
-            (map (instance (by_of more.call.value.by.value))
+            (Equation_piece number way (base (call_of self.now more.entry.call.value) ++ path.now)
+            (map (instance (by_of more.entry.call.value.by.value))
             (map (named self.now.table.now) terms.now))) v us)) work.new result }
     {
         if work.left == 0 {
@@ -158,9 +157,9 @@ impl<'a> Frame<'a> {
         path: &[u16],
     ) -> Result<(), Halt>
         ensures { (v : Pieces) (us : List Value) → (values_of work.old.values) ≡ In_row v ∷ us →
-            Steps self.now (counted work.old.left (linked self.now work.old more []
-            (Assumption_piece (more.basis.value.raised + number) way
-            (base (call_of self.now more.call.value) ++ path.now)) v us)) work.new result }
+            Steps self.now (counted work.old.left (linked self.now work.old more.entry []
+            (Assumption_piece (more.entry.basis.value.raised + number) way
+            (base (call_of self.now more.entry.call.value) ++ path.now)) v us)) work.new result }
     {
         if work.left == 0 {
             return Err(Halt::Long);
@@ -182,11 +181,11 @@ impl<'a> Frame<'a> {
         new: u32,
     ) -> Result<(), Halt>
         ensures { (v : Pieces) (us : List Value) → (values_of work.old.values) ≡ In_row v ∷ us →
-            Steps self.now (counted work.old.left (linked self.now work.old more
-            (instance (by_of more.call.value.by.value) (named self.now.table.now new) ∷ [])
-            (Content_piece op (base (call_of self.now more.call.value) ++ path.now)
+            Steps self.now (counted work.old.left (linked self.now work.old more.entry
+            (instance (by_of more.entry.call.value.by.value) (named self.now.table.now new) ∷ [])
+            (Content_piece op (base (call_of self.now more.entry.call.value) ++ path.now)
             (unwrap_or (at term.now path.now) term.now) (named self.now.table.now new)
-            (bounds_of (by_of more.call.value.by.value)
+            (bounds_of (by_of more.entry.call.value.by.value)
             (unwrap_or (at term.now path.now) term.now) (named self.now.table.now new)))
             v us)) work.new result }
     {
@@ -218,7 +217,7 @@ impl<'a> Frame<'a> {
     fn write(&self, work: &mut Work<'a>, more: Links<'a>, row: Row) -> Result<(), Halt>
         requires { IsLink row }
         ensures { (v : Pieces) (us : List Value) → (values_of work.old.values) ≡ In_row v ∷ us →
-            Steps self.now (linked self.now work.old more [] (piece_of row) v us work.old.left)
+            Steps self.now (linked self.now work.old more.entry [] (piece_of row) v us work.old.left)
             work.new result }
     {
         match self.around(&more.call, &more.term) {
@@ -250,11 +249,11 @@ impl<'a> Frame<'a> {
         more: Links<'a>,
         used: Used<'_>,
     ) -> Result<(), Halt>
-        ensures { Steps self.now (all_tested (stood (call_of self.now more.call.value) term.now)
-            (counted work.old.left (hypothesised self.now work.old more used.number used.way
-            used.path.now (map (named self.now.table.now) used.terms.now)
-            (instance (by_of more.call.value.by.value) term.now)
-            (around (call_of self.now more.call.value) term.now)))) work.new result }
+        ensures { Steps self.now (all_tested (stood (call_of self.now more.entry.call.value) term.now)
+            (counted work.old.left (hypothesised self.now work.old more.entry used.entry.number used.entry.way
+            used.entry.path.now (map (named self.now.table.now) used.entry.terms.now)
+            (instance (by_of more.entry.call.value.by.value) term.now)
+            (around (call_of self.now more.entry.call.value) term.now)))) work.new result }
     {
         match more.call.by.apply(self.alloc, term) {
             Ok(standing) => match self.whole_with(&more.call, &standing) {
@@ -274,8 +273,8 @@ impl<'a> Frame<'a> {
         standing: &Term,
         before: Term,
     ) -> Result<(), Halt>
-        ensures { Steps self.now (counted work.old.left (hypothesised self.now work.old more
-            used.number used.way used.path.now (map (named self.now.table.now) used.terms.now)
+        ensures { Steps self.now (counted work.old.left (hypothesised self.now work.old more.entry
+            used.entry.number used.entry.way used.entry.path.now (map (named self.now.table.now) used.entry.terms.now)
             standing.now before)) work.new result }
     {
         if work.left == 0 {

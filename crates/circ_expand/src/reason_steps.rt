@@ -30,7 +30,7 @@ use std::rc::Rc;
 impl<'a> Frame<'a> {
     // Why two terms are the same: links on both sides, and between them the cases of a split.
     pub(crate) fn reason_step(&self, work: &mut Work<'a>, reason: Reason<'a>) -> Result<(), Halt>
-        ensures { Steps self.now (stepped self.now (reason_job self.now reason) work.old)
+        ensures { Steps self.now (stepped self.now (reason_job self.now reason.entry) work.old)
             work.new result }
     {
         match reason.why {
@@ -95,11 +95,11 @@ impl<'a> Frame<'a> {
         whys: &'a [Why],
     ) -> Result<(), Halt>
         ensures { Steps self.now (reason_step (all_uses (background_in self.now))
-            (background_in self.now) (call_of self.now reason.call.value)
-            (basis_of self.now reason.basis.value)
+            (background_in self.now) (call_of self.now reason.entry.call.value)
+            (basis_of self.now reason.entry.basis.value)
             (Split_why (resolved_chain self.now.table.now (plain_chain chain.now))
             (named self.now.table.now term) (whys_at self.now whys.now))
-            reason.left reason.right (jobs_of self.now work.old) (values_of work.old.values) work.old.left)
+            reason.entry.left reason.entry.right (jobs_of self.now work.old) (values_of work.old.values) work.old.left)
             work.new result }
     {
         let left = match self.side(&reason.basis).led_all(chain.left.as_slice(), &reason.left) {
@@ -148,8 +148,8 @@ impl<'a> Frame<'a> {
     // A split is begun. Its reasons are next, and then it is ended.
     pub(crate) fn begin_split(&self, work: &mut Work<'a>, split: Reasons<'a>) -> Result<(), Halt>
         ensures { Steps self.now (task_step (all_uses (background_in self.now))
-            (background_in self.now) (Begin_split (split_term split))
-            (reasons_job self.now split ∷ End_split (split_term split) ∷ jobs_of self.now work.old)
+            (background_in self.now) (Begin_split (split_term split.entry))
+            (reasons_job self.now split.entry ∷ End_split (split_term split.entry) ∷ jobs_of self.now work.old)
             (values_of work.old.values) work.old.left) work.new result }
     {
         if work.left == 0 {
@@ -168,7 +168,7 @@ impl<'a> Frame<'a> {
 
     // The reason of the next case. The parts end where there is no other reason or constant.
     pub(crate) fn reasons_step(&self, work: &mut Work<'a>, reasons: Reasons<'a>) -> Result<(), Halt>
-        ensures { StepsAlike self.now (stepped self.now (reasons_job self.now reasons) work.old)
+        ensures { StepsAlike self.now (stepped self.now (reasons_job self.now reasons.entry) work.old)
             work.new result }
     {
         let Some((why, whys)) = reasons.whys.split_first() else {

@@ -17,7 +17,7 @@ use std::rc::Rc;
 impl<'a> Frame<'a> {
     // One task is done, or other tasks are put in its place.
     fn step(&self, work: &mut Work<'a>, task: Task<'a>) -> Result<(), Halt>
-        ensures { StepsAlike self.now (next_stepped self.now task work.old) work.new result }
+        ensures { StepsAlike self.now (next_stepped self.now task.entry work.old) work.new result }
     {
         match task {
             Task::Links(links) => self.links_step(work, links),

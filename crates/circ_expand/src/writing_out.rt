@@ -10,6 +10,8 @@ ghost use Rattle.circ_expand.specs.Pieces.{Pieces};
 ghost use Rattle.circ_expand.specs.Expand.{expansion};
 ghost use Rattle.circ_expand.specs.Goals.{all_goals, FitGoal};
 ghost use Rattle.circ_expand.specs.Answers.{LeadsOnGoal};
+ghost use Rattle.circ_expand.specs.Machine.{worked_off};
+ghost use Rattle.circ_expand.specs.Tasks.{WritesOut, AreFew};
 ghost use Rattle.circ_expand.specs.Rows.{plain_row, rows_of, unit_limit, IsWrittenOut};
 
 use crate::calls::Frame;
@@ -43,6 +45,31 @@ pub fn expand(
         IfOk result (λ rows. (xs : Pieces) × (map plain_row rows.items ≡ rows_of xs) ×
         LeadsOnGoal theory.now xs (plain_entries entries.now) g) }
 {
+    match written(alloc, &*theory, &*proof, goal, entries) {
+        Ok(rows) => Ok(rows),
+        Err(Halt::Long) => Err(ExpandFault::Long { units: 100_001 }),
+        Err(Halt::Past(TermFault::TooBig { nodes })) => Err(ExpandFault::TooBig { nodes }),
+        Err(Halt::Past(TermFault::TooDeep { depth })) => Err(ExpandFault::TooDeep { depth }),
+        Err(Halt::Past(TermFault::Memory)) => Err(ExpandFault::Memory),
+        Err(Halt::Stopped) => unreachable!(),
+    }
+}
+
+// The same, or why the work ends before its end.
+fn written<'x>(
+    alloc: Global,
+    theory: &'x Theory,
+    proof: &'x Proof,
+    goal: u32,
+    entries: &[Entry],
+) -> Result<Vec<Row>, Halt>
+    requires for_theory { ProofFor theory.now (plain_proof proof.now) }
+    requires plain { IsPlain (plain_proof proof.now) }
+    requires accepted { Accepted theory.now (plain_proof proof.now) }
+    requires few { AreFew entries.now }
+    ensures { WritesOut (worked_off unit_limit theory.now (plain_proof proof.now) goal
+        (plain_entries entries.now)) result }
+{
     let ground = Ground {
         alloc,
         theory,
@@ -58,12 +85,5 @@ pub fn expand(
         book: &book,
         lists: proof.certificates.as_slice(),
     };
-    match frame.write_out(goal, entries) {
-        Ok(rows) => Ok(rows),
-        Err(Halt::Long) => Err(ExpandFault::Long { units: 100_001 }),
-        Err(Halt::Past(TermFault::TooBig { nodes })) => Err(ExpandFault::TooBig { nodes }),
-        Err(Halt::Past(TermFault::TooDeep { depth })) => Err(ExpandFault::TooDeep { depth }),
-        Err(Halt::Past(TermFault::Memory)) => Err(ExpandFault::Memory),
-        Err(Halt::Stopped) => unreachable!(),
-    }
+    frame.write_out(goal, entries)
 }
