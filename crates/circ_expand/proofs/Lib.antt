@@ -40,3 +40,5 @@ pub mod Stepping
 pub mod Background
 pub mod Fronting
 pub mod Leaving
+pub mod Opened
+pub mod Stacked

@@ -1,11 +1,11 @@
 -- Nodes that are put behind others, and the values of numbers.
-use Rattle.std.proofs.Common.{◌≡◌, ◌≤◌, ◌<◌, ℕ, ◌+◌, true, false, List, [], ◌∷◌, ◌++◌, zero, suc, map, length, reverse, get_or, Option, Some, None, unwrap_or}
+use Rattle.std.proofs.Common.{◌≡◌, ◌≤◌, ◌<◌, ℕ, ◌+◌, true, false, List, [], ◌∷◌, ◌++◌, zero, suc, map, length, reverse, get_or, Bool, Option, Some, None, unwrap_or}
 use Rattle.std.proofs.Common.{refl, ap, sym, ◌∙◌, subst, arith}
 use Rattle.std.specs.List.{slice_get, AllByRecursion}
 use Rattle.std.proofs.lemmas.List.{reverse-append, map-append}
 use Rattle.circ_expand.specs.Machine.{Value, In_row, In_parts}
 use Rattle.circ_expand.specs.Nodes.{Rope, Nothing, And_link, And_row, Around, No_parts, And_part, All_parts, rope_with, rope_in, ropes_behind, rope_at}
-use Rattle.circ_expand.specs.Nodes.{row_of, parts_of, value_of, values_in, ends_in_row, ends_in_parts, IsNodeAt, AreNodesFrom, AreValues}
+use Rattle.circ_expand.specs.Nodes.{TakesRow, TakesParts, row_of, parts_of, value_of, values_in, ends_in_row, ends_in_parts, IsNodeAt, AreNodesFrom, AreValues}
 use Rattle.circ_expand.specs.declared.nodes.Node.{Node}
 use Rattle.circ_expand.specs.declared.nodes.Node.TheVariants as node
 
@@ -49,8 +49,8 @@ with_same g h b e node.Empty a = refl
 with_same g h b e (node.Link first row) a = ap (λ r. And_link r row) (e first a.0)
 with_same g h b e (node.Behind first way next) a = ap (λ r. And_row r way (g next)) (e first a.0) ∙ ap (And_row (h first) way) (e next a.1)
 with_same g h b e (node.Between left middle right) a =
-    ap (λ r. Around r (g middle) (g right)) (e left a.0) ∙ ap (λ r. Around (h left) r (g right)) (e middle a.1)
-    ∙ ap (Around (h left) (h middle)) (e right a.2)
+    ap (λ r. Around r (g middle) (g right)) (e left a.0) ∙ ap (λ r. Around (h left) r (g right)) (e middle a.1.0)
+    ∙ ap (Around (h left) (h middle)) (e right a.1.1)
 with_same g h b e node.NoPart a = refl
 with_same g h b e (node.Part first others) a = ap (λ r. And_part r (g others)) (e first a.0) ∙ ap (And_part (h first)) (e others a.1)
 with_same g h b e (node.Cases term parts) a = ap (All_parts term) (e parts a)
@@ -187,3 +187,34 @@ are_its_parts (Around left middle right) e = absurd (cc)
 are_its_parts No_parts e = refl
 are_its_parts (And_part first others) e = refl
 are_its_parts (All_parts term parts) e = absurd (cc)
+
+row_or_not : (v : Value) (vs : List Value) → ends_in_row (v ∷ vs) ≡ ends_in_row (v ∷ [])
+row_or_not (In_row x) vs = refl
+row_or_not (In_parts ps) vs = refl
+
+no_parts_there : (v : Value) (vs : List Value) → ends_in_row (v ∷ []) ≡ true → ends_in_parts (v ∷ vs) ≡ false
+no_parts_there (In_row x) vs e = refl
+no_parts_there (In_parts ps) vs e = absurd (cc)
+
+module _ (ns : List Node) (old new : List ℕ) (k : ℕ) (x : Node) (b : Bool) (e : old ≡ new ++ k ∷ []) (a : AreValues ns old) (i : x ≡ get_or ns k x)
+    (h : (g : ℕ → Rope) → b ≡ ends_in_row (value_of (rope_with g x) ∷ [])) where
+  kept : AreValues ns new × (k < length ns)
+  kept = number_taken ns new k (subst (AreValues ns) e a)
+
+  kind : ends_in_row (value_of (rope_at ns k) ∷ []) ≡ b
+  kind = ap (λ r. ends_in_row (value_of r ∷ [])) (node_is ns kept.0.0 k x i kept.1) ∙ sym (h (rope_at ns))
+
+  split : values_in ns old ≡ value_of (rope_at ns k) ∷ values_in ns new
+  split = ap (values_in ns) e ∙ value_first ns new k
+
+  pub row_taken : b ≡ true → TakesRow ns old new (Some k)
+  row_taken t = (kept.1, split ∙ ap (λ v. v ∷ values_in ns new) (is_its_row (rope_at ns k) (kind ∙ t)))
+
+  pub row_not_taken : b ≡ false → ends_in_row (values_in ns old) ≡ false
+  row_not_taken t = ap ends_in_row split ∙ row_or_not (value_of (rope_at ns k)) (values_in ns new) ∙ kind ∙ t
+
+  pub parts_taken : b ≡ false → TakesParts ns old new (Some k)
+  parts_taken t = (kept.1, split ∙ ap (λ v. v ∷ values_in ns new) (are_its_parts (rope_at ns k) (kind ∙ t)))
+
+  pub parts_not_taken : b ≡ true → ends_in_parts (values_in ns old) ≡ false
+  parts_not_taken t = ap ends_in_parts split ∙ no_parts_there (value_of (rope_at ns k)) (values_in ns new) (kind ∙ t)

@@ -110,7 +110,7 @@ abbrev pub IsNodeAt : ℕ → Node → Type 0
 IsNodeAt k node.Empty = Unit {0}
 IsNodeAt k (node.Link first row) = (first < k) × IsLink row
 IsNodeAt k (node.Behind first way next) = (first < k) × (next < k)
-IsNodeAt k (node.Between left middle right) = (left < k) × (middle < k) × (right < k)
+IsNodeAt k (node.Between left middle right) = (left < k) × ((middle < k) × (right < k))
 IsNodeAt k node.NoPart = Unit {0}
 IsNodeAt k (node.Part first others) = (first < k) × (others < k)
 IsNodeAt k (node.Cases term parts) = parts < k

@@ -12,7 +12,7 @@ use Rattle.circ_expand.specs.declared.rows.Row.{Row}
 use Rattle.circ_expand.specs.declared.rows.Row.TheVariants as row
 use Rattle.circ_expand.specs.declared.nodes.Node.{Node}
 use Rattle.circ_expand.specs.declared.writing.Open.{Open}
-use Rattle.circ_expand.specs.declared.writing.Open.TheVariants as open
+use Rattle.circ_expand.specs.declared.writing.Open.TheVariants as ahead
 
 abbrev pub parts_by : Way → Parts → Parts
 parts_by Forth ps = ps
@@ -29,9 +29,9 @@ IsRowOf link way r = plain_row r ∷ [] ≡ rows_of (by_way way (more_pieces (pi
 
 -- the rows of what is open
 abbrev pub due : List Node → Open → List PlainRow
-due ns (open.Row number way) = rows_of (by_way way (row_of (rope_at ns number)))
-due ns (open.Parts number way) = parts_rows (parts_by way (parts_of (rope_at ns number)))
-due ns (open.Ready row) = plain_row row ∷ []
+due ns (ahead.Row number way) = rows_of (by_way way (row_of (rope_at ns number)))
+due ns (ahead.Parts number way) = parts_rows (parts_by way (parts_of (rope_at ns number)))
+due ns (ahead.Ready row) = plain_row row ∷ []
 
 -- .. and rows behind them
 abbrev pub all_due : List Node → List Open → List PlainRow → List PlainRow
@@ -49,9 +49,9 @@ weight (And_part first others) = 2 + (weight first + weight others)
 weight (All_parts term parts) = 3 + weight parts
 
 abbrev pub weight_of : List Node → Open → ℕ
-weight_of ns (open.Row number way) = weight (rope_at ns number)
-weight_of ns (open.Parts number way) = weight (rope_at ns number)
-weight_of ns (open.Ready row) = 1
+weight_of ns (ahead.Row number way) = weight (rope_at ns number)
+weight_of ns (ahead.Parts number way) = weight (rope_at ns number)
+weight_of ns (ahead.Ready row) = 1
 
 abbrev pub all_weights : List Node → List Open → ℕ
 all_weights ns [] = 0
@@ -59,9 +59,9 @@ all_weights ns (o ∷ os) = weight_of ns o + all_weights ns os
 
 -- its number is one of a node
 abbrev pub IsOpen : List Node → Open → Type 0
-IsOpen ns (open.Row number way) = number < length ns
-IsOpen ns (open.Parts number way) = number < length ns
-IsOpen ns (open.Ready row) = Unit {0}
+IsOpen ns (ahead.Row number way) = number < length ns
+IsOpen ns (ahead.Parts number way) = number < length ns
+IsOpen ns (ahead.Ready row) = Unit {0}
 
 abbrev pub AreOpen : List Node → List Open → Type 0
 AreOpen ns os = AllByRecursion (IsOpen ns) os
@@ -87,13 +87,13 @@ in_order Back first next = first ∷ next ∷ []
 
 -- a row between two others, of which the second is turned
 abbrev pub three_in_order : Way → (left middle right : ℕ) → List Open
-three_in_order Forth l m r = open.Row r Back ∷ open.Row m Forth ∷ open.Row l Forth ∷ []
-three_in_order Back l m r = open.Row l Back ∷ open.Row m Back ∷ open.Row r Forth ∷ []
+three_in_order Forth l m r = ahead.Row r Back ∷ ahead.Row m Forth ∷ ahead.Row l Forth ∷ []
+three_in_order Back l m r = ahead.Row l Back ∷ ahead.Row m Back ∷ ahead.Row r Forth ∷ []
 
 -- the row of cases, their parts, and the row at their end
 abbrev pub cases_open : Tree → (parts : ℕ) → Way → List Open
-cases_open t ps w = open.Ready row.End ∷ open.Parts ps w ∷ open.Ready (row.Cases t) ∷ []
+cases_open t ps w = ahead.Ready row.End ∷ ahead.Parts ps w ∷ ahead.Ready (row.Cases t) ∷ []
 
 -- a part with the row before it, and the other parts
 abbrev pub part_open : (first others : ℕ) → Way → List Open
-part_open p ps w = open.Parts ps w ∷ open.Row p w ∷ open.Ready row.Case ∷ []
+part_open p ps w = ahead.Parts ps w ∷ ahead.Row p w ∷ ahead.Ready row.Case ∷ []

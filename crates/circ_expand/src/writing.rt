@@ -51,11 +51,11 @@ fn written(alloc: Global, nodes: &[Node], number: usize) -> Result<Vec<Row>, All
         rows_of (row_of (rope_at nodes.now number))) }
 {
     let mut rows = Vec::new(alloc);
-    let mut open = Vec::new(alloc);
+    let mut ahead = Vec::new(alloc);
     let way = Way::Forth;
-    open.push(Open::Row { number, way })?;
-    while let Some(next) = open.pop() {
-        write_next(alloc, nodes, &mut open, &mut rows, next)?;
+    ahead.push(Open::Row { number, way })?;
+    while let Some(next) = ahead.pop() {
+        write_next(alloc, nodes, &mut ahead, &mut rows, next)?;
     }
     Ok(rows)
 }
@@ -64,18 +64,18 @@ fn written(alloc: Global, nodes: &[Node], number: usize) -> Result<Vec<Row>, All
 fn write_next(
     alloc: Global,
     nodes: &[Node],
-    open: &mut Vec<Open>,
+    ahead: &mut Vec<Open>,
     rows: &mut Vec<Row>,
     next: Open,
 ) -> Result<(), AllocError>
     requires nodes { AreNodesFrom 0 nodes.now }
     requires next { IsOpen nodes.now next }
-    ensures { OnOk result (WritesOne nodes.now next open.old.items open.new.items
+    ensures { OnOk result (WritesOne nodes.now next ahead.old.items ahead.new.items
         rows.old.items rows.new.items) }
 {
     match next {
-        Open::Row { number, way } => open_row(alloc, nodes, number, way, open),
-        Open::Parts { number, way } => open_parts(nodes, number, way, open),
+        Open::Row { number, way } => open_row(alloc, nodes, number, way, ahead),
+        Open::Parts { number, way } => open_parts(nodes, number, way, ahead),
         Open::Ready { row } => {
             rows.push(row)?;
             Ok(())
@@ -89,11 +89,11 @@ fn open_row(
     nodes: &[Node],
     number: usize,
     way: Way,
-    open: &mut Vec<Open>,
+    ahead: &mut Vec<Open>,
 ) -> Result<(), AllocError>
     requires nodes { AreNodesFrom 0 nodes.now }
     requires within { number < length nodes.now }
-    ensures { OnOk result (AddsOpen nodes.now open.old.items open.new.items
+    ensures { OnOk result (AddsOpen nodes.now ahead.old.items ahead.new.items
         (rows_of (by_way way (row_of (rope_at nodes.now number))))
         (weight (rope_at nodes.now number))) }
 {
@@ -102,7 +102,7 @@ fn open_row(
         Node::Link { first, row } => {
             let row = in_way(alloc, row, way)?;
             let first = Open::Row { number: *first, way };
-            open_two(open, way, first, Open::Ready { row })
+            open_two(ahead, way, first, Open::Ready { row })
         }
         Node::Behind {
             first,
@@ -114,31 +114,31 @@ fn open_row(
                 number: *next,
                 way: composed(*own, way),
             };
-            open_two(open, way, first, next)
+            open_two(ahead, way, first, next)
         }
         Node::Between {
             left,
             middle,
             right,
-        } => open_three(open, way, *left, *middle, *right),
+        } => open_three(ahead, way, *left, *middle, *right),
         Node::NoPart => Ok(()),
         Node::Part { .. } => Ok(()),
-        Node::Cases { term, parts } => open_cases(open, way, term, *parts),
+        Node::Cases { term, parts } => open_cases(ahead, way, term, *parts),
     }
 }
 
 // Opens two, of which in this way the first comes first.
-fn open_two(open: &mut Vec<Open>, way: Way, first: Open, next: Open) -> Result<(), AllocError>
-    ensures { OnOk result (open.new.items ≡ open.old.items ++ in_order way first next) }
+fn open_two(ahead: &mut Vec<Open>, way: Way, first: Open, next: Open) -> Result<(), AllocError>
+    ensures { OnOk result (ahead.new.items ≡ ahead.old.items ++ in_order way first next) }
 {
     match way {
         Way::Forth => {
-            open.push(next)?;
-            open.push(first)?;
+            ahead.push(next)?;
+            ahead.push(first)?;
         }
         Way::Back => {
-            open.push(first)?;
-            open.push(next)?;
+            ahead.push(first)?;
+            ahead.push(next)?;
         }
     }
     Ok(())
@@ -146,34 +146,34 @@ fn open_two(open: &mut Vec<Open>, way: Way, first: Open, next: Open) -> Result<(
 
 // Opens a row between two others, of which the second is turned.
 fn open_three(
-    open: &mut Vec<Open>,
+    ahead: &mut Vec<Open>,
     way: Way,
     left: usize,
     middle: usize,
     right: usize,
 ) -> Result<(), AllocError>
-    ensures { OnOk result (open.new.items ≡ open.old.items ++
+    ensures { OnOk result (ahead.new.items ≡ ahead.old.items ++
         three_in_order way left middle right) }
 {
     match way {
         Way::Forth => {
             let way = Way::Back;
-            open.push(Open::Row { number: right, way })?;
+            ahead.push(Open::Row { number: right, way })?;
             let way = Way::Forth;
-            open.push(Open::Row {
+            ahead.push(Open::Row {
                 number: middle,
                 way,
             })?;
-            open.push(Open::Row { number: left, way })?;
+            ahead.push(Open::Row { number: left, way })?;
         }
         Way::Back => {
-            open.push(Open::Row { number: left, way })?;
-            open.push(Open::Row {
+            ahead.push(Open::Row { number: left, way })?;
+            ahead.push(Open::Row {
                 number: middle,
                 way,
             })?;
             let way = Way::Forth;
-            open.push(Open::Row { number: right, way })?;
+            ahead.push(Open::Row { number: right, way })?;
         }
     }
     Ok(())
@@ -181,18 +181,18 @@ fn open_three(
 
 // Opens the row of cases, their parts, and the row at their end.
 fn open_cases(
-    open: &mut Vec<Open>,
+    ahead: &mut Vec<Open>,
     way: Way,
     term: &Term,
     parts: usize,
 ) -> Result<(), AllocError>
-    ensures { OnOk result (open.new.items ≡ open.old.items ++ cases_open term.now parts way) }
+    ensures { OnOk result (ahead.new.items ≡ ahead.old.items ++ cases_open term.now parts way) }
 {
-    open.push(Open::Ready { row: Row::End })?;
-    open.push(Open::Parts { number: parts, way })?;
+    ahead.push(Open::Ready { row: Row::End })?;
+    ahead.push(Open::Parts { number: parts, way })?;
     let term = term.share()?;
     let row = Row::Cases { term };
-    open.push(Open::Ready { row })?;
+    ahead.push(Open::Ready { row })?;
     Ok(())
 }
 
@@ -201,16 +201,16 @@ fn open_parts(
     nodes: &[Node],
     number: usize,
     way: Way,
-    open: &mut Vec<Open>,
+    ahead: &mut Vec<Open>,
 ) -> Result<(), AllocError>
     requires nodes { AreNodesFrom 0 nodes.now }
     requires within { number < length nodes.now }
-    ensures { OnOk result (AddsOpen nodes.now open.old.items open.new.items
+    ensures { OnOk result (AddsOpen nodes.now ahead.old.items ahead.new.items
         (parts_rows (parts_by way (parts_of (rope_at nodes.now number))))
         (weight (rope_at nodes.now number))) }
 {
     match &nodes[number] {
-        Node::Part { first, others } => open_part(open, way, *first, *others),
+        Node::Part { first, others } => open_part(ahead, way, *first, *others),
         Node::Empty => Ok(()),
         Node::Link { .. } => Ok(()),
         Node::Behind { .. } => Ok(()),
@@ -222,19 +222,19 @@ fn open_parts(
 
 // Opens a part, with the row before it, and the other parts.
 fn open_part(
-    open: &mut Vec<Open>,
+    ahead: &mut Vec<Open>,
     way: Way,
     first: usize,
     others: usize,
 ) -> Result<(), AllocError>
-    ensures { OnOk result (open.new.items ≡ open.old.items ++ part_open first others way) }
+    ensures { OnOk result (ahead.new.items ≡ ahead.old.items ++ part_open first others way) }
 {
-    open.push(Open::Parts {
+    ahead.push(Open::Parts {
         number: others,
         way,
     })?;
-    open.push(Open::Row { number: first, way })?;
-    open.push(Open::Ready { row: Row::Case })?;
+    ahead.push(Open::Row { number: first, way })?;
+    ahead.push(Open::Ready { row: Row::Case })?;
     Ok(())
 }
 
