@@ -25,12 +25,12 @@ use std::rc::Rc;
 
 // What is the same throughout.
 #[derive(Clone, Copy)]
-pub(crate) struct Frame<'a> {
+pub(crate) struct Frame<'a, 'b> {
     pub(crate) alloc: Global,
     pub(crate) theory: &'a Theory,
     pub(crate) table: &'a [Term],
     pub(crate) gamma: &'a Gamma,
-    pub(crate) book: &'a Book<'a>,
+    pub(crate) book: &'b Book<'a>,
     pub(crate) lists: &'a [Vec<Link>],
 }
 
@@ -88,9 +88,9 @@ fn share_layers(along: &Option<Front<Layer>>) -> Result<Option<Front<Layer>>, Al
     }
 }
 
-impl<'a> Frame<'a> {
+impl<'a> Frame<'a, '_> {
     // What links are read against.
-    pub(crate) fn side<'b>(&'b self, basis: &'b Basis) -> Side<'b>
+    pub(crate) fn side<'c>(&'c self, basis: &'c Basis) -> Side<'c, 'a>
         ensures table { result.table.now ≡ self.now.table.now }
         ensures setting { setting_of result ≡
             link_setting (background_in self.now) (basis_of self.now basis.now) }
@@ -167,7 +167,7 @@ impl<'a> Frame<'a> {
     }
 
     // The goal that becomes.
-    pub(crate) fn goal(&self, target: Target) -> Option<&'a Goal>
+    pub(crate) fn goal(&self, target: Target) -> Option<&Goal>
         ensures { unwrap_or (option_copied result) no_goal ≡
             goal_in (target_of self.now target).history }
     {

@@ -11,7 +11,7 @@ use circ_term::Term;
 use circ_theory::Way;
 use std::rc::Rc;
 
-impl<'a> Frame<'a> {
+impl<'a> Frame<'a, '_> {
     // The next occurrence in this term. They end where the last row ends.
     pub(crate) fn changes_step(
         &self,

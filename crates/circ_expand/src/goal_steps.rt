@@ -33,7 +33,7 @@ use circ_theory::{Goal, above, above_pairs};
 use std::alloc::AllocError;
 use std::rc::Rc;
 
-impl<'a> Frame<'a> {
+impl<'a> Frame<'a, '_> {
     // A use is begun by what its goal becomes, or by its first layer.
     pub(crate) fn use_step(&self, work: &mut Work<'a>, call: Rc<Call>) -> Result<(), Halt>
         ensures { Steps self.now (stepped self.now (Enter_use (call_of self.now call.value))
@@ -66,7 +66,7 @@ impl<'a> Frame<'a> {
         work: &mut Work<'a>,
         call: Rc<Call>,
         number: u32,
-        node: &'a Node<'a>,
+        node: &Node<'a>,
     ) -> Result<(), Halt>
         requires { number < length self.now.book.now.nodes.items }
         ensures { Steps self.now (goal_stepped self.now call.value
@@ -74,9 +74,9 @@ impl<'a> Frame<'a> {
     {
         match &node.what {
             What::Simplified { chain, next } => {
-                self.simplified_step(work, call, &node.goal, chain, earlier(number, *next))
+                self.simplified_step(work, call, &node.goal, *chain, earlier(number, *next))
             }
-            What::Reduced { why } => self.reduced_step(work, call, &node.goal, why),
+            What::Reduced { why } => self.reduced_step(work, call, &node.goal, *why),
             What::Derived { children } => {
                 self.derived_step(work, call, &node.goal, children.as_slice(), number)
             }
@@ -112,7 +112,7 @@ impl<'a> Frame<'a> {
             next Open)) work.old) work.new result }
     {
         let basis = self.full_basis(&call)?;
-        match self.side(&basis).led_all(chain.left.as_slice(), &goal.left) {
+        match (&*self).side(&basis).led_all(chain.left.as_slice(), &goal.left) {
             Ok(left) => {
                 work.tasks.push(Task::PutBetween)?;
                 work.tasks.push(Task::BeginSimpler(Simpler {

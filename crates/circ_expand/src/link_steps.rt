@@ -41,7 +41,7 @@ struct Used<'b> {
     terms: &'b [u32],
 }
 
-impl<'a> Frame<'a> {
+impl<'a> Frame<'a, '_> {
     // The next link of a side. They end where the last row ends.
     pub(crate) fn links_step(&self, work: &mut Work<'a>, links: Links<'a>) -> Result<(), Halt>
         ensures { Steps self.now (stepped self.now (links_job self.now links.entry) work.old)
@@ -53,7 +53,7 @@ impl<'a> Frame<'a> {
         let Some((link, rest)) = links.links.split_first() else {
             return Ok(());
         };
-        let next = match self.side(&links.basis).led(link, &links.term) {
+        let next = match (&*self).side(&links.basis).led(link, &links.term) {
             Ok(next) => next,
             Err(fault) => return Err(Halt::Past(fault)),
         };

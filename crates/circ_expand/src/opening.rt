@@ -28,7 +28,7 @@ use circ_term::{Term, TermFault};
 use std::alloc::{AllocError, Global};
 use std::rc::Rc;
 
-impl<'a> Frame<'a> {
+impl<'a> Frame<'a, '_> {
     // The derivation for a goal and an experiment, as rows.
     pub(crate) fn write_out(&self, goal: u32, entries: &[Entry]) -> Result<Vec<Row>, Halt>
         requires { AreFew entries.now }

@@ -49,7 +49,7 @@ pub(crate) struct Ends {
     pub(crate) new: Term,
 }
 
-impl<'a> Frame<'a> {
+impl<'a> Frame<'a, '_> {
     // Links by the certificate from both sides, and between them its occurrences.
     pub(crate) fn place_step(
         &self,
@@ -106,7 +106,7 @@ impl<'a> Frame<'a> {
             raised: 0,
             assumptions: Vec::new(self.alloc),
         };
-        match self.side(&basis).led_all(links, &start) {
+        match (&*self).side(&basis).led_all(links, &start) {
             Ok(last) => Ok(Certificate {
                 start,
                 links,

@@ -27,7 +27,7 @@ use circ_theory::{Pair, Way, constant_of, share_pairs};
 use std::alloc::AllocError;
 use std::rc::Rc;
 
-impl<'a> Frame<'a> {
+impl<'a> Frame<'a, '_> {
     // Why two terms are the same: links on both sides, and between them the cases of a split.
     pub(crate) fn reason_step(&self, work: &mut Work<'a>, reason: Reason<'a>) -> Result<(), Halt>
         ensures { Steps self.now (stepped self.now (reason_job self.now reason.entry) work.old)
@@ -102,11 +102,11 @@ impl<'a> Frame<'a> {
             reason.entry.left reason.entry.right (jobs_of self.now work.old) (values_of work.old.values) work.old.left)
             work.new result }
     {
-        let left = match self.side(&reason.basis).led_all(chain.left.as_slice(), &reason.left) {
+        let left = match (&*self).side(&reason.basis).led_all(chain.left.as_slice(), &reason.left) {
             Ok(left) => left,
             Err(fault) => return Err(Halt::Past(fault)),
         };
-        let right = match self.side(&reason.basis).led_all(chain.right.as_slice(), &reason.right) {
+        let right = match (&*self).side(&reason.basis).led_all(chain.right.as_slice(), &reason.right) {
             Ok(right) => right,
             Err(fault) => return Err(Halt::Past(fault)),
         };

@@ -14,7 +14,7 @@ use circ_term::Term;
 use circ_theory::Way;
 use std::rc::Rc;
 
-impl<'a> Frame<'a> {
+impl<'a> Frame<'a, '_> {
     // One task is done, or other tasks are put in its place.
     fn step(&self, work: &mut Work<'a>, task: Task<'a>) -> Result<(), Halt>
         ensures { StepsAlike self.now (next_stepped self.now task.entry work.old) work.new result }
