@@ -1,5 +1,5 @@
 -- What is open is written in order.
-use Rattle.std.proofs.Common.{◌≡◌, ◌≤◌, ◌<◌, ℕ, ◌+◌, List, [], ◌∷◌, ◌++◌, map, length, refl, ap, sym, ◌∙◌, subst, arith, append_assoc, append-nil}
+use Rattle.std.proofs.Common.{◌≡◌, ◌≤◌, ◌<◌, ℕ, ◌+◌, List, [], ◌∷◌, ◌++◌, map, length, reverse, true, false, Option, Some, None, refl, ap, sym, ◌∙◌, subst, arith, append_assoc, append-nil}
 use Rattle.std.specs.List.{AllByRecursion}
 use Rattle.circ_term.specs.Tree.{Tree}
 use Rattle.circ_theory.specs.declared.way.Way.{Way}
@@ -8,12 +8,24 @@ use Rattle.circ_expand.specs.Pieces.{Piece, Pieces, Parts, Equation_piece, Conte
 use Rattle.circ_expand.specs.Pieces.{more_parts, pieces_joined, turned_piece, turned, turned_parts, other_way}
 use Rattle.circ_expand.specs.Expand.{by_way}
 use Rattle.circ_expand.specs.Rows.{PlainRow, Cases_row, Case_row, End_row, plain_row, piece_rows, rows_of, parts_rows}
-use Rattle.circ_expand.specs.Nodes.{Rope, Nothing, And_link, And_row, Around, No_parts, And_part, All_parts, rope_at, row_of, parts_of, piece_of}
+use Rattle.circ_expand.specs.Nodes.{Rope, Nothing, And_link, And_row, Around, No_parts, And_part, All_parts, rope_with, rope_at, row_of, parts_of, value_of, values_in, piece_of}
+use Rattle.circ_expand.specs.Nodes.{IsNodeAt, AreNodesFrom, ends_in_row}
+use Rattle.circ_expand.specs.Machine.{Value, In_row, In_parts, last_row}
+use Rattle.circ_expand.specs.Values.{IsLastRow}
+use Rattle.circ_expand.proofs.Ropes.{is_its_row}
+use Rattle.circ_expand.proofs.Stacked.{not_last}
 use Rattle.circ_expand.specs.Writing.{parts_by, composed, IsRowOf, due, all_due, weight, weight_of, all_weights, IsOpen, AreOpen, AddsOpen, WritesOne}
-use Rattle.circ_expand.specs.Writing.{in_order, three_in_order, cases_open, part_open}
+use Rattle.circ_expand.specs.Writing.{in_order, three_in_order, cases_open, part_open, RowOpens, PartsOpen}
 use Rattle.circ_expand.specs.declared.rows.Row.{Row}
 use Rattle.circ_expand.specs.declared.rows.Row.TheVariants as row
 use Rattle.circ_expand.specs.declared.nodes.Node.{Node}
+use Rattle.circ_expand.specs.declared.nodes.Node.TheVariants as node
+use Rattle.circ_expand.specs.declared.rows.Given.{Given}
+use Rattle.circ_expand.specs.Rows.{given_bound}
+use Rattle.circ_expand.specs.Expand.{Stopped}
+use Rattle.std.specs.Global.{Vec}
+use Rattle.std.specs.Prelude.{Result, Ok, Err, OnOk, IfOk}
+use Rattle.circ_term.specs.Subst.{Bound}
 use Rattle.circ_expand.specs.declared.writing.Open.{Open}
 use Rattle.circ_expand.specs.declared.writing.Open.TheVariants as ahead
 
@@ -124,13 +136,7 @@ some_weight No_parts = omega arith
 some_weight (And_part first others) = omega arith
 some_weight (All_parts term parts) = omega arith
 
--- ---- what a node opens, for its row
-
-abbrev RowOpens : List Node → Way → (old new : List Open) → Rope → Type 0
-RowOpens ns w old new r = AddsOpen ns old new (rows_of (by_way w (row_of r))) (weight r)
-
-abbrev PartsOpen : List Node → Way → (old new : List Open) → Rope → Type 0
-PartsOpen ns w old new r = AddsOpen ns old new (parts_rows (parts_by w (parts_of r))) (weight r)
+-- ---- what a node opens
 
 no_rows : (w : Way) → rows_of (by_way w no_piece) ≡ []
 no_rows Forth = refl
@@ -159,8 +165,8 @@ opens_no_parts ns w os x y e f = record {
 }
 
 two_open : (ns : List Node) (w : Way) (first next : Open) → IsOpen ns first → IsOpen ns next → AreOpen ns (in_order w first next)
-two_open ns Forth first next a b = (b, a, tt)
-two_open ns Back first next a b = (a, b, tt)
+two_open ns Forth first next a b = (b, (a, tt))
+two_open ns Back first next a b = (a, (b, tt))
 
 two_weights : (ns : List Node) (w : Way) (first next : Open) → all_weights ns (in_order w first next) ≡ weight_of ns first + weight_of ns next
 two_weights ns Forth first next = omega arith
@@ -196,8 +202,8 @@ opens_behind ns w old new x k own j e h i v g f =
     })
 
 three_open : (ns : List Node) (w : Way) (l m r : ℕ) → l < length ns → m < length ns → r < length ns → AreOpen ns (three_in_order w l m r)
-three_open ns Forth l m r a b c = (c, b, a, tt)
-three_open ns Back l m r a b c = (a, b, c, tt)
+three_open ns Forth l m r a b c = (c, (b, (a, tt)))
+three_open ns Back l m r a b c = (a, (b, (c, tt)))
 
 three_weights : (ns : List Node) (w : Way) (l m r : ℕ)
     → all_weights ns (three_in_order w l m r) ≡ weight (rope_at ns l) + (weight (rope_at ns m) + weight (rope_at ns r))
@@ -221,13 +227,13 @@ pub opens_cases : (ns : List Node) (w : Way) (old new : List Open) (x : Rope) (u
     → new ≡ old ++ cases_open u k w → RowOpens ns w old new x
 opens_cases ns w old new x u k e h f =
     subst (RowOpens ns w old new) (sym e)
-    (record { added = cases_open u k w; new_are = f; are = (tt, h, tt, tt); rows_are = opened_cases ns w u k; lighter = omega arith })
+    (record { added = cases_open u k w; new_are = f; are = (tt, (h, (tt, tt))); rows_are = opened_cases ns w u k; lighter = omega arith })
 
 pub opens_part : (ns : List Node) (w : Way) (old new : List Open) (x : Rope) (k j : ℕ) → x ≡ And_part (rope_at ns k) (rope_at ns j) → k < length ns
     → j < length ns → new ≡ old ++ part_open k j w → PartsOpen ns w old new x
 opens_part ns w old new x k j e h i f =
     subst (PartsOpen ns w old new) (sym e)
-    (record { added = part_open k j w; new_are = f; are = (i, h, tt, tt); rows_are = opened_part ns w k j; lighter = omega arith })
+    (record { added = part_open k j w; new_are = f; are = (i, (h, (tt, tt))); rows_are = opened_part ns w k j; lighter = omega arith })
 
 -- ---- one turn
 
@@ -281,3 +287,33 @@ last_weight ns os o = let z = weights_front ns os (o ∷ []) in omega (arith, z)
 pub last_open : (ns : List Node) (os : List Open) (o : Open) → AreOpen ns (os ++ o ∷ []) → AreOpen ns os × IsOpen ns o
 last_open ns [] o a = (tt, a.0)
 last_open ns (p ∷ os) o a = let r = last_open ns os o a.1 in ((a.0, r.0), r.1)
+
+-- ---- answers
+
+pub on_ok : {A E P Q : Type 0} (r : Result A E) → (P → Q) → OnOk r P → OnOk r Q
+on_ok (Ok a) f h = f h
+on_ok (Err e) f h = h
+
+-- the same of the rope that this one is
+pub of_rope : {A E : Type 0} (r : Result A E) (P : Rope → Type 0) (x y : Rope) → x ≡ y → OnOk r (P y) → OnOk r (P x)
+of_rope r P x y e h = on_ok r (subst P (sym e)) h
+
+abbrev pub bound_as : (number sort : ℕ) → Tree → Bound
+bound_as n s t = record { number = n; sort = s; term = t }
+
+-- the rows of the one value that is left
+pub one_row : (r : Rope) (rows : Vec Row) → ends_in_row (value_of r ∷ []) ≡ true → map plain_row rows.items ≡ rows_of (row_of r)
+    → IsLastRow (value_of r ∷ []) (Some rows)
+one_row r rows e f = (row_of r, ap (λ v. v ∷ []) (is_its_row r e), f)
+
+pub no_row : (r : Rope) → ends_in_row (value_of r ∷ []) ≡ false → IsLastRow (value_of r ∷ []) None
+no_row r e = not_last (value_of r ∷ []) e
+
+more_left : (vs : List Value) (v : Value) → 0 < length vs → (n : ℕ) → last_row (vs ++ v ∷ []) n ≡ Stopped
+more_left [] v h n = absurd (omega arith)
+more_left (In_row x ∷ []) v h n = refl
+more_left (In_row x ∷ w ∷ ws) v h n = refl
+more_left (In_parts ps ∷ vs) v h n = refl
+
+pub same_link : (link copied : Row) (w : Way) (r : Row) → piece_of link ≡ piece_of copied → IsRowOf link w r → IsRowOf copied w r
+same_link link copied w r e h = h ∙ ap (λ x. rows_of (by_way w (single x))) e

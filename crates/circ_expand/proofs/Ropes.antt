@@ -1,8 +1,9 @@
 -- Nodes that are put behind others, and the values of numbers.
-use Rattle.std.proofs.Common.{◌≡◌, ◌≤◌, ◌<◌, ℕ, ◌+◌, true, false, List, [], ◌∷◌, ◌++◌, zero, suc, map, length, reverse, get_or, Bool, Option, Some, None, unwrap_or}
+use Rattle.std.proofs.Common.{◌≡◌, ◌≤◌, ◌<◌, ℕ, ◌+◌, ◌-◌, true, false, List, [], ◌∷◌, ◌++◌, zero, suc, map, length, reverse, get_or, Bool, Option, Some, None, unwrap_or}
 use Rattle.std.proofs.Common.{refl, ap, sym, ◌∙◌, subst, arith}
 use Rattle.std.specs.List.{slice_get, AllByRecursion}
 use Rattle.std.proofs.lemmas.List.{reverse-append, map-append}
+use Rattle.std.proofs.lemmas.Option.{same_Some}
 use Rattle.circ_expand.specs.Machine.{Value, In_row, In_parts}
 use Rattle.circ_expand.specs.Nodes.{Rope, Nothing, And_link, And_row, Around, No_parts, And_part, All_parts, rope_with, rope_in, ropes_behind, rope_at}
 use Rattle.circ_expand.specs.Nodes.{TakesRow, TakesParts, row_of, parts_of, value_of, values_in, ends_in_row, ends_in_parts, IsNodeAt, AreNodesFrom, AreValues}
@@ -218,3 +219,46 @@ module _ (ns : List Node) (old new : List ℕ) (k : ℕ) (x : Node) (b : Bool) (
 
   pub parts_not_taken : b ≡ true → ends_in_parts (values_in ns old) ≡ false
   parts_not_taken t = ap ends_in_parts split ∙ no_parts_there (value_of (rope_at ns k)) (values_in ns new) (kind ∙ t)
+
+-- the kind of one value
+
+pub kind_is : (ns : List Node) → AreNodesFrom 0 ns → (k : ℕ) (x : Node) → x ≡ get_or ns k x → k < length ns → (b : Bool)
+    → ((g : ℕ → Rope) → b ≡ ends_in_row (value_of (rope_with g x) ∷ [])) → b ≡ ends_in_row (value_of (rope_at ns k) ∷ [])
+kind_is ns a k x i lt b h = h (rope_at ns) ∙ sym (ap (λ r. ends_in_row (value_of r ∷ [])) (node_is ns a k x i lt))
+
+last_split : (ks : List ℕ) (k : ℕ) → Some k ≡ slice_get ks (length ks - 1) → (js : List ℕ) × (ks ≡ js ++ k ∷ [])
+last_split [] k e = absurd (cc)
+last_split (j ∷ []) k e =
+    let z : length (j ∷ []) - 1 ≡ 0 = omega arith in
+    ([], ap (λ i. i ∷ []) (sym (same_Some k j (e ∙ ap (slice_get (j ∷ [])) z))))
+last_split (j ∷ i ∷ ks) k e =
+    let z : length (j ∷ i ∷ ks) - 1 ≡ suc (length (i ∷ ks) - 1) = omega arith in
+    let r = last_split (i ∷ ks) k (e ∙ ap (slice_get (j ∷ i ∷ ks)) z) in
+    (j ∷ r.0, ap (λ qs. j ∷ qs) r.1)
+
+pub last_kind : (ns : List Node) (ks : List ℕ) (k : ℕ) → Some k ≡ slice_get ks (length ks - 1)
+    → ends_in_row (value_of (rope_at ns k) ∷ []) ≡ ends_in_row (values_in ns ks)
+last_kind ns ks k e =
+    let s = last_split ks k e in
+    sym (ap ends_in_row (ap (values_in ns) s.1 ∙ value_first ns s.0 k) ∙ row_or_not (value_of (rope_at ns k)) (values_in ns s.0))
+
+-- ---- what a node names
+
+node_wider : (j m : ℕ) → j ≤ m → (n : Node) → IsNodeAt j n → IsNodeAt m n
+node_wider j m le node.Empty a = tt
+node_wider j m le (node.Link first row) a = let z = a.0 in (omega (arith, le, z), a.1)
+node_wider j m le (node.Behind first way next) a = let z = a.0 in let y = a.1 in (omega (arith, le, z), omega (arith, le, y))
+node_wider j m le (node.Between left middle right) a =
+    let z = a.0 in
+    let y = a.1.0 in
+    let w = a.1.1 in
+    (omega (arith, le, z), (omega (arith, le, y), omega (arith, le, w)))
+node_wider j m le node.NoPart a = tt
+node_wider j m le (node.Part first others) a = let z = a.0 in let y = a.1 in (omega (arith, le, z), omega (arith, le, y))
+node_wider j m le (node.Cases term parts) a = omega (arith, le, a)
+
+pub node_within : (ns : List Node) → AreNodesFrom 0 ns → (k : ℕ) (x y : Node) → x ≡ get_or ns k x → k < length ns → x ≡ y → IsNodeAt (length ns) y
+node_within ns a k x y i lt e = subst (IsNodeAt (length ns)) e (node_wider (0 + k) (length ns) (omega (arith, lt)) x (node_at 0 ns a k x i lt))
+
+pub node_as : (ns : List Node) → AreNodesFrom 0 ns → (k : ℕ) (x y : Node) → x ≡ get_or ns k x → k < length ns → x ≡ y → rope_at ns k ≡ rope_with (rope_at ns) y
+node_as ns a k x y i lt e = node_is ns a k x i lt ∙ ap (rope_with (rope_at ns)) e

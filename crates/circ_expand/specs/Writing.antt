@@ -97,3 +97,10 @@ cases_open t ps w = ahead.Ready row.End ∷ ahead.Parts ps w ∷ ahead.Ready (ro
 -- a part with the row before it, and the other parts
 abbrev pub part_open : (first others : ℕ) → Way → List Open
 part_open p ps w = ahead.Parts ps w ∷ ahead.Row p w ∷ ahead.Ready row.Case ∷ []
+
+-- what a node opens, for its row and for its parts
+abbrev pub RowOpens : List Node → Way → (old new : List Open) → Rope → Type 0
+RowOpens ns w old new r = AddsOpen ns old new (rows_of (by_way w (row_of r))) (weight r)
+
+abbrev pub PartsOpen : List Node → Way → (old new : List Open) → Rope → Type 0
+PartsOpen ns w old new r = AddsOpen ns old new (parts_rows (parts_by w (parts_of r))) (weight r)

@@ -1,7 +1,7 @@
 //! Rows of pieces and parts of cases, as nodes by number.
-ghost use Rattle.std.specs.Prelude.{◌≡◌, ◌∷◌, ℕ, [], length, OnOk};
+ghost use Rattle.std.specs.Prelude.{◌≡◌, ◌<◌, ◌∷◌, ℕ, [], length, OnOk};
 ghost use Rattle.circ_expand.specs.Nodes.{values_in, value_of, rope_with, rope_at, Rope};
-ghost use Rattle.circ_expand.specs.Nodes.{AreValues, IsNodeAt, ends_in_row, TakesRow, TakesParts};
+ghost use Rattle.circ_expand.specs.Nodes.{AreValues, AreNodesFrom, IsNodeAt, ends_in_row, TakesRow, TakesParts};
 
 use crate::rows::Row;
 use circ_term::Term;
@@ -44,7 +44,7 @@ pub(crate) fn put_node(nodes: &mut Vec<Node>, stack: &mut Vec<usize>, node: Node
 }
 
 // Whether what a node stands for is a row.
-pub(crate) fn is_row(node: &Node) -> bool
+fn is_row(node: &Node) -> bool
     ensures { (h : ℕ → Rope) → result ≡ ends_in_row (value_of (rope_with h node.now) ∷ []) }
 {
     match node {
@@ -55,6 +55,26 @@ pub(crate) fn is_row(node: &Node) -> bool
         Node::NoPart => false,
         Node::Part { .. } => false,
         Node::Cases { .. } => true,
+    }
+}
+
+// Whether the value of this number is a row.
+pub(crate) fn kind_at(nodes: &[Node], number: usize) -> bool
+    requires nodes { AreNodesFrom 0 nodes.now }
+    requires within { number < length nodes.now }
+    ensures { result ≡ ends_in_row (value_of (rope_at nodes.now number) ∷ []) }
+{
+    is_row(&nodes[number])
+}
+
+// Whether there is a value, and the last is a row.
+pub(crate) fn last_is_row(nodes: &[Node], stack: &[usize]) -> bool
+    requires { AreValues nodes.now stack.now }
+    ensures { result ≡ ends_in_row (values_in nodes.now stack.now) }
+{
+    match stack.last() {
+        Some(number) => kind_at(nodes, *number),
+        None => false,
     }
 }
 

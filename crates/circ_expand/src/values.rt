@@ -1,7 +1,7 @@
 //! What is written out so far: rows of pieces and parts of cases, the last one first.
 ghost use Rattle.circ_expand.specs.Nodes.{AreValues, AreValues-prop};
 
-use crate::nodes::{Node, is_row, put_node, take_parts, take_row};
+use crate::nodes::{Node, last_is_row, put_node, take_parts, take_row};
 use crate::rows::Row;
 use circ_term::Term;
 use circ_theory::Way;
@@ -45,10 +45,7 @@ impl Values {
     pub(crate) fn ends_in_row(&self) -> bool
         ensures { result ≡ ends_in_row (values_of self.now) }
     {
-        match self.stack.last() {
-            Some(number) => is_row(&self.nodes[*number]),
-            None => false,
-        }
+        last_is_row(self.nodes.as_slice(), self.stack.as_slice())
     }
 
     /// One more, a row of nothing.

@@ -1,14 +1,18 @@
 //! The rows of what is written out, one after another.
-ghost use Rattle.std.specs.Prelude.{◌≡◌, ◌<◌, ◌++◌, ◌∷◌, [], length, map, IfOk, OnOk};
+ghost use Rattle.std.specs.Prelude.{◌≡◌, ◌<◌, ◌++◌, ◌∷◌, List, [], length, map, IfOk, OnOk};
 ghost use Rattle.circ_expand.specs.Pieces.{other_way};
 ghost use Rattle.circ_expand.specs.Expand.{by_way};
 ghost use Rattle.circ_expand.specs.Rows.{given_bound, plain_row, rows_of, parts_rows};
-ghost use Rattle.circ_expand.specs.Nodes.{AreNodesFrom, IsLink, rope_at, row_of, parts_of};
-ghost use Rattle.circ_expand.specs.Writing.{IsRowOf, parts_by, weight, in_order, three_in_order, cases_open, part_open};
-ghost use Rattle.circ_expand.specs.declared.rows.Row.TheVariants.{Content};
-ghost use Rattle.circ_expand.specs.Writing.{composed, IsOpen, AreOpen, AddsOpen, WritesOne};
+ghost use Rattle.circ_expand.specs.Nodes.{AreValues, AreNodesFrom, IsLink, piece_of, values_in};
+ghost use Rattle.circ_expand.specs.Nodes.{rope_at, row_of, parts_of, value_of, And_link, And_row};
+ghost use Rattle.circ_expand.specs.Values.{values_of, IsLastRow};
+ghost use Rattle.circ_expand.specs.Writing.{IsRowOf, composed, in_order, three_in_order};
+ghost use Rattle.circ_expand.specs.Writing.{cases_open, part_open, IsOpen, RowOpens, PartsOpen};
+ghost use Rattle.circ_expand.specs.Writing.{WritesOne};
+ghost use Rattle.circ_expand.specs.declared.nodes.Node.{Node as TheNode};
+ghost use Rattle.circ_expand.specs.declared.rows.Row.TheVariants.{Equation, Content, Assumption};
 
-use crate::nodes::Node;
+use crate::nodes::{Node, kind_at};
 use crate::rows::{Given, Row};
 use crate::values::Values;
 use circ_term::{Path, Term, share_all};
@@ -24,23 +28,48 @@ pub(crate) enum Open {
 }
 
 impl Values {
-    ghost use Rattle.std.specs.Prelude.{IfOk};
-    ghost use Rattle.circ_expand.specs.Values.{values_of, IsLastRow};
-
     /// The rows of the one value that is left, if it is one and a row. Costs as much as it has
     /// rows.
     pub(crate) fn rows(&self, alloc: Global) -> Result<Option<Vec<Row>>, AllocError>
         ensures { IfOk result (IsLastRow (values_of self.now)) }
     {
-        if self.stack.len() != 1 {
-            return Ok(None);
-        }
-        if !self.ends_in_row() {
-            return Ok(None);
-        }
-        let rows = written(alloc, self.nodes.as_slice(), self.stack[0])?;
-        Ok(Some(rows))
+        last_rows(alloc, self.nodes.as_slice(), self.stack.as_slice())
     }
+}
+
+// The same of these nodes and numbers.
+fn last_rows(
+    alloc: Global,
+    nodes: &[Node],
+    stack: &[usize],
+) -> Result<Option<Vec<Row>>, AllocError>
+    requires { AreValues nodes.now stack.now }
+    ensures { IfOk result (IsLastRow (values_in nodes.now stack.now)) }
+{
+    let Some((number, rest)) = stack.split_first() else {
+        return Ok(None);
+    };
+    if rest.is_empty() {
+        return rows_alone(alloc, nodes, *number);
+    }
+    Ok(None)
+}
+
+// The rows of the value of this number, if it is a row.
+fn rows_alone(
+    alloc: Global,
+    nodes: &[Node],
+    number: usize,
+) -> Result<Option<Vec<Row>>, AllocError>
+    requires nodes { AreNodesFrom 0 nodes.now }
+    requires within { number < length nodes.now }
+    ensures { IfOk result (IsLastRow (value_of (rope_at nodes.now number) ∷ [])) }
+{
+    if kind_at(nodes, number) {
+        let rows = written(alloc, nodes, number)?;
+        return Ok(Some(rows));
+    }
+    Ok(None)
 }
 
 // The rows of the row of this number.
@@ -76,11 +105,15 @@ fn write_next(
     match next {
         Open::Row { number, way } => open_row(alloc, nodes, number, way, ahead),
         Open::Parts { number, way } => open_parts(nodes, number, way, ahead),
-        Open::Ready { row } => {
-            rows.push(row)?;
-            Ok(())
-        }
+        Open::Ready { row } => write_ready(rows, row),
     }
+}
+
+fn write_ready(rows: &mut Vec<Row>, row: Row) -> Result<(), AllocError>
+    ensures { OnOk result (rows.new.items ≡ rows.old.items ++ row ∷ []) }
+{
+    rows.push(row)?;
+    Ok(())
 }
 
 // Opens what a row is made of.
@@ -93,29 +126,17 @@ fn open_row(
 ) -> Result<(), AllocError>
     requires nodes { AreNodesFrom 0 nodes.now }
     requires within { number < length nodes.now }
-    ensures { OnOk result (AddsOpen nodes.now ahead.old.items ahead.new.items
-        (rows_of (by_way way (row_of (rope_at nodes.now number))))
-        (weight (rope_at nodes.now number))) }
+    ensures { OnOk result (RowOpens nodes.now way ahead.old.items ahead.new.items
+        (rope_at nodes.now number)) }
 {
     match &nodes[number] {
         Node::Empty => Ok(()),
-        Node::Link { first, row } => {
-            let row = in_way(alloc, row, way)?;
-            let first = Open::Row { number: *first, way };
-            open_two(ahead, way, first, Open::Ready { row })
-        }
+        Node::Link { first, row } => open_link(alloc, ahead, way, *first, row),
         Node::Behind {
             first,
             way: own,
             next,
-        } => {
-            let first = Open::Row { number: *first, way };
-            let next = Open::Row {
-                number: *next,
-                way: composed(*own, way),
-            };
-            open_two(ahead, way, first, next)
-        }
+        } => open_behind(ahead, way, *first, *own, *next),
         Node::Between {
             left,
             middle,
@@ -125,6 +146,45 @@ fn open_row(
         Node::Part { .. } => Ok(()),
         Node::Cases { term, parts } => open_cases(ahead, way, term, *parts),
     }
+}
+
+// Opens a row with a link behind it.
+fn open_link(
+    alloc: Global,
+    ahead: &mut Vec<Open>,
+    way: Way,
+    first: usize,
+    link: &Row,
+) -> Result<(), AllocError>
+    requires { IsLink link.now }
+    ensures { (ns : List TheNode) → first < length ns → OnOk result (RowOpens ns way
+        ahead.old.items ahead.new.items (And_link (rope_at ns first) link.now)) }
+{
+    let copy = share_link(alloc, link)?;
+    let row = in_way(copy, way);
+    let first = Open::Row { number: first, way };
+    open_two(ahead, way, first, Open::Ready { row })
+}
+
+// Opens a row behind another in a way of its own.
+fn open_behind(
+    ahead: &mut Vec<Open>,
+    way: Way,
+    first: usize,
+    own: Way,
+    next: usize,
+) -> Result<(), AllocError>
+    ensures { (ns : List TheNode) → first < length ns → next < length ns →
+        OnOk result (RowOpens ns way ahead.old.items ahead.new.items
+        (And_row (rope_at ns first) own (rope_at ns next))) }
+{
+    let within = composed(own, way);
+    let first = Open::Row { number: first, way };
+    let next = Open::Row {
+        number: next,
+        way: within,
+    };
+    open_two(ahead, way, first, next)
 }
 
 // Opens two, of which in this way the first comes first.
@@ -205,9 +265,8 @@ fn open_parts(
 ) -> Result<(), AllocError>
     requires nodes { AreNodesFrom 0 nodes.now }
     requires within { number < length nodes.now }
-    ensures { OnOk result (AddsOpen nodes.now ahead.old.items ahead.new.items
-        (parts_rows (parts_by way (parts_of (rope_at nodes.now number))))
-        (weight (rope_at nodes.now number))) }
+    ensures { OnOk result (PartsOpen nodes.now way ahead.old.items ahead.new.items
+        (rope_at nodes.now number)) }
 {
     match &nodes[number] {
         Node::Part { first, others } => open_part(ahead, way, *first, *others),
@@ -257,46 +316,52 @@ fn other(way: Way) -> Way
     }
 }
 
-// The row of a link once more, in a way.
-fn in_way(alloc: Global, row: &Row, way: Way) -> Result<Row, AllocError>
-    requires { IsLink row.now }
-    ensures { IfOk result (IsRowOf row.now way) }
+// The row of a link in a way.
+fn in_way(link: Row, way: Way) -> Row
+    requires { IsLink link }
+    ensures { IsRowOf link way result }
 {
-    match row {
+    match link {
         Row::Equation {
             number,
             way: own,
             path,
             terms,
-        } => Ok(Row::Equation {
-            number: *number,
-            way: composed(*own, way),
-            path: share_path(alloc, path)?,
-            terms: share_all(alloc, terms.as_slice())?,
-        }),
+        } => equation_row(number, own, path, terms, way),
         Row::Content {
             op,
             path,
             old,
             new,
             by,
-        } => {
-            let path = share_path(alloc, path)?;
-            let by = share_given(alloc, by.as_slice())?;
-            Ok(content_row(*op, path, old.share()?, new.share()?, by, way))
-        }
+        } => content_row(op, path, old, new, by, way),
         Row::Assumption {
             number,
             way: own,
             path,
-        } => Ok(Row::Assumption {
-            number: *number,
-            way: composed(*own, way),
-            path: share_path(alloc, path)?,
-        }),
+        } => assumption_row(number, own, path, way),
         Row::Cases { .. } => unreachable!(),
         Row::Case => unreachable!(),
         Row::End => unreachable!(),
+    }
+}
+
+fn equation_row(number: u32, own: Way, path: Path, terms: Vec<Term>, way: Way) -> Row
+    ensures { IsRowOf (Equation number own path terms) way result }
+{
+    match way {
+        Way::Forth => Row::Equation {
+            number,
+            way: own,
+            path,
+            terms,
+        },
+        Way::Back => Row::Equation {
+            number,
+            way: other(own),
+            path,
+            terms,
+        },
     }
 }
 
@@ -322,6 +387,65 @@ fn content_row(op: u32, path: Path, old: Term, new: Term, by: Vec<Given>, way: W
     }
 }
 
+fn assumption_row(number: u64, own: Way, path: Path, way: Way) -> Row
+    ensures { IsRowOf (Assumption number own path) way result }
+{
+    match way {
+        Way::Forth => Row::Assumption {
+            number,
+            way: own,
+            path,
+        },
+        Way::Back => Row::Assumption {
+            number,
+            way: other(own),
+            path,
+        },
+    }
+}
+
+// The row of a link once more.
+fn share_link(alloc: Global, link: &Row) -> Result<Row, AllocError>
+    requires { IsLink link.now }
+    ensures link { IfOk result IsLink }
+    ensures same { IfOk result (λ r. piece_of r ≡ piece_of link.now) }
+{
+    match link {
+        Row::Equation {
+            number,
+            way,
+            path,
+            terms,
+        } => Ok(Row::Equation {
+            number: *number,
+            way: *way,
+            path: share_path(alloc, path)?,
+            terms: share_all(alloc, terms.as_slice())?,
+        }),
+        Row::Content {
+            op,
+            path,
+            old,
+            new,
+            by,
+        } => Ok(Row::Content {
+            op: *op,
+            path: share_path(alloc, path)?,
+            old: old.share()?,
+            new: new.share()?,
+            by: share_given(alloc, by.as_slice())?,
+        }),
+        Row::Assumption { number, way, path } => Ok(Row::Assumption {
+            number: *number,
+            way: *way,
+            path: share_path(alloc, path)?,
+        }),
+        Row::Cases { .. } => unreachable!(),
+        Row::Case => unreachable!(),
+        Row::End => unreachable!(),
+    }
+}
+
 fn share_path(alloc: Global, path: &Path) -> Result<Path, AllocError>
     ensures { IfOk result (λ p. p.items ≡ path.now.items) }
 {
@@ -333,10 +457,11 @@ fn share_given(alloc: Global, given: &[Given]) -> Result<Vec<Given>, AllocError>
 {
     let mut copy = Vec::with_capacity(alloc, given.len())?;
     for one in given {
+        let term = one.term.share()?;
         copy.push(Given {
             number: one.number,
             sort: one.sort,
-            term: one.term.share()?,
+            term,
         })?;
     }
     Ok(copy)
