@@ -28,6 +28,7 @@ use Rattle.circ_expand.specs.Pieces.{Piece, Pieces, Equation_piece, Content_piec
 use Rattle.circ_expand.specs.Expand.{Spending, Yields, Long, Past, Stopped, continued, counted, tested, all_tested, Background, certificate_of, simplified_call, basis}
 use Rattle.circ_expand.specs.Expand.{Basis as SideBasis, Call as Use, base, around, followed_at, start_of, stood, bounds_of, stages, no_followed}
 use Rattle.circ_expand.specs.Expand.{Layer, places_on, layered, risen, start_at, trail, link_setting, no_basis, certified_call, paths_of, arg_sort}
+use Rattle.circ_expand.specs.Expand.{Case, No_case, whole_with, occurrence_call}
 use Rattle.circ_entry.specs.Entries.{Numbered, bare_entries, derivative_at}
 use Rattle.circ_expand.specs.Rows.{plain_row, rows_of}
 use Rattle.circ_expand.specs.declared.rows.Row.{Row}
@@ -38,8 +39,12 @@ use Rattle.circ_expand.specs.Paths.{plain_paths}
 use Rattle.circ_expand.specs.Uses.{entries_of, layers_of, first_of}
 use Rattle.circ_expand.specs.Valuations.{by_of}
 use Rattle.circ_expand.specs.Machine.{Value, In_row, Pending, pending, Task as Job, Links as Links_job, Give_reason, Give_reasons, Begin_use, Enter_use, Occurrences}
-use Rattle.circ_expand.specs.Machine.{Empty_row, Put_behind, Put_between, Add_part, Begin_split, End_split, task_step, goal_step, place_step, all_uses, rest_done, tasks_weight, last_row}
+use Rattle.circ_expand.specs.Machine.{Empty_row, Put_behind, Put_between, Add_part, Begin_split, End_split, task_step, goal_step, place_step, occurrences_step, case_step, all_uses, rest_done, tasks_weight, last_row}
 use Rattle.circ_expand.specs.Fronts.{front}
+use Rattle.circ_expand.specs.declared.fronts.Front.{Front}
+use Rattle.circ_expand.specs.declared.uses.Layer.{Layer as Kept}
+use Rattle.std.specs.declared.rc.Rc.{Rc}
+use Rattle.std.proofs.Common.{Global}
 use Rattle.circ_expand.specs.Values.{values_of}
 use Rattle.circ_expand.specs.declared.histories.Node.{Node}
 use Rattle.circ_expand.specs.declared.by.By.{By}
@@ -370,3 +375,24 @@ abbrev pub begun_place : Frame → Call → Place → List Layer → List Number
 begun_place fr c g xs es x e js =
     certificate_job fr c es x e.left.value ∷ Empty_row ∷ certificate_job fr c es x e.right.value ∷ Empty_row ∷ occurrences_job fr c g xs es x e ∷ Put_between
     ∷ js
+
+-- ---- occurrences
+
+abbrev pub layers_in : Frame → Front Kept → List Layer
+layers_in fr xs = layers_of fr.theory.now (front xs)
+
+-- the step of the occurrence at a path, after which the others are left
+abbrev pub change_stepped : Frame → Changes → (path : List ℕ) → (here : Tree) → Pieces → List Value → Work → Spending Pending
+change_stepped fr x p here v us w =
+    occurrences_step (all_uses (background_in fr)) (background_in fr) (call_of fr x.call.value) (layers_in fr x.layers) x.new x.last
+    (p ∷ drop (x.done + 1) (plain_paths x.paths.value.items)) here (jobs_of fr w) v us w.left
+
+-- the use for an occurrence in this case, where that whole term is tested, if there is one
+abbrev pub FindsCase : Frame → Changes → (whole : Tree) → (path : List ℕ) → (here : Tree) → Case → Option (Rc Call Global) → Type 0
+FindsCase fr x u p here k (Some d) =
+    let c = call_of fr x.call.value in
+    let run = all_uses (background_in fr) in
+    u ≡ whole_with c here → (js : List Job) (vs : List Value) (n : ℕ)
+    → case_step run (background_in fr) k (occurrence_call run (background_in fr) c (layers_in fr x.layers) here p k) js vs n
+    ≡ Yields (pending (Enter_use (call_of fr d.value) ∷ js) vs) n
+FindsCase fr x u p here k None = k ≡ No_case

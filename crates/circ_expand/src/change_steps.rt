@@ -1,4 +1,17 @@
 //! The steps of the occurrences in the last term of a certificate.
+ghost use Rattle.std.specs.Prelude.{◌≡◌, ◌<◌, ◌+◌, ◌∷◌, ◌++◌, [], List, IfOk, OnOk, length, unwrap_or};
+ghost use Rattle.circ_term.specs.Tree.{Tree, at};
+ghost use Rattle.circ_term.specs.Substitution.{instance};
+ghost use Rattle.circ_expand.specs.Pieces.{Pieces};
+ghost use Rattle.circ_expand.specs.Expand.{By_entry, entry_in, guard_case, places_on};
+ghost use Rattle.circ_expand.specs.Machine.{Value, In_row};
+ghost use Rattle.circ_expand.specs.Guards.{plain_guard};
+ghost use Rattle.circ_expand.specs.Uses.{held_by, layers_of, entries_of};
+ghost use Rattle.circ_expand.specs.Valuations.{by_of};
+ghost use Rattle.circ_expand.specs.Values.{values_of};
+ghost use Rattle.circ_expand.specs.Tasks.{Steps, stepped};
+ghost use Rattle.circ_expand.specs.Tasks.{changes_job, layers_in, change_stepped, FindsCase};
+ghost use Rattle.circ_expand.specs.declared.calls.Frame.{Frame as TheFrame};
 
 use crate::by::By;
 use crate::calls::{Call, Frame};
@@ -9,6 +22,7 @@ use crate::tasks::{Changes, Halt, Task, Work};
 use crate::uses::{Held, Layer, add_places, put};
 use circ_term::Term;
 use circ_theory::Way;
+use std::alloc::AllocError;
 use std::rc::Rc;
 
 impl<'a> Frame<'a, '_> {
@@ -18,7 +32,10 @@ impl<'a> Frame<'a, '_> {
         work: &mut Work<'a>,
         changes: Changes,
         here: Term,
-    ) -> Result<(), Halt> {
+    ) -> Result<(), Halt>
+        ensures { Steps self.now (stepped self.now (changes_job self.now changes here) work.old)
+            work.new result }
+    {
         if !work.values.ends_in_row() {
             return Err(Halt::Stopped);
         }
@@ -34,7 +51,10 @@ impl<'a> Frame<'a, '_> {
         work: &mut Work<'a>,
         changes: Changes,
         by: &By,
-    ) -> Result<(), Halt> {
+    ) -> Result<(), Halt>
+        ensures { Steps self.now (stepped self.now (changes_job self.now changes
+            (instance (by_of by.now) changes.last)) work.old) work.new result }
+    {
         if !work.values.ends_in_row() {
             return Err(Halt::Stopped);
         }
@@ -54,7 +74,12 @@ impl<'a> Frame<'a, '_> {
         changes: &Changes,
         path: &[u16],
         here: Term,
-    ) -> Result<(), Halt> {
+    ) -> Result<(), Halt>
+        requires { changes.now.done < length changes.now.paths.value.items }
+        ensures { (v : Pieces) (us : List Value) → values_of work.old.values ≡ In_row v ∷ us →
+            Steps self.now (change_stepped self.now changes.now path.now here v us work.old)
+            work.new result }
+    {
         let call = &changes.call;
         let whole = match self.whole_with(call, &here) {
             Ok(whole) => whole,
@@ -73,7 +98,9 @@ impl<'a> Frame<'a, '_> {
             Err(fault) => return Err(Halt::Past(fault)),
         }
         let guard = self.guard(&changes.last, path)?;
-        let call = self.occurrence_call(changes, whole, path, &here, guard)?;
+        let Some(call) = self.occurrence_call(changes, whole, path, &here, guard)? else {
+            return Err(Halt::Stopped);
+        };
         work.tasks.push(Task::NextChange {
             changes: changes.after()?,
             here: next,
@@ -83,7 +110,11 @@ impl<'a> Frame<'a, '_> {
         Ok(())
     }
 
-    fn guard(&self, last: &Term, path: &[u16]) -> Result<Guard, Halt> {
+    // By which case the occurrence at a path is guarded.
+    fn guard(&self, last: &Term, path: &[u16]) -> Result<Guard, AllocError>
+        ensures { IfOk result (λ g. plain_guard path.now g ≡ guard_case self.now.theory.now
+            self.now.gamma.now last.now path.now) }
+    {
         let occurrence = Occurrence {
             alloc: self.alloc,
             theory: self.theory,
@@ -91,7 +122,7 @@ impl<'a> Frame<'a, '_> {
             term: last,
             path,
         };
-        Ok(occurrence.guard()?)
+        occurrence.guard()
     }
 
     // The use for the occurrence at the path.
@@ -102,14 +133,18 @@ impl<'a> Frame<'a, '_> {
         path: &[u16],
         here: &Term,
         guard: Guard,
-    ) -> Result<Rc<Call>, Halt> {
+    ) -> Result<Option<Rc<Call>>, AllocError>
+        ensures { IfOk result (FindsCase self.now changes.now whole path.now here.now
+            (plain_guard path.now guard)) }
+    {
         let mut next = changes.call.share()?;
         next.whole = whole;
         match guard {
             Guard::Visible { number, above } => {
                 let above = &path[..above.min(path.len())];
                 let entries = self.entry_at(number, here, above)?;
-                next.path = Rc::new(self.alloc, self.below(&changes.call, above)?)?;
+                let path = self.below(&changes.call, above)?;
+                next.path = Rc::new(self.alloc, path).map_err(AllocError::from)?;
                 next.entries = Front::of(self.alloc, entries)?;
                 next.along = Some(changes.layers.share()?);
             }
@@ -123,9 +158,9 @@ impl<'a> Frame<'a, '_> {
                 self.add_entry_at(number, here, above, &mut layers)?;
                 next.along = Some(self.with_places(here, above, layers)?);
             }
-            Guard::Nothing => return Err(Halt::Stopped),
+            Guard::Nothing => return Ok(None),
         }
-        Ok(Rc::new(self.alloc, next)?)
+        Ok(Some(Rc::new(self.alloc, next).map_err(AllocError::from)?))
     }
 
     // The places on a path go before layers.
@@ -134,13 +169,24 @@ impl<'a> Frame<'a, '_> {
         here: &Term,
         path: &[u16],
         mut layers: Vec<Rc<Layer>>,
-    ) -> Result<Front<Layer>, Halt> {
+    ) -> Result<Front<Layer>, AllocError>
+        ensures { IfOk result (λ f. layers_in self.now f ≡ places_on here.now path.now ++
+            layers_of self.now.theory.now layers.items) }
+    {
         add_places(self.alloc, here, path, &mut layers)?;
-        Ok(Front::of(self.alloc, layers)?)
+        Front::of(self.alloc, layers)
     }
 
     // The entry of the derivative of this number whose instance stands at the path, alone.
-    fn entry_at(&self, number: u32, here: &Term, path: &[u16]) -> Result<Vec<Rc<Held>>, Halt> {
+    fn entry_at(
+        &self,
+        number: u32,
+        here: &Term,
+        path: &[u16],
+    ) -> Result<Vec<Rc<Held>>, AllocError>
+        ensures { IfOk result (λ v. entries_of self.now.theory.now v.items ≡ entry_in
+            self.now.theory.now number (unwrap_or (at here.now path.now) here.now) ∷ []) }
+    {
         let mut entries = Vec::new(self.alloc);
         entries.push(self.entry_in(number, here, path)?)?;
         Ok(entries)
@@ -153,24 +199,39 @@ impl<'a> Frame<'a, '_> {
         here: &Term,
         path: &[u16],
         layers: &mut Vec<Rc<Layer>>,
-    ) -> Result<(), Halt> {
+    ) -> Result<(), AllocError>
+        ensures { OnOk result (layers_of self.now.theory.now layers.new.items ≡
+            By_entry (entry_in self.now.theory.now number
+            (unwrap_or (at here.now path.now) here.now)) ∷
+            layers_of self.now.theory.now layers.old.items) }
+    {
         let held = self.entry_in(number, here, path)?;
-        layers.push(Rc::new(self.alloc, Layer::Entry { held })?)?;
+        let entry = Rc::new(self.alloc, Layer::Entry { held }).map_err(AllocError::from)?;
+        layers.push(entry)?;
         Ok(())
     }
 
-    fn entry_in(&self, number: u32, here: &Term, path: &[u16]) -> Result<Rc<Held>, Halt> {
+    // The entry of the derivative of this number whose instance stands at the path.
+    fn entry_in(&self, number: u32, here: &Term, path: &[u16]) -> Result<Rc<Held>, AllocError>
+        ensures { IfOk result (λ h. held_by self.now.theory.now h.value ≡ entry_in
+            self.now.theory.now number (unwrap_or (at here.now path.now) here.now)) }
+    {
         let term = here.at(path).unwrap_or(here);
         let nothing = Term::var(0, 0);
         let body = self.theory.derivative(number).unwrap_or(&nothing);
-        let params = Rc::new(self.alloc, matching(self.alloc, body, term)?)?;
-        Ok(Rc::new(self.alloc, Held { number, params })?)
+        let values = matching(self.alloc, body, term)?;
+        let params = Rc::new(self.alloc, values).map_err(AllocError::from)?;
+        Rc::new(self.alloc, Held { number, params }).map_err(AllocError::from)
     }
 }
 
 impl Changes {
     // Those after the next one.
-    fn after(&self) -> Result<Changes, Halt> {
+    fn after(&self) -> Result<Changes, AllocError>
+        requires { self.now.done < length self.now.paths.value.items }
+        ensures { IfOk result (λ x. (fr : TheFrame) (here : Tree) → changes_job fr x here ≡
+            changes_job fr (record self.now { done = self.now.done + 1 }) here) }
+    {
         Ok(Changes {
             call: self.call.clone()?,
             layers: self.layers.share()?,
