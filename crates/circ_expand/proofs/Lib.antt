@@ -42,3 +42,5 @@ pub mod Fronting
 pub mod Leaving
 pub mod Opened
 pub mod Stacked
+pub mod Staging
+pub mod Beginning

@@ -48,3 +48,7 @@ by_of b = with_overs (valued_by b.base.value) b.overs.items
 abbrev pub plugged_by : Option Plugged → Substitution → Substitution
 plugged_by None σ = σ
 plugged_by (Some p) σ = plug p.hole p.term σ
+
+-- a variable with what a substitution gives it
+abbrev pub bound_by : Substitution → TheVariable → Bound
+bound_by σ v = record { number = v.number; sort = v.sort; term = σ v.number v.sort }

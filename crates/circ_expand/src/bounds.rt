@@ -2,12 +2,13 @@
 ghost use Rattle.std.specs.Prelude.{◌≡◌, IfOk, map};
 ghost use Rattle.circ_expand.specs.Expand.{bounds_of};
 ghost use Rattle.circ_expand.specs.Rows.{given_bound};
-ghost use Rattle.circ_expand.specs.Valuations.{by_of};
+ghost use Rattle.circ_expand.specs.Valuations.{by_of, variable_of, bound_by};
 
 use crate::by::By;
 use crate::rows::Given;
+use crate::valuation::Variable;
 use crate::variables::variables_of;
-use circ_term::{Term, TermFault};
+use circ_term::Term;
 use std::alloc::{AllocError, Global};
 
 // The variables of both terms, by number, then sort, with what the substitution gives them.
@@ -22,13 +23,23 @@ pub(crate) fn bounds_of(
 {
     let variables = variables_of(alloc, old, new, &[])?;
     let mut bounds = Vec::new(alloc);
-    for variable in variables.iter() {
-        let term = by.value(variable.number, variable.sort)?;
-        bounds.push(Given {
-            number: variable.number,
-            sort: variable.sort,
-            term,
-        })?;
+    let mut rest = variables.iter();
+    while let Some(variable) = rest.next() {
+        let one = bound(by, variable)?;
+        bounds.push(one)?;
     }
     Ok(bounds)
+}
+
+// One variable with what the substitution gives it.
+fn bound(by: &By, variable: &Variable) -> Result<Given, AllocError>
+    ensures { IfOk result (λ g. given_bound g ≡
+        bound_by (by_of by.now) (variable_of variable.now)) }
+{
+    let term = by.value(variable.number, variable.sort)?;
+    Ok(Given {
+        number: variable.number,
+        sort: variable.sort,
+        term,
+    })
 }

@@ -15,21 +15,42 @@ pub(crate) enum Node {
     // A row of nothing.
     Empty,
     // A link behind a row.
-    Link { first: usize, row: Row },
+    Link {
+        first: usize,
+        row: Row,
+    },
     // A row behind another, in a way.
-    Behind { first: usize, way: Way, next: usize },
+    Behind {
+        first: usize,
+        way: Way,
+        next: usize,
+    },
     // A row between two others, of which the second is turned.
-    Between { left: usize, middle: usize, right: usize },
+    Between {
+        left: usize,
+        middle: usize,
+        right: usize,
+    },
     // No parts of cases.
     NoPart,
     // A row as the first part of cases.
-    Part { first: usize, others: usize },
+    Part {
+        first: usize,
+        others: usize,
+    },
     // A row of cases with their parts.
-    Cases { term: Term, parts: usize },
+    Cases {
+        term: Term,
+        parts: usize,
+    },
 }
 
 // Puts a node last, and its number.
-pub(crate) fn put_node(nodes: &mut Vec<Node>, stack: &mut Vec<usize>, node: Node) -> Result<(), AllocError>
+pub(crate) fn put_node(
+    nodes: &mut Vec<Node>,
+    stack: &mut Vec<usize>,
+    node: Node,
+) -> Result<(), AllocError>
     requires whole { AreValues nodes.old.items stack.old.items }
     requires before { IsNodeAt (length nodes.old.items) node }
     ensures whole { AreValues nodes.new.items stack.new.items }

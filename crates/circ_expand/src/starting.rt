@@ -61,12 +61,7 @@ pub(crate) fn experiment(
 }
 
 // One entry on a term.
-fn on_one(
-    alloc: Global,
-    theory: &Theory,
-    entry: &Rc<Held>,
-    term: &Term,
-) -> Result<Term, TermFault>
+fn on_one(alloc: Global, theory: &Theory, entry: &Rc<Held>, term: &Term) -> Result<Term, TermFault>
     ensures { Builds result (on (bare_entries (entries_of theory.now (entry.now ∷ []))) term.now) }
 {
     term.known();
@@ -108,12 +103,17 @@ fn start_of(
 {
     let inner = start_application(alloc, place, decl)?;
     let params = start_parameters(alloc, theory, derivative, decl.args.len() as u64)?;
-    let held = Held {
-        number: derivative,
-        params: Rc::new(alloc, params).map_err(AllocError::from)?,
-    };
-    let held = Rc::new(alloc, held).map_err(AllocError::from)?;
+    let held = held(alloc, derivative, params)?;
     on_one(alloc, theory, &held, &inner)
+}
+
+// An entry of the derivative of this number.
+fn held(alloc: Global, number: u32, params: Valuation) -> Result<Rc<Held>, AllocError>
+    ensures number { IfOk result (λ h. h.value.number ≡ number) }
+    ensures params { IfOk result (λ h. h.value.params.value ≡ params) }
+{
+    let params = Rc::new(alloc, params).map_err(AllocError::from)?;
+    Rc::new(alloc, Held { number, params }).map_err(AllocError::from)
 }
 
 // Variables numbered from `first` for the parameters of a derivative.

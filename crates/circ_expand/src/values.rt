@@ -127,7 +127,11 @@ impl Values {
         let Some(first) = take_row(self.nodes.as_slice(), &mut self.stack) else {
             return Ok(false);
         };
-        put_node(&mut self.nodes, &mut self.stack, Node::Part { first, others })?;
+        put_node(
+            &mut self.nodes,
+            &mut self.stack,
+            Node::Part { first, others },
+        )?;
         Ok(true)
     }
 
@@ -139,7 +143,11 @@ impl Values {
         let Some(parts) = take_parts(self.nodes.as_slice(), &mut self.stack) else {
             return Ok(false);
         };
-        put_node(&mut self.nodes, &mut self.stack, Node::Cases { term, parts })?;
+        put_node(
+            &mut self.nodes,
+            &mut self.stack,
+            Node::Cases { term, parts },
+        )?;
         Ok(true)
     }
 }

@@ -38,11 +38,7 @@ impl Values {
 }
 
 // The same of these nodes and numbers.
-fn last_rows(
-    alloc: Global,
-    nodes: &[Node],
-    stack: &[usize],
-) -> Result<Option<Vec<Row>>, AllocError>
+fn last_rows(alloc: Global, nodes: &[Node], stack: &[usize]) -> Result<Option<Vec<Row>>, AllocError>
     requires { AreValues nodes.now stack.now }
     ensures { IfOk result (IsLastRow (values_in nodes.now stack.now)) }
 {
@@ -56,11 +52,7 @@ fn last_rows(
 }
 
 // The rows of the value of this number, if it is a row.
-fn rows_alone(
-    alloc: Global,
-    nodes: &[Node],
-    number: usize,
-) -> Result<Option<Vec<Row>>, AllocError>
+fn rows_alone(alloc: Global, nodes: &[Node], number: usize) -> Result<Option<Vec<Row>>, AllocError>
     requires nodes { AreNodesFrom 0 nodes.now }
     requires within { number < length nodes.now }
     ensures { IfOk result (IsLastRow (value_of (rope_at nodes.now number) ∷ [])) }
@@ -240,12 +232,7 @@ fn open_three(
 }
 
 // Opens the row of cases, their parts, and the row at their end.
-fn open_cases(
-    ahead: &mut Vec<Open>,
-    way: Way,
-    term: &Term,
-    parts: usize,
-) -> Result<(), AllocError>
+fn open_cases(ahead: &mut Vec<Open>, way: Way, term: &Term, parts: usize) -> Result<(), AllocError>
     ensures { OnOk result (ahead.new.items ≡ ahead.old.items ++ cases_open term.now parts way) }
 {
     ahead.push(Open::Ready { row: Row::End })?;
@@ -280,12 +267,7 @@ fn open_parts(
 }
 
 // Opens a part, with the row before it, and the other parts.
-fn open_part(
-    ahead: &mut Vec<Open>,
-    way: Way,
-    first: usize,
-    others: usize,
-) -> Result<(), AllocError>
+fn open_part(ahead: &mut Vec<Open>, way: Way, first: usize, others: usize) -> Result<(), AllocError>
     ensures { OnOk result (ahead.new.items ≡ ahead.old.items ++ part_open first others way) }
 {
     ahead.push(Open::Parts {
