@@ -20,7 +20,7 @@ use Rattle.circ_expand.specs.Pieces.{Piece, Pieces, Parts, Equation_piece, Conte
 use Rattle.circ_expand.specs.Pieces.{pieces_joined, turned}
 use Rattle.circ_expand.specs.Expand.{Spending, Yields, Long, Past, Stopped, continued, counted, tested, all_tested, Layer, At_place, By_entry, Background}
 use Rattle.circ_expand.specs.Expand.{Call, Expander, base, whole_with, around, and_piece, and_pieces, by_way, followed_at, Basis, basis, link_setting, bounds_of}
-use Rattle.circ_expand.specs.Expand.{hypothesis_call, links_written, cases_at, case_basis, case_call, whys_written, each_why, derive_call, simplified_call}
+use Rattle.circ_expand.specs.Expand.{start_of, places_on, hypothesis_call, links_written, cases_at, case_basis, case_call, whys_written, each_why, derive_call, simplified_call}
 use Rattle.circ_expand.specs.Expand.{basis_in, ex, ly, single_use, uses, Case, Visible_case, Place_case, Hidden_case, No_case, guard_case, paths_of, arg_sort}
 use Rattle.circ_expand.specs.Expand.{start_at, occurrence_call, occurrence_use, occurrences_written, derived_place, certified_call, no_basis, left_here}
 use Rattle.circ_expand.specs.Expand.{right_here, through_place, stood, link_terms, trail, place_terms}
@@ -44,7 +44,16 @@ hypothesis_under : (A : List Pair) (f : Background) (c : Call) (h : Followed) (w
     → hypothesis_call f (under A c) h way path t u τ ≡ under A (hypothesis_call f c h way path t u τ)
 hypothesis_under A f c h way path t u τ = go (is_hidden f.theory (sort_of (goal_in h.history).left))
   where
-    go : (b : Bool) → _
+    w : Tree
+    w = start_of way (around c t) (around c u)
+
+    go : (b : Bool)
+        → (if b
+        then record (under A c) { whole = w; along = Some (places_on (instance c.by t) path); goal = h; by = τ }
+        else record (under A c) { whole = w; path = base c ++ path; entries = []; along = None; goal = h; by = τ })
+        ≡ under A (if b
+        then record c { whole = w; along = Some (places_on (instance c.by t) path); goal = h; by = τ }
+        else record c { whole = w; path = base c ++ path; entries = []; along = None; goal = h; by = τ })
     go true = refl
     go false = refl
 

@@ -44,3 +44,8 @@ pub mod Opened
 pub mod Stacked
 pub mod Staging
 pub mod Beginning
+pub mod Advancing
+pub mod Earlier
+pub mod Parting
+pub mod Counting
+pub mod AtPlaces

@@ -1,0 +1,152 @@
+-- The step of a use at a place, and that of an occurrence.
+use Rattle.std.proofs.Common.{◌≡◌, ◌≤◌, ◌<◌, ℕ, ◌+◌, Bool, true, List, [], ◌∷◌, ◌++◌, zero, suc, map, drop, take, length, min, Option, Some, None, unwrap_or, refl, ap, sym, ◌∙◌, subst, arith}
+use Rattle.std.specs.List.{slice_get}
+use Rattle.std.specs.Option.{option_map}
+use Rattle.std.specs.Global.{Vec}
+use Rattle.circ_term.specs.Tree.{Tree, sort_of, trees_of, args_of, at}
+use Rattle.circ_term.specs.Limits.{Names}
+use Rattle.circ_term.specs.Substitution.{Substitution, instance}
+use Rattle.circ_term.specs.declared.fault.TermFault.{TermFault}
+use Rattle.circ_theory.specs.declared.way.Way.TheVariants.{Forth}
+use Rattle.circ_rewrite.specs.Matching.{matching}
+use Rattle.circ_special.specs.declared.place.Place.{Place}
+use Rattle.circ_special.specs.Special.{place}
+use Rattle.circ_entry.specs.Entries.{Numbered, derivative_at}
+use Rattle.circ_expand.specs.Followed.{put_or_same, led_all}
+use Rattle.circ_expand.specs.Pieces.{Pieces, no_piece}
+use Rattle.circ_expand.specs.Expand.{Spending, Yields, Stopped, counted, tested, all_tested, Call as Use, Layer, At_place, By_entry, layered, risen, start_at, no_basis, certified_call}
+use Rattle.circ_expand.specs.Expand.{trail, paths_of, arg_sort, whole_with, place_terms, guard_case, occurrence_call}
+use Rattle.circ_expand.specs.Machine.{Value, In_row, Pending, pending, Task as Job, Links as Links_job, Occurrences, Empty_row, Put_behind, Put_between, place_step, case_step}
+use Rattle.circ_expand.specs.Machine.{occurrences_step, all_uses, on_row}
+use Rattle.circ_expand.specs.Nodes.{ends_in_row}
+use Rattle.circ_expand.specs.Paths.{plain_paths}
+use Rattle.circ_expand.specs.Uses.{first_of}
+use Rattle.circ_expand.specs.Values.{values_of}
+use Rattle.circ_expand.specs.Valuations.{by_of}
+use Rattle.circ_expand.specs.Tasks.{call_of, basis_of, background_in, jobs_of, pending_of, links_at, place_of, place_stepped, certificate_setting, certificate_terms}
+use Rattle.circ_expand.specs.Tasks.{IsCertificate, left_side, right_side, AreEnds, begun_place, changes_job, change_stepped, stepped, layers_in}
+use Rattle.circ_expand.specs.declared.calls.Frame.{Frame}
+use Rattle.circ_expand.specs.declared.calls.Call.{Call}
+use Rattle.circ_expand.specs.declared.place_steps.Certificate.{Certificate}
+use Rattle.circ_expand.specs.declared.place_steps.Ends.{Ends}
+use Rattle.circ_expand.specs.declared.tasks.Changes.{Changes}
+use Rattle.circ_expand.specs.declared.tasks.Work.{Work}
+use Rattle.circ_expand.proofs.Stepping.{tests_none, tests_append, names_tests, row_there, on_last}
+use Rattle.circ_expand.proofs.Guarding.{drop_at}
+use Rattle.circ_expand.proofs.Background.{got_map, outside}
+
+-- ---- places
+
+-- what stands at the place, within the layers
+abbrev pub through_layers : Tree → (arg : ℕ) → List Layer → Numbered → List Layer
+through_layers t i xs e = By_entry e ∷ At_place (place_of t i).op (sort_of t) i (trees_of (args_of t)) ∷ xs
+
+abbrev pub place_tests : Frame → Call → Tree → (arg : ℕ) → List Layer → Numbered → List Tree
+place_tests fr c t i xs e =
+    place_terms (all_uses (background_in fr)) (background_in fr) (call_of fr c) (place_of t i) (sort_of t) (trees_of (args_of t)) xs e
+
+-- no entry is left
+pub place_end : (fr : Frame) (c : Call) (t : Tree) (i : ℕ) (xs : List Layer) (w : Work) → (call_of fr c).entries ≡ [] → place_stepped fr c t i xs w ≡ Stopped
+place_end fr c t i xs w e =
+    let f = background_in fr in
+    ap (λ es. place_step (all_uses f) f (call_of fr c) (place_of t i) (sort_of t) (trees_of (args_of t)) xs es (jobs_of fr w) (values_of w.values) w.left) e
+
+-- what is put in the place of the use
+abbrev pub place_jobs : Frame → Call → Tree → (arg : ℕ) → List Layer → Numbered → List Numbered → List Job → List Job
+place_jobs fr c t i xs e cs js =
+    let f = background_in fr in
+    let run = all_uses f in
+    let g = place_of t i in
+    let d = call_of fr c in
+    let start = start_at fr.theory.now g e.entry.derivative in
+    let ls = f.certificate g e.number in
+    let σ = matching start (layered (through_layers t i xs e) (left_side fr c)) in
+    let τ = matching start (layered (through_layers t i xs e) (right_side fr c)) in
+    let b = no_basis run f in
+    let last = led_all (certificate_setting fr) ls start in
+    Links_job (certified_call run f d cs σ) b ls start ∷ Empty_row ∷ Links_job (certified_call run f d cs τ) b ls start ∷ Empty_row
+    ∷ Occurrences (record d { entries = cs }) xs (layered xs (right_side fr c)) last (paths_of 0 (arg_sort fr.theory.now g) last) (instance σ last)
+    ∷ Put_between ∷ js
+
+pub place_first : (fr : Frame) (c : Call) (t : Tree) (i : ℕ) (xs : List Layer) (w : Work) (e : Numbered) (cs : List Numbered) → (call_of fr c).entries ≡ e ∷ cs
+    → place_stepped fr c t i xs w
+    ≡ all_tested (place_tests fr c t i xs e) (Yields (pending (place_jobs fr c t i xs e cs (jobs_of fr w)) (In_row no_piece ∷ values_of w.values)) w.left)
+place_first fr c t i xs w e cs h =
+    let f = background_in fr in
+    ap (λ es. place_step (all_uses f) f (call_of fr c) (place_of t i) (sort_of t) (trees_of (args_of t)) xs es (jobs_of fr w) (values_of w.values) w.left) h
+
+-- its terms are those of the certificate and of both ends
+pub place_certified : (fr : Frame) (c : Call) (t : Tree) (i : ℕ) (xs : List Layer) (e : Numbered) (o : Spending Pending)
+    → e.entry.derivative ≡ derivative_at fr.theory.now e.number
+    → all_tested (place_tests fr c t i xs e) o
+    ≡ all_tested (certificate_terms fr (place_of t i) e.number)
+    (all_tested (risen (through_layers t i xs e) (left_side fr c) ++ risen (through_layers t i xs e) (right_side fr c)) o)
+place_certified fr c t i xs e o h =
+    let f = background_in fr in
+    let g = place_of t i in
+    let ends = risen (through_layers t i xs e) (left_side fr c) ++ risen (through_layers t i xs e) (right_side fr c) in
+    let T : Tree → List Tree = λ s. s ∷ trail (certificate_setting fr) (f.certificate g e.number) s in
+    ap (λ d. all_tested (T (start_at fr.theory.now g d) ++ ends) o) h
+    ∙ tests_append (certificate_terms fr g e.number) ends o
+
+pub place_begun : (fr : Frame) (c : Call) (t : Tree) (i : ℕ) (xs : List Layer) (e : Numbered) (cs : List Numbered) (x : Certificate) (y : Ends) (js : List Job)
+    → e.entry.derivative ≡ derivative_at fr.theory.now e.number
+    → IsCertificate fr (place_of t i) e.number x → AreEnds fr c x.start xs (through_layers t i xs e) y
+    → begun_place fr c (place_of t i) xs cs x y js ≡ place_jobs fr c t i xs e cs js
+place_begun fr c t i xs e cs x y js h ce en =
+    let f = background_in fr in
+    let run = all_uses f in
+    let d = call_of fr c in
+    let g = place_of t i in
+    let start = start_at fr.theory.now g e.entry.derivative in
+    let ls = f.certificate g e.number in
+    let at_left = layered (through_layers t i xs e) (left_side fr c) in
+    let at_right = layered (through_layers t i xs e) (right_side fr c) in
+    let s : x.start ≡ start = ce.start ∙ ap (start_at fr.theory.now g) (sym h) in
+    let z : x.last ≡ led_all (certificate_setting fr) ls start = ce.last ∙ ap (led_all (certificate_setting fr) ls) s in
+    let l : by_of y.left.value ≡ matching start at_left = en.left ∙ ap (λ u. matching u at_left) s in
+    let r : by_of y.right.value ≡ matching start at_right = en.right ∙ ap (λ u. matching u at_right) s in
+    λ j. Links_job (certified_call run f d cs (l j)) (ce.basis j) (ce.links j) (s j) ∷ Empty_row
+        ∷ Links_job (certified_call run f d cs (r j)) (ce.basis j) (ce.links j) (s j) ∷ Empty_row
+        ∷ Occurrences (record d { entries = cs }) xs (en.new j) (z j) (paths_of 0 (arg_sort fr.theory.now g) (z j)) (instance (l j) (z j))
+        ∷ Put_between ∷ js
+
+-- ---- occurrences
+
+pub paths_end : (fr : Frame) (c : Use) (xs : List Layer) (b last : Tree) (ps : List (List ℕ)) (here : Tree) (js : List Job) (vs : List Value) (n : ℕ) → ps ≡ []
+    → ends_in_row vs ≡ true
+    → on_row vs (λ v us. occurrences_step (all_uses (background_in fr)) (background_in fr) c xs b last ps here js v us n) ≡ Yields (pending js vs) n
+paths_end fr c xs b last ps here js vs n e r =
+    let f = background_in fr in
+    let x = row_there vs r in
+    ap (λ us. on_row us (λ v us. occurrences_step (all_uses f) f c xs b last ps here js v us n)) x.2
+    ∙ ap (λ l. occurrences_step (all_uses f) f c xs b last l here js x.0 x.1 n) e ∙ ap (λ us. Yields (pending js us) n) (sym x.2)
+
+pub no_path : (ps : List (Vec ℕ)) (k : ℕ) → slice_get ps k ≡ None → drop k (plain_paths ps) ≡ []
+no_path [] zero e = refl
+no_path [] (suc k) e = refl
+no_path (p ∷ ps) zero e = absurd (cc)
+no_path (p ∷ ps) (suc k) e = no_path ps k e
+
+pub a_path : (ps : List (Vec ℕ)) (k : ℕ) (p : Vec ℕ) → slice_get ps k ≡ Some p → drop k (plain_paths ps) ≡ p.items ∷ drop (k + 1) (plain_paths ps)
+a_path ps k p e =
+    drop_at (plain_paths ps) k p.items (got_map (λ (v : Vec ℕ). v.items) ps k ∙ ap (option_map (λ (v : Vec ℕ). v.items)) e)
+
+-- the first occurrence that is left
+pub change_first : (fr : Frame) (x : Changes) (here : Tree) (w : Work) (p : Vec ℕ) (v : Pieces) (us : List Value)
+    → slice_get x.paths.value.items x.done ≡ Some p → values_of w.values ≡ In_row v ∷ us
+    → stepped fr (changes_job fr x here) w ≡ change_stepped fr x p.items here v us w
+change_first fr x here w p v us e h =
+    let f = background_in fr in
+    let c = call_of fr x.call.value in
+    let xs = layers_in fr x.layers in
+    let F : List (List ℕ) → Pieces → List Value → Spending Pending = λ ps r vs. occurrences_step (all_uses f) f c xs x.new x.last ps here (jobs_of fr w) r vs w.left in
+    on_last (values_of w.values) (F (drop x.done (plain_paths x.paths.value.items))) v us h
+    ∙ ap (λ ps. F ps v us) (a_path x.paths.value.items x.done p e)
+
+pub take_within : {X : Type 0} (n : ℕ) (xs : List X) → take (min n (length xs)) xs ≡ take n xs
+take_within zero xs = let z : min 0 (length xs) ≡ 0 = omega arith in ap (λ k. take k xs) z
+take_within {X = X} (suc n) [] = let z : min (suc n) 0 ≡ 0 = omega arith in ap (λ k. take {A = X} k []) z
+take_within (suc n) (x ∷ xs) =
+    let z : min (suc n) (suc (length xs)) ≡ suc (min n (length xs)) = omega arith in
+    ap (λ k. take k (x ∷ xs)) z ∙ ap (λ ys. x ∷ ys) (take_within n xs)
