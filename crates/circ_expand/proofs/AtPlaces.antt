@@ -3,8 +3,10 @@ use Rattle.std.proofs.Common.{◌≡◌, ◌≤◌, ◌<◌, ℕ, ◌+◌, Bool,
 use Rattle.std.specs.List.{slice_get}
 use Rattle.std.specs.Option.{option_map}
 use Rattle.std.specs.Global.{Vec}
+use Rattle.std.specs.declared.rc.Rc.{Rc}
+use Rattle.std.proofs.Common.{Global}
 use Rattle.circ_term.specs.Tree.{Tree, sort_of, trees_of, args_of, at}
-use Rattle.circ_term.specs.Limits.{Names}
+use Rattle.circ_term.specs.Limits.{Names, first_limit}
 use Rattle.circ_term.specs.Substitution.{Substitution, instance}
 use Rattle.circ_term.specs.declared.fault.TermFault.{TermFault}
 use Rattle.circ_theory.specs.declared.way.Way.TheVariants.{Forth}
@@ -15,8 +17,8 @@ use Rattle.circ_entry.specs.Entries.{Numbered, derivative_at}
 use Rattle.circ_expand.specs.Followed.{put_or_same, led_all}
 use Rattle.circ_expand.specs.Pieces.{Pieces, no_piece}
 use Rattle.circ_expand.specs.Expand.{Spending, Yields, Stopped, counted, tested, all_tested, Call as Use, Layer, At_place, By_entry, layered, risen, start_at, no_basis, certified_call}
-use Rattle.circ_expand.specs.Expand.{trail, paths_of, arg_sort, whole_with, place_terms, guard_case, occurrence_call}
-use Rattle.circ_expand.specs.Machine.{Value, In_row, Pending, pending, Task as Job, Links as Links_job, Occurrences, Empty_row, Put_behind, Put_between, place_step, case_step}
+use Rattle.circ_expand.specs.Expand.{trail, paths_of, arg_sort, whole_with, place_terms, guard_case, occurrence_call, No_case}
+use Rattle.circ_expand.specs.Machine.{Value, In_row, Pending, pending, Task as Job, Links as Links_job, Occurrences, Empty_row, Put_behind, Put_between, place_step, case_step, Enter_use}
 use Rattle.circ_expand.specs.Machine.{occurrences_step, all_uses, on_row}
 use Rattle.circ_expand.specs.Nodes.{ends_in_row}
 use Rattle.circ_expand.specs.Paths.{plain_paths}
@@ -24,14 +26,16 @@ use Rattle.circ_expand.specs.Uses.{first_of}
 use Rattle.circ_expand.specs.Values.{values_of}
 use Rattle.circ_expand.specs.Valuations.{by_of}
 use Rattle.circ_expand.specs.Tasks.{call_of, basis_of, background_in, jobs_of, pending_of, links_at, place_of, place_stepped, certificate_setting, certificate_terms}
-use Rattle.circ_expand.specs.Tasks.{IsCertificate, left_side, right_side, AreEnds, begun_place, changes_job, change_stepped, stepped, layers_in}
+use Rattle.circ_expand.specs.Tasks.{IsCertificate, left_side, right_side, AreEnds, begun_place, changes_job, change_stepped, stepped, layers_in, Halts, FindsCase}
+use Rattle.circ_expand.specs.declared.tasks.Halt.TheVariants as halt
 use Rattle.circ_expand.specs.declared.calls.Frame.{Frame}
 use Rattle.circ_expand.specs.declared.calls.Call.{Call}
 use Rattle.circ_expand.specs.declared.place_steps.Certificate.{Certificate}
 use Rattle.circ_expand.specs.declared.place_steps.Ends.{Ends}
 use Rattle.circ_expand.specs.declared.tasks.Changes.{Changes}
 use Rattle.circ_expand.specs.declared.tasks.Work.{Work}
-use Rattle.circ_expand.proofs.Stepping.{tests_none, tests_append, names_tests, row_there, on_last}
+use Rattle.circ_expand.proofs.Stepping.{tests_none, tested_none, tests_append, names_tests, names_tested, names_first, names_later, names_alone, first_more, first_alone, halts_past}
+use Rattle.circ_expand.proofs.Stepping.{counted_one, row_there, on_last}
 use Rattle.circ_expand.proofs.Guarding.{drop_at}
 use Rattle.circ_expand.proofs.Background.{got_map, outside}
 
@@ -111,6 +115,39 @@ place_begun fr c t i xs e cs x y js h ce en =
         ∷ Occurrences (record d { entries = cs }) xs (en.new j) (z j) (paths_of 0 (arg_sort fr.theory.now g) (z j)) (instance (l j) (z j))
         ∷ Put_between ∷ js
 
+-- the certificate is past a limit, or an end is
+pub place_past : (fr : Frame) (c : Call) (t : Tree) (i : ℕ) (xs : List Layer) (w : Work) (e : Numbered) (cs : List Numbered) → (call_of fr c).entries ≡ e ∷ cs
+    → e.entry.derivative ≡ derivative_at fr.theory.now e.number → (k : TermFault) → Names k (first_of (certificate_terms fr (place_of t i) e.number))
+    → Halts (place_stepped fr c t i xs w) (halt.Past k)
+place_past fr c t i xs w e cs h d k n =
+    let o : Spending Pending = Yields (pending (place_jobs fr c t i xs e cs (jobs_of fr w)) (In_row no_piece ∷ values_of w.values)) w.left in
+    let ends = all_tested (risen (through_layers t i xs e) (left_side fr c) ++ risen (through_layers t i xs e) (right_side fr c)) o in
+    let terms = certificate_terms fr (place_of t i) e.number in
+    halts_past (place_stepped fr c t i xs w) (all_tested terms ends) k (place_first fr c t i xs w e cs h ∙ place_certified fr c t i xs e o d) (names_tests terms ends k n)
+
+pub place_ends_past : (fr : Frame) (c : Call) (t : Tree) (i : ℕ) (xs : List Layer) (w : Work) (e : Numbered) (cs : List Numbered) → (call_of fr c).entries ≡ e ∷ cs
+    → e.entry.derivative ≡ derivative_at fr.theory.now e.number → first_of (certificate_terms fr (place_of t i) e.number) ≡ None → (k : TermFault)
+    → Names k (first_of (risen (through_layers t i xs e) (left_side fr c) ++ risen (through_layers t i xs e) (right_side fr c)))
+    → Halts (place_stepped fr c t i xs w) (halt.Past k)
+place_ends_past fr c t i xs w e cs h d none k n =
+    let o : Spending Pending = Yields (pending (place_jobs fr c t i xs e cs (jobs_of fr w)) (In_row no_piece ∷ values_of w.values)) w.left in
+    let ends = risen (through_layers t i xs e) (left_side fr c) ++ risen (through_layers t i xs e) (right_side fr c) in
+    let terms = certificate_terms fr (place_of t i) e.number in
+    halts_past (place_stepped fr c t i xs w) (all_tested ends o) k
+    (place_first fr c t i xs w e cs h ∙ place_certified fr c t i xs e o d ∙ tests_none terms (all_tested ends o) none) (names_tests ends o k n)
+
+pub place_on : (fr : Frame) (c : Call) (t : Tree) (i : ℕ) (xs : List Layer) (w new : Work) (e : Numbered) (cs : List Numbered) (x : Certificate) (y : Ends)
+    → (call_of fr c).entries ≡ e ∷ cs → e.entry.derivative ≡ derivative_at fr.theory.now e.number → IsCertificate fr (place_of t i) e.number x
+    → AreEnds fr c x.start xs (through_layers t i xs e) y → jobs_of fr new ≡ begun_place fr c (place_of t i) xs cs x y (jobs_of fr w)
+    → values_of new.values ≡ In_row no_piece ∷ values_of w.values → new.left ≡ w.left → place_stepped fr c t i xs w ≡ Yields (pending_of fr new) new.left
+place_on fr c t i xs w new e cs x y h d ce en js vs n =
+    let o : Spending Pending = Yields (pending (place_jobs fr c t i xs e cs (jobs_of fr w)) (In_row no_piece ∷ values_of w.values)) w.left in
+    let ends = risen (through_layers t i xs e) (left_side fr c) ++ risen (through_layers t i xs e) (right_side fr c) in
+    let terms = certificate_terms fr (place_of t i) e.number in
+    let jobs = js ∙ place_begun fr c t i xs e cs x y (jobs_of fr w) d ce en in
+    place_first fr c t i xs w e cs h ∙ place_certified fr c t i xs e o d ∙ tests_none terms (all_tested ends o) ce.within ∙ tests_none ends o en.within
+    ∙ (λ j. Yields (pending (sym jobs j) (sym vs j)) (sym n j))
+
 -- ---- occurrences
 
 pub paths_end : (fr : Frame) (c : Use) (xs : List Layer) (b last : Tree) (ps : List (List ℕ)) (here : Tree) (js : List Job) (vs : List Value) (n : ℕ) → ps ≡ []
@@ -150,3 +187,96 @@ take_within {X = X} (suc n) [] = let z : min (suc n) 0 ≡ 0 = omega arith in ap
 take_within (suc n) (x ∷ xs) =
     let z : min (suc n) (suc (length xs)) ≡ suc (min n (length xs)) = omega arith in
     ap (λ k. take k (x ∷ xs)) z ∙ ap (λ ys. x ∷ ys) (take_within n xs)
+
+-- ---- the step of an occurrence, test by test
+
+-- what is put in the place of the occurrences
+abbrev pub changed_on : Frame → Changes → (path : List ℕ) → (here : Tree) → Pieces → List Value → Work → ℕ → Spending Pending
+changed_on fr x p here v us w n =
+    let f = background_in fr in
+    let c = call_of fr x.call.value in
+    let k = guard_case f.theory f.places x.last p in
+    let u = put_or_same here p x.new in
+    case_step (all_uses f) f k (occurrence_call (all_uses f) f c (layers_in fr x.layers) here p k)
+    (Put_behind Forth ∷ Occurrences c (layers_in fr x.layers) x.new x.last (drop (x.done + 1) (plain_paths x.paths.value.items)) u ∷ jobs_of fr w) (In_row v ∷ us) n
+
+pub here_past : (fr : Frame) (x : Changes) (p : List ℕ) (here : Tree) (v : Pieces) (us : List Value) (w : Work) (e : TermFault) → first_limit here ≡ None
+    → Names e (first_limit (whole_with (call_of fr x.call.value) here)) → Halts (change_stepped fr x p here v us w) (halt.Past e)
+here_past fr x p here v us w e a n =
+    let c = call_of fr x.call.value in
+    let u = put_or_same here p x.new in
+    let G : ℕ → Spending Pending = λ m. tested u (tested (whole_with c u) (changed_on fr x p here v us w m)) in
+    names_tests (here ∷ whole_with c here ∷ []) (counted w.left G) e
+    (names_later here (whole_with c here ∷ []) e a (names_alone (whole_with c here) e n))
+
+pub here_on : (fr : Frame) (x : Changes) (p : List ℕ) (here : Tree) (v : Pieces) (us : List Value) (w : Work) → first_limit here ≡ None
+    → first_limit (whole_with (call_of fr x.call.value) here) ≡ None
+    → change_stepped fr x p here v us w
+    ≡ counted w.left (λ m. tested (put_or_same here p x.new) (tested (whole_with (call_of fr x.call.value) (put_or_same here p x.new)) (changed_on fr x p here v us w m)))
+here_on fr x p here v us w a b =
+    let c = call_of fr x.call.value in
+    let u = put_or_same here p x.new in
+    let G : ℕ → Spending Pending = λ m. tested u (tested (whole_with c u) (changed_on fr x p here v us w m)) in
+    tests_none (here ∷ whole_with c here ∷ []) (counted w.left G) (first_more here (whole_with c here ∷ []) a (first_alone (whole_with c here) b))
+
+pub next_past : (fr : Frame) (x : Changes) (p : List ℕ) (here : Tree) (v : Pieces) (us : List Value) (w : Work) (n : ℕ) (e : TermFault) → first_limit here ≡ None
+    → first_limit (whole_with (call_of fr x.call.value) here) ≡ None → w.left ≡ suc n → Names e (first_limit (put_or_same here p x.new))
+    → Halts (change_stepped fr x p here v us w) (halt.Past e)
+next_past fr x p here v us w n e a b l h =
+    let c = call_of fr x.call.value in
+    let u = put_or_same here p x.new in
+    let G : ℕ → Spending Pending = λ m. tested u (tested (whole_with c u) (changed_on fr x p here v us w m)) in
+    halts_past (change_stepped fr x p here v us w) (G n) e (here_on fr x p here v us w a b ∙ counted_one w.left n G l)
+    (names_tested u (tested (whole_with c u) (changed_on fr x p here v us w n)) e h)
+
+pub whole_past : (fr : Frame) (x : Changes) (p : List ℕ) (here : Tree) (v : Pieces) (us : List Value) (w : Work) (n : ℕ) (e : TermFault) → first_limit here ≡ None
+    → first_limit (whole_with (call_of fr x.call.value) here) ≡ None → w.left ≡ suc n → first_limit (put_or_same here p x.new) ≡ None
+    → Names e (first_limit (whole_with (call_of fr x.call.value) (put_or_same here p x.new))) → Halts (change_stepped fr x p here v us w) (halt.Past e)
+whole_past fr x p here v us w n e a b l d h =
+    let c = call_of fr x.call.value in
+    let u = put_or_same here p x.new in
+    let o = changed_on fr x p here v us w n in
+    let G : ℕ → Spending Pending = λ m. tested u (tested (whole_with c u) (changed_on fr x p here v us w m)) in
+    halts_past (change_stepped fr x p here v us w) (tested (whole_with c u) o) e
+    (here_on fr x p here v us w a b ∙ counted_one w.left n G l ∙ tested_none u (tested (whole_with c u) o) d) (names_tested (whole_with c u) o e h)
+
+pub changes_on : (fr : Frame) (x : Changes) (p : List ℕ) (here : Tree) (v : Pieces) (us : List Value) (w : Work) (n : ℕ) → first_limit here ≡ None
+    → first_limit (whole_with (call_of fr x.call.value) here) ≡ None → w.left ≡ suc n → first_limit (put_or_same here p x.new) ≡ None
+    → first_limit (whole_with (call_of fr x.call.value) (put_or_same here p x.new)) ≡ None
+    → change_stepped fr x p here v us w ≡ changed_on fr x p here v us w n
+changes_on fr x p here v us w n a b l d h =
+    let c = call_of fr x.call.value in
+    let u = put_or_same here p x.new in
+    let o = changed_on fr x p here v us w n in
+    let G : ℕ → Spending Pending = λ m. tested u (tested (whole_with c u) (changed_on fr x p here v us w m)) in
+    here_on fr x p here v us w a b ∙ counted_one w.left n G l ∙ tested_none u (tested (whole_with c u) o) d ∙ tested_none (whole_with c u) o h
+
+-- where no case holds nothing fits
+pub changed_none : (fr : Frame) (x : Changes) (p : List ℕ) (here : Tree) (v : Pieces) (us : List Value) (w : Work) (n : ℕ)
+    → guard_case fr.theory.now fr.gamma.now x.last p ≡ No_case → changed_on fr x p here v us w n ≡ Stopped
+changed_none fr x p here v us w n e =
+    let f = background_in fr in
+    let c = call_of fr x.call.value in
+    let u = put_or_same here p x.new in
+    ap (λ k. case_step (all_uses f) f k (occurrence_call (all_uses f) f c (layers_in fr x.layers) here p k)
+        (Put_behind Forth ∷ Occurrences c (layers_in fr x.layers) x.new x.last (drop (x.done + 1) (plain_paths x.paths.value.items)) u ∷ jobs_of fr w) (In_row v ∷ us) n) e
+
+pub changed_found : (fr : Frame) (x : Changes) (p : List ℕ) (here whole next : Tree) (v : Pieces) (us : List Value) (w new : Work) (d : Rc Call Global)
+    → FindsCase fr x whole p here (guard_case fr.theory.now fr.gamma.now x.last p) (Some d) → whole ≡ whole_with (call_of fr x.call.value) here
+    → next ≡ put_or_same here p x.new → values_of w.values ≡ In_row v ∷ us
+    → jobs_of fr new ≡ Enter_use (call_of fr d.value) ∷ Put_behind Forth ∷ changes_job fr (record x { done = x.done + 1 }) next ∷ jobs_of fr w
+    → values_of new.values ≡ values_of w.values → changed_on fr x p here v us w new.left ≡ Yields (pending_of fr new) new.left
+changed_found fr x p here whole next v us w new d found e q h js vs =
+    let c = call_of fr x.call.value in
+    let J : Tree → List Job = λ u. Put_behind Forth ∷ Occurrences c (layers_in fr x.layers) x.new x.last (drop (x.done + 1) (plain_paths x.paths.value.items)) u ∷ jobs_of fr w in
+    found e (J (put_or_same here p x.new)) (In_row v ∷ us) new.left
+    ∙ ap (λ u. Yields (pending (Enter_use (call_of fr d.value) ∷ J u) (In_row v ∷ us)) new.left) (sym q)
+    ∙ (let z : In_row v ∷ us ≡ values_of new.values = sym (vs ∙ h) in λ i. Yields (pending (sym js i) (z i)) new.left)
+
+pub first_past : (fr : Frame) (x : Changes) (p : List ℕ) (here : Tree) (v : Pieces) (us : List Value) (w : Work) (e : TermFault) → Names e (first_limit here)
+    → Halts (change_stepped fr x p here v us w) (halt.Past e)
+first_past fr x p here v us w e n =
+    let c = call_of fr x.call.value in
+    let u = put_or_same here p x.new in
+    let G : ℕ → Spending Pending = λ m. tested u (tested (whole_with c u) (changed_on fr x p here v us w m)) in
+    names_tests (here ∷ whole_with c here ∷ []) (counted w.left G) e (names_first here (whole_with c here ∷ []) e n)

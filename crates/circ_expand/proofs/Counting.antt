@@ -80,3 +80,8 @@ units_stay n m b k l (inr a) e h = a.0 ∙ e
 pub weight_falls : (n m b k l : ℕ) → (n < m) ⊎ ((n ≡ m) × (k < l)) → m ≡ b → b ≤ n → k < l
 weight_falls n m b k l (inl a) e h = absurd (omega (arith, a, e, h))
 weight_falls n m b k l (inr a) e h = a.1
+
+-- units, and one more while there are tasks
+pub run_less : {X : Type 0} (n m : ℕ) (xs ys : List X) → 1 ≤ length xs → (m < n) ⊎ ((m ≤ n) × (ys ≡ [])) → m + min 1 (length ys) < n + min 1 (length xs)
+run_less n m xs ys h (inl a) = omega (arith, a, h)
+run_less n m xs ys h (inr a) = let z = ap length a.1 in omega (arith, a.0, z, h)

@@ -49,3 +49,5 @@ pub mod Earlier
 pub mod Parting
 pub mod Counting
 pub mod AtPlaces
+pub mod Entering
+pub mod Writings

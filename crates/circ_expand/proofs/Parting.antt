@@ -10,20 +10,25 @@ use Rattle.circ_term.specs.declared.fault.TermFault.{TermFault}
 use Rattle.circ_theory.specs.Theory.{Pair, CaseList}
 use Rattle.circ_theory.specs.Derivable.{is_case}
 use Rattle.circ_theory.specs.Observing.{case_list}
-use Rattle.circ_proof.specs.Plain.{WhyOf, WhysOf, no_why, more_whys}
+use Rattle.circ_proof.specs.Plain.{WhyOf, WhysOf, no_why, more_whys, Split_why, plain_chain}
+use Rattle.circ_proof.specs.Link.{resolved_chain}
+use Rattle.circ_expand.specs.Followed.{led_all}
 use Rattle.circ_proof.specs.declared.links.Why.{Why, Same}
 use Rattle.circ_proof.specs.declared.links.Chain.{Chain}
 use Rattle.circ_theory.specs.declared.way.Way.TheVariants.{Back}
 use Rattle.circ_expand.specs.Pieces.{no_piece, no_part}
-use Rattle.circ_expand.specs.Expand.{Spending, Yields, Long, counted, tested, all_tested, Background, Call as Use, Basis as SideBasis, around, whole_with, stood, case_basis, cases_at}
-use Rattle.circ_expand.specs.Machine.{Value, In_row, In_parts, Put_behind, reason_step, Pending, pending, Task as Job, Give_reason, Give_reasons, Add_part, Begin_split, End_split, task_step, reasons_step}
+use Rattle.circ_expand.specs.Expand.{Spending, Yields, Long, counted, tested, all_tested, Background, Call as Use, Basis as SideBasis, around, whole_with, stood, trail, link_setting, case_basis, cases_at}
+use Rattle.circ_expand.specs.Machine.{Value, In_row, In_parts, Put_behind, Put_between, reason_step, Pending, pending, Task as Job, Give_reason, Give_reasons, Add_part, Begin_split, End_split, task_step, reasons_step}
 use Rattle.circ_expand.specs.Machine.{all_uses, rest_done, tasks_weight}
 use Rattle.circ_expand.specs.Uses.{first_of, BuildsLast}
 use Rattle.circ_expand.specs.Values.{values_of}
-use Rattle.circ_expand.specs.Tasks.{call_of, basis_of, background_in, jobs_of, pending_of, whys_at, why_at, reasons_job, split_term, case_list_of, assumed, stepped, IsAlike, reason_job, begun_sides, Halts}
+use Rattle.circ_expand.specs.Tasks.{call_of, basis_of, background_in, jobs_of, pending_of, whys_at, why_at, reasons_job, split_term, case_list_of, assumed, stepped, IsAlike, reason_job, begun_sides, links_at, Halts}
 use Rattle.circ_expand.specs.declared.tasks.Halt.TheVariants as halt
 use Rattle.circ_expand.specs.declared.tasks.Reason.{Reason}
 use Rattle.circ_expand.specs.declared.calls.Frame.{Frame}
+use Rattle.circ_expand.specs.declared.calls.Call.{Call}
+use Rattle.circ_expand.specs.declared.calls.Basis.{Basis}
+use Rattle.circ_expand.proofs.Rising.{none_first}
 use Rattle.circ_expand.specs.declared.tasks.Reasons.{Reasons}
 use Rattle.circ_expand.specs.declared.tasks.Work.{Work}
 use Rattle.circ_expand.proofs.Assuming.{under}
@@ -164,3 +169,29 @@ whole_builds c v t s (Ok u) a e b h =
 whole_builds c v t s (Err f) a e b h =
     let P : Tree → Type 0 = λ x. Names f (first_limit (whole_with c x)) in
     names_later (instance c.by v) (stood c t) f a (names_later (instance c.by t) (around c t ∷ []) f b (names_alone (around c t) f (subst P e h)))
+
+-- a split stands between the links of both sides
+pub split_begun : (fr : Frame) (b : Basis) (d : Call) (chain : Chain ℕ) (v s t : Tree) (ws : WhysOf Tree) (r : Reasons) (w new : Work)
+    → first_of (trail (link_setting (background_in fr) (basis_of fr b)) (links_at fr chain.left.items) s) ≡ None
+    → first_of (trail (link_setting (background_in fr) (basis_of fr b)) (links_at fr chain.right.items) t) ≡ None
+    → reasons_job fr r ≡ Give_reasons (call_of fr d) (basis_of fr b) ws v (cases_at (all_uses (background_in fr)) (background_in fr) (sort_of v))
+    (cases_at (all_uses (background_in fr)) (background_in fr) (sort_of v)).constants
+    (led_all (link_setting (background_in fr) (basis_of fr b)) (links_at fr chain.left.items) s)
+    (led_all (link_setting (background_in fr) (basis_of fr b)) (links_at fr chain.right.items) t)
+    → split_term r ≡ instance (call_of fr d).by v
+    → jobs_of fr new ≡ begun_sides fr d b chain s t (Begin_split (split_term r) ∷ reasons_job fr r ∷ End_split (split_term r) ∷ Put_between ∷ jobs_of fr w)
+    → values_of new.values ≡ In_row no_piece ∷ values_of w.values → new.left ≡ w.left
+    → reason_step (all_uses (background_in fr)) (background_in fr) (call_of fr d) (basis_of fr b) (Split_why (resolved_chain fr.table.now (plain_chain chain)) v ws) s t
+    (jobs_of fr w) (values_of w.values) w.left
+    ≡ Yields (pending_of fr new) new.left
+split_begun fr b d chain v s t ws r w new a e job term js vs n =
+    let f = background_in fr in
+    let S = link_setting f (basis_of fr b) in
+    let ls = links_at fr chain.left.items in
+    let rs = links_at fr chain.right.items in
+    let G : Job → Tree → Spending Pending = λ k u. Yields (pending (begun_sides fr d b chain s t (Begin_split u ∷ k ∷ End_split u ∷ Put_between ∷ jobs_of fr w))
+        (In_row no_piece ∷ values_of w.values)) w.left in
+    let l = cases_at (all_uses f) f (sort_of v) in
+    let first : Job = Give_reasons (call_of fr d) (basis_of fr b) ws v l l.constants (led_all S ls s) (led_all S rs t) in
+    tests_none (trail S ls s ++ trail S rs t) (G first (instance (call_of fr d).by v)) (none_first (trail S ls s) (trail S rs t) a ∙ e)
+    ∙ (λ i. G (sym job i) (sym term i)) ∙ (λ i. Yields (pending (sym js i) (sym vs i)) (sym n i))

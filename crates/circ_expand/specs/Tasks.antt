@@ -4,12 +4,12 @@ use Rattle.std.specs.Global.{Vec}
 use Rattle.std.specs.List.{slice_get, AllByRecursion}
 use Rattle.std.specs.Option.{option_map, option_map_or}
 use Rattle.circ_term.specs.Tree.{Tree, Var, sort_of, at, args_of, trees_of, operator_number}
-use Rattle.circ_term.specs.Limits.{Limit, Names}
+use Rattle.circ_term.specs.Limits.{Limit, Names, first_limit}
 use Rattle.circ_term.specs.declared.fault.TermFault.{TermFault}
 use Rattle.circ_term.specs.Substitution.{Substitution, instance}
 use Rattle.circ_theory.specs.Theory.{Pair, CaseList, Derivative}
 use Rattle.circ_theory.specs.Observing.{case_list, is_hidden}
-use Rattle.circ_theory.specs.Experiment.{on}
+use Rattle.circ_theory.specs.Experiment.{Entry as Entry_on, on}
 use Rattle.circ_theory.specs.Limits.{argument_limit}
 use Rattle.circ_entry.specs.declared.entries.Entry.{Entry}
 use Rattle.circ_theory.specs.Pairs.{plain_pair}
@@ -303,6 +303,11 @@ worked_in fr n cs k =
     (tested (on (bare_entries cs) (goal_in g.history).left) (tested (on (bare_entries cs) (goal_in g.history).right)
     (continued (rest_done (background_in fr) (pending (Begin_use (opening_of fr n cs) ∷ []) []) k) last_row)))
 
+-- the experiment on the first of two terms, where all terms that it makes of both are within the limits
+abbrev pub EndsIn : List Entry_on → (left right : Tree) → Result Tree TermFault → Type 0
+EndsIn es s t (Ok u) = (u ≡ on es s) × (first_of (stages es s ++ stages es t) ≡ None) × (first_limit (on es s) ≡ None) × (first_limit (on es t) ≡ None)
+EndsIn es s t (Err e) = Names e (first_of (stages es s ++ stages es t))
+
 -- its rows, or why there are none
 abbrev pub WritesOut : Spending Pieces → Result (Vec Row) Halt → Type 0
 WritesOut o (Ok rows) = (xs : Pieces) × (left : ℕ) × (o ≡ Yields xs left) × (map plain_row rows.items ≡ rows_of xs)
@@ -396,3 +401,8 @@ FindsCase fr x u p here k (Some d) =
     → case_step run (background_in fr) k (occurrence_call run (background_in fr) c (layers_in fr x.layers) here p k) js vs n
     ≡ Yields (pending (Enter_use (call_of fr d.value) ∷ js) vs) n
 FindsCase fr x u p here k None = k ≡ No_case
+
+-- the same use in this whole term along these layers
+abbrev pub IsAlong : Call → (whole : Tree) → Front Kept → Option (Rc Call Global) → Type 0
+IsAlong c u xs (Some d) = (fr : Frame) → call_of fr d.value ≡ record (call_of fr c) { whole = u; along = Some (layers_in fr xs) }
+IsAlong c u xs None = ⊥

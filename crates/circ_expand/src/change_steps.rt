@@ -3,14 +3,14 @@ ghost use Rattle.std.specs.Prelude.{◌≡◌, ◌<◌, ◌+◌, ◌∷◌, ◌+
 ghost use Rattle.circ_term.specs.Tree.{Tree, at};
 ghost use Rattle.circ_term.specs.Substitution.{instance};
 ghost use Rattle.circ_expand.specs.Pieces.{Pieces};
-ghost use Rattle.circ_expand.specs.Expand.{By_entry, entry_in, guard_case, places_on};
+ghost use Rattle.circ_expand.specs.Expand.{By_entry, entry_in, guard_case, places_on, Visible_case};
 ghost use Rattle.circ_expand.specs.Machine.{Value, In_row};
 ghost use Rattle.circ_expand.specs.Guards.{plain_guard};
 ghost use Rattle.circ_expand.specs.Uses.{held_by, layers_of, entries_of};
 ghost use Rattle.circ_expand.specs.Valuations.{by_of};
 ghost use Rattle.circ_expand.specs.Values.{values_of};
 ghost use Rattle.circ_expand.specs.Tasks.{Steps, stepped};
-ghost use Rattle.circ_expand.specs.Tasks.{changes_job, layers_in, change_stepped, FindsCase};
+ghost use Rattle.circ_expand.specs.Tasks.{changes_job, layers_in, change_stepped, FindsCase, IsAlong};
 ghost use Rattle.circ_expand.specs.declared.calls.Frame.{Frame as TheFrame};
 
 use crate::by::By;
@@ -22,7 +22,7 @@ use crate::tasks::{Changes, Halt, Task, Work};
 use crate::uses::{Held, Layer, add_places, put};
 use circ_term::Term;
 use circ_theory::Way;
-use std::alloc::AllocError;
+use std::alloc::{AllocError, Global};
 use std::rc::Rc;
 
 impl<'a> Frame<'a, '_> {
@@ -80,6 +80,7 @@ impl<'a> Frame<'a, '_> {
             Steps self.now (change_stepped self.now changes.now path.now here v us work.old)
             work.new result }
     {
+        here.known();
         let call = &changes.call;
         let whole = match self.whole_with(call, &here) {
             Ok(whole) => whole,
@@ -137,30 +138,47 @@ impl<'a> Frame<'a, '_> {
         ensures { IfOk result (FindsCase self.now changes.now whole path.now here.now
             (plain_guard path.now guard)) }
     {
-        let mut next = changes.call.share()?;
-        next.whole = whole;
         match guard {
             Guard::Visible { number, above } => {
                 let above = &path[..above.min(path.len())];
-                let entries = self.entry_at(number, here, above)?;
-                let path = self.below(&changes.call, above)?;
-                next.path = Rc::new(self.alloc, path).map_err(AllocError::from)?;
-                next.entries = Front::of(self.alloc, entries)?;
-                next.along = Some(changes.layers.share()?);
+                self.visible_call(changes, whole, here, number, above)
             }
             Guard::Place => {
                 let layers = changes.layers.to_vec(self.alloc)?;
-                next.along = Some(self.with_places(here, path, layers)?);
+                let along = self.with_places(here, path, layers)?;
+                with_layers(self.alloc, &changes.call, whole, along)
             }
             Guard::Hidden { number, above } => {
                 let above = &path[..above.min(path.len())];
                 let mut layers = changes.layers.to_vec(self.alloc)?;
                 self.add_entry_at(number, here, above, &mut layers)?;
-                next.along = Some(self.with_places(here, above, layers)?);
+                let along = self.with_places(here, above, layers)?;
+                with_layers(self.alloc, &changes.call, whole, along)
             }
-            Guard::Nothing => return Ok(None),
+            Guard::Nothing => Ok(None),
         }
-        Ok(Some(Rc::new(self.alloc, next).map_err(AllocError::from)?))
+    }
+
+    // The use at an instance of a visible derivative, of whose entry alone the experiment is.
+    fn visible_call(
+        &self,
+        changes: &Changes,
+        whole: Term,
+        here: &Term,
+        number: u32,
+        above: &[u16],
+    ) -> Result<Option<Rc<Call>>, AllocError>
+        ensures { IfOk result (FindsCase self.now changes.now whole above.now here.now
+            (Visible_case number above.now)) }
+    {
+        let mut next = changes.call.share()?;
+        next.whole = whole;
+        let entries = self.entry_at(number, here, above)?;
+        let path = self.below(&changes.call, above)?;
+        next.path = Rc::new(self.alloc, path)?;
+        next.entries = Front::of(self.alloc, entries)?;
+        next.along = Some(changes.layers.share()?);
+        Ok(Some(Rc::new(self.alloc, next)?))
     }
 
     // The places on a path go before layers.
@@ -223,6 +241,21 @@ impl<'a> Frame<'a, '_> {
         let params = Rc::new(self.alloc, values).map_err(AllocError::from)?;
         Rc::new(self.alloc, Held { number, params }).map_err(AllocError::from)
     }
+}
+
+// The same use in another whole term along other layers.
+fn with_layers(
+    alloc: Global,
+    call: &Call,
+    whole: Term,
+    along: Front<Layer>,
+) -> Result<Option<Rc<Call>>, AllocError>
+    ensures { IfOk result (IsAlong call.now whole along) }
+{
+    let mut next = call.share()?;
+    next.whole = whole;
+    next.along = Some(along);
+    Ok(Some(Rc::new(alloc, next)?))
 }
 
 impl Changes {

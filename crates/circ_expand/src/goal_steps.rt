@@ -1,10 +1,11 @@
 //! The steps of uses: what becomes of a goal, and uses along layers.
-ghost use Rattle.std.specs.Prelude.{◌≡◌, ◌<◌, ◌≤◌, List, IfOk, map, take, length, nat_lt};
+ghost use Rattle.std.specs.Prelude.{◌≡◌, ◌==◌, ◌<◌, ◌≤◌, List, IfOk, map, take, length, nat_lt};
 ghost use Rattle.std.specs.Prelude.{if◌then◌else◌, Some, None};
 ghost use Rattle.std.proofs.Common.{Global};
 ghost use Rattle.std.specs.declared.rc.Rc.{Rc};
 ghost use Rattle.circ_expand.specs.declared.uses.Layer.{Layer};
-ghost use Rattle.std.specs.Option.{option_map_or};
+ghost use Rattle.std.specs.List.{slice_get};
+ghost use Rattle.std.specs.Option.{IfSome, option_map_or};
 ghost use Rattle.circ_theory.specs.Fresh.{fresh_in};
 ghost use Rattle.circ_proof.specs.Plain.{plain_chain};
 ghost use Rattle.circ_proof.specs.Link.{resolved_chain};
@@ -94,7 +95,7 @@ impl<'a> Frame<'a, '_> {
             raised: call.assumptions,
             assumptions: Vec::new(self.alloc),
         };
-        Rc::new(self.alloc, basis).map_err(AllocError::from)
+        Ok(Rc::new(self.alloc, basis)?)
     }
 
     // The use of the goal to which this one is simplified stands between the links of both sides.
@@ -206,11 +207,21 @@ impl<'a> Frame<'a, '_> {
     {
         let mut count = 0;
         for number in 0..derivative {
-            if self.theory.takes(number, sort) {
-                count += 1;
-            }
+            count += self.holes(number, sort);
         }
         count
+    }
+
+    // One, if the derivative of this number has a hole of the sort.
+    fn holes(&self, number: u32, sort: u32) -> usize
+        ensures holes { IfSome (slice_get self.now.theory.now.derivatives number) (λ d.
+            result ≡ (if d.hole == sort then 1 else 0)) }
+        ensures few { result ≤ 1 }
+    {
+        if self.theory.takes(number, sort) {
+            return 1;
+        }
+        0
     }
 
     // The substitution with the parameters of an entry, as the goal's children name them.
@@ -219,17 +230,15 @@ impl<'a> Frame<'a, '_> {
             (derivative_at self.now.theory.now entry.now.number) (fresh_in goal.now) (by_of by.now)
             (valued_by entry.now.params.value)) }
     {
-        let body = match self.theory.derivative(entry.number) {
-            Some(body) => body.share()?,
-            None => Term::var(0, 0),
-        };
+        let nothing = Term::var(0, 0);
+        let body = self.theory.derivative(entry.number).unwrap_or(&nothing);
         let over = Over {
-            body,
+            body: body.share()?,
             first: fresh(goal),
             params: entry.params.clone()?,
         };
         let next = by.with(self.alloc, over)?;
-        Rc::new(self.alloc, next).map_err(AllocError::from)
+        Ok(Rc::new(self.alloc, next)?)
     }
 
     // A use along layers: of the goal itself, with an entry before the experiment, or at a place.

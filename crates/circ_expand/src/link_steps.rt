@@ -25,7 +25,7 @@ use crate::links::{all_named, named};
 use crate::rows::Row;
 use crate::tasks::{Halt, Links, Task, Work};
 use crate::uses::add_places;
-use crate::variables::{given, variables_of};
+use crate::variables::{given, variables_in};
 use circ_proof::Link;
 use circ_term::{Term, TermFault};
 use circ_theory::Way;
@@ -304,16 +304,10 @@ impl<'a> Frame<'a, '_> {
         ensures { IfOk result (λ b. by_of b.value ≡
             by_terms (goal_in (target_of self.now target).history) terms.now) }
     {
-        let nothing = Term::var(0, 0);
-        let variables = match self.goal(target) {
-            Some(goal) => {
-                variables_of(self.alloc, &goal.left, &goal.right, goal.conds.as_slice())?
-            }
-            None => variables_of(self.alloc, &nothing, &nothing, &[])?,
-        };
+        let variables = variables_in(self.alloc, self.goal(target))?;
         let values = given(self.alloc, &variables, terms)?;
         let by = By::of(self.alloc, values)?;
-        Rc::new(self.alloc, by).map_err(AllocError::from)
+        Ok(Rc::new(self.alloc, by)?)
     }
 
     // The use of a hypothesis in this whole term: of hidden sort along the places of its path, of
@@ -339,13 +333,13 @@ impl<'a> Frame<'a, '_> {
             let mut layers = Vec::new(self.alloc);
             add_places(self.alloc, standing, path, &mut layers)?;
             next.along = Some(Front::of(self.alloc, layers)?);
-        } else {
-            let path = self.below(call, path)?;
-            next.path = Rc::new(self.alloc, path).map_err(AllocError::from)?;
-            next.entries = Front::of(self.alloc, Vec::new(self.alloc))?;
-            next.along = None;
+            return Ok(Rc::new(self.alloc, next)?);
         }
-        Rc::new(self.alloc, next).map_err(AllocError::from)
+        let path = self.below(call, path)?;
+        next.path = Rc::new(self.alloc, path)?;
+        next.entries = Front::of(self.alloc, Vec::new(self.alloc))?;
+        next.along = None;
+        Ok(Rc::new(self.alloc, next)?)
     }
 
     // The sort of a goal.

@@ -6,13 +6,12 @@ ghost use Rattle.circ_theory.specs.Theory.{Theory as TheTheory};
 ghost use Rattle.circ_entry.specs.Entries.{bare_entries, numbered_of, numbered_entries};
 ghost use Rattle.circ_entry.specs.Plain.{plain_entry, plain_entries};
 ghost use Rattle.circ_expand.specs.Followed.{goal_in};
-ghost use Rattle.circ_expand.specs.Expand.{stages};
 ghost use Rattle.circ_expand.specs.Machine.{Begin_use};
 ghost use Rattle.circ_expand.specs.Rows.{unit_limit};
-ghost use Rattle.circ_expand.specs.Uses.{held_by, entries_of, BuildsLast};
+ghost use Rattle.circ_expand.specs.Uses.{held_by, entries_of};
 ghost use Rattle.circ_expand.specs.Values.{values_of};
 ghost use Rattle.circ_expand.specs.Tasks.{call_of, target_of, followed_of, opening_of, jobs_of};
-ghost use Rattle.circ_expand.specs.Tasks.{worked_in, WritesOut, AreFew};
+ghost use Rattle.circ_expand.specs.Tasks.{worked_in, WritesOut, AreFew, EndsIn};
 
 use crate::by::By;
 use crate::calls::{Call, Frame, Target, nothing};
@@ -53,22 +52,31 @@ impl<'a> Frame<'a, '_> {
     // The experiment on the left side of the goal, where that on the right side is within the
     // limits too.
     fn ends_of(&self, target: Target, entries: &[Rc<Held>]) -> Result<Term, TermFault>
-        ensures { BuildsLast result
-            (stages (bare_entries (entries_of self.now.theory.now entries.now))
-            (goal_in (target_of self.now target).history).left ++
-            stages (bare_entries (entries_of self.now.theory.now entries.now))
-            (goal_in (target_of self.now target).history).right)
-            (on (bare_entries (entries_of self.now.theory.now entries.now))
-            (goal_in (target_of self.now target).history).left) }
+        ensures { EndsIn (bare_entries (entries_of self.now.theory.now entries.now))
+            (goal_in (target_of self.now target).history).left
+            (goal_in (target_of self.now target).history).right result }
     {
-        let nothing = Term::var(0, 0);
-        let (left, right) = match self.goal(target) {
-            Some(goal) => (&goal.left, &goal.right),
-            None => (&nothing, &nothing),
-        };
+        match self.goal(target) {
+            Some(goal) => self.ends_on(&goal.left, &goal.right, entries),
+            None => {
+                let nothing = Term::var(0, 0);
+                self.ends_on(&nothing, &nothing, entries)
+            }
+        }
+    }
+
+    // The experiment on the first term, where that on the other is within the limits too.
+    fn ends_on(&self, left: &Term, right: &Term, entries: &[Rc<Held>]) -> Result<Term, TermFault>
+        ensures { EndsIn (bare_entries (entries_of self.now.theory.now entries.now)) left.now
+            right.now result }
+    {
         match experiment(self.alloc, self.theory, entries, left) {
             Ok(whole) => match experiment(self.alloc, self.theory, entries, right) {
-                Ok(_) => Ok(whole),
+                Ok(end) => {
+                    whole.known();
+                    end.known();
+                    Ok(whole)
+                }
                 Err(fault) => Err(fault),
             },
             Err(fault) => Err(fault),
@@ -127,7 +135,7 @@ impl<'a> Frame<'a, '_> {
             by: Rc::new(self.alloc, by).map_err(AllocError::from)?,
             assumptions: 0,
         };
-        Rc::new(self.alloc, call).map_err(AllocError::from)
+        Ok(Rc::new(self.alloc, call)?)
     }
 }
 

@@ -13,7 +13,8 @@ ghost use Rattle.circ_expand.specs.Valuations.{by_of};
 ghost use Rattle.circ_expand.specs.Fronts.{front};
 ghost use Rattle.circ_expand.specs.Values.{values_of};
 ghost use Rattle.circ_expand.specs.Tasks.{Steps, jobs_of, place_of, place_stepped, TakesCertificate};
-ghost use Rattle.circ_expand.specs.Tasks.{call_of, HasEnds, begun_place, certificate_job};
+ghost use Rattle.circ_expand.specs.Followed.{goal_in};
+ghost use Rattle.circ_expand.specs.Tasks.{call_of, target_of, HasEnds, begun_place, certificate_job};
 ghost use Rattle.circ_expand.specs.Tasks.{occurrences_job, changes_job, links_job};
 ghost use Rattle.circ_expand.specs.declared.uses.Layer.TheVariants as layer;
 
@@ -154,11 +155,33 @@ impl<'a> Frame<'a, '_> {
             (layers_of self.now.theory.now (front layers.now))
             (layers_of self.now.theory.now through.now) result }
     {
-        let nothing = Term::var(0, 0);
-        let (left, right) = match self.goal(call.goal) {
-            Some(goal) => (&goal.left, &goal.right),
-            None => (&nothing, &nothing),
-        };
+        match self.goal(call.goal) {
+            Some(goal) => self.ends_of_sides(call, start, layers, through, &goal.left, &goal.right),
+            None => {
+                let nothing = Term::var(0, 0);
+                self.ends_of_sides(call, start, layers, through, &nothing, &nothing)
+            }
+        }
+    }
+
+    // The same of two terms.
+    fn ends_of_sides(
+        &self,
+        call: &Call,
+        start: &Term,
+        layers: &Front<Layer>,
+        through: &[Rc<Layer>],
+        left: &Term,
+        right: &Term,
+    ) -> Result<Ends, TermFault>
+        ensures { (x y : TheLayer) → layers_of self.now.theory.now through.now ≡
+            x ∷ y ∷ layers_of self.now.theory.now (front layers.now) →
+            left.now ≡ (goal_in (target_of self.now call.now.goal).history).left →
+            right.now ≡ (goal_in (target_of self.now call.now.goal).history).right →
+            HasEnds self.now call.now start.now
+            (layers_of self.now.theory.now (front layers.now))
+            (layers_of self.now.theory.now through.now) result }
+    {
         let whole = match self.risen(call, through, left) {
             Ok(whole) => whole,
             Err(fault) => return Err(fault),
@@ -198,7 +221,7 @@ impl<'a> Frame<'a, '_> {
     {
         let values = matching(self.alloc, start, term)?;
         let by = By::of(self.alloc, values)?;
-        Rc::new(self.alloc, by).map_err(AllocError::from)
+        Ok(Rc::new(self.alloc, by)?)
     }
 
     // The links from both sides and the occurrences are next.

@@ -250,7 +250,7 @@ impl<'a> Frame<'a, '_> {
         let mut next = call.share()?;
         next.whole = whole;
         next.assumptions = assumptions;
-        Rc::new(self.alloc, next).map_err(AllocError::from)
+        Ok(Rc::new(self.alloc, next)?)
     }
 
     // With the assumption that the term is the constant.
@@ -274,6 +274,6 @@ impl<'a> Frame<'a, '_> {
             raised: basis.raised,
             assumptions,
         };
-        Rc::new(self.alloc, next).map_err(AllocError::from)
+        Ok(Rc::new(self.alloc, next)?)
     }
 }
