@@ -1,5 +1,5 @@
 -- The step of a use at a place, and that of an occurrence.
-use Rattle.std.proofs.Common.{◌≡◌, ◌≤◌, ◌<◌, ℕ, ◌+◌, Bool, true, List, [], ◌∷◌, ◌++◌, zero, suc, map, drop, take, length, min, Option, Some, None, unwrap_or, refl, ap, sym, ◌∙◌, subst, arith}
+use Rattle.std.proofs.Common.{◌≡◌, ◌≤◌, ◌<◌, ℕ, ◌+◌, Bool, true, List, [], ◌∷◌, ◌++◌, zero, suc, map, drop, take, length, min, Option, Some, None, Result, Ok, Err, unwrap_or, refl, ap, sym, ◌∙◌, subst, arith}
 use Rattle.std.specs.List.{slice_get}
 use Rattle.std.specs.Option.{option_map}
 use Rattle.std.specs.Global.{Vec}
@@ -22,7 +22,11 @@ use Rattle.circ_expand.specs.Machine.{Value, In_row, Pending, pending, Task as J
 use Rattle.circ_expand.specs.Machine.{occurrences_step, all_uses, on_row}
 use Rattle.circ_expand.specs.Nodes.{ends_in_row}
 use Rattle.circ_expand.specs.Paths.{plain_paths}
-use Rattle.circ_expand.specs.Uses.{first_of}
+use Rattle.circ_expand.specs.Uses.{first_of, BuildsLast}
+use Rattle.circ_proof.specs.Plain.{LinkOf, plain_links}
+use Rattle.circ_proof.specs.Link.{Setting, resolved_links}
+use Rattle.circ_proof.specs.declared.links.Link.{Link}
+use Rattle.circ_expand.proofs.Advancing.{all_built_at}
 use Rattle.circ_expand.specs.Values.{values_of}
 use Rattle.circ_expand.specs.Valuations.{by_of}
 use Rattle.circ_expand.specs.Tasks.{call_of, basis_of, background_in, jobs_of, pending_of, links_at, place_of, place_stepped, certificate_setting, certificate_terms}
@@ -280,3 +284,30 @@ first_past fr x p here v us w e n =
     let u = put_or_same here p x.new in
     let G : ℕ → Spending Pending = λ m. tested u (tested (whole_with c u) (changed_on fr x p here v us w m)) in
     names_tests (here ∷ whole_with c here ∷ []) (counted w.left G) e (names_first here (whole_with c here ∷ []) e n)
+
+abbrev pub LeadsCertificate : Frame → Place → ℕ → (start : Tree) → Result Tree TermFault → Type 0
+LeadsCertificate fr g n s (Ok u) =
+    (u ≡ led_all (certificate_setting fr) ((background_in fr).certificate g n) s) × (first_of (certificate_terms fr g n) ≡ None)
+LeadsCertificate fr g n s (Err k) = Names k (first_of (certificate_terms fr g n))
+
+-- what the links of a certificate lead to
+pub certificate_taken : (fr : Frame) (g : Place) (n : ℕ) (r : Result Tree TermFault) (s : Tree) (ls : List (Link ℕ)) (S : Setting) (xs : List Tree)
+    → S ≡ certificate_setting fr → xs ≡ fr.table.now → links_at fr ls ≡ (background_in fr).certificate g n
+    → s ≡ start_at fr.theory.now g (derivative_at fr.theory.now n) → first_limit s ≡ None
+    → BuildsLast r (trail S (resolved_links xs (plain_links ls)) s) (led_all S (resolved_links xs (plain_links ls)) s)
+    → LeadsCertificate fr g n s r
+certificate_taken fr g n (Ok u) s ls S xs a b l e w h =
+    let t = all_built_at (Ok u) S (certificate_setting fr) xs fr.table.now ls s a b h in
+    (t.0 ∙ ap (λ ks. led_all (certificate_setting fr) ks s) l,
+    ap (λ x. first_of (x ∷ trail (certificate_setting fr) ((background_in fr).certificate g n) x)) (sym e)
+    ∙ first_more s (trail (certificate_setting fr) ((background_in fr).certificate g n) s) w
+    (ap (λ ks. first_of (trail (certificate_setting fr) ks s)) (sym l) ∙ t.1))
+certificate_taken fr g n (Err k) s ls S xs a b l e w h =
+    let t = all_built_at (Err k) S (certificate_setting fr) xs fr.table.now ls s a b h in
+    let P : List (LinkOf Tree) → Type 0 = λ ks. Names k (first_of (trail (certificate_setting fr) ks s)) in
+    let Q : Tree → Type 0 = λ x. Names k (first_of (x ∷ trail (certificate_setting fr) ((background_in fr).certificate g n) x)) in
+    subst Q e (names_later s (trail (certificate_setting fr) ((background_in fr).certificate g n) s) k w (subst P l t))
+
+pub all_paths : (ps : List (Vec ℕ)) → drop 0 (plain_paths ps) ≡ plain_paths ps
+all_paths [] = refl
+all_paths (p ∷ ps) = refl

@@ -4,7 +4,7 @@ use Rattle.std.specs.List.{find}
 use Rattle.std.specs.Option.{option_map}
 use Rattle.std.proofs.lemmas.Bool.{eqb-true}
 use Rattle.circ_term.specs.Tree.{Tree, sort_of}
-use Rattle.circ_term.specs.Limits.{first_limit, Names, Builds}
+use Rattle.circ_term.specs.Limits.{Limit, first_limit, Names, Builds}
 use Rattle.circ_term.specs.Substitution.{instance}
 use Rattle.circ_term.specs.declared.fault.TermFault.{TermFault}
 use Rattle.circ_theory.specs.Theory.{Pair, CaseList}
@@ -28,11 +28,11 @@ use Rattle.circ_expand.specs.declared.tasks.Reason.{Reason}
 use Rattle.circ_expand.specs.declared.calls.Frame.{Frame}
 use Rattle.circ_expand.specs.declared.calls.Call.{Call}
 use Rattle.circ_expand.specs.declared.calls.Basis.{Basis}
-use Rattle.circ_expand.proofs.Rising.{none_first}
+use Rattle.circ_expand.proofs.Rising.{none_first, names_first as rising_first}
 use Rattle.circ_expand.specs.declared.tasks.Reasons.{Reasons}
 use Rattle.circ_expand.specs.declared.tasks.Work.{Work}
 use Rattle.circ_expand.proofs.Assuming.{under}
-use Rattle.circ_expand.proofs.Stepping.{tests_none, tested_none, counted_one, counted_none, halts_past, names_tested, names_first, names_later, names_alone, first_more, first_alone}
+use Rattle.circ_expand.proofs.Stepping.{tests_none, tested_none, counted_one, counted_none, halts_past, names_tests, names_tested, names_first, names_later, names_alone, first_more, first_alone}
 use Rattle.circ_expand.proofs.Leaving.{case_alike}
 
 -- the constants that are found are those of the case list
@@ -195,3 +195,36 @@ split_begun fr b d chain v s t ws r w new a e job term js vs n =
     let first : Job = Give_reasons (call_of fr d) (basis_of fr b) ws v l l.constants (led_all S ls s) (led_all S rs t) in
     tests_none (trail S ls s ++ trail S rs t) (G first (instance (call_of fr d).by v)) (none_first (trail S ls s) (trail S rs t) a ∙ e)
     ∙ (λ i. G (sym job i) (sym term i)) ∙ (λ i. Yields (pending (sym js i) (sym vs i)) (sym n i))
+
+-- a term of a side is past a limit before a split
+abbrev pub split_pending : Frame → Basis → Call → Chain ℕ → (v s t : Tree) → WhysOf Tree → Work → Spending Pending
+split_pending fr b d chain v s t ws w =
+    let f = background_in fr in
+    let S = link_setting f (basis_of fr b) in
+    let l = cases_at (all_uses f) f (sort_of v) in
+    let u = instance (call_of fr d).by v in
+    Yields (pending (begun_sides fr d b chain s t (Begin_split u ∷ Give_reasons (call_of fr d) (basis_of fr b) ws v l l.constants
+    (led_all S (links_at fr chain.left.items) s) (led_all S (links_at fr chain.right.items) t) ∷ End_split u ∷ Put_between ∷ jobs_of fr w))
+    (In_row no_piece ∷ values_of w.values)) w.left
+
+pub left_split_past : (fr : Frame) (b : Basis) (d : Call) (chain : Chain ℕ) (v s t : Tree) (ws : WhysOf Tree) (w : Work) (e : TermFault)
+    → Names e (first_of (trail (link_setting (background_in fr) (basis_of fr b)) (links_at fr chain.left.items) s))
+    → Halts (reason_step (all_uses (background_in fr)) (background_in fr) (call_of fr d) (basis_of fr b) (Split_why (resolved_chain fr.table.now (plain_chain chain)) v ws)
+    s t (jobs_of fr w) (values_of w.values) w.left) (halt.Past e)
+left_split_past fr b d chain v s t ws w e h =
+    let S = link_setting (background_in fr) (basis_of fr b) in
+    let xs = trail S (links_at fr chain.left.items) s in
+    let ys = trail S (links_at fr chain.right.items) t in
+    names_tests (xs ++ ys) (split_pending fr b d chain v s t ws w) e (rising_first xs ys e h)
+
+pub right_split_past : (fr : Frame) (b : Basis) (d : Call) (chain : Chain ℕ) (v s t : Tree) (ws : WhysOf Tree) (w : Work) (e : TermFault)
+    → first_of (trail (link_setting (background_in fr) (basis_of fr b)) (links_at fr chain.left.items) s) ≡ None
+    → Names e (first_of (trail (link_setting (background_in fr) (basis_of fr b)) (links_at fr chain.right.items) t))
+    → Halts (reason_step (all_uses (background_in fr)) (background_in fr) (call_of fr d) (basis_of fr b) (Split_why (resolved_chain fr.table.now (plain_chain chain)) v ws)
+    s t (jobs_of fr w) (values_of w.values) w.left) (halt.Past e)
+right_split_past fr b d chain v s t ws w e a h =
+    let S = link_setting (background_in fr) (basis_of fr b) in
+    let xs = trail S (links_at fr chain.left.items) s in
+    let ys = trail S (links_at fr chain.right.items) t in
+    let P : Option Limit → Type 0 = λ o. Names e o in
+    names_tests (xs ++ ys) (split_pending fr b d chain v s t ws w) e (subst P (sym (none_first xs ys a)) h)

@@ -18,21 +18,28 @@ use Rattle.circ_proof.specs.Plain.{map_link, plain_links}
 use Rattle.circ_proof.specs.PlainProof.{plain_proof, plain_certificates}
 use Rattle.circ_proof.specs.declared.links.Link.{Link}
 use Rattle.circ_proof.specs.declared.proof.Proof.{Proof as TheProof}
-use Rattle.circ_proof.specs.Proof.{Proof}
-use Rattle.circ_proof.specs.Accepted.{certificates_of}
+use Rattle.circ_proof.specs.Proof.{Proof, ProofFor, IsPlain}
+use Rattle.circ_proof.specs.Accepted.{certificates_of, Accepted}
 use Rattle.circ_entry.specs.Entries.{Numbered, Written, FitsWritten, bare_entries, numbered_entries}
 use Rattle.circ_entry.specs.Plain.{plain_entries}
 use Rattle.circ_entry.specs.declared.entries.Entry.{Entry as WrittenEntry}
 use Rattle.circ_expand.specs.Followed.{goal_in, goals_of, hypotheses_of, Followed as History_in}
 use Rattle.circ_expand.specs.Pieces.{Pieces}
-use Rattle.circ_expand.specs.Expand.{Spending, Yields, Long, Past, Stopped, continued, tested, all_tested, stages, followed_at, no_followed, Background, background_of, certificate_of}
+use Rattle.circ_expand.specs.Expand.{Spending, Yields, Long, Past, Stopped, continued, tested, all_tested, stages, followed_at, no_followed, Background, background_of, certificate_of, Call as Use, expansion}
 use Rattle.circ_expand.specs.Machine.{Value, In_row, In_parts, Pending, pending, Begin_use, rest_done, last_row, worked_off}
 use Rattle.circ_expand.specs.Uses.{first_of}
 use Rattle.circ_expand.specs.Values.{values_of, IsLastRow}
 use Rattle.circ_expand.specs.Book.{followed_by, hypotheses_in, IsBook}
 use Rattle.circ_expand.specs.Certificates.{lists_in}
-use Rattle.circ_expand.specs.Rows.{plain_row, rows_of}
-use Rattle.circ_expand.specs.Tasks.{background_in, followed_of, opening_of, worked_in, WritesOut, EndsIn, Halts, AreFew}
+use Rattle.circ_expand.specs.Rows.{plain_row, rows_of, IsWrittenOut}
+use Rattle.circ_expand.specs.Tasks.{background_in, followed_of, opening_of, worked_in, WritesOut, EndsIn, Halts, AreFew, jobs_of, left_of, past_of}
+use Rattle.circ_expand.specs.declared.fault.ExpandFault.TheVariants as fault
+use Rattle.circ_expand.specs.Answers.{LeadsOnGoal}
+use Rattle.circ_expand.specs.Goals.{FitGoal, all_goals}
+use Rattle.circ_theory.specs.declared.parts.Goal.{Goal}
+use Rattle.std.proofs.lemmas.Option.{same_Some}
+use Rattle.circ_expand.proofs.Expanding.{expansion_goes, given_leads, never_stops}
+use Rattle.circ_expand.proofs.Working.{worked_right}
 use Rattle.circ_expand.specs.declared.rows.Row.{Row}
 use Rattle.circ_expand.specs.declared.book.Followed.{Followed}
 use Rattle.circ_expand.specs.declared.calls.Frame.{Frame}
@@ -133,3 +140,74 @@ fits_few th ok (e ∷ es) s f =
     let few = (ok.derivatives d (contains_at th.derivatives e.derivative d f.1.listed)).few in
     (omega (arith, few, ap length f.1.fit, length-map e.params.items sort_of, length-map vs (λ v. v.sort), length-map vs (λ v. v.number)),
     fits_few th ok es (sort_of d.body) f.2)
+
+pub ends_of_goal : (fr : Frame) (n : ℕ) (cs es : List Numbered) (g : History_in) (r : Result Tree TermFault) → es ≡ cs → g ≡ followed_of fr n
+    → EndsIn (bare_entries es) (goal_in g.history).left (goal_in g.history).right r
+    → EndsIn (bare_entries cs) (goal_in (followed_of fr n).history).left (goal_in (followed_of fr n).history).right r
+ends_of_goal fr n cs es g r a b h =
+    let P : List Numbered → Type 0 = λ x. EndsIn (bare_entries x) (goal_in g.history).left (goal_in g.history).right r in
+    let Q : History_in → Type 0 = λ x. EndsIn (bare_entries cs) (goal_in x.history).left (goal_in x.history).right r in
+    subst Q b (subst P a h)
+
+-- the work begins with one use
+pub begun_left : (fr : Frame) (n : ℕ) (cs : List Numbered) (k : ℕ) (w : Work) (d : Use) → jobs_of fr w ≡ Begin_use d ∷ [] → values_of w.values ≡ [] → w.left ≡ k
+    → d ≡ opening_of fr n cs → left_of fr w ≡ rest_done (background_in fr) (pending (Begin_use (opening_of fr n cs) ∷ []) []) k
+begun_left fr n cs k w d js vs l is =
+    let jobs : jobs_of fr w ≡ Begin_use (opening_of fr n cs) ∷ [] = js ∙ ap (λ x. Begin_use x ∷ []) is in
+    λ i. rest_done (background_in fr) (pending (jobs i) (vs i)) (l i)
+
+-- all of the work, by its end
+pub all_written : (fr : Frame) (n : ℕ) (cs : List Numbered) (k : ℕ) (w : Work) (d : Use) (u : Tree) (vs : List Value) (m : ℕ) (rows : Vec Row)
+    → EndsIn (bare_entries cs) (goal_in (followed_of fr n).history).left (goal_in (followed_of fr n).history).right (Ok u)
+    → jobs_of fr w ≡ Begin_use d ∷ [] → values_of w.values ≡ [] → w.left ≡ k → d ≡ opening_of fr n cs → left_of fr w ≡ Yields vs m → IsLastRow vs (Some rows)
+    → WritesOut (worked_in fr n cs k) (Ok rows)
+all_written fr n cs k w d u vs m rows e js us l is done last =
+    let P : Spending Pieces → Type 0 = λ o. WritesOut o (Ok rows) in
+    subst P (sym (worked_on fr n cs k u e ∙ ap (λ o. continued o last_row) (sym (begun_left fr n cs k w d js us l is))))
+    (rows_written (left_of fr w) vs m rows done last)
+
+pub all_stopped : (fr : Frame) (n : ℕ) (cs : List Numbered) (k : ℕ) (w : Work) (d : Use) (u : Tree) (vs : List Value) (m : ℕ)
+    → EndsIn (bare_entries cs) (goal_in (followed_of fr n).history).left (goal_in (followed_of fr n).history).right (Ok u)
+    → jobs_of fr w ≡ Begin_use d ∷ [] → values_of w.values ≡ [] → w.left ≡ k → d ≡ opening_of fr n cs → left_of fr w ≡ Yields vs m → IsLastRow vs None
+    → Halts (worked_in fr n cs k) halt.Stopped
+all_stopped fr n cs k w d u vs m e js us l is done last =
+    worked_on fr n cs k u e ∙ ap (λ o. continued o last_row) (sym (begun_left fr n cs k w d js us l is)) ∙ rows_stopped (left_of fr w) vs m done last
+
+pub all_halted : (fr : Frame) (n : ℕ) (cs : List Numbered) (k : ℕ) (w : Work) (d : Use) (u : Tree) (h : Halt)
+    → EndsIn (bare_entries cs) (goal_in (followed_of fr n).history).left (goal_in (followed_of fr n).history).right (Ok u)
+    → jobs_of fr w ≡ Begin_use d ∷ [] → values_of w.values ≡ [] → w.left ≡ k → d ≡ opening_of fr n cs → Halts (left_of fr w) h
+    → Halts (worked_in fr n cs k) h
+all_halted fr n cs k w d u h e js us l is halts =
+    let P : Spending Pieces → Type 0 = λ o. Halts o h in
+    subst P (sym (worked_on fr n cs k u e ∙ ap (λ o. continued o last_row) (sym (begun_left fr n cs k w d js us l is))))
+    (halts_on (left_of fr w) last_row h halts)
+
+-- the expansion is what is worked off, and it never stops for want of something that fits
+pub never_halts : (th : Theory) → IsWellFormed th → (p : Proof) → ProofFor th p → IsPlain p → Accepted th p → (n : ℕ) (ws : List Written) → FitGoal th p n ws
+    → (k : ℕ) → worked_off k th p n ws ≡ Stopped → ⊥
+never_halts th ok p f pl a n ws fit k e =
+    never_stops th p k n fit.0 ws (expansion_goes th ok p f pl a n fit.0 fit.1 ws fit.2 k) (worked_right k th p n ws ∙ e)
+
+pub rows_lead : (th : Theory) → IsWellFormed th → (p : Proof) → ProofFor th p → IsPlain p → Accepted th p → (n : ℕ) (ws : List Written) → FitGoal th p n ws
+    → (k : ℕ) (rows : Vec Row) → WritesOut (worked_off k th p n ws) (Ok rows) → (g : Goal) → slice_get (all_goals p.blocks) n ≡ Some g
+    → (xs : Pieces) × (map plain_row rows.items ≡ rows_of xs) × LeadsOnGoal th xs ws g
+rows_lead th ok p f pl a n ws fit k rows w g e =
+    let same : fit.0 ≡ g = same_Some fit.0 g (sym fit.1 ∙ e) in
+    let P : Goal → Type 0 = λ x. FitsWritten th ws (sort_of x.left) in
+    (w.0, w.3, given_leads th p k n g ws (expansion_goes th ok p f pl a n g e ws (subst P same fit.2) k) w.1 w.0 (worked_right k th p n ws ∙ w.2))
+
+-- as the call answers
+pub exact_rows : (th : Theory) (p : Proof) (n : ℕ) (ws : List Written) (k : ℕ) (rows : Vec Row) → WritesOut (worked_off k th p n ws) (Ok rows)
+    → IsWrittenOut (expansion k th p n ws) (Ok rows)
+exact_rows th p n ws k rows w = (w.0, w.1, worked_right k th p n ws ∙ w.2, w.3)
+
+pub exact_long : (th : Theory) (p : Proof) (n : ℕ) (ws : List Written) (k : ℕ) → worked_off k th p n ws ≡ Long
+    → IsWrittenOut (expansion k th p n ws) (Err (fault.Long 100001))
+exact_long th p n ws k e = (worked_right k th p n ws ∙ e, refl)
+
+-- the limit that a fault names
+pub past_named : {X : Type 0} (o : Spending X) (l : Limit) → past_of o ≡ Some l → o ≡ Past l
+past_named (Yields a n) l e = absurd (cc)
+past_named Long l e = absurd (cc)
+past_named (Past k) l e = (let z : k ≡ l = same_Some k l e in ap Past z)
+past_named Stopped l e = absurd (cc)

@@ -1,5 +1,5 @@
 //! The steps of the occurrences in the last term of a certificate.
-ghost use Rattle.std.specs.Prelude.{◌≡◌, ◌<◌, ◌+◌, ◌∷◌, ◌++◌, [], List, IfOk, OnOk, length, unwrap_or};
+ghost use Rattle.std.specs.Prelude.{◌≡◌, ◌+◌, ◌∷◌, ◌++◌, [], List, IfOk, OnOk, unwrap_or};
 ghost use Rattle.circ_term.specs.Tree.{Tree, at};
 ghost use Rattle.circ_term.specs.Substitution.{instance};
 ghost use Rattle.circ_expand.specs.Pieces.{Pieces};
@@ -75,7 +75,6 @@ impl<'a> Frame<'a, '_> {
         path: &[u16],
         here: Term,
     ) -> Result<(), Halt>
-        requires { changes.now.done < length changes.now.paths.value.items }
         ensures { (v : Pieces) (us : List Value) → values_of work.old.values ≡ In_row v ∷ us →
             Steps self.now (change_stepped self.now changes.now path.now here v us work.old)
             work.new result }
@@ -224,7 +223,7 @@ impl<'a> Frame<'a, '_> {
             layers_of self.now.theory.now layers.old.items) }
     {
         let held = self.entry_in(number, here, path)?;
-        let entry = Rc::new(self.alloc, Layer::Entry { held }).map_err(AllocError::from)?;
+        let entry = Rc::new(self.alloc, Layer::Entry { held })?;
         layers.push(entry)?;
         Ok(())
     }
@@ -238,7 +237,7 @@ impl<'a> Frame<'a, '_> {
         let nothing = Term::var(0, 0);
         let body = self.theory.derivative(number).unwrap_or(&nothing);
         let values = matching(self.alloc, body, term)?;
-        let params = Rc::new(self.alloc, values).map_err(AllocError::from)?;
+        let params = Rc::new(self.alloc, values)?;
         Rc::new(self.alloc, Held { number, params }).map_err(AllocError::from)
     }
 }
@@ -259,19 +258,21 @@ fn with_layers(
 }
 
 impl Changes {
-    // Those after the next one.
+    // Those after the next one. No memory holds so many that their number does not fit.
     fn after(&self) -> Result<Changes, AllocError>
-        requires { self.now.done < length self.now.paths.value.items }
         ensures { IfOk result (λ x. (fr : TheFrame) (here : Tree) → changes_job fr x here ≡
             changes_job fr (record self.now { done = self.now.done + 1 }) here) }
     {
+        let Some(done) = self.done.checked_add(1) else {
+            return Err(AllocError);
+        };
         Ok(Changes {
             call: self.call.clone()?,
             layers: self.layers.share()?,
             new: self.new.share()?,
             last: self.last.share()?,
             paths: self.paths.clone()?,
-            done: self.done + 1,
+            done,
         })
     }
 }

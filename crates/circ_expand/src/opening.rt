@@ -128,11 +128,11 @@ impl<'a> Frame<'a, '_> {
         let by = By::of(self.alloc, Valuation::new(self.alloc))?;
         let call = Call {
             whole,
-            path: Rc::new(self.alloc, Vec::new(self.alloc)).map_err(AllocError::from)?,
+            path: Rc::new(self.alloc, Vec::new(self.alloc))?,
             entries: Front::of(self.alloc, entries)?,
             along: None,
             goal,
-            by: Rc::new(self.alloc, by).map_err(AllocError::from)?,
+            by: Rc::new(self.alloc, by)?,
             assumptions: 0,
         };
         Ok(Rc::new(self.alloc, call)?)
@@ -161,7 +161,7 @@ fn held(alloc: Global, entry: &Entry) -> Result<Rc<Held>, AllocError>
     let values = parameters(alloc, entry.params.as_slice())?;
     let held = Held {
         number: entry.derivative,
-        params: Rc::new(alloc, values).map_err(AllocError::from)?,
+        params: Rc::new(alloc, values)?,
     };
     Rc::new(alloc, held).map_err(AllocError::from)
 }

@@ -133,10 +133,10 @@ impl<'a> Frame<'a, '_> {
     {
         let mut through = layers.to_vec(self.alloc)?;
         let term = term.share()?;
-        let place = Rc::new(self.alloc, Layer::Place { term, arg }).map_err(AllocError::from)?;
+        let place = Rc::new(self.alloc, Layer::Place { term, arg })?;
         through.push(place)?;
         let held = entry.clone()?;
-        let entry = Rc::new(self.alloc, Layer::Entry { held }).map_err(AllocError::from)?;
+        let entry = Rc::new(self.alloc, Layer::Entry { held })?;
         through.push(entry)?;
         Ok(through)
     }
@@ -277,11 +277,11 @@ impl<'a> Frame<'a, '_> {
         let mut middle = call.share()?;
         middle.entries = entries.share()?;
         Ok(Changes {
-            call: Rc::new(self.alloc, middle).map_err(AllocError::from)?,
+            call: Rc::new(self.alloc, middle)?,
             layers: layers.share()?,
             new: ends.new.share()?,
             last: certificate.last.share()?,
-            paths: Rc::new(self.alloc, paths).map_err(AllocError::from)?,
+            paths: Rc::new(self.alloc, paths)?,
             done: 0,
         })
     }
@@ -301,7 +301,7 @@ impl<'a> Frame<'a, '_> {
         side.entries = entries.share()?;
         side.by = by.clone()?;
         Ok(Links {
-            call: Rc::new(self.alloc, side).map_err(AllocError::from)?,
+            call: Rc::new(self.alloc, side)?,
             basis: certificate.basis.clone()?,
             links: certificate.links,
             term: certificate.start.share()?,

@@ -45,6 +45,7 @@ pub fn expand(
         IfOk result (λ rows. (xs : Pieces) × (map plain_row rows.items ≡ rows_of xs) ×
         LeadsOnGoal theory.now xs (plain_entries entries.now) g) }
 {
+    theory.known();
     match written(alloc, &*theory, &*proof, goal, entries) {
         Ok(rows) => Ok(rows),
         Err(Halt::Long) => Err(ExpandFault::Long { units: 100_001 }),

@@ -27,9 +27,6 @@ returns-in_default c =
     paths_end fr (call_of fr x.call.value) (layers_in fr x.layers) x.new x.last (drop x.done (plain_paths ps)) c.args.here (jobs_of fr w) (values_of w.values) w.left
     (no_path ps x.done (got_none ps x.done c.in_default.ensures.lookup.3)) (sym c.ends_in_row.ensures ∙ c.if-ends_in_row.false)
 
-pub change-requires : goal.change-requires
-change-requires c = c.in-Some.ensures.lookup.3.0
-
 pub returns : goal.returns
 returns c =
     let fr = c.args.self.now in

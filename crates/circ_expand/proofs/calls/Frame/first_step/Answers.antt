@@ -43,9 +43,6 @@ returns-in-Err c =
     halts_past (stepped fr (changes_job fr x here) w) (change_stepped fr x p.items here r.0 r.1 w) c.in-Err.fault
     (change_first fr x here w p r.0 r.1 (got ps x.done p there.3.0 there.1) r.2) (first_past fr x p.items here r.0 r.1 w c.in-Err.fault c.in-Err.ensures)
 
-pub change-requires : goal.change-requires
-change-requires c = c.in-Some.ensures.lookup.3.0
-
 pub returns-in-Ok : goal.returns-in-Ok
 returns-in-Ok c =
     let fr = c.args.self.now in
