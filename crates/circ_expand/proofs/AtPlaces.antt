@@ -17,7 +17,7 @@ use Rattle.circ_entry.specs.Entries.{Numbered, derivative_at}
 use Rattle.circ_expand.specs.Followed.{put_or_same, led_all}
 use Rattle.circ_expand.specs.Pieces.{Pieces, no_piece}
 use Rattle.circ_expand.specs.Expand.{Spending, Yields, Stopped, counted, tested, all_tested, Call as Use, Layer, At_place, By_entry, layered, risen, start_at, no_basis, certified_call}
-use Rattle.circ_expand.specs.Expand.{trail, paths_of, arg_sort, whole_with, place_terms, guard_case, occurrence_call, No_case}
+use Rattle.circ_expand.specs.Expand.{trail, paths_of, arg_sort, whole_with, place_terms, guard_case, occurrence_call, No_case, Visible_case, Place_case, Hidden_case, places_on, entry_in}
 use Rattle.circ_expand.specs.Machine.{Value, In_row, Pending, pending, Task as Job, Links as Links_job, Occurrences, Empty_row, Put_behind, Put_between, place_step, case_step, Enter_use}
 use Rattle.circ_expand.specs.Machine.{occurrences_step, all_uses, on_row}
 use Rattle.circ_expand.specs.Nodes.{ends_in_row}
@@ -30,7 +30,11 @@ use Rattle.circ_expand.proofs.Advancing.{all_built_at}
 use Rattle.circ_expand.specs.Values.{values_of}
 use Rattle.circ_expand.specs.Valuations.{by_of}
 use Rattle.circ_expand.specs.Tasks.{call_of, basis_of, background_in, jobs_of, pending_of, links_at, place_of, place_stepped, certificate_setting, certificate_terms}
-use Rattle.circ_expand.specs.Tasks.{IsCertificate, left_side, right_side, AreEnds, begun_place, changes_job, change_stepped, stepped, layers_in, Halts, FindsCase}
+use Rattle.circ_expand.specs.Tasks.{IsCertificate, left_side, right_side, AreEnds, begun_place, changes_job, change_stepped, stepped, layers_in, Halts, FindsCase, IsAlong}
+use Rattle.std.specs.Result.{IfOk}
+use Rattle.std.specs.declared.alloc.AllocError.{AllocError}
+use Rattle.circ_expand.specs.declared.fronts.Front.{Front}
+use Rattle.circ_expand.specs.declared.uses.Layer.{Layer as Kept}
 use Rattle.circ_expand.specs.declared.tasks.Halt.TheVariants as halt
 use Rattle.circ_expand.specs.declared.calls.Frame.{Frame}
 use Rattle.circ_expand.specs.declared.calls.Call.{Call}
@@ -311,3 +315,33 @@ certificate_taken fr g n (Err k) s ls S xs a b l e w h =
 pub all_paths : (ps : List (Vec ℕ)) → drop 0 (plain_paths ps) ≡ plain_paths ps
 all_paths [] = refl
 all_paths (p ∷ ps) = refl
+
+-- ---- the use for an occurrence, by its case
+
+pub finds_visible : (fr : Frame) (x : Changes) (u : Tree) (p q : List ℕ) (here : Tree) (k : ℕ) (r : Result (Option (Rc Call Global)) AllocError)
+    → IfOk r (FindsCase fr x u q here (Visible_case k q)) → IfOk r (FindsCase fr x u p here (Visible_case k q))
+finds_visible fr x u p q here k (Ok (Some d)) h = h
+finds_visible fr x u p q here k (Ok None) h = h
+finds_visible fr x u p q here k (Err e) h = tt
+
+pub finds_place : (fr : Frame) (x : Changes) (u : Tree) (p : List ℕ) (here : Tree) (ys : Front Kept) (r : Result (Option (Rc Call Global)) AllocError)
+    → layers_in fr ys ≡ places_on here p ++ layers_in fr x.layers → IfOk r (IsAlong x.call.value u ys) → IfOk r (FindsCase fr x u p here Place_case)
+finds_place fr x u p here ys (Ok (Some d)) e h = λ w js vs n.
+    let c = call_of fr x.call.value in
+    let same : call_of fr d.value ≡ record c { whole = whole_with c here; along = Some (places_on here p ++ layers_in fr x.layers) } =
+        h fr ∙ (λ i. record c { whole = w i; along = Some (e i) }) in
+    λ i. Yields (pending (Enter_use (sym same i) ∷ js) vs) n
+finds_place fr x u p here ys (Ok None) e h = absurd h
+finds_place fr x u p here ys (Err k) e h = tt
+
+pub finds_hidden : (fr : Frame) (x : Changes) (u : Tree) (p q : List ℕ) (here : Tree) (k : ℕ) (ys : Front Kept) (r : Result (Option (Rc Call Global)) AllocError)
+    → layers_in fr ys ≡ places_on here q ++ By_entry (entry_in fr.theory.now k (unwrap_or (at here q) here)) ∷ layers_in fr x.layers
+    → IfOk r (IsAlong x.call.value u ys) → IfOk r (FindsCase fr x u p here (Hidden_case k q))
+finds_hidden fr x u p q here k ys (Ok (Some d)) e h = λ w js vs n.
+    let c = call_of fr x.call.value in
+    let same : call_of fr d.value
+        ≡ record c { whole = whole_with c here; along = Some (places_on here q ++ By_entry (entry_in fr.theory.now k (unwrap_or (at here q) here)) ∷ layers_in fr x.layers) } =
+        h fr ∙ (λ i. record c { whole = w i; along = Some (e i) }) in
+    λ i. Yields (pending (Enter_use (sym same i) ∷ js) vs) n
+finds_hidden fr x u p q here k ys (Ok None) e h = absurd h
+finds_hidden fr x u p q here k ys (Err j) e h = tt

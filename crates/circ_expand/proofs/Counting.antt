@@ -1,5 +1,5 @@
 -- Tasks are done until a unit is counted, and until none is left.
-use Rattle.std.proofs.Common.{◌≡◌, ◌≤◌, ◌<◌, ◌⊎◌, ℕ, ◌+◌, List, [], ◌∷◌, ◌++◌, zero, suc, length, min, Result, Ok, Err, refl, ap, sym, ◌∙◌, subst, arith, inl, inr}
+use Rattle.std.proofs.Common.{◌≡◌, ◌==◌, ◌≤◌, ◌<◌, ◌⊎◌, ℕ, ◌+◌, Bool, true, false, List, [], ◌∷◌, ◌++◌, zero, suc, length, min, Result, Ok, Err, refl, ap, sym, ◌∙◌, subst, arith, inl, inr}
 use Rattle.circ_expand.specs.Expand.{Spending, Yields, continued}
 use Rattle.circ_expand.specs.Machine.{Value, Pending, pending, Task as Job, rest_done, tasks_weight, CountsDown}
 use Rattle.circ_expand.specs.Values.{values_of}
@@ -85,3 +85,11 @@ weight_falls n m b k l (inr a) e h = a.1
 pub run_less : {X : Type 0} (n m : ℕ) (xs ys : List X) → 1 ≤ length xs → (m < n) ⊎ ((m ≤ n) × (ys ≡ [])) → m + min 1 (length ys) < n + min 1 (length xs)
 run_less n m xs ys h (inl a) = omega (arith, a, h)
 run_less n m xs ys h (inr a) = let z = ap length a.1 in omega (arith, a.0, z, h)
+
+pub some_there : {X : Type 0} (xs : List X) (b : Bool) → b ≡ (length xs == 0) → b ≡ false → 1 ≤ length xs
+some_there [] b e f = absurd (let z = sym f ∙ e in cc)
+some_there (x ∷ xs) b e f = omega arith
+
+pub none_there : {X : Type 0} (xs : List X) (b : Bool) → b ≡ (length xs == 0) → b ≡ true → xs ≡ []
+none_there [] b e f = refl
+none_there (x ∷ xs) b e f = absurd (let z = sym f ∙ e in cc)

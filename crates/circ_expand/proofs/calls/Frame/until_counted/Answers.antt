@@ -45,11 +45,11 @@ returns-clause-same c =
     let w = c.loop-task.work in
     let p : Work = record w { tasks = c.pop.new.self } in
     c.loop-task.invariant.same
-    ∙ emptied fr w p (no_items w.tasks.items c.in_default.ensures.cases.0) (no_items c.pop.new.self.items c.in_default.ensures.cases.1) refl refl
+    ∙ emptied fr w p (no_items w.tasks.items (sym w.tasks.ok.0 ∙ c.in_default.ensures.cases.0)) (no_items c.pop.new.self.items (sym c.pop.new.self.ok.0 ∙ c.in_default.ensures.cases.1)) refl refl
 
 pub returns-clause-less : goal.returns-clause-less
 returns-clause-less c =
-    inr (omega (arith, c.loop-task.invariant.units, c.loop-task.invariant.first), no_items c.pop.new.self.items c.in_default.ensures.cases.1)
+    inr (omega (arith, c.loop-task.invariant.units, c.loop-task.invariant.first), no_items c.pop.new.self.items (sym c.pop.new.self.ok.0 ∙ c.in_default.ensures.cases.1))
 
 pub returns-in_err-step-clause-halts : goal.returns-in_err-step-clause-halts
 returns-in_err-step-clause-halts c =
