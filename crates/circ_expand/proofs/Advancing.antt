@@ -49,7 +49,7 @@ link_first fr w more t (Equation_link number way path terms conds) v us e h =
     let ts = map (instance c.by) terms in
     let x : Piece = Equation_piece number way (base c ++ path) ts in
     let F : Tree → Spending Pending = λ u. all_tested (link_terms (link_setting f b) l t) (counted w.left (λ n. all_tested ts (tested (around c u)
-        (Yields (pending (Links_job c b (links_at fr more.links.now) u ∷ jobs_of fr w) (In_row (pieces_joined v (more_pieces x no_piece)) ∷ us)) n)))) in
+    (Yields (pending (Links_job c b (links_at fr more.links.now) u ∷ jobs_of fr w) (In_row (pieces_joined v (more_pieces x no_piece)) ∷ us)) n)))) in
     ap F (sym e)
 link_first fr w more t (Content_link op path term) v us e h =
     let f = background_in fr in
@@ -59,7 +59,7 @@ link_first fr w more t (Content_link op path term) v us e h =
     let old = unwrap_or (at t path) t in
     let x : Piece = Content_piece op (base c ++ path) old term (bounds_of c.by old term) in
     let F : Tree → Spending Pending = λ u. all_tested (link_terms (link_setting f b) l t) (counted w.left (λ n. tested (instance c.by term) (tested (around c u)
-        (Yields (pending (Links_job c b (links_at fr more.links.now) u ∷ jobs_of fr w) (In_row (pieces_joined v (more_pieces x no_piece)) ∷ us)) n)))) in
+    (Yields (pending (Links_job c b (links_at fr more.links.now) u ∷ jobs_of fr w) (In_row (pieces_joined v (more_pieces x no_piece)) ∷ us)) n)))) in
     ap F (sym e)
 link_first fr w more t (Assumption_link number way path) v us e h =
     let f = background_in fr in
@@ -68,7 +68,7 @@ link_first fr w more t (Assumption_link number way path) v us e h =
     let l : LinkOf Tree = Assumption_link number way path in
     let x : Piece = Assumption_piece (b.raised + number) way (base c ++ path) in
     let F : Tree → Spending Pending = λ u. all_tested (link_terms (link_setting f b) l t) (counted w.left (λ n. tested (around c u)
-        (Yields (pending (Links_job c b (links_at fr more.links.now) u ∷ jobs_of fr w) (In_row (pieces_joined v (more_pieces x no_piece)) ∷ us)) n))) in
+    (Yields (pending (Links_job c b (links_at fr more.links.now) u ∷ jobs_of fr w) (In_row (pieces_joined v (more_pieces x no_piece)) ∷ us)) n))) in
     ap F (sym e)
 link_first fr w more t (Hypothesis_link number way path terms conds) v us e h =
     let f = background_in fr in
@@ -79,7 +79,7 @@ link_first fr w more t (Hypothesis_link number way path terms conds) v us e h =
     let q = followed_at b.hypotheses number in
     let d : Tree → Use = λ u. used f c q (start_of way (around c t) (around c u)) (instance c.by t) path (by_terms (goal_in q.history) ts) in
     let G : Tree → List Value → Spending Pending = λ u vs. counted w.left (λ n. all_tested ts (tested (around c u)
-        (Yields (pending (Enter_use (d u) ∷ Put_behind way ∷ Links_job c b (links_at fr more.links.now) u ∷ jobs_of fr w) vs) n))) in
+    (Yields (pending (Enter_use (d u) ∷ Put_behind way ∷ Links_job c b (links_at fr more.links.now) u ∷ jobs_of fr w) vs) n))) in
     let T : Spending Pending → Spending Pending = all_tested (link_terms (link_setting f b) l t ++ stood c t) in
     ap (λ u. T (G u (In_row v ∷ us))) (sym e) ∙ ap (λ vs. T (G more.term vs)) (sym h)
     ∙ tests_append (link_terms (link_setting f b) l t) (stood c t) (G more.term (values_of w.values))
@@ -91,7 +91,7 @@ pub linked_on : (fr : Frame) (w w1 : Work) (more : Links) (ts : List Tree) (x y 
 linked_on fr w w1 more ts x y v us l js none e =
     let c = call_of fr more.call.value in
     let G : List Job → Piece → Spending Pending = λ ks z. tested (around c more.term)
-        (Yields (pending (links_job fr more ∷ ks) (In_row (pieces_joined v (more_pieces z no_piece)) ∷ us)) w1.left) in
+    (Yields (pending (links_job fr more ∷ ks) (In_row (pieces_joined v (more_pieces z no_piece)) ∷ us)) w1.left) in
     counted_one w.left w1.left (linked fr w more ts x v us) l ∙ tests_none ts (G (jobs_of fr w) x) none ∙ ap (λ ks. G ks x) js ∙ ap (G (jobs_of fr w1)) e
 
 -- .. and the terms of a row are instances
@@ -107,7 +107,7 @@ pub linked_past : (fr : Frame) (w : Work) (more : Links) (ts : List Tree) (x : P
     → Names e (first_of ts) → Halts (counted w.left (linked fr w more ts x v us)) (halt.Past e)
 linked_past fr w more ts x v us n e l h =
     let o : Spending Pending = tested (around (call_of fr more.call.value) more.term)
-        (Yields (pending (links_job fr more ∷ jobs_of fr w) (In_row (pieces_joined v (more_pieces x no_piece)) ∷ us)) n) in
+    (Yields (pending (links_job fr more ∷ jobs_of fr w) (In_row (pieces_joined v (more_pieces x no_piece)) ∷ us)) n) in
     halts_past (counted w.left (linked fr w more ts x v us)) (all_tested ts o) e (counted_one w.left n (linked fr w more ts x v us) l) (names_tests ts o e h)
 
 -- the whole term of a link is past a limit, or the row is written
@@ -137,7 +137,7 @@ used_past fr w more number way path ts standing before n e l h =
     let q = followed_at (basis_of fr more.basis.value).hypotheses number in
     let d = used (background_in fr) c q (start_of way before (around c more.term)) standing path (by_terms (goal_in q.history) us) in
     let o : Spending Pending = tested (around c more.term)
-        (Yields (pending (Enter_use d ∷ Put_behind way ∷ links_job fr more ∷ jobs_of fr w) (values_of w.values)) n) in
+    (Yields (pending (Enter_use d ∷ Put_behind way ∷ links_job fr more ∷ jobs_of fr w) (values_of w.values)) n) in
     halts_past (counted w.left (hypothesised fr w more number way path ts standing before)) (all_tested us o) e
     (counted_one w.left n (hypothesised fr w more number way path ts standing before) l) (names_tests us o e h)
 
@@ -183,7 +183,7 @@ pub step_first : (fr : Frame) (l : Links) (w : Work) (x : Link ℕ) (rest : List
 step_first fr l w x rest more v us e c b r t h =
     let f = background_in fr in
     let F : Call → Basis → List (Link ℕ) → Pieces → List Value → Spending Pending = λ d s ls z vs.
-        links_step (all_uses f) f (call_of fr d) (basis_of fr s) (links_at fr ls) l.term (jobs_of fr w) z vs w.left in
+    links_step (all_uses f) f (call_of fr d) (basis_of fr s) (links_at fr ls) l.term (jobs_of fr w) z vs w.left in
     on_last (values_of w.values) (F l.call.value l.basis.value l.links.now) v us h
     ∙ (λ i. F (sym c i) (sym b i) ((e ∙ ap (λ ls. x ∷ ls) (sym r)) i) v us)
     ∙ link_first fr w more l.term (resolved_link fr.table.now (plain_link x)) v us t h

@@ -125,7 +125,7 @@ module _ (run : Expander) (f : Background) (same : CountsThem run) where
         let z : Tree = led_all (link_setting f b) chain.right t in
         let V : Pieces → Pieces → Parts → ℕ → Spending Pieces = λ xs ys ps i. Yields (pieces_joined xs (more_pieces (Cases_piece u ps) (turned ys))) i in
         let W : List Pair → Pieces → Pieces → ℕ → Spending Pieces =
-            λ X xs ys j. tested u (continued (each_why run f (under X c) b ws term l l.constants y z j) (V xs ys)) in
+        λ X xs ys j. tested u (continued (each_why run f (under X c) b ws term l l.constants y z j) (V xs ys)) in
         let R : List Pair → Pieces → ℕ → Spending Pieces = λ X xs m. continued (links_written run f (under X c) b chain.right t m) (λ ys k. counted k (W X xs ys)) in
         ap (all_tested (trail (link_setting f b) chain.left s ++ trail (link_setting f b) chain.right t))
         (both_same (links_written run f (under A c) b chain.left s n) (links_written run f (under B c) b chain.left s n) (R A) (R B)
@@ -160,7 +160,7 @@ module _ (run : Expander) (f : Background) (same : CountsThem run) where
       let V : Pieces → Pieces → Pieces → ℕ → Spending Pieces = λ xs ys zs i. Yields (pieces_joined xs (pieces_joined zs (turned ys))) i in
       let W : List Pair → Pieces → Pieces → ℕ → Spending Pieces = λ X xs ys j. continued (run (under X d) j) (V xs ys) in
       let R : ℕ → List Pair → Pieces → ℕ → Spending Pieces =
-          λ k X xs m. continued (links_written run f (under X c) (b k) chain.right g.right m) (λ ys i. counted i (W X xs ys)) in
+      λ k X xs m. continued (links_written run f (under X c) (b k) chain.right g.right m) (λ ys i. counted i (W X xs ys)) in
       let E : ℕ → List Pair → Spending Pieces = λ k X. continued (links_written run f (under X c) (b k) chain.left g.left n) (R k X) in
       let k : ℕ = length A in
       ap (all_tested (trail (link_setting f (basis_in run f c)) chain.left g.left))

@@ -119,9 +119,9 @@ place_begun fr c t i xs e cs x y js h ce en =
     let l : by_of y.left.value ≡ matching start at_left = en.left ∙ ap (λ u. matching u at_left) s in
     let r : by_of y.right.value ≡ matching start at_right = en.right ∙ ap (λ u. matching u at_right) s in
     λ j. Links_job (certified_call run f d cs (l j)) (ce.basis j) (ce.links j) (s j) ∷ Empty_row
-        ∷ Links_job (certified_call run f d cs (r j)) (ce.basis j) (ce.links j) (s j) ∷ Empty_row
-        ∷ Occurrences (record d { entries = cs }) xs (en.new j) (z j) (paths_of 0 (arg_sort fr.theory.now g) (z j)) (instance (l j) (z j))
-        ∷ Put_between ∷ js
+    ∷ Links_job (certified_call run f d cs (r j)) (ce.basis j) (ce.links j) (s j) ∷ Empty_row
+    ∷ Occurrences (record d { entries = cs }) xs (en.new j) (z j) (paths_of 0 (arg_sort fr.theory.now g) (z j)) (instance (l j) (z j))
+    ∷ Put_between ∷ js
 
 -- the certificate is past a limit, or an end is
 pub place_past : (fr : Frame) (c : Call) (t : Tree) (i : ℕ) (xs : List Layer) (w : Work) (e : Numbered) (cs : List Numbered) → (call_of fr c).entries ≡ e ∷ cs
@@ -267,7 +267,7 @@ changed_none fr x p here v us w n e =
     let c = call_of fr x.call.value in
     let u = put_or_same here p x.new in
     ap (λ k. case_step (all_uses f) f k (occurrence_call (all_uses f) f c (layers_in fr x.layers) here p k)
-        (Put_behind Forth ∷ Occurrences c (layers_in fr x.layers) x.new x.last (drop (x.done + 1) (plain_paths x.paths.value.items)) u ∷ jobs_of fr w) (In_row v ∷ us) n) e
+    (Put_behind Forth ∷ Occurrences c (layers_in fr x.layers) x.new x.last (drop (x.done + 1) (plain_paths x.paths.value.items)) u ∷ jobs_of fr w) (In_row v ∷ us) n) e
 
 pub changed_found : (fr : Frame) (x : Changes) (p : List ℕ) (here whole next : Tree) (v : Pieces) (us : List Value) (w new : Work) (d : Rc Call Global)
     → FindsCase fr x whole p here (guard_case fr.theory.now fr.gamma.now x.last p) (Some d) → whole ≡ whole_with (call_of fr x.call.value) here
@@ -301,11 +301,12 @@ pub certificate_taken : (fr : Frame) (g : Place) (n : ℕ) (r : Result Tree Term
     → BuildsLast r (trail S (resolved_links xs (plain_links ls)) s) (led_all S (resolved_links xs (plain_links ls)) s)
     → LeadsCertificate fr g n s r
 certificate_taken fr g n (Ok u) s ls S xs a b l e w h =
-    let t = all_built_at (Ok u) S (certificate_setting fr) xs fr.table.now ls s a b h in
-    (t.0 ∙ ap (λ ks. led_all (certificate_setting fr) ks s) l,
-    ap (λ x. first_of (x ∷ trail (certificate_setting fr) ((background_in fr).certificate g n) x)) (sym e)
-    ∙ first_more s (trail (certificate_setting fr) ((background_in fr).certificate g n) s) w
-    (ap (λ ks. first_of (trail (certificate_setting fr) ks s)) (sym l) ∙ t.1))
+    let t = all_built_at (Ok u) S (certificate_setting fr) xs fr.table.now ls s a b h in (
+      t.0 ∙ ap (λ ks. led_all (certificate_setting fr) ks s) l,
+      ap (λ x. first_of (x ∷ trail (certificate_setting fr) ((background_in fr).certificate g n) x)) (sym e)
+          ∙ first_more s (trail (certificate_setting fr) ((background_in fr).certificate g n) s) w
+          (ap (λ ks. first_of (trail (certificate_setting fr) ks s)) (sym l) ∙ t.1),
+    )
 certificate_taken fr g n (Err k) s ls S xs a b l e w h =
     let t = all_built_at (Err k) S (certificate_setting fr) xs fr.table.now ls s a b h in
     let P : List (LinkOf Tree) → Type 0 = λ ks. Names k (first_of (trail (certificate_setting fr) ks s)) in
@@ -329,7 +330,7 @@ pub finds_place : (fr : Frame) (x : Changes) (u : Tree) (p : List ℕ) (here : T
 finds_place fr x u p here ys (Ok (Some d)) e h = λ w js vs n.
     let c = call_of fr x.call.value in
     let same : call_of fr d.value ≡ record c { whole = whole_with c here; along = Some (places_on here p ++ layers_in fr x.layers) } =
-        h fr ∙ (λ i. record c { whole = w i; along = Some (e i) }) in
+    h fr ∙ (λ i. record c { whole = w i; along = Some (e i) }) in
     λ i. Yields (pending (Enter_use (sym same i) ∷ js) vs) n
 finds_place fr x u p here ys (Ok None) e h = absurd h
 finds_place fr x u p here ys (Err k) e h = tt
@@ -340,8 +341,8 @@ pub finds_hidden : (fr : Frame) (x : Changes) (u : Tree) (p q : List ℕ) (here 
 finds_hidden fr x u p q here k ys (Ok (Some d)) e h = λ w js vs n.
     let c = call_of fr x.call.value in
     let same : call_of fr d.value
-        ≡ record c { whole = whole_with c here; along = Some (places_on here q ++ By_entry (entry_in fr.theory.now k (unwrap_or (at here q) here)) ∷ layers_in fr x.layers) } =
-        h fr ∙ (λ i. record c { whole = w i; along = Some (e i) }) in
+    ≡ record c { whole = whole_with c here; along = Some (places_on here q ++ By_entry (entry_in fr.theory.now k (unwrap_or (at here q) here)) ∷ layers_in fr x.layers) } =
+    h fr ∙ (λ i. record c { whole = w i; along = Some (e i) }) in
     λ i. Yields (pending (Enter_use (sym same i) ∷ js) vs) n
 finds_hidden fr x u p q here k ys (Ok None) e h = absurd h
 finds_hidden fr x u p q here k ys (Err j) e h = tt

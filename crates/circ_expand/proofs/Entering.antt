@@ -51,10 +51,10 @@ simplified_on fr c b g chain h s d w new e is none same js vs n =
     let ls = links_at fr chain.left.items in
     let rs = links_at fr chain.right.items in
     let F : _ → Spending Pending = λ x. all_tested (trail (link_setting f x) ls g.left)
-        (Yields (pending (Links_job (call_of fr c) x ls g.left ∷ Empty_row ∷ Links_job (call_of fr c) x rs g.right
-        ∷ Begin_use (simplified_call run f (call_of fr c) (led_all (link_setting f x) ls g.left) h) ∷ Put_between ∷ jobs_of fr w) (In_row no_piece ∷ values_of w.values)) w.left) in
+    (Yields (pending (Links_job (call_of fr c) x ls g.left ∷ Empty_row ∷ Links_job (call_of fr c) x rs g.right
+    ∷ Begin_use (simplified_call run f (call_of fr c) (led_all (link_setting f x) ls g.left) h) ∷ Put_between ∷ jobs_of fr w) (In_row no_piece ∷ values_of w.values)) w.left) in
     let G : Use → Spending Pending = λ y. Yields (pending (begun_sides fr c b chain g.left g.right (Begin_use y ∷ Put_between ∷ jobs_of fr w))
-        (In_row no_piece ∷ values_of w.values)) w.left in
+    (In_row no_piece ∷ values_of w.values)) w.left in
     ap F (sym e)
     ∙ tests_none (trail (link_setting f (basis_of fr b)) ls g.left)
     (G (simplified_call run f (call_of fr c) (led_all (link_setting f (basis_of fr b)) ls g.left) h)) none
@@ -72,7 +72,7 @@ simplified_past fr c b g chain h w e is past =
     let rs = links_at fr chain.right.items in
     let T : _ → List Tree = λ x. trail (link_setting f x) ls g.left in
     let o : _ → Spending Pending = λ x. Yields (pending (Links_job (call_of fr c) x ls g.left ∷ Empty_row ∷ Links_job (call_of fr c) x rs g.right
-        ∷ Begin_use (simplified_call run f (call_of fr c) (led_all (link_setting f x) ls g.left) h) ∷ Put_between ∷ jobs_of fr w) (In_row no_piece ∷ values_of w.values)) w.left in
+    ∷ Begin_use (simplified_call run f (call_of fr c) (led_all (link_setting f x) ls g.left) h) ∷ Put_between ∷ jobs_of fr w) (In_row no_piece ∷ values_of w.values)) w.left in
     let b0 = basis_in run f (call_of fr c) in
     halts_past (all_tested (T b0) (o b0)) (all_tested (T (basis_of fr b)) (o (basis_of fr b))) e (ap (λ x. all_tested (T x) (o x)) (sym is))
     (names_tests (T (basis_of fr b)) (o (basis_of fr b)) e past)

@@ -56,14 +56,14 @@ pub reasons_end : (fr : Frame) (r : Reasons) (w : Work) → r.whys.now ≡ []
 reasons_end fr r w e =
     let f = background_in fr in
     ap (λ ws. reasons_step (all_uses f) f (call_of fr r.call.value) (basis_of fr r.basis.value) (whys_at fr ws) r.term (case_list_of r) r.constants.now
-        r.left r.right (jobs_of fr w) (values_of w.values) w.left) e
+    r.left r.right (jobs_of fr w) (values_of w.values) w.left) e
 
 pub constants_end : (fr : Frame) (r : Reasons) (w : Work) (x : Why ℕ) (xs : List (Why ℕ)) → r.whys.now ≡ x ∷ xs → r.constants.now ≡ []
     → stepped fr (reasons_job fr r) w ≡ Yields (pending (jobs_of fr w) (In_parts no_part ∷ values_of w.values)) w.left
 constants_end fr r w x xs e h =
     let f = background_in fr in
     let F : List (Why ℕ) → List ℕ → Spending Pending = λ ws ks. reasons_step (all_uses f) f (call_of fr r.call.value) (basis_of fr r.basis.value)
-        (whys_at fr ws) r.term (case_list_of r) ks r.left r.right (jobs_of fr w) (values_of w.values) w.left in
+    (whys_at fr ws) r.term (case_list_of r) ks r.left r.right (jobs_of fr w) (values_of w.values) w.left in
     ap (λ ws. F ws r.constants.now) e ∙ ap (F (x ∷ xs)) h
 
 -- the next case, with as many assumptions as it has
@@ -93,7 +93,7 @@ pub case_first : (fr : Frame) (r : Reasons) (w : Work) (x : Why ℕ) (xs : List 
 case_first fr r w x xs k ks e h =
     let f = background_in fr in
     let F : List (Why ℕ) → List ℕ → Spending Pending = λ ws cs. reasons_step (all_uses f) f (call_of fr r.call.value) (basis_of fr r.basis.value)
-        (whys_at fr ws) r.term (case_list_of r) cs r.left r.right (jobs_of fr w) (values_of w.values) w.left in
+    (whys_at fr ws) r.term (case_list_of r) cs r.left r.right (jobs_of fr w) (values_of w.values) w.left in
     ap (λ ws. F ws r.constants.now) e ∙ ap (F (x ∷ xs)) h
 
 -- a case with other assumptions, as many, is given in the same way
@@ -115,11 +115,11 @@ case_goes fr r w new x xs k ks j e h none is js vs n =
     let y : Job = Give_reason (under (assumed (suc r.call.value.assumptions)) d) b (why_at fr x) r.left r.right in
     let jobs : jobs_of fr new ≡ y ∷ rest = js ∙ ap (λ z. z ∷ rest) is in
     let yields : stepped fr (reasons_job fr r) w ≡ Yields u new.left =
-        case_first fr r w x xs k ks e h ∙ tests_none (case_terms fr r) (Yields u w.left) none ∙ ap (Yields u) (sym n) in
+    case_first fr r w x xs k ks e h ∙ tests_none (case_terms fr r) (Yields u w.left) none ∙ ap (Yields u) (sym n) in
     let same : rest_done f u new.left ≡ rest_done f (pending_of fr new) new.left =
-        case_alike f d r.call.value.assumptions p b (why_at fr x) r.left r.right rest (values_of w.values) new.left
-        ∙ ap (λ zs. rest_done f (pending zs (values_of w.values)) new.left) (sym jobs)
-        ∙ ap (λ us. rest_done f (pending (jobs_of fr new) us) new.left) (sym vs) in
+    case_alike f d r.call.value.assumptions p b (why_at fr x) r.left r.right rest (values_of w.values) new.left
+    ∙ ap (λ zs. rest_done f (pending zs (values_of w.values)) new.left) (sym jobs)
+    ∙ ap (λ us. rest_done f (pending (jobs_of fr new) us) new.left) (sym vs) in
     (u, yields, same, ap tasks_weight (sym jobs))
 
 -- both sides of a reason, and before a split its terms are tested
@@ -190,7 +190,7 @@ split_begun fr b d chain v s t ws r w new a e job term js vs n =
     let ls = links_at fr chain.left.items in
     let rs = links_at fr chain.right.items in
     let G : Job → Tree → Spending Pending = λ k u. Yields (pending (begun_sides fr d b chain s t (Begin_split u ∷ k ∷ End_split u ∷ Put_between ∷ jobs_of fr w))
-        (In_row no_piece ∷ values_of w.values)) w.left in
+    (In_row no_piece ∷ values_of w.values)) w.left in
     let l = cases_at (all_uses f) f (sort_of v) in
     let first : Job = Give_reasons (call_of fr d) (basis_of fr b) ws v l l.constants (led_all S ls s) (led_all S rs t) in
     tests_none (trail S ls s ++ trail S rs t) (G first (instance (call_of fr d).by v)) (none_first (trail S ls s) (trail S rs t) a ∙ e)

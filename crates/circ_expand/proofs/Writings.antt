@@ -64,7 +64,7 @@ pub worked_past : (fr : Frame) (n : ℕ) (cs : List Numbered) (k : ℕ) (e : Ter
 worked_past fr n cs k e h =
     let g = followed_of fr n in
     let o : Spending Pieces = tested (on (bare_entries cs) (goal_in g.history).left) (tested (on (bare_entries cs) (goal_in g.history).right)
-        (continued (rest_done (background_in fr) (pending (Begin_use (opening_of fr n cs) ∷ []) []) k) last_row)) in
+    (continued (rest_done (background_in fr) (pending (Begin_use (opening_of fr n cs) ∷ []) []) k) last_row)) in
     names_tests (stages (bare_entries cs) (goal_in g.history).left ++ stages (bare_entries cs) (goal_in g.history).right) o e h
 
 pub worked_on : (fr : Frame) (n : ℕ) (cs : List Numbered) (k : ℕ) (u : Tree)
@@ -99,10 +99,17 @@ pub same_work : (fr : Frame) (th : Theory) (p : Proof) (n : ℕ) (ws : List Writ
 same_work fr th p n ws k b g =
     let cs = numbered_entries th ws in
     let F : Background → History_in → Spending Pieces = λ f q.
-        all_tested (stages (bare_entries cs) (goal_in q.history).left ++ stages (bare_entries cs) (goal_in q.history).right)
-        (tested (on (bare_entries cs) (goal_in q.history).left) (tested (on (bare_entries cs) (goal_in q.history).right)
-        (continued (rest_done f (pending (Begin_use (record { whole = on (bare_entries cs) (goal_in q.history).left; path = []; entries = cs; along = None; goal = q;
-        by = Var; assumptions = [] }) ∷ []) []) k) last_row))) in
+    all_tested (stages (bare_entries cs) (goal_in q.history).left ++ stages (bare_entries cs) (goal_in q.history).right)
+    (tested (on (bare_entries cs) (goal_in q.history).left) (tested (on (bare_entries cs) (goal_in q.history).right)
+    (continued (rest_done f (pending (Begin_use (record {
+      whole = on (bare_entries cs) (goal_in q.history).left;
+      path = [];
+      entries = cs;
+      along = None;
+      goal = q;
+      by = Var;
+      assumptions = [];
+    }) ∷ []) []) k) last_row))) in
     λ i. F (b i) (g i)
 
 lists_same : (table : List Tree) (cs : List (Vec (Link ℕ))) → lists_in table cs ≡ map (map (map_link (named table))) (plain_certificates cs)
@@ -115,7 +122,7 @@ pub same_background : (fr : Frame) (proof : TheProof) → fr.table.now ≡ proof
 same_background fr proof t g l b =
     let hypotheses = ap (λ xs. hypotheses_in xs fr.book.now.nodes.items fr.book.now.goals.items 0 fr.book.now.blocks.items) t ∙ b.hypotheses in
     let lists : lists_in fr.table.now fr.lists.now ≡ certificates_of (plain_proof proof) =
-        (λ i. lists_in (t i) (l i)) ∙ lists_same proof.table.items proof.certificates.items in
+    (λ i. lists_in (t i) (l i)) ∙ lists_same proof.table.items proof.certificates.items in
     λ i. record {
       theory = fr.theory.now;
       places = g i;
@@ -137,9 +144,10 @@ fits_few th ok [] s f = tt
 fits_few th ok (e ∷ es) s f =
     let d = f.0 in
     let vs : List Variable = filter is_parameter (occurrences d.body) in
-    let few = (ok.derivatives d (contains_at th.derivatives e.derivative d f.1.listed)).few in
-    (omega (arith, few, ap length f.1.fit, length-map e.params.items sort_of, length-map vs (λ v. v.sort), length-map vs (λ v. v.number)),
-    fits_few th ok es (sort_of d.body) f.2)
+    let few = (ok.derivatives d (contains_at th.derivatives e.derivative d f.1.listed)).few in (
+      omega (arith, few, ap length f.1.fit, length-map e.params.items sort_of, length-map vs (λ v. v.sort), length-map vs (λ v. v.number)),
+      fits_few th ok es (sort_of d.body) f.2,
+    )
 
 pub ends_of_goal : (fr : Frame) (n : ℕ) (cs es : List Numbered) (g : History_in) (r : Result Tree TermFault) → es ≡ cs → g ≡ followed_of fr n
     → EndsIn (bare_entries es) (goal_in g.history).left (goal_in g.history).right r

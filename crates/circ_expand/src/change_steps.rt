@@ -195,12 +195,7 @@ impl<'a> Frame<'a, '_> {
     }
 
     // The entry of the derivative of this number whose instance stands at the path, alone.
-    fn entry_at(
-        &self,
-        number: u32,
-        here: &Term,
-        path: &[u16],
-    ) -> Result<Vec<Rc<Held>>, AllocError>
+    fn entry_at(&self, number: u32, here: &Term, path: &[u16]) -> Result<Vec<Rc<Held>>, AllocError>
         ensures { IfOk result (λ v. entries_of self.now.theory.now v.items ≡ entry_in
             self.now.theory.now number (unwrap_or (at here.now path.now) here.now) ∷ []) }
     {

@@ -113,7 +113,10 @@ impl<'a> Frame<'a, '_> {
             next Open)) work.old) work.new result }
     {
         let basis = self.full_basis(&call)?;
-        match (&*self).side(&basis).led_all(chain.left.as_slice(), &goal.left) {
+        match (&*self)
+            .side(&basis)
+            .led_all(chain.left.as_slice(), &goal.left)
+        {
             Ok(left) => {
                 work.tasks.push(Task::PutBetween)?;
                 work.tasks.push(Task::BeginSimpler(Simpler {
@@ -274,11 +277,7 @@ impl<'a> Frame<'a, '_> {
     }
 
     // A use whose whole term has the left side that the goal is simplified to in it.
-    pub(crate) fn enter_simpler(
-        &self,
-        work: &mut Work<'a>,
-        simpler: Simpler,
-    ) -> Result<(), Halt>
+    pub(crate) fn enter_simpler(&self, work: &mut Work<'a>, simpler: Simpler) -> Result<(), Halt>
         ensures { Steps self.now (stepped self.now (Enter_use (simpler_use self.now simpler))
             work.old) work.new result }
     {

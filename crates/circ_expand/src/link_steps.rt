@@ -104,9 +104,11 @@ impl<'a> Frame<'a, '_> {
             Link::Assumption { number, way, path } => {
                 self.assumption_step(work, more, *number, *way, path.as_slice())
             }
-            Link::Content { op, path, term: new } => {
-                self.content_step(work, term, more, *op, path.as_slice(), *new)
-            }
+            Link::Content {
+                op,
+                path,
+                term: new,
+            } => { self.content_step(work, term, more, *op, path.as_slice(), *new) }
         }
     }
 

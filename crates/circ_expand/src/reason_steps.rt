@@ -102,11 +102,17 @@ impl<'a> Frame<'a, '_> {
             reason.entry.left reason.entry.right (jobs_of self.now work.old) (values_of work.old.values) work.old.left)
             work.new result }
     {
-        let left = match (&*self).side(&reason.basis).led_all(chain.left.as_slice(), &reason.left) {
+        let left = match (&*self)
+            .side(&reason.basis)
+            .led_all(chain.left.as_slice(), &reason.left)
+        {
             Ok(left) => left,
             Err(fault) => return Err(Halt::Past(fault)),
         };
-        let right = match (&*self).side(&reason.basis).led_all(chain.right.as_slice(), &reason.right) {
+        let right = match (&*self)
+            .side(&reason.basis)
+            .led_all(chain.right.as_slice(), &reason.right)
+        {
             Ok(right) => right,
             Err(fault) => return Err(Halt::Past(fault)),
         };
@@ -224,7 +230,9 @@ impl<'a> Frame<'a, '_> {
     ) -> Result<Reason<'a>, AllocError>
         ensures { IfOk result (λ r. reason_job self.now r ≡ Give_reason
             (record (call_of self.now reasons.now.call.value) {
-            whole = whole; assumptions = assumed (suc reasons.now.call.value.assumptions) })
+              whole = whole;
+              assumptions = assumed (suc reasons.now.call.value.assumptions);
+            })
             (case_basis (all_uses (background_in self.now)) (background_in self.now)
             (basis_of self.now reasons.now.basis.value)
             (is_case reasons.now.term (case_list_of reasons.now) constant))
@@ -242,7 +250,9 @@ impl<'a> Frame<'a, '_> {
     // One assumption more. No memory holds so many that their number does not fit.
     fn case_call(&self, call: &Call, whole: Term) -> Result<Rc<Call>, AllocError>
         ensures { IfOk result (λ d. call_of self.now d.value ≡ record (call_of self.now call.now) {
-            whole = whole; assumptions = assumed (suc call.now.assumptions) }) }
+          whole = whole;
+          assumptions = assumed (suc call.now.assumptions);
+        }) }
     {
         let Some(assumptions) = call.assumptions.checked_add(1) else {
             return Err(AllocError);
@@ -254,12 +264,7 @@ impl<'a> Frame<'a, '_> {
     }
 
     // With the assumption that the term is the constant.
-    fn case_basis(
-        &self,
-        basis: &Basis,
-        term: &Term,
-        constant: u32,
-    ) -> Result<Rc<Basis>, AllocError>
+    fn case_basis(&self, basis: &Basis, term: &Term, constant: u32) -> Result<Rc<Basis>, AllocError>
         ensures { IfOk result (λ b. (all : List ℕ) → basis_of self.now b.value ≡
             case_basis (all_uses (background_in self.now)) (background_in self.now)
             (basis_of self.now basis.now)

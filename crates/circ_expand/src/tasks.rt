@@ -108,15 +108,9 @@ pub(crate) enum Task<'a> {
     BeginSimpler(Simpler),
     EnterSimpler(Simpler),
     // The occurrences, in the instance of the last term.
-    FirstChange {
-        changes: Changes,
-        by: Rc<By>,
-    },
+    FirstChange { changes: Changes, by: Rc<By> },
     // The occurrences, in this term.
-    NextChange {
-        changes: Changes,
-        here: Term,
-    },
+    NextChange { changes: Changes, here: Term },
     EmptyRow,
     PutBehind(Way),
     PutBetween,

@@ -45,7 +45,10 @@ fn gather_pairs(pairs: &[Pair], variables: &mut BTreeSet<Variable>) -> Result<()
 }
 
 // The variables of a goal, or none where there is no goal.
-pub(crate) fn variables_in(alloc: Global, goal: Option<&Goal>) -> Result<BTreeSet<Variable>, AllocError>
+pub(crate) fn variables_in(
+    alloc: Global,
+    goal: Option<&Goal>,
+) -> Result<BTreeSet<Variable>, AllocError>
     ensures { IfOk result (λ s. map variable_of s.keys ≡
         sorted (variables_of (unwrap_or (option_copied goal.entry) no_goal))) }
 {

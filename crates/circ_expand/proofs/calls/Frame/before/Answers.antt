@@ -27,5 +27,5 @@ pub returns : goal.returns
 returns c =
     let ds = c.args.self.now.theory.now.derivatives in
     let done = holes_done c.args.sort (take c.args.derivative ds) c.loop-number.number
-        (omega (arith, length-take c.args.derivative ds, c.loop-number-test.false)) in
+    (omega (arith, length-take c.args.derivative ds, c.loop-number-test.false)) in
     omega (arith, done, c.loop-number.invariant.same)

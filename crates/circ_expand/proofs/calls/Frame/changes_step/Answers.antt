@@ -15,7 +15,7 @@ returns-then-ends_in_row c =
     let x = c.args.changes in
     let w = c.args.work.now in
     no_row (values_of w.values) (λ v us. occurrences_step (all_uses f) f (call_of fr x.call.value) (layers_in fr x.layers) x.new x.last
-        (drop x.done (plain_paths x.paths.value.items)) c.args.here (jobs_of fr w) v us w.left)
+    (drop x.done (plain_paths x.paths.value.items)) c.args.here (jobs_of fr w) v us w.left)
     (sym c.ends_in_row.ensures ∙ c.if-ends_in_row.true)
 
 pub returns-in_default : goal.returns-in_default

@@ -47,10 +47,10 @@ returns-in-Ok c = λ v us e.
     let n : c.in_ok-new.new ≡ new = c.in_ok-new.ensures in
     let x : Piece = Content_piece c.args.op (base d ++ c.args.path.now) old new (bounds_of d.by old new) in
     let y : Piece = Content_piece c.args.op c.in_ok-path-in-Ok.path.items c.in_ok-old-in-Ok.old c.in_ok-new.new
-        (map given_bound c.in_ok-by-in-Ok.by.items) in
+    (map given_bound c.in_ok-by-in-Ok.by.items) in
     let same : x ≡ y =
-        (λ i. Content_piece c.args.op (sym c.in_ok-path-in-Ok.ensures i) (sym o i) (sym n i) (bounds_of d.by (sym o i) (sym n i)))
-        ∙ ap (Content_piece c.args.op c.in_ok-path-in-Ok.path.items c.in_ok-old-in-Ok.old c.in_ok-new.new) (sym c.in_ok-by-in-Ok.ensures) in
+    (λ i. Content_piece c.args.op (sym c.in_ok-path-in-Ok.ensures i) (sym o i) (sym n i) (bounds_of d.by (sym o i) (sym n i)))
+    ∙ ap (Content_piece c.args.op c.in_ok-path-in-Ok.path.items c.in_ok-old-in-Ok.old c.in_ok-new.new) (sym c.in_ok-by-in-Ok.ensures) in
     steps_same fr (counted w.left (linked fr w more (instance d.by new ∷ []) x v us)) (linked fr mid more [] y v us mid.left) c.write.new.work c.write.result
     (linked_on fr w mid more (instance d.by new ∷ []) x y v us (omega (arith, c.if-work-eq0.false)) refl
     (first_alone (instance d.by new) (ap (λ t. first_limit (instance d.by t)) (sym n) ∙ c.in-Ok.ensures.1)) same)

@@ -33,12 +33,12 @@ returns c =
     let new : Work = record w { tasks = c.push.new.self } in
     let entries : (call_of fr d).entries ≡ e ∷ cs = ap (entries_of th) c.in-Some.ensures ∙ entries_last th x.last (front x.rest) in
     let same : call_of fr c.in_ok-next-2.next.value ≡ derive_call (all_uses (background_in fr)) (background_in fr) (call_of fr d) c.args.goal.now hs e cs =
-        ap (call_of fr) c.in_ok-next-2.ensures
-        ∙ (λ i. let y : Use = c.in_ok-next.ensures fr i in record y {
-            entries = cs;
-            along = None;
-            goal = record { block = d.goal.block; history = c.child-child.ensures i };
-            by = c.in_ok-extended.ensures i;
-        }) in
+    ap (call_of fr) c.in_ok-next-2.ensures
+    ∙ (λ i. let y : Use = c.in_ok-next.ensures fr i in record y {
+      entries = cs;
+      along = None;
+      goal = record { block = d.goal.block; history = c.child-child.ensures i };
+      by = c.in_ok-extended.ensures i;
+    }) in
     derived_on fr d c.args.goal.now hs e cs (call_of fr c.in_ok-next-2.next.value) w new entries same
     (jobs_pushed fr w.tasks.items c.push.new.self.items (task.BeginUse c.in_ok-next-2.next) c.in_ok-push.ensures.items) refl refl

@@ -19,13 +19,13 @@ returns-then-is_hidden c =
     let yes : Use = record d { whole = c.args.whole; along = Some (places_on c.args.standing.now p); goal = g; by = σ } in
     let no : Use = record d { whole = c.args.whole; path = base d ++ p; entries = []; along = None; goal = g; by = σ } in
     let test : is_hidden th (sort_of (goal_in g.history).left) ≡ true =
-        ap (is_hidden th) (sym c.sort.ensures) ∙ sym c.is_hidden.ensures.exact ∙ c.if-is_hidden.true in
+    ap (is_hidden th) (sym c.sort.ensures) ∙ sym c.is_hidden.ensures.exact ∙ c.if-is_hidden.true in
     ap (call_of fr) c.in_ok-new-then-is_hidden.ensures
     ∙ (λ i. let y : Use = c.in_ok-next.ensures fr i in record y {
-        whole = c.args.whole;
-        along = Some ((ap (layers_of th) c.in_ok-of-then-is_hidden.ensures ∙ c.in_ok-add_places-then-is_hidden.ensures th) i);
-        goal = g;
-        by = σ;
+      whole = c.args.whole;
+      along = Some ((ap (layers_of th) c.in_ok-of-then-is_hidden.ensures ∙ c.in_ok-add_places-then-is_hidden.ensures th) i);
+      goal = g;
+      by = σ;
     })
     ∙ ap (λ (b : Bool). if b then yes else no) (sym test)
 
@@ -40,14 +40,14 @@ returns c =
     let yes : Use = record d { whole = c.args.whole; along = Some (places_on c.args.standing.now p); goal = g; by = σ } in
     let no : Use = record d { whole = c.args.whole; path = base d ++ p; entries = []; along = None; goal = g; by = σ } in
     let test : is_hidden th (sort_of (goal_in g.history).left) ≡ false =
-        ap (is_hidden th) (sym c.sort.ensures) ∙ sym c.is_hidden.ensures.exact ∙ c.if-is_hidden.false in
+    ap (is_hidden th) (sym c.sort.ensures) ∙ sym c.is_hidden.ensures.exact ∙ c.if-is_hidden.false in
     ap (call_of fr) c.in_ok-new-2.ensures
     ∙ (λ i. let y : Use = c.in_ok-next.ensures fr i in record y {
-        whole = c.args.whole;
-        path = (ap (λ q. q.items) c.in_ok-new.ensures ∙ c.in_ok-path.ensures) i;
-        entries = ap (entries_of th) c.in_ok-of.ensures i;
-        along = None;
-        goal = g;
-        by = σ;
+      whole = c.args.whole;
+      path = (ap (λ q. q.items) c.in_ok-new.ensures ∙ c.in_ok-path.ensures) i;
+      entries = ap (entries_of th) c.in_ok-of.ensures i;
+      along = None;
+      goal = g;
+      by = σ;
     })
     ∙ ap (λ (b : Bool). if b then yes else no) (sym test)

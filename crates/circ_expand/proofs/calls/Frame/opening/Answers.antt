@@ -10,7 +10,7 @@ pub returns : goal.returns
 returns c = λ n e w.
     let fr = c.args.self.now in
     let by : by_of c.in_ok-new-2.field-0.value ≡ Var =
-        ap by_of c.in_ok-new-2.ensures ∙ same_by (by_of c.in_ok-by.by) Var (λ m s. c.in_ok-by.ensures m s ∙ c.new.ensures m s) in
+    ap by_of c.in_ok-new-2.ensures ∙ same_by (by_of c.in_ok-by.by) Var (λ m s. c.in_ok-by.ensures m s ∙ c.new.ensures m s) in
     ap (call_of fr) c.in_ok-new-3.ensures
     ∙ (λ i. record {
       whole = w i;

@@ -1,8 +1,6 @@
 use Rattle.std.proofs.Common.{◌≡◌, [], ◌∷◌, List, Ok, Err, refl, ap, sym, ◌∙◌, subst}
-
 use Rattle.circ_expand.specs.Fronts.{front}
 use Rattle.circ_expand.specs.Uses.{held_by, entries_of, layers_of}
-
 use Rattle.circ_expand.specs.Tasks.{call_of, HasEnds}
 use Rattle.circ_expand.specs.Expand.{Layer}
 use Rattle.circ_expand.proofs.AtPlaces.{place_end, place_past, place_ends_past, place_on}

@@ -23,9 +23,13 @@ returns-in_default-2 c =
     let fr = c.args.self.now in
     let r = c.args.reasons in
     let w = c.args.work.now in
-    let new : Work = record w { values = c.add_no_part.new.self } in
-    (pending_of fr new, constants_end fr r w c.in-Some.why.now c.in-Some.whys.now c.in-Some.ensures.cases (no_items r.constants.now c.in_default-2.ensures.cases)
-    ∙ ap (λ vs. Yields (pending (jobs_of fr w) vs) w.left) (sym c.in_ok-add_no_part-in_default-2.ensures), refl, refl)
+    let new : Work = record w { values = c.add_no_part.new.self } in (
+      pending_of fr new,
+      constants_end fr r w c.in-Some.why.now c.in-Some.whys.now c.in-Some.ensures.cases (no_items r.constants.now c.in_default-2.ensures.cases)
+          ∙ ap (λ vs. Yields (pending (jobs_of fr w) vs) w.left) (sym c.in_ok-add_no_part-in_default-2.ensures),
+      refl,
+      refl,
+    )
 
 pub returns-in-Err : goal.returns-in-Err
 returns-in-Err c =

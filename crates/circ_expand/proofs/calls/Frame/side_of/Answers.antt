@@ -11,8 +11,8 @@ returns c =
     let fr = c.args.self.now in
     let x = c.args.certificate.now in
     let is_use = ap (call_of fr) c.in_ok-new.ensures
-        ∙ (λ i. let y : Use = c.in_ok-side.ensures fr i in record y {
-            entries = ap (entries_of fr.theory.now) c.in_ok-share.ensures i;
-            by = by_of (c.in_ok-clone.ensures.cases i).value;
-        }) in
+    ∙ (λ i. let y : Use = c.in_ok-side.ensures fr i in record y {
+      entries = ap (entries_of fr.theory.now) c.in_ok-share.ensures i;
+      by = by_of (c.in_ok-clone.ensures.cases i).value;
+    }) in
     λ i. Links_job (is_use i) (basis_of fr (c.in_ok-clone-2.ensures.cases i).value) (links_at fr x.links.now) (c.in_ok-share-2.ensures i)

@@ -33,13 +33,13 @@ returns-in-Ok c =
     let chain = c.args.chain.now in
     let h = option_map_or (history_at fr.table.now fr.book.now.nodes.items) c.args.next Open in
     let built = all_built_at (Ok c.in-Ok.left) (setting_of s) (link_setting (background_in fr) (basis_of fr b)) s.table.now fr.table.now chain.left.items g.left
-        c.side.ensures.setting c.side.ensures.table c.in-Ok.ensures in
+    c.side.ensures.setting c.side.ensures.table c.in-Ok.ensures in
     let simpler : Simpler = record { call = c.in_ok-clone-in-Ok.field-0; left = c.in-Ok.left; next = c.args.next } in
     let first = jobs_pushed fr w.tasks.items c.push.new.self.items task.PutBetween c.in_ok-push-in-Ok.ensures.items in
     let second = jobs_pushed fr c.push.new.self.items c.push-2.new.self.items (task.BeginSimpler simpler) c.in_ok-push-2-in-Ok.ensures.items in
     simplified_on fr c.args.call.value b g chain h c.in-Ok.left (simpler_use fr simpler) w c.begin_sides.new.work c.in_ok-basis.ensures built.0 built.1
     (λ i. simplified_call (all_uses (background_in fr)) (background_in fr)
-        (call_of fr (c.in_ok-clone-in-Ok.ensures.cases i).value) c.in-Ok.left h)
+    (call_of fr (c.in_ok-clone-in-Ok.ensures.cases i).value) c.in-Ok.left h)
     (c.in_ok-begin_sides-in-Ok.ensures.tasks
     ∙ ap (begun_sides fr c.args.call.value b chain g.left g.right) (second ∙ ap (λ js. Begin_use (simpler_use fr simpler) ∷ js) first))
     c.in_ok-begin_sides-in-Ok.ensures.values c.begin_sides.ensures.left

@@ -52,7 +52,7 @@ returns c =
     let s2 = c.side-2.result in
     let left = all_built_at (Ok c.in-Ok.left) (setting_of s1) S s1.table.now fr.table.now chain.left.items q.left c.side.ensures.setting c.side.ensures.table c.in-Ok.ensures in
     let right = all_built_at (Ok c.in-Ok-2.right) (setting_of s2) S s2.table.now fr.table.now chain.right.items q.right c.side-2.ensures.setting c.side-2.ensures.table
-        c.in-Ok-2.ensures in
+    c.in-Ok-2.ensures in
     let r : Reasons = record {
       call = c.in_ok-clone.field-0;
       basis = c.in_ok-clone-2.field-0;
@@ -70,12 +70,12 @@ returns c =
     let second = jobs_pushed fr c.push.new.self.items c.push-2.new.self.items (task.Split r) c.in_ok-push-2.ensures.items in
     split_begun fr b d chain v q.left q.right (whys_at fr c.args.whys.now) r w c.begin_sides.new.work left.1 right.1
     ((λ i. Give_reasons (call_of fr (c.in_ok-clone.ensures.cases i).value) (basis_of fr (c.in_ok-clone-2.ensures.cases i).value) (whys_at fr c.args.whys.now) c.in_ok-term.term
-        (l i) (l i).constants (left.0 i) (right.0 i))
+    (l i) (l i).constants (left.0 i) (right.0 i))
     ∙ (λ i. Give_reasons (call_of fr d) (basis_of fr b) (whys_at fr c.args.whys.now) (t i)
-        (cases_at (all_uses (background_in fr)) (background_in fr) (sort_of (t i)))
-        (cases_at (all_uses (background_in fr)) (background_in fr) (sort_of (t i))).constants
-        (led_all S (links_at fr chain.left.items) q.left)
-        (led_all S (links_at fr chain.right.items) q.right)))
+    (cases_at (all_uses (background_in fr)) (background_in fr) (sort_of (t i)))
+    (cases_at (all_uses (background_in fr)) (background_in fr) (sort_of (t i))).constants
+    (led_all S (links_at fr chain.left.items) q.left)
+    (led_all S (links_at fr chain.right.items) q.right)))
     (λ i. instance (call_of fr (c.in_ok-clone.ensures.cases i).value).by (t i))
     (c.in_ok-begin_sides.ensures.tasks ∙ ap (begun_sides fr d b chain q.left q.right)
     (second ∙ ap (λ js. Begin_split (split_term r) ∷ reasons_job fr r ∷ End_split (split_term r) ∷ js) first))

@@ -52,14 +52,14 @@ returns c =
     let us = map (instance d.by) ts in
     let q = followed_at (basis_of fr m.basis.value).hypotheses u.number in
     let whole : c.start_of-whole.result ≡ start_of u.way c.args.before (around d m.term) =
-        c.start_of-whole.ensures ∙ ap (start_of u.way c.args.before) c.in-Ok-2.ensures.0 in
+    c.start_of-whole.ensures ∙ ap (start_of u.way c.args.before) c.in-Ok-2.ensures.0 in
     let same : c.in-Ok.terms.items ≡ us = c.in-Ok.ensures.0 ∙ instances_listed d.by ts in
     let target : target_of fr c.hypothesis-target.result ≡ q = c.hypothesis-target.ensures in
     let by : by_of c.in_ok-by.by.value ≡ by_terms (goal_in q.history) us =
-        c.in_ok-by.ensures ∙ (λ i. by_terms (goal_in (target i).history) (same i)) in
+    c.in_ok-by.ensures ∙ (λ i. by_terms (goal_in (target i).history) (same i)) in
     let is : call_of fr c.in_ok-call.call.value
-        ≡ used (background_in fr) d q (start_of u.way c.args.before (around d m.term)) c.args.standing.now u.path.now (by_terms (goal_in q.history) us) =
-        c.in_ok-call.ensures ∙ (λ i. used (background_in fr) d (target i) (whole i) c.args.standing.now u.path.now (by i)) in
+    ≡ used (background_in fr) d q (start_of u.way c.args.before (around d m.term)) c.args.standing.now u.path.now (by_terms (goal_in q.history) us) =
+    c.in_ok-call.ensures ∙ (λ i. used (background_in fr) d (target i) (whole i) c.args.standing.now u.path.now (by i)) in
     let first = jobs_pushed fr w.tasks.items c.push.new.self.items (task.Links m) c.in_ok-push.ensures.items in
     let second = jobs_pushed fr c.push.new.self.items c.push-2.new.self.items (task.PutBehind u.way) c.in_ok-push-2.ensures.items in
     let third = jobs_pushed fr c.push-2.new.self.items c.push-3.new.self.items (task.EnterUse c.in_ok-call.call) c.in_ok-push-3.ensures.items in

@@ -16,11 +16,11 @@ returns c = λ e js vs n.
     let path = ap (λ p. p.items) c.in_ok-new.ensures ∙ c.in_ok-path.ensures in
     let entries = ap (entries_of th) c.in_ok-of.ensures ∙ c.in_ok-entries.ensures in
     let same =
-        ap (call_of fr) c.in_ok-new-2.ensures
-        ∙ (λ i. let y : Use = c.in_ok-next.ensures fr i in record y {
-            whole = e i;
-            path = path i;
-            entries = entries i;
-            along = Some (ap (layers_of th) c.in_ok-share.ensures i);
-        }) in
+    ap (call_of fr) c.in_ok-new-2.ensures
+    ∙ (λ i. let y : Use = c.in_ok-next.ensures fr i in record y {
+      whole = e i;
+      path = path i;
+      entries = entries i;
+      along = Some (ap (layers_of th) c.in_ok-share.ensures i);
+    }) in
     λ i. Yields (pending (Enter_use (sym same i) ∷ js) vs) n

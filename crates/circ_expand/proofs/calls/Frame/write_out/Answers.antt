@@ -30,9 +30,9 @@ returns-in_err-run c =
     let cs = numbered_entries th (plain_entries c.args.entries.now) in
     let held = c.in_ok-held.ensures th in
     let ends = ends_of_goal fr n cs (entries_of th c.as_slice.result.now) (target_of fr c.followed-target.result) (Ok c.in-Ok.whole)
-        (ap (entries_of th) c.as_slice.ensures.value ∙ held) c.followed-target.ensures c.in-Ok.ensures in
+    (ap (entries_of th) c.as_slice.ensures.value ∙ held) c.followed-target.ensures c.in-Ok.ensures in
     let opened = c.in_ok-call.ensures n c.followed-target.ensures (ends.0 ∙ ap (λ es. on (bare_entries es) (goal_in (followed_of fr n).history).left) (sym held))
-        ∙ ap (opening_of fr n) held in
+    ∙ ap (opening_of fr n) held in
     all_halted fr n cs unit_limit c.in_ok-work.work (call_of fr c.in_ok-call.call.value) c.in-Ok.whole c.in_err-run.own ends c.in_ok-work.ensures.tasks
     c.in_ok-work.ensures.values c.in_ok-work.ensures.units opened c.in_err-run.ensures.halts
 
@@ -44,9 +44,9 @@ returns-in-Some c =
     let cs = numbered_entries th (plain_entries c.args.entries.now) in
     let held = c.in_ok-held.ensures th in
     let ends = ends_of_goal fr n cs (entries_of th c.as_slice.result.now) (target_of fr c.followed-target.result) (Ok c.in-Ok.whole)
-        (ap (entries_of th) c.as_slice.ensures.value ∙ held) c.followed-target.ensures c.in-Ok.ensures in
+    (ap (entries_of th) c.as_slice.ensures.value ∙ held) c.followed-target.ensures c.in-Ok.ensures in
     let opened = c.in_ok-call.ensures n c.followed-target.ensures (ends.0 ∙ ap (λ es. on (bare_entries es) (goal_in (followed_of fr n).history).left) (sym held))
-        ∙ ap (opening_of fr n) held in
+    ∙ ap (opening_of fr n) held in
     let last = values_of c.run.new.work.values in
     let P : Option (Vec Row) → Type 0 = λ o. IsLastRow last o in
     all_written fr n cs unit_limit c.in_ok-work.work (call_of fr c.in_ok-call.call.value) c.in-Ok.whole last c.run.new.work.left c.in-Some.rows ends
@@ -60,9 +60,9 @@ returns-in-None c =
     let cs = numbered_entries th (plain_entries c.args.entries.now) in
     let held = c.in_ok-held.ensures th in
     let ends = ends_of_goal fr n cs (entries_of th c.as_slice.result.now) (target_of fr c.followed-target.result) (Ok c.in-Ok.whole)
-        (ap (entries_of th) c.as_slice.ensures.value ∙ held) c.followed-target.ensures c.in-Ok.ensures in
+    (ap (entries_of th) c.as_slice.ensures.value ∙ held) c.followed-target.ensures c.in-Ok.ensures in
     let opened = c.in_ok-call.ensures n c.followed-target.ensures (ends.0 ∙ ap (λ es. on (bare_entries es) (goal_in (followed_of fr n).history).left) (sym held))
-        ∙ ap (opening_of fr n) held in
+    ∙ ap (opening_of fr n) held in
     let last = values_of c.run.new.work.values in
     let P : Option (Vec Row) → Type 0 = λ o. IsLastRow last o in
     all_stopped fr n cs unit_limit c.in_ok-work.work (call_of fr c.in_ok-call.call.value) c.in-Ok.whole last c.run.new.work.left ends
