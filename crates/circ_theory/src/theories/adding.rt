@@ -25,7 +25,6 @@ use super::{Listed, Observer, OpKey, Theory, Vars};
 use crate::MOST_SORTS;
 use crate::adding::{count_fault, is_rule_with, note_word};
 use crate::fault::TheoryFault;
-use crate::observing::first_repeated;
 use crate::order::{EquationVariables, equation_variables};
 use crate::overloads::{Overloads, first_sort};
 use crate::pairs::{Pair, Pairs};
@@ -152,10 +151,9 @@ impl Theory {
         ensures err { OnErr result (self.new ≡ self.old) }
     {
         let number = self.derivative_count();
-        let (hole, sorts) = self.hole_and_params(&term)?;
+        let observer = self.new_observer(term)?;
         let parts = &mut *self.parts;
-        note_hole(&mut parts.derivatives, &mut parts.hidden, hole)?;
-        put_observer(&mut parts.derivatives, Observer { term, hole, sorts });
+        add_observer(&mut parts.derivatives, &mut parts.hidden, observer)?;
         Ok(number)
     }
 
@@ -168,11 +166,8 @@ impl Theory {
         ensures added { OnOk result (self.new ≡ with_cases self.old sort constants.items) }
         ensures err { OnErr result (self.new ≡ self.old) }
     {
-        let repeated = first_repeated(self.alloc, constants.as_slice())?;
-        if let Some(fault) = self.cases_fault(repeated, sort, constants.as_slice()) {
-            return Err(fault);
-        }
         let number = self.case_count();
+        self.may_have_cases(sort, constants.as_slice())?;
         self.parts.cases.insert(sort, constants)?;
         Ok(number)
     }
@@ -281,6 +276,23 @@ fn note_hole(
 {
     derivatives.reserve(1)?;
     hidden.insert(hole)?;
+    Ok(())
+}
+
+// Adds a derivative with what is kept of it.
+fn add_observer(
+    derivatives: &mut Vec<Observer>,
+    hidden: &mut IndexSet<u32>,
+    observer: Observer,
+) -> Result<(), AllocError>
+    ensures added { OnOk result (derivatives.new.items ≡ derivatives.old.items ++ observer ∷ []) }
+    ensures noted { OnOk result (hidden.new.keys ≡
+        insert_key nat_eq hidden.old.keys observer.hole) }
+    ensures err { OnErr result (derivatives.new.items ≡ derivatives.old.items) }
+    ensures err_hidden { OnErr result (hidden.new.keys ≡ hidden.old.keys) }
+{
+    note_hole(derivatives, hidden, observer.hole)?;
+    put_observer(derivatives, observer);
     Ok(())
 }
 

@@ -12,7 +12,7 @@ ghost use Rattle.circ_theory.specs.Observing.{first_or_zero, slots_fault, deriva
 ghost use Rattle.circ_theory.specs.Observing.{cases_fault, is_constant, no_constants};
 ghost use Rattle.circ_theory.specs.Inside.{IsKeyOf};
 
-use super::{Listed, OpKey, Theory};
+use super::{Listed, Observer, OpKey, Theory};
 use crate::adding::{count_fault, first_from, first_or_zero, is_ill_sorted, long_fault};
 use crate::fault::TheoryFault;
 use crate::observing::{Slots, first_repeated, slots_of};
@@ -132,9 +132,23 @@ impl Theory {
         has_conditions_of(sort, self.parts.equations.as_slice())
     }
 
+    // A derivative that can be added, with the sort of its hole and the sorts of its parameters.
+    pub(super) fn new_observer(&self, term: Term) -> Result<Observer, TheoryFault>
+        ensures fault { IfErr result (λ f. IsFaultOf f (derivative_fault self.now term)) }
+        ensures new { IfOk result (λ _. derivative_fault self.now term ≡ None) }
+        ensures term { IfOk result (λ o. o.term ≡ term) }
+        ensures hole { IfOk result (λ o. o.hole ≡ first_or_zero (holes_in term)) }
+        ensures sorts { IfOk result (λ o. o.sorts.items ≡ parameter_sorts_in term) }
+    {
+        match self.hole_and_params(&term) {
+            Ok((hole, sorts)) => Ok(Observer { term, hole, sorts }),
+            Err(fault) => Err(fault),
+        }
+    }
+
     // The sort of the hole and the sorts of the parameters of a term that can be added as a
     // derivative.
-    pub(super) fn hole_and_params(&self, term: &Term) -> Result<(u32, Vec<u32>), TheoryFault>
+    fn hole_and_params(&self, term: &Term) -> Result<(u32, Vec<u32>), TheoryFault>
         ensures fault { IfErr result (λ f. IsFaultOf f (derivative_fault self.now term.now)) }
         ensures new { IfOk result (λ _. derivative_fault self.now term.now ≡ None) }
         ensures hole { IfOk result (λ r. r.0 ≡ first_or_zero (holes_in term.now)) }
@@ -142,11 +156,24 @@ impl Theory {
     {
         term.known();
         let slots = slots_of(self.alloc, term)?;
-        let repeated = first_repeated(self.alloc, slots.params.as_slice())?;
-        if let Some(fault) = self.derivative_fault(repeated, &slots) {
-            return Err(fault);
-        }
+        self.may_have_slots(&slots)?;
         Ok((first_or_zero(slots.holes.as_slice()), slots.sorts))
+    }
+
+    fn may_have_slots(&self, slots: &Slots) -> Result<(), TheoryFault>
+        requires { length slots.now.holes.items ≤ MOST_NODES }
+        ensures fault { IfErr result (λ f. IsFaultOf f (slots_fault self.now
+            (first_repeated slots.now.params.items) slots.now.holes.items
+            (length slots.now.params.items))) }
+        ensures new { IfOk result (λ _. slots_fault self.now
+            (first_repeated slots.now.params.items) slots.now.holes.items
+            (length slots.now.params.items) ≡ None) }
+    {
+        let repeated = first_repeated(self.alloc, slots.params.as_slice())?;
+        match self.derivative_fault(repeated, slots) {
+            Some(fault) => Err(fault),
+            None => Ok(()),
+        }
     }
 
     fn derivative_fault(&self, repeated: Option<u32>, slots: &Slots) -> Option<TheoryFault>
@@ -174,7 +201,19 @@ impl Theory {
         count_fault(self.derivative_count(), MOST_DERIVATIVES)
     }
 
-    pub(super) fn cases_fault(
+    // Whether a case list can be added.
+    pub(super) fn may_have_cases(&self, sort: u32, constants: &[u32]) -> Result<(), TheoryFault>
+        ensures fault { IfErr result (λ f. IsFaultOf f (cases_fault self.now sort constants.now)) }
+        ensures new { IfOk result (λ _. cases_fault self.now sort constants.now ≡ None) }
+    {
+        let repeated = first_repeated(self.alloc, constants)?;
+        match self.cases_fault(repeated, sort, constants) {
+            Some(fault) => Err(fault),
+            None => Ok(()),
+        }
+    }
+
+    fn cases_fault(
         &self,
         repeated: Option<u32>,
         sort: u32,
