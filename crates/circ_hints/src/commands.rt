@@ -58,6 +58,10 @@ pub(crate) const COMMANDS: [CommandWords; 13] = [
         takes: "THEORY PROOF NEW",
     },
     CommandWords {
+        name: "expand",
+        takes: "THEORY PROOF GOAL ENTRY..",
+    },
+    CommandWords {
         name: "same",
         takes: "FIRST SECOND",
     },
