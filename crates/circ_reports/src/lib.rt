@@ -6,7 +6,7 @@
 //! [`upgrade`] gives a proof in version 2, [`expand`] writes out a derivation from a
 //! proof, and [`library`] gives a text of the library. Each takes its
 //! files from a shelf and gives a text or an ending, or the answer in its place. What is stored and
-//! printed of this is circ_reports's.
+//! printed of this is circ_top's.
 #![tactic(auto)]
 
 mod checking;
