@@ -1,5 +1,6 @@
-//! What is proved of the search with conditions. The functions do nothing: a law is a contract. What
-//! is proved of the greatest special set, by which it goes, is among the laws of circ_plain_search.
+//! What is proved of the search with conditions. The functions do nothing: a law is a contract.
+//! What is proved of the greatest special set, by which it goes, is among the laws of
+//! circ_plain_search.
 ghost use Rattle.std.specs.Prelude.{◌≡◌, ◌↔◌, ◌<◌, ◌+◌, ◌-◌, List, Ok, false};
 ghost use Rattle.circ_theory.specs.Theory.{Theory};
 ghost use Rattle.circ_theory.specs.WellFormed.{IsWellFormed};

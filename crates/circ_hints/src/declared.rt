@@ -6,8 +6,8 @@ use circ_read::{ReadFault, read_theory};
 use circ_theory::Theory;
 use std::alloc::{AllocError, Global};
 
-/// A theory's text with what is declared before a part, without its end: the statements of the text, or
-/// a script's theory with the variables of the items.
+/// A theory's text with what is declared before a part, without its end: the statements of the
+/// text, or a script's theory with the variables of the items.
 pub(crate) fn declared_before(
     alloc: Global,
     source: &Source<'_>,

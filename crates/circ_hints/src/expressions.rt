@@ -18,8 +18,8 @@ struct Scan {
     wants: bool,
 }
 
-/// The hint for a word of `regex`, by its number, 1 or 2: the place in the form `LEFT:COLUMN: ..` and
-/// the word with a mark below. Empty if the words have none of this number.
+/// The hint for a word of `regex`, by its number, 1 or 2: the place in the form `LEFT:COLUMN: ..`
+/// and the word with a mark below. Empty if the words have none of this number.
 pub fn unread_expression(
     alloc: Global,
     asked: Asked<'_>,

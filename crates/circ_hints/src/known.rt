@@ -77,7 +77,8 @@ impl<'a> Known<'a> {
         Ok(())
     }
 
-    /// Adds what a text of the library declares, if the statement includes one: all but its variables.
+    /// Adds what a text of the library declares, if the statement includes one: all but its
+    /// variables.
     fn include(
         &mut self,
         alloc: Global,
@@ -124,7 +125,8 @@ impl<'a> Known<'a> {
     }
 }
 
-/// The first token from one on that is neither the end of an item in parentheses nor the begin of one.
+/// The first token from one on that is neither the end of an item in parentheses nor the begin of
+/// one.
 fn behind_parentheses(tokens: &Tokens<'_>, from: usize) -> usize {
     let begin = if is(tokens, from, b")") {
         next(from)

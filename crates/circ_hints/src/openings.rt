@@ -33,8 +33,8 @@ pub(crate) fn begins_work(tokens: &Tokens<'_>, number: usize) -> bool {
     ITEM_WORDS.iter().any(|word| is(tokens, number, word))
 }
 
-/// What is said of an `if` where it begins conditions that may not stand there. None if a `then` of the
-/// same part shows that it begins a term.
+/// What is said of an `if` where it begins conditions that may not stand there. None if a `then` of
+/// the same part shows that it begins a term.
 pub(crate) fn says_of_conditions(
     tokens: &Tokens<'_>,
     part: Part,

@@ -13,6 +13,10 @@ use std::alloc::{AllocError, Global};
 /// As many readings are tried of one term at most.
 const MOST_TRIES: usize = 64;
 
+/// The tokens that are read again times the operators that their words may begin: about a second's work,
+/// so that a term that is hard to read is tried less often.
+const MOST_WORK: usize = 8_000_000;
+
 /// The terms of a statement or an item, and in what they are read.
 #[derive(Clone, Copy)]
 struct Reader<'a> {
@@ -103,7 +107,7 @@ impl Reader<'_> {
     /// Where the longest part of a term ends that reads.
     fn longest(&self, from: usize, to: usize) -> Result<Option<usize>, AllocError> {
         let mut end = to.min(from.saturating_add(MOST_TOKENS));
-        for _ in 0..MOST_TRIES {
+        for _ in 0..self.most_tries(from, end) {
             if end <= from {
                 return Ok(None);
             }
@@ -113,6 +117,22 @@ impl Reader<'_> {
             end = end.saturating_sub(1);
         }
         Ok(None)
+    }
+
+    /// So many parts of a term are tried.
+    fn most_tries(&self, from: usize, to: usize) -> usize {
+        let mut operators: usize = 0;
+        for number in from..to {
+            if let Some(word) = self.tokens.token(number) {
+                operators = operators.saturating_add(self.theory.ops_by_word(word).len());
+            }
+        }
+        let work = to.saturating_sub(from).saturating_mul(operators);
+        MOST_WORK
+            .checked_div(work)
+            .unwrap_or(MOST_TRIES)
+            .max(1)
+            .min(MOST_TRIES)
     }
 
     /// Whether the tokens of a range spell a term.

@@ -76,8 +76,8 @@ impl<'a> Asked<'a> {
         None
     }
 
-    /// Appends the words of a command that takes those of this one, a `prove`: with the same options, and
-    /// without the name of the proof.
+    /// Appends the words of a command that takes those of this one, a `prove`: with the same
+    /// options, and without the name of the proof.
     pub(crate) fn push_as(&self, out: &mut String, command: &str) -> Result<(), AllocError> {
         let mut count: u64 = 0;
         let mut is_value = false;
@@ -129,7 +129,8 @@ impl<'a> Asked<'a> {
     }
 }
 
-/// Appends a word of a `prove` before which so many stand, as a command takes it that makes no proof.
+/// Appends a word of a `prove` before which so many stand, as a command takes it that makes no
+/// proof.
 fn push_one_as(out: &mut String, word: &str, count: u64, command: &str) -> Result<(), AllocError> {
     match count {
         0 => push_word(out, command),

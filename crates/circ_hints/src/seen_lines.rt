@@ -60,8 +60,9 @@ impl Lines {
     }
 }
 
-/// A sink that hands everything on to another one, and sees the lines that begin with `case:`, `left:`
-/// and `right:`: of an answer that a search is stuck these are its cases and the last sides.
+/// A sink that hands everything on to another one, and sees the lines that begin with `case:`,
+/// `left:` and `right:`: of an answer that a search is stuck these are its cases and the last
+/// sides.
 #[derive(Drop)]
 pub struct SeenLines<K: Sink + Drop> {
     inner: K,

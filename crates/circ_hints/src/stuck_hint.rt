@@ -10,8 +10,8 @@ use std::fmt::Write;
 /// As many splits as stand inside one another at most.
 const MOST_CASES: u64 = 8;
 
-/// What a search lacks that is stuck, and, where both sides are constants, the call that may show that the
-/// goal is false.
+/// What a search lacks that is stuck, and, where both sides are constants, the call that may show
+/// that the goal is false.
 pub fn stuck_end(alloc: Global, asked: Asked<'_>, seen: Seen) -> Result<String, AllocError> {
     let mut out = String::new(alloc);
     out.push_str(if seen.cases >= MOST_CASES {
@@ -76,8 +76,8 @@ pub fn stuck_goal(
     Ok(out)
 }
 
-/// Appends the place of the goal in the script, or else that of its block's first goal, if the script's
-/// bytes are cut into tokens.
+/// Appends the place of the goal in the script, or else that of its block's first goal, if the
+/// script's bytes are cut into tokens.
 fn push_goal(
     alloc: Global,
     out: &mut String,

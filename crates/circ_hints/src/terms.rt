@@ -22,9 +22,9 @@ struct Names<'a> {
     has_conditions: bool,
 }
 
-/// The mark of a statement or an item with a term that has no reading: a word that nothing declares,
-/// or else a parenthesis without its other one, or else what stands behind the longest part that
-/// reads, or else the whole.
+/// The mark of a statement or an item with a term that has no reading: a word that nothing
+/// declares, or else a parenthesis without its other one, or else what stands behind the longest
+/// part that reads, or else the whole.
 pub(crate) fn unread_word<'a>(
     alloc: Global,
     source: &Source<'a>,
@@ -138,8 +138,8 @@ fn says_of_word(tokens: &Tokens<'_>, part: Part, number: usize, names: &Names<'_
 const UNDECLARED: &str =
     "nothing that is declared before has this word (an inclusion brings no variables)";
 
-/// What is said of a word between the brackets of a label before an equation, or of marks behind it.
-/// None where it stands there in neither, or may be of a term.
+/// What is said of a word between the brackets of a label before an equation, or of marks behind
+/// it. None where it stands there in neither, or may be of a term.
 fn says_of_mark(
     tokens: &Tokens<'_>,
     part: Part,

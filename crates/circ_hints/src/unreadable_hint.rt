@@ -72,8 +72,9 @@ impl Finding<'_> {
     }
 }
 
-/// The hint for a text that was not read, by the number of the statement, item or line and the cause
-/// of the answer: the place in the form `NAME:LINE:COLUMN: CAUSE: ..`, and its line with a mark below.
+/// The hint for a text that was not read, by the number of the statement, item or line and the
+/// cause of the answer: the place in the form `NAME:LINE:COLUMN: CAUSE: ..`, and its line with a
+/// mark below.
 pub fn unreadable(
     alloc: Global,
     source: &Source<'_>,

@@ -1,5 +1,5 @@
-//! Lines on standard error that help with an answer: where a text is wrong, which goal is stuck, which
-//! word is no command, why a file was not read.
+//! Lines on standard error that help with an answer: where a text is wrong, which goal is stuck,
+//! which word is no command, why a file was not read.
 use crate::read_faults::why_unread;
 use circ_hints::{
     Asked, Seen, Source, explain_call, stuck_end, stuck_goal, trace_call, unread_expression,
@@ -17,8 +17,8 @@ const THEORY_FILE: u8 = 1;
 /// The number of the script.
 const SCRIPT_FILE: u8 = 2;
 
-/// Prints the hint for an answer, if there is one. The name is that of the file of the last fault, and
-/// this was seen of the text that was printed.
+/// Prints the hint for an answer, if there is one. The name is that of the file of the last fault,
+/// and this was seen of the text that was printed.
 pub fn print_hint<R: Files + AllocGlobal + Eprint>(
     rt: &R,
     words: &[String],
@@ -68,7 +68,8 @@ fn read_fault_hint<R: Files + AllocGlobal>(
     }
 }
 
-/// The name and the bytes of a file of a command, if it is a regular one: a pipe gives its bytes once.
+/// The name and the bytes of a file of a command, if it is a regular one: a pipe gives its bytes
+/// once.
 fn file_of<'a, R: Files + AllocGlobal>(
     rt: &R,
     asked: Asked<'a>,

@@ -3,7 +3,8 @@ use std::fs;
 use std::io::ErrorKind;
 use std::rt::Files;
 
-/// What is wrong with the file of a name, if that is seen: it is opened only if it is a regular one.
+/// What is wrong with the file of a name, if that is seen: it is opened only if it is a regular
+/// one.
 pub fn why_unread<R: Files>(rt: &R, name: &str) -> Option<&'static str> {
     match fs::metadata(rt, name) {
         Err(error) if error.kind() == ErrorKind::NotFound => {
