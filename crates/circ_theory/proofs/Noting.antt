@@ -10,7 +10,7 @@ use Rattle.circ_form.specs.Form.{first_word}
 use Rattle.circ_theory.specs.Signature.{Signature, Operator}
 use Rattle.circ_theory.specs.declared.overloads.Overloads.{Overloads}
 use Rattle.circ_theory.specs.Operators.{places_from, ops_by_word, ops_by_word_and_sort, first_sort}
-use Rattle.circ_theory.specs.Inside.{kept_at, kept_with, kept_under, kept_under_both, IsNoted, IsKeptSo}
+use Rattle.circ_theory.specs.Inside.{kept_with, kept_under, kept_under_both, IsNoted, IsKeptSo}
 
 places_push : {X : Type 0} (p : X → Bool) (k : ℕ) (xs : List X) (x : X)
     → places_from p k (xs ++ x ∷ []) ≡ (if p x then places_from p k xs ++ (k + length xs) ∷ [] else places_from p k xs)
@@ -161,26 +161,3 @@ with_same es new word x here both all by_sort = record {
   words = unchanged (λ k. k.items) (pointwise nat_eq) bytes_decides (λ o. o.all.items) [] es new word x.all.items here all;
   both = λ w s. unchanged (λ k. k.items) (pointwise nat_eq) bytes_decides (λ o. kept_with o s) [] es new word (kept_with x s) (both s) (by_sort s) w;
 }
-
--- one more of the first one's sort
-pub first_same : (s sort own : Option ℕ) (same new others : List ℕ) (n : ℕ) → option_eq nat_eq sort own ≡ true → new ≡ same ++ n ∷ []
-    → (if option_eq nat_eq s own then new else others)
-    ≡ more_if (option_eq nat_eq s sort) n (if option_eq nat_eq s own then same else others)
-first_same s sort own same new others n e is = rw (sym ((sorts_decide sort own).0 e), is) (go (option_eq nat_eq s sort))
-  where
-    go : (b : Bool) → (if b then same ++ n ∷ [] else others) ≡ more_if b n (if b then same else others)
-    go true = refl
-    go false = refl
-
--- one more of another sort
-pub first_other : (s sort own : Option ℕ) (same old new : List ℕ) (n : ℕ) → option_eq nat_eq sort own ≡ false → new ≡ more_if (option_eq nat_eq s sort) n old
-    → (if option_eq nat_eq s own then same else new)
-    ≡ more_if (option_eq nat_eq s sort) n (if option_eq nat_eq s own then same else old)
-first_other s sort own same old new n other is = go (option_eq nat_eq s own) refl (option_eq nat_eq s sort) refl is
-  where
-    go : (b : Bool) → option_eq nat_eq s own ≡ b → (e : Bool) → option_eq nat_eq s sort ≡ e → new ≡ more_if e n old → (if b then same else new) ≡ more_if e n (if b then same else old)
-    go true f true g i =
-        let both : option_eq nat_eq sort own ≡ true = (sorts_decide sort own).1 (sym ((sorts_decide s sort).0 g) ∙ (sorts_decide s own).0 f) in
-        absurd (let z = sym both ∙ other in cc)
-    go true f false g i = refl
-    go false f e g i = i
