@@ -60,8 +60,8 @@ impl<'a> Walk<'a> {
         if left { !right } else { right }
     }
 
-    /// Takes the step by a letter from the visit at the head. Some: the visit to which it leads is a
-    /// goal.
+    /// Takes the step by a letter from the visit at the head. Some: the visit to which it leads is
+    /// a goal.
     fn take_step(
         &mut self,
         head: u32,

@@ -10,8 +10,8 @@ ghost use Rattle.circ_rewrite.specs.Norm.{Normal_form, Budget_spent};
 ghost use Rattle.circ_conditional_norm.specs.Norm.{conditional_norm};
 ghost use Rattle.circ_conditional_norm.specs.Examples.{two_cases, g_is_b, by_g, by_itself};
 
-/// `f(a)`: the try of `x = b` fails, that of `x = a` holds, and each took a step, as the replacement
-/// did. With eight tries around the term no try is made.
+/// `f(a)`: the try of `x = b` fails, that of `x = a` holds, and each took a step, as the
+/// replacement did. With eight tries around the term no try is made.
 pub fn a_failed_try_stays_spent()
     ensures done { conditional_norm 0 sums two_cases [] 3 (f a)
         ≡ Normal_form b (record {

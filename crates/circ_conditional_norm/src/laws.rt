@@ -19,10 +19,10 @@ ghost use Rattle.circ_conditional_norm.specs.Norm.{conditional_norm, inner_norm,
 ghost use Rattle.circ_conditional_norm.specs.Sure.{IsSureForm, run_behind};
 ghost use Rattle.circ_conditional_norm.specs.Within.{Room, run_in, go_on, whole_form};
 
-/// In a setting of links let the rules be equations of the theory and visible hypotheses, with their
-/// conditions, and the assumptions those of the setting, well-sorted. Then, however many tries stand
-/// around, the traces from a well-sorted term are links that lead to its normal form, which is
-/// well-sorted, and of the term's sort.
+/// In a setting of links let the rules be equations of the theory and visible hypotheses, with
+/// their conditions, and the assumptions those of the setting, well-sorted. Then, however many
+/// tries stand around, the traces from a well-sorted term are links that lead to its normal form,
+/// which is well-sorted, and of the term's sort.
 pub fn conditional_traces_are_links()
     ensures { (c : Setting) → IsWellFormed c.theory → (rules : List Rule)
         → AllByRecursion (IsRuleOf c.theory c.hypotheses) rules

@@ -7,7 +7,8 @@ use crate::entries::Entry;
 use circ_theory::Theory;
 
 /// The first entry, counted from 1, whose derivative does not exist or has no hole of the sort that
-/// is reached, which is `sort` at first. The number of entries plus 1 where the last sort is hidden.
+/// is reached, which is `sort` at first. The number of entries plus 1 where the last sort is
+/// hidden.
 pub fn misfit(theory: &Theory, sort: u32, entries: &[Entry]) -> Option<usize>
     ensures exact { result ≡ first_misfit theory.now 1 sort (plain_entries entries.now) }
     ensures fits { HaveParameters theory.now (plain_entries entries.now) → result ≡ None →

@@ -30,8 +30,8 @@ pub(crate) struct Followed {
     pub(crate) node: u32,
 }
 
-// The hypotheses at the end of a block: so many goals of earlier blocks, and the nodes of those that
-// the block derives.
+// The hypotheses at the end of a block: so many goals of earlier blocks, and the nodes of those
+// that the block derives.
 #[derive(Drop)]
 pub(crate) struct Derivations {
     pub(crate) earlier: usize,

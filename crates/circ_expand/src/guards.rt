@@ -16,8 +16,8 @@ use circ_term::Term;
 use circ_theory::Theory;
 use std::alloc::{AllocError, Global};
 
-// The first case by which an occurrence is guarded: with the first derivative by which it holds, and
-// the number of steps to its instance.
+// The first case by which an occurrence is guarded: with the first derivative by which it holds,
+// and the number of steps to its instance.
 #[derive(Clone, Copy)]
 pub(crate) enum Guard {
     Visible { number: u32, above: usize },
@@ -108,8 +108,8 @@ impl Occurrence<'_> {
         }
     }
 
-    // How many steps it is to an instance of the derivative whose hole it is, where that is hidden or
-    // visible as asked.
+    // How many steps it is to an instance of the derivative whose hole it is, where that is hidden
+    // or visible as asked.
     fn below(&self, number: u32, hidden: bool) -> Result<Option<usize>, AllocError>
         ensures within { IfOk result (λ o. IfSome o (λ n. n ≤ length self.now.path.now)) }
         ensures exact { IfSome (slice_get self.now.theory.now.derivatives number) (λ d.

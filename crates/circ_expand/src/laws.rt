@@ -29,9 +29,9 @@ pub fn expansion_leads()
         expansion units th p n ws ≡ Stopped → ⊥ }
 {}
 
-/// The same is worked off a stack of tasks: it begins with one, a step does a part of the first task
-/// or puts tasks before the others, each step counts a unit or leaves less to do, and it ends when no
-/// task is left. So no use has to stand inside another.
+/// The same is worked off a stack of tasks: it begins with one, a step does a part of the first
+/// task or puts tasks before the others, each step counts a unit or leaves less to do, and it ends
+/// when no task is left. So no use has to stand inside another.
 pub fn expansion_is_worked_off()
     ensures begins { (units : ℕ) (th : Theory) (p : Proof) (n : ℕ) (ws : List Written) →
         expansion units th p n ws ≡ worked_off units th p n ws }

@@ -19,8 +19,8 @@ use circ_term::{Term, TermFault};
 use circ_theory::{Goal, Pair, Theory};
 use std::alloc::Global;
 
-// What the links of a side are read against: the hypotheses at the end of a block, if there are some,
-// and the proof's own assumptions.
+// What the links of a side are read against: the hypotheses at the end of a block, if there are
+// some, and the proof's own assumptions.
 #[derive(Clone, Copy)]
 pub(crate) struct Side<'a> {
     pub(crate) alloc: Global,

@@ -51,8 +51,8 @@ impl<'a> FileReader<'a> {
         }
     }
 
-    /// The next piece of the text. The fault of a line is that of a whole line so far, and so of the
-    /// whole text, whatever comes later. Each fault is kept, also that memory ran out.
+    /// The next piece of the text. The fault of a line is that of a whole line so far, and so of
+    /// the whole text, whatever comes later. Each fault is kept, also that memory ran out.
     pub fn feed(&mut self, piece: &[u8]) -> Result<(), FileFault>
         requires sound { IsSound self.old }
         requires room { fault_of self.old ≡ None →

@@ -2,8 +2,8 @@
 //!
 //! [`take_into`] and [`take_file`] take a whole file in pieces, [`take_theory`] and [`take_script`]
 //! what it reads as. [`Status`] says how a run ended; its number is the exit status of the program.
-//! An [`Ending`] is how the work of a command ends, before anything is stored or printed. The texts of
-//! these answers are put together here.
+//! An [`Ending`] is how the work of a command ends, before anything is stored or printed. The texts
+//! of these answers are put together here.
 #![tactic(auto)]
 
 mod ending;

@@ -2,8 +2,8 @@
 //!
 //! Nothing is promised of a hint but that it is made safely and in finite time. [`Asked`] takes the
 //! words of a run apart; [`unreadable`], [`unread_expression`], [`stuck_goal`], [`stuck_end`],
-//! [`trace_call`], [`explain_call`] and [`usage`] give the hint of an answer, from the same words and
-//! the same files. [`SeenLines`] sees the cases and the sides that an answer has printed, and
+//! [`trace_call`], [`explain_call`] and [`usage`] give the hint of an answer, from the same words
+//! and the same files. [`SeenLines`] sees the cases and the sides that an answer has printed, and
 //! [`Progress`] how much of a file was taken.
 #![tactic(auto)]
 

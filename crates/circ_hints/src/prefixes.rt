@@ -13,8 +13,8 @@ use std::alloc::{AllocError, Global};
 /// As many readings are tried of one term at most.
 const MOST_TRIES: usize = 64;
 
-/// The tokens that are read again times the operators that their words may begin: about a second's work,
-/// so that a term that is hard to read is tried less often.
+/// The tokens that are read again times the operators that their words may begin: about a second's
+/// work, so that a term that is hard to read is tried less often.
 const MOST_WORK: usize = 8_000_000;
 
 /// The terms of a statement or an item, and in what they are read.

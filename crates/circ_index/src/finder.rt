@@ -18,10 +18,10 @@ use std::alloc::{AllocError, Global};
 
 /// Finds the places of patterns that can become a term: left sides, or pairs, which have two places
 /// each.
-/// Each place stands in the row of its key. The first places of a row have their keys as their seats
-/// too; those behind them have the leaves of their paths, so that in a long row few places are
-/// looked at. If memory ran out for a seat, the seats are not whole, and places are found by keys
-/// alone.
+/// Each place stands in the row of its key. The first places of a row have their keys as their
+/// seats too; those behind them have the leaves of their paths, so that in a long row few places
+/// are looked at. If memory ran out for a seat, the seats are not whole, and places are found by
+/// keys alone.
 #[derive(Drop)]
 pub struct Finder {
     rows: Rows,

@@ -4,8 +4,8 @@
 //! the first of many pairs that has two terms as an instance, one way or the other. What a look-up
 //! costs goes by the patterns that begin as the terms do, and not by all that there are. To add a
 //! pattern costs the same however many there are. A [`Finder`] is what both are made of: it finds
-//! the places of patterns that may become a term, in their order, also for a term that is known by its
-//! number.
+//! the places of patterns that may become a term, in their order, also for a term that is known by
+//! its number.
 #![tactic(auto)]
 
 mod finder;

@@ -82,8 +82,8 @@ fn is_spent(alloc: Global, theory: &Theory, term: &Term, budget: u64) -> bool {
     )
 }
 
-// Whether `f(a)` becomes `b` by a failed try, a second one and a replacement, and by no fewer steps;
-// with eight tries around it none is made.
+// Whether `f(a)` becomes `b` by a failed try, a second one and a replacement, and by no fewer
+// steps; with eight tries around it none is made.
 fn tries_are_counted(alloc: Global, theory: &Theory) -> Result<bool, TermFault> {
     let term = on_a(alloc, 2)?;
     Ok(

@@ -1,5 +1,5 @@
-//! Tests of the indexes, the memo, rules with conditions and weights: calls that no command makes, with
-//! ample memory, and work that only an index or a memo can end in time.
+//! Tests of the indexes, the memo, rules with conditions and weights: calls that no command makes,
+//! with ample memory, and work that only an index or a memo can end in time.
 #![tactic(auto)]
 
 #[cfg(test)]

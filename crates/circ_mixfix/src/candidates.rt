@@ -168,8 +168,8 @@ fn all_candidates(
     })
 }
 
-// How few tokens may spell a term of each sort, as far as terms of at most `most` tokens go, and the
-// operators of which these may be. Perhaps others are there too.
+// How few tokens may spell a term of each sort, as far as terms of at most `most` tokens go, and
+// the operators of which these may be. Perhaps others are there too.
 pub fn candidates_of(
     alloc: Global,
     words: &Words<'_>,

@@ -1,5 +1,5 @@
-//! What is proved of printed text, and examples that try its definitions. The functions do nothing: a
-//! law is a contract.
+//! What is proved of printed text, and examples that try its definitions. The functions do nothing:
+//! a law is a contract.
 ghost use Rattle.std.specs.Prelude.{◌≡◌, ℕ, List, Bool, codes, true, false};
 ghost use Rattle.std.specs.List.{AllByRecursion};
 ghost use Rattle.circ_lexer.specs.TokenList.{AreTokens};
@@ -15,8 +15,8 @@ ghost use Rattle.circ_mixfix.specs.Printed.{IsPrintable, named_term};
 ghost use Rattle.circ_mixfix.specs.Spells.{Spells};
 ghost use Rattle.circ_mixfix.specs.PrintedExamples.{sums, on_two};
 
-/// Where operators have words of their own, what is printed is the text of one term: its tokens spell
-/// this term alone, at whatever bound, and terms, pairs and goals of one text are the same.
+/// Where operators have words of their own, what is printed is the text of one term: its tokens
+/// spell this term alone, at whatever bound, and terms, pairs and goals of one text are the same.
 pub fn printed_terms_are_read_back()
     ensures one_spelling { (sig : Signature) (vars : List Declared) (hole : Bool) (t : Tree)
         (ws : List (List ℕ)) (b s : ℕ) (q : Named) →

@@ -83,8 +83,8 @@ fn rule(
     }
 }
 
-// Adds the rule of an operator, if its symbols may be at most `most` tokens and each of its words has
-// a number.
+// Adds the rule of an operator, if its symbols may be at most `most` tokens and each of its words
+// has a number.
 fn push_rule(
     alloc: Global,
     out: &mut Vec<Rule>,
@@ -133,8 +133,8 @@ fn push_rules(
     Ok(())
 }
 
-// The rules of those of the operators whose symbols may be at most `most` tokens and whose words have
-// numbers.
+// The rules of those of the operators whose symbols may be at most `most` tokens and whose words
+// have numbers.
 pub fn rules(
     alloc: Global,
     words: &Words<'_>,

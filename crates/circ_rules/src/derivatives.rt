@@ -14,8 +14,8 @@ use circ_theory::{Goal, Theory, above, above_pairs, variables_from};
 use std::alloc::Global;
 use std::collections::VecDeque;
 
-/// The derivatives of a goal: that of each derivative of its sort, in the theory's order, with fresh
-/// variables for its parameters (the rule Derive).
+/// The derivatives of a goal: that of each derivative of its sort, in the theory's order, with
+/// fresh variables for its parameters (the rule Derive).
 pub fn derivatives_on(
     alloc: Global,
     theory: &Theory,
@@ -78,8 +78,8 @@ fn derivative_on(
     }
 }
 
-// The derivative of this number on both sides of the goal, with these terms for its parameters, under
-// the goal's conditions.
+// The derivative of this number on both sides of the goal, with these terms for its parameters,
+// under the goal's conditions.
 fn both_sides(
     alloc: Global,
     theory: &Theory,

@@ -2,8 +2,8 @@
 use circ_term::TermFault;
 use std::alloc::{AllocError, AllocFailed};
 
-/// Why the derivatives of a goal are not made: what stands first in their way, the derivatives in the
-/// theory's order, and of each the numbers of its parameters, then its left side.
+/// Why the derivatives of a goal are not made: what stands first in their way, the derivatives in
+/// the theory's order, and of each the numbers of its parameters, then its left side.
 #[derive(Drop, Clone, Copy)]
 pub enum DeriveFault {
     /// The numbers of variables do not suffice for the parameters.

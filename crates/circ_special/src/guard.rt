@@ -16,8 +16,8 @@ use circ_theory::Theory;
 /// visible derivative, or stands at a special path, or is the hole of an instance of a hidden
 /// derivative that stands at a special path.
 ///
-/// By its code the term is walked once. At each occurrence the derivatives that take the variable's sort are
-/// tried, each at the few places above it where its instance can begin.
+/// By its code the term is walked once. At each occurrence the derivatives that take the variable's
+/// sort are tried, each at the few places above it where its instance can begin.
 pub fn guarded(theory: &Theory, gamma: &Gamma, term: &Term, id: u32, sort: u32) -> bool
     ensures { IsTrue result ↔ Guarded theory.now gamma.now term.now id sort }
 {

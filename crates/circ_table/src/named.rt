@@ -17,8 +17,8 @@ use std::marker::Model;
 const ABSENT: u32 = 4_294_967_295;
 
 /// The terms of a table that were asked for by their numbers, with their subterms. A term that the
-/// table names twice may be there twice. So a table costs only as many built terms as are named, and
-/// 4 bytes for each number up to the greatest of them. A call that would build more than
+/// table names twice may be there twice. So a table costs only as many built terms as are named,
+/// and 4 bytes for each number up to the greatest of them. A call that would build more than
 /// 4,294,967,295 answers want of memory.
 #[derive(Drop)]
 pub struct NamedTerms {

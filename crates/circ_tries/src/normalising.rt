@@ -13,8 +13,8 @@ use circ_theory::{Pair, Theory};
 use std::alloc::Global;
 
 /// The normal form of a term under a theory's marked operators, with rules that may have conditions
-/// and with assumptions, where so many tries stand around the term. The assumptions are tried first,
-/// the outermost of them before the others, and the rules last.
+/// and with assumptions, where so many tries stand around the term. The assumptions are tried
+/// first, the outermost of them before the others, and the rules last.
 ///
 /// The budget falls by one for each replacement and for each try. After a limit is passed it holds
 /// what was left, and where memory ran out no more than before.

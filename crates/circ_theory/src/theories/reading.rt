@@ -158,8 +158,8 @@ impl Theory {
     }
 
     /// Whether an equation is a rewrite rule: it may be used as one, its left side is no variable,
-    /// and each variable of its right side and its conditions is in its left side. False where there is no such
-    /// equation.
+    /// and each variable of its right side and its conditions is in its left side. False where
+    /// there is no such equation.
     pub fn is_rule(&self, equation: u32) -> bool
         ensures { result ≡ option_map_or is_rule (slice_get self.now.equations equation) false }
     {

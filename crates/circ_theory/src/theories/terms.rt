@@ -89,8 +89,8 @@ impl Theory {
     }
 }
 
-// What puts the term at a hole of this sort, and the other terms in the place of parameters 1, 2 and
-// so on of their sorts.
+// What puts the term at a hole of this sort, and the other terms in the place of parameters 1, 2
+// and so on of their sorts.
 fn plugged(alloc: Global, hole: u32, term: &Term, params: &[Term]) -> Result<Subst, AllocError>
     requires sort { sort_of term.now ≡ hole }
     requires few { length params.now ≤ parameter_limit }
