@@ -15,7 +15,9 @@ TOKEN = re.compile(r"[()\[\]{},]|[^\s()\[\]{},]+")
 
 
 class Unreadable(Exception):
-    """The text is not what was expected there."""
+    """The text is not what was expected there. What of a proof was read before that is `so_far`."""
+
+    so_far = None
 
 
 def default_program():
@@ -393,6 +395,10 @@ class Proof:
         return [step for block in self.blocks for step in block.steps]
 
 
+OF_ANOTHER = "is it a proof of another theory?"
+STEPS = ("simplify", "reduce", "derive", "cases", "done")
+
+
 class Reader:
     """Goes through the lines of a proof file."""
 
@@ -400,38 +406,61 @@ class Reader:
         self.theory, self.lines = theory, lines
         self.place, self.number, self.table = 0, 0, []
         self.special, self.earlier, self.hypotheses = [], [], []
+        self.certified, self.blocks = [], []
 
     def next(self):
-        if self.place >= len(self.lines):
-            raise Unreadable(f"line {self.place + 1} is missing")
         self.place += 1
+        if self.place > len(self.lines):
+            raise self.fault("the text is cut here")
         return self.lines[self.place - 1].split(" ")
+
+    def fault(self, cause):
+        return Unreadable(f"line {self.place}: {cause}")
 
     def peek(self):
         return self.lines[self.place].split(" ")[0] if self.place < len(self.lines) else ""
 
     def read(self):
         head = self.next()
-        if head[0] != "circproof" or len(head) != 2:
-            raise Unreadable("line 1 is not circproof and a version")
+        if head not in (["circproof", "1"], ["circproof", "2"]):
+            raise self.fault("a proof begins with circproof 1 or circproof 2")
         while self.peek() in ("v", "a"):
             words = self.next()
             if words[0] == "v":
-                self.table.append(("v", int(words[1]), int(words[2])))
+                self.table.append(("v", int(words[1]), self.known(int(words[2]), self.theory.sorts, "sort")))
             else:
-                self.table.append(("a", int(words[1]), tuple(self.table[int(n)] for n in words[2:])))
+                self.table.append(self.application(int(words[1]), tuple(self.table[int(n)] for n in words[2:])))
         while self.peek() == "place":
             words = self.next()
             self.special.append((int(words[1]), int(words[2])))
-        certificates = self.certificates()
-        blocks = []
+        self.certificates()
         while self.peek() == "block":
             self.next()
-            blocks.append(self.block(len(blocks) + 1))
-        return Proof(int(head[1]), certificates, blocks, self.hypotheses)
+            self.block(len(self.blocks) + 1)
+        if self.next() != ["end"]:
+            raise self.fault("a block is expected, or end")
+        if self.place < len(self.lines):
+            self.place += 1
+            raise self.fault("nothing stands behind end")
+        return self.so_far()
+
+    def so_far(self):
+        """What is read, as a proof."""
+        return Proof(int(self.lines[0].split(" ")[1]), self.certified, self.blocks, self.hypotheses)
+
+    def known(self, number, parts, word):
+        if number >= len(parts):
+            raise self.fault(f"the theory has no {word} {number}; {OF_ANOTHER}")
+        return number
+
+    def application(self, number, terms):
+        """A term of the table, if its operator takes terms of these sorts."""
+        operator = self.theory.operators[self.known(number, self.theory.operators, "operator")]
+        if tuple(operator.args) != tuple(self.theory.sort(term) for term in terms):
+            raise self.fault(f"operator {number} of the theory, {operator.form}, does not take these arguments; {OF_ANOTHER}")
+        return "a", number, terms
 
     def certificates(self):
-        found = []
         for operator, argument in self.special:
             for _, derivative in self.theory.derivatives_of(self.theory.operators[operator].result):
                 if self.peek() != "cert":
@@ -441,8 +470,7 @@ class Reader:
                 start = self.start(operator, argument, derivative)
                 sides = {"left": start}
                 links = self.chain(sides)
-                found.append(Certificate(self.number, operator, argument, derivative, start, Why(links, sides)))
-        return found
+                self.certified.append(Certificate(self.number, operator, argument, derivative, start, Why(links, sides)))
 
     def start(self, operator, argument, derivative):
         """Variable 0 at the place, the others numbered from 1, then the derivative's parameters."""
@@ -469,17 +497,19 @@ class Reader:
         self.hypotheses = list(self.earlier)
         entries = [Entry(goal, ("goal", n)) for n, goal in enumerate(goals)]
         steps = []
+        self.blocks.append(Block(number, goals, steps))
         while True:
             kind = self.next()[0] if self.peek() != "cases" else "cases"
+            if kind not in STEPS:
+                raise self.fault(f"a step is expected: one of {', '.join(STEPS)}")
             self.number += 1
             if kind == "done":
                 steps.append(Step(self.number, kind))
                 break
             if not entries:
-                raise Unreadable(f"line {self.place}: no goal is left for {kind}")
+                raise self.fault(f"no goal is left for {kind}")
             steps.append(self.step(kind, entries))
         self.earlier += goals
-        return Block(number, goals, steps)
 
     def step(self, kind, entries):
         entry = entries.pop(0)
@@ -505,8 +535,6 @@ class Reader:
                 condition = (step.term, self.constant(name, step.term))
                 step.made.append(Entry(Goal(*goal.sides(), (*goal.conditions, condition)), entry.origin))
             entries[:0] = step.made
-        else:
-            raise Unreadable(f"line {self.place}: {kind}")
         return step
 
     def constant(self, name, term):
@@ -522,7 +550,7 @@ class Reader:
         if words[0] == "same":
             return Why(links, sides)
         if words[0] != "split":
-            raise Unreadable(f"line {self.place}: {words[0]}")
+            raise self.fault("the chains go on, or end with same or split")
         term, cases = self.table[int(words[1])], []
         names = self.theory.cases.get(self.theory.sort(term), [])
         for number in range(int(words[2])):
@@ -548,7 +576,7 @@ class Reader:
         number = len(link.conditions)
         pairs = link.used.conditions if isinstance(link.used, Goal) else ()
         if number >= len(pairs):
-            raise Unreadable(f"line {self.place}: there is no such condition")
+            raise self.fault("there is no such condition")
         given = dict(link.given)
         sides = dict(zip(("left", "right"), (instance(side, given) for side in pairs[number])))
         return self.why(sides, assumptions)
@@ -610,6 +638,20 @@ def read_theory(program, name):
 def read_proof(theory, name):
     """The proof of a file over a theory."""
     try:
-        return Reader(theory, pathlib.Path(name).read_text().split("\n")).read()
-    except (IndexError, ValueError, KeyError, StopIteration) as fault:
-        raise Unreadable(f"the proof does not read: {fault}") from fault
+        lines = pathlib.Path(name).read_bytes().decode("ascii").removesuffix("\n").split("\n")
+    except OSError as fault:
+        raise Unreadable(f"{name}: {fault.strerror}") from fault
+    except UnicodeDecodeError as fault:
+        raise Unreadable(f"{name}: byte {fault.start + 1} is not ASCII") from fault
+    for number, line in enumerate(lines, 1):
+        if line.endswith("\r"):
+            raise Unreadable(f"line {number}: it ends with a carriage return, which no line of a proof has")
+    reader = Reader(theory, lines)
+    try:
+        return reader.read()
+    except Unreadable as found:
+        fault = found
+    except (IndexError, ValueError, KeyError, StopIteration):
+        fault = reader.fault("it is not in its form, or names what is not there")
+    fault.so_far = reader.so_far() if reader.blocks else None
+    raise fault

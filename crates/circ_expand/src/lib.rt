@@ -26,7 +26,9 @@ mod rows;
 mod uses;
 mod valuation;
 mod variables;
+mod writing_out;
 
+pub use writing_out::expand;
 pub use fault::ExpandFault;
 pub use goals::{goal_misfit, goal_numbered};
 pub use laws::{expansion_is_worked_off, expansion_leads};

@@ -4,7 +4,7 @@
 mod hints;
 
 use crate::hints::print_hint;
-use circ_hints::CaseCount;
+use circ_hints::{CaseCount, Progress};
 use circ_outer::{HostShelf, HostSink};
 use circ_top::{Status, circ};
 use std::io::ErrorKind;
@@ -48,10 +48,11 @@ fn run(rt: &HostRuntime) -> u8 {
         Ok(words) => words,
         Err(number) => return number,
     };
-    let mut shelf = HostShelf::new(*rt);
+    let mut shelf = Progress::new(HostShelf::new(*rt), *rt);
     let mut sink = CaseCount::new(HostSink::new(*rt));
     let status = circ(rt.alloc(), &words, &mut shelf, &mut sink);
-    complain(rt, &status, shelf.failed_name());
+    shelf.clear();
+    complain(rt, &status, shelf.inner().failed_name());
     print_hint(rt, words.as_slice(), &status, sink.cases());
     status.number()
 }
