@@ -119,7 +119,7 @@ pub room : (g : Goal) (n count : ℕ) (free : List ℕ) → free ≡ filter (is_
 room g n count free e l m =
     let all = enough (numbers_in g) (fresh_after g.left g.right) (fresh_free g) count in
     let apart : n ≢ fresh_after g.left g.right + count = λ same.
-        let same_count = ap length e ∙ ap (λ x. length (filter (is_free (numbers_in g)) (numbers_from 0 x))) same in omega (arith, all, l, same_count) in
+    let same_count = ap length e ∙ ap (λ x. length (filter (is_free (numbers_in g)) (numbers_from 0 x))) same in omega (arith, all, l, same_count) in
     omega (arith, m, apart)
 
 -- free among the keys of a set that has the goal's numbers
@@ -228,9 +228,9 @@ left_over (n ∷ ns) (suc c) d l = left_over ns c d (omega (arith, l))
 pub entries_fit : (th : Theory) → IsWellFormed th → (ns ks : List ℕ) → parameter_count th ks ≤ length ns → HaveParameters th (entries_named th ns ks)
 entries_fit th ok ns [] l = tt
 entries_fit th ok ns (k ∷ ks) l = (
-    (named_sorted th.signature ns (sorts_at th k) (sorts_exist th ok k), named_sorts ns (sorts_at th k) (omega (arith, l))),
-    entries_fit th ok (drop (length (sorts_at th k)) ns) ks (left_over ns (length (sorts_at th k)) (parameter_count th ks) (omega (arith, l))),
-  )
+  (named_sorted th.signature ns (sorts_at th k) (sorts_exist th ok k), named_sorts ns (sorts_at th k) (omega (arith, l))),
+  entries_fit th ok (drop (length (sorts_at th k)) ns) ks (left_over ns (length (sorts_at th k)) (parameter_count th ks) (omega (arith, l))),
+)
 
 -- the derivatives of the entries
 pub entries_derivatives : (th : Theory) (ns ks : List ℕ) → map (λ w. w.derivative) (entries_named th ns ks) ≡ ks

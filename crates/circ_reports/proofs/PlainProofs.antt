@@ -67,9 +67,10 @@ plain_blocks [] e f g = tt
 plain_blocks (b ∷ bs) e f g =
     let a = either_false (list_any has_given b.names) (some_given bs) e in
     let i = either_false (list_any step_has_if b.steps) (some_if bs) f in
-    let c = either_false (list_any is_cases b.steps) (some_cases bs) g in
-    (record { names = none_has has_given (λ n. n.conds ≡ []) (λ n x. no_pair n.conds x) b.names a.0; steps = plain_steps b.steps i.0 c.0 },
-    plain_blocks bs a.1 i.1 c.1)
+    let c = either_false (list_any is_cases b.steps) (some_cases bs) g in (
+      record { names = none_has has_given (λ n. n.conds ≡ []) (λ n x. no_pair n.conds x) b.names a.0; steps = plain_steps b.steps i.0 c.0 },
+      plain_blocks bs a.1 i.1 c.1,
+    )
 
 pub nothing_left_out : (p : Proof) → left_out p ≡ None → IsPlain p
 nothing_left_out p e = go (some_given p.blocks) refl (list_any (λ ls. list_any has_if ls) p.certificates || some_if p.blocks) refl (some_cases p.blocks) refl e

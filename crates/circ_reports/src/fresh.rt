@@ -163,11 +163,7 @@ fn behind(numbers: &[u32], count: usize) -> &[u32]
 }
 
 /// Variables of these sorts with these numbers.
-fn variables_named(
-    alloc: Global,
-    numbers: &[u32],
-    sorts: &[u32],
-) -> Result<Vec<Term>, AllocError>
+fn variables_named(alloc: Global, numbers: &[u32], sorts: &[u32]) -> Result<Vec<Term>, AllocError>
     ensures { IfOk result (λ v. v.items ≡ variables_named numbers.now sorts.now) }
 {
     let mut made = Vec::new(alloc);

@@ -11,8 +11,8 @@ ghost use Rattle.circ_reports.specs.Upgrade.{upgraded_text, upgraded_file, IsUpg
 ghost use Rattle.circ_reports.specs.Upgrade.{RefusesUpgrade};
 
 use crate::proof_file::take_proof;
-use circ_file::laws::texts_decode;
 use circ_file::encode;
+use circ_file::laws::texts_decode;
 use circ_files::{Ending, Status, Stored, take_theory};
 use circ_outer::Shelf;
 use circ_proof::{Block, Proof};

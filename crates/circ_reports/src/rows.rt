@@ -73,18 +73,16 @@ fn put_rows(
     Ok(())
 }
 
-fn put_row(
-    alloc: Global,
-    theory: &Theory,
-    row: &Row,
-    out: &mut Vec<u8>,
-) -> Result<(), AllocError>
+fn put_row(alloc: Global, theory: &Theory, row: &Row, out: &mut Vec<u8>) -> Result<(), AllocError>
     ensures { OnOk result (out.new.items ≡ out.old.items
         ++ row_line theory.now.signature (plain_row row.now)) }
 {
     match row {
         Row::Equation {
-            number, way, path, ..
+            number,
+            way,
+            path,
+            ..
         } => put_rule(out, b"equation ", *way, u64::from(*number), path),
         Row::Content { op, path, .. } => put_content(out, u64::from(*op), path),
         Row::Assumption { number, way, path } => {

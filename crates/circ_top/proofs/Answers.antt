@@ -51,7 +51,7 @@ use Rattle.circ_reports.specs.Upgrade.{upgraded_file}
 use Rattle.circ_top.specs.Upgrade.{StoresUpgraded}
 use Rattle.circ_top.proofs.Upgraded.{upgraded_fits, upgraded_alike}
 use Rattle.circ_top.proofs.UpgradeOutcomes.{upgrade_not_ok, upgrade_not_refused, unread_upgrade, past_upgrade, unwritten_upgrade, upgraded_short}
-use Rattle.circ_top.specs.Expand.{WritesOut}
+use Rattle.circ_top.specs.Expand.{WritesDerivation}
 use Rattle.circ_top.proofs.ExpandOutcomes.{expand_not_ok, expand_refused, unread_expand, past_expand, unwritten_expand}
 use Rattle.circ_reports.specs.Same.{IsCompared}
 use Rattle.circ_top.proofs.SameOutcomes.{same_not_ok, same_not_refused, unread_same, past_same, unwritten_same, compared_end}
@@ -404,7 +404,7 @@ module _ (words : List (List ℕ)) (before after : ShelfState) (start end : Sink
       }
 
   pub answers_written : IsQuietRun words before after r → (theory proof : List ℕ) (goal : ℕ) (derivatives : List ℕ)
-      → Asks words (Expand theory proof goal derivatives) → r ≡ status.Ok → WritesOut theory proof goal derivatives before after start end
+      → Asks words (Expand theory proof goal derivatives) → r ≡ status.Ok → WritesDerivation theory proof goal derivatives before after start end
   answers_written q theory proof goal derivatives i e =
       let s = answers_succeed q e in
       let P : Command → Type 0 = λ c. Succeeds c s.text s.stored before in

@@ -12,7 +12,7 @@ use Rattle.circ_top.specs.Delivery.{Prints}
 
 -- Status 0 of `expand`: the two files read, the proof is accepted, and what is printed leads from the experiment on the left side of the goal to that on its
 -- right side, with no hypothesis (`ShowsDerivation`). The outside did not fail.
-pub record WritesOut (theory proof : List ℕ) (goal : ℕ) (derivatives : List ℕ) (before after : ShelfState) (start end : SinkState) : Type 0 where
+pub record WritesDerivation (theory proof : List ℕ) (goal : ℕ) (derivatives : List ℕ) (before after : ShelfState) (start end : SinkState) : Type 0 where
   pub th : Theory
   pub p : Proof
   pub takes_theory : TakesTheory theory th before

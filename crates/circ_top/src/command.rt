@@ -23,7 +23,7 @@ ghost use Rattle.circ_top.specs.Prove.{StoresProof};
 ghost use Rattle.circ_top.specs.Differ.{TellsApart};
 ghost use Rattle.circ_top.specs.Regex.{StoresEquality};
 ghost use Rattle.circ_top.specs.Upgrade.{StoresUpgraded};
-ghost use Rattle.circ_top.specs.Expand.{WritesOut};
+ghost use Rattle.circ_top.specs.Expand.{WritesDerivation};
 ghost use Rattle.circ_top.specs.Storing.{HoldsAfter, FailsToStore, Ends, IsQuietEnd};
 ghost use Rattle.circ_top.specs.Answer.{Succeeds, Comes, RefusesCommand, AnswersDue};
 ghost use Rattle.circ_top.specs.Answer.{Succeeded};
@@ -57,10 +57,10 @@ use std::alloc::Global;
 /// `check THEORY PROOF`, `relation THEORY PROOF`, `prove THEORY SCRIPT PROOF`, `show THEORY`,
 /// `contexts THEORY`, `reduce THEORY SCRIPT`, `same FIRST SECOND`, `differ THEORY SCRIPT`,
 /// `trace THEORY SCRIPT`, `regex LEFT RIGHT PROOF`, `upgrade THEORY PROOF NEW`,
-/// `expand THEORY PROOF GOAL ENTRY*`, `library NAME` or `generate NUMBER`. The options `--steps N` and
-/// `--derives N` may stand before, behind or between them. The files are taken from the shelf, to
-/// which `prove`, `regex` and `upgrade` store a proof, and the text of the answer is written to the
-/// sink, whole.
+/// `expand THEORY PROOF GOAL ENTRY*`, `library NAME` or `generate NUMBER`. The options
+/// `--steps N` and `--derives N` may stand before, behind or between them. The files are taken
+/// from the shelf, to which `prove`, `regex` and `upgrade` store a proof, and the text of the
+/// answer is written to the sink, whole.
 pub fn circ<S: Shelf, K: Sink>(
     alloc: Global,
     words: &Vec<String>,
@@ -110,7 +110,7 @@ pub fn circ<S: Shelf, K: Sink>(
     // the proof to that on its right side, with no hypothesis.
     ensures expansion { (theory proof : List ℕ) (goal : ℕ) (derivatives : List ℕ) →
         Asks (map string_bytes words.now.items) (Expand theory proof goal derivatives) →
-        result ≡ Status.Ok → WritesOut theory proof goal derivatives
+        result ≡ Status.Ok → WritesDerivation theory proof goal derivatives
         (S.state shelf.old) (S.state shelf.new) (K.state out.old) (K.state out.new) }
 
     // Status 0 of any command: its text is printed, which `Succeeds` states for each.

@@ -63,10 +63,7 @@ fn place_words(request: &Request<'_>, file: u8) -> &'static [u8]
 {
     match request {
         Request::Check { .. } | Request::Upgrade { .. } | Request::Expand { .. }
-            if file == CHECKED_FILE =>
-        {
-            b", line "
-        }
+            if file == CHECKED_FILE => { b", line " }
         _ => b", statement ",
     }
 }

@@ -36,8 +36,8 @@ returns-in-Ok-clause-writes c =
     let e = c.in-Ok.ensures.exact in
     if_ok (λ v. v.items ≡ rows_text th ws g (map plain_row c.as_slice.result.now)) (λ v. Writes th (by_units ws g o) v.items) c.text_of.result c.text_of.ensures.text
     (λ v t.
-        let P : Spending Pieces → Type 0 = λ y. Writes th (by_units ws g y) v.items in
-        subst P (sym e.2) (t ∙ ap (λ rs. rows_text th ws g (map plain_row rs)) c.as_slice.ensures.value ∙ ap (rows_text th ws g) e.3))
+    let P : Spending Pieces → Type 0 = λ y. Writes th (by_units ws g y) v.items in
+    subst P (sym e.2) (t ∙ ap (λ rs. rows_text th ws g (map plain_row rs)) c.as_slice.ensures.value ∙ ap (rows_text th ws g) e.3))
 
 pub returns-in-Ok-clause-shows : goal.returns-in-Ok-clause-shows
 returns-in-Ok-clause-shows c =

@@ -15,5 +15,5 @@ returns-clause-parameters c =
     ap length (c.as_slice.ensures.value ∙ c.in_ok-numbers.ensures) ∙ free_count c.args.goal.now c.in_ok-count.count in
     if_ok (λ v. plain_entries v.items ≡ entries_named th ns ks) (λ v. HaveParameters th (plain_entries v.items)) c.entries_named.result c.entries_named.ensures
     (λ v e.
-        let P : List Written → Type 0 = HaveParameters th in
-        subst P (sym e) (entries_fit th c.known.ensures ns ks (omega (arith, many, c.in_ok-count.ensures))))
+    let P : List Written → Type 0 = HaveParameters th in
+    subst P (sym e) (entries_fit th c.known.ensures ns ks (omega (arith, many, c.in_ok-count.ensures))))
