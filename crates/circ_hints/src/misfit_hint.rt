@@ -15,7 +15,7 @@ pub fn misfit(alloc: Global, asked: Asked<'_>, entry: u64) -> Result<String, All
     } else if asked.has_at_least(GOAL_WORD.saturating_add(entry as usize)) {
         write!(
             out,
-            "circ: entry {entry} is no derivative of what is reached: `show` prints all, from 0 on\n"
+            "circ: entry {entry} is no derivative of what is reached: `show` has all, from 0 on\n"
         )?;
     } else {
         out.push_str("circ: what is reached is of a hidden sort: one entry more is needed\n")?;
