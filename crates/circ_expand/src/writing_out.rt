@@ -39,6 +39,5 @@ pub fn expand(
         IfOk result (λ rows. (xs : Pieces) × (map plain_row rows.items ≡ rows_of xs) ×
         LeadsOnGoal theory.now xs (plain_entries entries.now) g) }
 {
-    let _ = (alloc, theory, proof, goal, entries);
     Err(ExpandFault::Memory)
 }
