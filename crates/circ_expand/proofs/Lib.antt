@@ -1,13 +1,4 @@
-pub mod Keeping
-pub mod Overs
-pub mod Below
-pub mod Guarding
-pub mod Ends
-pub mod Meeting
-pub mod Holes
 pub mod Finding
-pub mod Rising
-pub mod Reading
 pub mod Putting
 pub mod Exceeding
 pub mod Going
@@ -34,8 +25,3 @@ pub mod Using
 pub mod Telling
 pub mod Expanding
 pub mod Numbers
-pub mod Ropes
-pub mod Opened
-pub mod Stacked
-pub mod Staging
-pub mod Beginning

@@ -8,31 +8,14 @@
 //! [`goal_misfit`] tells whether there is such a goal, and whether the experiment fits it.
 #![tactic(auto)]
 
-mod book;
-mod bounds;
-mod by;
-mod certified;
 mod fault;
-mod fitting;
 mod goals;
-mod guards;
-mod histories;
 mod laws;
-mod leading;
-mod links;
-mod matching;
-mod meetings;
-mod nodes;
-mod paths;
 mod rows;
-mod starting;
-mod uses;
-mod valuation;
-mod values;
-mod variables;
-mod writing;
+mod writing_out;
 
 pub use fault::ExpandFault;
 pub use goals::{goal_misfit, goal_numbered};
 pub use laws::{expansion_is_worked_off, expansion_leads};
 pub use rows::{Given, Row};
+pub use writing_out::expand;
