@@ -1,0 +1,23 @@
+use Rattle.std.proofs.Common.{◌≡◌, [], None, ap, sym, ◌∙◌}
+use Rattle.circ_term.specs.Tree.{Var}
+use Rattle.circ_expand.specs.Uses.{entries_of}
+use Rattle.circ_expand.specs.Tasks.{call_of}
+use Rattle.circ_expand.specs.Valuations.{by_of}
+use Rattle.circ_expand.proofs.Holes.{same_by}
+use Rattle.circ_expand.proofs.calls.Frame.opening.Goals as goal
+
+pub returns : goal.returns
+returns c = λ n e w.
+    let fr = c.args.self.now in
+    let by : by_of c.in_ok-new-2.field-0.value ≡ Var =
+    ap by_of c.in_ok-new-2.ensures ∙ same_by (by_of c.in_ok-by.by) Var (λ m s. c.in_ok-by.ensures m s ∙ c.new.ensures m s) in
+    ap (call_of fr) c.in_ok-new-3.ensures
+    ∙ (λ i. record {
+      whole = w i;
+      path = ap (λ p. p.items) c.in_ok-new.ensures i;
+      entries = ap (entries_of fr.theory.now) c.in_ok-of.ensures i;
+      along = None;
+      goal = e i;
+      by = by i;
+      assumptions = [];
+    })

@@ -1,0 +1,20 @@
+use Rattle.std.proofs.Common.{refl, ap, sym, ◌∙◌}
+use Rattle.circ_expand.specs.Machine.{Give_reason}
+use Rattle.circ_expand.specs.Tasks.{call_of, why_at}
+use Rattle.circ_expand.specs.declared.tasks.Reason.{Reason}
+use Rattle.circ_expand.specs.declared.tasks.Task.TheVariants as task
+use Rattle.circ_expand.specs.declared.tasks.Work.{Work}
+use Rattle.circ_expand.proofs.Entering.{reduced_on}
+use Rattle.circ_expand.proofs.Stepping.{jobs_pushed}
+use Rattle.circ_expand.proofs.calls.Frame.reduced_step.Goals as goal
+
+pub returns : goal.returns
+returns c =
+    let fr = c.args.self.now in
+    let w = c.args.work.now in
+    let g = c.args.goal.now in
+    let r : Reason = record { call = c.args.call; basis = c.in_ok-basis.basis; why = c.args.why; left = c.in_ok-left.left; right = c.in_ok-right.right } in
+    let new : Work = record w { tasks = c.push.new.self } in
+    reduced_on fr c.args.call.value r g (why_at fr c.args.why.now) w new
+    (λ i. Give_reason (call_of fr c.args.call.value) (c.in_ok-basis.ensures i) (why_at fr c.args.why.now) (c.in_ok-left.ensures i) (c.in_ok-right.ensures i))
+    (jobs_pushed fr w.tasks.items c.push.new.self.items (task.GiveReason r) c.in_ok-push.ensures.items) refl refl

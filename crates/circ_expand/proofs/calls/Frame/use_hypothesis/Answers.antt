@@ -1,0 +1,68 @@
+use Rattle.std.proofs.Common.{◌≡◌, ◌-◌, ◌∷◌, [], List, map, refl, ap, sym, ◌∙◌, subst, arith}
+use Rattle.circ_term.specs.Tree.{Tree}
+use Rattle.circ_term.specs.Limits.{Limit, Names, first_limit}
+use Rattle.circ_term.specs.Substitution.{Substitution, instance}
+use Rattle.circ_theory.specs.Rewriting.{named, by_terms}
+use Rattle.circ_theory.specs.declared.way.Way.TheVariants.{Forth, Back}
+use Rattle.circ_expand.specs.Followed.{Followed, goal_in}
+use Rattle.circ_expand.specs.Expand.{around, followed_at, start_of}
+use Rattle.circ_expand.specs.Machine.{Task as Job, Enter_use, Put_behind}
+use Rattle.circ_expand.specs.Tasks.{call_of, basis_of, target_of, background_in, links_job, jobs_of, with_tasks, hypothesised, used}
+use Rattle.circ_expand.specs.Valuations.{by_of}
+use Rattle.circ_expand.specs.declared.tasks.Task.TheVariants as task
+use Rattle.circ_expand.specs.declared.tasks.Work.{Work}
+use Rattle.circ_expand.proofs.Advancing.{used_past, used_whole_past, used_on, instances_within, instances_listed}
+use Rattle.circ_expand.proofs.Stepping.{counted_none, jobs_pushed, limits_listed}
+use Rattle.circ_expand.proofs.calls.Frame.use_hypothesis.Goals as goal
+
+pub returns-then-work-eq0 : goal.returns-then-work-eq0
+returns-then-work-eq0 c =
+    let fr = c.args.self.now in
+    let u = c.args.used in
+    counted_none c.args.work.now.left
+    (hypothesised fr c.args.work.now c.args.more u.number u.way u.path.now (map (named fr.table.now) u.terms.now) c.args.standing.now c.args.before) c.if-work-eq0.true
+
+pub returns-in-Err : goal.returns-in-Err
+returns-in-Err c =
+    let fr = c.args.self.now in
+    let w = c.args.work.now in
+    let u = c.args.used in
+    let ts = map (named fr.table.now) u.terms.now in
+    used_past fr w c.args.more u.number u.way u.path.now ts c.args.standing.now c.args.before (w.left - 1) c.in-Err.fault (omega (arith, c.if-work-eq0.false))
+    (subst (Names c.in-Err.fault) (limits_listed (by_of c.args.more.call.value.by.value) ts) c.in-Err.ensures)
+
+pub returns-in-Err-2 : goal.returns-in-Err-2
+returns-in-Err-2 c =
+    let fr = c.args.self.now in
+    let w = c.args.work.now in
+    let u = c.args.used in
+    let ts = map (named fr.table.now) u.terms.now in
+    used_whole_past fr w c.args.more u.number u.way u.path.now ts c.args.standing.now c.args.before (w.left - 1) c.in-Err-2.fault (omega (arith, c.if-work-eq0.false))
+    (instances_within (by_of c.args.more.call.value.by.value) ts c.in-Ok.ensures.1) c.in-Err-2.ensures
+
+pub returns : goal.returns
+returns c =
+    let fr = c.args.self.now in
+    let w = c.args.work.now in
+    let u = c.args.used in
+    let m = c.args.more in
+    let d = call_of fr m.call.value in
+    let new : Work = record w { tasks = c.push-3.new.self; left = w.left - 1 } in
+    let ts = map (named fr.table.now) u.terms.now in
+    let us = map (instance d.by) ts in
+    let q = followed_at (basis_of fr m.basis.value).hypotheses u.number in
+    let whole : c.start_of-whole.result ≡ start_of u.way c.args.before (around d m.term) =
+    c.start_of-whole.ensures ∙ ap (start_of u.way c.args.before) c.in-Ok-2.ensures.0 in
+    let same : c.in-Ok.terms.items ≡ us = c.in-Ok.ensures.0 ∙ instances_listed d.by ts in
+    let target : target_of fr c.hypothesis-target.result ≡ q = c.hypothesis-target.ensures in
+    let by : by_of c.in_ok-by.by.value ≡ by_terms (goal_in q.history) us =
+    c.in_ok-by.ensures ∙ (λ i. by_terms (goal_in (target i).history) (same i)) in
+    let is : call_of fr c.in_ok-call.call.value
+    ≡ used (background_in fr) d q (start_of u.way c.args.before (around d m.term)) c.args.standing.now u.path.now (by_terms (goal_in q.history) us) =
+    c.in_ok-call.ensures ∙ (λ i. used (background_in fr) d (target i) (whole i) c.args.standing.now u.path.now (by i)) in
+    let first = jobs_pushed fr w.tasks.items c.push.new.self.items (task.Links m) c.in_ok-push.ensures.items in
+    let second = jobs_pushed fr c.push.new.self.items c.push-2.new.self.items (task.PutBehind u.way) c.in_ok-push-2.ensures.items in
+    let third = jobs_pushed fr c.push-2.new.self.items c.push-3.new.self.items (task.EnterUse c.in_ok-call.call) c.in_ok-push-3.ensures.items in
+    used_on fr w new m u.number u.way u.path.now ts c.args.standing.now c.args.before (call_of fr c.in_ok-call.call.value) (omega (arith, c.if-work-eq0.false))
+    (instances_within d.by ts c.in-Ok.ensures.1) c.in-Ok-2.ensures.1 is
+    (third ∙ ap (λ js. Enter_use (call_of fr c.in_ok-call.call.value) ∷ js) (second ∙ ap (λ js. Put_behind u.way ∷ js) first)) refl
