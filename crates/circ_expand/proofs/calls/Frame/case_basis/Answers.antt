@@ -22,4 +22,4 @@ returns c = λ all.
     ap (map plain_pair) c.in_ok-push.ensures.items
     ∙ map-append plain_pair c.in_ok-assumptions.assumptions.items (record { left = c.in_ok-left.left; right = c.in_ok-right.right } ∷ [])
     ∙ (λ i. before i ++ pair_with (left i) (right i) ∷ []) in
-    ap (basis_of fr) c.in_ok-new.ensures ∙ ap (basis (followed_at_end fr b.block) b.raised) list
+    ap (basis_of fr) c.in_ok-new.ensures.ok ∙ ap (basis (followed_at_end fr b.block) b.raised) list
