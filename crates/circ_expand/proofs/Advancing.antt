@@ -217,6 +217,13 @@ all_built_at r S T xs ys ls t e h b =
     let Q : List Tree → Type 0 = λ zs. BuildsLast r (trail T (resolved_links zs (plain_links ls)) t) (led_all T (resolved_links zs (plain_links ls)) t) in
     subst Q h (subst P e b)
 
+pub all_built_from : (r : Result Tree TermFault) (S T : Setting) (xs ys : List Tree) (ls ks : List (Link ℕ)) (t : Tree) → S ≡ T → xs ≡ ys → ls ≡ ks
+    → BuildsLast r (trail S (resolved_links xs (plain_links ls)) t) (led_all S (resolved_links xs (plain_links ls)) t)
+    → BuildsLast r (trail T (resolved_links ys (plain_links ks)) t) (led_all T (resolved_links ys (plain_links ks)) t)
+all_built_from r S T xs ys ls ks t e h l b =
+    let P : List (Link ℕ) → Type 0 = λ zs. BuildsLast r (trail T (resolved_links ys (plain_links zs)) t) (led_all T (resolved_links ys (plain_links zs)) t) in
+    subst P l (all_built_at r S T xs ys ls t e h b)
+
 -- what stands, or the whole term, is past a limit before a hypothesis is used
 pub standing_past : {X : Type 0} (c : Use) (t : Tree) (o : Spending X) (e : TermFault) → Names e (first_limit (instance c.by t))
     → Halts (all_tested (stood c t) o) (halt.Past e)
