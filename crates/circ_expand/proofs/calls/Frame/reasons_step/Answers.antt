@@ -23,7 +23,7 @@ returns-in_default-split_first c =
     let fr = c.args.self.now in
     let r = c.args.reasons in
     let w = c.args.work.now in
-    let new : Work = record w { values = c.add_no_part-2.new.self } in (
+    let new : Work = record w { values = c.add_no_part-in_default-split_first.new.self } in (
       pending_of fr new,
       constants_end fr r w c.in-Some.why.now c.in-Some.whys.now c.in-Some.ensures.cases.0 (no_items r.constants.now c.in_default-split_first.ensures.cases)
           ∙ ap (λ vs. Yields (pending (jobs_of fr w) vs) w.left) (sym c.in_ok-add_no_part-2.ensures),
