@@ -163,5 +163,5 @@ fn held(alloc: Global, entry: &Entry) -> Result<Rc<Held>, AllocError>
         number: entry.derivative,
         params: Rc::new(alloc, values)?,
     };
-    Rc::new(alloc, held).map_err(AllocError::from)
+    Ok(Rc::new(alloc, held)?)
 }

@@ -22,7 +22,7 @@ returns-in_default c = λ xs e.
     let d = c.args.call.value in
     let u = c.in_ok-next-2-in_default.next in
     let same : call_of fr u.value ≡ record (call_of fr d) { along = None } =
-    ap (call_of fr) c.in_ok-next-2-in_default.ensures ∙ (λ i. let y : Use = c.in_ok-next-in_default.ensures fr i in record y { along = None }) in
+    ap (call_of fr) c.in_ok-next-2-in_default.ensures.ok ∙ (λ i. let y : Use = c.in_ok-next-in_default.ensures fr i in record y { along = None }) in
     let pushed = jobs_pushed fr w.tasks.items c.push.new.self.items (task.BeginUse u) c.in_ok-push-in_default.ensures.items in
     ap (λ ys. along_step (all_uses f) f (call_of fr d) (layers_of fr.theory.now ys) (jobs_of fr w) (values_of w.values) w.left) e
     ∙ (λ i. Yields (pending (Begin_use (sym same i) ∷ jobs_of fr w) (values_of w.values)) w.left)
@@ -45,7 +45,7 @@ returns-in-Entry c = λ xs e.
     ap (entries_of th) c.in_ok-with-in-Entry.ensures ∙ entries_last th c.in_ok-clone-in-Entry.field-0 (front d.entries)
     ∙ (λ i. held_by th (c.in_ok-clone-in-Entry.ensures.cases i).value ∷ (call_of fr d).entries) in
     let same : call_of fr u.value ≡ record (call_of fr d) { entries = held_by th h.value ∷ (call_of fr d).entries; along = Some rest } =
-    ap (call_of fr) c.in_ok-next-2-in-Entry.ensures
+    ap (call_of fr) c.in_ok-next-2-in-Entry.ensures.ok
     ∙ (λ i. let y : Use = c.in_ok-next-in-Entry.ensures fr i in record y { entries = entries i; along = Some rest }) in
     let pushed = jobs_pushed fr w.tasks.items c.push.new.self.items (task.BeginUse u) c.in_ok-push-in-Entry.ensures.items in
     ap (λ (ys : List Layer). along_step (all_uses f) f (call_of fr d) ys (jobs_of fr w) (values_of w.values) w.left) layers

@@ -33,7 +33,7 @@ returns c =
     let new : Work = record w { tasks = c.push.new.self } in
     let entries : (call_of fr d).entries ≡ e ∷ cs = ap (entries_of th) c.in-Some.ensures ∙ entries_last th x.last (front x.rest) in
     let same : call_of fr c.in_ok-next-2.next.value ≡ derive_call (all_uses (background_in fr)) (background_in fr) (call_of fr d) c.args.goal.now hs e cs =
-    ap (call_of fr) c.in_ok-next-2.ensures
+    ap (call_of fr) c.in_ok-next-2.ensures.ok
     ∙ (λ i. let y : Use = c.in_ok-next.ensures fr i in record y {
       entries = cs;
       along = None;

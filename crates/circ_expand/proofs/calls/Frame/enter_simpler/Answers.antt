@@ -25,7 +25,7 @@ returns-in-Ok c =
     let w = c.args.work.now in
     let t = target_of fr (record { block = s.call.value.goal.block; node = s.next }) in
     let same : call_of fr c.in_ok-next-2-in-Ok.next.value ≡ simpler_use fr s =
-    ap (call_of fr) c.in_ok-next-2-in-Ok.ensures
+    ap (call_of fr) c.in_ok-next-2-in-Ok.ensures.ok
     ∙ (λ i. let d : Use = c.in_ok-next-in-Ok.ensures fr i in record d { whole = c.in-Ok.ensures.0 i; along = None; goal = t }) in
     steps_same fr (stepped fr (Enter_use (simpler_use fr s)) w) (stepped fr (Enter_use (call_of fr c.in_ok-next-2-in-Ok.next.value)) w) c.use_step.new.work c.use_step.result
     (ap (λ d. stepped fr (Enter_use d) w) (sym same)) c.use_step.ensures

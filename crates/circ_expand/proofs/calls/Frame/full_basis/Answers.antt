@@ -8,4 +8,4 @@ pub returns : goal.returns
 returns c =
     let fr = c.args.self.now in
     let d = c.args.call.now in
-    ap (basis_of fr) c.in_ok-new.ensures ∙ (λ i. basis (block_hypotheses fr d.goal.block i) (sym (length_assumed d.assumptions) i) [])
+    ap (basis_of fr) c.in_ok-new.ensures.ok ∙ (λ i. basis (block_hypotheses fr d.goal.block i) (sym (length_assumed d.assumptions) i) [])

@@ -10,11 +10,11 @@ pub returns : goal.returns
 returns c = λ n e w.
     let fr = c.args.self.now in
     let by : by_of c.in_ok-new-2.field-0.value ≡ Var =
-    ap by_of c.in_ok-new-2.ensures ∙ same_by (by_of c.in_ok-by.by) Var (λ m s. c.in_ok-by.ensures m s ∙ c.new.ensures m s) in
-    ap (call_of fr) c.in_ok-new-3.ensures
+    ap by_of c.in_ok-new-2.ensures.ok ∙ same_by (by_of c.in_ok-by.by) Var (λ m s. c.in_ok-by.ensures m s ∙ c.new.ensures m s) in
+    ap (call_of fr) c.in_ok-new-3.ensures.ok
     ∙ (λ i. record {
       whole = w i;
-      path = ap (λ p. p.items) c.in_ok-new.ensures i;
+      path = ap (λ p. p.items) c.in_ok-new.ensures.ok i;
       entries = ap (entries_of fr.theory.now) c.in_ok-of.ensures i;
       along = None;
       goal = e i;
