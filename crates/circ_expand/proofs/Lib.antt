@@ -11,6 +11,7 @@ pub mod Reading
 pub mod Putting
 pub mod Exceeding
 pub mod Going
+pub mod Chosen
 pub mod Depth
 pub mod Working
 pub mod Ending

@@ -40,7 +40,9 @@ pub(crate) struct Plugged {
 impl Over {
     // The same once more.
     fn share(&self) -> Result<Over, AllocError>
-        ensures { IfOk result (λ o. o ≡ self.now) }
+        ensures body { IfOk result (λ o. o.body ≡ self.now.body) }
+        ensures first { IfOk result (λ o. o.first ≡ self.now.first) }
+        ensures params { IfOk result (λ o. o.params.value ≡ self.now.params.value) }
     {
         Ok(Over {
             body: self.body.share()?,
@@ -147,7 +149,8 @@ impl By {
             (valued_by over.params.value) n s) }
     {
         let mut overs = Vec::with_capacity(alloc, self.overs.len() + 1)?;
-        for old in &self.overs {
+        let olds = self.overs.as_slice();
+        for old in olds {
             overs.push(old.share()?)?;
         }
         overs.push(over)?;

@@ -1,6 +1,6 @@
 //! Lists of which several uses share the first items.
 ghost use Rattle.std.specs.Prelude.{◌≡◌, ◌∷◌, [], ◌++◌, take, IfOk};
-ghost use Rattle.circ_expand.specs.Fronts.{front, IsCut};
+ghost use Rattle.circ_expand.specs.Fronts.{front, shared_in, IsCut};
 
 use std::alloc::{AllocError, Global};
 use std::rc::Rc;
@@ -65,7 +65,7 @@ impl<T: Drop> Front<T> {
 
     // A list of its own, to be made longer.
     pub(crate) fn to_vec(&self, alloc: Global) -> Result<Vec<Rc<T>>, AllocError>
-        ensures { IfOk result (λ v. v.items ≡ front self.now) }
+        ensures { IfOk result (λ v. shared_in v.items ≡ shared_in (front self.now)) }
     {
         let items = self.as_slice();
         let mut copy = Vec::with_capacity(alloc, items.len())?;
@@ -77,7 +77,8 @@ impl<T: Drop> Front<T> {
 
     // With one item more, which goes last.
     pub(crate) fn with(&self, alloc: Global, item: Rc<T>) -> Result<Front<T>, AllocError>
-        ensures { IfOk result (λ f. front f ≡ front self.now ++ item ∷ []) }
+        ensures { IfOk result (λ f. shared_in (front f) ≡
+            shared_in (front self.now) ++ item.value ∷ []) }
     {
         let mut items = self.to_vec(alloc)?;
         items.push(item)?;
@@ -86,7 +87,7 @@ impl<T: Drop> Front<T> {
 }
 
 // The first so many items.
-fn first<T>(items: &[T], count: usize) -> &[T]
+pub(crate) fn first<T>(items: &[T], count: usize) -> &[T]
     ensures { result.now ≡ take count items.now }
 {
     if count < items.len() {

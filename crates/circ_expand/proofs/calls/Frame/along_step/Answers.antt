@@ -9,8 +9,8 @@ use Rattle.circ_expand.specs.declared.uses.Layer.TheVariants as layer
 use Rattle.circ_expand.specs.declared.uses.Layer.{Layer as Kept}
 use Rattle.circ_expand.specs.declared.tasks.Task.TheVariants as task
 use Rattle.circ_expand.specs.declared.tasks.Work.{Work}
-use Rattle.circ_expand.proofs.Entering.{layers_last}
-use Rattle.circ_expand.proofs.Fronting.{entries_last}
+use Rattle.circ_expand.proofs.Fronting.{layers_cut}
+use Rattle.circ_expand.proofs.Fronting.{entries_cut}
 use Rattle.circ_expand.proofs.Stepping.{jobs_pushed, steps_same}
 use Rattle.circ_expand.proofs.calls.Frame.along_step.Goals as goal
 
@@ -40,9 +40,9 @@ returns-in-Entry c = λ xs e.
     let h = c.in-Entry.held in
     let rest = layers_of th (front x.rest) in
     let layers : layers_of th xs ≡ By_entry (held_by th h.value) ∷ rest =
-    ap (layers_of th) e ∙ layers_last th x.last (front x.rest) ∙ ap (λ y. layer_by th y ∷ rest) (sym c.deref.ensures ∙ c.in-Entry.is) in
+    layers_cut th xs x.last (front x.rest) e ∙ ap (λ y. layer_by th y ∷ rest) (sym c.deref.ensures ∙ c.in-Entry.is) in
     let entries : entries_of th (front c.in_ok-with-in-Entry.field-0) ≡ held_by th h.value ∷ (call_of fr d).entries =
-    ap (entries_of th) c.in_ok-with-in-Entry.ensures ∙ entries_last th c.in_ok-clone-in-Entry.field-0 (front d.entries)
+    entries_cut th (front c.in_ok-with-in-Entry.field-0) c.in_ok-clone-in-Entry.field-0 (front d.entries) c.in_ok-with-in-Entry.ensures
     ∙ (λ i. held_by th (c.in_ok-clone-in-Entry.ensures.cases i).value ∷ (call_of fr d).entries) in
     let same : call_of fr u.value ≡ record (call_of fr d) { entries = held_by th h.value ∷ (call_of fr d).entries; along = Some rest } =
     ap (call_of fr) c.in_ok-next-2-in-Entry.ensures.ok
@@ -62,7 +62,7 @@ returns-in-Place c = λ xs e.
     let x = c.in-Some.cut in
     let rest = layers_of th (front x.rest) in
     let layers : layers_of th xs ≡ layer_by th (layer.Place c.in-Place.term c.in-Place.arg) ∷ rest =
-    ap (layers_of th) e ∙ layers_last th x.last (front x.rest) ∙ ap (λ y. layer_by th y ∷ rest) (sym c.deref.ensures ∙ c.in-Place.is) in
+    layers_cut th xs x.last (front x.rest) e ∙ ap (λ y. layer_by th y ∷ rest) (sym c.deref.ensures ∙ c.in-Place.is) in
     steps_same fr (along_step (all_uses f) f (call_of fr d) (layers_of th xs) (jobs_of fr w) (values_of w.values) w.left)
     (place_stepped fr d c.in-Place.term c.in-Place.arg rest w) c.place_step.new.work c.place_step.result
     (ap (λ (ys : List Layer). along_step (all_uses f) f (call_of fr d) ys (jobs_of fr w) (values_of w.values) w.left) layers) c.place_step.ensures

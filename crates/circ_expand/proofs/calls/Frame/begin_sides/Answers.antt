@@ -21,4 +21,4 @@ returns-clause-tasks c =
     ∙ ap (λ ls. Links_job (call_of fr d) (basis_of fr b) (links_at fr ls) c.args.left ∷ jobs_of fr (record w { tasks = c.push-2.new.self })) c.as_slice-2.ensures.value
     ∙ ap (λ js. Links_job (call_of fr d) (basis_of fr b) (links_at fr chain.left.items) c.args.left ∷ js)
     (second ∙ ap (λ js. Empty_row ∷ js)
-    (first ∙ (λ i. Links_job (call_of fr (c.in_ok-clone.ensures.cases i).value) (basis_of fr (c.in_ok-clone-2.ensures.cases i).value) (links_at fr (c.as_slice.ensures.value i)) c.args.right ∷ jobs_of fr w)))
+    (first ∙ (λ i. Links_job (call_of fr (c.in_ok-clone.ensures.cases i)) (basis_of fr (c.in_ok-clone-2.ensures.cases i)) (links_at fr (c.as_slice.ensures.value i)) c.args.right ∷ jobs_of fr w)))

@@ -8,5 +8,5 @@ returns c =
     let fr = c.args.self.now in
     let k = c.args.call.now.assumptions in
     let n : c.in-Some.assumptions ≡ suc k = omega (arith, c.in-Some.ensures) in
-    ap (call_of fr) c.in_ok-new.ensures
+    ap (call_of fr) c.in_ok-new.ensures.ok
     ∙ (λ i. let d : Use = c.in_ok-next.ensures fr i in record d { whole = c.args.whole; assumptions = assumed (n i) })

@@ -10,7 +10,7 @@ use Rattle.circ_expand.specs.Tasks.{call_of, target_of, background_in, earlier_h
 use Rattle.circ_expand.specs.declared.tasks.Task.TheVariants as task
 use Rattle.circ_expand.specs.declared.tasks.Work.{Work}
 use Rattle.circ_expand.proofs.Entering.{derived_on, derived_none}
-use Rattle.circ_expand.proofs.Fronting.{entries_last}
+use Rattle.circ_expand.proofs.Fronting.{entries_cut}
 use Rattle.circ_expand.proofs.Stepping.{jobs_pushed}
 use Rattle.circ_expand.proofs.calls.Frame.derived_step.Goals as goal
 
@@ -31,7 +31,7 @@ returns c =
     let e = held_by th x.last.value in
     let cs = entries_of th (front x.rest) in
     let new : Work = record w { tasks = c.push.new.self } in
-    let entries : (call_of fr d).entries ≡ e ∷ cs = ap (entries_of th) c.in-Some.ensures ∙ entries_last th x.last (front x.rest) in
+    let entries : (call_of fr d).entries ≡ e ∷ cs = entries_cut th (front d.entries) x.last (front x.rest) c.in-Some.ensures in
     let same : call_of fr c.in_ok-next-2.next.value ≡ derive_call (all_uses (background_in fr)) (background_in fr) (call_of fr d) c.args.goal.now hs e cs =
     ap (call_of fr) c.in_ok-next-2.ensures.ok
     ∙ (λ i. let y : Use = c.in_ok-next.ensures fr i in record y {

@@ -13,6 +13,6 @@ returns c =
     let fr = c.args.self.now in
     let ts = c.args.terms.now in
     let q = goal_in (target_of fr c.args.target).history in
-    ap by_of c.in_ok-new.ensures
+    ap by_of c.in_ok-new.ensures.ok
     ∙ same_by (by_of c.in_ok-by.by) (by_terms q ts) (λ n s. c.in_ok-by.ensures n s ∙ c.in_ok-values.ensures n s
     ∙ ap (λ vs. given vs ts n s) (c.in_ok-variables.ensures ∙ ap (λ g. sorted (variables_of g)) c.goal.ensures))

@@ -20,7 +20,7 @@ returns-then-is_hidden c =
     let no : Use = record d { whole = c.args.whole; path = base d ++ p; entries = []; along = None; goal = g; by = σ } in
     let test : is_hidden th (sort_of (goal_in g.history).left) ≡ true =
     ap (is_hidden th) (sym c.sort.ensures) ∙ sym c.is_hidden.ensures.exact ∙ c.if-is_hidden.true in
-    ap (call_of fr) c.in_ok-new-then-is_hidden.ensures
+    ap (call_of fr) c.in_ok-new-then-is_hidden.ensures.ok
     ∙ (λ i. let y : Use = c.in_ok-next.ensures fr i in record y {
       whole = c.args.whole;
       along = Some ((ap (layers_of th) c.in_ok-of-then-is_hidden.ensures ∙ c.in_ok-add_places-then-is_hidden.ensures th) i);
@@ -41,10 +41,10 @@ returns c =
     let no : Use = record d { whole = c.args.whole; path = base d ++ p; entries = []; along = None; goal = g; by = σ } in
     let test : is_hidden th (sort_of (goal_in g.history).left) ≡ false =
     ap (is_hidden th) (sym c.sort.ensures) ∙ sym c.is_hidden.ensures.exact ∙ c.if-is_hidden.false in
-    ap (call_of fr) c.in_ok-new-2.ensures
+    ap (call_of fr) c.in_ok-new-2.ensures.ok
     ∙ (λ i. let y : Use = c.in_ok-next.ensures fr i in record y {
       whole = c.args.whole;
-      path = (ap (λ q. q.items) c.in_ok-new.ensures ∙ c.in_ok-path.ensures) i;
+      path = (ap (λ q. q.items) c.in_ok-new.ensures.ok ∙ c.in_ok-path.ensures) i;
       entries = ap (entries_of th) c.in_ok-of.ensures i;
       along = None;
       goal = g;

@@ -4,7 +4,7 @@ use Rattle.circ_expand.specs.Uses.{held_by, entries_of, layers_of}
 use Rattle.circ_expand.specs.Tasks.{call_of, HasEnds}
 use Rattle.circ_expand.specs.Expand.{Layer}
 use Rattle.circ_expand.proofs.AtPlaces.{place_end, place_past, place_ends_past, place_on}
-use Rattle.circ_expand.proofs.Fronting.{entries_last}
+use Rattle.circ_expand.proofs.Fronting.{entries_cut}
 use Rattle.circ_expand.proofs.calls.Frame.place_step.Goals as goal
 
 pub returns-in_default : goal.returns-in_default
@@ -21,7 +21,7 @@ returns-in-Err c =
     let e = held_by th x.last.value in
     let cs = entries_of th (front x.rest) in
     let d = c.args.call.value in
-    let h : (call_of fr d).entries ≡ e ∷ cs = ap (entries_of th) c.in-Some.ensures ∙ entries_last th x.last (front x.rest) in
+    let h : (call_of fr d).entries ≡ e ∷ cs = entries_cut th (front d.entries) x.last (front x.rest) c.in-Some.ensures in
     place_past fr d c.args.term.now c.args.arg (layers_of th (front c.args.layers.now)) c.args.work.now e cs h refl c.in-Err.fault
     (rw (← c.place_at-place.ensures) c.in-Err.ensures)
 
@@ -34,7 +34,7 @@ returns-in-Err-2 c =
     let cs = entries_of th (front x.rest) in
     let d = c.args.call.value in
     let xs = layers_of th (front c.args.layers.now) in
-    let h : (call_of fr d).entries ≡ e ∷ cs = ap (entries_of th) c.in-Some.ensures ∙ entries_last th x.last (front x.rest) in
+    let h : (call_of fr d).entries ≡ e ∷ cs = entries_cut th (front d.entries) x.last (front x.rest) c.in-Some.ensures in
     let ce = rw c.place_at-place.ensures at c.in-Ok.ensures in
     let P : List Layer → Type 0 = λ ys. HasEnds fr d c.in-Ok.certificate.start xs ys (Err c.in-Err-2.fault) in
     place_ends_past fr d c.args.term.now c.args.arg xs c.args.work.now e cs h refl ce.within c.in-Err-2.fault
@@ -50,7 +50,7 @@ returns c =
     let d = c.args.call.value in
     let t = c.args.term.now in
     let xs = layers_of th (front c.args.layers.now) in
-    let h : (call_of fr d).entries ≡ e ∷ cs = ap (entries_of th) c.in-Some.ensures ∙ entries_last th x.last (front x.rest) in
+    let h : (call_of fr d).entries ≡ e ∷ cs = entries_cut th (front d.entries) x.last (front x.rest) c.in-Some.ensures in
     let ce = rw c.place_at-place.ensures at c.in-Ok.ensures in
     let P : List Layer → Type 0 = λ ys. HasEnds fr d c.in-Ok.certificate.start xs ys (Ok c.in-Ok-2.ends) in
     let en = subst P c.in_ok-through.ensures (c.in-Ok-2.ensures _ _ c.in_ok-through.ensures) in

@@ -69,14 +69,14 @@ returns c =
     let first = jobs_pushed fr w.tasks.items c.push.new.self.items task.PutBetween c.in_ok-push.ensures.items in
     let second = jobs_pushed fr c.push.new.self.items c.push-2.new.self.items (task.Split r) c.in_ok-push-2.ensures.items in
     split_begun fr b d chain v q.left q.right (whys_at fr c.args.whys.now) r w c.begin_sides.new.work left.1 right.1
-    ((λ i. Give_reasons (call_of fr (c.in_ok-clone.ensures.cases i).value) (basis_of fr (c.in_ok-clone-2.ensures.cases i).value) (whys_at fr c.args.whys.now) c.in_ok-term.term
+    ((λ i. Give_reasons (call_of fr (c.in_ok-clone.ensures.cases i)) (basis_of fr (c.in_ok-clone-2.ensures.cases i)) (whys_at fr c.args.whys.now) c.in_ok-term.term
     (l i) (l i).constants (left.0 i) (right.0 i))
     ∙ (λ i. Give_reasons (call_of fr d) (basis_of fr b) (whys_at fr c.args.whys.now) (t i)
     (cases_at (all_uses (background_in fr)) (background_in fr) (sort_of (t i)))
     (cases_at (all_uses (background_in fr)) (background_in fr) (sort_of (t i))).constants
     (led_all S (links_at fr chain.left.items) q.left)
     (led_all S (links_at fr chain.right.items) q.right)))
-    (λ i. instance (call_of fr (c.in_ok-clone.ensures.cases i).value).by (t i))
+    (λ i. instance (call_of fr (c.in_ok-clone.ensures.cases i)).by (t i))
     (c.in_ok-begin_sides.ensures.tasks ∙ ap (begun_sides fr d b chain q.left q.right)
     (second ∙ ap (λ js. Begin_split (split_term r) ∷ reasons_job fr r ∷ End_split (split_term r) ∷ js) first))
     c.in_ok-begin_sides.ensures.values c.begin_sides.ensures.left
