@@ -11,13 +11,13 @@ use Rattle.circ_expand.proofs.Held.{few_at, held_next, held_ended}
 use Rattle.circ_expand.proofs.opening.held_all.Goals as goal
 
 pub held-requires : goal.held-requires
-held-requires c = few_at c.args.entries.now c.loop-entry.entry-index c.entry-item.result.now c.loop-entry-test.true c.entry-item.is c.requires
+held-requires c = few_at c.args.entries.now c.loop-entry.entry-index c.entry-item.result c.loop-entry-test.true c.entry-item.is c.requires
 
 pub loop-entry-preserved : goal.loop-entry-preserved
 loop-entry-preserved c = λ th.
-    held_next th c.loop-entry.all.items c.push.new.self.items c.in_ok-held.held c.args.entries.now c.loop-entry.entry-index c.entry-item.result.now c.loop-entry-test.true
+    held_next th c.loop-entry.all.items c.push.new.self.items c.in_ok-held.field-0 c.args.entries.now c.loop-entry.entry-index c.entry-item.result c.loop-entry-test.true
     c.entry-item.is c.in_ok-push.ensures.items (c.in_ok-held.ensures th) (c.loop-entry.invariant th)
 
 pub returns : goal.returns
-returns c = λ th. held_ended th c.loop-entry.all.items c.reverse.new.self.items c.args.entries.now c.loop-entry.entry-index c.loop-entry-test.false c.reverse.ensures
+returns c = λ th. held_ended th c.loop-entry.all.items c.reverse.new.self.items c.args.entries.now c.loop-entry.entry-index c.loop-entry-test.false c.reverse.ensures.items
     (c.loop-entry.invariant th)
