@@ -6,9 +6,10 @@ use Rattle.std.specs.Global.{Vec}
 use Rattle.std.specs.declared.rc.Rc.{Rc}
 use Rattle.std.proofs.Common.{Global}
 use Rattle.circ_term.specs.Tree.{Tree, sort_of, trees_of, args_of, at}
-use Rattle.circ_term.specs.Limits.{Names, first_limit}
+use Rattle.circ_term.specs.Limits.{Limit, Names, first_limit}
 use Rattle.circ_term.specs.Substitution.{Substitution, instance}
 use Rattle.circ_term.specs.declared.fault.TermFault.{TermFault}
+use Rattle.circ_term.specs.declared.fault.TermFault.TheVariants.{TooBig, TooDeep, Memory}
 use Rattle.circ_theory.specs.declared.way.Way.TheVariants.{Forth}
 use Rattle.circ_rewrite.specs.Matching.{matching}
 use Rattle.circ_special.specs.declared.place.Place.{Place}
@@ -44,6 +45,8 @@ use Rattle.circ_expand.specs.declared.tasks.Changes.{Changes}
 use Rattle.circ_expand.specs.declared.tasks.Work.{Work}
 use Rattle.circ_expand.proofs.Stepping.{tests_none, tested_none, tests_append, names_tests, names_tested, names_first, names_later, names_alone, first_more, first_alone, halts_past}
 use Rattle.circ_expand.proofs.Stepping.{counted_one, row_there, on_last}
+use Rattle.circ_expand.proofs.Exceeding.{first_none}
+use Rattle.circ_expand.proofs.Rising.{first_append}
 use Rattle.circ_expand.proofs.Guarding.{drop_at}
 use Rattle.circ_expand.proofs.Background.{got_map, outside}
 
@@ -155,6 +158,20 @@ place_on fr c t i xs w new e cs x y h d ce en js vs n =
     let jobs = js ∙ place_begun fr c t i xs e cs x y (jobs_of fr w) d ce en in
     place_first fr c t i xs w e cs h ∙ place_certified fr c t i xs e o d ∙ tests_none terms (all_tested ends o) ce.within ∙ tests_none ends o en.within
     ∙ (λ j. Yields (pending (sym jobs j) (sym vs j)) (sym n j))
+
+-- what is tested with two layers more is tested
+front_none : (xs ys : List Tree) → first_of (xs ++ ys) ≡ None → first_of xs ≡ None
+front_none xs ys e = first_none (first_of xs) (first_of ys) (sym (first_append xs ys) ∙ e)
+
+pub inner_none : (x y : Layer) (xs : List Layer) (t : Tree) → first_of (risen (x ∷ y ∷ xs) t) ≡ None → first_of (risen xs t) ≡ None
+inner_none x y xs t e =
+    front_none (risen xs t) (layered (y ∷ xs) t ∷ []) (front_none (risen xs t ++ layered (y ∷ xs) t ∷ []) (layered (x ∷ y ∷ xs) t ∷ []) e)
+
+-- where no term is past a limit, memory ran out
+pub no_limit : (e : TermFault) (o : Option Limit) → Names e None → Names e o
+no_limit (TooBig n) o h = absurd (cc)
+no_limit (TooDeep n) o h = absurd (cc)
+no_limit Memory o h = tt
 
 -- ---- occurrences
 

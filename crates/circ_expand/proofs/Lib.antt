@@ -11,6 +11,7 @@ pub mod Reading
 pub mod Putting
 pub mod Exceeding
 pub mod Going
+pub mod Chosen
 pub mod Depth
 pub mod Working
 pub mod Ending
@@ -51,3 +52,6 @@ pub mod Counting
 pub mod AtPlaces
 pub mod Entering
 pub mod Writings
+pub mod Held
+pub mod Sharing
+pub mod Extending

@@ -15,7 +15,7 @@ ghost use Rattle.circ_expand.specs.declared.calls.Frame.{Frame as TheFrame};
 
 use crate::by::By;
 use crate::calls::{Call, Frame};
-use crate::fronts::Front;
+use crate::fronts::{Front, first};
 use crate::guards::{Guard, Occurrence};
 use crate::matching::matching;
 use crate::tasks::{Changes, Halt, Task, Work};
@@ -139,7 +139,7 @@ impl<'a> Frame<'a, '_> {
     {
         match guard {
             Guard::Visible { number, above } => {
-                let above = &path[..above.min(path.len())];
+                let above = first(path, above);
                 self.visible_call(changes, whole, here, number, above)
             }
             Guard::Place => {
@@ -148,7 +148,7 @@ impl<'a> Frame<'a, '_> {
                 with_layers(self.alloc, &changes.call, whole, along)
             }
             Guard::Hidden { number, above } => {
-                let above = &path[..above.min(path.len())];
+                let above = first(path, above);
                 let mut layers = changes.layers.to_vec(self.alloc)?;
                 self.add_entry_at(number, here, above, &mut layers)?;
                 let along = self.with_places(here, above, layers)?;
@@ -191,7 +191,7 @@ impl<'a> Frame<'a, '_> {
             layers_of self.now.theory.now layers.items) }
     {
         add_places(self.alloc, here, path, &mut layers)?;
-        Front::of(self.alloc, layers)
+        Ok(Front::of(self.alloc, layers)?)
     }
 
     // The entry of the derivative of this number whose instance stands at the path, alone.
@@ -233,7 +233,7 @@ impl<'a> Frame<'a, '_> {
         let body = self.theory.derivative(number).unwrap_or(&nothing);
         let values = matching(self.alloc, body, term)?;
         let params = Rc::new(self.alloc, values)?;
-        Rc::new(self.alloc, Held { number, params }).map_err(AllocError::from)
+        Ok(Rc::new(self.alloc, Held { number, params })?)
     }
 }
 

@@ -87,7 +87,7 @@ impl<T: Drop> Front<T> {
 }
 
 // The first so many items.
-fn first<T>(items: &[T], count: usize) -> &[T]
+pub(crate) fn first<T>(items: &[T], count: usize) -> &[T]
     ensures { result.now ≡ take count items.now }
 {
     if count < items.len() {

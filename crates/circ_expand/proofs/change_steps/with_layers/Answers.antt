@@ -5,5 +5,5 @@ use Rattle.circ_expand.proofs.change_steps.with_layers.Goals as goal
 
 pub returns : goal.returns
 returns c = λ fr.
-    ap (call_of fr) c.in_ok-new.ensures
+    ap (call_of fr) c.in_ok-new.ensures.ok
     ∙ (λ i. let y : Use = c.in_ok-next.ensures fr i in record y { whole = c.args.whole; along = Some (layers_in fr c.args.along) })

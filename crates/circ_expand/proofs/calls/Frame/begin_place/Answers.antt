@@ -25,5 +25,5 @@ returns-clause-tasks c =
     let h = jobs_pushed fr c.push-5.new.self.items c.push-6.new.self.items (task.Links l) c.in_ok-push-6.ensures.items in
     let middle : changes_job fr x (instance (by_of by.value) x.last) ≡ occurrences_job fr c.args.call.now c.args.place
     (layers_of fr.theory.now (front c.args.layers.now)) (entries_of fr.theory.now (front c.args.entries.now)) c.args.certificate.now c.args.ends.now =
-    (λ i. changes_job fr x (instance (by_of (c.in_ok-by.ensures.cases i).value) (c.in_ok-changes.ensures.last i))) ∙ c.in_ok-changes.ensures.job in
+    (λ i. changes_job fr x (instance (by_of (c.in_ok-by.ensures.cases i)) (c.in_ok-changes.ensures.last i))) ∙ c.in_ok-changes.ensures.job in
     h ∙ (λ i. c.in_ok-left.ensures i ∷ (g ∙ (λ j. Empty_row ∷ (e ∙ (λ k. c.in_ok-right.ensures k ∷ (d ∙ (λ m. Empty_row ∷ (b ∙ (λ n. middle n ∷ a n)) m)) k)) j)) i)

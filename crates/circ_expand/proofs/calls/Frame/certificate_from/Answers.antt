@@ -17,4 +17,4 @@ returns-in-Ok c = λ e.
     let s = c.side.result in
     let t = certificate_taken fr c.args.place c.args.derivative (Ok c.in-Ok.last) c.args.start c.certificate-links.result.now (setting_of s) s.table.now
     c.side.ensures.setting c.side.ensures.table c.certificate-links.ensures e c.known.ensures c.in-Ok.ensures in
-    record { start = e; links = c.certificate-links.ensures; last = t.0; basis = ap (basis_of fr) c.in_ok-new-in-Ok.ensures; within = t.1 }
+    record { start = e; links = c.certificate-links.ensures; last = t.0; basis = ap (basis_of fr) c.in_ok-new-in-Ok.ensures.ok; within = t.1 }

@@ -10,9 +10,9 @@ pub returns : goal.returns
 returns c =
     let fr = c.args.self.now in
     let x = c.args.certificate.now in
-    let is_use = ap (call_of fr) c.in_ok-new.ensures
+    let is_use = ap (call_of fr) c.in_ok-new.ensures.ok
     ∙ (λ i. let y : Use = c.in_ok-side.ensures fr i in record y {
-      entries = ap (entries_of fr.theory.now) c.in_ok-share.ensures i;
-      by = by_of (c.in_ok-clone.ensures.cases i).value;
+      entries = entries_of fr.theory.now (c.in_ok-side-2.ensures i);
+      by = by_of (c.in_ok-side-3.ensures.cases i);
     }) in
-    λ i. Links_job (is_use i) (basis_of fr (c.in_ok-clone-2.ensures.cases i).value) (links_at fr x.links.now) (c.in_ok-share-2.ensures i)
+    λ i. Links_job (is_use i) (basis_of fr (c.in_ok-clone.ensures.cases i)) (links_at fr x.links.now) (c.in_ok-share.ensures.same i)
