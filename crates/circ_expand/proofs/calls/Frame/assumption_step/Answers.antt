@@ -1,4 +1,4 @@
-use Rattle.std.proofs.Common.{◌≡◌, ◌-◌, ◌+◌, ◌++◌, [], refl, ap, sym, ◌∙◌, arith}
+use Rattle.std.proofs.Common.{◌-◌, ◌+◌, ◌++◌, [], refl, ap, sym, ◌∙◌, arith}
 use Rattle.circ_expand.specs.Pieces.{Piece, Assumption_piece}
 use Rattle.circ_expand.specs.Expand.{counted, base}
 use Rattle.circ_expand.specs.Tasks.{call_of, linked}

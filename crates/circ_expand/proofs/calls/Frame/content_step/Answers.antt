@@ -1,6 +1,6 @@
-use Rattle.std.proofs.Common.{◌≡◌, ◌-◌, ◌++◌, ◌∷◌, [], List, map, unwrap_or, refl, ap, sym, ◌∙◌, subst, arith}
+use Rattle.std.proofs.Common.{◌≡◌, ◌-◌, ◌++◌, ◌∷◌, [], map, unwrap_or, refl, ap, sym, ◌∙◌, subst, arith}
 use Rattle.circ_term.specs.Tree.{Tree, at}
-use Rattle.circ_term.specs.Limits.{Limit, Names, first_limit, or_else}
+use Rattle.circ_term.specs.Limits.{Names, first_limit}
 use Rattle.circ_term.specs.Substitution.{instance}
 use Rattle.circ_theory.specs.Rewriting.{named}
 use Rattle.circ_expand.specs.Pieces.{Piece, Content_piece}

@@ -1,4 +1,4 @@
-use Rattle.std.proofs.Common.{◌≡◌, List, ◌∷◌, Bool, true, false, Ok, Err, refl, ap, sym, ◌∙◌, subst}
+use Rattle.std.proofs.Common.{Ok, Err, refl, ap, sym, ◌∙◌}
 use Rattle.circ_proof.specs.Plain.{plain_link}
 use Rattle.circ_proof.specs.Link.{resolved_link}
 use Rattle.circ_expand.specs.Expand.{link_terms, link_setting}

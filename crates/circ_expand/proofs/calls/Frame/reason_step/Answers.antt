@@ -1,4 +1,4 @@
-use Rattle.std.proofs.Common.{◌∷◌, refl, ap, sym, ◌∙◌}
+use Rattle.std.proofs.Common.{ap, sym, ◌∙◌}
 use Rattle.circ_term.specs.Tree.{Tree}
 use Rattle.circ_theory.specs.Rewriting.{named}
 use Rattle.circ_proof.specs.Plain.{WhyOf, Split_why, plain_why, plain_chain}

@@ -1,4 +1,4 @@
-use Rattle.std.proofs.Common.{◌∷◌, [], suc, refl, ap, sym, ◌∙◌, subst}
+use Rattle.std.proofs.Common.{◌∷◌, suc, refl, ap, sym, ◌∙◌}
 use Rattle.circ_expand.specs.Expand.{Yields}
 use Rattle.circ_expand.specs.Machine.{pending, Give_reason}
 use Rattle.circ_expand.specs.Tasks.{call_of, jobs_of, pending_of, reasons_job, reason_job, stepped, why_at, assumed}

@@ -1,11 +1,9 @@
-use Rattle.std.proofs.Common.{◌≡◌, ◌∷◌, List, ℕ, Ok, Err, refl, ap, sym, ◌∙◌}
+use Rattle.std.proofs.Common.{◌≡◌, ◌∷◌, Ok, Err, ap, ◌∙◌}
 use Rattle.circ_term.specs.Tree.{sort_of}
 use Rattle.circ_term.specs.Substitution.{instance}
-use Rattle.circ_theory.specs.Theory.{CaseList}
-use Rattle.circ_theory.specs.Observing.{case_list}
 use Rattle.circ_theory.specs.Rewriting.{named}
 use Rattle.circ_expand.specs.Expand.{link_setting, cases_at}
-use Rattle.circ_expand.specs.Machine.{Task as Job, Give_reasons, Begin_split, End_split, all_uses}
+use Rattle.circ_expand.specs.Machine.{Give_reasons, Begin_split, End_split, all_uses}
 use Rattle.circ_expand.specs.Followed.{led_all}
 use Rattle.circ_expand.specs.Settings.{setting_of}
 use Rattle.circ_expand.specs.Tasks.{call_of, basis_of, background_in, whys_at, begun_sides, reasons_job, split_term, links_at}

@@ -1,13 +1,12 @@
-use Rattle.std.proofs.Common.{◌≡◌, ◌-◌, ◌∷◌, [], List, map, refl, ap, sym, ◌∙◌, subst, arith}
-use Rattle.circ_term.specs.Tree.{Tree, list_of, trees_of}
+use Rattle.std.proofs.Common.{◌≡◌, ◌-◌, ◌∷◌, map, refl, ap, sym, ◌∙◌, subst, arith}
+use Rattle.circ_term.specs.Tree.{list_of, trees_of}
 use Rattle.circ_term.specs.Limits.{Names, first_limit, first_limits}
 use Rattle.circ_term.specs.Substitution.{instance, instances}
 use Rattle.circ_theory.specs.Rewriting.{named, by_terms}
-use Rattle.circ_theory.specs.declared.way.Way.TheVariants.{Forth, Back}
-use Rattle.circ_expand.specs.Followed.{Followed, goal_in}
+use Rattle.circ_expand.specs.Followed.{goal_in}
 use Rattle.circ_expand.specs.Expand.{around, followed_at, start_of}
-use Rattle.circ_expand.specs.Machine.{Task as Job, Enter_use, Put_behind}
-use Rattle.circ_expand.specs.Tasks.{call_of, basis_of, target_of, background_in, links_job, jobs_of, with_tasks, hypothesised, used}
+use Rattle.circ_expand.specs.Machine.{Enter_use, Put_behind}
+use Rattle.circ_expand.specs.Tasks.{call_of, basis_of, target_of, background_in, hypothesised, used}
 use Rattle.circ_expand.specs.Valuations.{by_of}
 use Rattle.circ_expand.specs.declared.calls.Call.{Call}
 use Rattle.circ_expand.specs.declared.tasks.Task.TheVariants as task

@@ -1,4 +1,4 @@
-use Rattle.std.proofs.Common.{◌≡◌, true, false, refl, ap, sym, ◌∙◌, subst}
+use Rattle.std.proofs.Common.{refl, ap, sym, ◌∙◌, subst}
 use Rattle.circ_term.specs.Limits.{Names, first_limit}
 use Rattle.circ_expand.specs.Expand.{around}
 use Rattle.circ_expand.specs.Nodes.{ends_in_row, piece_of}
