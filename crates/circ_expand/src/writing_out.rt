@@ -10,12 +10,18 @@ ghost use Rattle.circ_expand.specs.Pieces.{Pieces};
 ghost use Rattle.circ_expand.specs.Expand.{expansion};
 ghost use Rattle.circ_expand.specs.Goals.{all_goals, FitGoal};
 ghost use Rattle.circ_expand.specs.Answers.{LeadsOnGoal};
+ghost use Rattle.circ_expand.specs.Machine.{worked_off};
+ghost use Rattle.circ_expand.specs.Tasks.{WritesOut, AreFew};
 ghost use Rattle.circ_expand.specs.Rows.{plain_row, rows_of, unit_limit, IsWrittenOut};
 
+use crate::calls::Frame;
 use crate::fault::ExpandFault;
+use crate::meetings::Ground;
 use crate::rows::Row;
+use crate::tasks::Halt;
 use circ_entry::Entry;
 use circ_proof::Proof;
+use circ_term::TermFault;
 use circ_theory::Theory;
 use std::alloc::Global;
 
@@ -39,5 +45,46 @@ pub fn expand(
         IfOk result (λ rows. (xs : Pieces) × (map plain_row rows.items ≡ rows_of xs) ×
         LeadsOnGoal theory.now xs (plain_entries entries.now) g) }
 {
-    Err(ExpandFault::Memory)
+    theory.known();
+    match written(alloc, &*theory, &*proof, goal, entries) {
+        Ok(rows) => Ok(rows),
+        Err(Halt::Long) => Err(ExpandFault::Long { units: 100_001 }),
+        Err(Halt::Past(TermFault::TooBig { nodes })) => Err(ExpandFault::TooBig { nodes }),
+        Err(Halt::Past(TermFault::TooDeep { depth })) => Err(ExpandFault::TooDeep { depth }),
+        Err(Halt::Past(TermFault::Memory)) => Err(ExpandFault::Memory),
+        Err(Halt::Stopped) => unreachable!(),
+    }
+}
+
+// The same, or why the work ends before its end.
+fn written<'x>(
+    alloc: Global,
+    theory: &'x Theory,
+    proof: &'x Proof,
+    goal: u32,
+    entries: &[Entry],
+) -> Result<Vec<Row>, Halt>
+    requires for_theory { ProofFor theory.now (plain_proof proof.now) }
+    requires plain { IsPlain (plain_proof proof.now) }
+    requires accepted { Accepted theory.now (plain_proof proof.now) }
+    requires few { AreFew entries.now }
+    ensures { WritesOut (worked_off unit_limit theory.now (plain_proof proof.now) goal
+        (plain_entries entries.now)) result }
+{
+    let ground = Ground {
+        alloc,
+        theory,
+        table: proof.table.as_slice(),
+        gamma: &proof.gamma,
+    };
+    let book = ground.read(proof)?;
+    let frame = Frame {
+        alloc,
+        theory,
+        table: proof.table.as_slice(),
+        gamma: &proof.gamma,
+        book: &book,
+        lists: proof.certificates.as_slice(),
+    };
+    frame.write_out(goal, entries)
 }
