@@ -7,8 +7,8 @@ use Rattle.circ_expand.specs.Tasks.{basis_of, links_at, background_in, certifica
 use Rattle.circ_expand.proofs.AtPlaces.{certificate_taken}
 use Rattle.circ_expand.proofs.calls.Frame.certificate_from.Goals as goal
 
-pub returns-in-Err : goal.returns-in-Err
-returns-in-Err c = λ e.
+pub returns : goal.returns-in-Err
+returns c = λ e.
     let fr = c.args.self.now in
     let s = c.side.result in
     let set : setting_of s ≡ certificate_setting fr =
@@ -16,8 +16,8 @@ returns-in-Err c = λ e.
     certificate_taken fr c.args.place c.args.derivative (Err c.in-Err.fault) c.args.start c.certificate-links.result.now (setting_of s) s.table.now
     set c.side.ensures.table c.certificate-links.ensures e c.known.ensures c.in-Err.ensures
 
-pub returns-in_ok-new-in-Ok : goal.returns-in_ok-new-in-Ok
-returns-in_ok-new-in-Ok c = λ e.
+pub returns-in-Ok : goal.returns-in_ok-new-in-Ok
+returns-in-Ok c = λ e.
     let fr = c.args.self.now in
     let s = c.side.result in
     let set : setting_of s ≡ certificate_setting fr =
