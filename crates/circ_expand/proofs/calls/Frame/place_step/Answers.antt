@@ -1,12 +1,13 @@
-use Rattle.std.proofs.Common.{◌≡◌, [], ◌∷◌, List, Result, Ok, Err, refl, ap, sym, ◌∙◌, subst}
+use Rattle.std.proofs.Common.{◌≡◌, ◌∷◌, List, Option, Result, Ok, Err, refl, ap, sym, ◌∙◌, subst}
 use Rattle.circ_special.specs.declared.place.Place.{Place}
 use Rattle.circ_term.specs.Limits.{Names}
 use Rattle.circ_term.specs.declared.fault.TermFault.{TermFault}
-use Rattle.circ_expand.specs.Fronts.{front, shared_in}
+use Rattle.circ_expand.specs.Fronts.{front, shared_in, IsCut}
 use Rattle.circ_expand.specs.Uses.{first_of, held_by, entries_of, layers_of}
-use Rattle.circ_expand.specs.Tasks.{call_of, certificate_terms, jobs_of, place_of, HasEnds, IsCertificate, begun_place}
+use Rattle.circ_expand.specs.Tasks.{call_of, certificate_terms, jobs_of, HasEnds, IsCertificate, begun_place}
 use Rattle.circ_expand.specs.Expand.{Layer}
 use Rattle.circ_expand.specs.declared.calls.Call.{Call}
+use Rattle.circ_expand.specs.declared.fronts.Cut.{Cut}
 use Rattle.circ_expand.specs.declared.place_steps.Ends.{Ends}
 use Rattle.circ_expand.specs.declared.uses.Held.{Held}
 use Rattle.circ_expand.proofs.AtPlaces.{place_end, place_past, place_ends_past, place_on}
@@ -16,8 +17,9 @@ use Rattle.circ_expand.proofs.calls.Frame.place_step.Goals as goal
 pub returns-in_default : goal.returns-in_default
 returns-in_default c =
     let fr = c.args.self.now in
+    let P : Option (Cut Held) → Type 0 = λ o. IsCut (front c.deref.result.now.entries) o in
     place_end fr c.args.call.value c.args.term.now c.args.arg (layers_of fr.theory.now (front c.args.layers.now)) c.args.work.now
-    (ap (entries_of fr.theory.now) (ap (λ (z : Call). front z.entries) (sym c.deref.ensures) ∙ c.in_default.ensures))
+    (ap (entries_of fr.theory.now) (ap (λ (z : Call). front z.entries) (sym c.deref.ensures) ∙ subst P c.in_default.is c.in_ok-entry.ensures))
 
 pub returns-in-Err : goal.returns-in-Err
 returns-in-Err c =
@@ -27,8 +29,10 @@ returns-in-Err c =
     let e = held_by th x.last.value in
     let cs = entries_of th (front x.rest) in
     let d = c.args.call.value in
+    let C : Option (Cut Held) → Type 0 = λ o. IsCut (front c.deref.result.now.entries) o in
     let h : (call_of fr d).entries ≡ e ∷ cs =
-    entries_cut th (front d.entries) x.last (front x.rest) (ap (λ (z : Call). shared_in (front z.entries)) (sym c.deref.ensures) ∙ c.in-Some.ensures) in
+    entries_cut th (front d.entries) x.last (front x.rest)
+    (ap (λ (z : Call). shared_in (front z.entries)) (sym c.deref.ensures) ∙ subst C c.in-Some.is c.in_ok-entry.ensures) in
     let P : Held → Type 0 = λ q. Names c.in-Err.fault (first_of (certificate_terms fr c.place_at-place.result q.number)) in
     let Q : Place → Type 0 = λ g. Names c.in-Err.fault (first_of (certificate_terms fr g x.last.value.number)) in
     place_past fr d c.args.term.now c.args.arg (layers_of th (front c.args.layers.now)) c.args.work.now e cs h refl c.in-Err.fault
@@ -43,8 +47,10 @@ returns-in-Err-ends c =
     let cs = entries_of th (front x.rest) in
     let d = c.args.call.value in
     let xs = layers_of th (front c.args.layers.now) in
+    let C : Option (Cut Held) → Type 0 = λ o. IsCut (front c.deref.result.now.entries) o in
     let h : (call_of fr d).entries ≡ e ∷ cs =
-    entries_cut th (front d.entries) x.last (front x.rest) (ap (λ (z : Call). shared_in (front z.entries)) (sym c.deref.ensures) ∙ c.in-Some.ensures) in
+    entries_cut th (front d.entries) x.last (front x.rest)
+    (ap (λ (z : Call). shared_in (front z.entries)) (sym c.deref.ensures) ∙ subst C c.in-Some.is c.in_ok-entry.ensures) in
     let A : Held → Type 0 = λ q. IsCertificate fr c.place_at-place.result q.number c.in-Ok.certificate in
     let B : Place → Type 0 = λ g. IsCertificate fr g x.last.value.number c.in-Ok.certificate in
     let ce = subst B c.place_at-place.ensures (subst A c.deref-2.ensures c.in-Ok.ensures) in
@@ -65,8 +71,10 @@ returns c =
     let d = c.args.call.value in
     let t = c.args.term.now in
     let xs = layers_of th (front c.args.layers.now) in
+    let C : Option (Cut Held) → Type 0 = λ o. IsCut (front c.deref.result.now.entries) o in
     let h : (call_of fr d).entries ≡ e ∷ cs =
-    entries_cut th (front d.entries) x.last (front x.rest) (ap (λ (z : Call). shared_in (front z.entries)) (sym c.deref.ensures) ∙ c.in-Some.ensures) in
+    entries_cut th (front d.entries) x.last (front x.rest)
+    (ap (λ (z : Call). shared_in (front z.entries)) (sym c.deref.ensures) ∙ subst C c.in-Some.is c.in_ok-entry.ensures) in
     let ce0 = c.in-Ok.certificate in
     let en0 = c.in-Ok-ends.ends in
     let A : Held → Type 0 = λ q. IsCertificate fr c.place_at-place.result q.number ce0 in
