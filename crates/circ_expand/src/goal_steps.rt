@@ -118,24 +118,23 @@ impl<'a> Frame<'a, '_> {
         let held: &Call = &call;
         let basis = self.full_basis(held)?;
         let own: &Basis = &basis;
-        match (&*self)
+        let left = match (&*self)
             .side(own)
             .led_all(chain.left.as_slice(), &goal.left)
         {
-            Ok(left) => {
-                work.tasks.push(Task::PutBetween)?;
-                work.tasks.push(Task::BeginSimpler(Simpler {
-                    call: call.clone()?,
-                    left,
-                    next,
-                }))?;
-                let from = goal.left.share()?;
-                let to = goal.right.share()?;
-                self.begin_sides(work, call, basis, chain, from, to)?;
-                Ok(())
-            }
-            Err(fault) => Err(Halt::Past(fault)),
-        }
+            Ok(left) => left,
+            Err(fault) => return Err(Halt::Past(fault)),
+        };
+        work.tasks.push(Task::PutBetween)?;
+        work.tasks.push(Task::BeginSimpler(Simpler {
+            call: call.clone()?,
+            left,
+            next,
+        }))?;
+        let from = goal.left.share()?;
+        let to = goal.right.share()?;
+        self.begin_sides(work, call, basis, chain, from, to)?;
+        Ok(())
     }
 
     fn reduced_step(
@@ -256,10 +255,11 @@ impl<'a> Frame<'a, '_> {
     fn body_of(&self, derivative: u32) -> Result<Term, AllocError>
         ensures { IfOk result (λ t. t ≡ (derivative_at self.now.theory.now derivative).body) }
     {
-        match self.theory.derivative(derivative) {
-            Some(body) => Ok(body.share()?),
-            None => Ok(Term::var(0, 0)),
-        }
+        let Some(body) = self.theory.derivative(derivative) else {
+            return Ok(Term::var(0, 0));
+        };
+        let copy = body.share()?;
+        Ok(copy)
     }
 
     // A use along layers: of the goal itself, with an entry before the experiment, or at a place.

@@ -40,7 +40,7 @@ impl<'a> Frame<'a, '_> {
             Ok(whole) => whole,
             Err(fault) => return Err(Halt::Past(fault)),
         };
-        let call = self.opening(target, whole, held)?;
+        let call = self.opening(target, &whole, held)?;
         let mut work = self.begun(call)?;
         self.run(&mut work)?;
         match work.values.rows(self.alloc)? {
@@ -116,18 +116,18 @@ impl<'a> Frame<'a, '_> {
     fn opening(
         &self,
         goal: Target,
-        whole: Term,
+        whole: &Term,
         entries: Vec<Rc<Held>>,
     ) -> Result<Rc<Call>, AllocError>
         ensures { (n : ℕ) → target_of self.now goal ≡ followed_of self.now n →
-            whole ≡ on (bare_entries (entries_of self.now.theory.now entries.items))
+            whole.now ≡ on (bare_entries (entries_of self.now.theory.now entries.items))
             (goal_in (followed_of self.now n).history).left → IfOk result (λ c.
             call_of self.now c.value ≡ opening_of self.now n
             (entries_of self.now.theory.now entries.items)) }
     {
         let by = By::of(self.alloc, Valuation::new(self.alloc))?;
         let call = Call {
-            whole,
+            whole: whole.share()?,
             path: Rc::new(self.alloc, Vec::new(self.alloc))?,
             entries: Front::of(self.alloc, entries)?,
             along: None,

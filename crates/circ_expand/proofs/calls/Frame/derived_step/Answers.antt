@@ -26,7 +26,7 @@ returns-in_default c =
     let d = c.args.call.now in
     let P : Option (Cut Held) → Type 0 = λ o. IsCut (front d.entries) o in
     derived_none fr d c.args.goal.now (histories_of (map (earlier_history fr c.args.number) c.args.children.now)) c.args.work.now
-    (ap (entries_of fr.theory.now) (subst P c.in_default.is c.in_ok-cut.ensures))
+    (ap (entries_of fr.theory.now) (subst P c.in_default.is c.in_ok-entry.ensures))
 
 pub returns : goal.returns
 returns c =
@@ -41,7 +41,7 @@ returns c =
     let cs = entries_of th (front x.rest) in
     let new : Work = record w { tasks = c.push.new.self } in
     let P : Option (Cut Held) → Type 0 = λ o. IsCut (front d.entries) o in
-    let entries : (call_of fr d).entries ≡ e ∷ cs = entries_cut th (front d.entries) x.last (front x.rest) (subst P c.in-Some.is c.in_ok-cut.ensures) in
+    let entries : (call_of fr d).entries ≡ e ∷ cs = entries_cut th (front d.entries) x.last (front x.rest) (subst P c.in-Some.is c.in_ok-entry.ensures) in
     let history : option_map_or (history_at fr.table.now fr.book.now.nodes.items) c.child-child.result Open ≡ child th.derivatives (sort_of g.left) hs e.number =
     c.child-child.ensures ∙ (λ i. child th.derivatives (c.sort.ensures i) hs (c.deref-last.ensures i).number) in
     let by : by_of c.in_ok-by.by.value ≡ extended (derivative_at th e.number) (fresh_in g) (by_of d.by.value) (valued_by x.last.value.params.value) =

@@ -15,7 +15,7 @@ returns c = λ n e w.
     ap by_of c.in_ok-new-2.ensures.ok ∙ same_by (by_of c.in_ok-by.by) Var (λ m s. c.in_ok-by.ensures m s ∙ ap (λ bs. substitution_of bs m s) c.new.ensures) in
     ap (call_of fr) c.in_ok-new-3.ensures.ok
     ∙ (λ i. record {
-      whole = w i;
+      whole = (c.in_ok-share.ensures.same ∙ w) i;
       path = (ap (λ (p : Vec ℕ). p.items) c.in_ok-new.ensures.ok ∙ c.new-2.ensures.items) i;
       entries = ap (entries_of fr.theory.now) c.in_ok-of.ensures i;
       along = None;

@@ -28,8 +28,8 @@ returns-in-Err c =
     (built_sides (Err c.in-Err.fault) (setting_of s) (link_setting f (basis_of fr b)) s.table.now fr.table.now c.as_slice.result.now chain.left.items c.args.goal.now.left
     same c.side.ensures.table c.as_slice.ensures.value c.in-Err.ensures)
 
-pub returns-in-Ok : goal.returns-in-Ok
-returns-in-Ok c =
+pub returns : goal.returns
+returns c =
     let fr = c.args.self.now in
     let f = background_in fr in
     let s = c.side.result in
@@ -43,12 +43,12 @@ returns-in-Ok c =
     let same = c.side.ensures.setting ∙ ap (λ (x : Basis). link_setting f (basis_of fr x)) c.deref-own.ensures in
     let built = built_sides (Ok c.in-Ok.left) (setting_of s) (link_setting f (basis_of fr b)) s.table.now fr.table.now c.as_slice.result.now chain.left.items g.left
     same c.side.ensures.table c.as_slice.ensures.value c.in-Ok.ensures in
-    let simpler : Simpler = record { call = c.in_ok-clone-in-Ok.field-0; left = c.in-Ok.left; next = c.args.next } in
-    let first = jobs_pushed fr w.tasks.items c.push.new.self.items task.PutBetween c.in_ok-push-in-Ok.ensures.items in
-    let second = jobs_pushed fr c.push.new.self.items c.push-2.new.self.items (task.BeginSimpler simpler) c.in_ok-push-2-in-Ok.ensures.items in
+    let simpler : Simpler = record { call = c.in_ok-clone.field-0; left = c.in-Ok.left; next = c.args.next } in
+    let first = jobs_pushed fr w.tasks.items c.push.new.self.items task.PutBetween c.in_ok-push.ensures.items in
+    let second = jobs_pushed fr c.push.new.self.items c.push-2.new.self.items (task.BeginSimpler simpler) c.in_ok-push-2.ensures.items in
     simplified_on fr d b g chain h c.in-Ok.left (simpler_use fr simpler) w c.begin_sides.new.work is built.0 built.1
-    (λ i. simplified_call (all_uses f) f (call_of fr (c.in_ok-clone-in-Ok.ensures.cases i)) c.in-Ok.left h)
-    (c.in_ok-begin_sides-in-Ok.ensures.tasks
-    ∙ (λ i. begun_sides fr d b chain (c.in_ok-from-in-Ok.ensures.same i) (c.in_ok-to-in-Ok.ensures.same i) (jobs_of fr (record w { tasks = c.push-2.new.self })))
+    (λ i. simplified_call (all_uses f) f (call_of fr (c.in_ok-clone.ensures.cases i)) c.in-Ok.left h)
+    (c.in_ok-begin_sides.ensures.tasks
+    ∙ (λ i. begun_sides fr d b chain (c.in_ok-from.ensures.same i) (c.in_ok-to.ensures.same i) (jobs_of fr (record w { tasks = c.push-2.new.self })))
     ∙ ap (begun_sides fr d b chain g.left g.right) (second ∙ ap (λ js. Begin_use (simpler_use fr simpler) ∷ js) first))
-    c.in_ok-begin_sides-in-Ok.ensures.values c.begin_sides.ensures.left
+    c.in_ok-begin_sides.ensures.values c.begin_sides.ensures.left

@@ -1,10 +1,11 @@
 use Rattle.std.proofs.Common.{◌≡◌, ◌∷◌, sym, subst}
 use Rattle.circ_term.specs.Substitution.{instance}
-use Rattle.circ_expand.specs.Machine.{Begin_use, Enter_use, Empty_row, Put_behind, Put_between, Add_part, Begin_split, End_split, all_uses, task_step}
-use Rattle.circ_expand.specs.Tasks.{StepsAlike, next_stepped, stepped, call_of, background_in, jobs_of, links_job, reason_job, reasons_job, changes_job, simpler_use}
+use Rattle.circ_expand.specs.Machine.{Task as Job, Begin_use, Enter_use, Empty_row, Put_behind, Put_between, Add_part, Begin_split, End_split, all_uses, task_step}
+use Rattle.circ_expand.specs.Tasks.{Steps, StepsAlike, next_stepped, stepped, call_of, background_in, jobs_of, links_job, reason_job, reasons_job, changes_job, simpler_use}
 use Rattle.circ_expand.specs.Tasks.{split_term}
 use Rattle.circ_expand.specs.Values.{values_of}
 use Rattle.circ_expand.specs.Valuations.{by_of}
+use Rattle.circ_expand.specs.declared.by.By.{By}
 use Rattle.circ_expand.specs.declared.tasks.Task.{Task}
 use Rattle.circ_expand.proofs.Leaving.{steps_alike}
 use Rattle.circ_expand.proofs.calls.Frame.step.Goals as goal
@@ -62,8 +63,14 @@ pub returns-in-FirstChange : goal.returns-in-FirstChange
 returns-in-FirstChange c =
     let fr = c.args.self.now in
     let w = c.args.work.now in
-    let P : Task → Type 0 = λ t. StepsAlike fr (next_stepped fr t w) c.first_step.new.work c.first_step.result in
-    subst P (sym c.in-FirstChange.is) (steps_alike fr (stepped fr (changes_job fr c.in-FirstChange.changes (instance (by_of c.in-FirstChange.by.value) c.in-FirstChange.changes.last)) w) c.first_step.new.work c.first_step.result c.first_step.ensures)
+    let x = c.in-FirstChange.changes in
+    let new = c.first_step.new.work in
+    let r = c.first_step.result in
+    let J : By → Job = λ b. changes_job fr x (instance (by_of b) x.last) in
+    let Q : By → Type 0 = λ b. Steps fr (stepped fr (J b) w) new r in
+    let P : Task → Type 0 = λ t. StepsAlike fr (next_stepped fr t w) new r in
+    subst P (sym c.in-FirstChange.is)
+    (steps_alike fr (stepped fr (J c.in-FirstChange.by.value) w) new r (subst Q c.deref.ensures c.first_step.ensures))
 
 pub returns-in-NextChange : goal.returns-in-NextChange
 returns-in-NextChange c =
