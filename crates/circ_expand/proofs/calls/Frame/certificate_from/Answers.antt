@@ -1,6 +1,9 @@
-use Rattle.std.proofs.Common.{◌≡◌, Ok, Err, refl, ap, sym, ◌∙◌}
+use Rattle.std.proofs.Common.{◌≡◌, [], List, Ok, Err, None, map, refl, ap, sym, ◌∙◌}
+use Rattle.circ_theory.specs.Pairs.{plain_pair}
+use Rattle.circ_theory.specs.declared.pairs.Pair.{Pair}
+use Rattle.circ_expand.specs.Expand.{basis, link_setting}
 use Rattle.circ_expand.specs.Settings.{setting_of}
-use Rattle.circ_expand.specs.Tasks.{basis_of, links_at}
+use Rattle.circ_expand.specs.Tasks.{basis_of, links_at, background_in, certificate_setting}
 use Rattle.circ_expand.proofs.AtPlaces.{certificate_taken}
 use Rattle.circ_expand.proofs.calls.Frame.certificate_from.Goals as goal
 
@@ -8,13 +11,23 @@ pub returns-in-Err : goal.returns-in-Err
 returns-in-Err c = λ e.
     let fr = c.args.self.now in
     let s = c.side.result in
+    let set : setting_of s ≡ certificate_setting fr =
+    c.side.ensures.setting ∙ ap (λ (ps : List Pair). link_setting (background_in fr) (basis [] 0 (map plain_pair ps))) c.new.ensures.items in
     certificate_taken fr c.args.place c.args.derivative (Err c.in-Err.fault) c.args.start c.certificate-links.result.now (setting_of s) s.table.now
-    c.side.ensures.setting c.side.ensures.table c.certificate-links.ensures e c.known.ensures c.in-Err.ensures
+    set c.side.ensures.table c.certificate-links.ensures e c.known.ensures c.in-Err.ensures
 
-pub returns-in-Ok : goal.returns-in-Ok
-returns-in-Ok c = λ e.
+pub returns-in_ok-new-in-Ok : goal.returns-in_ok-new-in-Ok
+returns-in_ok-new-in-Ok c = λ e.
     let fr = c.args.self.now in
     let s = c.side.result in
+    let set : setting_of s ≡ certificate_setting fr =
+    c.side.ensures.setting ∙ ap (λ (ps : List Pair). link_setting (background_in fr) (basis [] 0 (map plain_pair ps))) c.new.ensures.items in
     let t = certificate_taken fr c.args.place c.args.derivative (Ok c.in-Ok.last) c.args.start c.certificate-links.result.now (setting_of s) s.table.now
-    c.side.ensures.setting c.side.ensures.table c.certificate-links.ensures e c.known.ensures c.in-Ok.ensures in
-    record { start = e; links = c.certificate-links.ensures; last = t.0; basis = ap (basis_of fr) c.in_ok-new-in-Ok.ensures.ok; within = t.1 }
+    set c.side.ensures.table c.certificate-links.ensures e c.known.ensures c.in-Ok.ensures in
+    record {
+      start = e;
+      links = c.certificate-links.ensures;
+      last = t.0;
+      basis = ap (basis_of fr) c.in_ok-new-in-Ok.ensures.ok ∙ ap (λ (ps : List Pair). basis [] 0 (map plain_pair ps)) c.new.ensures.items;
+      within = t.1;
+    }

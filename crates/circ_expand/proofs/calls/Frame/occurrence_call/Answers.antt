@@ -3,11 +3,12 @@ use Rattle.std.specs.Result.{IfOk}
 use Rattle.circ_term.specs.Tree.{at}
 use Rattle.circ_expand.specs.Expand.{Visible_case, By_entry, entry_in, places_on}
 use Rattle.circ_expand.specs.Guards.{plain_guard}
-use Rattle.circ_expand.specs.Uses.{layers_of}
+use Rattle.circ_expand.specs.Fronts.{front}
 use Rattle.circ_expand.specs.Tasks.{FindsCase, IsAlong, layers_in}
 use Rattle.circ_expand.specs.declared.calls.Call.{Call}
 use Rattle.circ_expand.specs.declared.guards.Guard.{Guard}
 use Rattle.circ_expand.proofs.AtPlaces.{finds_visible, finds_place, finds_hidden}
+use Rattle.circ_expand.proofs.Fronting.{layers_shared}
 use Rattle.circ_expand.proofs.calls.Frame.occurrence_call.Goals as goal
 
 pub returns-in-Visible : goal.returns-in-Visible
@@ -32,7 +33,7 @@ returns-in_ok-along-in-Place c =
     let G : Guard → Type 0 = λ g. IfOk r (FindsCase fr x c.args.whole p here (plain_guard p g)) in
     let P : Call → Type 0 = λ d. IfOk r (IsAlong d c.args.whole ys) in
     subst G (sym c.in-Place.is) (finds_place fr x c.args.whole p here ys r
-    (c.in_ok-along-in-Place.ensures ∙ ap (λ ls. places_on here p ++ layers_of fr.theory.now ls) c.in_ok-layers-in-Place.ensures)
+    (c.in_ok-along-in-Place.ensures ∙ ap (λ ls. places_on here p ++ ls) (layers_shared fr.theory.now c.in_ok-layers-in-Place.layers.items (front x.layers) c.in_ok-layers-in-Place.ensures))
     (subst P c.deref.ensures c.with_layers.ensures))
 
 pub returns-in_ok-along-in-Hidden : goal.returns-in_ok-along-in-Hidden
@@ -48,7 +49,8 @@ returns-in_ok-along-in-Hidden c =
     let ys = c.in_ok-along-in-Hidden.along in
     let G : Guard → Type 0 = λ g. IfOk r (FindsCase fr x c.args.whole p here (plain_guard p g)) in
     let P : Call → Type 0 = λ d. IfOk r (IsAlong d c.args.whole ys) in
-    let entry = c.in_ok-add_entry_at-in-Hidden.ensures ∙ ap (λ ls. By_entry (entry_in th k (unwrap_or (at here c.first-above-in-Hidden.result.now) here)) ∷ layers_of th ls) c.in_ok-layers-in-Hidden.ensures in
+    let entry = c.in_ok-add_entry_at-in-Hidden.ensures ∙ ap (λ ls. By_entry (entry_in th k (unwrap_or (at here c.first-above-in-Hidden.result.now) here)) ∷ ls)
+    (layers_shared th c.in_ok-layers-in-Hidden.layers.items (front x.layers) c.in_ok-layers-in-Hidden.ensures) in
     let along = c.in_ok-along-in-Hidden.ensures ∙ ap (λ ls. places_on here c.first-above-in-Hidden.result.now ++ ls) entry in
     subst G (sym c.in-Hidden.is) (finds_hidden fr x c.args.whole p q here k ys r
     (along ∙ ap (λ s. places_on here s ++ By_entry (entry_in th k (unwrap_or (at here s) here)) ∷ layers_in fr x.layers) c.first-above-in-Hidden.ensures)

@@ -4,6 +4,7 @@ use Rattle.circ_expand.specs.Fronts.{front}
 use Rattle.circ_expand.specs.Uses.{held_by, layer_by, layers_of}
 use Rattle.circ_expand.specs.declared.uses.Layer.TheVariants as layer
 use Rattle.circ_expand.proofs.Entering.{layers_last}
+use Rattle.circ_expand.proofs.Fronting.{layers_shared}
 use Rattle.circ_expand.proofs.calls.Frame.through.Goals as goal
 
 pub returns : goal.returns
@@ -17,4 +18,4 @@ returns c =
     ap (layer_by th) c.in_ok-entry.ensures.ok ∙ (λ i. By_entry (held_by th (c.in_ok-held.ensures.cases i))) in
     let place : layer_by th p.value ≡ layer_by th (layer.Place c.args.term.now c.args.arg) =
     ap (layer_by th) c.in_ok-place.ensures.ok ∙ (λ i. layer_by th (layer.Place (c.in_ok-term.ensures.same i) c.args.arg)) in
-    outer ∙ (λ i. entry i ∷ (inner ∙ (λ j. place j ∷ layers_of th (c.in_ok-through.ensures j))) i)
+    outer ∙ (λ i. entry i ∷ (inner ∙ (λ j. place j ∷ layers_shared th c.in_ok-through.through.items (front c.args.layers.now) c.in_ok-through.ensures j)) i)
