@@ -1,5 +1,5 @@
 -- The step of a use at a place, and that of an occurrence.
-use Rattle.std.proofs.Common.{◌≡◌, ◌≤◌, ◌<◌, ℕ, ◌+◌, Bool, true, List, [], ◌∷◌, ◌++◌, zero, suc, map, drop, take, length, min, Option, Some, None, Result, Ok, Err, unwrap_or, refl, ap, sym, ◌∙◌, subst, arith}
+use Rattle.std.proofs.Common.{◌≡◌, ℕ, ◌+◌, true, List, [], ◌∷◌, ◌++◌, zero, suc, drop, take, length, min, Option, Some, None, Result, Ok, Err, unwrap_or, refl, ap, sym, ◌∙◌, subst, arith}
 use Rattle.std.specs.List.{slice_get}
 use Rattle.std.specs.Option.{option_map}
 use Rattle.std.specs.Global.{Vec}
@@ -7,7 +7,7 @@ use Rattle.std.specs.declared.rc.Rc.{Rc}
 use Rattle.std.proofs.Common.{Global}
 use Rattle.circ_term.specs.Tree.{Tree, sort_of, trees_of, args_of, at}
 use Rattle.circ_term.specs.Limits.{Limit, Names, first_limit}
-use Rattle.circ_term.specs.Substitution.{Substitution, instance}
+use Rattle.circ_term.specs.Substitution.{instance}
 use Rattle.circ_term.specs.declared.fault.TermFault.{TermFault}
 use Rattle.circ_term.specs.declared.fault.TermFault.TheVariants.{TooBig, TooDeep, Memory}
 use Rattle.circ_theory.specs.declared.way.Way.TheVariants.{Forth}
@@ -30,7 +30,7 @@ use Rattle.circ_proof.specs.declared.links.Link.{Link}
 use Rattle.circ_expand.proofs.Advancing.{all_built_at}
 use Rattle.circ_expand.specs.Values.{values_of}
 use Rattle.circ_expand.specs.Valuations.{by_of}
-use Rattle.circ_expand.specs.Tasks.{call_of, basis_of, background_in, jobs_of, pending_of, links_at, place_of, place_stepped, certificate_setting, certificate_terms}
+use Rattle.circ_expand.specs.Tasks.{call_of, background_in, jobs_of, pending_of, links_at, place_of, place_stepped, certificate_setting, certificate_terms}
 use Rattle.circ_expand.specs.Tasks.{IsCertificate, left_side, right_side, AreEnds, begun_place, changes_job, change_stepped, stepped, layers_in, Halts, FindsCase, IsAlong}
 use Rattle.std.specs.Result.{IfOk}
 use Rattle.std.specs.declared.alloc.AllocError.{AllocError}
@@ -48,7 +48,7 @@ use Rattle.circ_expand.proofs.Stepping.{counted_one, row_there, on_last}
 use Rattle.circ_expand.proofs.Exceeding.{first_none}
 use Rattle.circ_expand.proofs.Rising.{first_append}
 use Rattle.circ_expand.proofs.Guarding.{drop_at}
-use Rattle.circ_expand.proofs.Background.{got_map, outside}
+use Rattle.circ_expand.proofs.Background.{got_map}
 
 -- ---- places
 

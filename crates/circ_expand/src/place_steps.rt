@@ -107,15 +107,17 @@ impl<'a> Frame<'a, '_> {
             raised: 0,
             assumptions: Vec::new(self.alloc),
         };
-        match (&*self).side(&basis).led_all(links, &start) {
-            Ok(last) => Ok(Certificate {
-                start,
-                links,
-                last,
-                basis: Rc::new(self.alloc, basis)?,
-            }),
-            Err(fault) => Err(fault),
-        }
+        let basis = Rc::new(self.alloc, basis)?;
+        let last = match (&*self).side(&basis).led_all(links, &start) {
+            Ok(last) => last,
+            Err(fault) => return Err(fault),
+        };
+        Ok(Certificate {
+            start,
+            links,
+            last,
+            basis,
+        })
     }
 
     // The layers with the place round them, and the entry round that.

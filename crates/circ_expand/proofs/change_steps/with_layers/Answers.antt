@@ -1,4 +1,4 @@
-use Rattle.std.proofs.Common.{◌≡◌, Some, ap, ◌∙◌}
+use Rattle.std.proofs.Common.{Some, ap, ◌∙◌}
 use Rattle.circ_expand.specs.Expand.{Call as Use}
 use Rattle.circ_expand.specs.Tasks.{call_of, layers_in}
 use Rattle.circ_expand.proofs.change_steps.with_layers.Goals as goal

@@ -1,10 +1,10 @@
-use Rattle.std.proofs.Common.{◌≡◌, [], ◌∷◌, List, refl, ap, sym, ◌∙◌}
+use Rattle.std.proofs.Common.{◌≡◌, ◌∷◌, ◌∙◌}
 use Rattle.circ_term.specs.Substitution.{instance}
-use Rattle.circ_expand.specs.Machine.{Task as Job, Empty_row, Put_between}
+use Rattle.circ_expand.specs.Machine.{Empty_row}
 use Rattle.circ_expand.specs.Fronts.{front}
 use Rattle.circ_expand.specs.Uses.{layers_of, entries_of}
 use Rattle.circ_expand.specs.Valuations.{by_of}
-use Rattle.circ_expand.specs.Tasks.{call_of, jobs_of, links_job, changes_job, certificate_job, occurrences_job}
+use Rattle.circ_expand.specs.Tasks.{changes_job, occurrences_job}
 use Rattle.circ_expand.specs.declared.tasks.Task.TheVariants as task
 use Rattle.circ_expand.proofs.Stepping.{jobs_pushed}
 use Rattle.circ_expand.proofs.calls.Frame.begin_place.Goals as goal

@@ -1,15 +1,14 @@
-use Rattle.std.proofs.Common.{◌≡◌, ◌-◌, ◌+◌, ◌∷◌, Global, Option, Some, None, refl, ap, sym, ◌∙◌, subst, arith}
+use Rattle.std.proofs.Common.{◌≡◌, ◌-◌, ◌∷◌, Global, Option, Some, None, refl, ap, sym, ◌∙◌, subst, arith}
 use Rattle.std.specs.declared.rc.Rc.{Rc}
 use Rattle.circ_term.specs.Tree.{Tree}
 use Rattle.circ_term.specs.Limits.{Names, first_limit}
 use Rattle.circ_theory.specs.declared.way.Way.TheVariants.{Forth}
 use Rattle.circ_expand.specs.Followed.{put_or_same}
-use Rattle.circ_expand.specs.Expand.{Case, No_case, tested, whole_with, guard_case}
+use Rattle.circ_expand.specs.Expand.{Case, No_case, tested, whole_with}
 use Rattle.circ_expand.specs.Guards.{plain_guard}
 use Rattle.circ_expand.specs.Machine.{Enter_use, Put_behind}
-use Rattle.circ_expand.specs.Tasks.{call_of, jobs_of, changes_job, FindsCase}
+use Rattle.circ_expand.specs.Tasks.{call_of, jobs_of, FindsCase}
 use Rattle.circ_expand.specs.declared.calls.Call.{Call}
-use Rattle.circ_expand.specs.declared.tasks.Changes.{Changes}
 use Rattle.circ_expand.specs.declared.tasks.Task.TheVariants as task
 use Rattle.circ_expand.specs.declared.tasks.Work.{Work}
 use Rattle.circ_expand.proofs.AtPlaces.{here_past, here_on, next_past, whole_past, changes_on, changed_on, changed_none, changed_found}

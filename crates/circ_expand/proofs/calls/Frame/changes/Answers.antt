@@ -1,6 +1,6 @@
-use Rattle.std.proofs.Common.{◌≡◌, drop, ap, sym, ◌∙◌}
+use Rattle.std.proofs.Common.{drop, ap, ◌∙◌}
 use Rattle.circ_term.specs.Substitution.{instance}
-use Rattle.circ_expand.specs.Expand.{Call as Use, paths_of, arg_sort}
+use Rattle.circ_expand.specs.Expand.{Call as Use, paths_of}
 use Rattle.circ_expand.specs.Machine.{Occurrences}
 use Rattle.circ_expand.specs.Uses.{entries_of, layers_of}
 use Rattle.circ_expand.specs.Valuations.{by_of}

@@ -1,4 +1,4 @@
-use Rattle.std.proofs.Common.{◌≡◌, ◌++◌, Option, None, refl, ap, sym, ◌∙◌, subst}
+use Rattle.std.proofs.Common.{◌≡◌, ◌++◌, Option, None, ap, sym, ◌∙◌, subst}
 use Rattle.circ_term.specs.Tree.{Tree}
 use Rattle.circ_term.specs.Limits.{Limit, Names}
 use Rattle.circ_term.specs.Substitution.{instance}
@@ -8,7 +8,7 @@ use Rattle.circ_expand.specs.Fronts.{front}
 use Rattle.circ_expand.specs.Uses.{first_of, layers_of}
 use Rattle.circ_expand.specs.Valuations.{by_of}
 use Rattle.circ_expand.specs.Tasks.{left_side, right_side}
-use Rattle.circ_expand.proofs.Rising.{names_first, first_append}
+use Rattle.circ_expand.proofs.Rising.{names_first}
 use Rattle.circ_expand.proofs.AtPlaces.{inner_none, no_limit}
 use Rattle.circ_expand.proofs.Writings.{names_both, first_both}
 use Rattle.circ_expand.proofs.calls.Frame.ends_of_sides.Goals as goal

@@ -1,4 +1,4 @@
-use Rattle.std.proofs.Common.{◌≡◌, ◌++◌, ◌∷◌, [], ap, ◌∙◌}
+use Rattle.std.proofs.Common.{◌++◌, ◌∷◌, [], ap, ◌∙◌}
 use Rattle.circ_expand.specs.Uses.{entries_of}
 use Rattle.circ_expand.proofs.calls.Frame.entry_at.Goals as goal
 

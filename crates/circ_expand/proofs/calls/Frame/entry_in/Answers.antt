@@ -1,6 +1,6 @@
-use Rattle.std.proofs.Common.{◌≡◌, Bor, Option, unwrap_or, ap, ◌∙◌}
+use Rattle.std.proofs.Common.{◌≡◌, Bor, unwrap_or, ap, ◌∙◌}
 use Rattle.std.specs.List.{slice_get}
-use Rattle.std.specs.Option.{option_copied, option_map}
+use Rattle.std.specs.Option.{option_map}
 use Rattle.circ_term.specs.Tree.{Tree, at}
 use Rattle.circ_rewrite.specs.Matching.{matching}
 use Rattle.circ_theory.specs.Theory.{Derivative}

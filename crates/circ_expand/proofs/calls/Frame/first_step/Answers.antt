@@ -1,5 +1,4 @@
-use Rattle.std.proofs.Common.{◌≡◌, ℕ, drop, true, false, refl, ap, sym, ◌∙◌}
-use Rattle.circ_term.specs.Limits.{Names, first_limit}
+use Rattle.std.proofs.Common.{◌≡◌, ℕ, drop, ap, sym, ◌∙◌}
 use Rattle.circ_term.specs.Substitution.{instance}
 use Rattle.std.specs.Global.{Vec}
 use Rattle.std.specs.List.{slice_get}

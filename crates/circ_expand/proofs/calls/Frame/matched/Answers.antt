@@ -1,4 +1,4 @@
-use Rattle.std.proofs.Common.{◌≡◌, ap, ◌∙◌}
+use Rattle.std.proofs.Common.{ap, ◌∙◌}
 use Rattle.circ_rewrite.specs.Matching.{matching}
 use Rattle.circ_expand.specs.Valuations.{by_of}
 use Rattle.circ_expand.proofs.Holes.{same_by}

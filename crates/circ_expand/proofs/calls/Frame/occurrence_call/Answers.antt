@@ -1,4 +1,4 @@
-use Rattle.std.proofs.Common.{◌≡◌, ℕ, List, take, ◌++◌, ◌∷◌, unwrap_or, ap, sym, subst, ◌∙◌}
+use Rattle.std.proofs.Common.{ℕ, List, take, ◌++◌, ◌∷◌, unwrap_or, ap, sym, subst, ◌∙◌}
 use Rattle.std.specs.Result.{IfOk}
 use Rattle.circ_term.specs.Tree.{at}
 use Rattle.circ_expand.specs.Expand.{Visible_case, By_entry, entry_in, places_on}

@@ -1,4 +1,4 @@
-use Rattle.std.proofs.Common.{◌≡◌, ap, sym, ◌∙◌}
+use Rattle.std.proofs.Common.{ap, ◌∙◌}
 use Rattle.circ_expand.specs.Expand.{Call as Use}
 use Rattle.circ_expand.specs.Machine.{Links as Links_job}
 use Rattle.circ_expand.specs.Uses.{entries_of}

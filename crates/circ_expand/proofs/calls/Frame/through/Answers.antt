@@ -1,4 +1,4 @@
-use Rattle.std.proofs.Common.{◌≡◌, ◌∷◌, ap, sym, ◌∙◌}
+use Rattle.std.proofs.Common.{◌≡◌, ◌∷◌, ap, ◌∙◌}
 use Rattle.circ_expand.specs.Expand.{By_entry}
 use Rattle.circ_expand.specs.Fronts.{front}
 use Rattle.circ_expand.specs.Uses.{held_by, layer_by, layers_of}

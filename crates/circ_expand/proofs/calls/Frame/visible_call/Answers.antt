@@ -1,10 +1,9 @@
-use Rattle.std.proofs.Common.{◌≡◌, ℕ, ◌++◌, ◌∷◌, [], Some, unwrap_or, ap, sym, ◌∙◌}
+use Rattle.std.proofs.Common.{ℕ, ◌++◌, ◌∷◌, Some, ap, sym, ◌∙◌}
 use Rattle.std.specs.Global.{Vec}
-use Rattle.circ_term.specs.Tree.{at}
-use Rattle.circ_expand.specs.Expand.{Call as Use, Yields, base, entry_in}
+use Rattle.circ_expand.specs.Expand.{Call as Use, Yields, base}
 use Rattle.circ_expand.specs.Machine.{pending, Enter_use}
 use Rattle.circ_expand.specs.Uses.{entries_of, layers_of}
-use Rattle.circ_expand.specs.Tasks.{call_of, layers_in}
+use Rattle.circ_expand.specs.Tasks.{call_of}
 use Rattle.circ_expand.specs.declared.calls.Call.{Call}
 use Rattle.circ_expand.proofs.calls.Frame.visible_call.Goals as goal
 

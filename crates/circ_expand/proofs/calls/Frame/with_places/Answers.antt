@@ -1,4 +1,4 @@
-use Rattle.std.proofs.Common.{◌≡◌, ap, ◌∙◌}
+use Rattle.std.proofs.Common.{ap, ◌∙◌}
 use Rattle.circ_expand.specs.Uses.{layers_of}
 use Rattle.circ_expand.proofs.calls.Frame.with_places.Goals as goal
 

@@ -1,6 +1,5 @@
-use Rattle.std.proofs.Common.{◌≡◌, ◌+◌, drop, ap, sym, ◌∙◌, arith}
+use Rattle.std.proofs.Common.{◌≡◌, ◌+◌, drop, arith}
 use Rattle.circ_expand.specs.Machine.{Occurrences}
-use Rattle.circ_expand.specs.Fronts.{front}
 use Rattle.circ_expand.specs.Paths.{plain_paths}
 use Rattle.circ_expand.specs.Uses.{layers_of}
 use Rattle.circ_expand.specs.Tasks.{call_of}
