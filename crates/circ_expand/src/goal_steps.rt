@@ -1,5 +1,5 @@
 //! The steps of uses: what becomes of a goal, and uses along layers.
-ghost use Rattle.std.specs.Prelude.{◌≡◌, ◌==◌, ◌<◌, ◌≤◌, List, IfOk, map, take, length, nat_lt};
+ghost use Rattle.std.specs.Prelude.{◌≡◌, ◌==◌, ◌<◌, ◌≤◌, ◌∷◌, List, IfOk, map, take, length, nat_lt};
 ghost use Rattle.std.specs.Prelude.{if◌then◌else◌, Some, None};
 ghost use Rattle.std.proofs.Common.{Global};
 ghost use Rattle.std.specs.declared.rc.Rc.{Rc};
@@ -12,11 +12,11 @@ ghost use Rattle.circ_proof.specs.Link.{resolved_chain};
 ghost use Rattle.circ_entry.specs.Entries.{derivative_at};
 ghost use Rattle.circ_expand.specs.Followed.{Open, Simplified, Reduced_by, Derived};
 ghost use Rattle.circ_expand.specs.Histories.{histories_of, history_at};
-ghost use Rattle.circ_expand.specs.Expand.{basis_in, child, extended};
+ghost use Rattle.circ_expand.specs.Expand.{basis_in, child, extended, By_entry};
 ghost use Rattle.circ_expand.specs.Machine.{all_uses, along_step, Enter_use};
 ghost use Rattle.circ_expand.specs.Valuations.{by_of, valued_by};
-ghost use Rattle.circ_expand.specs.Fronts.{IsCut};
-ghost use Rattle.circ_expand.specs.Uses.{layers_of};
+ghost use Rattle.circ_expand.specs.Fronts.{front, IsCut};
+ghost use Rattle.circ_expand.specs.Uses.{held_by, layers_of};
 ghost use Rattle.circ_expand.specs.Tasks.{call_of, basis_of, target_of, background_in, jobs_of};
 ghost use Rattle.circ_expand.specs.Values.{values_of};
 ghost use Rattle.circ_expand.specs.Tasks.{Steps, stepped, why_at, simpler_use, node_history};
@@ -24,7 +24,7 @@ ghost use Rattle.circ_expand.specs.Tasks.{earlier_history, goal_stepped, holes_b
 
 use crate::by::{By, Over};
 use crate::calls::{Basis, Call, Frame, Target};
-use crate::fronts::Cut;
+use crate::fronts::{Cut, Front};
 use crate::histories::{Node, What};
 use crate::tasks::{Halt, Reason, Simpler, Task, Work};
 use crate::uses::{Held, Layer};
@@ -284,16 +284,33 @@ impl<'a> Frame<'a, '_> {
         };
         let last: &Layer = &cut.last;
         match last {
-            Layer::Entry { held } => {
-                let mut next = old.share()?;
-                next.entries = old.entries.with(self.alloc, held.clone()?)?;
-                next.along = Some(cut.rest);
-                let next = Rc::new(self.alloc, next)?;
-                work.tasks.push(Task::BeginUse(next))?;
-                Ok(())
-            }
+            Layer::Entry { held } => self.entry_step(work, old, held, &cut.rest),
             Layer::Place { term, arg } => self.place_step(work, call, term, *arg, &cut.rest),
         }
+    }
+
+    // The same use with an entry before the experiment.
+    fn entry_step(
+        &self,
+        work: &mut Work<'a>,
+        call: &Call,
+        held: &Rc<Held>,
+        rest: &Front<Layer>,
+    ) -> Result<(), Halt>
+        ensures { Steps self.now (along_step (all_uses (background_in self.now))
+            (background_in self.now) (call_of self.now call.now)
+            (By_entry (held_by self.now.theory.now held.now.value) ∷
+            layers_of self.now.theory.now (front rest.now)) (jobs_of self.now work.old)
+            (values_of work.old.values) work.old.left) work.new result }
+    {
+        let entries = call.entries.with(self.alloc, held.clone()?)?;
+        let layers = rest.share()?;
+        let mut next = call.share()?;
+        next.entries = entries;
+        next.along = Some(layers);
+        let next = Rc::new(self.alloc, next)?;
+        work.tasks.push(Task::BeginUse(next))?;
+        Ok(())
     }
 
     // A use whose whole term has the left side that the goal is simplified to in it.
@@ -302,20 +319,19 @@ impl<'a> Frame<'a, '_> {
             work.old) work.new result }
     {
         let call: &Call = &simpler.call;
-        match self.around(call, &simpler.left) {
-            Ok(whole) => {
-                let mut next = call.share()?;
-                next.whole = whole;
-                next.along = None;
-                next.goal = Target {
-                    block: call.goal.block,
-                    node: simpler.next,
-                };
-                let next = Rc::new(self.alloc, next)?;
-                self.use_step(work, next)
-            }
-            Err(fault) => Err(Halt::Past(fault)),
-        }
+        let whole = match self.around(call, &simpler.left) {
+            Ok(whole) => whole,
+            Err(fault) => return Err(Halt::Past(fault)),
+        };
+        let mut next = call.share()?;
+        next.whole = whole;
+        next.along = None;
+        next.goal = Target {
+            block: call.goal.block,
+            node: simpler.next,
+        };
+        let next = Rc::new(self.alloc, next)?;
+        self.use_step(work, next)
     }
 }
 

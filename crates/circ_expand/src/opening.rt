@@ -43,10 +43,10 @@ impl<'a> Frame<'a, '_> {
         let call = self.opening(target, &whole, held)?;
         let mut work = self.begun(call)?;
         self.run(&mut work)?;
-        match work.values.rows(self.alloc)? {
-            Some(rows) => Ok(rows),
-            None => Err(Halt::Stopped),
-        }
+        let Some(rows) = work.values.rows(self.alloc)? else {
+            return Err(Halt::Stopped);
+        };
+        Ok(rows)
     }
 
     // The experiment on the left side of the goal, where that on the right side is within the

@@ -45,10 +45,10 @@ impl<'a> Frame<'a, '_> {
             (work.new.left ≤ work.old.left) × (work.new.tasks.items ≡ [])) }
         ensures halts { IfErr result (Halts (left_of self.now work.old)) }
     {
-        let before = work.left;
+        let units = work.left;
         while let Some(task) = work.tasks.pop() {
             self.step(work, task)?;
-            if work.left < before {
+            if work.left < units {
                 return Ok(());
             }
         }

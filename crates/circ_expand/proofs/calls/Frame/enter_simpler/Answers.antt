@@ -19,8 +19,8 @@ returns-in-Err c =
     names_tested (around (call_of fr s.call.value) s.left) (use_step (all_uses f) f d d.along (jobs_of fr w) (values_of w.values) w.left) c.in-Err.fault
     (subst P c.deref-call.ensures c.in-Err.ensures)
 
-pub returns-in-Ok : goal.returns-in-Ok
-returns-in-Ok c =
+pub returns : goal.returns
+returns c =
     let fr = c.args.self.now in
     let s = c.args.simpler in
     let w = c.args.work.now in
@@ -30,13 +30,13 @@ returns-in-Ok c =
       goal = target_of fr (record { block = x.goal.block; node = s.next });
     } in
     let call = c.deref-call.result.now in
-    let same : call_of fr c.in_ok-next-2-in-Ok.next.value ≡ simpler_use fr s =
-    ap (call_of fr) c.in_ok-next-2-in-Ok.ensures.ok
-    ∙ (λ i. let d : Use = c.in_ok-next-in-Ok.ensures fr i in record d {
+    let same : call_of fr c.in_ok-next-2.next.value ≡ simpler_use fr s =
+    ap (call_of fr) c.in_ok-next-2.ensures.ok
+    ∙ (λ i. let d : Use = c.in_ok-next.ensures fr i in record d {
       whole = c.in-Ok.ensures.0 i;
       along = None;
       goal = target_of fr (record { block = call.goal.block; node = s.next });
     })
     ∙ ap F c.deref-call.ensures in
-    steps_same fr (stepped fr (Enter_use (simpler_use fr s)) w) (stepped fr (Enter_use (call_of fr c.in_ok-next-2-in-Ok.next.value)) w) c.use_step.new.work c.use_step.result
+    steps_same fr (stepped fr (Enter_use (simpler_use fr s)) w) (stepped fr (Enter_use (call_of fr c.in_ok-next-2.next.value)) w) c.use_step.new.work c.use_step.result
     (ap (λ d. stepped fr (Enter_use d) w) (sym same)) c.use_step.ensures

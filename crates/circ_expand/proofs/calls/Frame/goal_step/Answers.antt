@@ -16,7 +16,7 @@ pub returns-in_default : goal.returns-in_default
 returns-in_default c =
     let fr = c.args.self.now in
     let H = λ (o : Option ℕ). option_map_or (history_at fr.table.now fr.book.now.nodes.items) o Open in
-    ap (λ h. goal_stepped fr c.args.call.value h c.args.work.now) (ap (λ (x : Call). H x.goal.node) (sym c.deref-target.ensures) ∙ ap H c.in_default.is)
+    ap (λ h. goal_stepped fr c.args.call.value h c.args.work.now) (ap (λ (x : Call). H x.goal.node) (sym c.deref.ensures) ∙ ap H c.in_default.is)
 
 pub returns-in-Some-get : goal.returns-in-Some-get
 returns-in-Some-get c =
@@ -29,7 +29,7 @@ returns-in-Some-get c =
     let there = rw c.as_slice-nodes.ensures.value at c.in-Some-get.ensures.lookup in
     let H = λ (o : Option ℕ). option_map_or (history_at fr.table.now ns) o Open in
     let same : (target_of fr d.goal).history ≡ node_history fr k n =
-    ap (λ (x : Call). H x.goal.node) (sym c.deref-target.ensures) ∙ ap H c.in-Some.is ∙ node_there fr.table.now ns k n there.3.0 (got ns k n there.3.0 there.1) in
+    ap (λ (x : Call). H x.goal.node) (sym c.deref.ensures) ∙ ap H c.in-Some.is ∙ node_there fr.table.now ns k n there.3.0 (got ns k n there.3.0 there.1) in
     steps_same fr (goal_stepped fr d (target_of fr d.goal).history w) (goal_stepped fr d (node_history fr k n) w) c.node_step.new.work c.node_step.result
     (ap (λ h. goal_stepped fr d h w) same) c.node_step.ensures
 
@@ -40,4 +40,4 @@ returns-in-None c =
     let H = λ (o : Option ℕ). option_map_or (history_at fr.table.now ns) o Open in
     let none = rw c.as_slice-nodes.ensures.value at c.in-None.ensures.lookup.3 in
     ap (λ h. goal_stepped fr c.args.call.value h c.args.work.now)
-    (ap (λ (x : Call). H x.goal.node) (sym c.deref-target.ensures) ∙ ap H c.in-Some.is ∙ node_nowhere fr.table.now ns c.in-Some.number none)
+    (ap (λ (x : Call). H x.goal.node) (sym c.deref.ensures) ∙ ap H c.in-Some.is ∙ node_nowhere fr.table.now ns c.in-Some.number none)

@@ -21,5 +21,5 @@ returns-clause-done c =
 
 pub returns-in_err-until_counted-clause-halts : goal.returns-in_err-until_counted-clause-halts
 returns-in_err-until_counted-clause-halts c =
-    let P : Spending (List Value) → Type 0 = λ o. Halts o c.in_err-until_counted.own in
+    let P : Spending (List Value) → Type 0 = λ o. Halts o c.in_err-until_counted.field-0 in
     subst P (sym c.loop-work.invariant) c.in_err-until_counted.ensures.halts

@@ -1,4 +1,4 @@
-use Rattle.std.proofs.Common.{◌≡◌, ◌<◌, ◌≤◌, ◌⊎◌, ◌×◌, List, [], ap, sym, subst, ◌∙◌, refl, arith, inl, inr}
+use Rattle.std.proofs.Common.{◌≡◌, ◌<◌, ◌≤◌, ◌⊎◌, List, [], ap, sym, subst, ◌∙◌, refl, arith, inl, inr}
 use Rattle.circ_expand.specs.Machine.{tasks_weight}
 use Rattle.circ_expand.specs.Expand.{Spending}
 use Rattle.circ_expand.specs.Machine.{Value}
@@ -16,7 +16,7 @@ loop-task-preserved c =
     let d = left_less fr w p u c.in-Some.task c.in-Some.ensures.items refl c.in_ok-step.ensures in
     record {
       same = c.loop-task.invariant.same ∙ left_after fr w p u c.in-Some.task c.in-Some.ensures.items refl refl c.in_ok-step.ensures;
-      units = units_stay u.left w.left c.before (tasks_weight (jobs_of fr u)) (tasks_weight (jobs_of fr w)) d c.loop-task.invariant.units c.if-work-before.false;
+      units = units_stay u.left w.left c.args.work.now.left (tasks_weight (jobs_of fr u)) (tasks_weight (jobs_of fr w)) d c.loop-task.invariant.units c.if-work-units.false;
       first = c.loop-task.invariant.first;
     }
 
@@ -27,17 +27,17 @@ loop-task-smaller c =
     let p : Work = record w { tasks = c.pop.new.self } in
     let u = c.step.new.work in
     let d = left_less fr w p u c.in-Some.task c.in-Some.ensures.items refl c.in_ok-step.ensures in
-    weight_falls u.left w.left c.before (tasks_weight (jobs_of fr u)) (tasks_weight (jobs_of fr w)) d c.loop-task.invariant.units c.if-work-before.false
+    weight_falls u.left w.left c.args.work.now.left (tasks_weight (jobs_of fr u)) (tasks_weight (jobs_of fr w)) d c.loop-task.invariant.units c.if-work-units.false
 
-pub returns-then-work-before-clause-same : goal.returns-then-work-before-clause-same
-returns-then-work-before-clause-same c =
+pub returns-then-work-units-clause-same : goal.returns-then-work-units-clause-same
+returns-then-work-units-clause-same c =
     let fr = c.args.self.now in
     let w = c.loop-task.work in
     let p : Work = record w { tasks = c.pop.new.self } in
     c.loop-task.invariant.same ∙ left_after fr w p c.step.new.work c.in-Some.task c.in-Some.ensures.items refl refl c.in_ok-step.ensures
 
-pub returns-then-work-before-clause-less : goal.returns-then-work-before-clause-less
-returns-then-work-before-clause-less c = inl (omega (arith, c.if-work-before.true, c.loop-task.invariant.first))
+pub returns-then-work-units-clause-less : goal.returns-then-work-units-clause-less
+returns-then-work-units-clause-less c = inl (omega (arith, c.if-work-units.true, c.loop-task.invariant.first))
 
 pub returns-clause-same : goal.returns-clause-same
 returns-clause-same c =
@@ -56,5 +56,5 @@ returns-in_err-step-clause-halts c =
     let fr = c.args.self.now in
     let w = c.loop-task.work in
     let p : Work = record w { tasks = c.pop.new.self } in
-    let P : Spending (List Value) → Type 0 = λ o. Halts o c.in_err-step.own in
-    subst P (sym c.loop-task.invariant.same) (left_halts fr w p c.in-Some.task c.in_err-step.own c.in-Some.ensures.items refl refl c.in_err-step.ensures)
+    let P : Spending (List Value) → Type 0 = λ o. Halts o c.in_err-step.field-0 in
+    subst P (sym c.loop-task.invariant.same) (left_halts fr w p c.in-Some.task c.in_err-step.field-0 c.in-Some.ensures.items refl refl c.in_err-step.ensures)

@@ -6,8 +6,8 @@ use Rattle.circ_expand.proofs.calls.Frame.until_counted.Given as goal
 abbrev pub invariant-loop-task : goal.invariant-loop-task
 invariant-loop-task l = record {
   same : left_of l.self l.fn.work ≡ left_of l.self l.work;
-  units : l.work.left ≡ l.before;
-  first : l.before ≡ l.fn.work.left;
+  units : l.work.left ≡ l.units;
+  first : l.units ≡ l.fn.work.left;
 }
 
 abbrev pub decreases-loop-task : goal.decreases-loop-task

@@ -29,7 +29,7 @@ returns c =
     let f = background_in fr in
     let w = c.args.work.now in
     let d = c.args.call.value in
-    let xs = front c.in-Some.layers.now in
+    let xs = front c.in-Some.layers in
     let whole : first_limit d.whole ≡ None = ap (λ (x : Call). first_limit x.whole) (sym c.deref-held.ensures) ∙ c.known.ensures in
     let along : (call_of fr d).along ≡ Some (layers_of fr.theory.now xs) =
     ap (λ (x : Call). (call_of fr x).along) (sym c.deref-held.ensures) ∙ ap (option_map (λ ys. layers_of fr.theory.now (front ys))) c.in-Some.is in
