@@ -1,5 +1,5 @@
 -- The step of a link of a side, by what the link is.
-use Rattle.std.proofs.Common.{◌≡◌, ℕ, ◌+◌, Bool, true, List, [], ◌∷◌, ◌++◌, zero, suc, map, Option, Some, None, Result, Ok, Err, unwrap_or, refl, ap, sym, ◌∙◌, subst}
+use Rattle.std.proofs.Common.{◌≡◌, ℕ, ◌+◌, true, List, [], ◌∷◌, ◌++◌, suc, map, None, Result, unwrap_or, refl, ap, sym, ◌∙◌, subst}
 use Rattle.circ_term.specs.Tree.{Tree, trees_of, list_of, at}
 use Rattle.circ_term.specs.Limits.{first_limit, first_limits, Names}
 use Rattle.circ_term.specs.Substitution.{Substitution, instance, instances}
@@ -9,9 +9,9 @@ use Rattle.circ_theory.specs.declared.way.Way.{Way}
 use Rattle.circ_proof.specs.Plain.{LinkOf, Equation_link, Hypothesis_link, Assumption_link, Content_link, plain_link, plain_links}
 use Rattle.circ_proof.specs.Link.{Setting, resolved_link, resolved_links}
 use Rattle.circ_proof.specs.declared.links.Link.{Link}
-use Rattle.circ_expand.specs.Followed.{Followed, goal_in, led, led_all}
+use Rattle.circ_expand.specs.Followed.{goal_in, led, led_all}
 use Rattle.circ_expand.specs.Pieces.{Piece, Pieces, Equation_piece, Content_piece, Assumption_piece, no_piece, more_pieces, pieces_joined}
-use Rattle.circ_expand.specs.Expand.{Spending, Yields, counted, tested, all_tested, Background, Call as Use, Basis as SideBasis, base, around, whole_with, followed_at, start_of, stood}
+use Rattle.circ_expand.specs.Expand.{Spending, Yields, counted, tested, all_tested, Call as Use, Basis as SideBasis, base, around, whole_with, followed_at, start_of, stood}
 use Rattle.circ_expand.specs.Expand.{link_terms, trail, link_setting, bounds_of}
 use Rattle.circ_expand.specs.Machine.{Value, In_row, Pending, pending, Task as Job, Links as Links_job, Enter_use, Put_behind, links_step, all_uses, on_row}
 use Rattle.circ_expand.specs.Nodes.{ends_in_row}
@@ -216,6 +216,13 @@ all_built_at r S T xs ys ls t e h b =
     let P : Setting → Type 0 = λ s. BuildsLast r (trail s (resolved_links xs (plain_links ls)) t) (led_all s (resolved_links xs (plain_links ls)) t) in
     let Q : List Tree → Type 0 = λ zs. BuildsLast r (trail T (resolved_links zs (plain_links ls)) t) (led_all T (resolved_links zs (plain_links ls)) t) in
     subst Q h (subst P e b)
+
+pub all_built_from : (r : Result Tree TermFault) (S T : Setting) (xs ys : List Tree) (ls ks : List (Link ℕ)) (t : Tree) → S ≡ T → xs ≡ ys → ls ≡ ks
+    → BuildsLast r (trail S (resolved_links xs (plain_links ls)) t) (led_all S (resolved_links xs (plain_links ls)) t)
+    → BuildsLast r (trail T (resolved_links ys (plain_links ks)) t) (led_all T (resolved_links ys (plain_links ks)) t)
+all_built_from r S T xs ys ls ks t e h l b =
+    let P : List (Link ℕ) → Type 0 = λ zs. BuildsLast r (trail T (resolved_links ys (plain_links zs)) t) (led_all T (resolved_links ys (plain_links zs)) t) in
+    subst P l (all_built_at r S T xs ys ls t e h b)
 
 -- what stands, or the whole term, is past a limit before a hypothesis is used
 pub standing_past : {X : Type 0} (c : Use) (t : Tree) (o : Spending X) (e : TermFault) → Names e (first_limit (instance c.by t))

@@ -1,9 +1,10 @@
 -- Tasks are done until a unit is counted, and until none is left.
-use Rattle.std.proofs.Common.{◌≡◌, ◌==◌, ◌≤◌, ◌<◌, ◌⊎◌, ℕ, ◌+◌, Bool, true, false, List, [], ◌∷◌, ◌++◌, zero, suc, length, min, Result, Ok, Err, refl, ap, sym, ◌∙◌, subst, arith, inl, inr}
+use Rattle.std.proofs.Common.{◌≡◌, ◌==◌, ◌≤◌, ◌<◌, ◌⊎◌, ℕ, ◌+◌, Bool, true, false, List, [], ◌∷◌, ◌++◌, length, min, refl, ap, sym, ◌∙◌, subst, arith, inl, inr}
+use Rattle.std.proofs.lemmas.Bool.{eqb-true}
 use Rattle.circ_expand.specs.Expand.{Spending, Yields, continued}
-use Rattle.circ_expand.specs.Machine.{Value, Pending, pending, Task as Job, rest_done, tasks_weight, CountsDown}
+use Rattle.circ_expand.specs.Machine.{Value, Pending, pending, rest_done, tasks_weight, CountsDown}
 use Rattle.circ_expand.specs.Values.{values_of}
-use Rattle.circ_expand.specs.Tasks.{background_in, jobs_of, with_task, with_tasks, pending_of, next_stepped, left_of, first_stepped, IsAlike, Halts}
+use Rattle.circ_expand.specs.Tasks.{background_in, jobs_of, with_task, with_tasks, next_stepped, left_of, IsAlike, Halts}
 use Rattle.circ_expand.specs.declared.calls.Frame.{Frame}
 use Rattle.circ_expand.specs.declared.tasks.Halt.{Halt}
 use Rattle.circ_expand.specs.declared.tasks.Task.{Task}
@@ -92,4 +93,4 @@ some_there (x ∷ xs) b e f = omega arith
 
 pub none_there : {X : Type 0} (xs : List X) (b : Bool) → b ≡ (length xs == 0) → b ≡ true → xs ≡ []
 none_there [] b e f = refl
-none_there (x ∷ xs) b e f = absurd (let z = sym f ∙ e in cc)
+none_there (x ∷ xs) b e f = absurd (let n = eqb-true (length (x ∷ xs)) 0 (sym e ∙ f) in omega (arith, n))

@@ -1,5 +1,5 @@
 -- The steps of uses.
-use Rattle.std.proofs.Common.{◌≡◌, ◌≤◌, ◌<◌, ◌+◌, ℕ, List, [], ◌∷◌, ◌++◌, zero, suc, map, reverse, length, Option, Some, None, refl, ap, sym, ◌∙◌, subst, arith}
+use Rattle.std.proofs.Common.{◌≡◌, ◌≤◌, ◌<◌, ◌+◌, ℕ, List, [], ◌∷◌, ◌++◌, zero, suc, map, reverse, length, Option, Some, None, Result, refl, ap, sym, ◌∙◌, subst, arith}
 use Rattle.std.specs.Option.{option_map, option_map_or}
 use Rattle.std.specs.declared.rc.Rc.{Rc}
 use Rattle.std.proofs.Common.{Global}
@@ -9,8 +9,9 @@ use Rattle.circ_term.specs.Limits.{first_limit, Names}
 use Rattle.circ_term.specs.declared.fault.TermFault.{TermFault}
 use Rattle.circ_theory.specs.Theory.{Theory}
 use Rattle.circ_theory.specs.declared.parts.Goal.{Goal}
-use Rattle.circ_proof.specs.Plain.{ChainOf, WhyOf, plain_chain}
-use Rattle.circ_proof.specs.Link.{resolved_chain}
+use Rattle.circ_proof.specs.Plain.{ChainOf, WhyOf, plain_chain, plain_links}
+use Rattle.circ_proof.specs.Link.{Setting, resolved_chain, resolved_links}
+use Rattle.circ_proof.specs.declared.links.Link.{Link}
 use Rattle.circ_proof.specs.declared.links.Chain.{Chain}
 use Rattle.circ_entry.specs.Entries.{Numbered}
 use Rattle.circ_expand.specs.Followed.{History, Histories, Simplified, Reduced_by, Derived, Open, led_all}
@@ -19,7 +20,7 @@ use Rattle.circ_expand.specs.Expand.{Spending, Yields, Stopped, tested, all_test
 use Rattle.circ_expand.specs.Machine.{Value, In_row, Pending, pending, Task as Job, Links as Links_job, Give_reason, Begin_use, Enter_use, Empty_row, Put_between, goal_step, use_step}
 use Rattle.circ_expand.specs.Machine.{along_step, task_step, all_uses}
 use Rattle.circ_expand.specs.Fronts.{front, IsCut}
-use Rattle.circ_expand.specs.Uses.{first_of, held_by, entries_of, layer_by, layers_of}
+use Rattle.circ_expand.specs.Uses.{BuildsLast, first_of, held_by, entries_of, layer_by, layers_of}
 use Rattle.circ_expand.specs.Values.{values_of}
 use Rattle.circ_expand.specs.Tasks.{call_of, basis_of, target_of, background_in, jobs_of, pending_of, links_at, begun_sides, simpler_use, goal_stepped, why_at, reason_job, Halts}
 use Rattle.circ_expand.specs.declared.tasks.Halt.TheVariants as halt
@@ -31,6 +32,7 @@ use Rattle.circ_expand.specs.declared.tasks.Simpler.{Simpler}
 use Rattle.circ_expand.specs.declared.tasks.Work.{Work}
 use Rattle.circ_expand.specs.declared.uses.Held.{Held}
 use Rattle.circ_expand.specs.declared.uses.Layer.{Layer as Kept}
+use Rattle.circ_expand.proofs.Advancing.{all_built_at}
 use Rattle.circ_expand.proofs.Stepping.{tests_none, tested_none, halts_past, names_tests, names_tested}
 
 pub layers_last : {A : Type 0} (th : Theory) (l : Rc Kept A) (ls : List (Rc Kept A)) → layers_of th (ls ++ l ∷ []) ≡ layer_by th l.value ∷ layers_of th ls
@@ -108,3 +110,11 @@ entered_on fr c w o none e =
     let f = background_in fr in
     tested_none c.whole (use_step (all_uses f) f (call_of fr c) (call_of fr c).along (jobs_of fr w) (values_of w.values) w.left) none
     ∙ ap (λ x. use_step (all_uses f) f (call_of fr c) x (jobs_of fr w) (values_of w.values) w.left) e
+
+-- what is built by links, against what the background says
+pub built_sides : (r : Result Tree TermFault) (S T : Setting) (xs ys : List Tree) (ls ks : List (Link ℕ)) (t : Tree) → S ≡ T → xs ≡ ys → ls ≡ ks
+    → BuildsLast r (trail S (resolved_links xs (plain_links ls)) t) (led_all S (resolved_links xs (plain_links ls)) t)
+    → BuildsLast r (trail T (resolved_links ys (plain_links ks)) t) (led_all T (resolved_links ys (plain_links ks)) t)
+built_sides r S T xs ys ls ks t e h l b =
+    let P : List (Link ℕ) → Type 0 = λ zs. BuildsLast r (trail T (resolved_links ys (plain_links zs)) t) (led_all T (resolved_links ys (plain_links zs)) t) in
+    subst P l (all_built_at r S T xs ys ls t e h b)

@@ -52,3 +52,6 @@ pub mod Counting
 pub mod AtPlaces
 pub mod Entering
 pub mod Writings
+pub mod Held
+pub mod Sharing
+pub mod Extending

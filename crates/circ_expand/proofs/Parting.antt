@@ -1,5 +1,5 @@
 -- The steps of reasons.
-use Rattle.std.proofs.Common.{◌≡◌, ◌==◌, ℕ, ◌+◌, Bool, true, false, if◌then◌else◌, List, [], ◌∷◌, ◌++◌, zero, suc, map, length, Option, Some, None, Result, Ok, Err, unwrap_or, refl, ap, sym, ◌∙◌, subst}
+use Rattle.std.proofs.Common.{◌≡◌, ◌==◌, ℕ, Bool, true, false, if◌then◌else◌, List, [], ◌∷◌, ◌++◌, suc, Option, Some, None, Result, Ok, Err, unwrap_or, refl, ap, sym, ◌∙◌, subst}
 use Rattle.std.specs.List.{find}
 use Rattle.std.specs.Option.{option_map}
 use Rattle.std.proofs.lemmas.Bool.{eqb-true}
@@ -10,15 +10,15 @@ use Rattle.circ_term.specs.declared.fault.TermFault.{TermFault}
 use Rattle.circ_theory.specs.Theory.{Pair, CaseList}
 use Rattle.circ_theory.specs.Derivable.{is_case}
 use Rattle.circ_theory.specs.Observing.{case_list}
-use Rattle.circ_proof.specs.Plain.{WhyOf, WhysOf, no_why, more_whys, Split_why, plain_chain}
+use Rattle.circ_proof.specs.Plain.{WhysOf, Split_why, plain_chain}
 use Rattle.circ_proof.specs.Link.{resolved_chain}
 use Rattle.circ_expand.specs.Followed.{led_all}
 use Rattle.circ_proof.specs.declared.links.Why.{Why, Same}
 use Rattle.circ_proof.specs.declared.links.Chain.{Chain}
 use Rattle.circ_theory.specs.declared.way.Way.TheVariants.{Back}
 use Rattle.circ_expand.specs.Pieces.{no_piece, no_part}
-use Rattle.circ_expand.specs.Expand.{Spending, Yields, Long, counted, tested, all_tested, Background, Call as Use, Basis as SideBasis, around, whole_with, stood, trail, link_setting, case_basis, cases_at}
-use Rattle.circ_expand.specs.Machine.{Value, In_row, In_parts, Put_behind, Put_between, reason_step, Pending, pending, Task as Job, Give_reason, Give_reasons, Add_part, Begin_split, End_split, task_step, reasons_step}
+use Rattle.circ_expand.specs.Expand.{Spending, Yields, Long, counted, tested, all_tested, Call as Use, Basis as SideBasis, around, whole_with, stood, trail, link_setting, case_basis, cases_at}
+use Rattle.circ_expand.specs.Machine.{In_row, In_parts, Put_behind, Put_between, reason_step, Pending, pending, Task as Job, Give_reason, Give_reasons, Add_part, Begin_split, End_split, task_step, reasons_step}
 use Rattle.circ_expand.specs.Machine.{all_uses, rest_done, tasks_weight}
 use Rattle.circ_expand.specs.Uses.{first_of, BuildsLast}
 use Rattle.circ_expand.specs.Values.{values_of}
@@ -32,7 +32,7 @@ use Rattle.circ_expand.proofs.Rising.{none_first, names_first as rising_first}
 use Rattle.circ_expand.specs.declared.tasks.Reasons.{Reasons}
 use Rattle.circ_expand.specs.declared.tasks.Work.{Work}
 use Rattle.circ_expand.proofs.Assuming.{under}
-use Rattle.circ_expand.proofs.Stepping.{tests_none, tested_none, counted_one, counted_none, halts_past, names_tests, names_tested, names_first, names_later, names_alone, first_more, first_alone}
+use Rattle.circ_expand.proofs.Stepping.{tests_none, tested_none, counted_one, counted_none, halts_past, names_tests, names_tested, names_later, names_alone, first_more, first_alone}
 use Rattle.circ_expand.proofs.Leaving.{case_alike}
 
 -- the constants that are found are those of the case list

@@ -40,11 +40,12 @@ impl<'a> Frame<'a, '_> {
         ensures { Steps self.now (stepped self.now (Enter_use (call_of self.now call.value))
             work.old) work.new result }
     {
-        call.whole.known();
-        let cut = match &call.along {
-            None => return self.goal_step(work, call),
-            Some(layers) => layers.cut()?,
+        let held: &Call = &call;
+        held.whole.known();
+        let Some(layers) = &held.along else {
+            return self.goal_step(work, call);
         };
+        let cut = layers.cut()?;
         self.along_step(work, call, cut)
     }
 
@@ -53,10 +54,12 @@ impl<'a> Frame<'a, '_> {
         ensures { Steps self.now (goal_stepped self.now call.value
             (target_of self.now call.value.goal).history work.old) work.new result }
     {
-        let Some(number) = call.goal.node else {
+        let target = call.goal;
+        let Some(number) = target.node else {
             return Err(Halt::Stopped);
         };
-        match self.book.nodes.get(number as usize) {
+        let nodes = self.book.nodes.as_slice();
+        match nodes.get(number as usize) {
             Some(node) => self.node_step(work, call, number, node),
             None => Err(Halt::Stopped),
         }
@@ -79,7 +82,7 @@ impl<'a> Frame<'a, '_> {
             }
             What::Reduced { why } => self.reduced_step(work, call, &node.goal, *why),
             What::Derived { children } => {
-                self.derived_step(work, call, &node.goal, children.as_slice(), number)
+                self.derived_step(work, &call, &node.goal, children.as_slice(), number)
             }
         }
     }
@@ -112,9 +115,11 @@ impl<'a> Frame<'a, '_> {
             (option_map_or (history_at self.now.table.now self.now.book.now.nodes.items)
             next Open)) work.old) work.new result }
     {
-        let basis = self.full_basis(&call)?;
+        let held: &Call = &call;
+        let basis = self.full_basis(held)?;
+        let own: &Basis = &basis;
         match (&*self)
-            .side(&basis)
+            .side(own)
             .led_all(chain.left.as_slice(), &goal.left)
         {
             Ok(left) => {
@@ -124,9 +129,9 @@ impl<'a> Frame<'a, '_> {
                     left,
                     next,
                 }))?;
-                let left = goal.left.share()?;
-                let right = goal.right.share()?;
-                self.begin_sides(work, call, basis, chain, left, right)?;
+                let from = goal.left.share()?;
+                let to = goal.right.share()?;
+                self.begin_sides(work, call, basis, chain, from, to)?;
                 Ok(())
             }
             Err(fault) => Err(Halt::Past(fault)),
@@ -143,7 +148,8 @@ impl<'a> Frame<'a, '_> {
         ensures { Steps self.now (goal_stepped self.now call.value
             (Reduced_by goal.now (why_at self.now why.now)) work.old) work.new result }
     {
-        let basis = self.full_basis(&call)?;
+        let held: &Call = &call;
+        let basis = self.full_basis(held)?;
         let left = goal.left.share()?;
         let right = goal.right.share()?;
         work.tasks.push(Task::GiveReason(Reason {
@@ -160,26 +166,29 @@ impl<'a> Frame<'a, '_> {
     fn derived_step(
         &self,
         work: &mut Work<'a>,
-        call: Rc<Call>,
+        call: &Call,
         goal: &Goal,
         children: &[u32],
         number: u32,
     ) -> Result<(), Halt>
         requires { number < length self.now.book.now.nodes.items }
-        ensures { Steps self.now (goal_stepped self.now call.value (Derived goal.now
+        ensures { Steps self.now (goal_stepped self.now call.now (Derived goal.now
             (histories_of (map (earlier_history self.now number) children.now))) work.old)
             work.new result }
     {
         let Some(entry) = call.entries.cut()? else {
             return Err(Halt::Stopped);
         };
+        let last: &Held = &entry.last;
+        let by: &By = &call.by;
+        let child = self.child(children, goal.left.sort(), last.number, number);
+        let by = self.extended(by, goal, last)?;
         let mut next = call.share()?;
-        let child = self.child(children, goal.left.sort(), entry.last.number, number);
         next.goal = Target {
             block: call.goal.block,
             node: child,
         };
-        next.by = self.extended(&call.by, goal, &entry.last)?;
+        next.by = by;
         next.entries = entry.rest;
         next.along = None;
         let next = Rc::new(self.alloc, next)?;
@@ -197,7 +206,8 @@ impl<'a> Frame<'a, '_> {
         if derivative >= self.theory.derivative_count() {
             return None;
         }
-        match children.get(self.before(sort, derivative)) {
+        let place = self.before(sort, derivative);
+        match children.get(place) {
             Some(child) => earlier(number, *child),
             None => None,
         }
@@ -233,15 +243,23 @@ impl<'a> Frame<'a, '_> {
             (derivative_at self.now.theory.now entry.now.number) (fresh_in goal.now) (by_of by.now)
             (valued_by entry.now.params.value)) }
     {
-        let nothing = Term::var(0, 0);
-        let body = self.theory.derivative(entry.number).unwrap_or(&nothing);
         let over = Over {
-            body: body.share()?,
+            body: self.body_of(entry.number)?,
             first: fresh(goal),
             params: entry.params.clone()?,
         };
         let next = by.with(self.alloc, over)?;
         Ok(Rc::new(self.alloc, next)?)
+    }
+
+    // The body of a derivative, or a variable where there is no such derivative.
+    fn body_of(&self, derivative: u32) -> Result<Term, AllocError>
+        ensures { IfOk result (λ t. t ≡ (derivative_at self.now.theory.now derivative).body) }
+    {
+        match self.theory.derivative(derivative) {
+            Some(body) => Ok(body.share()?),
+            None => Ok(Term::var(0, 0)),
+        }
     }
 
     // A use along layers: of the goal itself, with an entry before the experiment, or at a place.
@@ -256,17 +274,19 @@ impl<'a> Frame<'a, '_> {
             (call_of self.now call.value) (layers_of self.now.theory.now xs)
             (jobs_of self.now work.old) (values_of work.old.values) work.old.left) work.new result }
     {
+        let old: &Call = &call;
         let Some(cut) = cut else {
-            let mut next = call.share()?;
+            let mut next = old.share()?;
             next.along = None;
             let next = Rc::new(self.alloc, next)?;
             work.tasks.push(Task::BeginUse(next))?;
             return Ok(());
         };
-        match &*cut.last {
+        let last: &Layer = &cut.last;
+        match last {
             Layer::Entry { held } => {
-                let mut next = call.share()?;
-                next.entries = call.entries.with(self.alloc, held.clone()?)?;
+                let mut next = old.share()?;
+                next.entries = old.entries.with(self.alloc, held.clone()?)?;
                 next.along = Some(cut.rest);
                 let next = Rc::new(self.alloc, next)?;
                 work.tasks.push(Task::BeginUse(next))?;
@@ -281,13 +301,14 @@ impl<'a> Frame<'a, '_> {
         ensures { Steps self.now (stepped self.now (Enter_use (simpler_use self.now simpler))
             work.old) work.new result }
     {
-        match self.around(&simpler.call, &simpler.left) {
+        let call: &Call = &simpler.call;
+        match self.around(call, &simpler.left) {
             Ok(whole) => {
-                let mut next = simpler.call.share()?;
+                let mut next = call.share()?;
                 next.whole = whole;
                 next.along = None;
                 next.goal = Target {
-                    block: simpler.call.goal.block,
+                    block: call.goal.block,
                     node: simpler.next,
                 };
                 let next = Rc::new(self.alloc, next)?;

@@ -219,8 +219,8 @@ impl<'a> Frame<'a, '_> {
     fn write(&self, work: &mut Work<'a>, more: Links<'a>, row: Row) -> Result<(), Halt>
         requires { IsLink row }
         ensures { (v : Pieces) (us : List Value) → (values_of work.old.values) ≡ In_row v ∷ us →
-            Steps self.now (linked self.now work.old more.entry [] (piece_of row) v us work.old.left)
-            work.new result }
+            Steps self.now (linked self.now work.old more.entry [] (piece_of row) v us
+            work.old.left) work.new result }
     {
         match self.around(&more.call, &more.term) {
             Ok(_) => {
@@ -251,9 +251,11 @@ impl<'a> Frame<'a, '_> {
         more: Links<'a>,
         used: Used<'_>,
     ) -> Result<(), Halt>
-        ensures { Steps self.now (all_tested (stood (call_of self.now more.entry.call.value) term.now)
-            (counted work.old.left (hypothesised self.now work.old more.entry used.entry.number used.entry.way
-            used.entry.path.now (map (named self.now.table.now) used.entry.terms.now)
+        ensures { Steps self.now (all_tested
+            (stood (call_of self.now more.entry.call.value) term.now)
+            (counted work.old.left (hypothesised self.now work.old more.entry
+            used.entry.number used.entry.way used.entry.path.now
+            (map (named self.now.table.now) used.entry.terms.now)
             (instance (by_of more.entry.call.value.by.value) term.now)
             (around (call_of self.now more.entry.call.value) term.now)))) work.new result }
     {
@@ -276,8 +278,9 @@ impl<'a> Frame<'a, '_> {
         before: Term,
     ) -> Result<(), Halt>
         ensures { Steps self.now (counted work.old.left (hypothesised self.now work.old more.entry
-            used.entry.number used.entry.way used.entry.path.now (map (named self.now.table.now) used.entry.terms.now)
-            standing.now before)) work.new result }
+            used.entry.number used.entry.way used.entry.path.now
+            (map (named self.now.table.now) used.entry.terms.now) standing.now before))
+            work.new result }
     {
         if work.left == 0 {
             return Err(Halt::Long);

@@ -70,17 +70,17 @@ impl<'a> Frame<'a, '_> {
         ensures { EndsIn (bare_entries (entries_of self.now.theory.now entries.now)) left.now
             right.now result }
     {
-        match experiment(self.alloc, self.theory, entries, left) {
-            Ok(whole) => match experiment(self.alloc, self.theory, entries, right) {
-                Ok(end) => {
-                    whole.known();
-                    end.known();
-                    Ok(whole)
-                }
-                Err(fault) => Err(fault),
-            },
-            Err(fault) => Err(fault),
-        }
+        let whole = match experiment(self.alloc, self.theory, entries, left) {
+            Ok(whole) => whole,
+            Err(fault) => return Err(fault),
+        };
+        let end = match experiment(self.alloc, self.theory, entries, right) {
+            Ok(end) => end,
+            Err(fault) => return Err(fault),
+        };
+        whole.known();
+        end.known();
+        Ok(whole)
     }
 
     // One task, and no values.
@@ -163,5 +163,5 @@ fn held(alloc: Global, entry: &Entry) -> Result<Rc<Held>, AllocError>
         number: entry.derivative,
         params: Rc::new(alloc, values)?,
     };
-    Rc::new(alloc, held).map_err(AllocError::from)
+    Ok(Rc::new(alloc, held)?)
 }

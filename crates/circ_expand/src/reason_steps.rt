@@ -13,7 +13,8 @@ ghost use Rattle.circ_expand.specs.Machine.{In_row, Begin_split, End_split, Give
 ghost use Rattle.circ_expand.specs.Machine.{reason_step, task_step, all_uses};
 ghost use Rattle.circ_expand.specs.Uses.{BuildsLast};
 ghost use Rattle.circ_expand.specs.Valuations.{by_of};
-ghost use Rattle.circ_expand.specs.Tasks.{call_of, basis_of, background_in, reason_job, reasons_job};
+ghost use Rattle.circ_expand.specs.Tasks.{call_of, basis_of, background_in};
+ghost use Rattle.circ_expand.specs.Tasks.{reason_job, reasons_job};
 ghost use Rattle.circ_expand.specs.Values.{values_of};
 ghost use Rattle.circ_expand.specs.Tasks.{Steps, StepsAlike, stepped, split_term, why_at, whys_at};
 ghost use Rattle.circ_expand.specs.Tasks.{jobs_of, begun_sides, assumed, case_list_of};
@@ -65,7 +66,8 @@ impl<'a> Frame<'a, '_> {
         ensures tasks { OnOk result (jobs_of self.now work.new ≡
             begun_sides self.now call.value basis.value chain.now left right
             (jobs_of self.now work.old)) }
-        ensures values { OnOk result ((values_of work.new.values) ≡ In_row no_piece ∷ (values_of work.old.values)) }
+        ensures values { OnOk result (values_of work.new.values ≡
+            In_row no_piece ∷ values_of work.old.values) }
         ensures left { work.new.left ≡ work.old.left }
     {
         work.values.add_empty()?;
@@ -99,8 +101,8 @@ impl<'a> Frame<'a, '_> {
             (basis_of self.now reason.entry.basis.value)
             (Split_why (resolved_chain self.now.table.now (plain_chain chain.now))
             (named self.now.table.now term) (whys_at self.now whys.now))
-            reason.entry.left reason.entry.right (jobs_of self.now work.old) (values_of work.old.values) work.old.left)
-            work.new result }
+            reason.entry.left reason.entry.right (jobs_of self.now work.old)
+            (values_of work.old.values) work.old.left) work.new result }
     {
         let left = match (&*self)
             .side(&reason.basis)
@@ -155,7 +157,8 @@ impl<'a> Frame<'a, '_> {
     pub(crate) fn begin_split(&self, work: &mut Work<'a>, split: Reasons<'a>) -> Result<(), Halt>
         ensures { Steps self.now (task_step (all_uses (background_in self.now))
             (background_in self.now) (Begin_split (split_term split.entry))
-            (reasons_job self.now split.entry ∷ End_split (split_term split.entry) ∷ jobs_of self.now work.old)
+            (reasons_job self.now split.entry ∷ End_split (split_term split.entry) ∷
+            jobs_of self.now work.old)
             (values_of work.old.values) work.old.left) work.new result }
     {
         if work.left == 0 {
@@ -174,8 +177,8 @@ impl<'a> Frame<'a, '_> {
 
     // The reason of the next case. The parts end where there is no other reason or constant.
     pub(crate) fn reasons_step(&self, work: &mut Work<'a>, reasons: Reasons<'a>) -> Result<(), Halt>
-        ensures { StepsAlike self.now (stepped self.now (reasons_job self.now reasons.entry) work.old)
-            work.new result }
+        ensures { StepsAlike self.now
+            (stepped self.now (reasons_job self.now reasons.entry) work.old) work.new result }
     {
         let Some((why, whys)) = reasons.whys.split_first() else {
             work.values.add_no_part()?;

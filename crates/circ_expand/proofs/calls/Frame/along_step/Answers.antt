@@ -1,16 +1,15 @@
-use Rattle.std.proofs.Common.{◌≡◌, [], ◌∷◌, List, refl, ap, sym, ◌∙◌, None, Some}
+use Rattle.std.proofs.Common.{◌≡◌, [], ◌∷◌, List, ap, sym, ◌∙◌, subst, Option, None, Some}
 use Rattle.circ_expand.specs.Expand.{Yields, Call as Use, Layer, By_entry}
 use Rattle.circ_expand.specs.Machine.{pending, Begin_use, along_step, all_uses}
-use Rattle.circ_expand.specs.Fronts.{front}
+use Rattle.circ_expand.specs.Fronts.{front, IsCut}
 use Rattle.circ_expand.specs.Uses.{layers_of, layer_by, entries_of, held_by}
 use Rattle.circ_expand.specs.Values.{values_of}
 use Rattle.circ_expand.specs.Tasks.{call_of, background_in, jobs_of, place_stepped}
+use Rattle.circ_expand.specs.declared.fronts.Cut.{Cut}
 use Rattle.circ_expand.specs.declared.uses.Layer.TheVariants as layer
 use Rattle.circ_expand.specs.declared.uses.Layer.{Layer as Kept}
 use Rattle.circ_expand.specs.declared.tasks.Task.TheVariants as task
-use Rattle.circ_expand.specs.declared.tasks.Work.{Work}
-use Rattle.circ_expand.proofs.Fronting.{layers_cut}
-use Rattle.circ_expand.proofs.Fronting.{entries_cut}
+use Rattle.circ_expand.proofs.Fronting.{layers_cut, entries_cut}
 use Rattle.circ_expand.proofs.Stepping.{jobs_pushed, steps_same}
 use Rattle.circ_expand.proofs.calls.Frame.along_step.Goals as goal
 
@@ -21,10 +20,13 @@ returns-in_default c = λ xs e.
     let w = c.args.work.now in
     let d = c.args.call.value in
     let u = c.in_ok-next-2-in_default.next in
+    let P : Option (Cut Kept) → Type 0 = λ o. IsCut xs o in
+    let none : xs ≡ [] = subst P c.in_default.is e in
     let same : call_of fr u.value ≡ record (call_of fr d) { along = None } =
-    ap (call_of fr) c.in_ok-next-2-in_default.ensures ∙ (λ i. let y : Use = c.in_ok-next-in_default.ensures fr i in record y { along = None }) in
+    ap (call_of fr) c.in_ok-next-2-in_default.ensures.ok
+    ∙ (λ i. let y : Use = (c.in_ok-next-in_default.ensures fr ∙ ap (call_of fr) c.deref-old.ensures) i in record y { along = None }) in
     let pushed = jobs_pushed fr w.tasks.items c.push.new.self.items (task.BeginUse u) c.in_ok-push-in_default.ensures.items in
-    ap (λ ys. along_step (all_uses f) f (call_of fr d) (layers_of fr.theory.now ys) (jobs_of fr w) (values_of w.values) w.left) e
+    ap (λ ys. along_step (all_uses f) f (call_of fr d) (layers_of fr.theory.now ys) (jobs_of fr w) (values_of w.values) w.left) none
     ∙ (λ i. Yields (pending (Begin_use (sym same i) ∷ jobs_of fr w) (values_of w.values)) w.left)
     ∙ (λ i. Yields (pending (sym pushed i) (values_of w.values)) w.left)
 
@@ -37,16 +39,18 @@ returns-in-Entry c = λ xs e.
     let d = c.args.call.value in
     let x = c.in-Some.cut in
     let u = c.in_ok-next-2-in-Entry.next in
-    let h = c.in-Entry.held in
+    let h = c.in-Entry.held.now in
     let rest = layers_of th (front x.rest) in
+    let P : Option (Cut Kept) → Type 0 = λ o. IsCut xs o in
     let layers : layers_of th xs ≡ By_entry (held_by th h.value) ∷ rest =
-    layers_cut th xs x.last (front x.rest) e ∙ ap (λ y. layer_by th y ∷ rest) (sym c.deref.ensures ∙ c.in-Entry.is) in
+    layers_cut th xs x.last (front x.rest) (subst P c.in-Some.is e) ∙ ap (λ y. layer_by th y ∷ rest) (sym c.deref-last.ensures ∙ c.in-Entry.is) in
+    let before : entries_of th (front c.deref-old.result.now.entries) ≡ (call_of fr d).entries = ap (λ z. entries_of th (front z.entries)) c.deref-old.ensures in
     let entries : entries_of th (front c.in_ok-with-in-Entry.field-0) ≡ held_by th h.value ∷ (call_of fr d).entries =
-    entries_cut th (front c.in_ok-with-in-Entry.field-0) c.in_ok-clone-in-Entry.field-0 (front d.entries) c.in_ok-with-in-Entry.ensures
-    ∙ (λ i. held_by th (c.in_ok-clone-in-Entry.ensures.cases i).value ∷ (call_of fr d).entries) in
+    entries_cut th (front c.in_ok-with-in-Entry.field-0) c.in_ok-clone-in-Entry.field-0 (front c.deref-old.result.now.entries) c.in_ok-with-in-Entry.ensures
+    ∙ (λ i. held_by th (c.in_ok-clone-in-Entry.ensures.cases i) ∷ before i) in
     let same : call_of fr u.value ≡ record (call_of fr d) { entries = held_by th h.value ∷ (call_of fr d).entries; along = Some rest } =
-    ap (call_of fr) c.in_ok-next-2-in-Entry.ensures
-    ∙ (λ i. let y : Use = c.in_ok-next-in-Entry.ensures fr i in record y { entries = entries i; along = Some rest }) in
+    ap (call_of fr) c.in_ok-next-2-in-Entry.ensures.ok
+    ∙ (λ i. let y : Use = (c.in_ok-next-in-Entry.ensures fr ∙ ap (call_of fr) c.deref-old.ensures) i in record y { entries = entries i; along = Some rest }) in
     let pushed = jobs_pushed fr w.tasks.items c.push.new.self.items (task.BeginUse u) c.in_ok-push-in-Entry.ensures.items in
     ap (λ (ys : List Layer). along_step (all_uses f) f (call_of fr d) ys (jobs_of fr w) (values_of w.values) w.left) layers
     ∙ (λ i. Yields (pending (Begin_use (sym same i) ∷ jobs_of fr w) (values_of w.values)) w.left)
@@ -60,9 +64,12 @@ returns-in-Place c = λ xs e.
     let w = c.args.work.now in
     let d = c.args.call.value in
     let x = c.in-Some.cut in
+    let t = c.in-Place.term.now in
+    let n = c.in-Place.arg.now in
     let rest = layers_of th (front x.rest) in
-    let layers : layers_of th xs ≡ layer_by th (layer.Place c.in-Place.term c.in-Place.arg) ∷ rest =
-    layers_cut th xs x.last (front x.rest) e ∙ ap (λ y. layer_by th y ∷ rest) (sym c.deref.ensures ∙ c.in-Place.is) in
+    let P : Option (Cut Kept) → Type 0 = λ o. IsCut xs o in
+    let layers : layers_of th xs ≡ layer_by th (layer.Place t n) ∷ rest =
+    layers_cut th xs x.last (front x.rest) (subst P c.in-Some.is e) ∙ ap (λ y. layer_by th y ∷ rest) (sym c.deref-last.ensures ∙ c.in-Place.is) in
     steps_same fr (along_step (all_uses f) f (call_of fr d) (layers_of th xs) (jobs_of fr w) (values_of w.values) w.left)
-    (place_stepped fr d c.in-Place.term c.in-Place.arg rest w) c.place_step.new.work c.place_step.result
+    (place_stepped fr d t n rest w) c.place_step.new.work c.place_step.result
     (ap (λ (ys : List Layer). along_step (all_uses f) f (call_of fr d) ys (jobs_of fr w) (values_of w.values) w.left) layers) c.place_step.ensures

@@ -1,4 +1,4 @@
-use Rattle.std.proofs.Common.{◌∷◌, ap, sym, ◌∙◌}
+use Rattle.std.proofs.Common.{◌∷◌, ap, ◌∙◌}
 use Rattle.circ_expand.specs.Machine.{Links as Links_job, Empty_row}
 use Rattle.circ_expand.specs.Tasks.{call_of, basis_of, links_at, jobs_of}
 use Rattle.circ_expand.specs.declared.tasks.Task.TheVariants as task

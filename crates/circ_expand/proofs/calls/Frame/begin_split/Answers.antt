@@ -26,8 +26,8 @@ returns-in_ok-push-in-Ok-2 c =
     let w = c.args.work.now in
     let r = c.args.split in
     let by : c.deref-2.result.now ≡ r.call.value.by.value = cc in
-    let new : Work = record w { tasks = c.push-2.new.self; left = w.left - 1 } in
+    let new : Work = record w { tasks = c.push-in-Ok.new.self; left = w.left - 1 } in
     let first = jobs_pushed fr w.tasks.items c.push.new.self.items (task.EndSplit c.in-Ok.term) c.in_ok-push-in-Ok.ensures.items in
-    let second = jobs_pushed fr c.push.new.self.items c.push-2.new.self.items (task.GiveReasons r) c.in_ok-push-in-Ok-2.ensures.items in
+    let second = jobs_pushed fr c.push.new.self.items c.push-in-Ok.new.self.items (task.GiveReasons r) c.in_ok-push-in-Ok-2.ensures.items in
     split_on fr w new r c.in-Ok.term (omega (arith, c.if-work-eq0.false)) (c.in-Ok.ensures.0 ∙ ap (λ b. instance (by_of b) r.term) by)
     (ap (λ b. first_limit (instance (by_of b) r.term)) (sym by) ∙ c.in-Ok.ensures.1) (second ∙ ap (λ js. reasons_job fr r ∷ js) first) refl

@@ -22,10 +22,10 @@ returns-in-Some c =
     let E = earlier_history fr c.args.number in
     let there = c.in-Some.ensures.lookup in
     let x = c.in-Some.child.now in
-    let g = got c.args.children.now c.before.result x there.3.0 there.1 in
+    let g = got c.args.children.now c.before-place.result x there.3.0 there.1 in
     let lt : c.args.derivative < length ds = omega (arith, c.if-derivative-derivative_count.false, c.derivative_count.ensures.count) in
     ap (λ o. option_map_or H o Open) c.earlier.ensures ∙ earlier_same fr.table.now fr.book.now.nodes.items c.args.number x c.requires
-    ∙ sym (ap (λ o. option_map_or E o Open) g) ∙ ap (λ k. option_map_or E (slice_get c.args.children.now k) Open) c.before.ensures
+    ∙ sym (ap (λ o. option_map_or E o Open) g) ∙ ap (λ k. option_map_or E (slice_get c.args.children.now k) Open) c.before-place.ensures
     ∙ sym (child_at E ds c.args.sort c.args.children.now c.args.derivative lt)
 
 pub returns-in-None : goal.returns-in-None
@@ -35,5 +35,5 @@ returns-in-None c =
     let E = earlier_history fr c.args.number in
     let lt : c.args.derivative < length ds = omega (arith, c.if-derivative-derivative_count.false, c.derivative_count.ensures.count) in
     sym (child_at E ds c.args.sort c.args.children.now c.args.derivative lt
-    ∙ ap (λ k. option_map_or E (slice_get c.args.children.now k) Open) (sym c.before.ensures)
-    ∙ ap (λ o. option_map_or E o Open) (got_none c.args.children.now c.before.result c.in-None.ensures.lookup.3))
+    ∙ ap (λ k. option_map_or E (slice_get c.args.children.now k) Open) (sym c.before-place.ensures)
+    ∙ ap (λ o. option_map_or E o Open) (got_none c.args.children.now c.before-place.result c.in-None.ensures.lookup.3))

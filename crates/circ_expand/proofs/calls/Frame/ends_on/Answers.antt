@@ -12,16 +12,16 @@ returns-in-Err c =
     let es = bare_entries (entries_of c.args.self.now.theory.now c.args.entries.now) in
     names_first (stages es c.args.left.now) (stages es c.args.right.now) c.in-Err.fault c.in-Err.ensures
 
-pub returns-in-Err-in-Ok : goal.returns-in-Err-in-Ok
-returns-in-Err-in-Ok c =
+pub returns-in-Err-experiment : goal.returns-in-Err-experiment
+returns-in-Err-experiment c =
     let es = bare_entries (entries_of c.args.self.now.theory.now c.args.entries.now) in
-    names_both (stages es c.args.left.now) (stages es c.args.right.now) c.in-Err-in-Ok.fault c.in-Ok.ensures.1 c.in-Err-in-Ok.ensures
+    names_both (stages es c.args.left.now) (stages es c.args.right.now) c.in-Err-experiment.fault c.in-Ok.ensures.1 c.in-Err-experiment.ensures
 
-pub returns-in-Ok-in-Ok : goal.returns-in-Ok-in-Ok
-returns-in-Ok-in-Ok c =
+pub returns : goal.returns
+returns c =
     let es = bare_entries (entries_of c.args.self.now.theory.now c.args.entries.now) in (
       c.in-Ok.ensures.0,
-      first_both (stages es c.args.left.now) (stages es c.args.right.now) c.in-Ok.ensures.1 c.in-Ok-in-Ok.ensures.1,
+      first_both (stages es c.args.left.now) (stages es c.args.right.now) c.in-Ok.ensures.1 c.in-Ok-experiment.ensures.1,
       ap first_limit (sym c.in-Ok.ensures.0) ∙ c.known.ensures,
-      ap first_limit (sym c.in-Ok-in-Ok.ensures.0) ∙ c.known-2.ensures,
+      ap first_limit (sym c.in-Ok-experiment.ensures.0) ∙ c.known-2.ensures,
     )

@@ -9,11 +9,11 @@ pub returns-in-Some : goal.returns-in-Some
 returns-in-Some c =
     let fr = c.args.self.now in
     let f = followed_by fr.table.now fr.book.now.nodes.items in
-    let there = c.in-Some.ensures.lookup in
+    let there = rw c.deref.ensures.value at c.in-Some.ensures.lookup in
     sym (ap (λ o. option_map_or f o no_followed) (got fr.book.now.goals.items c.args.goal c.in-Some.followed.now there.3.0 there.1))
 
 pub returns-in-None : goal.returns-in-None
 returns-in-None c =
     let fr = c.args.self.now in
     let f = followed_by fr.table.now fr.book.now.nodes.items in
-    c.nothing.ensures fr ∙ sym (ap (λ o. option_map_or f o no_followed) (got_none fr.book.now.goals.items c.args.goal c.in-None.ensures.lookup.3))
+    c.nothing.ensures fr ∙ sym (ap (λ o. option_map_or f o no_followed) (got_none fr.book.now.goals.items c.args.goal (rw c.deref.ensures.value at c.in-None.ensures.lookup.3)))

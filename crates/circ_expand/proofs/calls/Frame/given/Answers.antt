@@ -1,8 +1,7 @@
-use Rattle.std.proofs.Common.{◌≡◌, unwrap_or, ap, sym, ◌∙◌}
-use Rattle.std.specs.Option.{option_copied}
+use Rattle.std.proofs.Common.{ap, ◌∙◌}
 use Rattle.circ_theory.specs.Rewriting.{by_terms}
 use Rattle.circ_theory.specs.Variables.{given, sorted, variables_of}
-use Rattle.circ_expand.specs.Followed.{goal_in, no_goal}
+use Rattle.circ_expand.specs.Followed.{goal_in}
 use Rattle.circ_expand.specs.Tasks.{target_of}
 use Rattle.circ_expand.specs.Valuations.{by_of}
 use Rattle.circ_expand.proofs.Holes.{same_by}

@@ -11,16 +11,16 @@ returns-in_default c =
     let fr = c.args.self.now in
     c.nothing.ensures fr ∙ ap (λ o. followed_at (followed_at_end fr o) c.args.number) (sym c.in_default.is)
 
-pub returns-in-Some : goal.returns-in-Some
-returns-in-Some c =
+pub returns-in-Some-hypothesis : goal.returns-in-Some-hypothesis
+returns-in-Some-hypothesis c =
     let fr = c.args.self.now in
     let f = followed_by fr.table.now fr.book.now.nodes.items in
-    ap (λ o. option_map_or f o no_followed) (sym c.in-Some-2.is ∙ c.hypothesis.ensures) ∙ sym (followed_one (kept_at fr.book.now c.in-Some.block) f c.args.number)
+    ap (λ o. option_map_or f o no_followed) (sym c.in-Some-hypothesis.is ∙ c.hypothesis.ensures) ∙ sym (followed_one (kept_at fr.book.now c.in-Some.block) f c.args.number)
     ∙ ap (λ o. followed_at (followed_at_end fr o) c.args.number) (sym c.in-Some.is)
 
 pub returns-in-None : goal.returns-in-None
 returns-in-None c =
     let fr = c.args.self.now in
     let f = followed_by fr.table.now fr.book.now.nodes.items in
-    c.nothing-2.ensures fr ∙ ap (λ o. option_map_or f o no_followed) (sym c.in-None.is ∙ c.hypothesis.ensures)
+    c.nothing-in-None.ensures fr ∙ ap (λ o. option_map_or f o no_followed) (sym c.in-None.is ∙ c.hypothesis.ensures)
     ∙ sym (followed_one (kept_at fr.book.now c.in-Some.block) f c.args.number) ∙ ap (λ o. followed_at (followed_at_end fr o) c.args.number) (sym c.in-Some.is)

@@ -1,17 +1,15 @@
-use Rattle.std.proofs.Common.{◌≡◌, ◌∷◌, List, ℕ, Ok, Err, refl, ap, sym, ◌∙◌}
+use Rattle.std.proofs.Common.{◌≡◌, ◌∷◌, Ok, Err, ap, ◌∙◌}
 use Rattle.circ_term.specs.Tree.{sort_of}
 use Rattle.circ_term.specs.Substitution.{instance}
-use Rattle.circ_theory.specs.Theory.{CaseList}
-use Rattle.circ_theory.specs.Observing.{case_list}
 use Rattle.circ_theory.specs.Rewriting.{named}
 use Rattle.circ_expand.specs.Expand.{link_setting, cases_at}
-use Rattle.circ_expand.specs.Machine.{Task as Job, Give_reasons, Begin_split, End_split, all_uses}
+use Rattle.circ_expand.specs.Machine.{Give_reasons, Begin_split, End_split, all_uses}
 use Rattle.circ_expand.specs.Followed.{led_all}
 use Rattle.circ_expand.specs.Settings.{setting_of}
 use Rattle.circ_expand.specs.Tasks.{call_of, basis_of, background_in, whys_at, begun_sides, reasons_job, split_term, links_at}
 use Rattle.circ_expand.specs.declared.tasks.Reasons.{Reasons}
 use Rattle.circ_expand.specs.declared.tasks.Task.TheVariants as task
-use Rattle.circ_expand.proofs.Advancing.{all_built_at}
+use Rattle.circ_expand.proofs.Advancing.{all_built_from}
 use Rattle.circ_expand.proofs.Parting.{split_begun, left_split_past, right_split_past}
 use Rattle.circ_expand.proofs.Stepping.{jobs_pushed}
 use Rattle.circ_expand.proofs.calls.Frame.split_step.Goals as goal
@@ -23,20 +21,24 @@ returns-in-Err c =
     let s = c.side.result in
     let chain = c.args.chain.now in
     left_split_past fr q.basis.value q.call.value chain (named fr.table.now c.args.term) q.left q.right (whys_at fr c.args.whys.now) c.args.work.now c.in-Err.fault
-    (all_built_at (Err c.in-Err.fault) (setting_of s) (link_setting (background_in fr) (basis_of fr q.basis.value)) s.table.now fr.table.now chain.left.items q.left
-    c.side.ensures.setting c.side.ensures.table c.in-Err.ensures)
+    (all_built_from (Err c.in-Err.fault) (setting_of s) (link_setting (background_in fr) (basis_of fr q.basis.value)) s.table.now fr.table.now c.as_slice.result.now
+    chain.left.items q.left (c.side.ensures.setting ∙ ap (λ b. link_setting (background_in fr) (basis_of fr b)) c.deref.ensures) c.side.ensures.table
+    c.as_slice.ensures.value c.in-Err.ensures)
 
-pub returns-in-Err-2 : goal.returns-in-Err-2
-returns-in-Err-2 c =
+pub returns-in-Err-led_all : goal.returns-in-Err-led_all
+returns-in-Err-led_all c =
     let fr = c.args.self.now in
     let q = c.args.reason in
     let s1 = c.side.result in
     let s2 = c.side-2.result in
     let chain = c.args.chain.now in
     let S = link_setting (background_in fr) (basis_of fr q.basis.value) in
-    let left = all_built_at (Ok c.in-Ok.left) (setting_of s1) S s1.table.now fr.table.now chain.left.items q.left c.side.ensures.setting c.side.ensures.table c.in-Ok.ensures in
-    right_split_past fr q.basis.value q.call.value chain (named fr.table.now c.args.term) q.left q.right (whys_at fr c.args.whys.now) c.args.work.now c.in-Err-2.fault left.1
-    (all_built_at (Err c.in-Err-2.fault) (setting_of s2) S s2.table.now fr.table.now chain.right.items q.right c.side-2.ensures.setting c.side-2.ensures.table c.in-Err-2.ensures)
+    let left = all_built_from (Ok c.in-Ok.left) (setting_of s1) S s1.table.now fr.table.now c.as_slice.result.now chain.left.items q.left
+    (c.side.ensures.setting ∙ ap (λ x. link_setting (background_in fr) (basis_of fr x)) c.deref.ensures) c.side.ensures.table c.as_slice.ensures.value c.in-Ok.ensures in
+    right_split_past fr q.basis.value q.call.value chain (named fr.table.now c.args.term) q.left q.right (whys_at fr c.args.whys.now) c.args.work.now c.in-Err-led_all.fault left.1
+    (all_built_from (Err c.in-Err-led_all.fault) (setting_of s2) S s2.table.now fr.table.now c.as_slice-2.result.now chain.right.items q.right
+    (c.side-2.ensures.setting ∙ ap (λ x. link_setting (background_in fr) (basis_of fr x)) c.deref-2.ensures) c.side-2.ensures.table c.as_slice-2.ensures.value
+    c.in-Err-led_all.ensures)
 
 pub returns : goal.returns
 returns c =
@@ -50,9 +52,11 @@ returns c =
     let S = link_setting (background_in fr) (basis_of fr b) in
     let s1 = c.side.result in
     let s2 = c.side-2.result in
-    let left = all_built_at (Ok c.in-Ok.left) (setting_of s1) S s1.table.now fr.table.now chain.left.items q.left c.side.ensures.setting c.side.ensures.table c.in-Ok.ensures in
-    let right = all_built_at (Ok c.in-Ok-2.right) (setting_of s2) S s2.table.now fr.table.now chain.right.items q.right c.side-2.ensures.setting c.side-2.ensures.table
-    c.in-Ok-2.ensures in
+    let left = all_built_from (Ok c.in-Ok.left) (setting_of s1) S s1.table.now fr.table.now c.as_slice.result.now chain.left.items q.left
+    (c.side.ensures.setting ∙ ap (λ x. link_setting (background_in fr) (basis_of fr x)) c.deref.ensures) c.side.ensures.table c.as_slice.ensures.value c.in-Ok.ensures in
+    let right = all_built_from (Ok c.in-Ok-led_all.right) (setting_of s2) S s2.table.now fr.table.now c.as_slice-2.result.now chain.right.items q.right
+    (c.side-2.ensures.setting ∙ ap (λ x. link_setting (background_in fr) (basis_of fr x)) c.deref-2.ensures) c.side-2.ensures.table c.as_slice-2.ensures.value
+    c.in-Ok-led_all.ensures in
     let r : Reasons = record {
       call = c.in_ok-clone.field-0;
       basis = c.in_ok-clone-2.field-0;
@@ -61,7 +65,7 @@ returns c =
       all = c.constants-constants.result;
       constants = c.constants-constants.result;
       left = c.in-Ok.left;
-      right = c.in-Ok-2.right;
+      right = c.in-Ok-led_all.right;
     } in
     let t : c.in_ok-term.term ≡ v = c.in_ok-term.ensures in
     let ks = c.constants-constants.result.now in
