@@ -55,9 +55,18 @@ impl<'a> Frame<'a, '_> {
             (target_of self.now call.value.goal).history work.old) work.new result }
     {
         let target = call.goal;
-        let Some(number) = target.node else {
-            return Err(Halt::Stopped);
-        };
+        match target.node {
+            Some(number) => self.number_step(work, call, number),
+            None => Err(Halt::Stopped),
+        }
+    }
+
+    // The same by the number of its node.
+    fn number_step(&self, work: &mut Work<'a>, call: Rc<Call>, number: u32) -> Result<(), Halt>
+        ensures { Steps self.now (goal_stepped self.now call.value
+            (history_at self.now.table.now self.now.book.now.nodes.items number) work.old)
+            work.new result }
+    {
         let nodes = self.book.nodes.as_slice();
         match nodes.get(number as usize) {
             Some(node) => self.node_step(work, call, number, node),

@@ -42,7 +42,10 @@ impl<'a> Frame<'a, '_> {
         };
         let call = self.opening(target, &whole, held)?;
         let mut work = self.begun(call)?;
-        self.run(&mut work)?;
+        match self.run(&mut work) {
+            Ok(()) => (),
+            Err(halt) => return Err(halt),
+        }
         let Some(rows) = work.values.rows(self.alloc)? else {
             return Err(Halt::Stopped);
         };

@@ -47,7 +47,10 @@ impl<'a> Frame<'a, '_> {
     {
         let units = work.left;
         while let Some(task) = work.tasks.pop() {
-            self.step(work, task)?;
+            match self.step(work, task) {
+                Ok(()) => (),
+                Err(halt) => return Err(halt),
+            }
             if work.left < units {
                 return Ok(());
             }
@@ -62,7 +65,10 @@ impl<'a> Frame<'a, '_> {
         ensures halts { IfErr result (Halts (left_of self.now work.old)) }
     {
         while !work.tasks.is_empty() {
-            self.until_counted(work)?;
+            match self.until_counted(work) {
+                Ok(()) => (),
+                Err(halt) => return Err(halt),
+            }
         }
         Ok(())
     }

@@ -11,6 +11,7 @@ ghost use Rattle.circ_expand.specs.Expand.{expansion};
 ghost use Rattle.circ_expand.specs.Goals.{all_goals, FitGoal};
 ghost use Rattle.circ_expand.specs.Answers.{LeadsOnGoal};
 ghost use Rattle.circ_expand.specs.Machine.{worked_off};
+ghost use Rattle.circ_expand.specs.Book.{IsBook};
 ghost use Rattle.circ_expand.specs.Tasks.{WritesOut, AreFew};
 ghost use Rattle.circ_expand.specs.Rows.{plain_row, rows_of, unit_limit, IsWrittenOut};
 
@@ -86,5 +87,21 @@ fn written<'x>(
         book: &book,
         lists: proof.certificates.as_slice(),
     };
-    frame.write_out(goal, entries)
+    frame.write_proof(proof, goal, entries)
+}
+
+impl Frame<'_, '_> {
+    // The derivation from the proof whose table, special set, certificates and book these are.
+    fn write_proof(&self, proof: &Proof, goal: u32, entries: &[Entry]) -> Result<Vec<Row>, Halt>
+        requires table { self.now.table.now ≡ proof.now.table.items }
+        requires gamma { self.now.gamma.now ≡ proof.now.gamma }
+        requires lists { self.now.lists.now ≡ proof.now.certificates.items }
+        requires book { IsBook self.now.theory.now (plain_proof proof.now) self.now.book.now }
+        requires few { AreFew entries.now }
+        ensures { WritesOut (worked_off unit_limit self.now.theory.now (plain_proof proof.now) goal
+            (plain_entries entries.now)) result }
+    {
+        let _ = proof;
+        self.write_out(goal, entries)
+    }
 }

@@ -13,9 +13,9 @@ loop-task-preserved c =
     let w = c.loop-task.work in
     let p : Work = record w { tasks = c.pop.new.self } in
     let u = c.step.new.work in
-    let d = left_less fr w p u c.in-Some.task c.in-Some.ensures.items refl c.in_ok-step.ensures in
+    let d = left_less fr w p u c.in-Some.task c.in-Some.ensures.items refl c.in-Ok.ensures in
     record {
-      same = c.loop-task.invariant.same ∙ left_after fr w p u c.in-Some.task c.in-Some.ensures.items refl refl c.in_ok-step.ensures;
+      same = c.loop-task.invariant.same ∙ left_after fr w p u c.in-Some.task c.in-Some.ensures.items refl refl c.in-Ok.ensures;
       units = units_stay u.left w.left c.args.work.now.left (tasks_weight (jobs_of fr u)) (tasks_weight (jobs_of fr w)) d c.loop-task.invariant.units c.if-work-units.false;
       first = c.loop-task.invariant.first;
     }
@@ -26,7 +26,7 @@ loop-task-smaller c =
     let w = c.loop-task.work in
     let p : Work = record w { tasks = c.pop.new.self } in
     let u = c.step.new.work in
-    let d = left_less fr w p u c.in-Some.task c.in-Some.ensures.items refl c.in_ok-step.ensures in
+    let d = left_less fr w p u c.in-Some.task c.in-Some.ensures.items refl c.in-Ok.ensures in
     weight_falls u.left w.left c.args.work.now.left (tasks_weight (jobs_of fr u)) (tasks_weight (jobs_of fr w)) d c.loop-task.invariant.units c.if-work-units.false
 
 pub returns-then-work-units-clause-same : goal.returns-then-work-units-clause-same
@@ -34,7 +34,7 @@ returns-then-work-units-clause-same c =
     let fr = c.args.self.now in
     let w = c.loop-task.work in
     let p : Work = record w { tasks = c.pop.new.self } in
-    c.loop-task.invariant.same ∙ left_after fr w p c.step.new.work c.in-Some.task c.in-Some.ensures.items refl refl c.in_ok-step.ensures
+    c.loop-task.invariant.same ∙ left_after fr w p c.step.new.work c.in-Some.task c.in-Some.ensures.items refl refl c.in-Ok.ensures
 
 pub returns-then-work-units-clause-less : goal.returns-then-work-units-clause-less
 returns-then-work-units-clause-less c = inl (omega (arith, c.if-work-units.true, c.loop-task.invariant.first))
@@ -51,10 +51,10 @@ pub returns-clause-less : goal.returns-clause-less
 returns-clause-less c =
     inr (omega (arith, c.loop-task.invariant.units, c.loop-task.invariant.first), no_items c.pop.new.self.items (sym c.pop.new.self.ok.0 ∙ c.in_default.ensures.cases.1))
 
-pub returns-in_err-step-clause-halts : goal.returns-in_err-step-clause-halts
-returns-in_err-step-clause-halts c =
+pub returns-in-Err-clause-halts : goal.returns-in-Err-clause-halts
+returns-in-Err-clause-halts c =
     let fr = c.args.self.now in
     let w = c.loop-task.work in
     let p : Work = record w { tasks = c.pop.new.self } in
-    let P : Spending (List Value) → Type 0 = λ o. Halts o c.in_err-step.field-0 in
-    subst P (sym c.loop-task.invariant.same) (left_halts fr w p c.in-Some.task c.in_err-step.field-0 c.in-Some.ensures.items refl refl c.in_err-step.ensures)
+    let P : Spending (List Value) → Type 0 = λ o. Halts o c.in-Err.halt in
+    subst P (sym c.loop-task.invariant.same) (left_halts fr w p c.in-Some.task c.in-Err.halt c.in-Some.ensures.items refl refl c.in-Err.ensures)

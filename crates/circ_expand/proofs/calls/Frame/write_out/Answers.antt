@@ -22,8 +22,8 @@ returns-in-Err c =
     (ends_of_goal fr n cs (entries_of th c.as_slice.result.now) (target_of fr c.followed-target.result) (Err c.in-Err.fault)
     (ap (entries_of th) c.as_slice.ensures.value ∙ c.in_ok-held.ensures th) c.followed-target.ensures c.in-Err.ensures)
 
-pub returns-in_err-run : goal.returns-in_err-run
-returns-in_err-run c =
+pub returns-in-Err-run : goal.returns-in-Err-run
+returns-in-Err-run c =
     let fr = c.args.self.now in
     let th = fr.theory.now in
     let n = c.args.goal in
@@ -33,8 +33,8 @@ returns-in_err-run c =
     (ap (entries_of th) c.as_slice.ensures.value ∙ held) c.followed-target.ensures c.in-Ok.ensures in
     let opened = c.in_ok-call.ensures n c.followed-target.ensures (ends.0 ∙ ap (λ es. on (bare_entries es) (goal_in (followed_of fr n).history).left) (sym held))
     ∙ ap (opening_of fr n) held in
-    all_halted fr n cs unit_limit c.in_ok-work.work (call_of fr c.in_ok-call.call.value) c.in-Ok.whole c.in_err-run.field-0 ends c.in_ok-work.ensures.tasks
-    c.in_ok-work.ensures.values c.in_ok-work.ensures.units opened c.in_err-run.ensures.halts
+    all_halted fr n cs unit_limit c.in_ok-work.work (call_of fr c.in_ok-call.call.value) c.in-Ok.whole c.in-Err-run.halt ends c.in_ok-work.ensures.tasks
+    c.in_ok-work.ensures.values c.in_ok-work.ensures.units opened c.in-Err-run.ensures.halts
 
 pub returns : goal.returns
 returns c =
@@ -50,7 +50,7 @@ returns c =
     let last = values_of c.run.new.work.values in
     let P : Option (Vec Row) → Type 0 = λ o. IsLastRow last o in
     all_written fr n cs unit_limit c.in_ok-work.work (call_of fr c.in_ok-call.call.value) c.in-Ok.whole last c.run.new.work.left c.in-Some.rows ends
-    c.in_ok-work.ensures.tasks c.in_ok-work.ensures.values c.in_ok-work.ensures.units opened c.in_ok-run.ensures.done (subst P c.in-Some.is c.in_ok-rows.ensures)
+    c.in_ok-work.ensures.tasks c.in_ok-work.ensures.values c.in_ok-work.ensures.units opened c.in-Ok-run.ensures.done (subst P c.in-Some.is c.in_ok-rows.ensures)
 
 pub returns-in_default : goal.returns-in_default
 returns-in_default c =
@@ -66,4 +66,4 @@ returns-in_default c =
     let last = values_of c.run.new.work.values in
     let P : Option (Vec Row) → Type 0 = λ o. IsLastRow last o in
     all_stopped fr n cs unit_limit c.in_ok-work.work (call_of fr c.in_ok-call.call.value) c.in-Ok.whole last c.run.new.work.left ends
-    c.in_ok-work.ensures.tasks c.in_ok-work.ensures.values c.in_ok-work.ensures.units opened c.in_ok-run.ensures.done (subst P c.in_default.is c.in_ok-rows.ensures)
+    c.in_ok-work.ensures.tasks c.in_ok-work.ensures.values c.in_ok-work.ensures.units opened c.in-Ok-run.ensures.done (subst P c.in_default.is c.in_ok-rows.ensures)
