@@ -7,6 +7,7 @@ use Rattle.std.specs.Global.{Vec}
 use Rattle.circ_term.specs.Tree.{Tree, Var, sort_of}
 use Rattle.circ_term.specs.Limits.{Limit, first_limit, or_else, Names}
 use Rattle.circ_term.specs.declared.fault.TermFault.{TermFault}
+use Rattle.circ_term.specs.declared.fault.TermFault.TheVariants.{Memory}
 use Rattle.circ_theory.specs.Theory.{Theory}
 use Rattle.circ_theory.specs.Experiment.{Entry, on}
 use Rattle.circ_theory.specs.Observing.{is_parameter}
@@ -219,3 +220,7 @@ past_named (Yields a n) l e = absurd (cc)
 past_named Long l e = absurd (cc)
 past_named (Past k) l e = (let z : k ≡ l = same_Some k l e in ap Past z)
 past_named Stopped l e = absurd (cc)
+
+-- memory ran out
+pub memory_ends : (o : Spending Pieces) (r : Result (Vec Row) Halt) → (y : Halt) × (r ≡ Err y) × (y ≡ halt.Past Memory) → WritesOut o r
+memory_ends o r p = let P : Result (Vec Row) Halt → Type 0 = λ x. WritesOut o x in subst P (sym (p.1 ∙ ap Err p.2)) tt

@@ -1,5 +1,5 @@
 //! A derivation without hypotheses is written out from an accepted proof.
-ghost use Rattle.std.specs.Prelude.{◌≡◌, IfOk, Some, map};
+ghost use Rattle.std.specs.Prelude.{◌≡◌, IfOk, Some, Err, map};
 ghost use Rattle.std.specs.List.{slice_get};
 ghost use Rattle.circ_theory.specs.declared.parts.Goal.{Goal};
 ghost use Rattle.circ_proof.specs.Proof.{ProofFor, IsPlain};
@@ -7,12 +7,14 @@ ghost use Rattle.circ_proof.specs.PlainProof.{plain_proof};
 ghost use Rattle.circ_proof.specs.Accepted.{Accepted};
 ghost use Rattle.circ_entry.specs.Plain.{plain_entries};
 ghost use Rattle.circ_expand.specs.Pieces.{Pieces};
-ghost use Rattle.circ_expand.specs.Expand.{expansion};
+ghost use Rattle.circ_expand.specs.Expand.{Spending, expansion};
 ghost use Rattle.circ_expand.specs.Goals.{all_goals, FitGoal};
 ghost use Rattle.circ_expand.specs.Answers.{LeadsOnGoal};
 ghost use Rattle.circ_expand.specs.Machine.{worked_off};
 ghost use Rattle.circ_expand.specs.Book.{IsBook};
-ghost use Rattle.circ_expand.specs.Tasks.{WritesOut, AreFew};
+ghost use Rattle.circ_expand.specs.Tasks.{WritesOut, AreFew, Halts, past_of};
+ghost use Rattle.circ_expand.specs.declared.tasks.Halt.TheVariants.{Stopped};
+ghost use Rattle.circ_term.specs.Limits.{Names};
 ghost use Rattle.circ_expand.specs.Rows.{plain_row, rows_of, unit_limit, IsWrittenOut};
 
 use crate::calls::Frame;
@@ -49,11 +51,30 @@ pub fn expand(
     theory.known();
     match written(alloc, &*theory, &*proof, goal, entries) {
         Ok(rows) => Ok(rows),
-        Err(Halt::Long) => Err(ExpandFault::Long { units: 100_001 }),
-        Err(Halt::Past(TermFault::TooBig { nodes })) => Err(ExpandFault::TooBig { nodes }),
-        Err(Halt::Past(TermFault::TooDeep { depth })) => Err(ExpandFault::TooDeep { depth }),
-        Err(Halt::Past(TermFault::Memory)) => Err(ExpandFault::Memory),
-        Err(Halt::Stopped) => unreachable!(),
+        Err(halt) => Err(fault_of(halt)),
+    }
+}
+
+// The fault that the call answers. The work never stops for want of something that fits.
+fn fault_of(halt: Halt) -> ExpandFault
+    requires { halt ≡ Stopped → ⊥ }
+    ensures { (o : Spending Pieces) → Halts o halt → IsWrittenOut o (Err result) }
+{
+    match halt {
+        Halt::Long => ExpandFault::Long { units: 100_001 },
+        Halt::Past(fault) => past(fault),
+        Halt::Stopped => unreachable!(),
+    }
+}
+
+// A term is past a limit, or memory ran out.
+fn past(fault: TermFault) -> ExpandFault
+    ensures { (o : Spending Pieces) → Names fault (past_of o) → IsWrittenOut o (Err result) }
+{
+    match fault {
+        TermFault::TooBig { nodes } => ExpandFault::TooBig { nodes },
+        TermFault::TooDeep { depth } => ExpandFault::TooDeep { depth },
+        TermFault::Memory => ExpandFault::Memory,
     }
 }
 

@@ -1,4 +1,5 @@
 use Rattle.std.proofs.Common.{◌≡◌, Option, Some, None, Ok, Err, ap, sym, ◌∙◌, subst}
+use Rattle.std.proofs.lemmas.Result.{err_from_is_err_and}
 use Rattle.std.specs.Global.{Vec}
 use Rattle.circ_theory.specs.Experiment.{on}
 use Rattle.circ_entry.specs.Entries.{bare_entries, numbered_entries}
@@ -7,9 +8,9 @@ use Rattle.circ_expand.specs.Followed.{goal_in}
 use Rattle.circ_expand.specs.Rows.{unit_limit}
 use Rattle.circ_expand.specs.Uses.{entries_of}
 use Rattle.circ_expand.specs.Values.{values_of, IsLastRow}
-use Rattle.circ_expand.specs.Tasks.{call_of, target_of, followed_of, opening_of}
+use Rattle.circ_expand.specs.Tasks.{call_of, target_of, followed_of, opening_of, worked_in}
 use Rattle.circ_expand.specs.declared.rows.Row.{Row}
-use Rattle.circ_expand.proofs.Writings.{ends_of_goal, worked_past, all_written, all_stopped, all_halted}
+use Rattle.circ_expand.proofs.Writings.{ends_of_goal, worked_past, all_written, all_stopped, all_halted, memory_ends}
 use Rattle.circ_expand.proofs.calls.Frame.write_out.Goals as goal
 
 pub returns-in-Err : goal.returns-in-Err
@@ -67,3 +68,27 @@ returns-in_default c =
     let P : Option (Vec Row) → Type 0 = λ o. IsLastRow last o in
     all_stopped fr n cs unit_limit c.in_ok-work.work (call_of fr c.in_ok-call.call.value) c.in-Ok.whole last c.run.new.work.left ends
     c.in_ok-work.ensures.tasks c.in_ok-work.ensures.values c.in_ok-work.ensures.units opened c.in-Ok-run.ensures.done (subst P c.in_default.is c.in_ok-rows.ensures)
+
+pub returns-in_err-held : goal.returns-in_err-held
+returns-in_err-held c =
+    let fr = c.args.self.now in
+    memory_ends (worked_in fr c.args.goal (numbered_entries fr.theory.now (plain_entries c.args.entries.now)) unit_limit) c.from_residual.result
+    (err_from_is_err_and c.from_residual.result c.from_residual.ensures.1)
+
+pub returns-in_err-call : goal.returns-in_err-call
+returns-in_err-call c =
+    let fr = c.args.self.now in
+    memory_ends (worked_in fr c.args.goal (numbered_entries fr.theory.now (plain_entries c.args.entries.now)) unit_limit) c.from_residual-in_err-call.result
+    (err_from_is_err_and c.from_residual-in_err-call.result c.from_residual-in_err-call.ensures.1)
+
+pub returns-in_err-work : goal.returns-in_err-work
+returns-in_err-work c =
+    let fr = c.args.self.now in
+    memory_ends (worked_in fr c.args.goal (numbered_entries fr.theory.now (plain_entries c.args.entries.now)) unit_limit) c.from_residual-in_err-work.result
+    (err_from_is_err_and c.from_residual-in_err-work.result c.from_residual-in_err-work.ensures.1)
+
+pub returns-in_err-rows : goal.returns-in_err-rows
+returns-in_err-rows c =
+    let fr = c.args.self.now in
+    memory_ends (worked_in fr c.args.goal (numbered_entries fr.theory.now (plain_entries c.args.entries.now)) unit_limit) c.from_residual-in_err-rows.result
+    (err_from_is_err_and c.from_residual-in_err-rows.result c.from_residual-in_err-rows.ensures.1)
