@@ -62,7 +62,7 @@ other_below k b lt e = less (nat_lt k b) refl
     less true h = ltb-true k b h
     less false h = absurd (let y : k ≡ b = omega (arith, ltb-false k b h, lt) in let z = eq-eqb k b y in cc)
 
-descend : (table : List Tree) (ns : List Node) (b k : ℕ) → k < b → history_below table b ns k ≡ by_below table (history_below table k ns) (slice_get ns k)
+pub descend : (table : List Tree) (ns : List Node) (b k : ℕ) → k < b → history_below table b ns k ≡ by_below table (history_below table k ns) (slice_get ns k)
 descend table ns zero k lt = absurd (omega arith)
 descend table ns (suc b) k lt = go (k == b) refl (λ h. descend table ns b k h)
   where

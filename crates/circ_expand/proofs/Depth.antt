@@ -238,12 +238,13 @@ module _ (f : Background) (run ran : Expander) (k : ℕ) (same : AreAlike run ra
       let G : Pieces → ℕ → Spending Pieces = λ ys i. and_pieces ys (occurrences_written ran f c xs b last ps v i) in
       let L : ℕ → Spending Pieces = λ m. continued (occurrence_use run f x d m) F in
       let R : ℕ → Spending Pieces = λ m. continued (occurrence_use ran f x d m) G in
-      alike_all_tested n (whole_with c here ∷ []) (counted n (λ m. tested (whole_with c v) (L m))) (counted n (λ m. tested (whole_with c v) (R m)))
-      (alike_counted n (λ m. tested (whole_with c v) (L m)) (λ m. tested (whole_with c v) (R m)) (λ j lt.
-      alike_tested j (whole_with c v) (L j) (R j)
+      alike_all_tested n (here ∷ whole_with c here ∷ []) (counted n (λ m. tested v (tested (whole_with c v) (L m))))
+      (counted n (λ m. tested v (tested (whole_with c v) (R m))))
+      (alike_counted n (λ m. tested v (tested (whole_with c v) (L m))) (λ m. tested v (tested (whole_with c v) (R m))) (λ j lt.
+      alike_tested j v (tested (whole_with c v) (L j)) (tested (whole_with c v) (R j)) (alike_tested j (whole_with c v) (L j) (R j)
       (alike_on j (occurrence_use run f x d j) (occurrence_use ran f x d j) F G (occurrence_alike x d j (omega (arith, lt, le))) (λ ys i li.
       alike_pieces ys i (occurrences_written run f c xs b last ps v i) (occurrences_written ran f c xs b last ps v i)
-      (occurrences_alike c xs b last ps v i (omega (arith, li, lt, le)))))))
+      (occurrences_alike c xs b last ps v i (omega (arith, li, lt, le))))))))
 
   through_alike : (c : Call) (g : Place) (s : ℕ) (ts : Trees) (xs : List Layer) (cs : List Numbered) (n : ℕ) → n ≤ k
       → Alike n (through_place run f c g s ts xs cs n) (through_place ran f c g s ts xs cs n)
@@ -284,7 +285,9 @@ module _ (f : Background) (run ran : Expander) (k : ℕ) (same : AreAlike run ra
   ly_alike c (At_place g s i ts ∷ xs) n le = through_alike c (place g i) s ts xs c.entries n le
 
   pub single_alike : (c : Call) (n : ℕ) → n ≤ k → Alike n (single_use run f c n) (single_use ran f c n)
-  single_alike c n le = go c.along
+  single_alike c n le =
+      alike_tested n c.whole (option_map_or (λ xs. ly run f c xs n) c.along (ex run f c c.goal.history c.entries n))
+      (option_map_or (λ xs. ly ran f c xs n) c.along (ex ran f c c.goal.history c.entries n)) (go c.along)
     where
       go : (o : Option (List Layer)) → Alike n (option_map_or (λ xs. ly run f c xs n) o (ex run f c c.goal.history c.entries n))
           (option_map_or (λ xs. ly ran f c xs n) o (ex ran f c c.goal.history c.entries n))

@@ -175,10 +175,10 @@ module _ (run : Expander) (f : Background) where
       let u : Tree = put_or_same here p b in
       let next : ℕ → Spending Pending = λ m. case_step run f k (occurrence_call run f c xs here p k) (Put_behind Forth ∷ Occurrences c xs b last ps u ∷ js)
       (In_row v ∷ vs) m in
-      all_tested_down n (1 + tasks_weight js) (whole_with c here ∷ []) (counted n (λ m. tested (whole_with c u) (next m)))
-      (counted_down n (1 + tasks_weight js) (λ m. tested (whole_with c u) (next m)) (λ m.
-      tested_keeps m (whole_with c u) (next m) (case_keeps k (occurrence_call run f c xs here p k) (Put_behind Forth ∷ Occurrences c xs b last ps u ∷ js)
-      (In_row v ∷ vs) m)))
+      all_tested_down n (1 + tasks_weight js) (here ∷ whole_with c here ∷ []) (counted n (λ m. tested u (tested (whole_with c u) (next m))))
+      (counted_down n (1 + tasks_weight js) (λ m. tested u (tested (whole_with c u) (next m))) (λ m.
+      tested_keeps m u (tested (whole_with c u) (next m)) (tested_keeps m (whole_with c u) (next m) (case_keeps k (occurrence_call run f c xs here p k) (Put_behind Forth ∷ Occurrences c xs b last ps u ∷ js)
+      (In_row v ∷ vs) m))))
 
   behind_keeps : (way : Way) (vs us : List Value) (n m : ℕ) → put_behind run f way vs n ≡ Yields us m → m ≡ n
   behind_keeps way (In_row x ∷ In_row v ∷ vs) us n m e = cc
@@ -215,7 +215,8 @@ module _ (run : Expander) (f : Background) where
   step_down (Give_reason c b w s t) js vs n = reason_down c b w s t js vs n
   step_down (Give_reasons c b ws v l ks s t) js vs n = reasons_down c b ws v l ks s t js vs n
   step_down (Begin_use c) js vs n = counted_down n (1 + tasks_weight js) (λ m. Yields (pending (Enter_use c ∷ js) vs) m) (λ k. refl)
-  step_down (Enter_use c) js vs n = use_down c c.along js vs n
+  step_down (Enter_use c) js vs n =
+      tested_down n (tasks_weight (Enter_use c ∷ js)) c.whole (use_step run f c c.along js vs n) (use_down c c.along js vs n)
   step_down (Occurrences c xs b last ps here) js [] n = tt
   step_down (Occurrences c xs b last ps here) js (In_parts qs ∷ vs) n = tt
   step_down (Occurrences c xs b last ps here) js (In_row v ∷ vs) n = occurrences_down c xs b last ps here js v vs n

@@ -11,11 +11,11 @@ use Rattle.circ_term.proofs.Paths.{walk_none}
 use Rattle.circ_expand.specs.Followed.{put_or_same}
 use Rattle.circ_expand.proofs.Putting.{put_there}
 
-first_none : (a b : Option Limit) → or_else a b ≡ None → a ≡ None
+pub first_none : (a b : Option Limit) → or_else a b ≡ None → a ≡ None
 first_none None b e = refl
 first_none (Some l) b e = absurd (cc)
 
-second_none : (a b : Option Limit) → or_else a b ≡ None → b ≡ None
+pub second_none : (a b : Option Limit) → or_else a b ≡ None → b ≡ None
 second_none None b e = e
 second_none (Some l) b e = absurd (cc)
 

@@ -23,12 +23,12 @@ from_next : (bs : List Block) (i n : ℕ) (b : Block) → i < length bs → b �
 from_next bs i n b lt is =
     ap (λ ds. slice_get (all_goals (map plain_block ds)) n) (drop_more bs i b lt ∙ ap (λ y. y ∷ drop (i + 1) bs) (sym is))
 
-got : {X : Type 0} (xs : List X) (n : ℕ) (x : X) → n < length xs → x ≡ get_or xs n x → slice_get xs n ≡ Some x
+pub got : {X : Type 0} (xs : List X) (n : ℕ) (x : X) → n < length xs → x ≡ get_or xs n x → slice_get xs n ≡ Some x
 got [] n x l e = absurd (omega (arith, l))
 got (y ∷ ys) zero x l e = ap Some (sym e)
 got (y ∷ ys) (suc n) x l e = got ys n x (omega (arith, l)) e
 
-got_none : {X : Type 0} (xs : List X) (n : ℕ) → length xs ≤ n → slice_get xs n ≡ None
+pub got_none : {X : Type 0} (xs : List X) (n : ℕ) → length xs ≤ n → slice_get xs n ≡ None
 got_none [] n l = refl
 got_none (y ∷ ys) zero l = absurd (omega (arith, l))
 got_none (y ∷ ys) (suc n) l = got_none ys n (omega (arith, l))

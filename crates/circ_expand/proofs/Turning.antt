@@ -40,7 +40,7 @@ module _ (f : Background) (fr : IsBackground f) (run : Expander) (depth : ℕ) (
       let rest : Tree → Pieces → ℕ → Spending Pieces = λ y ys k. and_pieces ys (occurrences_written run f c xs b last ps y k) in
       let k : Case = guard_case th f.places last p in
       let step : ℕ → Spending Pieces = λ j. occurrence_use run f k (occurrence_call run f c xs u p k) j in
-      let F : Tree → ℕ → Spending Pieces = λ y j. tested (whole_with c y) (continued (step j) (rest y)) in
+      let F : Tree → ℕ → Spending Pieces = λ y j. tested y (tested (whole_with c y) (continued (step j) (rest y))) in
       let G : Tree → Type 0 = λ y. Goes S n (counted n (F y)) in
       let wu = at_sorted th (base c) (whole_with c u) u eu.well_sorted (whole_there f c x st u) in
       let a = iσ 0 s hs in
@@ -48,13 +48,14 @@ module _ (f : Background) (fr : IsBackground f) (run : Expander) (depth : ℕ) (
       let kept = replaced_sorted th p u (σ 0 s) (τ 0 s) v wu ch.old (record { well_sorted = z.1; same_sort = z.0 ∙ sym a.0 }) ch.new in
       let whole = whole_sorted f c x st u v eu.well_sorted kept.well_sorted kept.same_sort in
       let is_case = case_holds th fr.well_formed f.places last s p (guarded p ch.variable) in
-      goes_all_tested S n (whole_with c u ∷ []) (counted n (F (put_or_same u p b)))
+      goes_all_tested S n (u ∷ whole_with c u ∷ []) (counted n (F (put_or_same u p b)))
       (subst G (sym first_is)
       (goes_counted S n (F v) (λ j lt.
+      goes_tested S j v (tested (whole_with c v) (continued (step j) (rest v))) (λ alone.
       goes_tested S j (whole_with c v) (continued (step j) (rest v)) (λ h.
       let ev : IsEnd th (whole_with c v) = record { well_sorted = whole; within = h } in
       goes_on W S j (step j) (rest v)
       (occurrence_leads f fr run depth so c x st fo u v su eu ev xs it σ τ iσ iτ s ea eb last wl p ch k is_case j (omega (arith, lt, le)))
       (λ ys i li lead.
       some_more f fr c st.assumptions ys u v w eu lead i (occurrences_written run f c xs b last ps v i)
-      (λ e. occurrences_lead ps v w mv.2 e (kept.same_sort ∙ su) i (omega (arith, li, lt, le))))))))
+      (λ e. occurrences_lead ps v w mv.2 e (kept.same_sort ∙ su) i (omega (arith, li, lt, le)))))))))

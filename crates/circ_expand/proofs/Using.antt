@@ -17,7 +17,7 @@ use Rattle.circ_expand.specs.Followed.{goal_in, Followed}
 use Rattle.circ_expand.specs.Pieces.{Pieces, PiecesLead}
 use Rattle.circ_expand.specs.Expand.{hole_path, Layer, At_place, By_entry, layered, Background, Call, Expander, base, ex, ly, single_use, uses}
 use Rattle.circ_expand.proofs.Derives.{pieces_follow}
-use Rattle.circ_expand.proofs.Going.{Goes, goes_counted}
+use Rattle.circ_expand.proofs.Going.{Goes, goes_counted, goes_tested}
 use Rattle.circ_expand.proofs.Lifting.{AreNumbered, derived_there}
 use Rattle.circ_expand.proofs.Standing.{IsFollowed, IsBackground, end_of, IsEnd, Stands, IsCall, IsSound, base_there, whole_on}
 use Rattle.circ_expand.proofs.Exing.{ex_leads}
@@ -89,7 +89,9 @@ module _ (f : Background) (fr : IsBackground f) (run : Expander) (depth : ℕ) (
 
   pub one_use_sound : (c : Call) (n : ℕ) → n ≤ depth → IsCall f c
       → Goes (λ xs. PiecesLead f.theory c.assumptions xs c.whole (end_of c)) n (single_use run f c n)
-  one_use_sound c n le ic = go c.along refl
+  one_use_sound c n le ic =
+      goes_tested (λ xs. PiecesLead f.theory c.assumptions xs c.whole (end_of c)) n c.whole
+      (option_map_or (λ ys. ly run f c ys n) c.along (ex run f c c.goal.history c.entries n)) (λ h. go c.along refl)
     where
       W : Option (List Layer) → Type 0
       W o = Goes (λ xs. PiecesLead f.theory c.assumptions xs c.whole (end_of (along c o))) n

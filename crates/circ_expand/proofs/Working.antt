@@ -292,9 +292,9 @@ module _ (run : Expander) (f : Background) where
       let more : List Task = Put_behind Forth ∷ Occurrences c xs b last ps u ∷ js in
       let L : ℕ → Spending Pieces = λ m. continued (occurrence_use run f x d m) F in
       let N : ℕ → Spending Pending = λ m. case_step run f x d more (In_row v ∷ vs) m in
-      all_tested_same (whole_with c here ∷ []) (counted n (λ m. tested (whole_with c u) (L m))) (counted n (λ m. tested (whole_with c u) (N m)))
-      (with_more js v vs) rest_of
-      (link_same n [] (whole_with c u) L N (with_more js v vs) rest_of (λ k.
+      all_tested_same (here ∷ whole_with c here ∷ []) (counted n (λ m. tested u (tested (whole_with c u) (L m))))
+      (counted n (λ m. tested u (tested (whole_with c u) (N m)))) (with_more js v vs) rest_of
+      (link_same n (u ∷ []) (whole_with c u) L N (with_more js v vs) rest_of (λ k.
       continued_twice (occurrence_use run f x d k) F (with_more js v vs)
       ∙ continued_same (occurrence_use run f x d k) (λ ys i. continued (F ys i) (with_more js v vs))
       (λ ys i. all_done run f (Occurrences c xs b last ps u ∷ js) (In_row (pieces_joined v ys) ∷ vs) i)
@@ -359,7 +359,10 @@ module _ (run : Expander) (f : Background) where
   step_right fx (Begin_use c) js vs n =
       counted_same n (λ m. with_row run f vs (run c m)) (λ m. Yields (pending (Enter_use c ∷ js) vs) m) (all_done run f js) rest_of (λ k. refl)
   step_right fx (Enter_use c) js vs n =
-      row_then js vs (run c n) ∙ ap (λ o. continued o (λ xs m. all_done run f js (In_row xs ∷ vs) m)) (fx c n) ∙ use_right c c.along js vs n
+      let D : Pieces → ℕ → Spending (List Value) = λ xs m. all_done run f js (In_row xs ∷ vs) m in
+      row_then js vs (run c n) ∙ ap (λ o. continued o D) (fx c n)
+      ∙ tested_same c.whole (option_map_or (λ xs. ly run f c xs n) c.along (ex run f c c.goal.history c.entries n))
+      (use_step run f c c.along js vs n) D rest_of (use_right c c.along js vs n)
   step_right fx (Occurrences c xs b last ps here) js [] n = refl
   step_right fx (Occurrences c xs b last ps here) js (In_parts qs ∷ vs) n = refl
   step_right fx (Occurrences c xs b last ps here) js (In_row v ∷ vs) n =

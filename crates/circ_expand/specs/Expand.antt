@@ -392,10 +392,10 @@ module _ (run : Expander) (f : Background) where
   abbrev pub occurrences_written : Call → List Layer → (b last : Tree) → List (List ℕ) → (here : Tree) → ℕ → Spending Pieces
   occurrences_written c xs b last [] here n = Yields no_piece n
   occurrences_written c xs b last (p ∷ ps) here n =
-      all_tested (whole_with c here ∷ [])
-      (counted n (λ m. tested (whole_with c (put_or_same here p b))
+      all_tested (here ∷ whole_with c here ∷ [])
+      (counted n (λ m. tested (put_or_same here p b) (tested (whole_with c (put_or_same here p b))
       (continued (occurrence_use (guard_case f.theory f.places last p) (occurrence_call c xs here p (guard_case f.theory f.places last p)) m)
-      (λ ys k. and_pieces ys (occurrences_written c xs b last ps (put_or_same here p b) k)))))
+      (λ ys k. and_pieces ys (occurrences_written c xs b last ps (put_or_same here p b) k))))))
 
   -- the derivative of the entry on the operator with this term at the place
   abbrev pub derived_place : Place → (sort : ℕ) → Trees → Entry → Tree → Tree
@@ -445,8 +445,9 @@ module _ (run : Expander) (f : Background) where
   ly c (By_entry e ∷ xs) n = counted n (run (record c { entries = e ∷ c.entries; along = Some xs }))
   ly c (At_place g s i ts ∷ xs) n = through_place c (place g i) s ts xs c.entries n
 
+  -- the whole term is tested, and then it is Ex or Ly
   abbrev pub single_use : Call → ℕ → Spending Pieces
-  single_use c n = option_map_or (λ xs. ly c xs n) c.along (ex run f c c.goal.history c.entries n)
+  single_use c n = tested c.whole (option_map_or (λ xs. ly c xs n) c.along (ex run f c c.goal.history c.entries n))
 
 -- so many uses stand inside one another at most
 abbrev pub uses : (depth : ℕ) → Background → Expander

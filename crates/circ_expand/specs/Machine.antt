@@ -221,16 +221,16 @@ module _ (run : Expander) (f : Background) where
   occurrences_step c xs b last (p ∷ ps) here js v vs n =
       let k = guard_case f.theory f.places last p in
       let u = put_or_same here p b in
-      all_tested (whole_with c here ∷ [])
-      (counted n (λ m. tested (whole_with c u)
-      (case_step k (occurrence_call run f c xs here p k) (Put_behind Forth ∷ Occurrences c xs b last ps u ∷ js) (In_row v ∷ vs) m)))
+      all_tested (here ∷ whole_with c here ∷ [])
+      (counted n (λ m. tested u (tested (whole_with c u)
+      (case_step k (occurrence_call run f c xs here p k) (Put_behind Forth ∷ Occurrences c xs b last ps u ∷ js) (In_row v ∷ vs) m))))
 
   abbrev pub task_step : Task → List Task → List Value → ℕ → Spending Pending
   task_step (Links c b ls t) js vs n = on_row vs (λ v us. links_step c b ls t js v us n)
   task_step (Give_reason c b why s t) js vs n = reason_step c b why s t js vs n
   task_step (Give_reasons c b ws v l ks s t) js vs n = reasons_step c b ws v l ks s t js vs n
   task_step (Begin_use c) js vs n = counted n (λ m. Yields (pending (Enter_use c ∷ js) vs) m)
-  task_step (Enter_use c) js vs n = use_step c c.along js vs n
+  task_step (Enter_use c) js vs n = tested c.whole (use_step c c.along js vs n)
   task_step (Occurrences c xs b last ps here) js vs n = on_row vs (λ v us. occurrences_step c xs b last ps here js v us n)
   task_step Empty_row js vs n = Yields (pending js (In_row no_piece ∷ vs)) n
   task_step (Put_behind way) js vs n = with_values js (put_behind way vs n)

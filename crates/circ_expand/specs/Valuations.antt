@@ -4,10 +4,9 @@ use Rattle.std.specs.Option.{option_or}
 use Rattle.circ_term.specs.Tree.{Tree}
 use Rattle.circ_term.specs.Substitution.{Substitution}
 use Rattle.circ_term.specs.Subst.{Bound, found, substitution_of}
-use Rattle.circ_theory.specs.Theory.{Theory}
+use Rattle.circ_theory.specs.Observing.{derivative_with}
 use Rattle.circ_theory.specs.Variables.{Variable as TheVariable}
 use Rattle.circ_match.specs.Matcher.{has_variable}
-use Rattle.circ_entry.specs.Entries.{derivative_at}
 use Rattle.circ_expand.specs.Expand.{extended}
 use Rattle.circ_expand.specs.declared.valuation.Variable.{Variable}
 use Rattle.circ_expand.specs.declared.valuation.Valuation.{Valuation}
@@ -34,25 +33,21 @@ abbrev pub variable_of : Variable → TheVariable
 variable_of v = record { number = v.number; sort = v.sort }
 
 -- the parameters of derivatives before a substitution, the last ones first
-abbrev pub with_overs : Theory → Substitution → List Over → Substitution
-with_overs th σ [] = σ
-with_overs th σ (o ∷ os) = with_overs th (extended (derivative_at th o.derivative) o.first σ (valued_by o.params.value)) os
+abbrev pub with_overs : Substitution → List Over → Substitution
+with_overs σ [] = σ
+with_overs σ (o ∷ os) = with_overs (extended (derivative_with 0 o.body) o.first σ (valued_by o.params.value)) os
 
 -- the parameter that a variable is, if it is one
-abbrev pub over_number : Theory → Over → (number sort : ℕ) → Option ℕ
-over_number th o n s =
-    if not (nat_lt n o.first) && has_variable (derivative_at th o.derivative).body (suc (n - o.first)) s then Some (suc (n - o.first)) else None
+abbrev pub over_number : Over → (number sort : ℕ) → Option ℕ
+over_number o n s = if not (nat_lt n o.first) && has_variable o.body (suc (n - o.first)) s then Some (suc (n - o.first)) else None
 
-abbrev pub kept_by : By → Substitution
-kept_by b = with_overs b.theory.now (valued_by b.base.value) b.overs.items
+abbrev pub by_of : By → Substitution
+by_of b = with_overs (valued_by b.base.value) b.overs.items
 
 -- with a term for a hole before it
 abbrev pub plugged_by : Option Plugged → Substitution → Substitution
 plugged_by None σ = σ
 plugged_by (Some p) σ = plug p.hole p.term σ
-
-abbrev pub by_of : By → Substitution
-by_of b = plugged_by b.plugged (kept_by b)
 
 -- a variable with what a substitution gives it
 abbrev pub bound_by : Substitution → TheVariable → Bound

@@ -14,7 +14,7 @@ use std::alloc::{AllocError, Global};
 // The variables of both terms, by number, then sort, with what the substitution gives them.
 pub(crate) fn bounds_of(
     alloc: Global,
-    by: &By<'_>,
+    by: &By,
     old: &Term,
     new: &Term,
 ) -> Result<Vec<Given>, AllocError>
@@ -32,7 +32,7 @@ pub(crate) fn bounds_of(
 }
 
 // One variable with what the substitution gives it.
-fn bound(by: &By<'_>, variable: &Variable) -> Result<Given, AllocError>
+fn bound(by: &By, variable: &Variable) -> Result<Given, AllocError>
     ensures { IfOk result (λ g. given_bound g ≡
         bound_by (by_of by.now) (variable_of variable.now)) }
 {

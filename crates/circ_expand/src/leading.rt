@@ -22,17 +22,17 @@ use std::alloc::Global;
 // What the links of a side are read against: the hypotheses at the end of a block, if there are
 // some, and the proof's own assumptions.
 #[derive(Clone, Copy)]
-pub(crate) struct Side<'a> {
+pub(crate) struct Side<'a, 'b> {
     pub(crate) alloc: Global,
     pub(crate) theory: &'a Theory,
     pub(crate) gamma: &'a Gamma,
     pub(crate) table: &'a [Term],
-    pub(crate) book: &'a Book<'a>,
+    pub(crate) book: &'a Book<'b>,
     pub(crate) block: Option<u32>,
     pub(crate) assumptions: &'a [Pair],
 }
 
-impl Side<'_> {
+impl Side<'_, '_> {
     // The term to which the link leads.
     pub(crate) fn led(&self, link: &Link, term: &Term) -> Result<Term, TermFault>
         ensures { BuildsLast result
@@ -88,7 +88,7 @@ impl Side<'_> {
             } => {
                 let terms = all_named(self.alloc, self.table, terms.as_slice())?;
                 let goal = self.hypothesis(*number);
-                by_hypothesis(self.alloc, self.theory, goal, *way, terms.as_slice())
+                by_hypothesis(self.alloc, goal, *way, terms.as_slice())
             }
             Link::Assumption { number, way, .. } => {
                 let new = by_assumption(self.assumptions, *number, *way)?;

@@ -53,7 +53,6 @@ pub(crate) fn by_equation(
     match theory.equation(number) {
         Some(equation) => other_side(
             alloc,
-            theory,
             &equation.left,
             &equation.right,
             equation.conds.as_slice(),
@@ -62,7 +61,7 @@ pub(crate) fn by_equation(
         ),
         None => {
             let nothing = Term::var(0, 0);
-            other_side(alloc, theory, &nothing, &nothing, &[], way, terms)
+            other_side(alloc, &nothing, &nothing, &[], way, terms)
         }
     }
 }
@@ -70,7 +69,6 @@ pub(crate) fn by_equation(
 // What a hypothesis puts at its path.
 pub(crate) fn by_hypothesis(
     alloc: Global,
-    theory: &Theory,
     goal: Option<&Goal>,
     way: Way,
     terms: &[Term],
@@ -82,7 +80,6 @@ pub(crate) fn by_hypothesis(
     match goal {
         Some(goal) => other_side(
             alloc,
-            theory,
             &goal.left,
             &goal.right,
             goal.conds.as_slice(),
@@ -91,7 +88,7 @@ pub(crate) fn by_hypothesis(
         ),
         None => {
             let nothing = Term::var(0, 0);
-            other_side(alloc, theory, &nothing, &nothing, &[], way, terms)
+            other_side(alloc, &nothing, &nothing, &[], way, terms)
         }
     }
 }
@@ -110,7 +107,6 @@ pub(crate) fn by_assumption(assumptions: &[Pair], number: u32, way: Way) -> Resu
 // The side of a goal that replaces the other, with the terms for its variables.
 pub(crate) fn other_side(
     alloc: Global,
-    theory: &Theory,
     left: &Term,
     right: &Term,
     conds: &[Pair],
@@ -123,7 +119,7 @@ pub(crate) fn other_side(
 {
     let variables = variables_of(alloc, left, right, conds)?;
     let values = given(alloc, &variables, terms)?;
-    let by = By::of(alloc, theory, values)?;
+    let by = By::of(alloc, values)?;
     by.apply(alloc, to_side(way, left, right))
 }
 

@@ -95,7 +95,7 @@ pub(crate) fn around(
     alloc: Global,
     whole: &Term,
     path: &[u16],
-    by: &By<'_>,
+    by: &By,
     term: &Term,
 ) -> Result<Term, TermFault>
     ensures { Builds result (put_or_same whole.now path.now (instance (by_of by.now) term.now)) }
@@ -255,13 +255,12 @@ fn derived(alloc: Global, theory: &Theory, held: &Held, term: &Term) -> Result<T
         return Ok(term.share()?);
     };
     let by = By {
-        theory,
         base: held.params.clone()?,
         overs: Vec::new(alloc),
-        plugged: Some(Plugged {
-            hole,
-            term: term.share()?,
-        }),
     };
-    by.apply(alloc, body)
+    let plugged = Some(Plugged {
+        hole,
+        term: term.share()?,
+    });
+    by.apply_with(alloc, &plugged, body)
 }

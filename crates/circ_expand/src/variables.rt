@@ -1,15 +1,17 @@
 //! The variables of terms in order, and terms for them.
-ghost use Rattle.std.specs.Prelude.{◌≡◌, ℕ, IfOk, OnOk, map};
+ghost use Rattle.std.specs.Prelude.{◌≡◌, ℕ, IfOk, OnOk, map, unwrap_or};
+ghost use Rattle.std.specs.Option.{option_copied};
 ghost use Rattle.circ_term.specs.Tree.{trees_of};
 ghost use Rattle.circ_theory.specs.Theory.{goal};
 ghost use Rattle.circ_theory.specs.Variables.{given, sorted, variables_of};
 ghost use Rattle.circ_theory.specs.Pairs.{plain_pair};
 ghost use Rattle.circ_replay.specs.Gathering.{gathered, gathered_all, gathered_pairs};
+ghost use Rattle.circ_expand.specs.Followed.{no_goal};
 ghost use Rattle.circ_expand.specs.Valuations.{variable_of, valued_by};
 
 use crate::valuation::{Valuation, Variable};
 use circ_term::{Kind, Term};
-use circ_theory::Pair;
+use circ_theory::{Goal, Pair};
 use std::alloc::{AllocError, Global};
 use std::collections::BTreeSet;
 
@@ -40,6 +42,23 @@ fn gather_pairs(pairs: &[Pair], variables: &mut BTreeSet<Variable>) -> Result<()
         gather(&pair.right, variables)?;
     }
     Ok(())
+}
+
+// The variables of a goal, or none where there is no goal.
+pub(crate) fn variables_in(
+    alloc: Global,
+    goal: Option<&Goal>,
+) -> Result<BTreeSet<Variable>, AllocError>
+    ensures { IfOk result (λ s. map variable_of s.keys ≡
+        sorted (variables_of (unwrap_or (option_copied goal.entry) no_goal))) }
+{
+    match goal {
+        Some(goal) => variables_of(alloc, &goal.left, &goal.right, goal.conds.as_slice()),
+        None => {
+            let nothing = Term::var(0, 0);
+            variables_of(alloc, &nothing, &nothing, &[])
+        }
+    }
 }
 
 // Adds the variables of the term.

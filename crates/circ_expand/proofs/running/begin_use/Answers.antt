@@ -1,0 +1,13 @@
+use Rattle.std.proofs.Common.{refl, arith, ◌-◌}
+use Rattle.circ_expand.specs.Tasks.{call_of, background_in}
+use Rattle.circ_expand.specs.declared.tasks.Task.TheVariants as task
+use Rattle.circ_expand.specs.declared.tasks.Work.{Work}
+use Rattle.circ_expand.proofs.Stepping.{use_begun}
+use Rattle.circ_expand.proofs.running.begin_use.Goals as goal
+
+pub returns : goal.returns
+returns c = λ fr.
+    let w = c.args.work.now in
+    let new : Work = record w { tasks = c.push.new.self; left = w.left - 1 } in
+    use_begun fr (background_in fr) w new (task.EnterUse c.args.call) (call_of fr c.args.call.value) (λ js. refl) (omega (arith, c.if-work-eq0.false))
+    c.in_ok-push.ensures.items refl

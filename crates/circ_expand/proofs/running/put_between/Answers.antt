@@ -1,0 +1,24 @@
+use Rattle.std.proofs.Common.{Bool, true, false, refl, ap, subst}
+use Rattle.circ_expand.specs.Machine.{all_uses, put_between}
+use Rattle.circ_expand.specs.Values.{values_of, Makes}
+use Rattle.circ_expand.specs.Tasks.{background_in, jobs_of}
+use Rattle.circ_expand.specs.Expand.{Spending, Yields, continued}
+use Rattle.circ_expand.specs.Machine.{pending}
+use Rattle.circ_expand.specs.declared.tasks.Work.{Work}
+use Rattle.circ_expand.proofs.Stepping.{values_put}
+use Rattle.circ_expand.proofs.running.put_between.Goals as goal
+
+pub returns-then-branch : goal.returns-then-branch
+returns-then-branch c = λ fr.
+    let w = c.args.work.now in
+    let new : Work = record w { values = c.put_between.new.self } in
+    let P : Bool → Type 0 = λ b. Makes b (values_of new.values) (put_between (all_uses (background_in fr)) (background_in fr) (values_of w.values) w.left) w.left in
+    values_put fr w new (put_between (all_uses (background_in fr)) (background_in fr) (values_of w.values) w.left)
+    (subst P c.if-branch.true (c.in_ok-put_between.ensures (all_uses (background_in fr)) (background_in fr) w.left)) refl
+
+pub returns : goal.returns
+returns c = λ fr.
+    let w = c.args.work.now in
+    let P : Bool → Type 0 = λ b. Makes b (values_of c.put_between.new.self) (put_between (all_uses (background_in fr)) (background_in fr) (values_of w.values) w.left) w.left in
+    ap (λ o. continued o (λ vs n. Yields (pending (jobs_of fr w) vs) n))
+    (subst P c.if-branch.false (c.in_ok-put_between.ensures (all_uses (background_in fr)) (background_in fr) w.left))

@@ -1,0 +1,128 @@
+//! A derivation without hypotheses is written out from an accepted proof.
+ghost use Rattle.std.specs.Prelude.{◌≡◌, IfOk, Some, Err, map};
+ghost use Rattle.std.specs.List.{slice_get};
+ghost use Rattle.circ_theory.specs.declared.parts.Goal.{Goal};
+ghost use Rattle.circ_proof.specs.Proof.{ProofFor, IsPlain};
+ghost use Rattle.circ_proof.specs.PlainProof.{plain_proof};
+ghost use Rattle.circ_proof.specs.Accepted.{Accepted};
+ghost use Rattle.circ_entry.specs.Plain.{plain_entries};
+ghost use Rattle.circ_expand.specs.Pieces.{Pieces};
+ghost use Rattle.circ_expand.specs.Expand.{Spending, expansion};
+ghost use Rattle.circ_expand.specs.Goals.{all_goals, FitGoal};
+ghost use Rattle.circ_expand.specs.Answers.{LeadsOnGoal};
+ghost use Rattle.circ_expand.specs.Machine.{worked_off};
+ghost use Rattle.circ_expand.specs.Book.{IsBook};
+ghost use Rattle.circ_expand.specs.Tasks.{WritesOut, AreFew, Halts, past_of};
+ghost use Rattle.circ_expand.specs.declared.tasks.Halt.TheVariants.{Stopped};
+ghost use Rattle.circ_term.specs.Limits.{Names};
+ghost use Rattle.circ_expand.specs.Rows.{plain_row, rows_of, unit_limit, IsWrittenOut};
+
+use crate::calls::Frame;
+use crate::fault::ExpandFault;
+use crate::meetings::Ground;
+use crate::rows::Row;
+use crate::tasks::Halt;
+use circ_entry::Entry;
+use circ_proof::Proof;
+use circ_term::TermFault;
+use circ_theory::Theory;
+use std::alloc::Global;
+
+/// The derivation from the experiment on the left side of a goal, counted from 0, to that on its
+/// right side, with no hypothesis. There are 100,000 units: each use of a goal, each link and each
+/// split is one.
+pub fn expand(
+    alloc: Global,
+    theory: &Theory,
+    proof: &Proof,
+    goal: u32,
+    entries: &[Entry],
+) -> Result<Vec<Row>, ExpandFault>
+    requires for_theory { ProofFor theory.now (plain_proof proof.now) }
+    requires plain { IsPlain (plain_proof proof.now) }
+    requires accepted { Accepted theory.now (plain_proof proof.now) }
+    requires fits { FitGoal theory.now (plain_proof proof.now) goal (plain_entries entries.now) }
+    ensures exact { IsWrittenOut (expansion unit_limit theory.now (plain_proof proof.now) goal
+        (plain_entries entries.now)) result }
+    ensures leads { (g : Goal) → slice_get (all_goals (plain_proof proof.now).blocks) goal ≡ Some g →
+        IfOk result (λ rows. (xs : Pieces) × (map plain_row rows.items ≡ rows_of xs) ×
+        LeadsOnGoal theory.now xs (plain_entries entries.now) g) }
+{
+    theory.known();
+    match written(alloc, &*theory, &*proof, goal, entries) {
+        Ok(rows) => Ok(rows),
+        Err(halt) => Err(fault_of(halt)),
+    }
+}
+
+// The fault that the call answers. The work never stops for want of something that fits.
+fn fault_of(halt: Halt) -> ExpandFault
+    requires { halt ≡ Stopped → ⊥ }
+    ensures { (o : Spending Pieces) → Halts o halt → IsWrittenOut o (Err result) }
+{
+    match halt {
+        Halt::Long => ExpandFault::Long { units: 100_001 },
+        Halt::Past(fault) => past(fault),
+        Halt::Stopped => unreachable!(),
+    }
+}
+
+// A term is past a limit, or memory ran out.
+fn past(fault: TermFault) -> ExpandFault
+    ensures { (o : Spending Pieces) → Names fault (past_of o) → IsWrittenOut o (Err result) }
+{
+    match fault {
+        TermFault::TooBig { nodes } => ExpandFault::TooBig { nodes },
+        TermFault::TooDeep { depth } => ExpandFault::TooDeep { depth },
+        TermFault::Memory => ExpandFault::Memory,
+    }
+}
+
+// The same, or why the work ends before its end.
+fn written<'x>(
+    alloc: Global,
+    theory: &'x Theory,
+    proof: &'x Proof,
+    goal: u32,
+    entries: &[Entry],
+) -> Result<Vec<Row>, Halt>
+    requires for_theory { ProofFor theory.now (plain_proof proof.now) }
+    requires plain { IsPlain (plain_proof proof.now) }
+    requires accepted { Accepted theory.now (plain_proof proof.now) }
+    requires few { AreFew entries.now }
+    ensures { WritesOut (worked_off unit_limit theory.now (plain_proof proof.now) goal
+        (plain_entries entries.now)) result }
+{
+    let ground = Ground {
+        alloc,
+        theory,
+        table: proof.table.as_slice(),
+        gamma: &proof.gamma,
+    };
+    let book = ground.read(proof)?;
+    let frame = Frame {
+        alloc,
+        theory,
+        table: proof.table.as_slice(),
+        gamma: &proof.gamma,
+        book: &book,
+        lists: proof.certificates.as_slice(),
+    };
+    frame.write_proof(proof, goal, entries)
+}
+
+impl Frame<'_, '_> {
+    // The derivation from the proof whose table, special set, certificates and book these are.
+    fn write_proof(&self, proof: &Proof, goal: u32, entries: &[Entry]) -> Result<Vec<Row>, Halt>
+        requires table { self.now.table.now ≡ proof.now.table.items }
+        requires gamma { self.now.gamma.now ≡ proof.now.gamma }
+        requires lists { self.now.lists.now ≡ proof.now.certificates.items }
+        requires book { IsBook self.now.theory.now (plain_proof proof.now) self.now.book.now }
+        requires few { AreFew entries.now }
+        ensures { WritesOut (worked_off unit_limit self.now.theory.now (plain_proof proof.now) goal
+            (plain_entries entries.now)) result }
+    {
+        let _ = proof;
+        self.write_out(goal, entries)
+    }
+}
