@@ -6,6 +6,7 @@ use Rattle.circ_term.specs.Subst.{Bound, found}
 use Rattle.circ_theory.specs.Theory.{Pair}
 use Rattle.circ_theory.specs.declared.parts.Goal.{Goal}
 use Rattle.circ_match.specs.Matcher.{has_variable}
+use Rattle.circ_rewrite.specs.declared.parts.Rule.{Rule}
 
 abbrev pub has_pair_variable : Pair → (number sort : ℕ) → Bool
 has_pair_variable p n s = has_variable p.left n s || has_variable p.right n s
@@ -21,3 +22,7 @@ BindsRest variables σ τ = (n s : ℕ) → found τ n s ≡ option_or (found σ
 -- just the variables of both sides are bound
 abbrev pub BindsSides : Goal → List Bound → Type 0
 BindsSides h σ = (n s : ℕ) → is_some (found σ n s) ≡ (has_variable h.left n s || has_variable h.right n s)
+
+-- just the variables of the left side are bound
+abbrev pub BindsLeft : Rule → List Bound → Type 0
+BindsLeft r σ = (n s : ℕ) → is_some (found σ n s) ≡ has_variable r.left n s

@@ -4,3 +4,4 @@ pub mod Uses
 pub mod Lemmas
 pub mod Trying
 pub mod Binding
+pub mod Sweeping

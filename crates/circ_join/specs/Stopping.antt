@@ -35,8 +35,3 @@ rewrite_stop rewrite.Memory = stop.Memory
 abbrev pub Puts : Result Tree Stop → Result Tree TheStop → Type 0
 Puts r (Ok t) = r ≡ Ok t
 Puts r (Err e) = Stops r e
-
--- the same for one subterm
-abbrev pub PutsAt : (whole : Tree) → (path : List ℕ) → (new : Tree) → Result Tree TheStop → Type 0
-PutsAt whole path new r =
-    Puts (within_or (first_limit (unwrap_or (replaced whole path new) whole)) (unwrap_or (replaced whole path new) whole)) r

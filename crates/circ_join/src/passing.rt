@@ -5,14 +5,17 @@ ghost use Rattle.std.specs.List.{slice_get};
 ghost use Rattle.circ_term.specs.Subst.{substitution_of};
 ghost use Rattle.circ_term.specs.Tree.{trees_of};
 ghost use Rattle.circ_rewrite.specs.declared.parts.Rule.{Rule as TheRule};
-ghost use Rattle.circ_conditional_search.specs.Joining.{swept_with, swept_trying};
+ghost use Rattle.circ_plain_search.specs.Joining.{is_place};
+ghost use Rattle.circ_conditional_search.specs.Joining.{swept_with, swept_trying, put_swept};
 ghost use Rattle.circ_conditional_search.specs.Joining.{all_swept_trying, first_lemma_trying};
-ghost use Rattle.circ_join.specs.Trying.{normaliser_of, Works, Goes, lemma_use_by};
-ghost use Rattle.circ_join.specs.Sweeping.{plain_swept, plain_due, Puts, sweep_of, sweeps_at};
+ghost use Rattle.circ_join.specs.Binding.{BindsLeft};
+ghost use Rattle.circ_join.specs.Trying.{normaliser_of, Works, lemma_use_by};
+ghost use Rattle.circ_join.specs.Sweeping.{plain_swept, plain_due, Goes, swept_place};
 
 use crate::conditions::{of_term, passes};
 use crate::joining::has_place;
 use crate::lemmas::{Lemmas, rule_number};
+use crate::putting::put_at;
 use crate::uses::{HypothesisUse, chains_of};
 use circ_proof::Chain;
 use circ_rewrite::RewriteFault;
@@ -48,8 +51,9 @@ pub struct Swept {
 struct DueLemma<'a> {
     number: u32,
     path: Path,
-    subst: Subst,
+    terms: Vec<Term>,
     conds: Vec<Chain<Term>>,
+    subst: Subst,
     right: &'a Term,
 }
 
@@ -153,7 +157,7 @@ impl<'a> Passing<'a> {
         swept: &mut Swept,
         budget: &mut u64,
     ) -> Result<(), RewriteFault>
-        ensures exact { Goes (swept_at (is_place self.now.gamma.now op i)
+        ensures exact { Goes (swept_place (is_place self.now.gamma.now op i)
             (swept_trying (normaliser_of reducer.old) self.now.gamma.now self.now.lemmas.now
             (path.old.items ++ i ∷ []) arg.now) (plain_swept swept.old) budget.old)
             (plain_swept swept.new) budget.new result }
@@ -206,8 +210,10 @@ impl<'a> Passing<'a> {
         budget: &mut u64,
     ) -> Result<Option<DueLemma<'a>>, RewriteFault>
         requires there { place < length self.now.lemmas.now }
+        requires binds { (r : TheRule) → slice_get self.now.lemmas.now place ≡ Some r
+            → BindsLeft r subst }
         ensures exact { (r : TheRule) → slice_get self.now.lemmas.now place ≡ Some r
-            → Works (option_map (λ d. d)) budget.new (lemma_use_by (normaliser_of reducer.old) r
+            → Works (option_map plain_due) budget.new (lemma_use_by (normaliser_of reducer.old) r
             path.now (substitution_of subst) budget.old) result }
         ensures less { budget.new ≤ budget.old }
         ensures same { reducer.new ≡ reducer.old }
@@ -219,8 +225,9 @@ impl<'a> Passing<'a> {
             Ok(Some(passes)) => Ok(Some(DueLemma {
                 number: rule_number(lemma.name),
                 path: Path::from_slice(self.alloc, path)?,
-                subst,
+                terms: subst.terms()?,
                 conds: chains_of(self.alloc, passes)?,
+                subst,
                 right: &lemma.right,
             })),
         }
@@ -241,19 +248,19 @@ impl<'a> Passing<'a> {
         if *budget == 0 {
             return Err(RewriteFault::Spent);
         }
-        let new = match due.subst.apply(&due.right) {
+        let new = match due.subst.apply(due.right) {
             Ok(new) => new,
             Err(fault) => return Err(of_term(fault)),
         };
         let whole = match put_at(self.alloc, &swept.whole, due.path.as_slice(), &new) {
             Ok(whole) => whole,
-            Err(fault) => return Err(fault),
+            Err(fault) => return Err(of_term(fault)),
         };
         swept.uses.push(HypothesisUse {
             number: due.number,
             way: Way::Forth,
             path: due.path,
-            terms: due.subst.terms()?,
+            terms: due.terms,
             conds: due.conds,
             new,
         })?;
