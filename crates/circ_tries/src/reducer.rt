@@ -102,7 +102,7 @@ impl<'a> Reducer<'a> {
         match &mut self.way {
             Way::Tried(trying) => trying.push(rule),
             Way::Plain(memo) => {
-                if rule.conds.is_empty() {
+                if rule.conds.len() == 0 {
                     return memo.push(rule);
                 }
                 let trying = tried_with(self.alloc, self.theory, memo.rules(), rule)?;
