@@ -1,7 +1,7 @@
 # Completion of circ's words for bash: source this file, or put it where bash-completion looks for files of the name circ.
 _circ() {
   local word=${COMP_WORDS[COMP_CWORD]} before=${COMP_WORDS[COMP_CWORD - 1]} command= place=0 n
-  local commands="check prove show relation contexts reduce same differ trace regex upgrade library generate"
+  local commands="check prove show relation contexts reduce same differ trace regex upgrade expand library generate"
   case $before in
     --steps | --derives) return ;;
   esac
@@ -30,7 +30,7 @@ _circ() {
       same:*) COMPREPLY=($(compgen -f -X '!*.auto' -- "$word") $(compgen -d -- "$word")) ;;
       regex:0 | regex:1) ;;
       *:0) COMPREPLY=($(compgen -f -X '!*.circ' -- "$word") $(compgen -d -- "$word")) ;;
-      check:1 | relation:1 | prove:2 | regex:2 | upgrade:1 | upgrade:2) COMPREPLY=($(compgen -f -X '!*.proof' -- "$word") $(compgen -d -- "$word")) ;;
+      check:1 | relation:1 | prove:2 | regex:2 | upgrade:1 | upgrade:2 | expand:1) COMPREPLY=($(compgen -f -X '!*.proof' -- "$word") $(compgen -d -- "$word")) ;;
       prove:1 | reduce:1 | differ:1 | trace:1) COMPREPLY=($(compgen -f -X '!*.script' -- "$word") $(compgen -f -X '!*.goals' -- "$word") $(compgen -d -- "$word")) ;;
     esac
   fi

@@ -8,7 +8,7 @@ pub(crate) struct CommandWords {
 }
 
 /// All commands, in the order in which they are shown.
-pub(crate) const COMMANDS: [CommandWords; 13] = [
+pub(crate) const COMMANDS: [CommandWords; 14] = [
     CommandWords {
         name: "prove",
         takes: "THEORY SCRIPT PROOF",
@@ -56,6 +56,10 @@ pub(crate) const COMMANDS: [CommandWords; 13] = [
     CommandWords {
         name: "upgrade",
         takes: "THEORY PROOF NEW",
+    },
+    CommandWords {
+        name: "expand",
+        takes: "THEORY PROOF GOAL ENTRY..",
     },
     CommandWords {
         name: "same",

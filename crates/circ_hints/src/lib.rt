@@ -2,9 +2,9 @@
 //!
 //! Nothing is promised of a hint but that it is made safely and in finite time. [`Asked`] takes the
 //! words of a run apart; [`unreadable`], [`unread_expression`], [`stuck_goal`], [`stuck_end`],
-//! [`trace_call`], [`explain_call`] and [`usage`] give the hint of an answer, from the same words
-//! and the same files. [`SeenLines`] sees the cases and the sides that an answer has printed, and
-//! [`Progress`] how much of a file was taken.
+//! [`trace_call`], [`explain_call`], [`misfit`] and [`usage`] give the hint of an answer, from the
+//! same words and the same files. [`SeenLines`] sees the cases and the sides that an answer has
+//! printed, and [`Progress`] how much of a file was taken.
 #![tactic(auto)]
 
 mod automata;
@@ -17,6 +17,7 @@ mod expressions;
 mod known;
 mod left_out;
 mod marks;
+mod misfit_hint;
 mod openings;
 mod parts;
 mod prefixes;
@@ -34,6 +35,7 @@ mod unreadable_hint;
 mod usage_hint;
 
 pub use expressions::unread_expression;
+pub use misfit_hint::misfit;
 pub use progress::Progress;
 pub use run_words::Asked;
 pub use seen_lines::{Seen, SeenLines};

@@ -22,6 +22,21 @@ pub(crate) fn line_at(bytes: &[u8], number: u64) -> Place {
     place
 }
 
+/// Where a word begins a line for the first time.
+pub(crate) fn word_at_line(bytes: &[u8], word: &[u8]) -> Place {
+    let mut begins = true;
+    for (n, byte) in bytes.iter().enumerate() {
+        if begins && rest_from(bytes, n).starts_with(word) {
+            return Place {
+                at: n,
+                width: word.len(),
+            };
+        }
+        begins = *byte == b'\n';
+    }
+    Place { at: 0, width: 0 }
+}
+
 /// What is said of the line at a place, of this number from 1.
 pub(crate) fn says_of_line(bytes: &[u8], place: Place, number: u64) -> &'static str {
     let line = bytes_at(bytes, place);

@@ -44,6 +44,11 @@ impl<'a> Asked<'a> {
         self.plain(count).is_some() && self.plain(count.saturating_add(1)).is_none()
     }
 
+    /// Whether the command has so many words, or more.
+    pub(crate) fn has_at_least(&self, count: usize) -> bool {
+        self.plain(count).is_some()
+    }
+
     /// What a file is to be read as, by its number from 1.
     pub fn kind(&self, number: u8) -> SourceKind {
         match self.command() {

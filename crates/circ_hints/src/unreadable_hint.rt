@@ -7,7 +7,7 @@ use crate::known::{Known, Wanted};
 use crate::left_out::left_out;
 use crate::marks::Mark;
 use crate::parts::{Part, first, is, item_at, next, statement_at};
-use crate::proof_lines::{line_at, says_of_line};
+use crate::proof_lines::{line_at, says_of_line, word_at_line};
 use crate::scripts::item_shape;
 use crate::shapes::statement_shape;
 use crate::terms::unread_word;
@@ -138,6 +138,10 @@ fn find<'a>(
 
 /// What is found of a line of a proof.
 fn line_finding(bytes: &[u8], number: u64, cause: &Cause) -> Finding<'static> {
+    if let Cause::LeftOut { word } = cause {
+        let says = "`expand` does not take proofs with conditions";
+        return Finding::at(word_at_line(bytes, word.bytes()), says);
+    }
     let place = line_at(bytes, number);
     let says = match cause {
         Cause::Line => says_of_line(bytes, place, number),

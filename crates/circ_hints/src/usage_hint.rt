@@ -66,6 +66,9 @@ fn push_words(
 
 /// What a command takes that the words do not have.
 fn needs(asked: Asked<'_>, command: CommandWords) -> &'static str {
+    if command.name == "expand" && asked.has_at_least(3) {
+        return "numbers up to 4294967295, without a sign or zeros before them";
+    }
     if !asked.has_words(command.takes.split(' ').count()) {
         return command.takes;
     }

@@ -2,8 +2,8 @@
 //! which word is no command, why a file was not read.
 use crate::read_faults::why_unread;
 use circ_hints::{
-    Asked, Seen, Source, explain_call, stuck_end, stuck_goal, trace_call, unread_expression,
-    unreadable, usage,
+    Asked, Seen, Source, explain_call, misfit, stuck_end, stuck_goal, trace_call,
+    unread_expression, unreadable, usage,
 };
 use circ_read::Cause;
 use circ_top::Status;
@@ -49,6 +49,7 @@ fn hint<R: Files + AllocGlobal>(
             Ok(Some(trace_call(rt.alloc(), asked)?))
         }
         Status::Refused { .. } => Ok(Some(explain_call(rt.alloc(), asked)?)),
+        Status::Misfit { entry } => Ok(Some(misfit(rt.alloc(), asked, *entry)?)),
         Status::ReadFault { .. } => read_fault_hint(rt, name),
         _ => Ok(None),
     }

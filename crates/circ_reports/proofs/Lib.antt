@@ -6,3 +6,8 @@ pub mod SameTexts
 pub mod Ends
 pub mod Reducing
 pub mod Upgrading
+pub mod PlainProofs
+pub mod Rules
+pub mod GoalSorts
+pub mod FreshNumbers
+pub mod ExpandEnds

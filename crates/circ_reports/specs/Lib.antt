@@ -7,3 +7,5 @@ pub mod Show
 pub mod Contexts
 pub mod Library
 pub mod Reduce
+pub mod PlainProof
+pub mod Expand

@@ -3,7 +3,6 @@ ghost use Rattle.std.specs.Prelude.{◌≡◌, ◌++◌, Some, IfOk, IfErr, OnOk
 ghost use Rattle.circ_outer.specs.Shelf.{ShelfFrame};
 ghost use Rattle.circ_proof.specs.PlainProof.{plain_block, plain_proof};
 ghost use Rattle.circ_proof.specs.Proof.{Proof as PlainProof, ProofFor};
-ghost use Rattle.circ_files.specs.ProofFile.{TakesProof, IsProofFault};
 ghost use Rattle.circ_files.specs.Quiet.{IsQuietCall};
 ghost use Rattle.circ_files.specs.declared.status.Status.TheVariants as status;
 ghost use Rattle.circ_show.specs.GoalsText.{all_goal_lines};
@@ -11,13 +10,12 @@ ghost use Rattle.circ_files.specs.Ending.{ending, plain_ending, plain_stored};
 ghost use Rattle.circ_reports.specs.Upgrade.{upgraded_text, upgraded_file, IsUpgraded};
 ghost use Rattle.circ_reports.specs.Upgrade.{RefusesUpgrade};
 
-use crate::incoming::refusal;
+use crate::proof_file::take_proof;
+use circ_file::encode;
 use circ_file::laws::texts_decode;
-use circ_file::{decode, encode};
-use circ_files::{CHECKED_FILE, Ending, Status, Stored, take_file, take_theory};
+use circ_files::{Ending, Status, Stored, take_theory};
 use circ_outer::Shelf;
 use circ_proof::{Block, Proof};
-use circ_proof_text::laws::one_answer;
 use circ_show::goals_text;
 use circ_theory::Theory;
 use std::alloc::{AllocError, Global};
@@ -51,33 +49,6 @@ pub fn upgrade<'a, S: Shelf>(
         Err(status) => return Err(status),
     };
     Ok(give_anew(alloc, &theory, &mut proof, name)?)
-}
-
-/// The proof that file 2 reads as in this theory, or why there is none.
-fn take_proof<S: Shelf>(
-    alloc: Global,
-    shelf: &mut S,
-    theory: &Theory,
-    name: &str,
-) -> Result<Proof, Status>
-    ensures takes { IfOk result (λ p.
-        TakesProof name.now theory.now (plain_proof p) (S.state shelf.old)) }
-    ensures fits { IfOk result (λ p. ProofFor theory.now (plain_proof p)) }
-    ensures fault { IfErr result
-        (IsProofFault name.now theory.now (S.state shelf.old) (S.state shelf.new)) }
-    ensures quiet { IsQuietCall (S.state shelf.old) (S.state shelf.new) result }
-    ensures frame { ShelfFrame (S.state shelf.old) (S.state shelf.new) }
-{
-    let bytes = match take_file(alloc, shelf, CHECKED_FILE, name) {
-        Ok(bytes) => bytes,
-        Err(status) => return Err(status),
-    };
-    theory.known();
-    one_answer();
-    match decode(alloc, theory, bytes.as_slice()) {
-        Ok(proof) => Ok(proof),
-        Err(fault) => Err(refusal(fault)),
-    }
 }
 
 /// The proof in version 2, with its text.

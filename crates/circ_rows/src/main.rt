@@ -16,7 +16,7 @@ use std::alloc::{AllocError, Global};
 use std::{fs, io};
 
 /// The tables, in the order in which they are run.
-const TABLES: [&str; 29] = [
+const TABLES: [&str; 30] = [
     "rows-words",
     "rows-faults",
     "rows-causes",
@@ -46,6 +46,7 @@ const TABLES: [&str; 29] = [
     "rows-differ",
     "rows-trace",
     "rows-experiments",
+    "rows-expand",
 ];
 
 /// The table of which each call of the outside fails in turn.

@@ -41,6 +41,7 @@ pub fn count(status: &Status) -> u64 {
         | Status::WriteFault { count } => *count,
         Status::Stuck { goal, .. } => *goal,
         Status::Differ { length } => *length,
+        Status::Expansion { units } => *units,
         _ => 0,
     }
 }

@@ -15,7 +15,7 @@ use Rattle.circ_top.specs.Answer.{Succeeds, Comes, RefusesCommand, DueAnswer, no
 use Rattle.circ_top.specs.Causes.{AtFile, HasLongProof, IsPastLimit, IsReadFault, IsUnwritten, FailsToPut, IsWriteFault, IsQuietRun}
 use Rattle.circ_reports.specs.Check.{report_text, refused, accepted}
 use Rattle.circ_top.specs.Check.{Accepts, Rejects, FilesRead}
-use Rattle.circ_top.specs.Command.{Command, Check, Prove, Show, Contexts, Reduce, Same, Differ, Trace, Regex, Upgrade, Library, Generate, Asks, IsNotStored, stored_name}
+use Rattle.circ_top.specs.Command.{Command, Check, Prove, Show, Contexts, Reduce, Same, Differ, Trace, Regex, Upgrade, Expand, Library, Generate, Asks, IsNotStored, stored_name}
 use Rattle.circ_search.specs.Plain.{plain_limits}
 use Rattle.circ_top.specs.Prove.{IsSearched, StoresProof}
 use Rattle.circ_top.specs.Delivery.{Prints, Delivers, whole, write_failed, memory_wanted, text_wanted}
@@ -51,6 +51,8 @@ use Rattle.circ_reports.specs.Upgrade.{upgraded_file}
 use Rattle.circ_top.specs.Upgrade.{StoresUpgraded}
 use Rattle.circ_top.proofs.Upgraded.{upgraded_fits, upgraded_alike}
 use Rattle.circ_top.proofs.UpgradeOutcomes.{upgrade_not_ok, upgrade_not_refused, unread_upgrade, past_upgrade, unwritten_upgrade, upgraded_short}
+use Rattle.circ_top.specs.Expand.{WritesDerivation}
+use Rattle.circ_top.proofs.ExpandOutcomes.{expand_not_ok, expand_refused, unread_expand, past_expand, unwritten_expand}
 use Rattle.circ_reports.specs.Same.{IsCompared}
 use Rattle.circ_top.proofs.SameOutcomes.{same_not_ok, same_not_refused, unread_same, past_same, unwritten_same, compared_end}
 use Rattle.circ_top.proofs.Agreeing.{DueIs, outcome, nothing_read, no_memory_left}
@@ -68,6 +70,7 @@ module _ (before after : ShelfState) where
   command_not_ok (Trace limits theory script) s r e = script_not_ok theory script before after s r e
   command_not_ok (Regex limits left right proof) s r e = regex_not_ok left right s r e
   command_not_ok (Upgrade theory proof new) s r e = upgrade_not_ok theory proof before after s r e
+  command_not_ok (Expand theory proof goal derivatives) s r e = expand_not_ok theory proof goal derivatives before after s r e
   command_not_ok (Library text) s r e = let never : status.Memory ≡ status.Ok = sym r ∙ e in cc
   command_not_ok (Generate k) s r e = let never : status.Memory ≡ status.Ok = sym r ∙ e in cc
 
@@ -86,6 +89,7 @@ module _ (before after : ShelfState) where
   unread_command (Trace limits theory script) s n r e = unread_script theory script before after s n r e
   unread_command (Regex limits left right proof) s n r e = absurd (regex_not_unread left right s n r e)
   unread_command (Upgrade theory proof new) s n r e = unread_upgrade theory proof before after s n r e
+  unread_command (Expand theory proof goal derivatives) s n r e = unread_expand theory proof goal derivatives before after s n r e
   unread_command (Library text) s n r e = absurd (let never : status.Memory ≡ status.ReadFault n = sym r ∙ e in cc)
   unread_command (Generate k) s n r e = absurd (let never : status.Memory ≡ status.ReadFault n = sym r ∙ e in cc)
 
@@ -102,6 +106,7 @@ module _ (before after : ShelfState) where
   past_command (Trace limits theory script) s file n r e = past_script theory script before after s file n r e
   past_command (Regex limits left right proof) s file n r e = absurd (regex_not_past left right s file n r e)
   past_command (Upgrade theory proof new) s file n r e = past_upgrade theory proof before after s file n r e
+  past_command (Expand theory proof goal derivatives) s file n r e = past_expand theory proof goal derivatives before after s file n r e
   past_command (Library text) s file n r e = absurd (let never : status.Memory ≡ status.TooLong file n = sym r ∙ e in cc)
   past_command (Generate k) s file n r e = absurd (let never : status.Memory ≡ status.TooLong file n = sym r ∙ e in cc)
 
@@ -116,6 +121,7 @@ module _ (before after : ShelfState) where
   unwritten_command (Trace limits theory script) s n r e = unwritten_script theory script before after s n r e
   unwritten_command (Regex limits left right proof) s n r e = regex_not_unwritten left right s n r e
   unwritten_command (Upgrade theory proof new) s n r e = unwritten_upgrade theory proof before after s n r e
+  unwritten_command (Expand theory proof goal derivatives) s n r e = unwritten_expand theory proof goal derivatives before after s n r e
   unwritten_command (Library text) s n r e = let never : status.Memory ≡ status.WriteFault n = sym r ∙ e in cc
   unwritten_command (Generate k) s n r e = let never : status.Memory ≡ status.WriteFault n = sym r ∙ e in cc
 
@@ -143,6 +149,7 @@ module _ (before : ShelfState) where
   work_end (Trace limits theory script) s text stored a = (trace_end a.th (plain_limits limits) a.sc.blocks (ending s text stored) a.ends).0
   work_end (Regex limits left right proof) s text stored a = search_end LANG (plain_limits limits) proof (equality_goals a.e a.f) s text stored a.ends
   work_end (Upgrade theory proof new) s text stored a = ok_end s a.0
+  work_end (Expand theory proof goal derivatives) s text stored a = ok_end s a.0
   work_end (Library given) s text stored a = ok_end s a.0
   work_end (Generate k) s text stored a = (generates_end k (ending s text stored) a).0
 
@@ -166,6 +173,7 @@ module _ (before : ShelfState) where
   work_succeeds (Regex limits left right proof) s text stored a e =
       let P : Status → Type 0 = λ x. IsEqualitySearched limits left right proof (ending x text stored) in subst P e a
   work_succeeds (Upgrade theory proof new) s text stored a e = a.1
+  work_succeeds (Expand theory proof goal derivatives) s text stored a e = a.1
   work_succeeds (Library given) s text stored a e = a.1
   work_succeeds (Generate k) s text stored a e = let P : Status → Type 0 = λ x. Generates k (ending x text stored) in subst P e a
 
@@ -186,6 +194,7 @@ module _ (before : ShelfState) where
   work_past (Regex limits left right proof) s text stored file n a e =
       let P : Status → Type 0 = λ x. IsEqualitySearched limits left right proof (ending x text stored) in (text, stored, subst P e a)
   work_past (Upgrade theory proof new) s text stored file n a e = let never : status.Ok ≡ status.TooLong file n = sym a.0 ∙ e in cc
+  work_past (Expand theory proof goal derivatives) s text stored file n a e = let never : status.Ok ≡ status.TooLong file n = sym a.0 ∙ e in cc
   work_past (Library given) s text stored file n a e = let never : status.Ok ≡ status.TooLong file n = sym a.0 ∙ e in cc
   work_past (Generate k) s text stored file n a e = let P : Status → Type 0 = λ x. Generates k (ending x text stored) in (text, stored, subst P e a)
 
@@ -212,6 +221,7 @@ module _ (before : ShelfState) where
       ap Some (sym (search_name LANG (plain_limits limits) proof (equality_goals a.e a.f) s text x (subst P e a.ends)))
   work_name (Upgrade theory proof new) s text stored x a e =
       ap (λ y. Some y.name) (same_Some (upgraded_file new a.1.p) x (sym a.1.stored_is ∙ e))
+  work_name (Expand theory proof goal derivatives) s text stored x a e = nothing_stored stored x a.1.1 e
   work_name (Library given) s text stored x a e = nothing_stored stored x a.1.1 e
   work_name (Generate k) s text stored x a e = nothing_stored stored x (generates_end k (ending s text stored) a).1 e
 
@@ -393,6 +403,24 @@ module _ (words : List (List ℕ)) (before after : ShelfState) (start end : Sink
         prints = subst T a.text_is s.prints;
       }
 
+  pub answers_written : IsQuietRun words before after r → (theory proof : List ℕ) (goal : ℕ) (derivatives : List ℕ)
+      → Asks words (Expand theory proof goal derivatives) → r ≡ status.Ok → WritesDerivation theory proof goal derivatives before after start end
+  answers_written q theory proof goal derivatives i e =
+      let s = answers_succeed q e in
+      let P : Command → Type 0 = λ c. Succeeds c s.text s.stored before in
+      let a = (subst P (same_command words s.command (Expand theory proof goal derivatives) s.asks i) s.succeeds).0 in
+      record {
+        th = a.th;
+        p = a.p;
+        takes_theory = a.takes_theory;
+        takes_proof = a.takes_proof;
+        accepted = a.expands.accepted;
+        text = s.text;
+        shows = a.expands.shows;
+        quiet = s.quiet;
+        prints = s.prints;
+      }
+
   pub answers_refused : IsQuietRun words before after r → (n : ℕ) → r ≡ status.Refused n → Rejects words before after start end n
   answers_refused q n e = ended r a.ends e (quiet_refused before after words r n e q)
     where
@@ -401,7 +429,7 @@ module _ (words : List (List ℕ)) (before after : ShelfState) (start end : Sink
           → Rejects words before after start end n
       rejects (Check report theory proof) s i f e p q =
           let P : Status → Type 0 = λ x. Prints (refusal_text (Check report theory proof) x) start end in
-          record { report = report; theory = theory; proof = proof; asks = i; refused = check_refused theory proof before after s n f e; quiet = q; prints = subst P e p }
+          record { theory = theory; proof = proof; asks = inl (report, i); refused = check_refused theory proof before after s n f e; quiet = q; prints = subst P e p }
       rejects (Prove limits theory script proof) s i f e p q = absurd (script_not_refused theory script before after s n f e)
       rejects (Show theory) s i f e p q = absurd (command_not_refused before after theory s n f e)
       rejects (Contexts budget theory) s i f e p q = absurd (file_fault_not_refused 1 theory TheoryRefusal before after s n e f)
@@ -411,6 +439,16 @@ module _ (words : List (List ℕ)) (before after : ShelfState) (start end : Sink
       rejects (Trace limits theory script) s i f e p q = absurd (script_not_refused theory script before after s n f e)
       rejects (Regex limits left right proof) s i f e p q = absurd (regex_not_refused left right s n f e)
       rejects (Upgrade theory proof new) s i f e p q = absurd (upgrade_not_refused theory proof before after s n f e)
+      rejects (Expand theory proof goal derivatives) s i f e p q =
+          let P : Status → Type 0 = λ x. Prints (refusal_text (Expand theory proof goal derivatives) x) start end in
+          record {
+            theory = theory;
+            proof = proof;
+            asks = inr (goal, derivatives, i);
+            refused = expand_refused theory proof goal derivatives before after s n f e;
+            quiet = q;
+            prints = subst P e p;
+          }
       rejects (Library text) s i f e p q = absurd (let never : status.Memory ≡ status.Refused n = sym f ∙ e in cc)
       rejects (Generate k) s i f e p q = absurd (let never : status.Memory ≡ status.Refused n = sym f ∙ e in cc)
 

@@ -14,7 +14,7 @@ use Rattle.circ_script.specs.ReadsAsScript.{ReadsAsScript, ScriptOrCause}
 use Rattle.circ_script.specs.declared.job.Job.{Job}
 use Rattle.circ_script.specs.declared.job.Job.TheVariants as job
 use Rattle.circ_reports.specs.Check.{report_text, no_theory, no_proof, refused, accepted}
-use Rattle.circ_top.specs.Command.{Command, Check, Prove, Show, Contexts, Reduce, Same, Differ, Trace, Regex, Upgrade, Library, Generate, Asks}
+use Rattle.circ_top.specs.Command.{Command, Check, Prove, Show, Contexts, Reduce, Same, Differ, Trace, Regex, Upgrade, Expand, Library, Generate, Asks}
 use Rattle.circ_files.specs.Files.{Held, Refusal, RefusesFile, Holds}
 use Rattle.circ_top.specs.InMemory.{HoldsFilesOf, HoldsFiles}
 use Rattle.circ_plain_search.specs.Numbering.{Found}
@@ -39,6 +39,12 @@ use Rattle.circ_regex.specs.Lang.{LANG}
 use Rattle.circ_top.specs.Regex.{equality_goals, no_left, no_right, both_read}
 use Rattle.circ_reports.specs.Upgrade.{upgraded_text, upgraded_file, given_anew}
 use Rattle.circ_reports.specs.Upgrade as upgrade
+use Rattle.circ_reports.specs.Expand.{expanded, not_written, written_out}
+use Rattle.circ_reports.specs.Expand as expand
+use Rattle.circ_reports.specs.PlainProof.{ReadsAsPlainProof, PlainProofRefusal, has_condition}
+use Rattle.circ_reports.specs.PlainProof as plain
+use Rattle.circ_reports.proofs.ExpandEnds.{text_or_none}
+use Rattle.circ_reports.proofs.PlainProofs.{plain_or_word}
 use Rattle.circ_reports.specs.Contexts.{not_listed, listed}
 use Rattle.circ_show.specs.PlacesText.{place_lines}
 use Rattle.circ_plain_search.proofs.Existing.{some_set}
@@ -207,6 +213,25 @@ module _ (reads : (bytes : List ℕ) → ReadOrRefused bytes) (proofs : ProofsDe
       (λ s x. let text : List ℕ = refusal_text (Upgrade theory proof new) s in none_is s text None
       (command (Upgrade theory proof new) s text None i (upgrade.no_theory s x)))
 
+  no_expand : (theory proof : List ℕ) (goal : ℕ) (ks : List ℕ) → Asks words (Expand theory proof goal ks) → HoldsFilesOf held (Expand theory proof goal ks) → ⊥
+  no_expand theory proof goal ks i h = file_decides held 1 theory TheoryRefusal ReadsAs h.0 reads
+      (λ th rt. file_decides held 2 proof (PlainProofRefusal th) (ReadsAsPlainProof th) h.1
+      (λ bytes no_proof_is no_refusal. proofs.reading th bytes
+      (λ p r. plain_or_word p (λ plain. no_proof_is p (record { reads = r; plain = plain }))
+      (λ word some. no_refusal 0 (cause.LeftOut word) (has_condition bytes p word r some)))
+      (no_fault_left th bytes (λ place c f. no_refusal place c (plain.no_proof place c bytes f))))
+      (λ p rp. proofs.verdict th p rp.are.reads.proof_for
+      (λ n f. none_is (status.Refused n) (refused_text n) None
+      (command (Expand theory proof goal ks) (status.Refused n) (refused_text n) None i (expand.refused n th p rt rp f, refl)))
+      (λ a. text_or_none th (expanded th p goal ks)
+      (λ text w. none_is status.Ok text None (command (Expand theory proof goal ks) status.Ok text None i (written_out text th p rt rp a w, refl)))
+      (λ s x. let text : List ℕ = refusal_text (Expand theory proof goal ks) s in none_is s text None
+      (command (Expand theory proof goal ks) s text None i (not_written s th p rt rp a x, refl)))))
+      (λ s x. let text : List ℕ = refusal_text (Expand theory proof goal ks) s in none_is s text None
+      (command (Expand theory proof goal ks) s text None i (expand.no_proof s th rt x, refl))))
+      (λ s x. let text : List ℕ = refusal_text (Expand theory proof goal ks) s in none_is s text None
+      (command (Expand theory proof goal ks) s text None i (expand.no_theory s x, refl)))
+
   no_contexts : (budget : ℕ) (theory : List ℕ) → Asks words (Contexts budget theory) → HoldsFilesOf held (Contexts budget theory) → ⊥
   no_contexts budget theory i h = file_decides held 1 theory TheoryRefusal ReadsAs h reads
       (λ th rt. some_set th budget (λ G tss g. let text : List ℕ = place_lines th.signature G in none_is status.Ok text None
@@ -238,6 +263,7 @@ module _ (reads : (bytes : List ℕ) → ReadOrRefused bytes) (proofs : ProofsDe
   no_command_left (Trace limits theory script) i h = no_trace limits theory script i h
   no_command_left (Regex limits left right proof) i h = no_regex limits left right proof i
   no_command_left (Upgrade theory proof new) i h = no_upgrade theory proof new i h
+  no_command_left (Expand theory proof goal derivatives) i h = no_expand theory proof goal derivatives i h
   no_command_left (Library text) i h = none_is status.Ok text None (command (Library text) status.Ok text None i ((refl, refl), refl))
 
   pub nothing_left : HoldsFiles words held → ⊥

@@ -18,6 +18,7 @@ pub mod Expressions
 pub mod RegexOutcomes
 pub mod Upgraded
 pub mod UpgradeOutcomes
+pub mod ExpandOutcomes
 pub mod Outcomes
 pub mod Answers
 pub mod Concluding

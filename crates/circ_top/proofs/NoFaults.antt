@@ -5,7 +5,7 @@ use Rattle.circ_outer.specs.Count.{Rose}
 use Rattle.circ_outer.specs.Shelf.{ShelfState}
 use Rattle.circ_outer.specs.Sink.{SinkState}
 use Rattle.circ_top.specs.Causes.{IsOutcomeOrFault, AnswersOutcome, printed, not_read, not_written, not_put, no_memory, AtFile, IsReadFault, IsWriteFault}
-use Rattle.circ_top.specs.Command.{Command, Check, Prove, Show, Contexts, Reduce, Same, Differ, Trace, Regex, Upgrade, Library, Generate}
+use Rattle.circ_top.specs.Command.{Command, Check, Prove, Show, Contexts, Reduce, Same, Differ, Trace, Regex, Upgrade, Expand, Library, Generate}
 use Rattle.circ_files.specs.Files.{IsUnread}
 use Rattle.circ_top.specs.InMemory.{HoldsFilesOf, HoldsFiles, AppendsAnswer, Appends}
 use Rattle.circ_files.specs.Ending.{Stored}
@@ -40,6 +40,8 @@ held_file before after (Trace limits theory script) quiet h (inr u) = quiet (unr
 held_file before after (Regex limits left right proof) quiet h u = u
 held_file before after (Upgrade theory proof new) quiet h (inl u) = quiet (unread_rose theory before after (some_held (before.holds theory) h.0) u)
 held_file before after (Upgrade theory proof new) quiet h (inr u) = quiet (unread_rose proof before after (some_held (before.holds proof) h.1) u.1.1)
+held_file before after (Expand theory proof goal derivatives) quiet h (inl u) = quiet (unread_rose theory before after (some_held (before.holds theory) h.0) u)
+held_file before after (Expand theory proof goal derivatives) quiet h (inr u) = quiet (unread_rose proof before after (some_held (before.holds proof) h.1) u.1.1)
 held_file before after (Library text) quiet h u = u
 held_file before after (Generate n) quiet h u = u
 

@@ -7,7 +7,7 @@ use Rattle.circ_reports.specs.Check.{CheckOutcome}
 use Rattle.circ_reports.specs.Reduce.{ReduceOutcome}
 use Rattle.circ_reports.specs.Show.{ShowOutcome}
 use Rattle.circ_top.specs.Causes.{PrintsOutcome, IsOutcomeOrFault, PrintsPartOf, AnswersOutcome}
-use Rattle.circ_top.specs.Command.{Command, Check, Prove, Show, Contexts, Reduce, Same, Differ, Trace, Regex, Upgrade, Library, Generate, Asks}
+use Rattle.circ_top.specs.Command.{Command, Check, Prove, Show, Contexts, Reduce, Same, Differ, Trace, Regex, Upgrade, Expand, Library, Generate, Asks}
 use Rattle.circ_top.specs.Delivery.{Delivers, whole, write_failed, memory_wanted, text_wanted}
 use Rattle.circ_files.specs.Like.{IsLike, itself}
 use Rattle.circ_files.specs.Ending.{Stored}
@@ -39,6 +39,8 @@ use Rattle.circ_top.proofs.Traced.{one_trace}
 use Rattle.circ_top.proofs.RegexOutcomes.{ExpressionsOnce, due_regex, equality_outcome, regex_agrees, equality_agrees}
 use Rattle.circ_reports.specs.Upgrade.{UpgradeOutcome}
 use Rattle.circ_top.proofs.UpgradeOutcomes.{due_upgrade, upgraded_outcome, upgrade_agrees, upgraded_agrees}
+use Rattle.circ_reports.specs.Expand.{ExpandOutcome}
+use Rattle.circ_top.proofs.ExpandOutcomes.{due_expand, expanded_outcome, expand_agrees, expanded_agrees}
 use Rattle.circ_top.proofs.Proofs.{ProofsOnce}
 use Rattle.circ_files.proofs.Scripts.{ScriptsOnce}
 use Rattle.circ_top.proofs.Requests.{same_command}
@@ -59,6 +61,7 @@ due_refusal words before after (Trace limits theory script) s t i r =
     due_script (Trace limits theory script) theory script (TraceSought limits) before after words s (λ u text x. x) t i r
 due_refusal words before after (Regex limits left right proof) s t i r = due_regex limits left right proof words before after i s r
 due_refusal words before after (Upgrade theory proof new) s t i r = due_upgrade theory proof new before after words s t i r
+due_refusal words before after (Expand theory proof goal derivatives) s t i r = due_expand words theory proof goal derivatives before after s t i r
 due_refusal words before after (Library text) s t i r =
     let P : Status → Type 0 = λ x. DueIs words before after x (refusal_text (Library text) x) None in subst P (sym r) no_memory_left
 due_refusal words before after (Generate n) s t i r =
@@ -89,6 +92,9 @@ due_work (Regex limits left right proof) s text stored before t a = equality_out
 due_work (Upgrade theory proof new) s text stored before t a =
     let P : Status → Type 0 = λ x. UpgradeOutcome before.holds theory proof new x text stored in
     subst P (sym a.0) (upgraded_outcome theory proof new before before text stored t a.1)
+due_work (Expand theory proof goal derivatives) s text stored before t a =
+    let P : Status → Type 0 = λ x. ExpandOutcome before.holds theory proof goal derivatives x text in
+    (subst P (sym a.0) (expanded_outcome theory proof goal derivatives before before text t a.1.0), a.1.1)
 due_work (Library given) s text stored before t a = ((a.0, a.1.0), a.1.1)
 due_work (Generate n) s text stored before t a = a
 
@@ -135,6 +141,9 @@ module _ (once : ReadsOnce) (proofs : ProofsOnce) (scripts : ScriptsOnce) (autom
   refusal_agrees (Regex limits left right proof) s r text stored c f =
       regex_agrees limits left right proof expressions searches before after r s text stored f c
   refusal_agrees (Upgrade theory proof new) s r text stored c f = upgrade_agrees once proofs theory proof new before after t r s text stored f c
+  refusal_agrees (Expand theory proof goal derivatives) s r text stored c f =
+      stored_nothing before after s text stored r (refusal_text (Expand theory proof goal derivatives) r) c.1
+      (expand_agrees once proofs theory proof goal derivatives before after t r s text f c.0)
   refusal_agrees (Library given) s r text stored c f =
       let P : Status → Type 0 = λ x. AgreesWith before after s text stored x (refusal_text (Library given) x) None in subst P (sym f) memory_with
   refusal_agrees (Generate n) s r text stored c f =
@@ -175,6 +184,8 @@ module _ (once : ReadsOnce) (proofs : ProofsOnce) (scripts : ScriptsOnce) (autom
   work_agrees (Upgrade theory proof new) s r text given stored other c a =
       let P : Status → Type 0 = λ x. AgreesWith before after s text stored x given other in
       subst P (sym a.0) (upgraded_agrees once proofs theory proof new before after t given other a.1 s text stored c)
+  work_agrees (Expand theory proof goal derivatives) s r text given stored other c a =
+      ok_agrees s r text given stored other a.0 a.1.1 c.1 (expanded_agrees once proofs theory proof goal derivatives before after t given a.1.0 s text c.0)
   work_agrees (Library words) s r text given stored other c a =
       let P : List ℕ → Type 0 = λ x. IsLike status.Ok text status.Ok x in
       let Q : Status → Type 0 = λ x. Agrees before after x text status.Ok given in

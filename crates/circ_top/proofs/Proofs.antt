@@ -14,19 +14,27 @@ use Rattle.circ_files.specs.ProofFile.{ProofRefusal}
 use Rattle.circ_files.proofs.FileFaults.{IsOneWay}
 
 pub record ProofsOnce : Type 0 where
+  pub one_proof : (th : Theory) → IsWellFormed th → (bytes : List ℕ) (p q : Proof) → ReadsAsProof th bytes p → ReadsAsProof th bytes q → p ≡ q
   pub either : (th : Theory) → IsWellFormed th → (bytes : List ℕ) (p : Proof) (f : LineFault) → ReadsAsProof th bytes p → FirstCause th bytes f → ⊥
   pub fault : (th : Theory) (bytes : List ℕ) (f g : LineFault) → FirstCause th bytes f → FirstCause th bytes g → f ≡ g
   pub not_both : (th : Theory) (p : Proof) (n : ℕ) → Accepted th p → FirstFail th p n → ⊥
   pub one_failure : (th : Theory) (p : Proof) (n m : ℕ) → FirstFail th p n → FirstFail th p m → n ≡ m
   pub one_relation : (th : Theory) (p : Proof) (a b : List (List Goal)) → Derives th p a → Derives th p b → a ≡ b
 
-pub proofs_come_once : ((th : Theory) (bytes : List ℕ) (p : Proof) (f : LineFault) → IsWellFormed th → ReadsAsProof th bytes p → FirstCause th bytes f → ⊥)
+pub proofs_come_once : ((th : Theory) (bytes : List ℕ) (p q : Proof) → IsWellFormed th → ReadsAsProof th bytes p → ReadsAsProof th bytes q → p ≡ q)
+    → ((th : Theory) (bytes : List ℕ) (p : Proof) (f : LineFault) → IsWellFormed th → ReadsAsProof th bytes p → FirstCause th bytes f → ⊥)
     → ((th : Theory) (bytes : List ℕ) (f g : LineFault) → FirstCause th bytes f → FirstCause th bytes g → f ≡ g)
     → ((th : Theory) (p : Proof) (n : ℕ) → Accepted th p → FirstFail th p n → ⊥)
     → ((th : Theory) (p : Proof) (n m : ℕ) → FirstFail th p n → FirstFail th p m → n ≡ m)
     → ((th : Theory) (p : Proof) (a b : List (List Goal)) → Derives th p a → Derives th p b → a ≡ b) → ProofsOnce
-proofs_come_once e c b f r =
-    record { either = λ th ok bytes p x a y. e th bytes p x ok a y; fault = c; not_both = b; one_failure = f; one_relation = r }
+proofs_come_once o e c b f r = record {
+  one_proof = λ th ok bytes p q x y. o th bytes p q ok x y;
+  either = λ th ok bytes p x a y. e th bytes p x ok a y;
+  fault = c;
+  not_both = b;
+  one_failure = f;
+  one_relation = r;
+}
 
 -- bytes that read as a proof are not refused
 pub read_or_refused : ProofsOnce → (th : Theory) → IsWellFormed th → (p : Proof) (place : ℕ) (c : Cause) (bytes : List ℕ) → ReadsAsProof th bytes p

@@ -5,10 +5,11 @@ use Rattle.circ_outer.specs.Sink.{SinkState}
 use Rattle.circ_reports.specs.Contexts.{IsListed}
 use Rattle.circ_generate.specs.Generating.{Generates}
 use Rattle.circ_reports.specs.Check.{IsAccepted, RefusesCheck}
-use Rattle.circ_top.specs.Command.{Command, Check, Prove, Show, Contexts, Reduce, Same, Differ, Trace, Regex, Upgrade, Library, Generate, Asks, IsNoCommand}
+use Rattle.circ_top.specs.Command.{Command, Check, Prove, Show, Contexts, Reduce, Same, Differ, Trace, Regex, Upgrade, Expand, Library, Generate, Asks, IsNoCommand}
 use Rattle.circ_top.specs.Delivery.{Prints}
 use Rattle.circ_top.specs.Differ.{IsDifferenceSought}
 use Rattle.circ_files.specs.Ending.{ending}
+use Rattle.circ_reports.specs.Expand.{IsExpanded, RefusesExpand}
 use Rattle.circ_reports.specs.Library.{RefusesLibrary}
 use Rattle.circ_top.specs.Prove.{IsSearched}
 use Rattle.circ_top.specs.Scripted.{RefusesScript}
@@ -38,6 +39,7 @@ Succeeds (Differ limits theory script) text stored before = IsDifferenceSought l
 Succeeds (Trace limits theory script) text stored before = IsTraced limits theory script (ending status.Ok text stored) before
 Succeeds (Regex limits left right proof) text stored before = IsEqualitySearched limits left right proof (ending status.Ok text stored)
 Succeeds (Upgrade theory proof new) text stored before = IsUpgraded theory proof new text stored before
+Succeeds (Expand theory proof goal derivatives) text stored before = IsExpanded theory proof goal derivatives text before × (stored ≡ None)
 Succeeds (Library given) text stored before = (text ≡ given) × (stored ≡ None)
 Succeeds (Generate n) text stored before = Generates n (ending status.Ok text stored)
 
@@ -63,6 +65,7 @@ RefusesCommand (Differ limits theory script) before after s = RefusesScript theo
 RefusesCommand (Trace limits theory script) before after s = RefusesScript theory script before after s
 RefusesCommand (Regex limits left right proof) before after s = RefusesRegex left right s
 RefusesCommand (Upgrade theory proof new) before after s = RefusesUpgrade theory proof before after s
+RefusesCommand (Expand theory proof goal derivatives) before after s = RefusesExpand theory proof goal derivatives before after s
 RefusesCommand (Library given) before after s = RefusesLibrary s
 RefusesCommand (Generate n) before after s = s ≡ status.Memory
 

@@ -4,7 +4,7 @@ use Rattle.circ_outer.specs.Count.{Rose}
 use Rattle.circ_outer.specs.Shelf.{ShelfState, Struck, PutFrame, IsQuiet}
 use Rattle.circ_outer.specs.Sink.{SinkState}
 use Rattle.circ_theory.specs.Theory.{Theory}
-use Rattle.circ_top.specs.Command.{Command, Check, Prove, Show, Contexts, Reduce, Same, Differ, Trace, Regex, Upgrade, Library, Generate, Asks, stored_name}
+use Rattle.circ_top.specs.Command.{Command, Check, Prove, Show, Contexts, Reduce, Same, Differ, Trace, Regex, Upgrade, Expand, Library, Generate, Asks, stored_name}
 use Rattle.circ_top.specs.Delivery.{Prints, PrintsPart, PrintsFront}
 use Rattle.circ_files.specs.Files.{IsUnread, IsTooLong}
 use Rattle.circ_files.specs.Like.{IsLike}
@@ -71,6 +71,7 @@ AtFile before (Differ limits theory script) P = AtEither (λ th. TakesPlainTheor
 AtFile before (Trace limits theory script) P = AtEither (λ th. TakesPlainTheory theory th before) theory script P
 AtFile before (Regex limits left right proof) P = ⊥
 AtFile before (Upgrade theory proof new) P = AtEither (λ th. TakesTheory theory th before) theory proof P
+AtFile before (Expand theory proof goal derivatives) P = AtEither (λ th. TakesTheory theory th before) theory proof P
 AtFile before (Library text) P = ⊥
 AtFile before (Generate n) P = ⊥
 

@@ -1,5 +1,5 @@
 -- What the status of a `check` or a `relation` says.
-use Rattle.std.specs.Prelude.{ℕ, List}
+use Rattle.std.specs.Prelude.{◌⊎◌, ℕ, List}
 use Rattle.circ_outer.specs.Shelf.{ShelfState, IsQuiet}
 use Rattle.circ_outer.specs.Sink.{SinkState}
 use Rattle.circ_theory.specs.Theory.{Theory}
@@ -10,7 +10,7 @@ use Rattle.circ_files.specs.Texts.{refused_text}
 use Rattle.circ_files.specs.TheoryFile.{ReadsTheory}
 use Rattle.circ_reports.specs.Check.{IsAccepted, StepFails}
 use Rattle.circ_reports.specs.declared.report.Report.{Report}
-use Rattle.circ_top.specs.Command.{Check, Asks}
+use Rattle.circ_top.specs.Command.{Check, Expand, Asks}
 use Rattle.circ_top.specs.Delivery.{Prints}
 
 -- Status 0: the two files read, the proof is accepted, and every goal behaves. The report of this was printed, and the outside did not fail.
@@ -20,12 +20,17 @@ pub record Accepts (report : Report) (theory proof : List ℕ) (before after : S
   pub quiet : IsQuiet before after
   pub prints : Prints text start end
 
--- Status 1: the words are a `check` or a `relation` whose files read, and step n is the first that is no instance of its rule.
+-- The words are a `check`, a `relation` or an `expand` of these files.
+abbrev pub AsksOfProof : (words : List (List ℕ)) → (theory proof : List ℕ) → Type 0
+AsksOfProof words theory proof =
+    ((report : Report) × Asks words (Check report theory proof))
+    ⊎ ((goal : ℕ) × (derivatives : List ℕ) × Asks words (Expand theory proof goal derivatives))
+
+-- Status 1: the words are one of these whose files read, and step n is the first that is no instance of its rule.
 pub record Rejects (words : List (List ℕ)) (before after : ShelfState) (start end : SinkState) (n : ℕ) : Type 0 where
-  pub report : Report
   pub theory : List ℕ
   pub proof : List ℕ
-  pub asks : Asks words (Check report theory proof)
+  pub asks : AsksOfProof words theory proof
   pub refused : StepFails theory proof n before
   pub quiet : IsQuiet before after
   pub prints : Prints (refused_text n) start end

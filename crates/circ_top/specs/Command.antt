@@ -1,5 +1,6 @@
 -- What the words of a run ask for.
-use Rattle.std.specs.Prelude.{◌≡◌, ◌≤◌, List, ℕ, [], ◌∷◌, Option, Some, None, codes, decimal}
+use Rattle.std.specs.Prelude.{◌≡◌, ◌≤◌, List, ℕ, [], ◌∷◌, Option, Some, None, codes, decimal, map}
+use Rattle.std.specs.List.{AllByRecursion}
 use Rattle.clap.specs.Faults.{fault_of}
 use Rattle.clap.specs.Simple.{matches_of}
 use Rattle.circ_lib.specs.Library.{library_text}
@@ -18,11 +19,18 @@ report_name Relation = codes "relation"
 abbrev pub IsNoReport : (name : List ℕ) → Type 0
 IsNoReport name = (r : Report) → name ≡ report_name r → ⊥
 
+-- the words are these numbers, each at most 4,294,967,295, in decimal digits
+abbrev pub AreNumbersOf : List ℕ → (words : List (List ℕ)) → Type 0
+AreNumbersOf ns words = AllByRecursion (λ n. n ≤ 4294967295) ns × (words ≡ map decimal ns)
+
+abbrev pub AreNoNumbers : (words : List (List ℕ)) → Type 0
+AreNoNumbers words = (ns : List ℕ) → AreNumbersOf ns words → ⊥
+
 -- Files go by their names. A proof is checked, and its goals are reported or the whole relation that it builds. A proof of a script's goals is searched for,
 -- within limits, and stored. The places of the greatest special set are listed, and the terms of a script are reduced, by so many replacements at most. Two
 -- automata are compared. An experiment is looked for that tells the sides of a goal of a script apart, within limits. The turns of the search for a proof of a script's goals are
 -- shown, within limits. A proof that two regular expressions match the same words is searched for, within limits, and stored. A proof is stored in version 2
--- under another name. The library's text is that of a name that it knows. A chain of so many streams is made and proved.
+-- under another name. A derivation is written out from a proof, for an experiment of these derivatives on a goal that is counted from 1. The library's text is that of a name that it knows. A chain of so many streams is made and proved.
 pub data Command : Type 0 where
   Check : (report : Report) (theory proof : List ℕ) → Command
   Prove : (limits : Limits) → (theory script proof : List ℕ) → Command
@@ -34,6 +42,7 @@ pub data Command : Type 0 where
   Trace : (limits : Limits) → (theory script : List ℕ) → Command
   Regex : (limits : Limits) → (left right proof : List ℕ) → Command
   Upgrade : (theory proof new : List ℕ) → Command
+  Expand : (theory proof : List ℕ) → (goal : ℕ) → (derivatives : List ℕ) → Command
   Library : (text : List ℕ) → Command
   Generate : (number : ℕ) → Command
 
@@ -56,6 +65,8 @@ pub data IsCommand (limits : Limits) (name : List ℕ) (given : List (List ℕ))
       → IsCommand limits name given (Regex limits left right proof)
   upgrade : (theory proof new : List ℕ) → name ≡ codes "upgrade" → given ≡ theory ∷ proof ∷ new ∷ []
       → IsCommand limits name given (Upgrade theory proof new)
+  expand : (theory proof : List ℕ) (goal : ℕ) (derivatives : List ℕ) (entries : List (List ℕ)) → goal ≤ 4294967295 → AreNumbersOf derivatives entries
+      → name ≡ codes "expand" → given ≡ theory ∷ proof ∷ decimal goal ∷ entries → IsCommand limits name given (Expand theory proof goal derivatives)
   library : (theory text : List ℕ) → name ≡ codes "library" → given ≡ theory ∷ [] → library_text theory ≡ Some text
       → IsCommand limits name given (Library text)
   generate : (number : ℕ) → 2 ≤ number → number ≤ 1000 → name ≡ codes "generate" → given ≡ decimal number ∷ []
@@ -88,6 +99,7 @@ stored_name (Differ limits theory script) = None
 stored_name (Trace limits theory script) = None
 stored_name (Regex limits left right proof) = Some proof
 stored_name (Upgrade theory proof new) = Some new
+stored_name (Expand theory proof goal derivatives) = None
 stored_name (Library text) = None
 stored_name (Generate n) = None
 
@@ -123,5 +135,6 @@ plain_request (request.Differ limits theory script) = Differ limits theory.now s
 plain_request (request.Trace limits theory script) = Trace limits theory.now script.now
 plain_request (request.Regex limits left right proof) = Regex limits left.now right.now proof.now
 plain_request (request.Upgrade theory proof new) = Upgrade theory.now proof.now new.now
+plain_request (request.Expand theory proof goal derivatives) = Expand theory.now proof.now goal derivatives.items
 plain_request (request.Library text) = Library text.now
 plain_request (request.Generate n) = Generate n

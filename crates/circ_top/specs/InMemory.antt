@@ -2,7 +2,7 @@
 use Rattle.std.specs.Prelude.{◌≡◌, ◌++◌, ℕ, List, Option, IsSome}
 use Rattle.circ_outer.specs.Shelf.{ShelfState}
 use Rattle.circ_outer.specs.Sink.{SinkState}
-use Rattle.circ_top.specs.Command.{Command, Check, Prove, Show, Contexts, Reduce, Same, Differ, Trace, Regex, Upgrade, Library, Generate, Asks}
+use Rattle.circ_top.specs.Command.{Command, Check, Prove, Show, Contexts, Reduce, Same, Differ, Trace, Regex, Upgrade, Expand, Library, Generate, Asks}
 use Rattle.circ_files.specs.Files.{Held}
 use Rattle.circ_files.specs.Like.{IsLike}
 use Rattle.circ_top.specs.Outcome.{Outcome}
@@ -23,6 +23,7 @@ HoldsFilesOf held (Differ limits theory script) = IsSome (held theory) × IsSome
 HoldsFilesOf held (Trace limits theory script) = IsSome (held theory) × IsSome (held script)
 HoldsFilesOf held (Regex limits left right proof) = Unit {0}
 HoldsFilesOf held (Upgrade theory proof new) = IsSome (held theory) × IsSome (held proof)
+HoldsFilesOf held (Expand theory proof goal derivatives) = IsSome (held theory) × IsSome (held proof)
 HoldsFilesOf held (Library text) = Unit {0}
 HoldsFilesOf held (Generate n) = Unit {0}
 

@@ -12,6 +12,7 @@ pub mod Differ
 pub mod Regex
 pub mod Upgrade
 pub mod Upgraded
+pub mod Expand
 pub mod Outcome
 pub mod Answer
 pub mod Causes

@@ -5,8 +5,9 @@ use Rattle.circ_generate.specs.Generating.{Generates}
 use Rattle.circ_reports.specs.Contexts.{ContextsOutcome}
 use Rattle.circ_reports.specs.Check.{CheckOutcome}
 use Rattle.circ_top.specs.Differ.{DifferOutcome}
-use Rattle.circ_top.specs.Command.{Command, Check, Prove, Show, Contexts, Reduce, Same, Differ, Trace, Regex, Upgrade, Library, Generate, Asks, IsNoCommand}
+use Rattle.circ_top.specs.Command.{Command, Check, Prove, Show, Contexts, Reduce, Same, Differ, Trace, Regex, Upgrade, Expand, Library, Generate, Asks, IsNoCommand}
 use Rattle.circ_files.specs.Files.{Held}
+use Rattle.circ_reports.specs.Expand.{ExpandOutcome}
 use Rattle.circ_reports.specs.Library.{LibraryOutcome}
 use Rattle.circ_top.specs.Prove.{ProveOutcome}
 use Rattle.circ_reports.specs.Reduce.{ReduceOutcome}
@@ -32,6 +33,7 @@ OutcomeOf held (Differ limits theory script) s text stored = DifferOutcome held 
 OutcomeOf held (Trace limits theory script) s text stored = TraceOutcome held limits theory script s text stored
 OutcomeOf held (Regex limits left right proof) s text stored = RegexOutcome limits left right proof s text stored
 OutcomeOf held (Upgrade theory proof new) s text stored = UpgradeOutcome held theory proof new s text stored
+OutcomeOf held (Expand theory proof goal derivatives) s text stored = ExpandOutcome held theory proof goal derivatives s text × (stored ≡ None)
 OutcomeOf held (Library given) s text stored = LibraryOutcome given s text × (stored ≡ None)
 OutcomeOf held (Generate n) s text stored = Generates n (ending s text stored)
 

@@ -2,12 +2,13 @@
 use Rattle.std.specs.Prelude.{ℕ, List, codes}
 use Rattle.circ_files.specs.Refusals.{statement_places, proof_places, text_of_refusal}
 use Rattle.circ_files.specs.declared.status.Status.{Status}
-use Rattle.circ_top.specs.Command.{Command, Check, Upgrade}
+use Rattle.circ_top.specs.Command.{Command, Check, Upgrade, Expand}
 
 -- the places of a file's text, by the command that takes the file: lines of a proof, else statements
 abbrev pub place_text : Command → (file : ℕ) → List ℕ
 place_text (Check report theory proof) = proof_places
 place_text (Upgrade theory proof new) = proof_places
+place_text (Expand theory proof goal derivatives) = proof_places
 place_text _ = statement_places
 
 abbrev pub usage_text : List ℕ

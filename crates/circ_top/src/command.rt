@@ -9,7 +9,7 @@ ghost use Rattle.circ_proof.specs.Proof.{Proof};
 ghost use Rattle.circ_proof.specs.Accepted.{Derives, FirstFail};
 ghost use Rattle.circ_reports.specs.declared.report.Report.{Report};
 ghost use Rattle.circ_turn.specs.declared.search.Limits.{Limits};
-ghost use Rattle.circ_top.specs.Command.{Check, Prove, Differ, Regex, Upgrade, Asks};
+ghost use Rattle.circ_top.specs.Command.{Check, Prove, Differ, Regex, Upgrade, Expand, Asks};
 ghost use Rattle.circ_top.specs.Command.{IsNotStored, IsReport, IsBounded, plain_request};
 ghost use Rattle.circ_files.specs.Texts.{refused_text};
 ghost use Rattle.circ_files.specs.Ending.{Stored as PlainStored, plain_stored, plain_ending};
@@ -23,6 +23,7 @@ ghost use Rattle.circ_top.specs.Prove.{StoresProof};
 ghost use Rattle.circ_top.specs.Differ.{TellsApart};
 ghost use Rattle.circ_top.specs.Regex.{StoresEquality};
 ghost use Rattle.circ_top.specs.Upgrade.{StoresUpgraded};
+ghost use Rattle.circ_top.specs.Expand.{WritesDerivation};
 ghost use Rattle.circ_top.specs.Storing.{HoldsAfter, FailsToStore, Ends, IsQuietEnd};
 ghost use Rattle.circ_top.specs.Answer.{Succeeds, Comes, RefusesCommand, AnswersDue};
 ghost use Rattle.circ_top.specs.Answer.{Succeeded};
@@ -46,7 +47,7 @@ use circ_read::laws::read_in_one_way;
 use circ_regex::laws::{
     expressions_that_behave_match, read_in_one_way as expressions_read_in_one_way,
 };
-use circ_reports::{check, contexts, library, reduce, same, show, upgrade};
+use circ_reports::{check, contexts, expand, library, reduce, same, show, upgrade};
 use circ_script::laws::read_in_one_way as scripts_read_in_one_way;
 use circ_show::laws::printed_in_one_way;
 use circ_soundness::{goals_behave, one_verdict};
@@ -55,10 +56,11 @@ use std::alloc::Global;
 /// The program: `words` are its name and then a command with what it takes, which is
 /// `check THEORY PROOF`, `relation THEORY PROOF`, `prove THEORY SCRIPT PROOF`, `show THEORY`,
 /// `contexts THEORY`, `reduce THEORY SCRIPT`, `same FIRST SECOND`, `differ THEORY SCRIPT`,
-/// `trace THEORY SCRIPT`, `regex LEFT RIGHT PROOF`, `upgrade THEORY PROOF NEW`, `library NAME` or
-/// `generate NUMBER`. The options `--steps N` and `--derives N` may stand before, behind or between
-/// them. The files are taken from the shelf, to which `prove`, `regex` and `upgrade` store a proof,
-/// and the text of the answer is written to the sink, whole.
+/// `trace THEORY SCRIPT`, `regex LEFT RIGHT PROOF`, `upgrade THEORY PROOF NEW`,
+/// `expand THEORY PROOF GOAL ENTRY*`, `library NAME` or `generate NUMBER`. The options
+/// `--steps N` and `--derives N` may stand before, behind or between them. The files are taken
+/// from the shelf, to which `prove`, `regex` and `upgrade` store a proof, and the text of the
+/// answer is written to the sink, whole.
 pub fn circ<S: Shelf, K: Sink>(
     alloc: Global,
     words: &Vec<String>,
@@ -102,6 +104,13 @@ pub fn circ<S: Shelf, K: Sink>(
     ensures upgraded { (theory proof new : List ℕ) →
         Asks (map string_bytes words.now.items) (Upgrade theory proof new) →
         result ≡ Status.Ok → StoresUpgraded theory proof new
+        (S.state shelf.old) (S.state shelf.new) (K.state out.old) (K.state out.new) }
+
+    // Status 0 of `expand`: what is printed leads from the experiment on the left side of a goal of
+    // the proof to that on its right side, with no hypothesis.
+    ensures expansion { (theory proof : List ℕ) (goal : ℕ) (derivatives : List ℕ) →
+        Asks (map string_bytes words.now.items) (Expand theory proof goal derivatives) →
+        result ≡ Status.Ok → WritesDerivation theory proof goal derivatives
         (S.state shelf.old) (S.state shelf.new) (K.state out.old) (K.state out.new) }
 
     // Status 0 of any command: its text is printed, which `Succeeds` states for each.
@@ -301,6 +310,12 @@ fn report<S: Shelf>(alloc: Global, request: &Request<'_>, shelf: &mut S) -> Resu
             theory,
             script,
         } => reduce(alloc, shelf, *budget, theory, script),
+        Request::Expand {
+            theory,
+            proof,
+            goal,
+            derivatives,
+        } => expand(alloc, shelf, theory, proof, *goal, derivatives.as_slice()),
         Request::Library { text } => library(alloc, text),
         _ => unreachable!(),
     }

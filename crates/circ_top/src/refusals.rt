@@ -62,7 +62,8 @@ fn place_words(request: &Request<'_>, file: u8) -> &'static [u8]
     ensures { result.now ≡ place_text (plain_request request.now) file }
 {
     match request {
-        Request::Check { .. } | Request::Upgrade { .. } if file == CHECKED_FILE => b", line ",
+        Request::Check { .. } | Request::Upgrade { .. } | Request::Expand { .. }
+            if file == CHECKED_FILE => { b", line " }
         _ => b", statement ",
     }
 }

@@ -1,8 +1,10 @@
 //! What the words of a run ask for.
 ghost use Rattle.std.specs.Prelude.{◌≡◌, ◌≤◌, ℕ, [], ◌∷◌, IfOk, MatchOption, map};
-ghost use Rattle.std.specs.Prelude.{string_bytes, decimal};
+ghost use Rattle.std.specs.Prelude.{◌≢◌, string_bytes, decimal, codes};
+ghost use Rattle.std.specs.List.{AllByRecursion};
 ghost use Rattle.circ_top.specs.Command.{Generate, Asks, IsCommand, IsNoCommand, IsNoneOfTable};
 ghost use Rattle.circ_top.specs.Command.{report_name, IsNoReport, plain_request};
+ghost use Rattle.circ_top.specs.Command.{AreNumbersOf, AreNoNumbers};
 
 use crate::words::{Words, found, is_word, matches, number};
 use circ_lib::lookup;
@@ -15,6 +17,9 @@ const LEAST_STREAMS: u64 = 2;
 
 /// The most streams of a chain.
 const MOST_STREAMS: u64 = 1_000;
+
+/// The greatest number of a goal and of a derivative.
+const MOST_NUMBER: u64 = 4_294_967_295;
 
 /// A command with what it takes: names of files, or the text of the library that is named.
 #[derive(Drop)]
@@ -83,6 +88,14 @@ pub(crate) enum Request<'a> {
         proof: &'a str,
         new: &'a str,
     },
+    /// A derivation without hypotheses is written out from a proof file over a theory file, for a
+    /// goal, counted from 1, and an experiment of these derivatives.
+    Expand {
+        theory: &'a str,
+        proof: &'a str,
+        goal: u32,
+        derivatives: Vec<u32>,
+    },
     /// A chain of so many streams is made and proved.
     Generate {
         number: u16,
@@ -107,11 +120,65 @@ pub(crate) fn asked<'a>(
     let Some(words) = found(&matches) else {
         return Ok(None);
     };
-    Ok(by_table(&words))
+    by_table(alloc, &words)
 }
 
 /// The request of the table of commands.
-fn by_table<'a>(words: &Words<'_, 'a>) -> Option<Request<'a>>
+fn by_table<'a>(alloc: Global, words: &Words<'_, 'a>) -> Result<Option<Request<'a>>, AllocError>
+    ensures { IfOk result (λ o. MatchOption o
+        (IsNoneOfTable words.now.limits words.now.name.now (map (λ x. x.now) words.now.given.now))
+        (λ r. IsCommand words.now.limits words.now.name.now
+        (map (λ x. x.now) words.now.given.now) (plain_request r))) }
+{
+    if is_word(words.name, b"expand") {
+        return of_expand(alloc, words);
+    }
+    Ok(of_fixed(words))
+}
+
+/// The request of `expand`, which takes any number of words behind its third.
+fn of_expand<'a>(alloc: Global, words: &Words<'_, 'a>) -> Result<Option<Request<'a>>, AllocError>
+    requires { words.now.name.now ≡ codes "expand" }
+    ensures { IfOk result (λ o. MatchOption o
+        (IsNoneOfTable words.now.limits words.now.name.now (map (λ x. x.now) words.now.given.now))
+        (λ r. IsCommand words.now.limits words.now.name.now
+        (map (λ x. x.now) words.now.given.now) (plain_request r))) }
+{
+    let [theory, proof, goal, entries @ ..] = words.given else {
+        return Ok(None);
+    };
+    let Some(goal) = number(goal, MOST_NUMBER) else {
+        return Ok(None);
+    };
+    let Some(derivatives) = numbers(alloc, entries)? else {
+        return Ok(None);
+    };
+    Ok(Some(Request::Expand {
+        theory,
+        proof,
+        goal: goal as u32,
+        derivatives,
+    }))
+}
+
+/// The numbers that words write, if each of them is one.
+fn numbers(alloc: Global, words: &[&str]) -> Result<Option<Vec<u32>>, AllocError>
+    ensures { IfOk result (λ o. MatchOption o (AreNoNumbers (map (λ x. x.now) words.now))
+        (λ v. AreNumbersOf v.items (map (λ x. x.now) words.now))) }
+{
+    let mut numbers = Vec::with_capacity(alloc, words.len())?;
+    for word in words {
+        let Some(number) = number(word, MOST_NUMBER) else {
+            return Ok(None);
+        };
+        numbers.push(number as u32)?;
+    }
+    Ok(Some(numbers))
+}
+
+/// The request of a command that takes so many words and no other.
+fn of_fixed<'a>(words: &Words<'_, 'a>) -> Option<Request<'a>>
+    requires { words.now.name.now ≢ codes "expand" }
     ensures { MatchOption result
         (IsNoneOfTable words.now.limits words.now.name.now (map (λ x. x.now) words.now.given.now))
         (λ r. IsCommand words.now.limits words.now.name.now
@@ -216,6 +283,7 @@ fn of_three<'a>(
     second: &'a str,
     third: &'a str,
 ) -> Option<Request<'a>>
+    requires { words.now.name.now ≢ codes "expand" }
     ensures { MatchOption result
         (IsNoneOfTable words.now.limits words.now.name.now
         (first.now ∷ second.now ∷ third.now ∷ []))

@@ -1,4 +1,4 @@
-use Rattle.circ_top.proofs.Answers.{answers_succeed, answers_accepted, answers_proved, answers_equal, answers_told_apart, answers_upgraded, answers_refused, answers_hold, answers_past_limit, answers_read_fault, answers_write_fault}
+use Rattle.circ_top.proofs.Answers.{answers_succeed, answers_accepted, answers_proved, answers_equal, answers_told_apart, answers_upgraded, answers_written, answers_refused, answers_hold, answers_past_limit, answers_read_fault, answers_write_fault}
 use Rattle.circ_top.proofs.Answers.{read_outcome, accepted_read_outcome}
 use Rattle.circ_files.proofs.Readings.{ReadsOnce, reads_once}
 use Rattle.circ_top.proofs.Proofs.{ProofsOnce, proofs_come_once}
@@ -33,6 +33,11 @@ returns-clause-upgraded g c =
     answers_upgraded _ _ _ _ _ c.answer.result (rw c.as_slice.ensures.value at c.answer.ensures.answers)
     (rw c.as_slice.ensures.value at c.answer.ensures.quiet)
 
+pub returns-clause-expansion : goal.returns-clause-expansion
+returns-clause-expansion g c =
+    answers_written _ _ _ _ _ c.answer.result (rw c.as_slice.ensures.value at c.answer.ensures.answers)
+    (rw c.as_slice.ensures.value at c.answer.ensures.quiet)
+
 pub returns-clause-succeeded : goal.returns-clause-succeeded
 returns-clause-succeeded g c = answers_succeed _ _ _ _ _ c.answer.result (rw c.as_slice.ensures.value at c.answer.ensures.answers) (rw c.as_slice.ensures.value at c.answer.ensures.quiet)
 
@@ -43,7 +48,7 @@ pub returns-clause-complete : goal.returns-clause-complete
 returns-clause-complete g c = λ t.
     let once : ReadsOnce = reads_once c.read_in_one_way.ensures.either c.read_in_one_way.ensures.number c.read_in_one_way.ensures.cause
     c.read_in_one_way.ensures.theory in
-    let proofs : ProofsOnce = proofs_come_once c.one_answer.ensures.not_both c.one_answer.ensures.cause c.one_verdict.ensures.not_both
+    let proofs : ProofsOnce = proofs_come_once c.one_answer.ensures.proof c.one_answer.ensures.not_both c.one_answer.ensures.cause c.one_verdict.ensures.not_both
     c.one_verdict.ensures.one_failure c.one_verdict.ensures.one_relation in
     let scripts : ScriptsOnce = scripts_once c.read_in_one_way-2.ensures.either c.read_in_one_way-2.ensures.number
     c.read_in_one_way-2.ensures.cause c.read_in_one_way-2.ensures.script in
@@ -55,7 +60,7 @@ pub returns-clause-first_failure : goal.returns-clause-first_failure
 returns-clause-first_failure g c = λ t report th p n f fail.
     let once : ReadsOnce = reads_once c.read_in_one_way.ensures.either c.read_in_one_way.ensures.number c.read_in_one_way.ensures.cause
     c.read_in_one_way.ensures.theory in
-    let proofs : ProofsOnce = proofs_come_once c.one_answer.ensures.not_both c.one_answer.ensures.cause c.one_verdict.ensures.not_both
+    let proofs : ProofsOnce = proofs_come_once c.one_answer.ensures.proof c.one_answer.ensures.not_both c.one_answer.ensures.cause c.one_verdict.ensures.not_both
     c.one_verdict.ensures.one_failure c.one_verdict.ensures.one_relation in
     let scripts : ScriptsOnce = scripts_once c.read_in_one_way-2.ensures.either c.read_in_one_way-2.ensures.number
     c.read_in_one_way-2.ensures.cause c.read_in_one_way-2.ensures.script in
@@ -68,7 +73,7 @@ pub returns-clause-accepted_text : goal.returns-clause-accepted_text
 returns-clause-accepted_text g c = λ t report th p derived f d.
     let once : ReadsOnce = reads_once c.read_in_one_way.ensures.either c.read_in_one_way.ensures.number c.read_in_one_way.ensures.cause
     c.read_in_one_way.ensures.theory in
-    let proofs : ProofsOnce = proofs_come_once c.one_answer.ensures.not_both c.one_answer.ensures.cause c.one_verdict.ensures.not_both
+    let proofs : ProofsOnce = proofs_come_once c.one_answer.ensures.proof c.one_answer.ensures.not_both c.one_answer.ensures.cause c.one_verdict.ensures.not_both
     c.one_verdict.ensures.one_failure c.one_verdict.ensures.one_relation in
     let scripts : ScriptsOnce = scripts_once c.read_in_one_way-2.ensures.either c.read_in_one_way-2.ensures.number
     c.read_in_one_way-2.ensures.cause c.read_in_one_way-2.ensures.script in
@@ -90,7 +95,7 @@ pub returns-clause-memory : goal.returns-clause-memory
 returns-clause-memory g c = λ e t.
     let once : ReadsOnce = reads_once c.read_in_one_way.ensures.either c.read_in_one_way.ensures.number c.read_in_one_way.ensures.cause
     c.read_in_one_way.ensures.theory in
-    let proofs : ProofsOnce = proofs_come_once c.one_answer.ensures.not_both c.one_answer.ensures.cause c.one_verdict.ensures.not_both
+    let proofs : ProofsOnce = proofs_come_once c.one_answer.ensures.proof c.one_answer.ensures.not_both c.one_answer.ensures.cause c.one_verdict.ensures.not_both
     c.one_verdict.ensures.one_failure c.one_verdict.ensures.one_relation in
     let scripts : ScriptsOnce = scripts_once c.read_in_one_way-2.ensures.either c.read_in_one_way-2.ensures.number
     c.read_in_one_way-2.ensures.cause c.read_in_one_way-2.ensures.script in

@@ -1,6 +1,6 @@
 use Rattle.circ_proof.specs.PlainProof.{plain_proof}
 use Rattle.circ_reports.proofs.ProofFiles.{OneProof, takes, at_fault}
-use Rattle.circ_reports.proofs.renewing.take_proof.Goals as goal
+use Rattle.circ_reports.proofs.proof_file.take_proof.Goals as goal
 
 pub returns-in-Ok-decode-clause-takes : goal.returns-in-Ok-decode-clause-takes
 returns-in-Ok-decode-clause-takes g c =

@@ -1,0 +1,76 @@
+//! The proof that a file reads as, whole.
+ghost use Rattle.std.specs.Prelude.{IfOk, IfErr};
+ghost use Rattle.circ_outer.specs.Shelf.{ShelfFrame};
+ghost use Rattle.circ_proof.specs.PlainProof.{plain_proof};
+ghost use Rattle.circ_proof.specs.Proof.{ProofFor};
+ghost use Rattle.circ_files.specs.ProofFile.{TakesProof, IsProofFault};
+ghost use Rattle.circ_files.specs.Quiet.{IsQuietCall};
+ghost use Rattle.circ_reports.specs.PlainProof.{TakesPlainProof, IsPlainProofFault};
+
+use crate::incoming::refusal;
+use crate::left_out::left_out;
+use circ_file::decode;
+use circ_files::{CHECKED_FILE, Status, take_file};
+use circ_form::Text;
+use circ_outer::Shelf;
+use circ_proof::Proof;
+use circ_proof_text::laws::one_answer;
+use circ_read::Cause;
+use circ_theory::Theory;
+use std::alloc::Global;
+
+/// The proof that file 2 reads as in this theory, or why there is none.
+pub(crate) fn take_proof<S: Shelf>(
+    alloc: Global,
+    shelf: &mut S,
+    theory: &Theory,
+    name: &str,
+) -> Result<Proof, Status>
+    ensures takes { IfOk result (λ p.
+        TakesProof name.now theory.now (plain_proof p) (S.state shelf.old)) }
+    ensures fits { IfOk result (λ p. ProofFor theory.now (plain_proof p)) }
+    ensures fault { IfErr result
+        (IsProofFault name.now theory.now (S.state shelf.old) (S.state shelf.new)) }
+    ensures quiet { IsQuietCall (S.state shelf.old) (S.state shelf.new) result }
+    ensures frame { ShelfFrame (S.state shelf.old) (S.state shelf.new) }
+{
+    let bytes = match take_file(alloc, shelf, CHECKED_FILE, name) {
+        Ok(bytes) => bytes,
+        Err(status) => return Err(status),
+    };
+    theory.known();
+    one_answer();
+    match decode(alloc, theory, bytes.as_slice()) {
+        Ok(proof) => Ok(proof),
+        Err(fault) => Err(refusal(fault)),
+    }
+}
+
+/// The same for a command that leaves conditions out.
+pub(crate) fn take_plain_proof<S: Shelf>(
+    alloc: Global,
+    shelf: &mut S,
+    theory: &Theory,
+    name: &str,
+) -> Result<Proof, Status>
+    ensures takes { IfOk result (λ p.
+        TakesPlainProof name.now theory.now (plain_proof p) (S.state shelf.old)) }
+    ensures fault { IfErr result
+        (IsPlainProofFault name.now theory.now (S.state shelf.old) (S.state shelf.new)) }
+    ensures quiet { IsQuietCall (S.state shelf.old) (S.state shelf.new) result }
+    ensures frame { ShelfFrame (S.state shelf.old) (S.state shelf.new) }
+{
+    let proof = match take_proof(alloc, shelf, theory, name) {
+        Ok(proof) => proof,
+        Err(status) => return Err(status),
+    };
+    if let Some(word) = left_out(&proof) {
+        let word = Text::of(alloc, word)?;
+        return Err(Status::Unreadable {
+            file: CHECKED_FILE,
+            place: 0,
+            cause: Cause::LeftOut { word },
+        });
+    }
+    Ok(proof)
+}
