@@ -13,8 +13,9 @@ use std::alloc::{AllocError, Global};
 /// As many readings are tried of one term at most.
 const MOST_TRIES: usize = 64;
 
-/// The tokens that are read again times the operators that their words may begin: about a second's
-/// work, so that a term that is hard to read is tried less often.
+/// The tokens that are read again times the operators that their words may begin: a tenth of a
+/// second's work, so that a term that is hard to read is tried less often, and the hardest not at
+/// all.
 const MOST_WORK: usize = 8_000_000;
 
 /// The terms of a statement or an item, and in what they are read.
@@ -74,6 +75,9 @@ impl Reader<'_> {
 
     /// The mark of the first of two sides that does not read, or of one term.
     fn unread_pair(&self, from: usize, to: usize) -> Result<Option<Mark>, AllocError> {
+        if self.most_tries(from, to) == 0 {
+            return Ok(Some(Mark::at(from, NO_TERM)));
+        }
         let Some(equals) = first(self.tokens, from, to, b"=") else {
             return self.unread_term(from, to);
         };
@@ -106,7 +110,7 @@ impl Reader<'_> {
 
     /// Where the longest part of a term ends that reads.
     fn longest(&self, from: usize, to: usize) -> Result<Option<usize>, AllocError> {
-        let mut end = to.min(from.saturating_add(MOST_TOKENS));
+        let mut end = to.saturating_sub(1).min(from.saturating_add(MOST_TOKENS));
         for _ in 0..self.most_tries(from, end) {
             if end <= from {
                 return Ok(None);
@@ -131,7 +135,6 @@ impl Reader<'_> {
         MOST_WORK
             .checked_div(work)
             .unwrap_or(MOST_TRIES)
-            .max(1)
             .min(MOST_TRIES)
     }
 
