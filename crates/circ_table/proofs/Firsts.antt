@@ -38,12 +38,12 @@ get_there (x ∷ xs) (suc n) h = get_there xs n (omega arith)
 
 -- what is read where a list was written
 
-pub get_put : (xs : List ℕ) (i x y : ℕ) → slice_get (slice_set xs i x) i ≡ Some y → x ≡ y
+pub get_put : {X : Type 0} (xs : List X) (i : ℕ) (x y : X) → slice_get (slice_set xs i x) i ≡ Some y → x ≡ y
 get_put [] i x y g = absurd (cc)
 get_put (z ∷ xs) zero x y g = same_Some x y g
 get_put (z ∷ xs) (suc i) x y g = get_put xs i x y g
 
-pub get_other : (xs : List ℕ) (i j x y : ℕ) → (i ≡ j → ⊥) → slice_get (slice_set xs i x) j ≡ Some y → slice_get xs j ≡ Some y
+pub get_other : {X : Type 0} (xs : List X) (i j : ℕ) (x y : X) → (i ≡ j → ⊥) → slice_get (slice_set xs i x) j ≡ Some y → slice_get xs j ≡ Some y
 get_other [] i j x y h g = g
 get_other (z ∷ xs) zero zero x y h g = absurd (h refl)
 get_other (z ∷ xs) zero (suc j) x y h g = g

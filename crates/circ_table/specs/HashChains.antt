@@ -5,6 +5,7 @@ use Rattle.circ_proof.specs.Table.{term_limit}
 use Rattle.circ_table.specs.declared.lines.Row.{Row}
 use Rattle.circ_table.specs.declared.lines.Lines.{Lines}
 use Rattle.circ_table.specs.declared.hash_chains.HashChains.{HashChains}
+use Rattle.circ_table.specs.declared.hash_chains.Link.{Link}
 use Rattle.circ_table.specs.declared.hash_chains.TheConstants.{CHAIN_END}
 use Rattle.circ_table.specs.Lines.{PlainRoot, row_root, AreLines}
 
@@ -18,10 +19,14 @@ mixed hash number = folded (bit_xor hash number * 11400714819323198485 % 2 ^ 64)
 abbrev pub hash_of : PlainRoot → ℕ
 hash_of p = fold mixed (mixed (mixed 0 p.name) p.sort) p.args
 
--- the hashes of the roots, of those terms that are the first of their kind
+-- the upper half of a root's hash
+abbrev pub root_key : PlainRoot → ℕ
+root_key p = hash_of p / 2 ^ 32
+
+-- the keys of the roots, of those terms that are the first of their kind
 abbrev pub keys_from : (args : List ℕ) (start : ℕ) → List Row → List (Option ℕ)
 keys_from args start [] = []
-keys_from args start (r ∷ rs) = (if r.is_first then Some (hash_of (row_root args start r)) else None) ∷ keys_from args r.end rs
+keys_from args start (r ∷ rs) = (if r.is_first then Some (root_key (row_root args start r)) else None) ∷ keys_from args r.end rs
 
 abbrev pub keys : Lines → List (Option ℕ)
 keys l = keys_from l.args.items 0 l.rows.items
@@ -36,17 +41,22 @@ pub record IsNewest (keys : List (Option ℕ)) (width chain count link : ℕ) : 
   pub stands : (link ≡ CHAIN_END) ⊎ ((CHAIN_END < link) × (link ≤ count) × StandsIn keys width chain (link - 1))
 
 -- The chains lead through the first `count` terms.
-pub record IsLinked (keys : List (Option ℕ)) (next heads : List ℕ) (count : ℕ) : Type 0 where
+pub record IsLinked (keys : List (Option ℕ)) (links : List Link) (heads : List ℕ) (count : ℕ) : Type 0 where
   pub newest : (chain link : ℕ) → slice_get heads chain ≡ Some link → IsNewest keys (length heads) chain count link
-  pub older : (m k link : ℕ) → m < count → slice_get keys m ≡ Some (Some k) → slice_get next m ≡ Some link → IsNewest keys (length heads) (k % length heads) m link
+  pub older : (m k : ℕ) (link : Link) → m < count → slice_get keys m ≡ Some (Some k) → slice_get links m ≡ Some link → IsNewest keys (length heads) (k % length heads) m link.next
 
--- the chain of the n-th term, where it is the first of its kind
-abbrev pub IsChainOf : (keys : List (Option ℕ)) (width n chain : ℕ) → Type 0
-IsChainOf keys width n chain = (k : ℕ) → slice_get keys n ≡ Some (Some k) → chain ≡ k % width
+-- each link has the key of its term, where that is the first of its kind
+abbrev pub HaveKeys : (keys : List (Option ℕ)) → List Link → Type 0
+HaveKeys keys links = (m k : ℕ) (link : Link) → slice_get keys m ≡ Some (Some k) → slice_get links m ≡ Some link → link.key ≡ k
+
+-- the key of the n-th term, where it is the first of its kind
+abbrev pub IsKeyOf : (keys : List (Option ℕ)) (n key : ℕ) → Type 0
+IsKeyOf keys n key = (k : ℕ) → slice_get keys n ≡ Some (Some k) → key ≡ k
 
 -- what a table that grows keeps
 pub record AreRows (l : Lines) (k : HashChains) : Type 0 where
   pub lines : AreLines l
   pub few : length l.rows.items ≤ term_limit
-  pub long : length k.next.items ≡ length l.rows.items
-  pub linked : IsLinked (keys l) k.next.items k.heads.items (length l.rows.items)
+  pub long : length k.links.items ≡ length l.rows.items
+  pub kept : HaveKeys (keys l) k.links.items
+  pub linked : IsLinked (keys l) k.links.items k.heads.items (length l.rows.items)

@@ -7,7 +7,8 @@ ghost use Rattle.std.specs.List.{slice_get};
 ghost use Rattle.circ_term.specs.Tree.{size_of};
 ghost use Rattle.circ_proof.specs.Table.{has};
 ghost use Rattle.circ_table.specs.Lines.{AreLines, plain, trees, roots, tree_at, IsThere};
-ghost use Rattle.circ_table.specs.HashChains.{mixed, hash_of, keys, IsLinked, IsChainOf};
+ghost use Rattle.circ_table.specs.HashChains.{mixed, hash_of, root_key, keys, IsLinked, HaveKeys};
+ghost use Rattle.circ_table.specs.HashChains.{IsKeyOf};
 
 use crate::lines::{Lines, Root};
 use std::alloc::{AllocError, Global};
@@ -18,108 +19,109 @@ const CHAIN_END: u32 = 0;
 // The fewest chains.
 const FEWEST: usize = 8;
 
-// For each chain its newest term, and for each term the next older one of its chain. A term stands
-// in the chain of its root's hash, if it is the first of its kind. Terms of one chain may have
-// different hashes, and terms with one hash may be different.
+// What is kept of a term for its chain.
+#[derive(Clone, Copy)]
+pub(crate) struct Link {
+    // Leads to the next older term of the chain.
+    pub next: u32,
+    // The key of the term's root.
+    pub key: u32,
+}
+
+// For each chain its newest term, and for each term its link. A term stands in the chain of its
+// root's key, if it is the first of its kind. Terms of one chain may have different keys, and terms
+// with one key may be different; a term with another key is passed by without a look at its row.
 #[derive(Drop)]
 pub(crate) struct HashChains {
     alloc: Global,
-    pub next: Vec<u32>,
+    pub links: Vec<Link>,
     pub heads: Vec<u32>,
 }
 
 impl HashChains {
     pub(crate) fn new(alloc: Global) -> HashChains
-        ensures next { result.next.items ≡ [] }
+        ensures links { result.links.items ≡ [] }
         ensures heads { result.heads.items ≡ [] }
     {
         HashChains {
             alloc,
-            next: Vec::new(alloc),
+            links: Vec::new(alloc),
             heads: Vec::new(alloc),
         }
     }
 
-    // Makes room for one term more, and chains for half as many terms at least.
+    // Makes room for one term more, and as many chains as there are terms at least. Twice as many
+    // are made, so that this is seldom done.
     pub(crate) fn make_room(&mut self, lines: &Lines) -> Result<(), AllocError>
         requires lines { AreLines lines.now }
         requires few { length lines.now.rows.items < 2 ^ 31 }
-        requires long { length self.old.next.items ≡ length lines.now.rows.items }
-        requires linked { IsLinked (keys lines.now) self.old.next.items self.old.heads.items
+        requires long { length self.old.links.items ≡ length lines.now.rows.items }
+        requires keys { HaveKeys (keys lines.now) self.old.links.items }
+        requires linked { IsLinked (keys lines.now) self.old.links.items self.old.heads.items
             (length lines.now.rows.items) }
-        ensures long { length self.new.next.items ≡ length lines.now.rows.items }
-        ensures linked { IsLinked (keys lines.now) self.new.next.items self.new.heads.items
+        ensures long { length self.new.links.items ≡ length lines.now.rows.items }
+        ensures keys { HaveKeys (keys lines.now) self.new.links.items }
+        ensures linked { IsLinked (keys lines.now) self.new.links.items self.new.heads.items
             (length lines.now.rows.items) }
         ensures wide { OnOk result (0 < length self.new.heads.items) }
-        ensures room { OnOk result (vec_len self.new.next < vec_capacity self.new.next) }
+        ensures room { OnOk result (vec_len self.new.links < vec_capacity self.new.links) }
     {
-        self.next.reserve(1)?;
+        self.links.reserve(1)?;
         let count = lines.rows.len();
-        if count < 2 * self.heads.len() {
+        if count < self.heads.len() {
             return Ok(());
         }
-        let heads = vec![in self.alloc; CHAIN_END; count.max(FEWEST)]?;
+        let heads = vec![in self.alloc; CHAIN_END; (2 * count).max(FEWEST)]?;
         self.heads = heads;
-        link_all(lines, self.next.as_mut_slice(), self.heads.as_mut_slice());
+        enter_all(lines, self.links.as_mut_slice(), self.heads.as_mut_slice());
         Ok(())
     }
 
-    // The chain of a root.
-    pub(crate) fn chain(&self, root: Root<'_>) -> usize
-        requires { 0 < length self.now.heads.items }
-        ensures is { result ≡ hash_of (plain root.entry) % length self.now.heads.items }
-        ensures within { result < length self.now.heads.items }
-    {
-        chain_of(root, self.heads.len())
-    }
-
-    // Puts the last term into this chain, if it is the first of its kind.
-    pub(crate) fn add(&mut self, lines: &Lines, chain: usize)
+    // Puts the last term into the chain of its key, if it is the first of its kind.
+    pub(crate) fn add(&mut self, lines: &Lines, key: u32)
         requires lines { AreLines lines.now }
         requires few { length lines.now.rows.items < 2 ^ 31 }
         requires wide { 0 < length self.old.heads.items }
-        requires room { vec_len self.old.next < vec_capacity self.old.next }
-        requires long { length self.old.next.items + 1 ≡ length lines.now.rows.items }
-        requires linked { IsLinked (keys lines.now) self.old.next.items self.old.heads.items
-            (length self.old.next.items) }
-        requires chain { IsChainOf (keys lines.now) (length self.old.heads.items)
-            (length self.old.next.items) chain }
-        requires within { chain < length self.old.heads.items }
-        ensures long { length self.new.next.items ≡ length lines.now.rows.items }
-        ensures linked { IsLinked (keys lines.now) self.new.next.items self.new.heads.items
+        requires room { vec_len self.old.links < vec_capacity self.old.links }
+        requires long { length self.old.links.items + 1 ≡ length lines.now.rows.items }
+        requires keys { HaveKeys (keys lines.now) self.old.links.items }
+        requires linked { IsLinked (keys lines.now) self.old.links.items self.old.heads.items
+            (length self.old.links.items) }
+        requires key { IsKeyOf (keys lines.now) (length self.old.links.items) key }
+        ensures long { length self.new.links.items ≡ length lines.now.rows.items }
+        ensures keys { HaveKeys (keys lines.now) self.new.links.items }
+        ensures linked { IsLinked (keys lines.now) self.new.links.items self.new.heads.items
             (length lines.now.rows.items) }
     {
-        let place = self.next.len();
-        self.next.push_reserved(CHAIN_END);
-        link(
-            lines,
-            self.next.as_mut_slice(),
-            self.heads.as_mut_slice(),
-            place,
-            chain,
-        );
+        let place = self.links.len();
+        self.links.push_reserved(Link {
+            next: CHAIN_END,
+            key,
+        });
+        enter(lines, self.links.as_mut_slice(), self.heads.as_mut_slice(), place);
     }
 
-    // Whether a term has this root, which is one of this chain.
-    pub(crate) fn finds(&self, lines: &Lines, root: Root<'_>, size: u32, chain: usize) -> bool
+    // Whether a term has this root, which has this key.
+    pub(crate) fn finds(&self, lines: &Lines, root: Root<'_>, size: u32, key: u32) -> bool
         requires lines { AreLines lines.now }
         requires wide { 0 < length self.now.heads.items }
-        requires long { length self.now.next.items ≡ length lines.now.rows.items }
-        requires linked { IsLinked (keys lines.now) self.now.next.items self.now.heads.items
+        requires long { length self.now.links.items ≡ length lines.now.rows.items }
+        requires keys { HaveKeys (keys lines.now) self.now.links.items }
+        requires linked { IsLinked (keys lines.now) self.now.links.items self.now.heads.items
             (length lines.now.rows.items) }
         requires there { IsThere (trees lines.now) (plain root) }
         requires size { size ≡ size_of (tree_at (trees lines.now) (plain root)) }
-        requires chain { chain ≡ hash_of (plain root) % length self.now.heads.items }
-        requires within { chain < length self.now.heads.items }
+        requires key { key ≡ root_key (plain root) }
         ensures { result ≡ has (trees lines.now) (tree_at (trees lines.now) (plain root.entry)) }
     {
-        let mut link = self.heads[chain];
+        let mut link = self.heads[chain_of(key, self.heads.len())];
         while link != CHAIN_END {
             let place = (link - 1) as usize;
-            if is_here(lines, place, root, size) {
+            let Link { next, key: other } = self.links[place];
+            if other == key && is_here(lines, place, root, size) {
                 return true;
             }
-            link = self.next[place];
+            link = next;
         }
         false
     }
@@ -166,49 +168,62 @@ fn hash(root: Root<'_>) -> u64
     hash
 }
 
-// The chain of a root, where there are so many.
-fn chain_of(root: Root<'_>, width: usize) -> usize
+// The upper half of the hash.
+pub(crate) fn key_of(root: Root<'_>) -> u32
+    ensures { result ≡ root_key (plain root.entry) }
+{
+    (hash(root) >> 32) as u32
+}
+
+// The chain of a key, where there are so many.
+fn chain_of(key: u32, width: usize) -> usize
     requires { 0 < width }
-    ensures is { result ≡ hash_of (plain root.entry) % width }
+    ensures is { result ≡ key % width }
     ensures within { result < width }
 {
-    (hash(root) % width as u64) as usize
+    key as usize % width
 }
 
 // Puts all terms into chains that are empty.
-fn link_all(lines: &Lines, next: &mut [u32], heads: &mut [u32])
+fn enter_all(lines: &Lines, links: &mut [Link], heads: &mut [u32])
     requires lines { AreLines lines.now }
     requires few { length lines.now.rows.items < 2 ^ 31 }
-    requires long { length next.old ≡ length lines.now.rows.items }
+    requires long { length links.old ≡ length lines.now.rows.items }
     requires wide { 0 < length heads.old }
-    requires linked { IsLinked (keys lines.now) next.old heads.old 0 }
-    ensures linked { IsLinked (keys lines.now) next.new heads.new (length lines.now.rows.items) }
-    ensures long { length next.new ≡ length next.old }
+    requires keys { HaveKeys (keys lines.now) links.old }
+    requires linked { IsLinked (keys lines.now) links.old heads.old 0 }
+    ensures linked { IsLinked (keys lines.now) links.new heads.new (length lines.now.rows.items) }
+    ensures keys { HaveKeys (keys lines.now) links.new }
+    ensures long { length links.new ≡ length links.old }
     ensures wide { length heads.new ≡ length heads.old }
 {
     for place in 0..lines.rows.len() {
-        let chain = chain_of(lines.root(place), heads.len());
-        link(lines, next, heads, place, chain);
+        enter(lines, links, heads, place);
     }
 }
 
-// Puts a term into this chain, where it is the newest, if it is the first of its kind.
-fn link(lines: &Lines, next: &mut [u32], heads: &mut [u32], place: usize, chain: usize)
+// Puts a term into the chain of its key, where it is the newest, if it is the first of its kind.
+fn enter(lines: &Lines, links: &mut [Link], heads: &mut [u32], place: usize)
     requires lines { AreLines lines.now }
     requires few { length lines.now.rows.items < 2 ^ 31 }
     requires place { place < length lines.now.rows.items }
-    requires long { length next.old ≡ length lines.now.rows.items }
+    requires long { length links.old ≡ length lines.now.rows.items }
     requires wide { 0 < length heads.old }
-    requires linked { IsLinked (keys lines.now) next.old heads.old place }
-    requires chain { IsChainOf (keys lines.now) (length heads.old) place chain }
-    requires within { chain < length heads.old }
-    ensures linked { IsLinked (keys lines.now) next.new heads.new (place + 1) }
-    ensures long { length next.new ≡ length next.old }
+    requires keys { HaveKeys (keys lines.now) links.old }
+    requires linked { IsLinked (keys lines.now) links.old heads.old place }
+    ensures linked { IsLinked (keys lines.now) links.new heads.new (place + 1) }
+    ensures keys { HaveKeys (keys lines.now) links.new }
+    ensures long { length links.new ≡ length links.old }
     ensures wide { length heads.new ≡ length heads.old }
 {
     if !lines.rows[place].is_first {
         return;
     }
-    next[place] = heads[chain];
+    let key = links[place].key;
+    let chain = chain_of(key, heads.len());
+    links[place] = Link {
+        next: heads[chain],
+        key,
+    };
     heads[chain] = place as u32 + 1;
 }

@@ -9,7 +9,7 @@ ghost use Rattle.circ_proof.specs.Table.{term_limit};
 ghost use Rattle.circ_table.specs.Table.{first_at, firsts_at, AddsRow};
 ghost use Rattle.circ_table.specs.Lines.{plain, tree_at, IsNode};
 
-use crate::hash_chains::HashChains;
+use crate::hash_chains::{HashChains, key_of};
 use crate::lines::{Kind, Lines, Root, Row};
 use crate::table::Table;
 use circ_term::{MOST_DEPTH, MOST_NODES, TermFault};
@@ -20,7 +20,7 @@ use std::marker::Model;
 const MOST_NUMBERS: usize = 4_294_967_295;
 
 /// A table to which terms are added. It keeps numbers: 20 bytes for each term and 4 for each
-/// argument, and 6 to 8 for each term by which equal terms are found.
+/// argument, and 12 to 16 for each term by which equal terms are found.
 #[derive(Drop)]
 pub struct OpenTable {
     alloc: Global,
@@ -169,8 +169,8 @@ impl OpenTable {
             return Err(AllocError);
         }
         self.chains.make_room(&self.lines)?;
-        let chain = self.chains.chain(root);
-        let is_first = !self.chains.finds(&self.lines, root, size, chain);
+        let key = key_of(root);
+        let is_first = !self.chains.finds(&self.lines, root, size, key);
         let row = Row {
             name: root.name,
             sort: root.sort,
@@ -181,7 +181,7 @@ impl OpenTable {
             is_first,
         };
         self.lines.push(row, root.args)?;
-        self.chains.add(&self.lines, chain);
+        self.chains.add(&self.lines, key);
         Ok(())
     }
 }
