@@ -10,10 +10,10 @@ use Rattle.circ_proof.specs.Table.{has}
 use Rattle.circ_table.specs.declared.lines.Row.{Row}
 use Rattle.circ_table.specs.declared.hash_chains.Link.{Link}
 use Rattle.circ_table.specs.declared.hash_chains.TheConstants.{CHAIN_END}
-use Rattle.circ_table.specs.Lines.{PlainRoot, row_root, begin_of, roots_from, tree_at, trees_from, IsThere, AreRowsFrom}
+use Rattle.circ_table.specs.Lines.{PlainRoot, row_root, begin_of, tree_at, trees_from, IsThere, AreRowsFrom}
 use Rattle.circ_table.specs.HashChains.{root_key, keys_from, StandsIn, IsNewest, IsLinked, HaveKeys, IsKeyOf}
-use Rattle.circ_table.proofs.Firsts.{get_front, get_back, get_seam, get_there, get_put, get_other, get_replicate}
-use Rattle.circ_table.proofs.Placing.{last_end, with_args, root_longer, root_last, rows_ahead, rows_end, roots_at, root_found}
+use Rattle.circ_table.proofs.Firsts.{get_front, get_back, get_seam, get_put, get_other, get_replicate}
+use Rattle.circ_table.proofs.Placing.{last_end, with_args, root_longer, root_last, rows_ahead, rows_end, root_found}
 
 -- ---- the keys of the rows
 
@@ -175,7 +175,7 @@ keys_kept args ns new_args rows new_rows r links h same_rows same_args long have
     let more = keys_pushed args ns rows r h in
     let all = length_keys args 0 rows in
     let got =
-        ap (λ ks. slice_get ks m) (sym more.1) ∙ ap (λ x. slice_get (keys_from (args ++ ns) 0 x) m) (sym same_rows) ∙ ap (λ x. slice_get (keys_from x 0 new_rows) m) (sym same_args) ∙ there in
+    ap (λ ks. slice_get ks m) (sym more.1) ∙ ap (λ x. slice_get (keys_from (args ++ ns) 0 x) m) (sym same_rows) ∙ ap (λ x. slice_get (keys_from x 0 new_rows) m) (sym same_args) ∙ there in
     have m k link (get_back (keys_from args 0 rows) (more.0 ∷ []) m (Some k) (omega (arith, all, long, slice_get_within links m link read)) got) read
 
 -- a link more

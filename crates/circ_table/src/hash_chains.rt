@@ -98,7 +98,12 @@ impl HashChains {
             next: CHAIN_END,
             key,
         });
-        enter(lines, self.links.as_mut_slice(), self.heads.as_mut_slice(), place);
+        enter(
+            lines,
+            self.links.as_mut_slice(),
+            self.heads.as_mut_slice(),
+            place,
+        );
     }
 
     // Whether a term has this root, which has this key.

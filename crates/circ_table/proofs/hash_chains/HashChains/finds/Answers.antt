@@ -1,4 +1,4 @@
-use Rattle.std.proofs.Common.{◌≡◌, ◌-◌, ◌%◌, ◌<◌, ◌∙◌, length, Some, refl, ap, sym, subst, arith, get_or}
+use Rattle.std.proofs.Common.{◌≡◌, ◌-◌, ◌%◌, ◌∙◌, length, Some, refl, ap, sym, subst, arith, get_or}
 use Rattle.std.specs.List.{slice_get}
 use Rattle.std.proofs.lemmas.Nat.{mod_below}
 use Rattle.std.proofs.lemmas.Option.{same_Some, slice_get_read}
@@ -51,10 +51,10 @@ apart c r e same =
     let l = c.args.lines.now in
     let n = c.loop-link.link - 1 in
     elim c.else-other-key.branch [
-        else-other-key-via-then-other-key+else-is_here w ↦ absurd (let z = w.is_here.ensures.1 (roots_at l.args.items 0 l.rows.items n r e ∙ ap Some same) in let y = w.if-is_here.false in cc)
+      | else-other-key-via-then-other-key+else-is_here w ↦ absurd (let z = w.is_here.ensures.1 (roots_at l.args.items 0 l.rows.items n r e ∙ ap Some same) in let y = w.if-is_here.false in cc)
       | else-other-key-via-else-other-key w ↦
-        other_key l.args.items l.rows.items c.args.self.now.links.items (length c.args.self.now.heads.items) (plain c.args.root) c.loop-link.link c.args.key c.index.result.now
-        c.requires.keys c.loop-link.invariant (omega arith) (read c) c.requires.key w.if-other-key.false r e same
+          other_key l.args.items l.rows.items c.args.self.now.links.items (length c.args.self.now.heads.items) (plain c.args.root) c.loop-link.link c.args.key c.index.result.now
+          c.requires.keys c.loop-link.invariant (omega arith) (read c) c.requires.key w.if-other-key.false r e same
     ]
 
 pub loop-link-smaller : goal.loop-link-smaller
