@@ -21,7 +21,7 @@ loop-pair-init c =
       grows = grows_self nodes;
       made = λ σ made.
           let P : List Sides → Type 0 = λ ms. AreInstances σ nodes c.args.pairs.now nodes ms 0 in
-          (made, subst P (sym c.new.ensures.items) (instances_none σ nodes c.args.pairs.now nodes));
+          (made, subst P (sym c.new-instances.ensures.items) (instances_none σ nodes c.args.pairs.now nodes));
     }
 
 pub instance_within-requires-clause-there : goal.instance_within-requires-clause-there
@@ -47,8 +47,8 @@ returns-in_default-clause-exact c = λ σ made w.
     let P : Tree → Type 0 = λ t. IsWithinLimits (instance σ t) in
     past (subst P (sym (tree_later start at.nodes x.left at.invariant.grows there.0)) (pair_within σ start ps at.nodes at.instances.items at.pair-index x c.loop-pair-test.true (read_again ps at.pair-index c.loop-pair-test.true) so_far.1 w).0)
 
-pub instance_within-requires-2-clause-there : goal.instance_within-requires-2-clause-there
-instance_within-requires-2-clause-there c =
+pub instance_within-requires-in-loop-pair-clause-there : goal.instance_within-requires-in-loop-pair-clause-there
+instance_within-requires-in-loop-pair-clause-there c =
     let start = c.args.nodes.now in
     let at = c.loop-pair in
     let ps = c.args.pairs.now in
@@ -56,8 +56,8 @@ instance_within-requires-2-clause-there c =
     let g = grows_more start at.nodes c.instance_within.new.nodes at.invariant.grows c.in_ok-left.ensures.grows in
     term_later start c.instance_within.new.nodes g x.right (sides_there start ps at.pair-index x c.requires.there c.loop-pair-test.true (read_again ps at.pair-index c.loop-pair-test.true)).1
 
-pub instance_within-requires-2-clause-made : goal.instance_within-requires-2-clause-made
-instance_within-requires-2-clause-made c =
+pub instance_within-requires-in-loop-pair-clause-made : goal.instance_within-requires-in-loop-pair-clause-made
+instance_within-requires-in-loop-pair-clause-made c =
     let any = c.requires.made in
     let P : Option ℕ → Type 0 = λ o. IfSome o (λ n. IsMade any.0 c.instance_within.new.nodes c.instance_within.new.made.entries) in
     (any.0, subst P c.in-Some.is (c.in_ok-left.ensures.made any.0 (c.loop-pair.invariant.made any.0 any.1).0))
@@ -85,7 +85,7 @@ loop-pair-preserved c =
     let ps = c.args.pairs.now in
     let x = get_or ps at.pair-index unread in
     let first = c.instance_within.new.nodes in
-    let second = c.instance_within-2.new.nodes in
+    let second = c.instance_within-in-loop-pair.new.nodes in
     let g0 = at.invariant.grows in
     let g1 = c.in_ok-left.ensures.grows in
     let g2 = c.in_ok-right.ensures.grows in
@@ -98,7 +98,7 @@ loop-pair-preserved c =
           let Q : Option ℕ → Type 0 = λ o. IfSome o (λ n. IsMade σ first c.instance_within.new.made.entries) in
           let later = subst Q c.in-Some.is (c.in_ok-left.ensures.made σ so_far.0) in
           let two = of_some second (GivesInstance σ (tree_at first x.right)) c.in_ok-right.field-0 c.in-Some-2.right c.in-Some-2.is (c.in_ok-right.ensures.gives σ later) in
-          let R : Option ℕ → Type 0 = λ o. IfSome o (λ n. IsMade σ second c.instance_within-2.new.made.entries) in
+          let R : Option ℕ → Type 0 = λ o. IfSome o (λ n. IsMade σ second c.instance_within-in-loop-pair.new.made.entries) in
           let made_last = subst R c.in-Some-2.is (c.in_ok-right.ensures.made σ later) in
           let k : Sides = record { left = c.in-Some.left; right = c.in-Some-2.right } in
           let left_is = tree_later first second c.in-Some.left g2 one.0 in

@@ -1,7 +1,7 @@
 use Rattle.std.proofs.Common.{[], get_or, length}
 use Rattle.circ_theory.specs.Variables.{seen_in}
 use Rattle.circ_nodes.specs.Named.{tree_at}
-use Rattle.circ_shared.proofs.Meets.{unread, read_again, sides_there}
+use Rattle.circ_shared.proofs.Meets.{unread, read_again}
 use Rattle.circ_shared.proofs.Seeing.{gathers_none, pairs_first, pairs_next, pairs_last}
 use Rattle.circ_shared.proofs.variables.variables_of.Goals as goal
 
@@ -9,22 +9,10 @@ pub loop-pair-init : goal.loop-pair-init
 loop-pair-init c =
     let nodes = c.args.nodes.now in
     let left = tree_at nodes c.args.sides.left in
-    let none = gathers_none nodes c.new-seen.result.entries c.new-variables.result.keys c.new-seen.ensures c.new-variables.ensures in
+    let none = gathers_none nodes c.new-seen.result.entries c.new-variables.result.keys c.new-seen.ensures.empty c.new-variables.ensures.empty in
     let one = c.in_ok-gather.ensures [] none in
     pairs_first nodes (seen_in (tree_at nodes c.args.sides.right) (seen_in left [])) c.args.conds.now c.gather-2.new.seen.entries c.gather-2.new.variables.keys
     (c.in_ok-gather-2.ensures (seen_in left []) one)
-
-pub gather-requires-in-loop-pair : goal.gather-requires-in-loop-pair
-gather-requires-in-loop-pair c =
-    let ps = c.args.conds.now in
-    let i = c.loop-pair.pair-index in
-    (sides_there c.args.nodes.now ps i (get_or ps i unread) c.requires.conditions c.loop-pair-test.true (read_again ps i c.loop-pair-test.true)).0
-
-pub gather-requires-in-loop-pair-2 : goal.gather-requires-in-loop-pair-2
-gather-requires-in-loop-pair-2 c =
-    let ps = c.args.conds.now in
-    let i = c.loop-pair.pair-index in
-    (sides_there c.args.nodes.now ps i (get_or ps i unread) c.requires.conditions c.loop-pair-test.true (read_again ps i c.loop-pair-test.true)).1
 
 pub loop-pair-preserved : goal.loop-pair-preserved
 loop-pair-preserved c =

@@ -4,7 +4,7 @@ use Rattle.circ_term.specs.Tree.{Tree}
 use Rattle.circ_theory.specs.Rewriting.{named}
 use Rattle.circ_theory.specs.Theory.{Pair}
 use Rattle.circ_proof.specs.Plain.{LinkOf, ChainsOf, ChainOf, Same_why, map_chains, chains_in, plain_link, plain_links, plain_chain, plain_chains}
-use Rattle.circ_proof.specs.Nesting.{chains_nesting}
+use Rattle.circ_proof.specs.Nesting.{links_nesting, chains_nesting}
 use Rattle.circ_proof.specs.Runs.{Runs}
 use Rattle.circ_proof.specs.Link.{Setting, Leads, AllOfChains, resolved_link, resolved_links, resolved_chain}
 use Rattle.circ_proof.specs.Justified.{Justified}
@@ -123,7 +123,7 @@ follow-all_meet-requires t c =
         shared_later start used g self c.requires.shared,
         (
           subst Q (sym c.chains.ensures) (all_of_chains P l c.requires.in_table),
-          (are_there_later start used g c.args.assumptions.now c.requires.assumptions, rw c.as_slice.ensures some.1),
+          (are_there_later start used g c.args.assumptions.now c.requires.assumptions, rw c.as_slice.ensures.value some.1),
         ),
       ),
     )
@@ -140,7 +140,7 @@ follow-returns-then-not-branch-clause-exact t c =
     let term = tree_at start c.args.term in
     let x = c.in-Some.made in
     let some = use_some used (Uses s (resolved_link table l) term) c.in_ok-made.field-0 x c.in-Some.is c.in_ok-made.ensures.exact in
-    let tells = rw (c.if-not-branch.true, c.as_slice.ensures, c.chains.ensures) at c.in_ok-all_meet.ensures.exact in
+    let tells = rw (c.if-not-branch.true, c.as_slice.ensures.value, c.chains.ensures) at c.in_ok-all_meet.ensures.exact in
     let told = read_before start used c.in_ok-made.ensures.grows self ss c.requires.shared c.requires.assumptions
     (λ k m. IsTrue false ↔ AllMeet k (pairs_at used x.conds.items) (map_chains (named m) (chains_in l))) tells in
     used_stuck s (resolved_link table l) term (use_at used x) (map_chains (named table) (chains_in l)) (chains_mapped (named table) l)
@@ -160,7 +160,7 @@ follow-returns-clause-exact t c =
     let x = c.in-Some.made in
     let g = c.in_ok-all_meet.ensures.grows in
     let some = use_some used (Uses s (resolved_link table l) term) c.in_ok-made.field-0 x c.in-Some.is c.in_ok-made.ensures.exact in
-    let tells = rw (c.if-not-branch.false, c.as_slice.ensures, c.chains.ensures) at c.in_ok-all_meet.ensures.exact in
+    let tells = rw (c.if-not-branch.false, c.as_slice.ensures.value, c.chains.ensures) at c.in_ok-all_meet.ensures.exact in
     let told = read_before start used c.in_ok-made.ensures.grows self ss c.requires.shared c.requires.assumptions
     (λ k m. IsTrue true ↔ AllMeet k (pairs_at used x.conds.items) (map_chains (named m) (chains_in l))) tells in
     let leads = used_leads s (resolved_link table l) term (use_at used x) (map_chains (named table) (chains_in l)) (chains_mapped (named table) l) some.2 (told.0 refl) in
@@ -272,8 +272,9 @@ pub follow_chain-follow_all-requires-2 : goal.follow_chain-follow_all-requires-2
 follow_chain-follow_all-requires-2 t c =
     let nodes = c.args.nodes.now in
     let first = c.follow_all.new.nodes in
-    let g = c.in_ok-left.ensures.grows in (
-      omega arith,
+    let g = c.in_ok-left.ensures.grows in
+    let same = ap (λ xs. links_nesting (plain_links xs)) c.as_slice-2.ensures.value in (
+      omega (arith, same),
       (
         shared_later nodes first g c.args.self.now c.requires.shared,
         (

@@ -1,4 +1,4 @@
-use Rattle.std.proofs.Common.{◌≡◌, false, IsTrue, map, ap, sym, ◌∙◌, rules}
+use Rattle.std.proofs.Common.{IsTrue, map, ap, sym, ◌∙◌, subst, rules}
 use Rattle.std.proofs.lemmas.Option.{same_Some}
 use Rattle.circ_theory.specs.Rewriting.{named}
 use Rattle.circ_proof.specs.Plain.{Hypothesis_link}
@@ -32,8 +32,7 @@ returns-then-not-may_use-clause-exact c = λ ss cs u leads.
     let there = listed_map (goal_at nodes) self.hyps.now c.args.number p (sym c.in-Some.ensures) in
     let is = same_Some (goal_at nodes p) leads.0.hypothesis (sym there ∙ leads.0.listed) in
     let may = c.may_use.ensures.1 (unspecial (setting_at nodes self ss) (tree_at nodes c.args.term) c.args.path.now leads.0.hypothesis (goal_at nodes p) (sym is) leads.0.special) in
-    let never : c.may_use.result ≡ false = search rules in
-    absurd (let z = sym never ∙ may in cc)
+    absurd (let z = may in cc)
 
 pub returns-clause-exact : goal.returns-clause-exact
 returns-clause-exact c = λ ss cs.

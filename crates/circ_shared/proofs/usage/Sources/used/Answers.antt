@@ -25,14 +25,14 @@ returns-in-Hypothesis-clause-exact c =
     let h = c.by_hypothesis.ensures.exact c.args.assumptions.now (map_chains (named table) (plain_chains e.conds.items)) in
     rw is (rw (c.as_slice-in-Hypothesis.ensures, c.as_slice-terms-in-Hypothesis.ensures.value) at h)
 
-pub returns-in_ok-made-clause-exact : goal.returns-in_ok-made-clause-exact
-returns-in_ok-made-clause-exact c =
+pub returns-in_ok-made-in-Assumption-clause-exact : goal.returns-in_ok-made-in-Assumption-clause-exact
+returns-in_ok-made-in-Assumption-clause-exact c =
     let x = c.in-Assumption in
     let nodes = c.args.nodes.now in
     let s : Setting = setting_at nodes c.args.self.now c.args.assumptions.now in
     let l : LinkOf Tree = Assumption_link x.number x.way x.path.items in
-    let h = rw c.as_slice-path.ensures at c.in_ok-made.ensures.exact in
-    rw x.is (unconditional_used c.by_assumption.new.nodes s l (tree_at nodes c.args.term) c.in_ok-made.made _ refl c.unconditional.ensures h)
+    let h = rw c.as_slice-path.ensures at c.in_ok-made-in-Assumption.ensures.exact in
+    rw x.is (unconditional_used c.by_assumption.new.nodes s l (tree_at nodes c.args.term) c.in_ok-made-in-Assumption.made _ refl c.unconditional.ensures h)
 
 pub returns-in_ok-made-in-Content-clause-exact : goal.returns-in_ok-made-in-Content-clause-exact
 returns-in_ok-made-in-Content-clause-exact c =
