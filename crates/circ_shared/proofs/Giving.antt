@@ -10,9 +10,8 @@ use Rattle.circ_term.specs.Tree.{Tree, Var}
 use Rattle.circ_term.specs.Limits.{IsWithinLimits}
 use Rattle.circ_term.specs.Substitution.{Substitution}
 use Rattle.circ_theory.specs.Variables.{Variable, FitVariables}
-use Rattle.circ_nodes.specs.Named.{tree_at}
+use Rattle.circ_nodes.specs.Named.{tree_at, IsNamed, AreNamed, IsOnce}
 use Rattle.circ_theory.specs.Rewriting.{named}
-use Rattle.circ_nodes.specs.Named.{IsNamed, AreNamed, IsOnce}
 use Rattle.circ_shared.specs.Memo.{IsMade}
 use Rattle.circ_shared.specs.Patterns.{variable_trees}
 use Rattle.circ_shared.specs.Binding.{IsGiven, AreGiven, Binds}

@@ -9,8 +9,7 @@ use Rattle.circ_term.specs.Substitution.{Substitution, instance, instances}
 use Rattle.circ_term.specs.declared.fault.TermFault.{TermFault}
 use Rattle.circ_term.specs.declared.fault.TermFault.TheVariants.{TooBig, TooDeep, Memory}
 use Rattle.circ_term.specs.Growing.{Grows}
-use Rattle.circ_nodes.specs.Named.{tree_at}
-use Rattle.circ_nodes.specs.Named.{IsNamed, AreNamed}
+use Rattle.circ_nodes.specs.Named.{tree_at, IsNamed, AreNamed}
 use Rattle.circ_nodes.proofs.Numbers.{grows_length, named_below}
 use Rattle.circ_nodes.proofs.Located.{named_tree, tree_later, trees_later, are_named_from}
 

@@ -1,9 +1,8 @@
 -- Pairs by number whose sides lead to one term by chains, one after another.
-use Rattle.std.proofs.Common.{◌≡◌, ◌↔◌, ◌<◌, ◌+◌, ℕ, zero, suc, List, [], ◌∷◌, map, length, drop, get_or, refl, ap, sym, subst, arith}
+use Rattle.std.proofs.Common.{◌≡◌, ◌↔◌, ◌<◌, ◌+◌, ℕ, zero, suc, List, [], ◌∷◌, length, drop, get_or, refl, ap, sym, subst, arith}
 use Rattle.circ_term.proofs.Within.{drop_read}
 use Rattle.circ_term.specs.Tree.{Tree}
 use Rattle.circ_theory.specs.Rewriting.{named}
-use Rattle.circ_theory.specs.Theory.{Pair}
 use Rattle.circ_theory.specs.declared.pairs.Pair.{Pair as PairOfTerms}
 use Rattle.circ_proof.specs.declared.links.Chain.{Chain}
 use Rattle.circ_proof.specs.Plain.{Same_why, map_row, map_chains, row_of, plain_links, plain_chain, plain_chains}

@@ -7,8 +7,7 @@ use Rattle.circ_term.specs.Tree.{Tree, Trees, App, args_of, trees_of, put_at, wi
 use Rattle.circ_term.specs.Limits.{IsWithinLimits, BuildsSome}
 use Rattle.circ_term.specs.declared.fault.TermFault.{TermFault}
 use Rattle.circ_term.proofs.Replaced.{fault_at}
-use Rattle.circ_nodes.specs.Named.{tree_at}
-use Rattle.circ_nodes.specs.Named.{IsNamed, AreNamed}
+use Rattle.circ_nodes.specs.Named.{tree_at, IsNamed, AreNamed}
 use Rattle.circ_nodes.proofs.Numbers.{are_named_set, are_named_length}
 use Rattle.circ_shared.specs.Interned.{InternsSome}
 use Rattle.circ_nodes.proofs.Located.{named_tree, tree_named}

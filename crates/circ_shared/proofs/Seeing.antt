@@ -1,11 +1,9 @@
 -- Variables that were seen stay, and seeing them again changes nothing.
-use Rattle.std.proofs.Common.{◌≡◌, ℕ, ◌+◌, ◌≤◌, ◌<◌, Bool, true, false, cond, ◌||◌, if◌then◌else◌, List, [], ◌∷◌, ◌++◌, map, length, drop, get_or, Some, None, Ordering, Less, Equal, Greater, refl, ap, sym, subst, ◌∙◌, append_assoc, append-nil}
-use Rattle.std.specs.Prelude.{nat_eq, slice_index_or}
+use Rattle.std.proofs.Common.{◌≡◌, ℕ, ◌+◌, ◌≤◌, ◌<◌, Bool, true, false, cond, ◌||◌, if◌then◌else◌, List, [], ◌∷◌, ◌++◌, map, length, drop, get_or, Some, None, Ordering, Less, Equal, Greater, refl, ap, sym, subst, ◌∙◌, append_assoc, append-nil, Bor}
+use Rattle.std.specs.Prelude.{nat_eq, slice_index_or, Option, is_some}
 use Rattle.std.specs.List.{list_any}
 use Rattle.std.specs.Map.{lookup}
-use Rattle.std.specs.Prelude.{Option, is_some}
 use Rattle.std.specs.Option.{option_copied}
-use Rattle.std.proofs.Common.{Bor}
 use Rattle.std.specs.Ordering.{match_ordering}
 use Rattle.std.specs.BTreeSet.{insert_key}
 use Rattle.std.proofs.lemmas.Bool.{eqb-true, eq-eqb, and_parts}
@@ -14,8 +12,7 @@ use Rattle.circ_term.proofs.Within.{drop_read}
 use Rattle.circ_term.specs.Tree.{Tree, Trees, Var, App, none, more, is_ground, are_ground, trees_of}
 use Rattle.circ_term.specs.Growing.{Grows}
 use Rattle.circ_theory.specs.Variables.{Variable as TheVariable, is_variable, sorted, seen, seen_in, seen_in_all, seen_in_pairs}
-use Rattle.circ_nodes.specs.Named.{tree_at}
-use Rattle.circ_nodes.specs.Named.{IsNamed, AreNamed}
+use Rattle.circ_nodes.specs.Named.{tree_at, IsNamed, AreNamed}
 use Rattle.circ_nodes.proofs.Numbers.{grows_self, grows_more, named_later}
 use Rattle.circ_replay.specs.Gathering.{variable_cmp}
 use Rattle.circ_replay.proofs.Gathering.{gathered_seen}

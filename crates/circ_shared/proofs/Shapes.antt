@@ -6,8 +6,7 @@ use Rattle.circ_term.specs.Limits.{first_limit, first_limits, Names, IsWithinLim
 use Rattle.circ_term.specs.Substitution.{Substitution, instance, instances}
 use Rattle.circ_term.specs.declared.fault.TermFault.{TermFault}
 use Rattle.circ_term.proofs.Instances.{length-instances}
-use Rattle.circ_nodes.specs.Named.{tree_at}
-use Rattle.circ_nodes.specs.Named.{IsNamed, AreNamed}
+use Rattle.circ_nodes.specs.Named.{tree_at, IsNamed, AreNamed}
 use Rattle.circ_nodes.proofs.Numbers.{all_below, are_named_length}
 use Rattle.circ_shared.specs.Memo.{IsInstance}
 use Rattle.circ_nodes.proofs.Located.{named_tree, tree_named, trees_named}

@@ -4,7 +4,7 @@ use Rattle.std.specs.List.{AllByRecursion}
 use Rattle.std.specs.Option.{IfSome}
 use Rattle.circ_term.specs.Growing.{Grows}
 use Rattle.circ_term.specs.Tree.{Tree}
-use Rattle.circ_theory.specs.Theory.{Pair, pair_with, goal, goal_of}
+use Rattle.circ_theory.specs.Theory.{Pair, pair_with, goal}
 use Rattle.circ_theory.specs.Variables.{variables_of, sorted}
 use Rattle.circ_theory.specs.declared.parts.Goal.{Goal}
 use Rattle.circ_proof.specs.Link.{Setting, setting}

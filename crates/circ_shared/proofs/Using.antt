@@ -2,11 +2,10 @@
 use Rattle.std.proofs.Common.{◌≡◌, ◌<◌, ℕ, zero, suc, List, [], ◌∷◌, map, length, Option, Some, None, Result, Ok, Err, IfOk, refl, ap, sym, subst, ◌∙◌}
 use Rattle.std.specs.List.{slice_get, AllByRecursion}
 use Rattle.std.proofs.lemmas.Option.{same_Some}
-use Rattle.circ_term.specs.Substitution.{instance}
 use Rattle.circ_term.specs.Tree.{Tree, at, sort_of}
 use Rattle.circ_theory.specs.Theory.{Pair, sides, goal_of, IsHidden}
 use Rattle.circ_theory.specs.Variables.{variables_of, sorted, FitVariables}
-use Rattle.circ_theory.specs.Rewriting.{from_side, to_side, by_terms, Replaces, RewritesBy}
+use Rattle.circ_theory.specs.Rewriting.{from_side, to_side, by_terms, Replaces}
 use Rattle.circ_theory.specs.declared.parts.Equation.{Equation}
 use Rattle.circ_theory.specs.declared.parts.Goal.{Goal}
 use Rattle.circ_theory.specs.declared.way.Way.{Way}
@@ -19,7 +18,7 @@ use Rattle.circ_nodes.specs.Named.{tree_at}
 use Rattle.circ_replay.specs.Following.{Follows}
 use Rattle.circ_replay.specs.Rewriting.{GivesExchange, GivesReplaced}
 use Rattle.circ_replay.specs.Usage.{IsUse, AllMeet, unconditional}
-use Rattle.circ_replay.proofs.Contents.{content_other, content_replaced}
+use Rattle.circ_replay.proofs.Contents.{content_replaced}
 use Rattle.circ_replay.proofs.Pairs.{unconditional_uses, equation_uses, hypothesis_uses}
 use Rattle.circ_shared.specs.declared.patterns.Sides.{Sides}
 use Rattle.circ_shared.specs.declared.patterns.Turned.{Turned}

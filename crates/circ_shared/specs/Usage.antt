@@ -2,7 +2,7 @@
 use Rattle.std.specs.Prelude.{◌≡◌, ◌<◌, ℕ, List, [], length, map, Option, Some, None}
 use Rattle.circ_term.specs.Substitution.{Substitution, instance}
 use Rattle.circ_term.specs.Tree.{Tree}
-use Rattle.circ_theory.specs.Theory.{Pair, goal, instance_pair}
+use Rattle.circ_theory.specs.Theory.{Pair, instance_pair}
 use Rattle.circ_theory.specs.Rewriting.{by_terms, Replaces, RewritesBy}
 use Rattle.circ_theory.specs.declared.parts.Goal.{Goal}
 use Rattle.circ_theory.specs.declared.way.Way.{Way}

@@ -33,7 +33,8 @@ impl Sources<'_> {
         term: u32,
     ) -> Result<Option<u32>, AllocError>
         requires shared { AreShared nodes.old self.now }
-        requires in_table { AllOfLinks (λ n. n < length self.now.table.now) (plain_links links.now) }
+        requires in_table { AllOfLinks (λ n. n < length self.now.table.now)
+            (plain_links links.now) }
         requires assumptions { AreThere nodes.old assumptions.now }
         requires term { term < length nodes.old }
         ensures grows { Grows nodes.old nodes.new }
@@ -120,7 +121,8 @@ impl Sources<'_> {
         pair: Sides,
     ) -> Result<bool, AllocError>
         requires shared { AreShared nodes.old self.now }
-        requires in_table { AllOfChain (λ n. n < length self.now.table.now) (plain_chain chain.now) }
+        requires in_table { AllOfChain (λ n. n < length self.now.table.now)
+            (plain_chain chain.now) }
         requires assumptions { AreThere nodes.old assumptions.now }
         requires pair { IsThere nodes.old pair }
         ensures grows { Grows nodes.old nodes.new }
@@ -145,7 +147,8 @@ impl Sources<'_> {
         pair: Sides,
     ) -> Result<Option<Sides>, AllocError>
         requires shared { AreShared nodes.old self.now }
-        requires in_table { AllOfChain (λ n. n < length self.now.table.now) (plain_chain chain.now) }
+        requires in_table { AllOfChain (λ n. n < length self.now.table.now)
+            (plain_chain chain.now) }
         requires assumptions { AreThere nodes.old assumptions.now }
         requires pair { IsThere nodes.old pair }
         ensures grows { Grows nodes.old nodes.new }

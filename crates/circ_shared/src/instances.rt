@@ -4,8 +4,7 @@ ghost use Rattle.std.specs.List.{AllByRecursion};
 ghost use Rattle.circ_term.specs.Tree.{Tree, Trees, App, trees_of};
 ghost use Rattle.circ_term.specs.Substitution.{Substitution, instance, instances};
 ghost use Rattle.circ_term.specs.Growing.{Grows};
-ghost use Rattle.circ_nodes.specs.Named.{tree_at};
-ghost use Rattle.circ_nodes.specs.Named.{IsNamed, AreNamed, Interns};
+ghost use Rattle.circ_nodes.specs.Named.{IsNamed, AreNamed, Interns, tree_at};
 ghost use Rattle.circ_shared.specs.Interned.{InternsAll};
 ghost use Rattle.circ_shared.specs.Memo.{IsMade};
 

@@ -22,10 +22,10 @@ use circ_term::TermFault;
 use std::alloc::AllocError;
 
 impl Sources<'_> {
-    /// Whether the goal of these sides holds by the reason, with its conditions as assumptions: each
-    /// of its links applies, in its splits each constant of the term's case list has a reason, and
-    /// each reason ends with two sides that are the same. The terms that were made on the way are
-    /// gone then, so that the table is as it was.
+    /// Whether the goal of these sides holds by the reason, with its conditions as assumptions:
+    /// each of its links applies, in its splits each constant of the term's case list has a
+    /// reason, and each reason ends with two sides that are the same. The terms that were made on
+    /// the way are gone then, so that the table is as it was.
     pub fn follow_why(
         &self,
         nodes: &mut Nodes,

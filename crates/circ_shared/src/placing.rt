@@ -2,8 +2,7 @@
 ghost use Rattle.std.specs.Prelude.{◌≡◌, ◌<◌, Some, length, slice_set, IfOk};
 ghost use Rattle.circ_term.specs.Tree.{replaced, with_arg};
 ghost use Rattle.circ_term.specs.Growing.{Grows};
-ghost use Rattle.circ_nodes.specs.Named.{tree_at};
-ghost use Rattle.circ_nodes.specs.Named.{Interns};
+ghost use Rattle.circ_nodes.specs.Named.{Interns, tree_at};
 ghost use Rattle.circ_shared.specs.Interned.{InternsSome};
 
 use circ_nodes::{Nodes, Numbers, Shape};
@@ -11,7 +10,8 @@ use circ_term::TermFault;
 use std::alloc::{AllocError, Global};
 
 /// The number of the term of a number with another term in place of the subterm at a path. None
-/// where the path leaves the term. Costs, for each step of the path, as much as there are arguments.
+/// where the path leaves the term. Costs, for each step of the path, as much as there are
+/// arguments.
 pub fn replace(
     alloc: Global,
     nodes: &mut Nodes,

@@ -196,7 +196,15 @@ impl Sources<'_> {
             return Ok(None);
         }
         let sides = pattern.sides.turned(way);
-        use_of(self.alloc, nodes, &mut made, sides, pattern.conds.as_slice(), path, term)
+        use_of(
+            self.alloc,
+            nodes,
+            &mut made,
+            sides,
+            pattern.conds.as_slice(),
+            path,
+            term,
+        )
     }
 
     // A hypothesis of hidden sort may be used at special paths only.

@@ -7,7 +7,8 @@ ghost use Rattle.circ_theory.specs.Theory.{goal};
 ghost use Rattle.circ_theory.specs.Variables.{Variable as TheVariable, seen_in, seen_in_all};
 ghost use Rattle.circ_theory.specs.Variables.{sorted, variables_of};
 ghost use Rattle.circ_nodes.specs.Named.{AreNamed, tree_at};
-ghost use Rattle.circ_shared.specs.Patterns.{variable_trees, pairs_at, IsThere, AreThere, IsPattern};
+ghost use Rattle.circ_shared.specs.Patterns.{variable_trees, pairs_at};
+ghost use Rattle.circ_shared.specs.Patterns.{IsThere, AreThere, IsPattern};
 ghost use Rattle.circ_shared.specs.Gathering.{variable_of, Gathers};
 
 use crate::instances::Made;

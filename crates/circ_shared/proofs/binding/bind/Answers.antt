@@ -3,8 +3,7 @@ use Rattle.std.proofs.lemmas.List.{length-map}
 use Rattle.circ_nodes.specs.Named.{tree_at}
 use Rattle.circ_theory.specs.Rewriting.{named}
 use Rattle.circ_shared.specs.Binding.{Binds}
-use Rattle.circ_shared.proofs.Giving.{fit_length, variables_length, variable_at, terms_at}
-use Rattle.circ_shared.proofs.Giving.{binds_empty, binds_step, unbound_step}
+use Rattle.circ_shared.proofs.Giving.{fit_length, variables_length, variable_at, terms_at, binds_empty, binds_step, unbound_step}
 use Rattle.circ_shared.proofs.binding.bind.Goals as goal
 
 pub returns-then-variables-terms : goal.returns-then-variables-terms

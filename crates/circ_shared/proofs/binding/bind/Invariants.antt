@@ -1,8 +1,7 @@
 use Rattle.std.proofs.Common.{◌-◌, List, length, drop, map, true}
 use Rattle.circ_theory.specs.Variables.{Variable}
-use Rattle.circ_nodes.specs.Named.{tree_at}
+use Rattle.circ_nodes.specs.Named.{tree_at, AreNamed}
 use Rattle.circ_theory.specs.Rewriting.{named}
-use Rattle.circ_nodes.specs.Named.{AreNamed}
 use Rattle.circ_shared.specs.Patterns.{variable_trees}
 use Rattle.circ_shared.specs.Binding.{Binds}
 use Rattle.circ_shared.proofs.binding.bind.Given as goal

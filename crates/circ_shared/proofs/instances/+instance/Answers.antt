@@ -1,13 +1,12 @@
-use Rattle.std.proofs.Common.{◌≡◌, ◌<◌, map, length, ap, sym, subst, ◌∙◌, arith}
+use Rattle.std.proofs.Common.{◌≡◌, ◌<◌, map, length, sym, subst, ◌∙◌, arith}
 use Rattle.std.specs.List.{AllByRecursion}
 use Rattle.circ_term.specs.Tree.{Trees, trees_of}
 use Rattle.circ_term.specs.Limits.{IsWithinLimits}
 use Rattle.circ_term.specs.Substitution.{instance, instances}
 use Rattle.circ_term.proofs.Instances.{instance-is_ground}
-use Rattle.circ_nodes.specs.Named.{tree_at}
-use Rattle.circ_nodes.specs.Named.{IsNamed, Interns}
+use Rattle.circ_nodes.specs.Named.{tree_at, IsNamed, Interns}
 use Rattle.circ_nodes.proofs.Numbers.{all_below, named_later, grows_more}
-use Rattle.circ_nodes.proofs.Located.{named_tree, tree_named}
+use Rattle.circ_nodes.proofs.Located.{tree_named}
 use Rattle.circ_shared.proofs.Loops.{above_least, above_each, all_there, below_later, first_fault, first_next, first_all}
 use Rattle.circ_shared.proofs.Shapes.{shape_at, args_there, instance_taken, fault_taken, few_taken, made_here}
 use Rattle.circ_shared.proofs.instances.+instance.Goals as goal

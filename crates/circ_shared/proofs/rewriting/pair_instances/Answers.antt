@@ -1,4 +1,4 @@
-use Rattle.std.proofs.Common.{◌≡◌, ◌<◌, ℕ, List, Option, get_or, length, ap, sym, subst, ◌∙◌}
+use Rattle.std.proofs.Common.{◌≡◌, ℕ, List, Option, get_or, ap, sym, subst, ◌∙◌}
 use Rattle.std.specs.Option.{IfSome}
 use Rattle.circ_term.specs.Limits.{IsWithinLimits}
 use Rattle.circ_term.specs.Substitution.{instance}

@@ -1,4 +1,4 @@
-use Rattle.std.proofs.Common.{◌≡◌, List, ap, sym, subst, ◌∙◌, IfOk, Some, None}
+use Rattle.std.proofs.Common.{List, sym, subst, Some}
 use Rattle.std.specs.Option.{IfSome}
 use Rattle.circ_term.specs.Substitution.{instance}
 use Rattle.circ_term.specs.Tree.{Tree}
@@ -6,11 +6,9 @@ use Rattle.circ_theory.specs.Theory.{Pair}
 use Rattle.circ_nodes.specs.Named.{tree_at}
 use Rattle.circ_nodes.proofs.Located.{tree_later}
 use Rattle.circ_replay.specs.Rewriting.{GivesExchange, GivesPairs, AreWithin}
-use Rattle.circ_shared.specs.Interned.{OfTerm}
 use Rattle.circ_shared.specs.Memo.{IsMade}
 use Rattle.circ_shared.specs.Patterns.{pairs_at}
-use Rattle.circ_shared.specs.Usage.{OfPairs}
-use Rattle.circ_shared.proofs.Sharing.{of_none, of_some, term_later, are_there_later, pairs_later}
+use Rattle.circ_shared.proofs.Sharing.{of_some, term_later, are_there_later, pairs_later}
 use Rattle.circ_shared.proofs.usage.use_of.Goals as goal
 
 pub returns-in_default-clause-exact : goal.returns-in_default-clause-exact

@@ -4,7 +4,7 @@ use Rattle.circ_theory.specs.Variables.{seen_in, seen_in_all}
 use Rattle.circ_nodes.specs.Named.{tree_at}
 use Rattle.circ_shared.specs.declared.variables.Variable.{Variable}
 use Rattle.circ_shared.specs.Gathering.{Gathers}
-use Rattle.circ_nodes.proofs.Located.{named_tree, tree_named}
+use Rattle.circ_nodes.proofs.Located.{tree_named}
 use Rattle.circ_shared.proofs.Loops.{above_least, above_each, all_there}
 use Rattle.circ_shared.proofs.Shapes.{args_there, taken}
 use Rattle.circ_shared.proofs.Seeing.{seen_ground, seen_again, gathers_same, gathers_variable, gathers_noted, looked_up}

@@ -1,4 +1,4 @@
-use Rattle.std.proofs.Common.{[], get_or, length}
+use Rattle.std.proofs.Common.{[], get_or}
 use Rattle.circ_theory.specs.Variables.{seen_in}
 use Rattle.circ_nodes.specs.Named.{tree_at}
 use Rattle.circ_shared.proofs.Meets.{unread, read_again}

@@ -1,16 +1,15 @@
-use Rattle.std.proofs.Common.{◌<◌, ◌+◌, ◌↔◌, ℕ, List, Some, None, IsTrue, true, false, get_or, length, map, refl, ap, sym, subst, ◌∙◌, arith}
+use Rattle.std.proofs.Common.{◌<◌, ◌+◌, ◌↔◌, ℕ, List, None, IsTrue, true, false, get_or, length, refl, ap, sym, subst, ◌∙◌, arith}
 use Rattle.std.specs.Prelude.{nat_eq}
 use Rattle.circ_term.specs.Tree.{Tree}
 use Rattle.circ_theory.specs.Rewriting.{named}
-use Rattle.circ_theory.specs.Theory.{Pair}
-use Rattle.circ_proof.specs.Plain.{LinkOf, ChainsOf, ChainOf, Same_why, map_chains, chains_in, plain_link, plain_links, plain_chain, plain_chains}
+use Rattle.circ_proof.specs.Plain.{LinkOf, ChainsOf, Same_why, map_chains, chains_in, plain_link, plain_links, plain_chain}
 use Rattle.circ_proof.specs.Nesting.{links_nesting, chains_nesting}
 use Rattle.circ_proof.specs.Runs.{Runs}
 use Rattle.circ_proof.specs.Link.{Setting, Leads, AllOfChains, resolved_link, resolved_links, resolved_chain}
 use Rattle.circ_proof.specs.Justified.{Justified}
 use Rattle.circ_nodes.specs.Named.{tree_at}
 use Rattle.circ_nodes.proofs.Located.{tree_later}
-use Rattle.circ_nodes.proofs.Numbers.{grows_self, grows_more}
+use Rattle.circ_nodes.proofs.Numbers.{grows_more}
 use Rattle.circ_replay.specs.Following.{Follows, FollowsAll}
 use Rattle.circ_replay.specs.Usage.{AllMeet}
 use Rattle.circ_replay.proofs.Meeting.{link_at, chain_at, each_chain, all_of_chains, chains_depth, chains_mapped}

@@ -1,4 +1,4 @@
-use Rattle.std.proofs.Common.{◌≡◌, ◌<◌, ◌∙◌, ℕ, ◌∷◌, [], ◌++◌, List, Some, None, Bool, IsTrue, IfOk, ◌↔◌, length, map, take, get_or, slice_index_or, refl, ap, sym, subst, arith}
+use Rattle.std.proofs.Common.{◌≡◌, ◌<◌, ◌∙◌, ℕ, ◌∷◌, [], ◌++◌, List, Some, None, IsTrue, IfOk, ◌↔◌, length, take, get_or, slice_index_or, refl, ap, sym, subst, arith}
 use Rattle.std.proofs.Math.Seq.{take-append_seam}
 use Rattle.circ_term.specs.Tree.{Tree, App, none, sort_of}
 use Rattle.circ_theory.specs.Observing.{cases_of, case_list}
@@ -12,7 +12,6 @@ use Rattle.circ_nodes.specs.Named.{tree_at}
 use Rattle.circ_nodes.proofs.Located.{tree_later}
 use Rattle.circ_nodes.proofs.Numbers.{grows_more}
 use Rattle.circ_replay.proofs.Reasons.{why_depth, whys_depth, depth_at, each_why, each_parts, each_counted, unlisted_split, stuck_split, split_tells, if_tells}
-use Rattle.circ_shared.specs.Chains.{FollowsSides}
 use Rattle.circ_shared.specs.Patterns.{pair_at, pairs_at, AreThere}
 use Rattle.circ_shared.specs.Settings.{setting_at, table_at}
 use Rattle.circ_shared.specs.declared.patterns.Sides.{Sides}

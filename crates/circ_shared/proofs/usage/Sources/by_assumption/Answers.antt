@@ -3,10 +3,10 @@ use Rattle.circ_proof.specs.Plain.{Assumption_link}
 use Rattle.circ_nodes.specs.Named.{tree_at}
 use Rattle.circ_replay.specs.Following.{Follows}
 use Rattle.circ_replay.specs.Rewriting.{GivesExchange}
-use Rattle.circ_shared.specs.Patterns.{pair_at, IsThere}
+use Rattle.circ_shared.specs.Patterns.{pair_at}
 use Rattle.circ_shared.specs.Settings.{setting_at}
 use Rattle.circ_shared.proofs.Sharing.{if_of_term}
-use Rattle.circ_shared.proofs.Using.{listed_map, all_listed, assumption_follows, turned_from, turned_to}
+use Rattle.circ_shared.proofs.Using.{listed_map, assumption_follows, turned_from, turned_to}
 use Rattle.circ_shared.proofs.usage.Sources.by_assumption.Goals as goal
 
 pub returns-clause-exact : goal.returns-clause-exact

@@ -1,13 +1,12 @@
-use Rattle.std.proofs.Common.{map, ap, sym, ◌∙◌, None}
+use Rattle.std.proofs.Common.{map, ap, sym, ◌∙◌}
 use Rattle.std.specs.List.{slice_get}
 use Rattle.circ_theory.specs.Theory.{goal_of}
 use Rattle.circ_theory.specs.Rewriting.{named}
 use Rattle.circ_proof.specs.Plain.{Equation_link}
 use Rattle.circ_nodes.specs.Named.{tree_at}
-use Rattle.circ_shared.specs.Usage.{Uses}
+use Rattle.circ_shared.specs.Usage.{Uses, GivesRewriting}
 use Rattle.circ_shared.specs.Patterns.{goal_at, IsPattern}
 use Rattle.circ_shared.specs.Settings.{setting_at, table_at}
-use Rattle.circ_shared.specs.Usage.{GivesRewriting}
 use Rattle.circ_shared.proofs.Using.{if_of_use, listed_map, unlisted_map, map_listed, all_listed, equation_used}
 use Rattle.circ_shared.proofs.usage.Sources.by_equation.Goals as goal
 

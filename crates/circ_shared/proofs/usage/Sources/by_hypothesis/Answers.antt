@@ -1,12 +1,11 @@
-use Rattle.std.proofs.Common.{IsTrue, map, ap, sym, ◌∙◌, subst, rules}
+use Rattle.std.proofs.Common.{IsTrue, map, sym, ◌∙◌, rules}
 use Rattle.std.proofs.lemmas.Option.{same_Some}
 use Rattle.circ_theory.specs.Rewriting.{named}
 use Rattle.circ_proof.specs.Plain.{Hypothesis_link}
 use Rattle.circ_nodes.specs.Named.{tree_at}
-use Rattle.circ_shared.specs.Usage.{Uses}
+use Rattle.circ_shared.specs.Usage.{Uses, GivesRewriting}
 use Rattle.circ_shared.specs.Patterns.{goal_at, IsPattern}
 use Rattle.circ_shared.specs.Settings.{setting_at, table_at}
-use Rattle.circ_shared.specs.Usage.{GivesRewriting}
 use Rattle.circ_shared.proofs.Using.{if_of_use, listed_map, unlisted_map, all_listed, hypothesis_used, unspecial}
 use Rattle.circ_shared.proofs.usage.Sources.by_hypothesis.Goals as goal
 

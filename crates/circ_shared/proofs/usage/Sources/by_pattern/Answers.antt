@@ -3,10 +3,9 @@ use Rattle.circ_theory.specs.Rewriting.{named}
 use Rattle.circ_theory.specs.Variables.{variables_of, sorted, given}
 use Rattle.circ_nodes.specs.Named.{AreNamed, tree_at}
 use Rattle.circ_nodes.proofs.Numbers.{all_below}
-use Rattle.circ_shared.specs.Usage.{GivesUse}
+use Rattle.circ_shared.specs.Usage.{GivesUse, GivesRewriting}
 use Rattle.circ_shared.specs.Patterns.{variable_trees, goal_at}
 use Rattle.circ_shared.specs.Settings.{table_at}
-use Rattle.circ_shared.specs.Usage.{GivesRewriting}
 use Rattle.circ_shared.proofs.Giving.{given_made}
 use Rattle.circ_shared.proofs.Using.{if_of_use, gives_rewriting, unfit_rewriting, turned_from, turned_to}
 use Rattle.circ_shared.proofs.usage.Sources.by_pattern.Goals as goal
