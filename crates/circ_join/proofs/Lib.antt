@@ -1,7 +1,7 @@
 pub mod Joins
 pub mod BothSides
 pub mod FirstUse
-pub mod Passes
+pub mod Sweeps
 pub mod Places
 pub mod FirstLemma
 pub mod TwoParts

@@ -1,5 +1,5 @@
 -- What parts of a search answer that may stop it.
-use Rattle.std.specs.Prelude.{◌≡◌, ℕ, List, map, Result, Ok, Err}
+use Rattle.std.specs.Prelude.{◌≡◌, List, map, Result, Ok, Err}
 use Rattle.std.specs.Option.{unwrap_or}
 use Rattle.circ_term.specs.Tree.{Tree, replaced}
 use Rattle.circ_term.specs.Limits.{Big, Deep, first_limit}
@@ -35,13 +35,3 @@ rewrite_stop rewrite.Memory = stop.Memory
 abbrev pub Puts : Result Tree Stop → Result Tree TheStop → Type 0
 Puts r (Ok t) = r ≡ Ok t
 Puts r (Err e) = Stops r e
-
--- the same for one subterm
-abbrev pub PutsAt : (whole : Tree) → (path : List ℕ) → (new : Tree) → Result Tree TheStop → Type 0
-PutsAt whole path new r =
-    Puts (within_or (first_limit (unwrap_or (replaced whole path new) whole)) (unwrap_or (replaced whole path new) whole)) r
-
--- the same where each use is one rewrite step, with what is left of the budget
-abbrev pub PutsCounted : Result (Tree × ℕ) Stop → (left : ℕ) → Result Tree TheStop → Type 0
-PutsCounted r left (Ok t) = r ≡ Ok (t, left)
-PutsCounted r left (Err e) = Stops r e
