@@ -116,13 +116,13 @@ impl Hypotheses {
         ensures few { length self.now.all < 2 ^ 31 }
     {
         let before = 2 * self.earlier.len() as u32;
-        if from < before {
-            if let Some(found) = self.earlier.first(from, a, b)? {
-                return Ok(Some(found));
-            }
-            return self.own_first(before, 0, a, b);
+        if from >= before {
+            return self.own_first(before, from - before, a, b);
         }
-        self.own_first(before, from - before, a, b)
+        match self.earlier.first(from, a, b)? {
+            Some(found) => Ok(Some(found)),
+            None => self.own_first(before, 0, a, b),
+        }
     }
 
     // The first of the block's own, which stand behind so many places, at or behind one of theirs.

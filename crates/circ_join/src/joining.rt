@@ -7,7 +7,8 @@ ghost use Rattle.circ_term.specs.Order.{is_same};
 ghost use Rattle.circ_plain_search.specs.Joining.{is_place};
 ghost use Rattle.circ_conditional_search.specs.Joining.{first_use_trying};
 ghost use Rattle.circ_conditional_search.specs.Joining.{joined_trying, all_joined_trying};
-ghost use Rattle.circ_join.specs.Trying.{normaliser_of, Works, Joins, inside_trying};
+ghost use Rattle.circ_join.specs.Trying.{normaliser_of, Works, Joins};
+ghost use Rattle.circ_join.specs.Trying.{beside_alone, inside_trying};
 ghost use Rattle.circ_join.specs.Uses.{plain_use, plain_uses};
 
 use crate::hypotheses::Hypotheses;

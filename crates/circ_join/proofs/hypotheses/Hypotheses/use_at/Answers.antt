@@ -9,7 +9,7 @@ use Rattle.circ_join.specs.Binding.{BindsRest, have_pair_variable}
 use Rattle.circ_join.specs.Trying.{normaliser_of}
 use Rattle.circ_join.proofs.BothSides.{hypothesis_terms}
 use Rattle.circ_join.proofs.UsesMade.{use_hindered, no_use_made, use_made}
-use Rattle.circ_join.proofs.first_use.Hypotheses.use_at.Goals as goal
+use Rattle.circ_join.proofs.hypotheses.Hypotheses.use_at.Goals as goal
 
 pub index-hyp-requires : goal.index-hyp-requires
 index-hyp-requires c = omega (arith, c.requires.there, ap length c.goals.ensures)
@@ -34,8 +34,8 @@ returns-in-Ok-None-clause-exact c = λ h g.
     no_use_made (normaliser_of c.args.reducer.now) c.args.place h c.args.path.now c.args.new.now (substitution_of c.args.subst) c.args.budget.now c.passes.new.budget
     (rw (c.in-Ok-None.field-0-is, conds) at c.in-Ok-None.ensures.exact)
 
-pub returns-in-Ok-Some-clause-exact : goal.returns-in-Ok-Some-clause-exact
-returns-in-Ok-Some-clause-exact c = λ h g.
+pub returns-clause-exact : goal.returns-clause-exact
+returns-clause-exact c = λ h g.
     let H = c.args.self.now.all in
     let n = c.args.place / 2 in
     let q = c.index-hyp.result.now in
