@@ -92,7 +92,7 @@ pair_match g a b σ m =
 
 -- ---- variables that stand for themselves
 
-variable : ℕ → ℕ → Variable
+abbrev variable : ℕ → ℕ → Variable
 variable n s = record { number = n; sort = s }
 
 any_seen_in_pairs : (v : Variable) (ps : List Pair) (us : List Variable)

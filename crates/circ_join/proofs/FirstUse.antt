@@ -113,7 +113,7 @@ module _ (f : Normaliser) (q : List ℕ) where
     from_next n H w = ap (or_next w) (λ i l. sym (from_start n H l) i)
 
     pub found_from : (n : ℕ) (H : List Goal) (p m k : ℕ) (σ : List Bound) → FindsFirstPair (map both_sides H) p a b (Some (m, σ))
-        → uses_from n H p k ≡ or_next (use_at n H m k) (uses_from n H (m + 1))
+        → uses_from n H p k ≡ or_next (use_at n H m k) (uses_from n H (suc m))
     found_from n [] p m k σ g = absurd (let z = g.1.1 in cc)
     found_from n (h ∷ H) zero zero k σ g =
         next_next (pair_use_trying f n Forth h q b a b k) (pair_use_trying f n Back h q b b a) (first_use_trying f (n + 1) H q a b)
@@ -187,7 +187,10 @@ module _ (f : Normaliser) (q : List ℕ) where
 
     pub found_is : (H : List Goal) (p m k : ℕ) (σ : List Bound) (h : Goal) → FindsFirstPair (map both_sides H) p a b (Some (m, σ)) → slice_get H (m / 2) ≡ Some h
         → uses_from 0 H p k ≡ or_next (use_by f m h q b (substitution_of σ) k) (uses_from 0 H (m + 1))
-    found_is H p m k σ h g e = found_from 0 H p m k σ g ∙ ap (λ w. or_next w (uses_from 0 H (m + 1))) (used_at H p m k σ h g e).1
+    found_is H p m k σ h g e =
+        let next : suc m ≡ m + 1 = omega arith in
+        found_from 0 H p m k σ g ∙ ap (λ w. or_next w (uses_from 0 H (suc m))) (used_at H p m k σ h g e).1
+        ∙ ap (λ n. or_next (use_by f m h q b (substitution_of σ) k) (uses_from 0 H n)) next
 
     pub found_hinders : (H : List Goal) (p m k : ℕ) (σ : List Bound) (h : Goal) → FindsFirstPair (map both_sides H) p a b (Some (m, σ)) → slice_get H (m / 2) ≡ Some h
         → (e : RewriteFault) (l : ℕ) → Hinders e l (use_by f m h q b (substitution_of σ) k) → Hinders e l (uses_from 0 H p k)

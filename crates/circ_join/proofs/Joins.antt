@@ -58,6 +58,31 @@ hinders_then f (TooBig n) l w h = ap (λ x. found_then x f) h
 hinders_then f (TooDeep n) l w h = ap (λ x. found_then x f) h
 hinders_then f Memory l w h = tt
 
+-- ---- one argument
+
+pub beside_not : (same at_place : Bool) (one : ℕ → Work (Option (List HypothesisUse))) (k : ℕ) → same ≡ false → at_place ≡ false → beside_alone same at_place one k ≡ Made None k
+beside_not same at_place one k e d = ap (λ v. beside_alone v at_place one k) e ∙ ap (λ v. beside_alone false v one k) d
+
+pub beside_joins : (same at_place : Bool) (one : ℕ → Work (Option (List HypothesisUse))) (k : ℕ) → same ≡ false → at_place ≡ true → beside_alone same at_place one k ≡ one k
+beside_joins same at_place one k e d = ap (λ v. beside_alone v at_place one k) e ∙ ap (λ v. beside_alone false v one k) d
+
+-- ---- two operators that differ
+
+pub differ_first : (a b : ℕ) (v : Bool) → (a ≡ b → ⊥) → ((a == b) && v) ≡ false
+differ_first a b v h = go (a == b) refl
+  where
+    go : (r : Bool) → (a == b) ≡ r → (r && v) ≡ false
+    go true e = absurd (h (eqb-true a b e))
+    go false e = refl
+
+pub differ_second : (u : Bool) (a b : ℕ) → (a ≡ b → ⊥) → (u && (a == b)) ≡ false
+differ_second false a b h = refl
+differ_second true a b h = go (a == b) refl
+  where
+    go : (r : Bool) → (a == b) ≡ r → (a == b) ≡ false
+    go true e = absurd (h (eqb-true a b e))
+    go false e = e
+
 -- ---- two terms
 
 module _ (f : Normaliser) (G : List Place) (H : List Goal) where
@@ -95,9 +120,6 @@ module _ (f : Normaliser) (G : List Place) (H : List Goal) where
       (hinders_map (λ x. x ∷ []) e l (first_use_trying f 0 H q a b k) h))
 
   -- ---- inside two terms
-
-  pub inside_variable : (q : List ℕ) (a b : Tree) (n s k : ℕ) → Var n s ≡ a → inside_trying f G H q a b k ≡ Made None k
-  inside_variable q a b n s k e = ap (λ x. inside_trying f G H q x b k) (sym e)
 
   pub inside_no_application : (q : List ℕ) (a b : Tree) (g s n j k : ℕ) (ts : Trees) → App g s ts ≡ a → Var n j ≡ b → inside_trying f G H q a b k ≡ Made None k
   inside_no_application q a b g s n j k ts e d = ap (λ x. inside_trying f G H q x b k) (sym e) ∙ ap (λ x. inside_trying f G H q (App g s ts) x k) (sym d)

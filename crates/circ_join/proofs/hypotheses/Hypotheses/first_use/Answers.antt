@@ -72,7 +72,7 @@ pub overflow_add-from : goal.overflow_add-from
 overflow_add-from c =
     let H = c.args.self.now.all in
     let found = rw c.in-Some.is at c.in_ok-place.ensures.found in
-    omega (arith, place_there (map both_sides H) c.args.a.now c.args.b.now c.loop-place.from c.in-Some.place c.in-Some.subst found, length-map H both_sides, c.first-place.ensures.few)
+    omega (arith, place_there (map both_sides H) c.args.a.now c.args.b.now c.loop-place.from c.in-Some.place c.in-Some.subst found, length-map H both_sides, c.first.ensures.few)
 
 pub loop-place-smaller : goal.loop-place-smaller
 loop-place-smaller c =

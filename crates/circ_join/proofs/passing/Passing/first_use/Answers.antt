@@ -48,7 +48,7 @@ returns-in-Ok-Some-clause-exact c =
 pub overflow_add-from : goal.overflow_add-from
 overflow_add-from c =
     let found = rw c.in-Some.is at c.in_ok-place.ensures.found in
-    omega (arith, found_within c.args.self.now.lemmas.now c.args.term.now c.loop-place.from c.in-Some.place c.in-Some.subst found, c.first-place.ensures.few)
+    omega (arith, found_within c.args.self.now.lemmas.now c.args.term.now c.loop-place.from c.in-Some.place c.in-Some.subst found, c.first.ensures.few)
 
 pub loop-place-smaller : goal.loop-place-smaller
 loop-place-smaller c =
