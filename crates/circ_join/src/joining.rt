@@ -152,8 +152,11 @@ impl Joining<'_> {
             }
             match self.joins_at(reducer, op, i as u16, &args[i], &others[i], path, uses, budget) {
                 Err(fault) => return Err(fault),
-                Ok(false) => return Ok(false),
-                Ok(true) => {}
+                Ok(joins) => {
+                    if !joins {
+                        return Ok(false);
+                    }
+                }
             }
         }
         Ok(args.len() == others.len())

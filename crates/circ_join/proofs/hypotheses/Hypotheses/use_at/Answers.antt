@@ -41,7 +41,7 @@ returns-clause-exact c = λ h g.
     let conds : map plain_pair c.as_slice.result.now ≡ h.conds = c.as_slice.ensures ∙ ap (λ (x : Goal). x.conds) is in
     let rest : BindsRest (have_pair_variable h.conds) c.args.subst c.bind_conditions.new.subst =
     rw (c.as_slice-2.ensures ∙ ap (λ (x : Goal). x.conds) is) at c.in_ok-bind_conditions.ensures in
-    use_made (normaliser_of c.args.reducer.now) c.args.place h c.args.path.now c.args.new.now (substitution_of c.args.subst) c.args.budget.now _ c.passes.new.budget
+    use_made (normaliser_of c.args.reducer.now) c.args.place h c.args.path.now c.args.new.now (substitution_of c.args.subst) c.args.budget.now c.passes.new.budget
     (plain_passes c.in-Ok-Some.passes.items) (rw (c.in-Ok-Some.field-0-is, conds) at c.in-Ok-Some.ensures.exact)
     refl c.way_at.ensures c.in_ok-from_slice.ensures.ok
     (c.in_ok-terms.ensures.terms ∙ hypothesis_terms h c.args.subst c.bind_conditions.new.subst (c.requires.binds h g) rest c.in_ok-terms.ensures.ordered)

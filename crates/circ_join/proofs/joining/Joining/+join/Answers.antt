@@ -9,7 +9,7 @@ use Rattle.circ_conditional_search.specs.Joining.{joined_trying}
 use Rattle.circ_join.specs.Trying.{normaliser_of, beside_alone}
 use Rattle.circ_join.specs.Uses.{plain_use, plain_uses}
 use Rattle.circ_join.proofs.Joins.{not_same, is_same_at, joined_same, joined_used, joined_inside, joined_hindered, inside_no_application, inside_all, inside_others, differ_first, differ_second}
-use Rattle.circ_join.proofs.Joins.{going_start, going_on, going_none, going_hindered, going_short, going_end, nil_right}
+use Rattle.circ_join.proofs.Joins.{beside_not, beside_joins, going_start, going_on, going_none, going_hindered, going_short, going_end, nil_right}
 use Rattle.circ_join.proofs.joining.Joining.+join.Goals.{joins_inside-then-op-other_op-via-then-op-other_op, joins_inside-then-op-other_op-via-else-op-other_op+then-sort-other_sort}
 use Rattle.circ_join.proofs.joining.Joining.+join.Goals as goal
 
@@ -51,8 +51,8 @@ joins-returns-in-Ok-None-clause-exact t c =
 pub joins_inside-returns-in-Application-Variable-clause-exact : goal.joins_inside-returns-in-Application-Variable-clause-exact
 joins_inside-returns-in-Application-Variable-clause-exact t c =
     let x = c.in-Application-Variable in
-    inside_no_application (normaliser_of c.args.reducer.now) c.args.self.now.gamma.now c.args.self.now.hyps.now.all c.args.path.now.items c.args.a.now c.args.b.now x.op-0 x.sort-0
-    x.number-1 x.sort-1 c.args.budget.now (trees_of x.args-0.now) x.ensures.value x.ensures'.value
+    inside_no_application (normaliser_of c.args.reducer.now) c.args.self.now.gamma.now c.args.self.now.hyps.now.all c.args.path.now.items c.args.a.now c.args.b.now _ _
+    _ _ c.args.budget.now _ x.ensures.value x.ensures'.value
 
 pub joins_inside-all_join-requires : goal.joins_inside-all_join-requires
 joins_inside-all_join-requires t c =
@@ -106,24 +106,24 @@ all_join-returns-in-Err-clause-exact t c =
     (plain_uses c.args.uses.now.items) (plain_uses c.loop-i.uses.items) c.args.budget.now c.loop-i.i c.loop-i.budget c.joins_at.new.budget c.index-args-i.result c.index-others-i.result
     c.in-Err.fault i.going c.loop-i-test.true (omega (arith, c.if-i-others.false)) c.index-args-i.is c.index-others-i.is (rw (i.same, i.path) at c.in-Err.ensures.exact)
 
-pub all_join-returns-in-Ok-false-clause-exact : goal.all_join-returns-in-Ok-false-clause-exact
-all_join-returns-in-Ok-false-clause-exact t c =
+pub all_join-returns-then-not-joins-clause-exact : goal.all_join-returns-then-not-joins-clause-exact
+all_join-returns-then-not-joins-clause-exact t c =
     let i = c.loop-i.invariant in
     going_none (normaliser_of c.args.reducer.now) c.args.self.now.gamma.now c.args.self.now.hyps.now.all c.args.op c.args.path.now.items c.args.args.now c.args.others.now
     (plain_uses c.args.uses.now.items) (plain_uses c.loop-i.uses.items) c.args.budget.now c.loop-i.i c.loop-i.budget c.joins_at.new.budget c.index-args-i.result c.index-others-i.result
-    i.going c.loop-i-test.true (omega (arith, c.if-i-others.false)) c.index-args-i.is c.index-others-i.is (rw (c.in-Ok-false.field-0-is, i.same, i.path) at c.in-Ok-false.ensures.exact)
+    i.going c.loop-i-test.true (omega (arith, c.if-i-others.false)) c.index-args-i.is c.index-others-i.is (rw (c.if-not-joins.true, i.same, i.path) at c.in-Ok.ensures.exact)
 
 pub all_join-loop-i-preserved : goal.all_join-loop-i-preserved
 all_join-loop-i-preserved t c =
     let i = c.loop-i.invariant in
     record {
-      path = c.in-Ok-true.ensures.path ∙ i.path;
+      path = c.in-Ok.ensures.path ∙ i.path;
       less = omega (arith, i.less, c.joins_at.ensures.less);
       same = c.joins_at.ensures.same ∙ i.same;
       going = going_on (normaliser_of c.args.reducer.now) c.args.self.now.gamma.now c.args.self.now.hyps.now.all c.args.op c.args.path.now.items c.args.args.now c.args.others.now
           (plain_uses c.args.uses.now.items) (plain_uses c.loop-i.uses.items) (plain_uses c.joins_at.new.uses.items) c.args.budget.now c.loop-i.i c.loop-i.budget c.joins_at.new.budget
           c.index-args-i.result c.index-others-i.result i.going c.loop-i-test.true (omega (arith, c.if-i-others.false)) c.index-args-i.is c.index-others-i.is
-          (rw (c.in-Ok-true.field-0-is, i.same, i.path) at c.in-Ok-true.ensures.exact);
+          (rw (c.if-not-joins.false, i.same, i.path) at c.in-Ok.ensures.exact);
     }
 
 pub all_join-returns-clause-exact : goal.all_join-returns-clause-exact

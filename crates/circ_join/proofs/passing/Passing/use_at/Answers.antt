@@ -38,7 +38,7 @@ returns-clause-exact c = λ r g.
     let is : q ≡ r = same_Some q r (sym there ∙ g) in
     let conds : map plain_pair c.as_slice.result.now ≡ r.conds = c.as_slice.ensures ∙ ap (λ (x : Rule). x.conds) is in
     let rewrites = rule_rewrites L r c.args.place (rw c.rules.ensures.rules at c.rules.ensures.rewrite) g in
-    lemma_due (normaliser_of c.args.reducer.now) r c.args.path.now (substitution_of c.args.subst) c.args.budget.now _ c.passes.new.budget
+    lemma_due (normaliser_of c.args.reducer.now) r c.args.path.now (substitution_of c.args.subst) c.args.budget.now c.passes.new.budget
     (plain_passes c.in-Ok-Some.passes.items) (rw (c.in-Ok-Some.field-0-is, conds) at c.in-Ok-Some.ensures.exact)
     (c.rule_number.ensures ∙ ap (λ (x : Rule). rule_number x.name) is) c.in_ok-from_slice-in-Ok-Some.ensures.ok
     (c.in_ok-terms-in-Ok-Some.ensures.terms ∙ lemma_terms r c.args.subst rewrites (c.requires.binds r g) c.in_ok-terms-in-Ok-Some.ensures.ordered) c.in_ok-chains_of-in-Ok-Some.ensures
