@@ -1,5 +1,5 @@
 -- Lemmas that are tried on a term, one place of the index after the other.
-use Rattle.std.proofs.Common.{◌≡◌, ◌≤◌, ◌<◌, ℕ, zero, suc, ◌+◌, List, [], ◌∷◌, drop, map, length, Option, Some, None, refl, ap, sym, subst, ◌∙◌, arith}
+use Rattle.std.proofs.Common.{◌≡◌, ◌≤◌, ◌<◌, ℕ, zero, suc, ◌+◌, List, [], ◌∷◌, drop, map, length, Some, None, refl, ap, sym, subst, ◌∙◌, arith}
 use Rattle.std.specs.List.{slice_get, AllByRecursion}
 use Rattle.std.specs.List.Sorted.{IsStrictlySortedBy}
 use Rattle.std.proofs.lemmas.Option.{same_Some, slice_get_within}
@@ -17,7 +17,7 @@ use Rattle.circ_rewrite.specs.declared.parts.Rule.{Rule}
 use Rattle.circ_rewrite.proofs.MatchingFacts.{matches-instance, no_match, matcher_agrees}
 use Rattle.circ_rewrite.proofs.RuleTerms.{of_left}
 use Rattle.circ_conditional_norm.specs.Tries.{Normaliser, tried}
-use Rattle.circ_conditional_norm.specs.Work.{Work, Made, or_next, map_found}
+use Rattle.circ_conditional_norm.specs.Work.{Made, or_next, map_found}
 use Rattle.circ_tries.specs.Trying.{Hinders}
 use Rattle.circ_tries.proofs.Faulting.{hinders_next, hinders_same}
 use Rattle.circ_plain_search.specs.Joining.{HypothesisUse, rule_number}
@@ -75,9 +75,10 @@ module _ (f : Normaliser) (q : List ℕ) (t : Tree) where
   found_from [] from n k σ r g e = absurd (let z = g.1.1 in cc)
   found_from (x ∷ L) zero zero k σ r g e =
       let here : LeftMatches t x.left (Some σ) = subst (λ y. LeftMatches t y (Some σ)) (sym (same_Some x.left g.1.0 g.1.1)) g.1.2 in
-      let is : x ≡ r = same_Some x r e in
-      (subst (λ y. BindsLeft y σ) is here.binds,
-       ap (λ w. or_next w (first_lemma_trying f L q t)) (matched x σ k here ∙ ap (λ y. lemma_use_by f y q (substitution_of σ) k) is))
+      let is : x ≡ r = same_Some x r e in (
+        subst (λ y. BindsLeft y σ) is here.binds,
+        ap (λ w. or_next w (first_lemma_trying f L q t)) (matched x σ k here ∙ ap (λ y. lemma_use_by f y q (substitution_of σ) k) is),
+      )
   found_from (x ∷ L) zero (suc n) k σ r g e =
       let rest = found_from L 0 n k σ r (omega arith, g.1, behind_first x L n g.2) e in
       (rest.0, ap (λ w. or_next w (first_lemma_trying f L q t)) (first_not x L (suc n) (omega arith) g.2 k) ∙ rest.1)

@@ -4,7 +4,6 @@ use Rattle.std.specs.List.{slice_get}
 use Rattle.std.proofs.lemmas.Option.{same_Some}
 use Rattle.circ_term.specs.Tree.{Tree}
 use Rattle.circ_term.specs.Subst.{Bound, substitution_of}
-use Rattle.circ_theory.specs.Theory.{sides}
 use Rattle.circ_theory.specs.declared.parts.Goal.{Goal}
 use Rattle.circ_theory.specs.declared.way.Way.{Way}
 use Rattle.circ_theory.specs.declared.way.Way.TheVariants.{Forth, Back}
@@ -16,8 +15,8 @@ use Rattle.circ_conditional_norm.specs.Tries.{Normaliser, tried}
 use Rattle.circ_conditional_norm.specs.Work.{Work, Made, Out, Past, or_next, map_found}
 use Rattle.circ_tries.specs.Trying.{Hinders}
 use Rattle.circ_tries.proofs.Faulting.{hinders_next, hinders_same}
-use Rattle.circ_plain_search.specs.Joining.{HypothesisUse, hypothesis_variables, pair_matching}
-use Rattle.circ_conditional_search.specs.Joining.{use_passing, pair_use_trying, one_use_trying, first_use_trying}
+use Rattle.circ_plain_search.specs.Joining.{HypothesisUse, hypothesis_variables}
+use Rattle.circ_conditional_search.specs.Joining.{use_passing, pair_use_trying, first_use_trying}
 use Rattle.circ_join.specs.Binding.{BindsSides}
 use Rattle.circ_join.specs.Hypotheses.{both_sides, way_at}
 use Rattle.circ_join.specs.Trying.{use_by}
@@ -158,18 +157,20 @@ module _ (f : Normaliser) (q : List ℕ) where
     found_at n (x ∷ H) zero k σ h g e =
         let here : PairMatches a b (both_sides x) (Some σ) = subst (λ y. PairMatches a b y (Some σ)) (sym (same_Some (both_sides x) g.0 g.1)) g.2 in
         let is : x ≡ h = same_Some x h e in
-        let number : n ≡ n + 0 / 2 = omega arith in
-        (subst (λ y. BindsSides y σ) is here.binds,
-         matched n Forth x b a b σ k here ∙ ap (λ y. map_found (λ passes. use_passing y Forth q (terms_by (substitution_of σ) (hypothesis_variables x)) passes b) (tried (Some f) (substitution_of σ) x.conds k)) number
-         ∙ ap (λ y. numbered n 0 y σ k) is)
+        let number : n ≡ n + 0 / 2 = omega arith in (
+          subst (λ y. BindsSides y σ) is here.binds,
+          matched n Forth x b a b σ k here ∙ ap (λ y. map_found (λ passes. use_passing y Forth q (terms_by (substitution_of σ) (hypothesis_variables x)) passes b) (tried (Some f) (substitution_of σ) x.conds k)) number
+              ∙ ap (λ y. numbered n 0 y σ k) is,
+        )
     found_at n (x ∷ H) (suc zero) k σ h g e =
         let there : PairMatches a b (x.right, x.left) (Some σ) = subst (λ y. PairMatches a b y (Some σ)) (sym (same_Some (x.right, x.left) g.0 g.1)) g.2 in
         let here = turned x a b σ there in
         let is : x ≡ h = same_Some x h e in
-        let number : n ≡ n + 1 / 2 = omega arith in
-        (subst (λ y. BindsSides y σ) is here.binds,
-         matched n Back x b b a σ k here ∙ ap (λ y. map_found (λ passes. use_passing y Back q (terms_by (substitution_of σ) (hypothesis_variables x)) passes b) (tried (Some f) (substitution_of σ) x.conds k)) number
-         ∙ ap (λ y. numbered n 1 y σ k) is)
+        let number : n ≡ n + 1 / 2 = omega arith in (
+          subst (λ y. BindsSides y σ) is here.binds,
+          matched n Back x b b a σ k here ∙ ap (λ y. map_found (λ passes. use_passing y Back q (terms_by (substitution_of σ) (hypothesis_variables x)) passes b) (tried (Some f) (substitution_of σ) x.conds k)) number
+              ∙ ap (λ y. numbered n 1 y σ k) is,
+        )
     found_at n (x ∷ H) (suc (suc m)) k σ h g e =
         let half : suc (suc m) / 2 ≡ suc (m / 2) = omega arith in
         let there : slice_get H (m / 2) ≡ Some h = sym (ap (slice_get (x ∷ H)) half) ∙ e in

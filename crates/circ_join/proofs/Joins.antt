@@ -1,9 +1,9 @@
 -- Join in steps.
-use Rattle.std.proofs.Common.{◌≡◌, ◌↔◌, ◌≤◌, ◌<◌, ℕ, zero, suc, ◌+◌, ◌-◌, length, Bool, true, false, ◌==◌, ◌&&◌, if◌then◌else◌, List, [], ◌∷◌, ◌++◌, drop, take, get_or, Option, Some, None, Result, Ok, Err, refl, ap, sym, subst, ◌∙◌, append_assoc, arith}
+use Rattle.std.proofs.Common.{◌≡◌, ◌↔◌, ◌≤◌, ◌<◌, ℕ, zero, suc, ◌+◌, ◌-◌, length, Bool, true, false, ◌==◌, ◌&&◌, if◌then◌else◌, List, [], ◌∷◌, ◌++◌, drop, get_or, Option, Some, None, Ok, refl, ap, sym, subst, ◌∙◌, append_assoc, arith}
 use Rattle.std.specs.Prelude.{IsTrue}
 use Rattle.std.proofs.lemmas.Bool.{eqb-true}
 use Rattle.std.proofs.lemmas.List.{drop_all}
-use Rattle.circ_term.specs.Tree.{Tree, Trees, Var, App, none, more, trees_of}
+use Rattle.circ_term.specs.Tree.{Tree, Trees, Var, App, trees_of}
 use Rattle.circ_term.specs.Order.{is_same}
 use Rattle.circ_term.proofs.Order.{same_itself}
 use Rattle.circ_term.proofs.Within.{drop_read}
@@ -224,9 +224,11 @@ module _ (f : Normaliser) (G : List Place) (H : List Goal) where
       → length ts ≡ i → v ≡ (length ts == length us) → Joins (all_joined_trying f G H g q 0 (trees_of ts) (trees_of us) first) k old cur (Ok v)
   going_end g q ts us old cur first i k true go h e =
       let n : length ts ≡ length us = eqb-true (length ts) (length us) (sym e) in
-      let least : length us ≤ i = omega (arith, n, h) in
-      (go.js ++ [], go.rest ∙ ap (behind go.js) (both (drop i ts) (drop i us) (drop_all i ts (omega (arith, h))) (drop_all i us least)),
-       go.made ∙ ap (λ x. old ++ x) (sym (nil_right go.js)))
+      let least : length us ≤ i = omega (arith, n, h) in (
+        go.js ++ [],
+        go.rest ∙ ap (behind go.js) (both (drop i ts) (drop i us) (drop_all i ts (omega (arith, h))) (drop_all i us least)),
+        go.made ∙ ap (λ x. old ++ x) (sym (nil_right go.js)),
+      )
     where
       both : (xs ys : List Tree) → xs ≡ [] → ys ≡ [] → all_joined_trying f G H g q i (trees_of xs) (trees_of ys) k ≡ Made (Some []) k
       both xs ys d c = ap (λ zs. all_joined_trying f G H g q i (trees_of zs) (trees_of ys) k) d ∙ ap (λ zs. all_joined_trying f G H g q i (trees_of []) (trees_of zs) k) c

@@ -12,7 +12,7 @@ use Rattle.circ_rewrite.specs.Replacement.{Passes}
 use Rattle.circ_rewrite.specs.declared.fault.RewriteFault.{RewriteFault}
 use Rattle.circ_rewrite.specs.declared.parts.Rule.{Rule}
 use Rattle.circ_conditional_norm.specs.Tries.{Normaliser, tried}
-use Rattle.circ_conditional_norm.specs.Work.{Work, Made, map_found}
+use Rattle.circ_conditional_norm.specs.Work.{Made, map_found}
 use Rattle.circ_tries.specs.Trying.{Hinders}
 use Rattle.circ_tries.proofs.Faulting.{hinders_map}
 use Rattle.circ_plain_search.specs.Joining.{HypothesisUse, hypothesis_variables, rule_number}

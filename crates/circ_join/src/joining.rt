@@ -78,7 +78,10 @@ impl Joining<'_> {
         if a.same(b) {
             return Ok(true);
         }
-        match self.hyps.first_use(self.alloc, reducer, path.as_slice(), a, b, budget) {
+        match self
+            .hyps
+            .first_use(self.alloc, reducer, path.as_slice(), a, b, budget)
+        {
             Err(fault) => Err(fault),
             Ok(Some(one)) => {
                 uses.push(one)?;
@@ -150,7 +153,9 @@ impl Joining<'_> {
             if i >= others.len() {
                 return Ok(false);
             }
-            match self.joins_at(reducer, op, i as u16, &args[i], &others[i], path, uses, budget) {
+            match self.joins_at(
+                reducer, op, i as u16, &args[i], &others[i], path, uses, budget,
+            ) {
                 Err(fault) => return Err(fault),
                 Ok(joins) => {
                     if !joins {

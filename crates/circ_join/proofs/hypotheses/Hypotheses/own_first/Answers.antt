@@ -10,8 +10,17 @@ overflow_add-result c =
     let x = c.self.inside in
     let found = rw c.in-Some.is at c.in_ok-place.ensures in
     let e = earlier_count x.goals.items x.earlier x.own c.self.invariant.sides in
-    omega (arith, place_there x.own c.args.a.now c.args.b.now c.args.from c.in-Some.place c.in-Some.subst found, c.requires, ap (λ h. length h.earlier) c.self.view_is, e,
-    ap length c.self.invariant.sides, length-append x.earlier x.own, length-map x.goals.items both_sides, c.self.invariant.few)
+    omega (
+      arith,
+      place_there x.own c.args.a.now c.args.b.now c.args.from c.in-Some.place c.in-Some.subst found,
+      c.requires,
+      ap (λ h. length h.earlier) c.self.view_is,
+      e,
+      ap length c.self.invariant.sides,
+      length-append x.earlier x.own,
+      length-map x.goals.items both_sides,
+      c.self.invariant.few,
+    )
 
 pub returns-in-Some : goal.returns-in-Some
 returns-in-Some c =

@@ -1,4 +1,4 @@
-use Rattle.std.proofs.Common.{◌≡◌, ◌<◌, drop, length, sym, ◌∙◌, arith}
+use Rattle.std.proofs.Common.{drop, ◌∙◌, arith}
 use Rattle.circ_tries.proofs.Faulting.{hinders_same}
 use Rattle.circ_conditional_search.specs.Joining.{first_lemma_trying}
 use Rattle.circ_join.specs.Sweeping.{plain_due}
