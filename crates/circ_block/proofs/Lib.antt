@@ -1,3 +1,4 @@
 pub mod Bound
+pub mod Deep
 pub mod Lemmas
 pub mod Limited
