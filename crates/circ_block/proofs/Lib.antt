@@ -1,4 +1,4 @@
 pub mod Bound
-pub mod Deep
+pub mod DeepChains
 pub mod Lemmas
 pub mod Limited
