@@ -64,8 +64,8 @@ impl<'a> BlockRules<'a> {
         self.goals.assume(alloc, conds)
     }
 
-    // The goals before had no conditions where it is said so, and else some: the reducer that was
-    // put aside takes the other one's place, where it fits better.
+    // Whether the goal in hand has no conditions is given. Where the goal before differs from it in
+    // that, what was put aside comes into use again.
     fn turn_to(&mut self, bare: bool)
         ensures { (th : TheTheory) (E : List TheGoal) → IsRulesOf th E self.old
             → IsRulesOf th E self.new }
