@@ -1,5 +1,5 @@
 -- Hypotheses that are tried on two terms, one place of the index after the other.
-use Rattle.std.proofs.Common.{◌≡◌, ◌≤◌, ◌<◌, ℕ, zero, suc, ◌+◌, ◌/◌, ◌%◌, ◌==◌, Bool, true, false, ◌||◌, if◌then◌else◌, List, [], ◌∷◌, map, length, Option, Some, None, refl, ap, sym, subst, ◌∙◌, arith}
+use Rattle.std.proofs.Common.{◌≡◌, ◌≤◌, ◌<◌, ℕ, zero, suc, ◌+◌, ◌*◌, ◌/◌, ◌%◌, ◌==◌, Bool, true, false, ◌||◌, if◌then◌else◌, List, [], ◌∷◌, map, length, Option, Some, None, refl, ap, sym, subst, ◌∙◌, arith}
 use Rattle.std.specs.List.{slice_get}
 use Rattle.std.proofs.lemmas.Option.{same_Some}
 use Rattle.circ_term.specs.Tree.{Tree}
@@ -11,8 +11,11 @@ use Rattle.circ_theory.specs.declared.way.Way.TheVariants.{Forth, Back}
 use Rattle.circ_match.specs.Matcher.{has_variable}
 use Rattle.circ_index.specs.Finding.{PairMatches, NoneMatches, FindsFirstPair, both_ways}
 use Rattle.circ_rewrite.specs.Due.{terms_by}
+use Rattle.circ_rewrite.specs.declared.fault.RewriteFault.{RewriteFault}
 use Rattle.circ_conditional_norm.specs.Tries.{Normaliser, tried}
 use Rattle.circ_conditional_norm.specs.Work.{Work, Made, Out, Past, or_next, map_found}
+use Rattle.circ_tries.specs.Trying.{Hinders}
+use Rattle.circ_tries.proofs.Faulting.{hinders_next, hinders_same}
 use Rattle.circ_plain_search.specs.Joining.{HypothesisUse, hypothesis_variables, pair_matching}
 use Rattle.circ_conditional_search.specs.Joining.{use_passing, pair_use_trying, one_use_trying, first_use_trying}
 use Rattle.circ_join.specs.Binding.{BindsSides}
@@ -179,3 +182,32 @@ module _ (f : Normaliser) (q : List ℕ) where
         let x = found_at 0 H m k σ h g.1 e in
         let number : 0 + m / 2 ≡ m / 2 = omega arith in
         (x.0, x.1 ∙ ap (λ y. map_found (λ passes. use_passing y (way_at m) q (terms_by (substitution_of σ) (hypothesis_variables h)) passes b) (tried (Some f) (substitution_of σ) h.conds k)) number)
+
+    -- ---- what comes of the use that is found
+
+    pub found_is : (H : List Goal) (p m k : ℕ) (σ : List Bound) (h : Goal) → FindsFirstPair (map both_sides H) p a b (Some (m, σ)) → slice_get H (m / 2) ≡ Some h
+        → uses_from 0 H p k ≡ or_next (use_by f m h q b (substitution_of σ) k) (uses_from 0 H (m + 1))
+    found_is H p m k σ h g e = found_from 0 H p m k σ g ∙ ap (λ w. or_next w (uses_from 0 H (m + 1))) (used_at H p m k σ h g e).1
+
+    pub found_hinders : (H : List Goal) (p m k : ℕ) (σ : List Bound) (h : Goal) → FindsFirstPair (map both_sides H) p a b (Some (m, σ)) → slice_get H (m / 2) ≡ Some h
+        → (e : RewriteFault) (l : ℕ) → Hinders e l (use_by f m h q b (substitution_of σ) k) → Hinders e l (uses_from 0 H p k)
+    found_hinders H p m k σ h g x e l y =
+        let w = use_by f m h q b (substitution_of σ) k in
+        hinders_same e l (uses_from 0 H p k) (or_next w (uses_from 0 H (m + 1))) (found_is H p m k σ h g x) (hinders_next (uses_from 0 H (m + 1)) e l w y)
+
+    pub found_applies : (H : List Goal) (p m k : ℕ) (σ : List Bound) (h : Goal) → FindsFirstPair (map both_sides H) p a b (Some (m, σ)) → slice_get H (m / 2) ≡ Some h
+        → (u : HypothesisUse) (l : ℕ) → use_by f m h q b (substitution_of σ) k ≡ Made (Some u) l → uses_from 0 H p k ≡ Made (Some u) l
+    found_applies H p m k σ h g x u l y = found_is H p m k σ h g x ∙ ap (λ w. or_next w (uses_from 0 H (m + 1))) y
+
+    pub found_fails : (H : List Goal) (p m k : ℕ) (σ : List Bound) (h : Goal) → FindsFirstPair (map both_sides H) p a b (Some (m, σ)) → slice_get H (m / 2) ≡ Some h
+        → (l : ℕ) → use_by f m h q b (substitution_of σ) k ≡ Made None l → uses_from 0 H p k ≡ uses_from 0 H (m + 1) l
+    found_fails H p m k σ h g x l y = found_is H p m k σ h g x ∙ ap (λ w. or_next w (uses_from 0 H (m + 1))) y
+
+-- the hypothesis at a place
+pub hypothesis_there : (H : List Goal) (m : ℕ) → m < 2 * length H → (h : Goal) × (slice_get H (m / 2) ≡ Some h)
+hypothesis_there H m e = there H (m / 2) (omega (arith, e))
+  where
+    there : (gs : List Goal) (n : ℕ) → n < length gs → (h : Goal) × (slice_get gs n ≡ Some h)
+    there [] n h = absurd (omega (arith, h))
+    there (g ∷ gs) zero h = (g, refl)
+    there (g ∷ gs) (suc n) h = there gs n (omega (arith, h))

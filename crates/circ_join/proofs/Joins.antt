@@ -1,5 +1,5 @@
 -- Join in steps.
-use Rattle.std.proofs.Common.{◌≡◌, ◌↔◌, ◌≤◌, ◌<◌, ℕ, zero, suc, ◌+◌, ◌-◌, length, Bool, true, false, ◌==◌, ◌&&◌, if◌then◌else◌, List, [], ◌∷◌, ◌++◌, drop, take, get_or, Option, Some, None, Result, Ok, Err, refl, ap, sym, subst, ◌∙◌, append-assoc, arith}
+use Rattle.std.proofs.Common.{◌≡◌, ◌↔◌, ◌≤◌, ◌<◌, ℕ, zero, suc, ◌+◌, ◌-◌, length, Bool, true, false, ◌==◌, ◌&&◌, if◌then◌else◌, List, [], ◌∷◌, ◌++◌, drop, take, get_or, Option, Some, None, Result, Ok, Err, refl, ap, sym, subst, ◌∙◌, append_assoc, arith}
 use Rattle.std.specs.Prelude.{IsTrue}
 use Rattle.std.proofs.lemmas.Bool.{eqb-true}
 use Rattle.std.proofs.lemmas.List.{drop_all}
@@ -22,7 +22,7 @@ use Rattle.circ_join.specs.Trying.{Joins, inside_trying, beside_alone}
 
 -- ---- lists
 
-nil_right : {X : Type 0} (ys : List X) → ys ++ [] ≡ ys
+pub nil_right : {X : Type 0} (ys : List X) → ys ++ [] ≡ ys
 nil_right [] = refl
 nil_right (y ∷ ys) = ap (λ r. y ∷ r) (nil_right ys)
 
@@ -47,7 +47,7 @@ behind_nothing Out = refl
 behind_nothing (Past x k) = refl
 
 pub behind_both : (us vs : List HypothesisUse) (w : Work (Option (List HypothesisUse))) → behind us (behind vs w) ≡ behind (us ++ vs) w
-behind_both us vs (Made (Some ws) k) = ap (λ x. Made (Some x) k) (sym (append-assoc us vs ws))
+behind_both us vs (Made (Some ws) k) = ap (λ x. Made (Some x) k) (sym (append_assoc us vs ws))
 behind_both us vs (Made None k) = refl
 behind_both us vs Out = refl
 behind_both us vs (Past x k) = refl
@@ -114,8 +114,8 @@ module _ (f : Normaliser) (G : List Place) (H : List Goal) where
 
   pub inside_others : (q : List ℕ) (a b : Tree) (g s h j k : ℕ) (ts us : Trees) → App g s ts ≡ a → App h j us ≡ b → ((g == h) && (s == j)) ≡ false
       → inside_trying f G H q a b k ≡ Made None k
-  inside_others q a b g s h j k ts us e d no =
-      inside_both q a b g s h j k ts us e d ∙ ap (λ v. (if v then all_joined_trying f G H g q 0 ts us else no_join) k) no
+  inside_others q a b g s h j k ts us e d other =
+      inside_both q a b g s h j k ts us e d ∙ ap (λ v. (if v then all_joined_trying f G H g q 0 ts us else no_join) k) other
 
   -- ---- arguments
 
@@ -159,7 +159,7 @@ module _ (f : Normaliser) (G : List Place) (H : List Goal) where
       record {
         within = omega (arith, d);
         js = go.js ++ j.0;
-        made = j.2 ∙ ap (λ x. x ++ j.0) go.made ∙ append-assoc old go.js j.0;
+        made = j.2 ∙ ap (λ x. x ++ j.0) go.made ∙ append_assoc old go.js j.0;
         rest = go.rest ∙ ap (behind go.js) z ∙ behind_both go.js j.0 (row_at g q ts us (i + 1) l);
       }
 

@@ -4,13 +4,10 @@ use Rattle.circ_term.specs.Tree.{Tree, Var, App}
 use Rattle.circ_theory.specs.declared.parts.Goal.{Goal}
 use Rattle.circ_special.specs.declared.place.Place.{Place}
 use Rattle.circ_term.specs.Substitution.{Substitution, instance}
-use Rattle.circ_term.specs.declared.fault.TermFault.{TermFault}
-use Rattle.circ_term.specs.declared.fault.TermFault.TheVariants as term
 use Rattle.circ_theory.specs.declared.way.Way.TheVariants.{Forth}
 use Rattle.circ_rewrite.specs.Due.{rule_variables, terms_by}
 use Rattle.circ_rewrite.specs.Replacement.{Passes}
 use Rattle.circ_rewrite.specs.declared.fault.RewriteFault.{RewriteFault}
-use Rattle.circ_rewrite.specs.declared.fault.RewriteFault.TheVariants.{TooBig, TooDeep, Memory}
 use Rattle.circ_rewrite.specs.declared.parts.Pass.{Pass}
 use Rattle.circ_rewrite.specs.declared.parts.Rule.{Rule}
 use Rattle.circ_conditional_norm.specs.Norm.{conditional_norm}
@@ -50,12 +47,6 @@ TestsForms normal a b k left (Ok None) = (rest : ℕ → Work (Option Passes)) �
 TestsForms normal a b k left (Ok (Some pass)) =
     (rest : ℕ → Work (Option Passes)) → same_forms normal a b k rest ≡ map_found (pass_before pass) (rest left)
 TestsForms normal a b k left (Err e) = (rest : ℕ → Work (Option Passes)) → Hinders e left (same_forms normal a b k rest)
-
--- the same fault of a term that is normalised
-abbrev pub fault_of : TermFault → RewriteFault
-fault_of (term.TooBig nodes) = TooBig nodes
-fault_of (term.TooDeep depth) = TooDeep depth
-fault_of term.Memory = Memory
 
 -- one argument: it is equal, or stands at a place of the set and joins
 abbrev pub beside_alone : (same at_place : Bool) → (one : ℕ → Work (Option (List HypothesisUse))) → (budget : ℕ) → Work (Option (List HypothesisUse))

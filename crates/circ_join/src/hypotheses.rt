@@ -112,7 +112,8 @@ impl Hypotheses {
         b: &Term,
     ) -> Result<Option<(u32, Subst)>, AllocError>
         requires { from ≤ 2 * length self.now.all }
-        ensures { IfOk result (FindsFirstPair (map both_sides self.now.all) from a.now b.now) }
+        ensures found { IfOk result (FindsFirstPair (map both_sides self.now.all) from a.now b.now) }
+        ensures few { length self.now.all < 2 ^ 31 }
     {
         let before = 2 * self.earlier.len() as u32;
         if from < before {
