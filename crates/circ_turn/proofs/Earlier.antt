@@ -15,8 +15,8 @@ use Rattle.circ_plain_search.specs.BlockRules.{block_rules}
 use Rattle.circ_plain_search.specs.Joining.{HypothesisUse, use_link, and_then, put_all}
 use Rattle.circ_plain_search.specs.Search.{Limits, Standing, Ending, chain_with, chained, has_links, or_end, spent, goals_limit, unless_past, derive_turn, next_goal, with_this, begun, next_block, done_turn, start, case_of, constants_of}
 use Rattle.circ_conditional_search.specs.Joining.{Swept, joined_trying}
-use Rattle.circ_conditional_search.specs.Search.{Manner, condition_normaliser, normal_sides_trying, split_cases_trying, step_is_deep, step_recorded, with_sides_of, goal_reduced, goal_simplified, cases_turn, case_term, derives_turn, hidden_turn_trying, visible_turn_trying, open_turn_trying, swept_sides_trying, pass_chain, passed_sides, pass_turn_trying, join_turn_trying, sides_turn_trying, goal_turn_trying}
-use Rattle.circ_conditional_search.proofs.Turns.{worked_is}
+use Rattle.circ_conditional_search.specs.Search.{Manner, condition_normaliser, normal_sides_trying, split_cases_trying, step_is_deep, step_recorded, with_sides_of, worked, goal_reduced, goal_simplified, cases_turn, case_term, derives_turn, hidden_turn_trying, visible_turn_trying, open_turn_trying, swept_sides_trying, pass_chain, passed_sides, pass_turn_trying, join_turn_trying, sides_turn_trying, goal_turn_trying}
+use Rattle.circ_conditional_norm.specs.Work.{Work, Made, Out, Past}
 
 record Through {A B E : Type 0} (r : Result A E) (f : A → Result B E) (b : B) : Type 0 where
   pub value : A
@@ -33,6 +33,12 @@ same_Ok a b e = cc
 if_false : {A : Type 0} (b : Bool) (x : Ending) (r : Result A Ending) (y : A) → (if b then Err x else r) ≡ Ok y → r ≡ Ok y
 if_false true x r y e = absurd (cc)
 if_false false x r y e = e
+
+worked_is : {A B : Type 0} (l : Limits) (st : Standing) (w : Work A) (f : A → Standing → Result B Ending) (y : B) → worked l st w f ≡ Ok y
+    → (a : A) × (k : ℕ) × (f a (record st { budget = k }) ≡ Ok y)
+worked_is l st (Made a k) f y e = (a, k, e)
+worked_is l st Out f y e = absurd (cc)
+worked_is l st (Past x k) f y e = absurd (cc)
 
 module _ (th : Theory) (l : Limits) where
   recorded : (st y : Standing) (x : ProofStep Tree) → step_recorded th l st x ≡ Ok y → y.earlier ≡ st.earlier
@@ -98,7 +104,7 @@ module _ (th : Theory) (m : Manner) where
   pass_keeps G st y g rest e =
       let r = worked_is m.limits st (swept_sides_trying th G st.earlier g st.budget)
       (λ w x. if has_links (pass_chain w) then Ok (with_sides_of x g rest (passed_sides w x.budget)) else open_turn_trying th m x g rest) y e in
-      go r.0 r.1 (has_links (pass_chain r.0)) r.3
+      go r.0 r.1 (has_links (pass_chain r.0)) r.2
     where
       go : (w : Swept × Swept) (k : ℕ) (b : Bool)
           → (if b then Ok (with_sides_of (record st { budget = k }) g rest (passed_sides w k)) else open_turn_trying th m (record st { budget = k }) g rest) ≡ Ok y
@@ -119,7 +125,7 @@ module _ (th : Theory) (m : Manner) where
       let at : Standing = with_sides_of st g rest x.value in
       let h : Goal = goal g.conds x.value.left x.value.right in
       let r = worked_is m.limits at (joined_trying (condition_normaliser th at.earlier h.conds) G at.hypotheses [] h.left h.right at.budget) (λ o z. join_turn_trying th G m z h rest o) y x.last in
-      join_keeps G (record at { budget = r.1 }) y h rest r.0 r.3
+      join_keeps G (record at { budget = r.1 }) y h rest r.0 r.2
 
 -- the next block has the goals of this one behind those of earlier blocks
 pub done_earlier : (th : Theory) (l : Limits) (st y : Standing) → done_turn th l st ≡ Ok y → y.earlier ≡ st.earlier ++ st.goals
