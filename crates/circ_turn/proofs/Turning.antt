@@ -10,6 +10,7 @@ use Rattle.circ_special.specs.declared.place.Place.{Place}
 use Rattle.circ_proof.specs.Plain.{LinkOf, ChainOf, WhyOf, Same_why, Split_why}
 use Rattle.circ_proof.specs.Rules.{Simplify, Done, derivatives_on}
 use Rattle.circ_proof.specs.Proof.{step_limit, split_limit}
+use Rattle.circ_rewrite.specs.declared.parts.Rule.{Rule}
 use Rattle.circ_rewrite.specs.declared.fault.RewriteFault.{RewriteFault}
 use Rattle.circ_rewrite.specs.declared.fault.RewriteFault.TheVariants as fault
 use Rattle.circ_conditional_norm.specs.Work.{Work, Made}
@@ -23,6 +24,11 @@ use Rattle.circ_conditional_search.specs.Search.{Manner, condition_normaliser, n
 use Rattle.circ_memo.specs.Value.{Rewriting}
 use Rattle.circ_join.specs.Stopping.{Stops, rewrite_stop}
 use Rattle.circ_join.specs.Trying.{normaliser_of}
+use Rattle.circ_join.specs.Uses.{plain_uses}
+use Rattle.circ_join.specs.declared.uses.HypothesisUse.{HypothesisUse as TheUse}
+use Rattle.circ_split.specs.Answers.{GivesSides, GivesCases}
+use Rattle.circ_split.specs.declared.sides.Sides.{Sides as TheSides}
+use Rattle.circ_split.specs.declared.splitting.Cases.{Cases as TheCases}
 use Rattle.circ_join.specs.declared.stop.Stop.{Stop as TheStop}
 use Rattle.circ_join.specs.declared.stop.Stop.TheVariants as stop
 use Rattle.circ_turn.specs.declared.end.End.{End}
@@ -74,6 +80,26 @@ normaliser_is th E A r e = ap normaliser_of e
 -- the rules of a block under the conditions of a goal
 pub reducing_is : (th : Theory) (E : List Goal) (A B : List Pair) (r : Rewriting) → r ≡ reducing th E A → A ≡ B → r ≡ reducing th E B
 reducing_is th E A B r e s = e ∙ ap (reducing th E) s
+
+-- the sides in normal form by the rules of a block under the conditions of a goal
+pub sides_here : (th : Theory) (E : List Goal) (A : List Pair) (red : Rewriting) (s t : Tree) (k left : ℕ) (r : Result TheSides TheStop) → red ≡ reducing th E A
+    → GivesSides (normal_sides_trying red.theory red.rules red.assumptions s t k) left r
+    → GivesSides (normal_sides_trying th (block_rules th E) A s t k) left r
+sides_here th E A red s t k left r e h =
+    let P : Rewriting → Type 0 = λ x. GivesSides (normal_sides_trying x.theory x.rules x.assumptions s t k) left r in subst P e h
+
+-- the cases by the rules of a block under the conditions of a goal
+pub cases_here : (th : Theory) (R S : List Rule) (A B : List Pair) (s t : Tree) (k left : ℕ) (r : Result TheCases TheStop) → R ≡ S → A ≡ B
+    → GivesCases (split_cases_trying th R split_limit A s t k) left r → GivesCases (split_cases_trying th S split_limit B s t k) left r
+cases_here th R S A B s t k left r rules conds h =
+    let P : List Rule → Type 0 = λ x. GivesCases (split_cases_trying th x split_limit A s t k) left r in
+    let Q : List Pair → Type 0 = λ x. GivesCases (split_cases_trying th S split_limit x s t k) left r in
+    subst Q conds (subst P rules h)
+
+-- a pass has used a lemma on the left side, or it has used one where it has on the right side
+pub has_left_uses : (us vs : List TheUse) → (length us == 0) ≡ false → has_links (chain_with (map use_link (plain_uses us)) (map use_link (plain_uses vs))) ≡ true
+has_left_uses [] vs e = absurd (cc)
+has_left_uses (u ∷ us) vs e = refl
 
 -- ---- the links of the goal in hand count no more
 
