@@ -1,4 +1,4 @@
-use Rattle.std.proofs.Common.{◌≡◌, ◌∷◌, List, drop, ap, sym, subst, refl}
+use Rattle.std.proofs.Common.{◌≡◌, ◌∷◌, List, drop, sym, subst, refl}
 use Rattle.circ_term.proofs.Within.{drop_read}
 use Rattle.circ_theory.specs.Theory.{Pair, goal as goal_with}
 use Rattle.circ_theory.specs.declared.parts.Goal.{Goal}
