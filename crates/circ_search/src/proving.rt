@@ -19,11 +19,9 @@ ghost use Rattle.circ_search.specs.Plain.{ending_of, ending_at, manner_with};
 
 use crate::found::Found;
 use crate::versions::version_of;
+use circ_conditional_search::laws::{proved_is_accepted, without_conditions_as_the_plain_search};
 use circ_contexts::special_contexts;
 use circ_numbering::{NumberFault, TermBlock, numbered};
-use circ_conditional_search::laws::{
-    proved_is_accepted, without_conditions_as_the_plain_search,
-};
 use circ_proof::{Link, MOST_TERMS, Proof};
 use circ_rewrite::{Trace, links_of};
 use circ_special::Gamma;

@@ -178,12 +178,7 @@ impl Search<'_> {
     }
 
     // The goals in the cases of the term take the place of the goal in hand.
-    fn put_cases(
-        &self,
-        state: &mut State<'_>,
-        goal: &Goal,
-        term: &Term,
-    ) -> Result<(), AllocError>
+    fn put_cases(&self, state: &mut State<'_>, goal: &Goal, term: &Term) -> Result<(), AllocError>
         requires taken { state.old.taken ≤ 100000 }
         ensures { OnOk result (standing state.new ≡ next_goal state.old.hyps.all
             (map (λ c. with_cond goal.now (case_of term.now c))

@@ -25,9 +25,7 @@ use crate::end::End;
 use crate::search::Search;
 use crate::state::State;
 use circ_block::BlockRules;
-use circ_join::{
-    HypothesisUse, Joining, Lemmas, Passing, Stop, Swept, put_all, use_links,
-};
+use circ_join::{HypothesisUse, Joining, Lemmas, Passing, Stop, Swept, put_all, use_links};
 use circ_proof::{Chain, Why};
 use circ_rewrite::RewriteFault;
 use circ_split::{Sides, Splitting, normal_sides};
@@ -296,12 +294,7 @@ impl Search<'_> {
     }
 
     // The goal in hand goes on from these sides.
-    fn go_on(
-        &self,
-        state: &mut State<'_>,
-        goal: &Goal,
-        sides: SweptSides,
-    ) -> Result<(), AllocError>
+    fn go_on(&self, state: &mut State<'_>, goal: &Goal, sides: SweptSides) -> Result<(), AllocError>
         requires some { 0 < length state.old.queue.items }
         ensures { OnOk result (standing state.new
             ≡ with_sides_of (standing state.old) goal.now (drop 1 state.old.queue.items)

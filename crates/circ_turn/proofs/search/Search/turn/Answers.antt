@@ -11,6 +11,14 @@ use Rattle.circ_turn.proofs.search.Search.turn.Goals as goal
 empty : (c : goal.After-earlier) → c.args.state.now.queue.items ≡ []
 empty c = none_there c.args.state.now.queue.items c.args.state.now.queue.len (sym c.args.state.now.queue.ok.0) c.in-None.ensures.variant.1
 
+pub done_turn-requires : goal.done_turn-requires
+done_turn-requires c = record {
+  next = λ y e.
+      let Q : List Goal = c.args.state.now.queue.items in
+      let none : Q ≡ [] = none_there Q c.args.state.now.queue.len (sym c.args.state.now.queue.ok.0) c.in-None.ensures.variant.1 in
+      c.requires.next y (ap (turn_trying_at c.args.self.now.theory.now c.args.self.now.gamma.now (manner_of c.args.self.now) (standing c.args.state.now)) none ∙ e);
+}
+
 pub next_block-requires-clause-few : goal.next_block-requires-clause-few
 next_block-requires-clause-few c =
     let st = standing c.args.state.now in
