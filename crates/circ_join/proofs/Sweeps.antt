@@ -68,10 +68,6 @@ module _ (w : Swept) (u : HypothesisUse) (k : ℕ) (some : 0 < k) where
   whole_hinders (term.TooDeep n) v h = whole_past (Deep n) v h
   whole_hinders term.Memory v h = tt
 
-  pub put_makes : first_limit u.new ≡ None → first_limit (put_in w.whole u) ≡ None → put_swept w u k ≡ made (k - 1)
-  put_makes e g =
-      put_limited w u k some ∙ ap (λ o. unless_limit (or_else o (first_limit (put_in w.whole u))) k (made (k - 1))) e ∙ ap (λ o. unless_limit o k (made (k - 1))) g
-
 -- ---- a term, and its arguments
 
 module _ (f : Normaliser) (G : List Place) (L : List Rule) where

@@ -1,15 +1,22 @@
 -- What is found in two lists, one behind the other.
-use Rattle.std.proofs.Common.{◌≡◌, ℕ, ◌+◌, ◌-◌, ◌*◌, ◌<◌, ◌≤◌, zero, suc, List, [], ◌∷◌, ◌++◌, length, Option, Some, None, refl, ap, sym, subst, ◌∙◌, length-append, ◌⊎◌, inl, inr, ⊎_elim, arith}
+use Rattle.std.proofs.Common.{◌≡◌, ℕ, ◌+◌, ◌-◌, ◌*◌, ◌<◌, ◌≤◌, zero, suc, List, [], ◌∷◌, ◌++◌, length, map, take, Option, Some, None, Result, Ok, Err, IfOk, refl, ap, sym, subst, ◌∙◌, length-append, ◌⊎◌, inl, inr, ⊎_elim, arith}
 use Rattle.std.specs.List.{slice_get}
+use Rattle.std.proofs.lemmas.List.{length-map, length-take}
 use Rattle.std.proofs.lemmas.Option.{slice_get_within}
 use Rattle.circ_term.specs.Tree.{Tree}
 use Rattle.circ_term.specs.Subst.{Bound}
+use Rattle.circ_theory.specs.declared.parts.Goal.{Goal}
 use Rattle.circ_index.specs.Finding.{PairMatches, NoneMatches, FindsLeast, FindsFirstPair, both_ways}
+use Rattle.circ_join.specs.Hypotheses.{both_sides}
 
 order : (a b : ℕ) → (a < b) ⊎ (b ≤ a)
 order a zero = inr (omega arith)
 order zero (suc b) = inl (omega arith)
-order (suc a) (suc b) = ⊎_elim (λ h. inl (omega (arith, h))) (λ h. inr (omega (arith, h))) (order a b)
+order (suc a) (suc b) = up (order a b)
+  where
+    up : ((a < b) ⊎ (b ≤ a)) → (suc a < suc b) ⊎ (suc b ≤ suc a)
+    up (inl h) = inl (omega (arith, h))
+    up (inr h) = inr (omega (arith, h))
 
 -- what stands at a place of both lists
 in_front : {X : Type 0} (xs ys : List X) (n : ℕ) → n < length xs → slice_get (xs ++ ys) n ≡ slice_get xs n
@@ -89,3 +96,13 @@ module _ (ps qs : List (Tree × Tree)) (a b : Tree) where
       let before : NoneMatches (PairMatches a b) (both_ways (ps ++ qs)) from m =
       rw (both_ways_both ps qs) (none_in_front (PairMatches a b) (both_ways ps) (both_ways qs) from m (omega (arith, same)) front) in
       later_found (PairMatches a b) (both_ways (ps ++ qs)) from m r h before f
+
+  pub pair_later_ok : {E : Type 0} (from m : ℕ) (r : Result (Option (ℕ × List Bound)) E) → m ≡ 2 * length ps → from ≤ m → FindsFirstPair ps from a b None
+      → IfOk r (FindsFirstPair (ps ++ qs) m a b) → IfOk r (FindsFirstPair (ps ++ qs) from a b)
+  pair_later_ok from m (Ok o) e h none f = pair_later from m o e h none f
+  pair_later_ok from m (Err x) e h none f = tt
+
+-- how many goals of earlier blocks there are
+pub earlier_count : (goals : List Goal) (ps qs : List (Tree × Tree)) → ps ++ qs ≡ map both_sides goals → length (take (length ps) goals) ≡ length ps
+earlier_count goals ps qs e =
+    omega (arith, length-take (length ps) goals, ap length e, length-append ps qs, length-map goals both_sides)

@@ -1,5 +1,5 @@
 -- How conditions are tried, and what work answers that takes steps of a budget.
-use Rattle.std.specs.Prelude.{◌≡◌, ℕ, ◌/◌, ◌==◌, ◌&&◌, if◌then◌else◌, Bool, true, false, List, [], ◌∷◌, ◌++◌, Option, Some, None, Result, Ok, Err}
+use Rattle.std.specs.Prelude.{◌≡◌, ℕ, ◌/◌, ◌==◌, ◌&&◌, if◌then◌else◌, Bool, true, false, List, [], ◌++◌, Option, Some, None, Result, Ok, Err}
 use Rattle.circ_term.specs.Tree.{Tree, Var, App}
 use Rattle.circ_theory.specs.declared.parts.Goal.{Goal}
 use Rattle.circ_special.specs.declared.place.Place.{Place}
@@ -16,7 +16,7 @@ use Rattle.circ_conditional_norm.specs.Work.{Work, Made, map_found}
 use Rattle.circ_memo.specs.Value.{Rewriting}
 use Rattle.circ_tries.specs.Trying.{Hinders, pass_before}
 use Rattle.circ_plain_search.specs.Joining.{HypothesisUse, hypothesis_variables, rule_number}
-use Rattle.circ_conditional_search.specs.Joining.{Swept, swept_with, put_swept, use_passing, all_joined_trying, no_join}
+use Rattle.circ_conditional_search.specs.Joining.{use_passing, all_joined_trying, no_join}
 use Rattle.circ_join.specs.Hypotheses.{way_at}
 
 -- how the conditions of hypotheses and lemmas are normalised, whose own try is one that stands around them

@@ -241,7 +241,7 @@ impl<'a> Passing<'a> {
         due: DueLemma<'_>,
         budget: &mut u64,
     ) -> Result<(), RewriteFault>
-        ensures exact { Goes (put_swept (plain_swept swept.old) (plain_due due) budget.old)
+        ensures exact { Goes (put_swept (plain_swept swept.old) (plain_due due.entry) budget.old)
             (plain_swept swept.new) budget.new result }
         ensures less { budget.new ≤ budget.old }
     {

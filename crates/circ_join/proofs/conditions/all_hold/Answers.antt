@@ -1,9 +1,8 @@
-use Rattle.std.proofs.Common.{◌≡◌, ◌≤◌, ◌+◌, ◌∙◌, drop, map, length, arith}
+use Rattle.std.proofs.Common.{◌≤◌, ◌+◌, ◌∙◌, drop, map, length, arith}
 use Rattle.std.proofs.lemmas.List.{drop_all}
 use Rattle.circ_term.specs.Subst.{substitution_of}
 use Rattle.circ_term.proofs.Within.{drop_read}
 use Rattle.circ_theory.specs.Pairs.{plain_pair}
-use Rattle.circ_tries.specs.Trying.{TestsCondition}
 use Rattle.circ_tries.proofs.Holding.{cond_hinders}
 use Rattle.circ_tries.proofs.Tried.{holds_on, holds_not, holds_all}
 use Rattle.circ_join.specs.Trying.{normaliser_of}

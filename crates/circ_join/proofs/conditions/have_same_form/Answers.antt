@@ -1,4 +1,3 @@
-use Rattle.std.proofs.Common.{◌≡◌, Some, ◌∙◌}
 use Rattle.circ_rewrite.specs.Plain.{plain_traces}
 use Rattle.circ_join.specs.Trying.{normaliser_of}
 use Rattle.circ_join.proofs.Joins.{not_same, is_same_at}

@@ -1,4 +1,3 @@
-use Rattle.std.proofs.Common.{sym, ◌∙◌}
 use Rattle.circ_term.specs.Subst.{substitution_of}
 use Rattle.circ_theory.specs.Pairs.{plain_pair}
 use Rattle.circ_join.specs.Trying.{normaliser_of}

@@ -1,11 +1,9 @@
-use Rattle.std.proofs.Common.{◌≡◌, ◌<◌, ◌-◌, Some, map, length, refl, sym, subst, arith}
-use Rattle.std.proofs.lemmas.List.{length-map}
+use Rattle.std.proofs.Common.{◌-◌, Some, map, refl, sym, subst, arith}
 use Rattle.circ_term.specs.Subst.{substitution_of}
 use Rattle.circ_theory.specs.Pairs.{plain_pair}
 use Rattle.circ_rewrite.specs.Plain.{plain_passes}
-use Rattle.circ_conditional_norm.specs.Tries.{conditions_hold}
 use Rattle.circ_tries.specs.Trying.{FindsPasses}
-use Rattle.circ_tries.proofs.Tried.{tried_plain, tried_out, tried_some, some_conditions}
+use Rattle.circ_tries.proofs.Tried.{tried_out, tried_some, some_conditions}
 use Rattle.circ_join.specs.Trying.{normaliser_of}
 use Rattle.circ_join.proofs.conditions.passes.Goals as goal
 

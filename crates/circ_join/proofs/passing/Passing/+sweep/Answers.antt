@@ -1,4 +1,4 @@
-use Rattle.std.proofs.Common.{◌≡◌, ◌++◌, ◌∷◌, [], length, refl, ap, sym, ◌∙◌, arith}
+use Rattle.std.proofs.Common.{◌++◌, ◌∷◌, [], length, ap, sym, ◌∙◌, arith}
 use Rattle.circ_term.specs.Tree.{depth_of, args_of, trees_of}
 use Rattle.circ_term.proofs.Trees.{list_of-trees_of}
 use Rattle.circ_term.proofs.Within.{depth_at}

@@ -6,6 +6,6 @@ use Rattle.circ_join.proofs.passing.Passing.pass.Goals as goal
 
 pub returns-then-is_empty-clause-exact : goal.returns-then-is_empty-clause-exact
 returns-then-is_empty-clause-exact c =
-    rw (c.new-uses.ensures.items, c.in_ok-whole.ensures.same)
+    rw (c.new.ensures.items, c.in_ok-share.ensures.same)
     (swept_empty (normaliser_of c.args.reducer.now) c.args.self.now.gamma.now c.args.self.now.lemmas.now [] c.args.term.now (swept_with c.args.term.now []) c.args.budget.now
     (sym c.is_empty.ensures ∙ c.if-is_empty.true))
