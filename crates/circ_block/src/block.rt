@@ -8,7 +8,7 @@ ghost use Rattle.circ_plain_search.specs.BlockRules.{can_rewrite, lemma_rule};
 ghost use Rattle.circ_block.specs.Rules.{IsRulesOf, HaveRoom, with_rule};
 
 use crate::lemma::{can_rewrite, lemma_rule};
-use crate::reducing::GoalReducer;
+use crate::reducing::{GoalReducer, goal_reducers, push_rule};
 use circ_join::Lemmas;
 use circ_rewrite::theory_rules;
 use circ_theory::{Goal, Pair, Theory};
@@ -39,8 +39,7 @@ impl<'a> BlockRules<'a> {
         ensures conds { IfOk result (λ r. r.goals.conds ≡ []) }
     {
         let rules = theory_rules(alloc, theory)?;
-        let goals = GoalReducer::new(alloc, theory, rules.as_slice())?;
-        let aside = GoalReducer::new(alloc, theory, rules.as_slice())?;
+        let (goals, aside) = goal_reducers(alloc, theory, rules.as_slice())?;
         let cases = Reducer::new(alloc, theory, rules)?;
         Ok(BlockRules {
             goals,
@@ -64,8 +63,8 @@ impl<'a> BlockRules<'a> {
         self.goals.assume(alloc, conds)
     }
 
-    // The goals before had no conditions where it is said so, and else some: the reducer that was
-    // put aside takes the other one's place, where it fits better.
+    // Whether the goal in hand has no conditions is given. Where the goal before differs from it in
+    // that, what was put aside comes into use again.
     fn turn_to(&mut self, bare: bool)
         ensures { (th : TheTheory) (E : List TheGoal) → IsRulesOf th E self.old
             → IsRulesOf th E self.new }
@@ -130,9 +129,9 @@ impl<'a> BlockRules<'a> {
         requires few { HaveRoom self.old }
         ensures { OnOk result (self.new ≡ with_rule (lemma_rule number goal.now) self.old) }
     {
-        self.goals.push(alloc, lemma_rule(alloc, number, goal)?)?;
-        self.aside.push(alloc, lemma_rule(alloc, number, goal)?)?;
-        self.cases.push(lemma_rule(alloc, number, goal)?)
+        self.goals.push(alloc, number, goal)?;
+        self.aside.push(alloc, number, goal)?;
+        push_rule(alloc, &mut self.cases, number, goal)
     }
 }
 

@@ -1,5 +1,5 @@
 //! A goal of an earlier block as a rule.
-ghost use Rattle.std.specs.Prelude.{◌≡◌, map, IfOk, OnOk};
+ghost use Rattle.std.specs.Prelude.{◌≡◌, [], map, IfOk, OnOk};
 ghost use Rattle.circ_theory.specs.Occurring.{variable_of};
 ghost use Rattle.circ_theory.specs.Pairs.{plain_pair};
 ghost use Rattle.circ_theory.specs.Rule.{is_bound};
@@ -41,10 +41,18 @@ fn is_bound(alloc: Global, goal: &Goal) -> Result<bool, AllocError>
     ensures { IfOk result (λ b. b ≡ is_bound goal.now) }
 {
     let mut variables = IndexSet::new(alloc);
-    gather(&goal.left, &mut variables)?;
+    adds_no_variable(goal, &mut variables)
+}
+
+// Gathers the variables of the left side and then the others. Whether these add none.
+fn adds_no_variable(goal: &Goal, variables: &mut IndexSet<Occurring>) -> Result<bool, AllocError>
+    requires empty { variables.old.keys ≡ [] }
+    ensures { IfOk result (λ b. b ≡ is_bound goal.now) }
+{
+    gather(&goal.left, variables)?;
     let count = variables.len();
-    gather(&goal.right, &mut variables)?;
-    gather_pairs(goal.conds.as_slice(), &mut variables)?;
+    gather(&goal.right, variables)?;
+    gather_pairs(goal.conds.as_slice(), variables)?;
     Ok(variables.len() == count)
 }
 

@@ -1,15 +1,17 @@
 //! Normal forms under the conditions of goals.
-ghost use Rattle.std.specs.Prelude.{◌≡◌, ◌<◌, ◌+◌, ◌^◌, ◌↔◌, ◌++◌, ◌∷◌, [], List, length, map};
+ghost use Rattle.std.specs.Prelude.{◌≡◌, ◌<◌, ◌+◌, ◌^◌, ◌↔◌, [], List, length, map, true};
 ghost use Rattle.std.specs.Prelude.{IsTrue, IfOk, OnOk};
 ghost use Rattle.std.specs.List.{AllByRecursion};
 ghost use Rattle.circ_theory.specs.Pairs.{plain_pair};
 ghost use Rattle.circ_theory.specs.Theory.{Theory as TheTheory};
 ghost use Rattle.circ_rewrite.specs.Due.{IsRewriteRule};
 ghost use Rattle.circ_rewrite.specs.declared.parts.Rule.{Rule as TheRule};
-ghost use Rattle.circ_block.specs.Rules.{IsReducerOf};
+ghost use Rattle.circ_plain_search.specs.BlockRules.{can_rewrite, lemma_rule};
+ghost use Rattle.circ_block.specs.Rules.{IsReducerOf, rewriting_with, reducer_with};
 
+use crate::lemma::lemma_rule;
 use circ_rewrite::{Rule, share_rules};
-use circ_theory::{Pair, Pairs, Theory, share_pairs};
+use circ_theory::{Goal, Pair, Pairs, Theory, share_pairs};
 use circ_tries::Reducer;
 use std::alloc::{AllocError, Global};
 
@@ -51,20 +53,14 @@ impl<'a> GoalReducer<'a> {
         self.reducer.forget();
     }
 
-    // The rule goes last. There are no conditions afterwards.
-    pub(crate) fn push(&mut self, alloc: Global, rule: Rule) -> Result<(), AllocError>
-        requires rewrites { IsRewriteRule rule }
+    // The goal goes behind the rules. There are no conditions afterwards.
+    pub(crate) fn push(&mut self, alloc: Global, number: u32, goal: &Goal) -> Result<(), AllocError>
+        requires rewrites { can_rewrite goal.now ≡ true }
         requires few { length self.old.reducer.rules + 1 < 2 ^ 32 }
-        ensures { OnOk result (self.new ≡ record {
-          reducer = record self.old.reducer {
-            rules = self.old.reducer.rules ++ rule ∷ [];
-            assumptions = [];
-          };
-          conds = [];
-        }) }
+        ensures { OnOk result (self.new ≡ reducer_with (lemma_rule number goal.now) self.old) }
     {
         self.conds = Pairs::new(alloc);
-        self.reducer.push(rule)
+        push_rule(alloc, &mut self.reducer, number, goal)
     }
 
     // These are the conditions from now on. What is known of terms is kept where they were so
@@ -84,6 +80,39 @@ impl<'a> GoalReducer<'a> {
         self.conds = Pairs::of(kept);
         Ok(())
     }
+}
+
+// Two by these rules, without conditions.
+pub(crate) fn goal_reducers<'a>(
+    alloc: Global,
+    theory: &'a Theory,
+    rules: &[Rule],
+) -> Result<(GoalReducer<'a>, GoalReducer<'a>), AllocError>
+    requires rewrite { AllByRecursion IsRewriteRule rules.now }
+    requires few { length rules.now < 2 ^ 32 }
+    ensures first { IfOk result (λ two. IsReducerOf theory.now rules.now two.0) }
+    ensures conds { IfOk result (λ two. two.0.conds ≡ []) }
+    ensures other { IfOk result (λ two. IsReducerOf theory.now rules.now two.1) }
+{
+    let first = GoalReducer::new(alloc, theory, rules)?;
+    let other = GoalReducer::new(alloc, theory, rules)?;
+    Ok((first, other))
+}
+
+// The goal goes behind the rules.
+pub(crate) fn push_rule(
+    alloc: Global,
+    reducer: &mut Reducer<'_>,
+    number: u32,
+    goal: &Goal,
+) -> Result<(), AllocError>
+    requires rewrites { can_rewrite goal.now ≡ true }
+    requires few { length reducer.old.rules + 1 < 2 ^ 32 }
+    ensures { OnOk result (reducer.new
+        ≡ rewriting_with (lemma_rule number goal.now) reducer.old) }
+{
+    let rule = lemma_rule(alloc, number, goal)?;
+    reducer.push(rule)
 }
 
 fn are_same(pairs: &[Pair], others: &[Pair]) -> bool

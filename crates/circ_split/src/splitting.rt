@@ -229,7 +229,14 @@ impl Splitting<'_> {
         if sides.left.same(&sides.right) {
             return Ok(Why::Same { chain: sides.chain });
         }
-        match self.split_with(room, reducer, assumptions, &sides.left, &sides.right, budget) {
+        match self.split_with(
+            room,
+            reducer,
+            assumptions,
+            &sides.left,
+            &sides.right,
+            budget,
+        ) {
             Err(stop) => Err(stop),
             Ok(cases) => Ok(Why::Split {
                 chain: sides.chain,

@@ -1,8 +1,8 @@
 use Rattle.std.proofs.Common.{◌+◌, ◌-◌, ◌∷◌, [], List, Ok, ap, sym, subst, ◌∙◌, arith, drop, map, length, length-append}
 use Rattle.circ_proof.specs.Plain.{Split_why}
 use Rattle.circ_plain_search.specs.Joining.{and_then}
-use Rattle.circ_plain_search.specs.Search.{Sides, sides_with, reason_with, constants_of}
-use Rattle.circ_conditional_search.specs.Search.{each_case_trying, split_cases_trying, open_cases_trying}
+use Rattle.circ_plain_search.specs.Search.{Sides, sides_with, reason_with, case_reason, constants_of}
+use Rattle.circ_conditional_search.specs.Search.{normal_sides_trying, each_case_trying, split_cases_trying, open_cases_trying}
 use Rattle.circ_term.specs.Tree.{Tree}
 use Rattle.circ_theory.specs.Pairs.{plain_pair}
 use Rattle.circ_proof.specs.Plain.{plain_chain}
@@ -14,12 +14,18 @@ use Rattle.circ_split.proofs.splitting.Splitting.+split.Goals as goal
 pub case_reason-returns-in-Err-clause-exact : goal.case_reason-returns-in-Err-clause-exact
 case_reason-returns-in-Err-clause-exact t c =
     let n = rw (c.in-Err.is, c.as_slice.ensures.value) at c.case_sides.ensures.exact in
-    stops_then c.in-Err.stop _ _ n
+    stops_then c.in-Err.stop
+    (normal_sides_trying c.args.self.now.theory.now c.args.reducer.now.rules (map plain_pair c.args.assumptions.now.items) c.args.left.now c.args.right.now c.args.budget.now)
+    (case_reason (split_cases_trying c.args.self.now.theory.now c.args.reducer.now.rules c.args.room) (map plain_pair c.args.assumptions.now.items))
+    n
 
 pub case_reason-returns-in-Ok-clause-exact : goal.case_reason-returns-in-Ok-clause-exact
 case_reason-returns-in-Ok-clause-exact t c =
     let n = rw (c.in-Ok.is, c.as_slice.ensures.value) at c.case_sides.ensures.exact in
-    case_given _ _ (sides_with c.in-Ok.sides.left c.in-Ok.sides.right (plain_chain c.in-Ok.sides.chain) c.case_sides.new.budget) c.sides_reason.new.budget c.sides_reason.result n
+    case_given
+    (normal_sides_trying c.args.self.now.theory.now c.args.reducer.now.rules (map plain_pair c.args.assumptions.now.items) c.args.left.now c.args.right.now c.args.budget.now)
+    (case_reason (split_cases_trying c.args.self.now.theory.now c.args.reducer.now.rules c.args.room) (map plain_pair c.args.assumptions.now.items))
+    (sides_with c.in-Ok.sides.left c.in-Ok.sides.right (plain_chain c.in-Ok.sides.chain) c.case_sides.new.budget) c.sides_reason.new.budget c.sides_reason.result n
     (rw c.in-Ok.ensures.rules at c.sides_reason.ensures.exact)
 
 pub sides_reason-returns-then-same-clause-exact : goal.sides_reason-returns-then-same-clause-exact
