@@ -17,7 +17,7 @@ use circ_file::laws::texts_decode;
 use circ_files::{Ending, MOST_BYTES, STORED_FILE, Status, Stored, push_counted, push_spent};
 use circ_plain_search::laws::proved_is_accepted;
 use circ_proof::Proof;
-use circ_search::{Found, Limits, prove};
+use circ_search::{Found, Limits, prove_plainly};
 use circ_theory::{Goal, Theory};
 use std::alloc::{AllocError, Global};
 
@@ -42,7 +42,7 @@ pub fn search<'a>(
 {
     theory.known();
     proved_is_accepted();
-    let found = prove(alloc, theory, blocks, limits)?;
+    let found = prove_plainly(alloc, theory, blocks, limits)?;
     found_ending(alloc, theory, &found, name)
 }
 

@@ -1,16 +1,21 @@
--- What is answered is what the plain search finds.
-use Rattle.std.proofs.Common.{◌≡◌, List, Option, Some, Result, Ok, Err, subst, ◌∙◌}
+-- What is answered is what the search finds.
+use Rattle.std.proofs.Common.{◌≡◌, List, length, Option, Some, Result, Ok, Err, ap, sym, subst, ◌∙◌, arith}
 use Rattle.std.specs.Prelude.{IfOk}
+use Rattle.std.specs.List.{AllByRecursion}
 use Rattle.std.proofs.lemmas.Option.{same_Some}
-use Rattle.circ_theory.specs.Theory.{Theory}
+use Rattle.circ_theory.specs.Theory.{Theory, Pair}
+use Rattle.circ_theory.proofs.Lists.{all_by}
 use Rattle.circ_theory.specs.declared.parts.Goal.{Goal}
 use Rattle.circ_special.specs.declared.place.Place.{Place}
 use Rattle.circ_rewrite.specs.Replacement.{Traced}
 use Rattle.circ_proof.specs.Proof.{Proof}
 use Rattle.circ_plain_search.specs.Greatest.{GreatestSpecialSet}
-use Rattle.circ_plain_search.specs.Search.{Limits, Standing, Ending, Reaches, start}
-use Rattle.circ_plain_search.specs.Numbering.{Proved, Special, found_of}
-use Rattle.circ_plain_search.specs.PlainSearch.{PlainSearch, IsProofOf}
+use Rattle.circ_plain_search.specs.Search.{Standing, Ending, start}
+use Rattle.circ_plain_search.specs.Numbering.{Found as PlainFound, Proved, Special}
+use Rattle.circ_plain_search.specs.PlainSearch.{AreSearchable, IsSearchable, IsProofOf}
+use Rattle.circ_conditional_search.specs.ConditionalSearch.{ConditionalSearch, CanBeSearched, CanAllBeSearched, IsPairWithin}
+use Rattle.circ_conditional_search.specs.Search.{Manner, Finishes}
+use Rattle.circ_conditional_search.specs.Versions.{versioned_found}
 use Rattle.circ_turn.specs.Ending.{IsEnd, RunEnds}
 use Rattle.circ_turn.specs.declared.end.End.{End}
 use Rattle.circ_turn.specs.declared.end.End.TheVariants as end
@@ -32,41 +37,70 @@ run_ending R st (Err e) x h r = is_ended R e x h r
 
 -- what is found at an ending that a run comes to
 pub found_there : {X E : Type 0} (s : Special) (st : Standing) (end : Result X End) (e : Ending) → ending_at st end ≡ Some e → (r : Result Found E)
-    → IfOk r (λ f. plain_found f ≡ found_of s e) → IfOk r (λ f. (x : Ending) × (ending_at st end ≡ Some x) × (plain_found f ≡ found_of s x))
+    → IfOk r (λ f. plain_found f ≡ versioned_found s e) → IfOk r (λ f. (x : Ending) × (ending_at st end ≡ Some x) × (plain_found f ≡ versioned_found s x))
 found_there s st end e h (Ok f) is = (e, h, is)
 found_there s st end e h (Err x) is = tt
 
 pub found_so : {X E : Type 0} (s : Special) (st : Standing) (end : Result X End) (o : Option Ending) → ending_at st end ≡ o → (r : Result Found E)
-    → IfOk r (λ f. (x : Ending) × (o ≡ Some x) × (plain_found f ≡ found_of s x))
-    → IfOk r (λ f. (x : Ending) × (ending_at st end ≡ Some x) × (plain_found f ≡ found_of s x))
+    → IfOk r (λ f. (x : Ending) × (o ≡ Some x) × (plain_found f ≡ versioned_found s x))
+    → IfOk r (λ f. (x : Ending) × (ending_at st end ≡ Some x) × (plain_found f ≡ versioned_found s x))
 found_so s st end o h (Ok f) is = (is.0, h ∙ is.1, is.2)
 found_so s st end o h (Err x) is = tt
 
-module _ (th : Theory) (blocks : List (List Goal)) (l : Limits) (G : List Place) (traces : List (List Traced)) (greatest : GreatestSpecialSet th l.steps G traces) where
-  pub found_plain : {X E : Type 0} (st : Standing) (end : Result X End) → RunEnds (Reaches th G l (start l blocks)) st end → (r : Result Found E)
-      → IfOk r (λ f. (x : Ending) × (ending_at st end ≡ Some x) × (plain_found f ≡ found_of (special_with G traces) x))
-      → IfOk r (λ f. PlainSearch th blocks l (plain_found f))
-  found_plain st end run (Ok f) is = record {
+module _ (th : Theory) (blocks : List (List Goal)) (m : Manner) (G : List Place) (traces : List (List Traced)) (greatest : GreatestSpecialSet th m.limits.steps G traces) where
+  pub found_searched : {X E : Type 0} (st : Standing) (end : Result X End) → RunEnds (Finishes th G m (start m.limits blocks)) st end → (r : Result Found E)
+      → IfOk r (λ f. (x : Ending) × (ending_at st end ≡ Some x) × (plain_found f ≡ versioned_found (special_with G traces) x))
+      → IfOk r (λ f. ConditionalSearch th blocks m (plain_found f))
+  found_searched st end run (Ok f) is = record {
     places = G;
     traces = traces;
     greatest = greatest;
     ending = is.0;
-    run = run_ending (Reaches th G l (start l blocks)) st end is.0 is.1 run;
+    run = run_ending (Finishes th G m (start m.limits blocks)) st end is.0 is.1 run;
     is = is.2;
   }
-  found_plain st end run (Err x) is = tt
+  found_searched st end run (Err x) is = tt
 
 -- what is proved is accepted
-pub proofs_hold : {E : Type 0} (th : Theory) (blocks : List (List Goal)) (l : Limits) (r : Result Found E)
-    → ((p : Proof) → PlainSearch th blocks l (Proved p) → IsProofOf th blocks p) → IfOk r (λ f. PlainSearch th blocks l (plain_found f))
+pub proofs_hold : {E : Type 0} (th : Theory) (blocks : List (List Goal)) (m : Manner) (r : Result Found E)
+    → ((p : Proof) → ConditionalSearch th blocks m (Proved p) → IsProofOf th blocks p) → IfOk r (λ f. ConditionalSearch th blocks m (plain_found f))
     → IfOk r (λ f. IfProved f (IsProofOf th blocks))
-proofs_hold th blocks l (Ok f) law h = go f h
+proofs_hold th blocks m (Ok f) law h = go f h
   where
-    go : (f : Found) → PlainSearch th blocks l (plain_found f) → IfProved f (IsProofOf th blocks)
+    go : (f : Found) → ConditionalSearch th blocks m (plain_found f) → IfProved f (IsProofOf th blocks)
     go (found.Proved proof) p = law _ p
     go (found.LongTable terms) p = tt
     go (found.Stuck b g s t A) p = tt
     go (found.Spent r1 d m) p = tt
     go (found.TooBig n) p = tt
     go (found.TooDeep n) p = tt
-proofs_hold th blocks l (Err x) law h = tt
+proofs_hold th blocks m (Err x) law h = tt
+
+-- what holds of what is found holds by another word for it
+pub found_so_too : {E : Type 0} (P Q : PlainFound → Type 0) (r : Result Found E) → ((f : PlainFound) → P f → Q f) → IfOk r (λ f. P (plain_found f)) → IfOk r (λ f. Q (plain_found f))
+found_so_too P Q (Ok f) law h = law (plain_found f) h
+found_so_too P Q (Err x) law h = tt
+
+-- ---- where nothing has conditions
+
+no_conds_few : (th : Theory) (g : Goal) → IsSearchable th g → CanBeSearched th g
+no_conds_few th g s =
+    let P : List Pair → Type 0 = AllByRecursion IsPairWithin in
+    let few = ap length s.no_conds in
+    record {
+      sorted = s.sorted;
+      left_within = s.left_within;
+      right_within = s.right_within;
+      conds_within = subst P (sym s.no_conds) tt;
+      few_conds = omega (arith, few);
+      numbers = s.numbers;
+    }
+
+-- what can be given to the plain search can be given to the search with conditions
+pub can_be_searched : (th : Theory) (blocks : List (List Goal)) → AreSearchable th blocks → CanAllBeSearched th blocks
+can_be_searched th blocks a = record {
+  some_block = a.some_block;
+  some_goal = a.some_goal;
+  goals = all_by (λ b. AllByRecursion (IsSearchable th) b) (λ b. AllByRecursion (CanBeSearched th) b) blocks
+      (λ b h. all_by (IsSearchable th) (CanBeSearched th) b (no_conds_few th) h) a.goals;
+}

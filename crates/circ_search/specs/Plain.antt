@@ -1,5 +1,5 @@
 -- What contracts see of what a search finds.
-use Rattle.std.specs.Prelude.{List, map, Option, Some, None, Result, Ok, Err}
+use Rattle.std.specs.Prelude.{Bool, List, map, Option, Some, None, Result, Ok, Err}
 use Rattle.circ_theory.specs.Pairs.{plain_pair}
 use Rattle.circ_rewrite.specs.Links.{link_of}
 use Rattle.circ_rewrite.specs.Replacement.{Traced}
@@ -11,6 +11,8 @@ use Rattle.circ_plain_search.specs.Numbering.{Found, Proved, LongTable, Stuck, S
 use Rattle.circ_turn.specs.declared.end.End.{End}
 use Rattle.circ_turn.specs.declared.end.End.TheVariants as end
 pub use Rattle.circ_turn.specs.Standing.{plain_limits}
+use Rattle.circ_turn.specs.declared.search.Limits.{Limits}
+use Rattle.circ_conditional_search.specs.Search.{Manner}
 use Rattle.circ_search.specs.declared.found.Found.{Found as TheFound}
 use Rattle.circ_search.specs.declared.found.Found.TheVariants as found
 
@@ -21,6 +23,10 @@ plain_found (found.Stuck block goal s t A) = Stuck block goal s t (map plain_pai
 plain_found (found.Spent rewrites derives steps) = Spent rewrites derives steps
 plain_found (found.TooBig nodes) = TooBig nodes
 plain_found (found.TooDeep depth) = TooDeep depth
+
+-- a search within the limits, in which hidden goals are split or not
+abbrev pub manner_with : Limits → (split : Bool) → Manner
+manner_with l split = record { limits = plain_limits l; split = split }
 
 -- the ending that is told, unless memory ran out
 abbrev pub ending_of : End → Option Ending
