@@ -7,8 +7,8 @@ use Rattle.circ_search.specs.Plain.{manner_with}
 use Rattle.circ_search.proofs.Answered.{can_be_searched, found_so_too}
 use Rattle.circ_search.proofs.proving.prove_plainly.Goals as goal
 
-pub prove-requires-clause-searchable : goal.prove-requires-clause-searchable
-prove-requires-clause-searchable c = can_be_searched c.args.theory.now (map (λ b. b.items) c.args.blocks.now) c.requires.searchable
+pub prove-requires : goal.prove-requires
+prove-requires c = record { searchable = can_be_searched c.args.theory.now (map (λ b. b.items) c.args.blocks.now) c.requires.searchable }
 
 pub returns-clause-exact : goal.returns-clause-exact
 returns-clause-exact c =
