@@ -92,7 +92,7 @@ pair_match g a b σ m =
 
 -- ---- variables that stand for themselves
 
-variable : ℕ → ℕ → Variable
+abbrev variable : ℕ → ℕ → Variable
 variable n s = record { number = n; sort = s }
 
 any_seen_in_pairs : (v : Variable) (ps : List Pair) (us : List Variable)
@@ -109,8 +109,10 @@ any_seen_in_pairs v (p ∷ ps) us =
   where
     left : Bool
     left = has_variable p.left v.number v.sort
+
     right : Bool
     right = has_variable p.right v.number v.sort
+
     rest : Bool
     rest = have_pair_variable ps v.number v.sort
 
@@ -142,9 +144,9 @@ map_same f g (x ∷ xs) h = ap (λ y. y ∷ map f xs) (h x) ∙ ap (λ ys. g x �
 -- where just the variables of the sides are bound, and then those of the conditions stand for themselves, the bound terms are the hypothesis's terms
 pub hypothesis_terms : (g : Goal) (σ τ : List Bound) → BindsSides g σ → BindsRest (have_pair_variable g.conds) σ τ → IsStrictlySortedBy bound_cmp τ
     → map (λ x. x.term) τ ≡ terms_by (substitution_of σ) (hypothesis_variables g)
-hypothesis_terms g σ τ sides rest o =
+hypothesis_terms g σ τ bound rest o =
     let binds : (n s : ℕ) → is_some (found τ n s) ≡ list_any (is_variable (variable n s)) (variables_of g) = λ n s.
-    ap is_some (rest n s) ∙ rest_bound (found σ n s) (have_pair_variable g.conds n s) (Var n s) ∙ ap (λ b. b || have_pair_variable g.conds n s) (sides n s) ∙ of_goal g n s in
+    ap is_some (rest n s) ∙ rest_bound (found σ n s) (have_pair_variable g.conds n s) (Var n s) ∙ ap (λ b. b || have_pair_variable g.conds n s) (bound n s) ∙ of_goal g n s in
     let same : (n s : ℕ) → substitution_of τ n s ≡ substitution_of σ n s = λ n s.
     ap (λ o. unwrap_or o (Var n s)) (rest n s) ∙ rest_same (found σ n s) (have_pair_variable g.conds n s) (Var n s) in
     bound_terms τ (variables_of g) o (variables_apart g) binds

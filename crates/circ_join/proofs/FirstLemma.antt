@@ -1,5 +1,5 @@
 -- Lemmas that are tried on a term, one place of the index after the other.
-use Rattle.std.proofs.Common.{◌≡◌, ◌≤◌, ◌<◌, ℕ, zero, suc, ◌+◌, List, [], ◌∷◌, drop, map, length, Option, Some, None, refl, ap, sym, subst, ◌∙◌, arith}
+use Rattle.std.proofs.Common.{◌≡◌, ◌≤◌, ◌<◌, ℕ, zero, suc, ◌+◌, List, [], ◌∷◌, drop, map, length, Some, None, refl, ap, sym, subst, ◌∙◌, arith}
 use Rattle.std.specs.List.{slice_get, AllByRecursion}
 use Rattle.std.specs.List.Sorted.{IsStrictlySortedBy}
 use Rattle.std.proofs.lemmas.Option.{same_Some, slice_get_within}
@@ -12,11 +12,14 @@ use Rattle.circ_theory.specs.Variables.{variables_of}
 use Rattle.circ_index.specs.Finding.{LeftMatches, NoneMatches, FindsFirst}
 use Rattle.circ_rewrite.specs.Due.{IsRewriteRule, rule_goal, rule_variables, terms_by}
 use Rattle.circ_rewrite.specs.Matching.{matching}
+use Rattle.circ_rewrite.specs.declared.fault.RewriteFault.{RewriteFault}
 use Rattle.circ_rewrite.specs.declared.parts.Rule.{Rule}
 use Rattle.circ_rewrite.proofs.MatchingFacts.{matches-instance, no_match, matcher_agrees}
 use Rattle.circ_rewrite.proofs.RuleTerms.{of_left}
 use Rattle.circ_conditional_norm.specs.Tries.{Normaliser, tried}
-use Rattle.circ_conditional_norm.specs.Work.{Work, Made, or_next, map_found}
+use Rattle.circ_conditional_norm.specs.Work.{Made, or_next, map_found}
+use Rattle.circ_tries.specs.Trying.{Hinders}
+use Rattle.circ_tries.proofs.Faulting.{hinders_next, hinders_same}
 use Rattle.circ_plain_search.specs.Joining.{HypothesisUse, rule_number}
 use Rattle.circ_conditional_search.specs.Joining.{use_passing, lemma_use_trying, first_lemma_trying}
 use Rattle.circ_join.specs.Binding.{BindsLeft}
@@ -68,15 +71,51 @@ module _ (f : Normaliser) (q : List ℕ) (t : Tree) where
   none_from (r ∷ L) (suc from) k g = none_from L from k (later r L from (length (map left_of L)) g)
 
   pub found_from : (L : List Rule) (from n k : ℕ) (σ : List Bound) (r : Rule) → FindsFirst (map left_of L) from t (Some (n, σ)) → slice_get L n ≡ Some r
-      → BindsLeft r σ × (first_lemma_trying f (drop from L) q t k ≡ or_next (lemma_use_by f r q (substitution_of σ) k) (first_lemma_trying f (drop (n + 1) L) q t))
+      → BindsLeft r σ × (first_lemma_trying f (drop from L) q t k ≡ or_next (lemma_use_by f r q (substitution_of σ) k) (first_lemma_trying f (drop (suc n) L) q t))
   found_from [] from n k σ r g e = absurd (let z = g.1.1 in cc)
   found_from (x ∷ L) zero zero k σ r g e =
       let here : LeftMatches t x.left (Some σ) = subst (λ y. LeftMatches t y (Some σ)) (sym (same_Some x.left g.1.0 g.1.1)) g.1.2 in
-      let is : x ≡ r = same_Some x r e in
-      (subst (λ y. BindsLeft y σ) is here.binds,
-       ap (λ w. or_next w (first_lemma_trying f L q t)) (matched x σ k here ∙ ap (λ y. lemma_use_by f y q (substitution_of σ) k) is))
+      let is : x ≡ r = same_Some x r e in (
+        subst (λ y. BindsLeft y σ) is here.binds,
+        ap (λ w. or_next w (first_lemma_trying f L q t)) (matched x σ k here ∙ ap (λ y. lemma_use_by f y q (substitution_of σ) k) is),
+      )
   found_from (x ∷ L) zero (suc n) k σ r g e =
       let rest = found_from L 0 n k σ r (omega arith, g.1, behind_first x L n g.2) e in
       (rest.0, ap (λ w. or_next w (first_lemma_trying f L q t)) (first_not x L (suc n) (omega arith) g.2 k) ∙ rest.1)
   found_from (x ∷ L) (suc from) zero k σ r g e = absurd (omega (arith, g.0))
   found_from (x ∷ L) (suc from) (suc n) k σ r g e = found_from L from n k σ r (omega (arith, g.0), g.1, later x L from n g.2) e
+
+  -- ---- what comes of the use that is found
+
+  found_is : (L : List Rule) (from n k : ℕ) (σ : List Bound) (r : Rule) → FindsFirst (map left_of L) from t (Some (n, σ)) → slice_get L n ≡ Some r
+      → first_lemma_trying f (drop from L) q t k ≡ or_next (lemma_use_by f r q (substitution_of σ) k) (first_lemma_trying f (drop (n + 1) L) q t)
+  found_is L from n k σ r g x =
+      let next : suc n ≡ n + 1 = omega arith in
+      (found_from L from n k σ r g x).1 ∙ ap (λ m. or_next (lemma_use_by f r q (substitution_of σ) k) (first_lemma_trying f (drop m L) q t)) next
+
+  pub found_hinders : (L : List Rule) (from n k : ℕ) (σ : List Bound) (r : Rule) → FindsFirst (map left_of L) from t (Some (n, σ)) → slice_get L n ≡ Some r
+      → (e : RewriteFault) (l : ℕ) → Hinders e l (lemma_use_by f r q (substitution_of σ) k) → Hinders e l (first_lemma_trying f (drop from L) q t k)
+  found_hinders L from n k σ r g x e l y =
+      let w = lemma_use_by f r q (substitution_of σ) k in
+      let rest = first_lemma_trying f (drop (n + 1) L) q t in
+      hinders_same e l (first_lemma_trying f (drop from L) q t k) (or_next w rest) (found_is L from n k σ r g x) (hinders_next rest e l w y)
+
+  pub found_applies : (L : List Rule) (from n k : ℕ) (σ : List Bound) (r : Rule) → FindsFirst (map left_of L) from t (Some (n, σ)) → slice_get L n ≡ Some r
+      → (u : HypothesisUse) (l : ℕ) → lemma_use_by f r q (substitution_of σ) k ≡ Made (Some u) l → first_lemma_trying f (drop from L) q t k ≡ Made (Some u) l
+  found_applies L from n k σ r g x u l y = found_is L from n k σ r g x ∙ ap (λ w. or_next w (first_lemma_trying f (drop (n + 1) L) q t)) y
+
+  pub found_fails : (L : List Rule) (from n k : ℕ) (σ : List Bound) (r : Rule) → FindsFirst (map left_of L) from t (Some (n, σ)) → slice_get L n ≡ Some r
+      → (l : ℕ) → lemma_use_by f r q (substitution_of σ) k ≡ Made None l → first_lemma_trying f (drop from L) q t k ≡ first_lemma_trying f (drop (n + 1) L) q t l
+  found_fails L from n k σ r g x l y = found_is L from n k σ r g x ∙ ap (λ w. or_next w (first_lemma_trying f (drop (n + 1) L) q t)) y
+
+-- the lemma at a place
+pub lemma_there : (L : List Rule) (n : ℕ) → n < length L → (r : Rule) × (slice_get L n ≡ Some r)
+lemma_there [] n h = absurd (omega (arith, h))
+lemma_there (r ∷ L) zero h = (r, refl)
+lemma_there (r ∷ L) (suc n) h = lemma_there L n (omega (arith, h))
+
+-- each lemma rewrites
+pub rule_rewrites : (L : List Rule) (r : Rule) (n : ℕ) → AllByRecursion IsRewriteRule L → slice_get L n ≡ Some r → IsRewriteRule r
+rule_rewrites [] r n ok e = absurd (cc)
+rule_rewrites (x ∷ L) r zero ok e = subst IsRewriteRule (same_Some x r e) ok.0
+rule_rewrites (x ∷ L) r (suc n) ok e = rule_rewrites L r n ok.1 e

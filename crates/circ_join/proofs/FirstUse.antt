@@ -1,20 +1,22 @@
 -- Hypotheses that are tried on two terms, one place of the index after the other.
-use Rattle.std.proofs.Common.{◌≡◌, ◌≤◌, ◌<◌, ℕ, zero, suc, ◌+◌, ◌/◌, ◌%◌, ◌==◌, Bool, true, false, ◌||◌, if◌then◌else◌, List, [], ◌∷◌, map, length, Option, Some, None, refl, ap, sym, subst, ◌∙◌, arith}
+use Rattle.std.proofs.Common.{◌≡◌, ◌≤◌, ◌<◌, ℕ, zero, suc, ◌+◌, ◌*◌, ◌/◌, ◌%◌, ◌==◌, Bool, true, false, ◌||◌, if◌then◌else◌, List, [], ◌∷◌, map, length, Option, Some, None, refl, ap, sym, subst, ◌∙◌, arith}
 use Rattle.std.specs.List.{slice_get}
 use Rattle.std.proofs.lemmas.Option.{same_Some}
 use Rattle.circ_term.specs.Tree.{Tree}
 use Rattle.circ_term.specs.Subst.{Bound, substitution_of}
-use Rattle.circ_theory.specs.Theory.{sides}
 use Rattle.circ_theory.specs.declared.parts.Goal.{Goal}
 use Rattle.circ_theory.specs.declared.way.Way.{Way}
 use Rattle.circ_theory.specs.declared.way.Way.TheVariants.{Forth, Back}
 use Rattle.circ_match.specs.Matcher.{has_variable}
 use Rattle.circ_index.specs.Finding.{PairMatches, NoneMatches, FindsFirstPair, both_ways}
 use Rattle.circ_rewrite.specs.Due.{terms_by}
+use Rattle.circ_rewrite.specs.declared.fault.RewriteFault.{RewriteFault}
 use Rattle.circ_conditional_norm.specs.Tries.{Normaliser, tried}
 use Rattle.circ_conditional_norm.specs.Work.{Work, Made, Out, Past, or_next, map_found}
-use Rattle.circ_plain_search.specs.Joining.{HypothesisUse, hypothesis_variables, pair_matching}
-use Rattle.circ_conditional_search.specs.Joining.{use_passing, pair_use_trying, one_use_trying, first_use_trying}
+use Rattle.circ_tries.specs.Trying.{Hinders}
+use Rattle.circ_tries.proofs.Faulting.{hinders_next, hinders_same}
+use Rattle.circ_plain_search.specs.Joining.{HypothesisUse, hypothesis_variables}
+use Rattle.circ_conditional_search.specs.Joining.{use_passing, pair_use_trying, first_use_trying}
 use Rattle.circ_join.specs.Binding.{BindsSides}
 use Rattle.circ_join.specs.Hypotheses.{both_sides, way_at}
 use Rattle.circ_join.specs.Trying.{use_by}
@@ -110,7 +112,7 @@ module _ (f : Normaliser) (q : List ℕ) where
     from_next n H w = ap (or_next w) (λ i l. sym (from_start n H l) i)
 
     pub found_from : (n : ℕ) (H : List Goal) (p m k : ℕ) (σ : List Bound) → FindsFirstPair (map both_sides H) p a b (Some (m, σ))
-        → uses_from n H p k ≡ or_next (use_at n H m k) (uses_from n H (m + 1))
+        → uses_from n H p k ≡ or_next (use_at n H m k) (uses_from n H (suc m))
     found_from n [] p m k σ g = absurd (let z = g.1.1 in cc)
     found_from n (h ∷ H) zero zero k σ g =
         next_next (pair_use_trying f n Forth h q b a b k) (pair_use_trying f n Back h q b b a) (first_use_trying f (n + 1) H q a b)
@@ -155,18 +157,20 @@ module _ (f : Normaliser) (q : List ℕ) where
     found_at n (x ∷ H) zero k σ h g e =
         let here : PairMatches a b (both_sides x) (Some σ) = subst (λ y. PairMatches a b y (Some σ)) (sym (same_Some (both_sides x) g.0 g.1)) g.2 in
         let is : x ≡ h = same_Some x h e in
-        let number : n ≡ n + 0 / 2 = omega arith in
-        (subst (λ y. BindsSides y σ) is here.binds,
-         matched n Forth x b a b σ k here ∙ ap (λ y. map_found (λ passes. use_passing y Forth q (terms_by (substitution_of σ) (hypothesis_variables x)) passes b) (tried (Some f) (substitution_of σ) x.conds k)) number
-         ∙ ap (λ y. numbered n 0 y σ k) is)
+        let number : n ≡ n + 0 / 2 = omega arith in (
+          subst (λ y. BindsSides y σ) is here.binds,
+          matched n Forth x b a b σ k here ∙ ap (λ y. map_found (λ passes. use_passing y Forth q (terms_by (substitution_of σ) (hypothesis_variables x)) passes b) (tried (Some f) (substitution_of σ) x.conds k)) number
+              ∙ ap (λ y. numbered n 0 y σ k) is,
+        )
     found_at n (x ∷ H) (suc zero) k σ h g e =
         let there : PairMatches a b (x.right, x.left) (Some σ) = subst (λ y. PairMatches a b y (Some σ)) (sym (same_Some (x.right, x.left) g.0 g.1)) g.2 in
         let here = turned x a b σ there in
         let is : x ≡ h = same_Some x h e in
-        let number : n ≡ n + 1 / 2 = omega arith in
-        (subst (λ y. BindsSides y σ) is here.binds,
-         matched n Back x b b a σ k here ∙ ap (λ y. map_found (λ passes. use_passing y Back q (terms_by (substitution_of σ) (hypothesis_variables x)) passes b) (tried (Some f) (substitution_of σ) x.conds k)) number
-         ∙ ap (λ y. numbered n 1 y σ k) is)
+        let number : n ≡ n + 1 / 2 = omega arith in (
+          subst (λ y. BindsSides y σ) is here.binds,
+          matched n Back x b b a σ k here ∙ ap (λ y. map_found (λ passes. use_passing y Back q (terms_by (substitution_of σ) (hypothesis_variables x)) passes b) (tried (Some f) (substitution_of σ) x.conds k)) number
+              ∙ ap (λ y. numbered n 1 y σ k) is,
+        )
     found_at n (x ∷ H) (suc (suc m)) k σ h g e =
         let half : suc (suc m) / 2 ≡ suc (m / 2) = omega arith in
         let there : slice_get H (m / 2) ≡ Some h = sym (ap (slice_get (x ∷ H)) half) ∙ e in
@@ -179,3 +183,35 @@ module _ (f : Normaliser) (q : List ℕ) where
         let x = found_at 0 H m k σ h g.1 e in
         let number : 0 + m / 2 ≡ m / 2 = omega arith in
         (x.0, x.1 ∙ ap (λ y. map_found (λ passes. use_passing y (way_at m) q (terms_by (substitution_of σ) (hypothesis_variables h)) passes b) (tried (Some f) (substitution_of σ) h.conds k)) number)
+
+    -- ---- what comes of the use that is found
+
+    pub found_is : (H : List Goal) (p m k : ℕ) (σ : List Bound) (h : Goal) → FindsFirstPair (map both_sides H) p a b (Some (m, σ)) → slice_get H (m / 2) ≡ Some h
+        → uses_from 0 H p k ≡ or_next (use_by f m h q b (substitution_of σ) k) (uses_from 0 H (m + 1))
+    found_is H p m k σ h g e =
+        let next : suc m ≡ m + 1 = omega arith in
+        found_from 0 H p m k σ g ∙ ap (λ w. or_next w (uses_from 0 H (suc m))) (used_at H p m k σ h g e).1
+        ∙ ap (λ n. or_next (use_by f m h q b (substitution_of σ) k) (uses_from 0 H n)) next
+
+    pub found_hinders : (H : List Goal) (p m k : ℕ) (σ : List Bound) (h : Goal) → FindsFirstPair (map both_sides H) p a b (Some (m, σ)) → slice_get H (m / 2) ≡ Some h
+        → (e : RewriteFault) (l : ℕ) → Hinders e l (use_by f m h q b (substitution_of σ) k) → Hinders e l (uses_from 0 H p k)
+    found_hinders H p m k σ h g x e l y =
+        let w = use_by f m h q b (substitution_of σ) k in
+        hinders_same e l (uses_from 0 H p k) (or_next w (uses_from 0 H (m + 1))) (found_is H p m k σ h g x) (hinders_next (uses_from 0 H (m + 1)) e l w y)
+
+    pub found_applies : (H : List Goal) (p m k : ℕ) (σ : List Bound) (h : Goal) → FindsFirstPair (map both_sides H) p a b (Some (m, σ)) → slice_get H (m / 2) ≡ Some h
+        → (u : HypothesisUse) (l : ℕ) → use_by f m h q b (substitution_of σ) k ≡ Made (Some u) l → uses_from 0 H p k ≡ Made (Some u) l
+    found_applies H p m k σ h g x u l y = found_is H p m k σ h g x ∙ ap (λ w. or_next w (uses_from 0 H (m + 1))) y
+
+    pub found_fails : (H : List Goal) (p m k : ℕ) (σ : List Bound) (h : Goal) → FindsFirstPair (map both_sides H) p a b (Some (m, σ)) → slice_get H (m / 2) ≡ Some h
+        → (l : ℕ) → use_by f m h q b (substitution_of σ) k ≡ Made None l → uses_from 0 H p k ≡ uses_from 0 H (m + 1) l
+    found_fails H p m k σ h g x l y = found_is H p m k σ h g x ∙ ap (λ w. or_next w (uses_from 0 H (m + 1))) y
+
+-- the hypothesis at a place
+pub hypothesis_there : (H : List Goal) (m : ℕ) → m < 2 * length H → (h : Goal) × (slice_get H (m / 2) ≡ Some h)
+hypothesis_there H m e = there H (m / 2) (omega (arith, e))
+  where
+    there : (gs : List Goal) (n : ℕ) → n < length gs → (h : Goal) × (slice_get gs n ≡ Some h)
+    there [] n h = absurd (omega (arith, h))
+    there (g ∷ gs) zero h = (g, refl)
+    there (g ∷ gs) (suc n) h = there gs n (omega (arith, h))

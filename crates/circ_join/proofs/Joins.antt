@@ -1,9 +1,9 @@
 -- Join in steps.
-use Rattle.std.proofs.Common.{◌≡◌, ◌↔◌, ◌≤◌, ◌<◌, ℕ, zero, suc, ◌+◌, ◌-◌, length, Bool, true, false, ◌==◌, ◌&&◌, if◌then◌else◌, List, [], ◌∷◌, ◌++◌, drop, take, get_or, Option, Some, None, Result, Ok, Err, refl, ap, sym, subst, ◌∙◌, append-assoc, arith}
+use Rattle.std.proofs.Common.{◌≡◌, ◌↔◌, ◌≤◌, ◌<◌, ℕ, zero, suc, ◌+◌, ◌-◌, length, Bool, true, false, ◌==◌, ◌&&◌, if◌then◌else◌, List, [], ◌∷◌, ◌++◌, drop, get_or, Option, Some, None, Ok, refl, ap, sym, subst, ◌∙◌, append_assoc, arith}
 use Rattle.std.specs.Prelude.{IsTrue}
 use Rattle.std.proofs.lemmas.Bool.{eqb-true}
 use Rattle.std.proofs.lemmas.List.{drop_all}
-use Rattle.circ_term.specs.Tree.{Tree, Trees, Var, App, none, more, trees_of}
+use Rattle.circ_term.specs.Tree.{Tree, Trees, Var, App, trees_of}
 use Rattle.circ_term.specs.Order.{is_same}
 use Rattle.circ_term.proofs.Order.{same_itself}
 use Rattle.circ_term.proofs.Within.{drop_read}
@@ -22,7 +22,7 @@ use Rattle.circ_join.specs.Trying.{Joins, inside_trying, beside_alone}
 
 -- ---- lists
 
-nil_right : {X : Type 0} (ys : List X) → ys ++ [] ≡ ys
+pub nil_right : {X : Type 0} (ys : List X) → ys ++ [] ≡ ys
 nil_right [] = refl
 nil_right (y ∷ ys) = ap (λ r. y ∷ r) (nil_right ys)
 
@@ -47,7 +47,7 @@ behind_nothing Out = refl
 behind_nothing (Past x k) = refl
 
 pub behind_both : (us vs : List HypothesisUse) (w : Work (Option (List HypothesisUse))) → behind us (behind vs w) ≡ behind (us ++ vs) w
-behind_both us vs (Made (Some ws) k) = ap (λ x. Made (Some x) k) (sym (append-assoc us vs ws))
+behind_both us vs (Made (Some ws) k) = ap (λ x. Made (Some x) k) (sym (append_assoc us vs ws))
 behind_both us vs (Made None k) = refl
 behind_both us vs Out = refl
 behind_both us vs (Past x k) = refl
@@ -57,6 +57,31 @@ hinders_then f Spent l w h = (ap (λ x. found_then x f) h.0, h.1)
 hinders_then f (TooBig n) l w h = ap (λ x. found_then x f) h
 hinders_then f (TooDeep n) l w h = ap (λ x. found_then x f) h
 hinders_then f Memory l w h = tt
+
+-- ---- one argument
+
+pub beside_not : (same at_place : Bool) (one : ℕ → Work (Option (List HypothesisUse))) (k : ℕ) → same ≡ false → at_place ≡ false → beside_alone same at_place one k ≡ Made None k
+beside_not same at_place one k e d = ap (λ v. beside_alone v at_place one k) e ∙ ap (λ v. beside_alone false v one k) d
+
+pub beside_joins : (same at_place : Bool) (one : ℕ → Work (Option (List HypothesisUse))) (k : ℕ) → same ≡ false → at_place ≡ true → beside_alone same at_place one k ≡ one k
+beside_joins same at_place one k e d = ap (λ v. beside_alone v at_place one k) e ∙ ap (λ v. beside_alone false v one k) d
+
+-- ---- two operators that differ
+
+pub differ_first : (a b : ℕ) (v : Bool) → (a ≡ b → ⊥) → ((a == b) && v) ≡ false
+differ_first a b v h = go (a == b) refl
+  where
+    go : (r : Bool) → (a == b) ≡ r → (r && v) ≡ false
+    go true e = absurd (h (eqb-true a b e))
+    go false e = refl
+
+pub differ_second : (u : Bool) (a b : ℕ) → (a ≡ b → ⊥) → (u && (a == b)) ≡ false
+differ_second false a b h = refl
+differ_second true a b h = go (a == b) refl
+  where
+    go : (r : Bool) → (a == b) ≡ r → (a == b) ≡ false
+    go true e = absurd (h (eqb-true a b e))
+    go false e = e
 
 -- ---- two terms
 
@@ -96,9 +121,6 @@ module _ (f : Normaliser) (G : List Place) (H : List Goal) where
 
   -- ---- inside two terms
 
-  pub inside_variable : (q : List ℕ) (a b : Tree) (n s k : ℕ) → Var n s ≡ a → inside_trying f G H q a b k ≡ Made None k
-  inside_variable q a b n s k e = ap (λ x. inside_trying f G H q x b k) (sym e)
-
   pub inside_no_application : (q : List ℕ) (a b : Tree) (g s n j k : ℕ) (ts : Trees) → App g s ts ≡ a → Var n j ≡ b → inside_trying f G H q a b k ≡ Made None k
   inside_no_application q a b g s n j k ts e d = ap (λ x. inside_trying f G H q x b k) (sym e) ∙ ap (λ x. inside_trying f G H q (App g s ts) x k) (sym d)
 
@@ -114,8 +136,8 @@ module _ (f : Normaliser) (G : List Place) (H : List Goal) where
 
   pub inside_others : (q : List ℕ) (a b : Tree) (g s h j k : ℕ) (ts us : Trees) → App g s ts ≡ a → App h j us ≡ b → ((g == h) && (s == j)) ≡ false
       → inside_trying f G H q a b k ≡ Made None k
-  inside_others q a b g s h j k ts us e d no =
-      inside_both q a b g s h j k ts us e d ∙ ap (λ v. (if v then all_joined_trying f G H g q 0 ts us else no_join) k) no
+  inside_others q a b g s h j k ts us e d other =
+      inside_both q a b g s h j k ts us e d ∙ ap (λ v. (if v then all_joined_trying f G H g q 0 ts us else no_join) k) other
 
   -- ---- arguments
 
@@ -159,7 +181,7 @@ module _ (f : Normaliser) (G : List Place) (H : List Goal) where
       record {
         within = omega (arith, d);
         js = go.js ++ j.0;
-        made = j.2 ∙ ap (λ x. x ++ j.0) go.made ∙ append-assoc old go.js j.0;
+        made = j.2 ∙ ap (λ x. x ++ j.0) go.made ∙ append_assoc old go.js j.0;
         rest = go.rest ∙ ap (behind go.js) z ∙ behind_both go.js j.0 (row_at g q ts us (i + 1) l);
       }
 
@@ -202,9 +224,11 @@ module _ (f : Normaliser) (G : List Place) (H : List Goal) where
       → length ts ≡ i → v ≡ (length ts == length us) → Joins (all_joined_trying f G H g q 0 (trees_of ts) (trees_of us) first) k old cur (Ok v)
   going_end g q ts us old cur first i k true go h e =
       let n : length ts ≡ length us = eqb-true (length ts) (length us) (sym e) in
-      let least : length us ≤ i = omega (arith, n, h) in
-      (go.js ++ [], go.rest ∙ ap (behind go.js) (both (drop i ts) (drop i us) (drop_all i ts (omega (arith, h))) (drop_all i us least)),
-       go.made ∙ ap (λ x. old ++ x) (sym (nil_right go.js)))
+      let least : length us ≤ i = omega (arith, n, h) in (
+        go.js ++ [],
+        go.rest ∙ ap (behind go.js) (both (drop i ts) (drop i us) (drop_all i ts (omega (arith, h))) (drop_all i us least)),
+        go.made ∙ ap (λ x. old ++ x) (sym (nil_right go.js)),
+      )
     where
       both : (xs ys : List Tree) → xs ≡ [] → ys ≡ [] → all_joined_trying f G H g q i (trees_of xs) (trees_of ys) k ≡ Made (Some []) k
       both xs ys d c = ap (λ zs. all_joined_trying f G H g q i (trees_of zs) (trees_of ys) k) d ∙ ap (λ zs. all_joined_trying f G H g q i (trees_of []) (trees_of zs) k) c

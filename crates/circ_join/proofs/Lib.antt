@@ -5,3 +5,7 @@ pub mod Sweeps
 pub mod Places
 pub mod FirstLemma
 pub mod TwoParts
+pub mod SameForms
+pub mod Standing
+pub mod UsesMade
+pub mod PutIn

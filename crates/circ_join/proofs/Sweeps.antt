@@ -1,19 +1,23 @@
 -- A lemma pass in steps.
-use Rattle.std.proofs.Common.{◌≡◌, ◌≤◌, ◌<◌, ℕ, zero, suc, ◌+◌, Bool, ◌==◌, true, false, if◌then◌else◌, List, [], ◌∷◌, ◌++◌, drop, get_or, length, Option, Some, None, refl, ap, sym, ◌∙◌, arith}
+use Rattle.std.proofs.Common.{◌≡◌, ◌≤◌, ◌<◌, ℕ, zero, suc, ◌+◌, ◌-◌, Bool, ◌==◌, true, false, if◌then◌else◌, List, [], ◌∷◌, ◌++◌, drop, get_or, length, Option, Some, None, refl, ap, sym, ◌∙◌, arith}
 use Rattle.std.proofs.lemmas.Bool.{eqb-true}
 use Rattle.std.proofs.lemmas.List.{drop_all}
 use Rattle.circ_term.specs.Tree.{Tree, Trees, Var, App, none, more, trees_of}
+use Rattle.circ_term.specs.Limits.{Limit, Big, Deep, first_limit, or_else, Names}
+use Rattle.circ_term.specs.declared.fault.TermFault.{TermFault}
+use Rattle.circ_term.specs.declared.fault.TermFault.TheVariants as term
 use Rattle.circ_term.proofs.Within.{drop_read}
 use Rattle.circ_special.specs.declared.place.Place.{Place}
+use Rattle.circ_rewrite.specs.Plain.{rewrite_fault}
 use Rattle.circ_rewrite.specs.declared.fault.RewriteFault.{RewriteFault}
 use Rattle.circ_rewrite.specs.declared.fault.RewriteFault.TheVariants.{Spent, TooBig, TooDeep, Memory}
 use Rattle.circ_rewrite.specs.declared.parts.Rule.{Rule}
 use Rattle.circ_conditional_norm.specs.Tries.{Normaliser}
-use Rattle.circ_conditional_norm.specs.Work.{Work, Made, Out, Past}
+use Rattle.circ_conditional_norm.specs.Work.{Work, Made, Out, Past, unless_limit}
 use Rattle.circ_tries.specs.Trying.{Hinders}
 use Rattle.circ_tries.proofs.Faulting.{hinders_same}
-use Rattle.circ_plain_search.specs.Joining.{HypothesisUse, is_place}
-use Rattle.circ_conditional_search.specs.Joining.{Swept, work_then, put_swept, swept_or_inside, first_lemma_trying, swept_trying, all_swept_trying}
+use Rattle.circ_plain_search.specs.Joining.{HypothesisUse, is_place, put_in}
+use Rattle.circ_conditional_search.specs.Joining.{Swept, swept_with, put_limit, work_then, put_swept, swept_or_inside, first_lemma_trying, swept_trying, all_swept_trying}
 use Rattle.circ_join.specs.Sweeping.{swept_place}
 
 -- what hinders a part of the work hinders what goes on from it
@@ -28,6 +32,43 @@ hinders_inside s inside Spent l w h = (ap (λ x. swept_or_inside s x inside) h.0
 hinders_inside s inside (TooBig n) l w h = ap (λ x. swept_or_inside s x inside) h
 hinders_inside s inside (TooDeep n) l w h = ap (λ x. swept_or_inside s x inside) h
 hinders_inside s inside Memory l w h = tt
+
+-- ---- a use that is put in
+
+put_limited : (w : Swept) (u : HypothesisUse) (k : ℕ) → 0 < k
+    → put_swept w u k ≡ unless_limit (put_limit w.whole u) k (Made (swept_with (put_in w.whole u) (w.uses ++ u ∷ [])) (k - 1))
+put_limited w u zero h = absurd (omega (arith, h))
+put_limited w u (suc k) h =
+    let z : k ≡ suc k - 1 = omega arith in
+    ap (λ l. unless_limit (put_limit w.whole u) (suc k) (Made (swept_with (put_in w.whole u) (w.uses ++ u ∷ [])) l)) z
+
+pub put_spent : (w : Swept) (u : HypothesisUse) (k : ℕ) → k ≡ 0 → put_swept w u k ≡ Out
+put_spent w u k e = ap (put_swept w u) e
+
+module _ (w : Swept) (u : HypothesisUse) (k : ℕ) (some : 0 < k) where
+  abbrev made : ℕ → Work Swept
+  made l = Made (swept_with (put_in w.whole u) (w.uses ++ u ∷ [])) l
+
+  new_past : (l : Limit) → first_limit u.new ≡ Some l → put_swept w u k ≡ Past l k
+  new_past l e = put_limited w u k some ∙ ap (λ o. unless_limit (or_else o (first_limit (put_in w.whole u))) k (made (k - 1))) e
+
+  whole_past : (l : Limit) → first_limit u.new ≡ None → first_limit (put_in w.whole u) ≡ Some l → put_swept w u k ≡ Past l k
+  whole_past l e g =
+      put_limited w u k some ∙ ap (λ o. unless_limit (or_else o (first_limit (put_in w.whole u))) k (made (k - 1))) e ∙ ap (λ o. unless_limit o k (made (k - 1))) g
+
+  -- the new subterm passes a limit
+  pub new_hinders : (e : TermFault) → Names e (first_limit u.new) → Hinders (rewrite_fault e) k (put_swept w u k)
+  new_hinders (term.TooBig n) h = new_past (Big n) h
+  new_hinders (term.TooDeep n) h = new_past (Deep n) h
+  new_hinders term.Memory h = tt
+
+  -- the term around it does
+  pub whole_hinders : (e : TermFault) → first_limit u.new ≡ None → Names e (first_limit (put_in w.whole u)) → Hinders (rewrite_fault e) k (put_swept w u k)
+  whole_hinders (term.TooBig n) v h = whole_past (Big n) v h
+  whole_hinders (term.TooDeep n) v h = whole_past (Deep n) v h
+  whole_hinders term.Memory v h = tt
+
+-- ---- a term, and its arguments
 
 module _ (f : Normaliser) (G : List Place) (L : List Rule) where
   -- what comes of a term where no lemma is used on it

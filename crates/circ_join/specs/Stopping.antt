@@ -1,14 +1,13 @@
 -- What parts of a search answer that may stop it.
-use Rattle.std.specs.Prelude.{◌≡◌, List, map, Result, Ok, Err}
-use Rattle.std.specs.Option.{unwrap_or}
-use Rattle.circ_term.specs.Tree.{Tree, replaced}
-use Rattle.circ_term.specs.Limits.{Big, Deep, first_limit}
+use Rattle.std.specs.Prelude.{◌≡◌, map, Result, Ok, Err}
+use Rattle.circ_term.specs.Tree.{Tree}
+use Rattle.circ_term.specs.Limits.{Big, Deep}
 use Rattle.circ_term.specs.declared.fault.TermFault.{TermFault}
 use Rattle.circ_term.specs.declared.fault.TermFault.TheVariants as term
 use Rattle.circ_theory.specs.Pairs.{plain_pair}
 use Rattle.circ_rewrite.specs.declared.fault.RewriteFault.{RewriteFault}
 use Rattle.circ_rewrite.specs.declared.fault.RewriteFault.TheVariants as rewrite
-use Rattle.circ_plain_search.specs.Joining.{Stop, No_budget, Past_limit, Not_split, within_or}
+use Rattle.circ_plain_search.specs.Joining.{Stop, No_budget, Past_limit, Not_split}
 use Rattle.circ_join.specs.declared.stop.Stop.{Stop as TheStop}
 use Rattle.circ_join.specs.declared.stop.Stop.TheVariants as stop
 

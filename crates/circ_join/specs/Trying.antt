@@ -1,16 +1,13 @@
 -- How conditions are tried, and what work answers that takes steps of a budget.
-use Rattle.std.specs.Prelude.{◌≡◌, ℕ, ◌/◌, ◌==◌, ◌&&◌, if◌then◌else◌, Bool, true, false, List, [], ◌∷◌, ◌++◌, Option, Some, None, Result, Ok, Err}
+use Rattle.std.specs.Prelude.{◌≡◌, ℕ, ◌/◌, ◌==◌, ◌&&◌, if◌then◌else◌, Bool, true, false, List, [], ◌++◌, Option, Some, None, Result, Ok, Err}
 use Rattle.circ_term.specs.Tree.{Tree, Var, App}
 use Rattle.circ_theory.specs.declared.parts.Goal.{Goal}
 use Rattle.circ_special.specs.declared.place.Place.{Place}
 use Rattle.circ_term.specs.Substitution.{Substitution, instance}
-use Rattle.circ_term.specs.declared.fault.TermFault.{TermFault}
-use Rattle.circ_term.specs.declared.fault.TermFault.TheVariants as term
 use Rattle.circ_theory.specs.declared.way.Way.TheVariants.{Forth}
 use Rattle.circ_rewrite.specs.Due.{rule_variables, terms_by}
 use Rattle.circ_rewrite.specs.Replacement.{Passes}
 use Rattle.circ_rewrite.specs.declared.fault.RewriteFault.{RewriteFault}
-use Rattle.circ_rewrite.specs.declared.fault.RewriteFault.TheVariants.{TooBig, TooDeep, Memory}
 use Rattle.circ_rewrite.specs.declared.parts.Pass.{Pass}
 use Rattle.circ_rewrite.specs.declared.parts.Rule.{Rule}
 use Rattle.circ_conditional_norm.specs.Norm.{conditional_norm}
@@ -19,7 +16,7 @@ use Rattle.circ_conditional_norm.specs.Work.{Work, Made, map_found}
 use Rattle.circ_memo.specs.Value.{Rewriting}
 use Rattle.circ_tries.specs.Trying.{Hinders, pass_before}
 use Rattle.circ_plain_search.specs.Joining.{HypothesisUse, hypothesis_variables, rule_number}
-use Rattle.circ_conditional_search.specs.Joining.{Swept, swept_with, put_swept, use_passing, all_joined_trying, no_join}
+use Rattle.circ_conditional_search.specs.Joining.{use_passing, all_joined_trying, no_join}
 use Rattle.circ_join.specs.Hypotheses.{way_at}
 
 -- how the conditions of hypotheses and lemmas are normalised, whose own try is one that stands around them
@@ -50,12 +47,6 @@ TestsForms normal a b k left (Ok None) = (rest : ℕ → Work (Option Passes)) �
 TestsForms normal a b k left (Ok (Some pass)) =
     (rest : ℕ → Work (Option Passes)) → same_forms normal a b k rest ≡ map_found (pass_before pass) (rest left)
 TestsForms normal a b k left (Err e) = (rest : ℕ → Work (Option Passes)) → Hinders e left (same_forms normal a b k rest)
-
--- the same fault of a term that is normalised
-abbrev pub fault_of : TermFault → RewriteFault
-fault_of (term.TooBig nodes) = TooBig nodes
-fault_of (term.TooDeep depth) = TooDeep depth
-fault_of term.Memory = Memory
 
 -- one argument: it is equal, or stands at a place of the set and joins
 abbrev pub beside_alone : (same at_place : Bool) → (one : ℕ → Work (Option (List HypothesisUse))) → (budget : ℕ) → Work (Option (List HypothesisUse))

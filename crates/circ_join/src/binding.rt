@@ -21,7 +21,8 @@ pub(crate) fn bind_conditions(conds: &[Pair], subst: &mut Subst) -> Result<(), A
 }
 
 fn bind_pair(pair: &Pair, subst: &mut Subst) -> Result<(), AllocError>
-    ensures { OnOk result (BindsRest (has_pair_variable (plain_pair pair.now)) subst.old subst.new) }
+    ensures { OnOk result (BindsRest (has_pair_variable (plain_pair pair.now)) subst.old
+        subst.new) }
 {
     bind_variables(&pair.left, subst)?;
     bind_variables(&pair.right, subst)

@@ -3,9 +3,9 @@ ghost use Rattle.std.specs.Prelude.{◌≡◌, ◌≤◌, Some, map};
 ghost use Rattle.circ_term.specs.Subst.{substitution_of};
 ghost use Rattle.circ_theory.specs.Pairs.{plain_pair};
 ghost use Rattle.circ_conditional_norm.specs.Tries.{conditions_hold, tried};
-ghost use Rattle.circ_rewrite.specs.Plain.{plain_passes};
+ghost use Rattle.circ_rewrite.specs.Plain.{plain_passes, rewrite_fault};
 ghost use Rattle.circ_tries.specs.Trying.{FindsPasses, TestsCondition};
-ghost use Rattle.circ_join.specs.Trying.{normaliser_of, TestsForms, fault_of};
+ghost use Rattle.circ_join.specs.Trying.{normaliser_of, TestsForms};
 
 use circ_rewrite::{Pass, RewriteFault};
 use circ_term::{Subst, Term, TermFault};
@@ -77,11 +77,11 @@ fn holds(
 {
     let left = match subst.apply(&cond.left) {
         Ok(left) => left,
-        Err(fault) => return Err(of_term(fault)),
+        Err(fault) => return Err(rewrite_fault(fault)),
     };
     let right = match subst.apply(&cond.right) {
         Ok(right) => right,
-        Err(fault) => return Err(of_term(fault)),
+        Err(fault) => return Err(rewrite_fault(fault)),
     };
     have_same_form(reducer, &left, &right, budget)
 }
@@ -117,8 +117,8 @@ fn have_same_form(
 }
 
 // Why there is no normal form where a term is not built.
-pub(crate) fn of_term(fault: TermFault) -> RewriteFault
-    ensures { result ≡ fault_of fault }
+pub(crate) fn rewrite_fault(fault: TermFault) -> RewriteFault
+    ensures { result ≡ rewrite_fault fault }
 {
     match fault {
         TermFault::TooBig { nodes } => RewriteFault::TooBig { nodes },

@@ -57,8 +57,8 @@ impl Hypotheses {
         push_indexed(self.alloc, &mut self.goals, &mut self.own, goal)
     }
 
-    /// The block is finished: its own hypotheses go, and these goals, which are its own, come behind
-    /// those of earlier blocks. If it runs out of memory some of them may be missing.
+    /// The block is finished: its own hypotheses go, and these goals, which are its own, come
+    /// behind those of earlier blocks. If it runs out of memory some of them may be missing.
     pub fn finish_block(&mut self, goals: &[Goal]) -> Result<(), AllocError>
         requires few { length self.old.earlier + length goals.now < 2 ^ 31 }
         ensures { OnOk result (self.new ≡ hypotheses_with (self.old.earlier ++ goals.now)
@@ -103,8 +103,8 @@ impl Hypotheses {
         &self.goals[..self.earlier.len()]
     }
 
-    // The first at or behind a place that has the two terms as an instance, with the substitution. At
-    // place 2n is hypothesis n from left to right, and at place 2n + 1 the other way about.
+    // The first at or behind a place that has the two terms as an instance, with the substitution.
+    // At place 2n is hypothesis n from left to right, and at place 2n + 1 the other way about.
     pub(crate) fn first(
         &self,
         from: u32,
@@ -112,16 +112,18 @@ impl Hypotheses {
         b: &Term,
     ) -> Result<Option<(u32, Subst)>, AllocError>
         requires { from ≤ 2 * length self.now.all }
-        ensures { IfOk result (FindsFirstPair (map both_sides self.now.all) from a.now b.now) }
+        ensures found { IfOk result (FindsFirstPair (map both_sides self.now.all) from a.now
+            b.now) }
+        ensures few { length self.now.all < 2 ^ 31 }
     {
         let before = 2 * self.earlier.len() as u32;
-        if from < before {
-            if let Some(found) = self.earlier.first(from, a, b)? {
-                return Ok(Some(found));
-            }
-            return self.own_first(before, 0, a, b);
+        if from >= before {
+            return self.own_first(before, from - before, a, b);
         }
-        self.own_first(before, from - before, a, b)
+        match self.earlier.first(from, a, b)? {
+            Some(found) => Ok(Some(found)),
+            None => self.own_first(before, 0, a, b),
+        }
     }
 
     // The first of the block's own, which stand behind so many places, at or behind one of theirs.

@@ -7,7 +7,8 @@ ghost use Rattle.circ_term.specs.Order.{is_same};
 ghost use Rattle.circ_plain_search.specs.Joining.{is_place};
 ghost use Rattle.circ_conditional_search.specs.Joining.{first_use_trying};
 ghost use Rattle.circ_conditional_search.specs.Joining.{joined_trying, all_joined_trying};
-ghost use Rattle.circ_join.specs.Trying.{normaliser_of, Works, Joins, inside_trying};
+ghost use Rattle.circ_join.specs.Trying.{normaliser_of, Works, Joins};
+ghost use Rattle.circ_join.specs.Trying.{beside_alone, inside_trying};
 ghost use Rattle.circ_join.specs.Uses.{plain_use, plain_uses};
 
 use crate::hypotheses::Hypotheses;
@@ -77,7 +78,10 @@ impl Joining<'_> {
         if a.same(b) {
             return Ok(true);
         }
-        match self.hyps.first_use(self.alloc, reducer, path.as_slice(), a, b, budget) {
+        match self
+            .hyps
+            .first_use(self.alloc, reducer, path.as_slice(), a, b, budget)
+        {
             Err(fault) => Err(fault),
             Ok(Some(one)) => {
                 uses.push(one)?;
@@ -149,10 +153,15 @@ impl Joining<'_> {
             if i >= others.len() {
                 return Ok(false);
             }
-            match self.joins_at(reducer, op, i as u16, &args[i], &others[i], path, uses, budget) {
+            match self.joins_at(
+                reducer, op, i as u16, &args[i], &others[i], path, uses, budget,
+            ) {
                 Err(fault) => return Err(fault),
-                Ok(false) => return Ok(false),
-                Ok(true) => {}
+                Ok(joins) => {
+                    if !joins {
+                        return Ok(false);
+                    }
+                }
             }
         }
         Ok(args.len() == others.len())

@@ -70,7 +70,8 @@ impl Lemmas {
     // The first at or behind a place that has the term as an instance of its left side, with the
     // substitution.
     pub(crate) fn first(&self, from: u32, term: &Term) -> Result<Option<(u32, Subst)>, AllocError>
-        ensures { IfOk result (FindsFirst (map left_of self.now) from term.now) }
+        ensures found { IfOk result (FindsFirst (map left_of self.now) from term.now) }
+        ensures few { length self.now < 2 ^ 32 }
     {
         self.index.first(from, term)
     }

@@ -12,7 +12,7 @@ ghost use Rattle.circ_join.specs.Binding.{BindsLeft};
 ghost use Rattle.circ_join.specs.Trying.{normaliser_of, Works, lemma_use_by};
 ghost use Rattle.circ_join.specs.Sweeping.{plain_swept, plain_due, Goes, swept_place};
 
-use crate::conditions::{of_term, passes};
+use crate::conditions::{passes, rewrite_fault};
 use crate::joining::has_place;
 use crate::lemmas::{Lemmas, rule_number};
 use crate::putting::put_at;
@@ -241,7 +241,7 @@ impl<'a> Passing<'a> {
         due: DueLemma<'_>,
         budget: &mut u64,
     ) -> Result<(), RewriteFault>
-        ensures exact { Goes (put_swept (plain_swept swept.old) (plain_due due) budget.old)
+        ensures exact { Goes (put_swept (plain_swept swept.old) (plain_due due.entry) budget.old)
             (plain_swept swept.new) budget.new result }
         ensures less { budget.new ≤ budget.old }
     {
@@ -250,11 +250,11 @@ impl<'a> Passing<'a> {
         }
         let new = match due.subst.apply(due.right) {
             Ok(new) => new,
-            Err(fault) => return Err(of_term(fault)),
+            Err(fault) => return Err(rewrite_fault(fault)),
         };
         let whole = match put_at(self.alloc, &swept.whole, due.path.as_slice(), &new) {
             Ok(whole) => whole,
-            Err(fault) => return Err(of_term(fault)),
+            Err(fault) => return Err(rewrite_fault(fault)),
         };
         swept.uses.push(HypothesisUse {
             number: due.number,

@@ -19,8 +19,8 @@ decreases-joins_at l = 4 * depth_of l.arg.now + 4
 
 abbrev pub invariant-all_join-loop-i : goal.invariant-all_join-loop-i
 invariant-all_join-loop-i l = record {
-  path : l.path.items ≡ l.fn.path.items;
-  less : l.budget ≤ l.fn.budget;
-  same : l.reducer ≡ l.fn.reducer;
-  going : Going (normaliser_of l.fn.reducer) l.self.gamma.now l.self.hyps.now.all l.op l.fn.path.items l.args l.others (plain_uses l.fn.uses.items) (plain_uses l.uses.items) l.fn.budget l.i l.budget;
+  path : l.path.items ≡ l.initial.path.items;
+  less : l.budget ≤ l.initial.budget;
+  same : l.reducer ≡ l.initial.reducer;
+  going : Going (normaliser_of l.initial.reducer) l.self.gamma.now l.self.hyps.now.all l.op l.initial.path.items l.args l.others (plain_uses l.initial.uses.items) (plain_uses l.uses.items) l.initial.budget l.i l.budget;
 }
