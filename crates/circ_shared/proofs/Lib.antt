@@ -1,0 +1,12 @@
+mod Made
+mod Loops
+mod Shapes
+mod Replacing
+mod Giving
+mod Seeing
+mod Sharing
+mod Paired
+mod Using
+mod Steps
+mod Meets
+mod Cases

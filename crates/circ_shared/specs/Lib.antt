@@ -1,0 +1,10 @@
+pub mod Interned
+pub mod Memo
+pub mod Patterns
+pub mod Binding
+pub mod Rewriting
+pub mod Gathering
+pub mod Special
+pub mod Settings
+pub mod Usage
+pub mod Chains
