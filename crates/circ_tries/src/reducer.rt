@@ -99,16 +99,41 @@ impl<'a> Reducer<'a> {
         ensures err { OnErr result (self.new ≡ record self.old { assumptions = [] }) }
     {
         self.forget();
+        if rule.conds.len() == 0 {
+            return match &mut self.way {
+                Way::Plain(memo) => memo.push(rule),
+                Way::Tried(trying) => trying.push(rule),
+            };
+        }
         match &mut self.way {
+            Way::Plain(_) => self.try_with(rule),
             Way::Tried(trying) => trying.push(rule),
-            Way::Plain(memo) => {
-                if rule.conds.len() == 0 {
-                    return memo.push(rule);
-                }
-                let trying = tried_with(self.alloc, self.theory, memo.rules(), rule)?;
-                self.way = Way::Tried(trying);
-                Ok(())
-            }
+        }
+    }
+
+    // Goes over to rules that are tried, with this one last.
+    fn try_with(&mut self, rule: Rule) -> Result<(), AllocError>
+        requires rewrite { IsRewriteRule rule }
+        requires few { length self.old.rules + 1 < 2 ^ 32 }
+        ensures added { OnOk result (self.new ≡ record self.old {
+          rules = self.old.rules ++ rule ∷ [];
+          assumptions = [];
+        }) }
+        ensures err { OnErr result (self.new ≡ self.old) }
+    {
+        let trying = tried_with(self.alloc, self.theory, self.rules(), rule)?;
+        self.way = Way::Tried(trying);
+        Ok(())
+    }
+
+    // The rules, in their order.
+    fn rules(&self) -> &[Rule]
+        ensures rules { result.now ≡ self.now.rules }
+        ensures rewrite { AllByRecursion IsRewriteRule result.now }
+    {
+        match &self.way {
+            Way::Plain(memo) => memo.rules(),
+            Way::Tried(trying) => trying.rules(),
         }
     }
 

@@ -69,6 +69,14 @@ impl<'a> Trying<'a> {
         })
     }
 
+    // The rules, in their order.
+    pub(crate) fn rules(&self) -> &[Rule]
+        ensures rules { result.now ≡ self.now.rules }
+        ensures rewrite { AllByRecursion IsRewriteRule result.now }
+    {
+        self.work.means.rules.as_slice()
+    }
+
     // Forgets what is known of terms, and the assumptions, and gives back what they took.
     pub(crate) fn forget(&mut self)
         ensures { self.new ≡ record self.old { assumptions = [] } }
