@@ -1,9 +1,11 @@
 -- The account of a turn, by what normalising, Join and the lemma pass come to.
-use Rattle.std.proofs.Common.{◌≡◌, ℕ, ◌++◌, List, Option, Some, None, Result, Ok, Err, refl, ap, sym, subst, ◌∙◌}
+use Rattle.std.proofs.Common.{◌≡◌, ℕ, List, [], Option, Some, None, Result, Ok, Err, refl, ap, sym, subst, ◌∙◌}
 use Rattle.std.specs.Prelude.{◌≢◌, IfOk, OnOk}
+use Rattle.circ_term.specs.Tree.{Tree}
 use Rattle.circ_theory.specs.Theory.{Theory, Pair, goal}
 use Rattle.circ_theory.specs.declared.parts.Goal.{Goal}
 use Rattle.circ_special.specs.declared.place.Place.{Place}
+use Rattle.circ_rewrite.specs.declared.parts.Rule.{Rule}
 use Rattle.circ_rewrite.specs.declared.fault.RewriteFault.{RewriteFault}
 use Rattle.circ_rewrite.specs.declared.fault.RewriteFault.TheVariants as fault
 use Rattle.circ_conditional_norm.specs.Work.{Work, Made, Out, Past}
@@ -13,7 +15,12 @@ use Rattle.circ_join.specs.declared.stop.Stop.{Stop as TheStop}
 use Rattle.circ_join.specs.declared.stop.Stop.TheVariants as stop
 use Rattle.circ_plain_search.specs.Joining.{Stop}
 use Rattle.circ_plain_search.specs.Search.{Standing, Sides}
-use Rattle.circ_conditional_search.specs.Joining.{work_then}
+use Rattle.circ_plain_search.specs.Joining.{HypothesisUse}
+use Rattle.circ_conditional_search.specs.Joining.{joined_trying, Swept, swept_with, swept_trying, work_then}
+use Rattle.circ_conditional_search.specs.Search.{condition_normaliser}
+use Rattle.circ_memo.specs.Value.{Rewriting}
+use Rattle.circ_join.specs.Trying.{normaliser_of, Works}
+use Rattle.circ_turn.specs.Ending.{reducing}
 use Rattle.circ_trace.specs.Account.{Deed, Ends, account_with, deed_by, deed_on, account_of, plain_deed, plain_account_if}
 use Rattle.circ_trace.specs.declared.account.Account.{Account as TheAccount}
 use Rattle.circ_trace.specs.declared.account.Deed.{Deed as TheDeed}
@@ -54,6 +61,23 @@ pub first_made : {A B E : Type 0} (a : A) (k : ℕ) (w : Work A) (g : A → ℕ 
     → IfOk r (λ d. plain_deed d ≡ deed_by (g a k) f) → IfOk r (λ d. plain_deed d ≡ deed_by (work_then w g) f)
 first_made a k w g f h (Ok d) is = is ∙ sym (ap (λ x. deed_by (work_then x g) f) h)
 first_made a k w g f h (Err x) is = tt
+
+-- ---- Join and the lemma pass by the rules of a block under the conditions of a goal
+
+pub joined_here : {X : Type 0} (view : X → Option (List HypothesisUse)) (th : Theory) (E : List Goal) (A : List Pair) (red : Rewriting) (G : List Place) (H : List Goal)
+    (s t : Tree) (k left : ℕ) (r : Result X RewriteFault) → red ≡ reducing th E A → Works view left (joined_trying (normaliser_of red) G H [] s t k) r
+    → Works view left (joined_trying (condition_normaliser th E A) G H [] s t k) r
+joined_here view th E A red G H s t k left r e h =
+    let P : Rewriting → Type 0 = λ x. Works view left (joined_trying (normaliser_of x) G H [] s t k) r in subst P e h
+
+pub swept_here : {X : Type 0} (view : X → Swept) (th : Theory) (E : List Goal) (A : List Pair) (red : Rewriting) (G : List Place) (K L : List Rule)
+    (t : Tree) (k left : ℕ) (r : Result X RewriteFault) → red ≡ reducing th E A → K ≡ L
+    → Works view left (swept_trying (normaliser_of red) G K [] t (swept_with t []) k) r
+    → Works view left (swept_trying (condition_normaliser th E A) G L [] t (swept_with t []) k) r
+swept_here view th E A red G K L t k left r e l h =
+    let P : Rewriting → Type 0 = λ x. Works view left (swept_trying (normaliser_of x) G K [] t (swept_with t []) k) r in
+    let Q : List Rule → Type 0 = λ x. Works view left (swept_trying (condition_normaliser th E A) G x [] t (swept_with t []) k) r in
+    subst Q l (subst P e h)
 
 module _ (th : Theory) (G : List Place) (st : Standing) (A : List Pair) where
   stopped : (e : TheStop) (r : Result Sides Stop) → Stops r e → e ≢ stop.Memory → account_of th G st A r ≡ None
