@@ -52,7 +52,7 @@ module _ (sig : Signature) (name : List ℕ) where
   proof_end p true = (tt, tt)
   proof_end p false = (tt, refl)
 
-  found_end : (f : Found) → IsSearchEnd (found_ending sig name f).status × IsNamed name (found_ending sig name f).stored
+  pub found_end : (f : Found) → IsSearchEnd (found_ending sig name f).status × IsNamed name (found_ending sig name f).stored
   found_end (Proved p) = proof_end p (nat_lt 67108864 (length (proof_text p)))
   found_end (LongTable n) = (tt, tt)
   found_end (Stuck b g s t A) = (tt, tt)

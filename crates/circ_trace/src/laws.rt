@@ -1,18 +1,26 @@
 //! Laws of traces.
 ghost use Rattle.std.specs.Prelude.{◌≡◌, List, [], ℕ};
 ghost use Rattle.circ_theory.specs.Theory.{Theory};
+ghost use Rattle.circ_theory.specs.WellFormed.{IsWellFormed};
 ghost use Rattle.circ_theory.specs.declared.parts.Goal.{Goal};
+ghost use Rattle.circ_plain_search.specs.PlainSearch.{AreSearchable};
 ghost use Rattle.circ_plain_search.specs.Search.{Limits};
 ghost use Rattle.circ_found.specs.Answering.{SearchEnds};
 ghost use Rattle.circ_files.specs.Ending.{Ending};
 ghost use Rattle.circ_trace.specs.Tracing.{TraceEnds, after_lines};
 
-/// What is traced ends as the search for a proof of the same goals does, with lines before.
+use circ_conditional_search::laws::without_conditions_as_the_plain_search;
+
+/// What is traced ends as the search for a proof of the same goals does, with lines before: in a
+/// well-formed theory without conditions, for goals without conditions.
 pub fn traces_end_as_searches()
-    ensures { (th : Theory) (limits : Limits) (blocks : List (List Goal)) (e : Ending) →
+    ensures { (th : Theory) → IsWellFormed th →
+        (limits : Limits) (blocks : List (List Goal)) → AreSearchable th blocks → (e : Ending) →
         TraceEnds th limits blocks e → (f : Ending) × SearchEnds th limits [] blocks f
         × (lines : List ℕ) × (e ≡ after_lines lines f) }
-{}
+{
+    without_conditions_as_the_plain_search();
+}
 
 /// A trace has one answer.
 pub fn one_trace()

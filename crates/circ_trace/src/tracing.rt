@@ -14,10 +14,10 @@ ghost use Rattle.circ_files.specs.Ending.{plain_ending};
 ghost use Rattle.circ_trace.specs.Tracing.{after_lines, TraceEnds};
 
 use crate::turns::run_turns;
+use circ_conditional_search::laws::proved_is_accepted;
 use circ_contexts::special_contexts;
 use circ_files::Ending;
 use circ_found::found_ending;
-use circ_plain_search::laws::proved_is_accepted;
 use circ_rewrite::Trace;
 use circ_search::{Found, Limits, found_at};
 use circ_special::Gamma;
@@ -84,6 +84,7 @@ fn trace_from<'a>(
         theory,
         gamma: &gamma,
         limits: *limits,
+        split: false,
     };
     let mut lines = Vec::new(alloc);
     let end = run_turns(&search, state, &mut lines);

@@ -1,11 +1,12 @@
 use Rattle.std.proofs.Common.{List, map}
 use Rattle.circ_theory.specs.declared.parts.Goal.{Goal}
+use Rattle.circ_search.proofs.Answered.{can_be_searched}
 use Rattle.circ_trace.proofs.tracing.trace_with.Goals as goal
 
 pub trace_from-requires-clause-start : goal.trace_from-requires-clause-start
 trace_from-requires-clause-start c = record {
   blocks = map (λ b. b.items) c.args.blocks.now;
-  searchable = c.requires.searchable;
+  searchable = can_be_searched c.args.theory.now (map (λ b. b.items) c.args.blocks.now) c.requires.searchable;
   start = c.in_ok-state.ensures c.args.limits.now.derives;
 }
 
